@@ -1,0 +1,42 @@
+//! Adopt-commit objects that machines make out of words.
+
+ghost use Rattle.std.specs.Prelude.{◌≡◌, ℕ, ◌+◌, ◌*◌, ◌<◌, ◌≤◌, ◌^◌, Bool};
+ghost use Rattle.bus_register.specs.Protocol.{Protocol, Laws};
+ghost use Rattle.bus_adoptcommit.specs.declared.verdicts.Verdict.{Verdict};
+ghost use Rattle.bus_adoptcommit.specs.Agreement.{WeaklyLegal};
+
+use super::verdicts::Verdict;
+use bus_register::{Machine, Reg, SenderNo};
+
+/// One process of an adopt-commit object of at most 64 processes (Gafni 1998; a ratifier in Aspnes
+/// 2010). The processes of one object share its words, which are zero before the first step.
+pub trait Ratifier: Machine {
+    /// What the words and the local states mean.
+    ghost protocol: { Protocol Self Bool Verdict };
+
+    /// How many words an object for `n` processes has.
+    fn width(n: u64) -> u64
+        requires { n ≤ 64 }
+        ensures { result ≡ protocol.width n };
+
+    /// Process `me` of `n` with its input, over the words from `at` on.
+    fn start(n: u64, me: SenderNo, input: bool, at: Reg) -> Self
+        requires me_below { me.0 < n }
+        requires few { n ≤ 64 }
+        requires room { at.0 + protocol.width n ≤ 2 ^ 64 }
+        ensures { result ≡ protocol.started n me.0 input at.0 };
+
+    /// The verdict, once the process takes no further step.
+    fn output(&self) -> Option<Verdict>
+        ensures { result ≡ protocol.output self.now };
+
+    /// What words and local states keep, that each start has it and each step keeps it, and that the
+    /// outputs are valid and convergent.
+    ghost laws: { Laws Self.op Self.fed protocol WeaklyLegal };
+
+    /// An output stands after at most 2n + 2 own steps.
+    ghost quick: { (n : ℕ) → protocol.steps n ≤ 2 * n + 2 };
+
+    /// So that the words of many objects can be counted.
+    ghost narrow: { (n : ℕ) → n ≤ 64 → protocol.width n ≤ 1024 };
+}

@@ -1,0 +1,43 @@
+//! What a step is for.
+
+/// The kinds of step of the whole protocol. Each is taken by one seat, of a sender or of a
+/// receiver, and touches one word. `docs/PROTOCOL.md` has them as a table.
+#[derive(Clone, Copy, Debug, PartialEq, Eq)]
+pub enum Kind {
+    /// A sender loads the stage: it has begun no tenure and has something to send.
+    LoadStage,
+    /// A sender stores 1 in its announcement, in the row of the tenure that it has begun.
+    Announce,
+    /// The first step of a ratifier: a sender stores its proposal, 1 more than its bit.
+    StoreProposal,
+    /// After `StoreProposal`: a sender loads the proposals in rising order.
+    ReadProposal,
+    /// After all `ReadProposal`: a sender stores its verdict.
+    StoreVerdict,
+    /// After `StoreVerdict`: a sender loads the verdicts in rising order.
+    ReadVerdict,
+    /// The first step of a conciliator: a sender sets the mark of its bit.
+    SetMark,
+    /// After `SetMark`: a sender loads the mark of the other bit.
+    ReadOtherMark,
+    /// A sender adds one vote to its counter: it saw the other mark, and the coin has no answer.
+    Vote,
+    /// After `Vote`: a sender loads the counters in rising order.
+    ReadVotes,
+    /// After all rounds without a commit: one compare_exchange on the fallback word.
+    Fallback,
+    /// After a bit, not the last, that does not fit the candidate: a sender loads an announcement.
+    ReadAnnouncement,
+    /// All bits are decided and spell this sender: it stores the odd stage and takes the page.
+    TakePage,
+    /// The holder of the page stores the next word of its frame, at or past the length.
+    StoreLogWord,
+    /// The holder of the page stores the length, once all words of its frame are stored.
+    StoreLength,
+    /// The holder of the page stores the next even stage and gives the page back.
+    GivePageBack,
+    /// A receiver loads the length: its place is the length that it knows.
+    LoadLength,
+    /// A receiver loads the log word at its place, which is below the length that it knows.
+    LoadLogWord,
+}
