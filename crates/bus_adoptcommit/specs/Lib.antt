@@ -1,1 +1,17 @@
 pub mod Agreement
+pub mod AgreementLaws
+pub mod Schedule
+pub mod Plays
+pub mod TwoCollect
+pub mod TwoCollectKeeps
+pub mod TwoCollectWordLaws
+pub mod TwoCollectMarkLaws
+pub mod TwoCollectStepLaws
+pub mod TwoCollectPassLaws
+pub mod TwoCollectMoveLaws
+pub mod TwoCollectStartLaws
+pub mod TwoCollectOutcomeLaws
+pub mod TwoCollectLaws
+pub mod OwnAdopt
+pub mod OwnAdoptLaws
+pub mod Checks

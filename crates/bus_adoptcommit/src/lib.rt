@@ -1,8 +1,17 @@
 //! Adopt-commit objects: what a ratifier is, and ratifiers made of words.
 #![tactic(auto)]
 
+pub mod checkers;
+pub mod objects;
+pub mod own_adopts;
+pub mod phases;
 pub mod ratifiers;
+#[cfg(test)]
+mod tests;
+pub mod two_collect;
 pub mod verdicts;
 
+pub use own_adopts::OwnAdopt;
 pub use ratifiers::Ratifier;
+pub use two_collect::TwoCollect;
 pub use verdicts::Verdict;

@@ -6,3 +6,17 @@ pub enum Verdict {
     Commit(bool),
     Adopt(bool),
 }
+
+impl Verdict {
+    ghost use Rattle.std.specs.Prelude.{◌≡◌};
+    ghost use Rattle.bus_adoptcommit.specs.Agreement.{value_of};
+
+    /// The value, committed or adopted.
+    pub fn value(self) -> bool
+        ensures { result ≡ value_of self }
+    {
+        match self {
+            Verdict::Commit(value) | Verdict::Adopt(value) => value,
+        }
+    }
+}

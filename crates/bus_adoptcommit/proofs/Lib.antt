@@ -1,0 +1,4 @@
+pub mod Steps
+pub mod Starts
+pub mod Schedules
+pub mod Tables

@@ -1,0 +1,84 @@
+-- Two collects are an adopt-commit object, with coherence.
+use Rattle.std.proofs.Common.{◌≡◌, ℕ, ◌+◌, ◌*◌, ◌≤◌, Some, is_some, arith, refl, sym, ◌∙◌, subst}
+use mathlib.Core.Path.{fun_ext}
+use Rattle.std.proofs.lemmas.Option.{same_Some}
+use Rattle.bus_register.specs.declared.registers.Op.{Op}
+use Rattle.bus_register.specs.Words.{SumFits}
+use Rattle.bus_register.specs.Protocol.{Laws, IsStore}
+use Rattle.bus_adoptcommit.specs.declared.phases.Phase.{Phase}
+use Rattle.bus_adoptcommit.specs.declared.phases.Phase.TheVariants.{StoreProposal, ReadProposal, StoreVerdict, ReadVerdict, Ended}
+use Rattle.bus_adoptcommit.specs.Agreement.{WeaklyLegal, Legal}
+use Rattle.bus_adoptcommit.specs.AgreementLaws.{Legal-weaker, Laws-weaker}
+use Rattle.bus_adoptcommit.specs.Plays.{IsExact}
+use Rattle.bus_adoptcommit.specs.TwoCollect.{Local, kind_at, op_at, op_of, fed_at, fed_of}
+use Rattle.bus_adoptcommit.specs.TwoCollectKeeps.{Keeps, two_collect}
+use Rattle.bus_adoptcommit.specs.TwoCollectStepLaws.{goes_of, falls_of, ends_at, unended_at, none_left_at}
+use Rattle.bus_adoptcommit.specs.TwoCollectMoveLaws.{moves_keep}
+use Rattle.bus_adoptcommit.specs.TwoCollectStartLaws.{fresh_keep, enters_keep}
+use Rattle.bus_adoptcommit.specs.TwoCollectOutcomeLaws.{keeps_legal}
+
+-- a kind is named exactly where there is a step
+pub named_at : (ph : Phase) (s : Local) → is_some (kind_at ph) ≡ is_some (op_at ph s)
+named_at StoreProposal s = refl
+named_at (ReadProposal of) s = refl
+named_at StoreVerdict s = refl
+named_at (ReadVerdict of) s = refl
+named_at Ended s = refl
+
+-- a store does not tell what it found
+blind_at : (ph : Phase) (s : Local) (got got' : ℕ) (o : Op) → op_at ph s ≡ Some o → IsStore o → fed_at ph s got ≡ fed_at ph s got'
+blind_at StoreProposal s got got' o e w = refl
+blind_at (ReadProposal of) s got got' o e w = absurd (let z = same_Some _ _ e ∙ w.2 in cc)
+blind_at StoreVerdict s got got' o e w = refl
+blind_at (ReadVerdict of) s got got' o e w = absurd (let z = same_Some _ _ e ∙ w.2 in cc)
+blind_at Ended s got got' o e w = refl
+
+-- no step is an addition
+fits_at : (ph : Phase) (s : Local) (o : Op) (found : ℕ) → op_at ph s ≡ Some o → SumFits o found
+fits_at StoreProposal s o found e = subst (λ z. SumFits z found) (same_Some _ _ e) tt
+fits_at (ReadProposal of) s o found e = subst (λ z. SumFits z found) (same_Some _ _ e) tt
+fits_at StoreVerdict s o found e = subst (λ z. SumFits z found) (same_Some _ _ e) tt
+fits_at (ReadVerdict of) s o found e = subst (λ z. SumFits z found) (same_Some _ _ e) tt
+fits_at Ended s o found e = absurd cc
+
+-- Gafni 1998: valid, convergent and coherent, over any order of the steps
+pub two_collect_legal : Laws (λ s word. op_of s) (λ s got word. fed_of s got) two_collect Legal
+two_collect_legal = record {
+  starts = λ n me at v below few. record { belongs = record { n_is = refl; me_is = refl; at_is = refl; below = below; fits = tt }; input = refl; fresh = refl; bounded = omega arith };
+  goes = λ n me at s got word o b e. goes_of n me at s b got o e;
+  ends = λ s word e. ends_at s.phase s e;
+  unended = λ s word o e. unended_at s.phase s o e;
+  unmoved = λ s got word word' e. (refl, refl);
+  blind = λ s got got' word o e w. blind_at s.phase s got got' o e w;
+  fresh = fresh_keep;
+  enters = λ n at words old new p v k below few none start beside. enters_keep n at words old new p v k below none start beside;
+  moves = λ n at words words' old new p s word o k here next goes beside step. moves_keep n at words words' old new p s o k here next goes beside step;
+  fits = λ n at words locals p s word o k here next. fits_at s.phase s o _ next;
+  frame = λ n at words words' old new k agree same. subst (λ z. Keeps n at words' z) (sym (fun_ext same)) record {
+    inside = k.inside;
+    proposal_words = λ p l. agree (at + p) (omega arith) (omega arith) ∙ k.proposal_words p l;
+    verdict_words = λ p l. agree (at + n + p) (omega arith) (omega arith) ∙ k.verdict_words p l;
+    holds = k.holds;
+  };
+  known = λ n at words locals p s k e. k.inside p s e;
+  outcome = keeps_legal;
+}
+
+-- and so without coherence
+pub two_collect_weakly_legal : Laws (λ s word. op_of s) (λ s got word. fed_of s got) two_collect WeaklyLegal
+two_collect_weakly_legal = Laws-weaker _ _ two_collect Legal WeaklyLegal Legal-weaker two_collect_legal
+
+-- a process takes exactly 2n + 2 steps
+pub two_collect_exact : IsExact (λ s word. op_of s) (λ s got word. fed_of s got) two_collect
+two_collect_exact = record {
+  starts = λ n me at v below few. omega arith;
+  falls = λ n me at s got word o b e. falls_of n me at s b got o e;
+  ends = λ s d e. none_left_at s.phase s d e;
+}
+
+-- bounds on its steps and its words
+pub quick : (n : ℕ) → two_collect.steps n ≤ 2 * n + 2
+quick n = omega arith
+
+pub narrow : (n : ℕ) → n ≤ 64 → two_collect.width n ≤ 1024
+narrow n few = omega arith

@@ -1,0 +1,205 @@
+//! Gafni's adopt-commit object of two words per process, each read by all in turn.
+
+ghost use Rattle.std.specs.Prelude.{◌≡◌, ℕ, ◌+◌, ◌*◌, ◌<◌, ◌≤◌, ◌^◌};
+ghost use Rattle.bus_register.specs.Protocol.{Protocol, Laws};
+ghost use Rattle.bus_adoptcommit.specs.Agreement.{Legal};
+ghost use Rattle.bus_adoptcommit.specs.Plays.{IsExact};
+ghost use Rattle.bus_adoptcommit.specs.TwoCollect.{Local, Sized, proposal_code, verdict_code, verdict_in, kind_at, op_of, fed_of};
+ghost use Rattle.bus_adoptcommit.specs.TwoCollectKeeps.{two_collect};
+ghost use Rattle.bus_adoptcommit.specs.TwoCollectLaws.{two_collect_legal, two_collect_weakly_legal, two_collect_exact, named_at, quick, narrow};
+
+use super::phases::Phase;
+use super::ratifiers::Ratifier;
+use super::verdicts::Verdict;
+use bus_register::{Kind, Machine, Op, Reg, SenderNo};
+use std::marker::Model;
+
+/// One process (Gafni 1998). The words are a proposal for each process, then a verdict for each:
+/// the process stores its proposal and loads all proposals, stores its verdict and loads all
+/// verdicts, in rising order. So it takes 2n + 2 steps.
+#[derive(Drop)]
+pub struct TwoCollect {
+    n: u64,
+    me: SenderNo,
+    at: Reg,
+    input: bool,
+    /// Every proposal that was seen is the own one.
+    agreed: bool,
+    /// The value of a commit that was seen among the verdicts.
+    commit: Option<bool>,
+    /// Every verdict that was seen is a commit.
+    only_commits: bool,
+    phase: Phase,
+}
+
+impl Model for TwoCollect {
+    ghost Value = { Local };
+
+    ghost view = { λ s. record { n = s.n; me = s.me.0; at = s.at.0; input = s.input; agreed = s.agreed; commit = s.commit; only_commits = s.only_commits; phase = s.phase } };
+
+    ghost invariant = { λ s. Sized s.n s.me.0 s.at.0 s.phase };
+}
+
+/// The word of a proposal. No proposal is 0.
+fn proposal_word(input: bool) -> u64
+    ensures { result ≡ proposal_code input }
+{
+    if input { 2 } else { 1 }
+}
+
+/// The word of a verdict. No verdict is 0.
+fn verdict_word(verdict: Verdict) -> u64
+    ensures { result ≡ verdict_code verdict }
+{
+    match verdict {
+        Verdict::Adopt(false) => 1,
+        Verdict::Adopt(true) => 2,
+        Verdict::Commit(false) => 3,
+        Verdict::Commit(true) => 4,
+    }
+}
+
+/// The verdict in a word, if one was stored.
+fn verdict_at(word: u64) -> Option<Verdict>
+    ensures { result ≡ verdict_in word }
+{
+    match word {
+        1 => Some(Verdict::Adopt(false)),
+        2 => Some(Verdict::Adopt(true)),
+        3 => Some(Verdict::Commit(false)),
+        4 => Some(Verdict::Commit(true)),
+        _ => None,
+    }
+}
+
+impl Machine for TwoCollect {
+    ghost kind_of = { λ s. kind_at s.phase };
+
+    ghost op = { λ s word. op_of s };
+
+    ghost fed = { λ s got word. fed_of s got };
+
+    fn kind(&self) -> Option<Kind> {
+        match self.phase {
+            Phase::StoreProposal => Some(Kind::StoreProposal),
+            Phase::ReadProposal(_) => Some(Kind::ReadProposal),
+            Phase::StoreVerdict => Some(Kind::StoreVerdict),
+            Phase::ReadVerdict(_) => Some(Kind::ReadVerdict),
+            Phase::Ended => None,
+        }
+    }
+
+    fn next(&self, _word: u32) -> Option<Op> {
+        match self.phase {
+            Phase::StoreProposal => {
+                let proposals = self.at.0;
+                Some(Op::Store(
+                    Reg(proposals + u64::from(self.me.0)),
+                    proposal_word(self.input),
+                ))
+            }
+            Phase::ReadProposal(of) => Some(Op::Load(Reg(self.at.0 + of))),
+            Phase::StoreVerdict => {
+                let verdicts = self.at.0 + self.n;
+                let verdict = if self.agreed {
+                    Verdict::Commit(self.input)
+                } else {
+                    Verdict::Adopt(self.input)
+                };
+                Some(Op::Store(Reg(verdicts + u64::from(self.me.0)), verdict_word(verdict)))
+            }
+            Phase::ReadVerdict(of) => Some(Op::Load(Reg(self.at.0 + self.n + of))),
+            Phase::Ended => None,
+        }
+    }
+
+    fn feed(&mut self, got: u64, _word: u32) {
+        match self.phase {
+            Phase::StoreProposal => self.phase = Phase::ReadProposal(0),
+            Phase::ReadProposal(of) => {
+                if got != 0 && got != proposal_word(self.input) {
+                    self.agreed = false;
+                }
+                self.phase = if of + 1 < self.n {
+                    Phase::ReadProposal(of + 1)
+                } else {
+                    Phase::StoreVerdict
+                };
+            }
+            Phase::StoreVerdict => self.phase = Phase::ReadVerdict(0),
+            Phase::ReadVerdict(of) => {
+                match verdict_at(got) {
+                    Some(Verdict::Adopt(_)) => self.only_commits = false,
+                    Some(Verdict::Commit(value)) => self.commit = Some(value),
+                    None => {}
+                }
+                self.phase = if of + 1 < self.n {
+                    Phase::ReadVerdict(of + 1)
+                } else {
+                    Phase::Ended
+                };
+            }
+            Phase::Ended => {}
+        }
+    }
+
+    ghost names_each_step = { λ s word. named_at s.phase s };
+}
+
+impl Ratifier for TwoCollect {
+    ghost protocol = { two_collect };
+
+    fn width(n: u64) -> u64 {
+        2 * n
+    }
+
+    fn start(n: u64, me: SenderNo, input: bool, at: Reg) -> TwoCollect {
+        TwoCollect {
+            n,
+            me,
+            at,
+            input,
+            agreed: true,
+            commit: None,
+            only_commits: true,
+            phase: Phase::StoreProposal,
+        }
+    }
+
+    fn output(&self) -> Option<Verdict> {
+        match self.phase {
+            Phase::Ended => Some(match self.commit {
+                Some(value) if self.only_commits => Verdict::Commit(value),
+                Some(value) => Verdict::Adopt(value),
+                None => Verdict::Adopt(self.input),
+            }),
+            _ => None,
+        }
+    }
+
+    ghost laws = { two_collect_weakly_legal };
+
+    ghost quick = { quick };
+
+    ghost narrow = { narrow };
+}
+
+impl TwoCollect {
+    /// The bit that the process was started with.
+    pub(crate) fn input(&self) -> bool
+        ensures { result ≡ self.now.input }
+    {
+        self.input
+    }
+}
+
+/// Two collects keep coherence too (Gafni 1998).
+pub fn two_collect_is_coherent()
+    ensures { Laws ⟦<TwoCollect as Machine>⟧.op ⟦<TwoCollect as Machine>⟧.fed ⟦<TwoCollect as Ratifier>⟧.protocol Legal }
+{}
+
+/// A process of two collects takes all its steps, and has no output before.
+pub fn two_collect_is_exact()
+    ensures exact { IsExact ⟦<TwoCollect as Machine>⟧.op ⟦<TwoCollect as Machine>⟧.fed ⟦<TwoCollect as Ratifier>⟧.protocol }
+    ensures steps { (n : ℕ) → Protocol.steps ⟦<TwoCollect as Ratifier>⟧.protocol n ≡ 2 * n + 2 }
+{}
