@@ -12,10 +12,10 @@ use Rattle.bus_register.specs.declared.registers.Op.{Op}
 use Rattle.bus_register.specs.Protocol.{Protocol, Laws, counted, inputs, outputs}
 use Rattle.bus_register.specs.Tables.{of_some}
 use Rattle.bus_adoptcommit.specs.declared.verdicts.Verdict.{Verdict}
-use Rattle.bus_adoptcommit.specs.Agreement.{WeaklyLegal}
-use Rattle.bus_adoptcommit.specs.AgreementLaws.{WeaklyLegal-fewer}
+use Rattle.bus_adoptcommit.specs.Agreement.{Legal}
+use Rattle.bus_adoptcommit.specs.AgreementLaws.{Legal-fewer}
 use Rattle.bus_adoptcommit.specs.Plays.{AtStarts, Turn, IsExact, Verdicts}
-use Rattle.bus_adoptcommit.specs.Schedule.{table_of, entries, entered, finished, WeaklyLegalThroughout}
+use Rattle.bus_adoptcommit.specs.Schedule.{table_of, entries, entered, finished, LegalThroughout}
 
 -- ── lists ──
 some_or_none : {A : Type 0} (o : Option A) → (o ≡ None) ⊎ ((x : A) × (o ≡ Some x))
@@ -95,9 +95,9 @@ module _ {S : Type 0} (op : S → ℕ → Option Op) (fed : S → ℕ → ℕ �
     pub follows : AllFollow n given (take i schedule) processes
     -- who has all its entries in a prefix has them now
     pub past : (k p : ℕ) → k ≤ i → P.steps n ≤ entries (take k schedule) p → P.steps n ≤ entries (take i schedule) p
-    pub legal : (k : ℕ) → k ≤ i → WeaklyLegal (entered given (take k schedule)) (finished (P.steps n) (outputs P (slice_get processes)) (take k schedule))
+    pub legal : (k : ℕ) → k ≤ i → Legal (entered given (take k schedule)) (finished (P.steps n) (outputs P (slice_get processes)) (take k schedule))
 
-module _ {S : Type 0} (op : S → ℕ → Option Op) (fed : S → ℕ → ℕ → S) (P : Protocol S Bool Verdict) (laws : Laws op fed P WeaklyLegal) where
+module _ {S : Type 0} (op : S → ℕ → Option Op) (fed : S → ℕ → ℕ → S) (P : Protocol S Bool Verdict) (laws : Laws op fed P Legal) where
   -- where a step is left, no output stands
   unended : (s : S) (o : Op) → op s 0 ≡ Some o → IsSome (P.output s) → ⊥
   unended s o e h = true≢false (sym h ∙ ap is_some (laws.unended s 0 o e))
@@ -146,12 +146,12 @@ module _ {S : Type 0} (op : S → ℕ → Option Op) (fed : S → ℕ → ℕ �
   ])
 
   -- what stands now is legal
-  legal_now : (n : ℕ) (given : List Bool) (sch : List ℕ) (processes : List S) (ws : ℕ → ℕ) → length processes ≡ length given → AllFollow op fed P n given sch processes → P.Keeps n 0 ws (slice_get processes) → WeaklyLegal (entered given sch) (outputs P (slice_get processes))
-  legal_now n given sch processes ws size f k = subst (λ z. WeaklyLegal z (outputs P (slice_get processes))) (sym (entered_is n given sch processes size f)) (laws.outcome n 0 ws (slice_get processes) k)
+  legal_now : (n : ℕ) (given : List Bool) (sch : List ℕ) (processes : List S) (ws : ℕ → ℕ) → length processes ≡ length given → AllFollow op fed P n given sch processes → P.Keeps n 0 ws (slice_get processes) → Legal (entered given sch) (outputs P (slice_get processes))
+  legal_now n given sch processes ws size f k = subst (λ z. Legal z (outputs P (slice_get processes))) (sym (entered_is n given sch processes size f)) (laws.outcome n 0 ws (slice_get processes) k)
 
   -- and so is a part of it
-  legal_part : (n : ℕ) (given : List Bool) (sch : List ℕ) (processes : List S) (ws : ℕ → ℕ) → length processes ≡ length given → AllFollow op fed P n given sch processes → P.Keeps n 0 ws (slice_get processes) → WeaklyLegal (entered given sch) (finished (P.steps n) (outputs P (slice_get processes)) sch)
-  legal_part n given sch processes ws size f k = WeaklyLegal-fewer _ _ _ (λ q d e. (finished_is (P.steps n) (outputs P (slice_get processes)) sch q d e).1) (legal_now n given sch processes ws size f k)
+  legal_part : (n : ℕ) (given : List Bool) (sch : List ℕ) (processes : List S) (ws : ℕ → ℕ) → length processes ≡ length given → AllFollow op fed P n given sch processes → P.Keeps n 0 ws (slice_get processes) → Legal (entered given sch) (finished (P.steps n) (outputs P (slice_get processes)) sch)
+  legal_part n given sch processes ws size f k = Legal-fewer _ _ _ (λ q d e. (finished_is (P.steps n) (outputs P (slice_get processes)) sch q d e).1) (legal_now n given sch processes ws size f k)
 
   module _ (n : ℕ) (given : List Bool) (schedule : List ℕ) (i p : ℕ) (processes processes' : List S) (ws : ℕ → ℕ) (h : Playing op fed P n given schedule i processes)
       (k' : P.Keeps n 0 ws (slice_get processes')) (b : (q : ℕ) (s : S) → slice_get processes q ≡ Some s → P.Belongs n q 0 s)
@@ -220,10 +220,10 @@ module _ {S : Type 0} (op : S → ℕ → Option Op) (fed : S → ℕ → ℕ �
     ]
 
     -- legal after each prefix, with one entry more
-    now_legal : (k : ℕ) → k ≤ i + 1 → WeaklyLegal (entered given (take k schedule)) (finished (P.steps n) (outputs P (slice_get processes')) (take k schedule))
+    now_legal : (k : ℕ) → k ≤ i + 1 → Legal (entered given (take k schedule)) (finished (P.steps n) (outputs P (slice_get processes')) (take k schedule))
     now_legal k m = elim (cases_lt i k) [
-      | inr c ↦ WeaklyLegal-fewer _ _ _ (λ q d f. let x = finished_is (P.steps n) (outputs P (slice_get processes')) (take k schedule) q d f in finished_so (P.steps n) (outputs P (slice_get processes)) (take k schedule) q d x.0 (stood k c q d x.0 x.1)) (h.legal k c)
-      | inl c ↦ subst (λ z. WeaklyLegal (entered given (take z schedule)) (finished (P.steps n) (outputs P (slice_get processes')) (take z schedule))) (omega arith) (legal_part n given (take (i + 1) schedule) processes' ws (size ∙ h.size) now_follows k')
+      | inr c ↦ Legal-fewer _ _ _ (λ q d f. let x = finished_is (P.steps n) (outputs P (slice_get processes')) (take k schedule) q d f in finished_so (P.steps n) (outputs P (slice_get processes)) (take k schedule) q d x.0 (stood k c q d x.0 x.1)) (h.legal k c)
+      | inl c ↦ subst (λ z. Legal (entered given (take z schedule)) (finished (P.steps n) (outputs P (slice_get processes')) (take z schedule))) (omega arith) (legal_part n given (take (i + 1) schedule) processes' ws (size ∙ h.size) now_follows k')
     ]
 
     -- one entry more
@@ -241,7 +241,7 @@ module _ {S : Type 0} (op : S → ℕ → Option Op) (fed : S → ℕ → ℕ �
         size = size;
         follows = follows;
         past = λ k p c z. let e0 : k ≡ 0 = omega arith in subst (λ x. P.steps n ≤ entries (take x schedule) p) e0 z;
-        legal = λ k c. let e0 : 0 ≡ k = omega arith in subst (λ x. WeaklyLegal (entered given (take x schedule)) (finished (P.steps n) (outputs P (slice_get processes)) (take x schedule))) e0
+        legal = λ k c. let e0 : 0 ≡ k = omega arith in subst (λ x. Legal (entered given (take x schedule)) (finished (P.steps n) (outputs P (slice_get processes)) (take x schedule))) e0
             (legal_part n given (take 0 schedule) processes (λ _. 0) size follows h.kept);
       }
 
@@ -260,10 +260,10 @@ module _ {S : Type 0} (op : S → ℕ → Option Op) (fed : S → ℕ → ℕ �
     all_follow : AllFollow op fed P (length given) given schedule processes
     all_follow = subst (λ z. AllFollow op fed P (length given) given z processes) (take_past i schedule l) h.follows
 
-    legal_after : (j : ℕ) → WeaklyLegal (entered given (take j schedule)) (finished (P.steps (length given)) (outputs P (slice_get processes)) (take j schedule))
+    legal_after : (j : ℕ) → Legal (entered given (take j schedule)) (finished (P.steps (length given)) (outputs P (slice_get processes)) (take j schedule))
     legal_after j = elim (cases_lt i j) [
       | inr c ↦ h.legal j c
-      | inl c ↦ subst (λ z. WeaklyLegal (entered given z) (finished (P.steps (length given)) (outputs P (slice_get processes)) z)) (take_past i schedule l ∙ sym (take_past j schedule (omega arith))) (h.legal i (omega arith))
+      | inl c ↦ subst (λ z. Legal (entered given z) (finished (P.steps (length given)) (outputs P (slice_get processes)) z)) (take_past i schedule l ∙ sym (take_past j schedule (omega arith))) (h.legal i (omega arith))
     ]
 
     -- the verdict of a process with all its entries
@@ -285,8 +285,8 @@ module _ {S : Type 0} (op : S → ℕ → Option Op) (fed : S → ℕ → ℕ �
     pub verdicts_after : Verdicts op fed P given schedule outs
     verdicts_after = record {
       one_each = ap length e ∙ length-mapped P.output processes ∙ h.size;
-      throughout = subst (WeaklyLegalThroughout (P.steps (length given)) given schedule) (sym verdicts_are) legal_after;
-      at_end = subst (WeaklyLegal (entered given schedule)) (sym verdicts_are) (legal_now (length given) given schedule processes ws h.size all_follow k);
+      throughout = subst (LegalThroughout (P.steps (length given)) given schedule) (sym verdicts_are) legal_after;
+      at_end = subst (Legal (entered given schedule)) (sym verdicts_are) (legal_now (length given) given schedule processes ws h.size all_follow k);
       stands = λ p below c. subst (λ z. IsSome (z p)) (sym verdicts_are) (elim (some_or_none (slice_get processes p)) [
         | inl none ↦ absurd (here_not processes p (let z = h.size in omega arith) none)
         | inr s ↦ stands p s.0 s.1 c

@@ -7,7 +7,7 @@ use Rattle.std.proofs.lemmas.Option.{gets, same_Some, slice_get_past}
 use Rattle.bus_register.specs.declared.registers.Op.{Op}
 use Rattle.bus_register.specs.Protocol.{Protocol, Laws}
 use Rattle.bus_adoptcommit.specs.declared.verdicts.Verdict.{Verdict}
-use Rattle.bus_adoptcommit.specs.Agreement.{WeaklyLegal}
+use Rattle.bus_adoptcommit.specs.Agreement.{Legal}
 use Rattle.bus_adoptcommit.specs.Plays.{AtStarts}
 
 -- a list with one element more
@@ -21,7 +21,7 @@ push_beside xs x p ne = grind (arith, common_steps, gets)
 nobody : {A : Type 0} (p : ℕ) → slice_get {X = A} [] p ≡ None
 nobody p = refl
 
-module _ {S : Type 0} (op : S → ℕ → Option Op) (fed : S → ℕ → ℕ → S) (P : Protocol S Bool Verdict) (laws : Laws op fed P WeaklyLegal) where
+module _ {S : Type 0} (op : S → ℕ → Option Op) (fed : S → ℕ → ℕ → S) (P : Protocol S Bool Verdict) (laws : Laws op fed P Legal) where
   -- before the first
   pub starts_none : (n : ℕ) (given : List Bool) → AtStarts P n 0 given []
   starts_none n given = record { size = refl; starts = λ p s e. absurd cc; kept = laws.frame n 0 (λ _. 0) (λ _. 0) (λ _. None) (slice_get []) (laws.fresh n 0 (λ _. 0) (λ r a b. refl)) (λ r a b. refl) (λ q. nobody q) }

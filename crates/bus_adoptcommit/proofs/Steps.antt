@@ -7,9 +7,9 @@ use Rattle.bus_register.specs.Protocol.{Protocol, Laws}
 use Rattle.bus_register.specs.TableLaws.{get_set_same, get_set_other, Stepped-list}
 use Rattle.bus_register.specs.Words.{register, after}
 use Rattle.bus_adoptcommit.specs.declared.verdicts.Verdict.{Verdict}
-use Rattle.bus_adoptcommit.specs.Agreement.{WeaklyLegal}
+use Rattle.bus_adoptcommit.specs.Agreement.{Legal}
 
-module _ {S : Type 0} (op : S → ℕ → Option Op) (fed : S → ℕ → ℕ → S) (P : Protocol S Bool Verdict) (laws : Laws op fed P WeaklyLegal) where
+module _ {S : Type 0} (op : S → ℕ → Option Op) (fed : S → ℕ → ℕ → S) (P : Protocol S Bool Verdict) (laws : Laws op fed P Legal) where
   -- the law holds after the step
   pub step_keeps : (at : ℕ) (ws ws' : List ℕ) (processes : List S) (p : ℕ) (s t : S) (got word : ℕ) (o : Op)
       → P.Keeps (length processes) at (slice_index ws) (slice_get processes) → slice_get processes p ≡ Some s → op s word ≡ Some o

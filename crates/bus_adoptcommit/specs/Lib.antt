@@ -12,6 +12,4 @@ pub mod TwoCollectMoveLaws
 pub mod TwoCollectStartLaws
 pub mod TwoCollectOutcomeLaws
 pub mod TwoCollectLaws
-pub mod OwnAdopt
-pub mod OwnAdoptLaws
 pub mod Checks

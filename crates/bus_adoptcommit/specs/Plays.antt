@@ -4,8 +4,8 @@ use Rattle.bus_register.specs.declared.registers.Op.{Op}
 use Rattle.bus_register.specs.Protocol.{Protocol}
 use Rattle.bus_register.specs.Tables.{Beside}
 use Rattle.bus_adoptcommit.specs.declared.verdicts.Verdict.{Verdict}
-use Rattle.bus_adoptcommit.specs.Agreement.{WeaklyLegal}
-use Rattle.bus_adoptcommit.specs.Schedule.{table_of, entries, entered, WeaklyLegalThroughout}
+use Rattle.bus_adoptcommit.specs.Agreement.{Legal}
+use Rattle.bus_adoptcommit.specs.Schedule.{table_of, entries, entered, LegalThroughout}
 
 -- process p takes its next step, if it has one, and no other process does
 pub record Turn {S : Type 0} (op : S → ℕ → Option Op) (fed : S → ℕ → ℕ → S) (p : ℕ) (old new : ℕ → Option S) : Type 0 where
@@ -30,9 +30,9 @@ pub record Verdicts {S : Type 0} (op : S → ℕ → Option Op) (fed : S → ℕ
   -- one for each process, open or not
   pub one_each : length outs ≡ length given
   -- after each prefix, those of the processes that have all their entries in it are legal
-  pub throughout : WeaklyLegalThroughout (P.steps (length given)) given schedule (table_of outs)
+  pub throughout : LegalThroughout (P.steps (length given)) given schedule (table_of outs)
   -- all are legal
-  pub at_end : WeaklyLegal (entered given schedule) (table_of outs)
+  pub at_end : Legal (entered given schedule) (table_of outs)
   -- a process that has all its entries has a verdict
   pub stands : (p : ℕ) → p < length given → P.steps (length given) ≤ entries schedule p → IsSome (table_of outs p)
   -- and where each process takes all its steps, no other has

@@ -2,7 +2,7 @@
 use Rattle.std.specs.Prelude.{ℕ, Bool, List, Option, None, take, count_by, slice_get, nat_lt, ◌==◌, if◌then◌else◌}
 use Rattle.bus_register.specs.Tables.{of_some}
 use Rattle.bus_adoptcommit.specs.declared.verdicts.Verdict.{Verdict}
-use Rattle.bus_adoptcommit.specs.Agreement.{WeaklyLegal}
+use Rattle.bus_adoptcommit.specs.Agreement.{Legal}
 
 -- a list of what may stand, by place
 abbrev pub table_of : {A : Type 0} → List (Option A) → ℕ → Option A
@@ -25,5 +25,5 @@ abbrev pub Throughout : ((ℕ → Option Bool) → (ℕ → Option Verdict) → 
 Throughout Outcome steps given schedule verdicts = (k : ℕ) → Outcome (entered given (take k schedule)) (finished steps verdicts (take k schedule))
 
 -- after each prefix of the schedule the outputs that stand are legal, but for coherence
-abbrev pub WeaklyLegalThroughout : ℕ → List Bool → List ℕ → (ℕ → Option Verdict) → Type 0
-WeaklyLegalThroughout = Throughout WeaklyLegal
+abbrev pub LegalThroughout : ℕ → List Bool → List ℕ → (ℕ → Option Verdict) → Type 0
+LegalThroughout = Throughout Legal

@@ -7,8 +7,7 @@ use Rattle.bus_register.specs.Words.{SumFits}
 use Rattle.bus_register.specs.Protocol.{Laws, IsStore}
 use Rattle.bus_adoptcommit.specs.declared.phases.Phase.{Phase}
 use Rattle.bus_adoptcommit.specs.declared.phases.Phase.TheVariants.{StoreProposal, ReadProposal, StoreVerdict, ReadVerdict, Ended}
-use Rattle.bus_adoptcommit.specs.Agreement.{WeaklyLegal, Legal}
-use Rattle.bus_adoptcommit.specs.AgreementLaws.{Legal-weaker, Laws-weaker}
+use Rattle.bus_adoptcommit.specs.Agreement.{Legal}
 use Rattle.bus_adoptcommit.specs.Plays.{IsExact}
 use Rattle.bus_adoptcommit.specs.TwoCollect.{Local, kind_at, op_at, op_of, fed_at, fed_of}
 use Rattle.bus_adoptcommit.specs.TwoCollectKeeps.{Keeps, two_collect}
@@ -63,10 +62,6 @@ two_collect_legal = record {
   known = λ n at words locals p s k e. k.inside p s e;
   outcome = keeps_legal;
 }
-
--- and so without coherence
-pub two_collect_weakly_legal : Laws (λ s word. op_of s) (λ s got word. fed_of s got) two_collect WeaklyLegal
-two_collect_weakly_legal = Laws-weaker _ _ two_collect Legal WeaklyLegal Legal-weaker two_collect_legal
 
 -- a process takes exactly 2n + 2 steps
 pub two_collect_exact : IsExact (λ s word. op_of s) (λ s got word. fed_of s got) two_collect

@@ -3,7 +3,6 @@
 
 pub mod checkers;
 pub mod objects;
-pub mod own_adopts;
 pub mod phases;
 pub mod ratifiers;
 #[cfg(test)]
@@ -11,7 +10,6 @@ mod tests;
 pub mod two_collect;
 pub mod verdicts;
 
-pub use own_adopts::OwnAdopt;
 pub use ratifiers::Ratifier;
 pub use two_collect::TwoCollect;
 pub use verdicts::Verdict;

@@ -3,7 +3,7 @@
 ghost use Rattle.std.specs.Prelude.{◌≡◌, ℕ, ◌+◌, ◌*◌, ◌<◌, ◌≤◌, ◌^◌, Bool};
 ghost use Rattle.bus_register.specs.Protocol.{Protocol, Laws};
 ghost use Rattle.bus_adoptcommit.specs.declared.verdicts.Verdict.{Verdict};
-ghost use Rattle.bus_adoptcommit.specs.Agreement.{WeaklyLegal};
+ghost use Rattle.bus_adoptcommit.specs.Agreement.{Legal};
 
 use super::verdicts::Verdict;
 use bus_register::{Machine, Reg, SenderNo};
@@ -31,8 +31,8 @@ pub trait Ratifier: Machine {
         ensures { result ≡ protocol.output self.now };
 
     /// What words and local states keep, that each start has it and each step keeps it, and that the
-    /// outputs are valid and convergent.
-    ghost laws: { Laws Self.op Self.fed protocol WeaklyLegal };
+    /// outputs are valid, convergent and coherent.
+    ghost laws: { Laws Self.op Self.fed protocol Legal };
 
     /// An output stands after at most 2n + 2 own steps.
     ghost quick: { (n : ℕ) → protocol.steps n ≤ 2 * n + 2 };
