@@ -1,0 +1,42 @@
+-- From a reader's fields to what one word does to it.
+use Rattle.std.proofs.Common.{◌≡◌, ℕ, ◌-◌, ◌≤◌, List, length, take, drop, arith, sym, ap, ◌∙◌, subst, Ok, Err}
+use Rattle.std.specs.Prelude.{All, Option, Result}
+use Rattle.std.specs.Int.{w64, to_be_bytes}
+use Rattle.std.proofs.lemmas.List.{length-drop, take_all}
+use Rattle.bus_batch.specs.declared.messages.Piece.{Piece}
+use Rattle.bus_batch.specs.declared.readers.BadWord.{BadWord}
+use Rattle.bus_batch.specs.declared.readers.Place.{Place}
+use Rattle.bus_batch.specs.declared.readers.Place.TheVariants as place
+use Rattle.bus_batch.specs.Reading.{Reading, IsSound}
+use Rattle.bus_batch.proofs.Bytes.{spread_len}
+use Rattle.bus_batch.specs.Steps.{Steps, Takes, Refuses}
+
+abbrev pub reading : ℕ → ℕ → Place → List ℕ → Reading
+reading senders least p bytes = record { senders = senders; least = least; place = p; bytes = bytes }
+
+pub good : (old new : Reading) (word : ℕ) (found : Option Piece) → Takes old word found new → Steps old word (Ok found) new
+good old new word found takes = record { good = takes; bad = tt }
+
+pub refused : (old new : Reading) (word : ℕ) → Refuses old word → new.place ≡ place.Bad → Steps old word (Err (record {})) new
+refused old new word refuses bad = record { good = tt; bad = (refuses, bad) }
+
+-- a reader whose fields and place are known
+pub at_place : (senders least : ℕ) (p q : Place) (bytes : List ℕ) (word : ℕ) (answer : Result (Option Piece) BadWord) (old new : Reading)
+    → reading senders least q bytes ≡ old → old.place ≡ p → Steps (reading senders least p bytes) word answer new → Steps old word answer new
+at_place senders least p q bytes word answer old new is here steps =
+    let at_q : q ≡ p = ap (λ (r : Reading). r.place) is ∙ here in
+    subst (λ r. Steps r word answer new) is (subst (λ z. Steps (reading senders least z bytes) word answer new) (sym at_q) steps)
+
+pub sound_at : (senders least : ℕ) (p q : Place) (bytes : List ℕ) (old : Reading) → reading senders least q bytes ≡ old → old.place ≡ p → IsSound q bytes → IsSound p bytes
+sound_at senders least p q bytes old is here sound = subst (λ z. IsSound z bytes) (ap (λ (r : Reading). r.place) is ∙ here) sound
+
+-- the zero bytes of a data word
+pub zero_rest : (k word : ℕ) (bytes : List ℕ) → bytes ≡ to_be_bytes w64 word → All (λ b. b ≡ 0) (take (8 - k) (drop k bytes)) → All (λ b. b ≡ 0) (drop k (to_be_bytes w64 word))
+zero_rest k word bytes is zero =
+    let size : length (drop k (to_be_bytes w64 word)) ≤ 8 - k = let e = length-drop k (to_be_bytes w64 word) in let e' = spread_len word in omega arith in
+    subst (λ z. All (λ b. b ≡ 0) z) (take_all (8 - k) (drop k (to_be_bytes w64 word)) size) (subst (λ z. All (λ b. b ≡ 0) (take (8 - k) (drop k z))) is zero)
+
+pub zero_part : (k word : ℕ) (bytes : List ℕ) → bytes ≡ to_be_bytes w64 word → All (λ b. b ≡ 0) (drop k (to_be_bytes w64 word)) → All (λ b. b ≡ 0) (take (8 - k) (drop k bytes))
+zero_part k word bytes is zero =
+    let size : length (drop k (to_be_bytes w64 word)) ≤ 8 - k = let e = length-drop k (to_be_bytes w64 word) in let e' = spread_len word in omega arith in
+    subst (λ z. All (λ b. b ≡ 0) (take (8 - k) (drop k z))) (sym is) (subst (λ z. All (λ b. b ≡ 0) z) (sym (take_all (8 - k) (drop k (to_be_bytes w64 word)) size)) zero)

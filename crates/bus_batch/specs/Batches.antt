@@ -1,0 +1,81 @@
+-- What a sender's batch holds, and the frame that it makes.
+use Rattle.std.specs.Prelude.{◌≡◌, ℕ, ◌+◌, ◌<◌, ◌≤◌, ◌^◌, ◌⊎◌, List, [], length, All, Bool, true, false}
+use Rattle.bus_register.specs.declared.registers.SenderNo.{SenderNo}
+use Rattle.bus_batch.specs.declared.batches.Phase.{Phase}
+use Rattle.bus_batch.specs.declared.batches.Phase.TheVariants.{Open, Closing, Closed}
+use Rattle.bus_batch.specs.declared.batches.PutFault.{PutFault}
+use Rattle.bus_batch.specs.declared.batches.PutFault.TheVariants as put
+use Rattle.bus_batch.specs.declared.batches.CloseFault.{CloseFault}
+use Rattle.bus_batch.specs.declared.batches.CloseFault.TheVariants as close
+use Rattle.bus_batch.specs.Messages.{IsMessage, numbered}
+use Rattle.bus_batch.specs.Frames.{Frame, Body, Messages, EndMark}
+
+-- a sender's batch: its messages, numbered from first on, whether it accepts more, and whether they are on their way
+pub record Pending : Type 0 where
+  pub sender : SenderNo
+  pub first : ℕ
+  pub messages : List (List ℕ)
+  pub phase : Phase
+  pub busy : Bool
+
+-- the number that the next message gets
+abbrev pub next_of : Pending → ℕ
+next_of b = b.first + length b.messages
+
+-- a close was accepted, or the order is known to have ended
+abbrev pub IsShut : Pending → Type 0
+IsShut b = (b.phase ≡ Closing) ⊎ (b.phase ≡ Closed)
+
+-- messages wait, or an end mark
+abbrev pub HasSomething : Pending → Type 0
+HasSomething b = (0 < length b.messages) ⊎ (b.phase ≡ Closing)
+
+-- what its frame carries: the end mark where it is closing, else its messages
+abbrev pub body_of : Phase → ℕ → List (List ℕ) → Body
+body_of Open first messages = Messages (numbered first messages)
+body_of Closing first messages = EndMark
+body_of Closed first messages = Messages (numbered first messages)
+
+-- its frame in a tenure
+abbrev pub frame_of : Pending → ℕ → Frame
+frame_of b tenure = record { tenure = tenure; owner = b.sender; body = body_of b.phase b.first b.messages }
+
+-- a message of so many bytes is taken
+pub record CanPut (b : Pending) (len : ℕ) : Type 0 where
+  pub is_open : b.phase ≡ Open
+  pub idle : b.busy ≡ false
+  pub short : len ≤ 56
+  pub room : length b.messages < 16
+
+-- why a message of so many bytes is refused: each fault where its cause holds and no earlier one
+abbrev pub IsPutFault : Pending → ℕ → PutFault → Type 0
+IsPutFault b len put.Closed = IsShut b
+IsPutFault b len put.Busy = (b.phase ≡ Open) × (b.busy ≡ true)
+IsPutFault b len put.TooLong = (b.phase ≡ Open) × (b.busy ≡ false) × (56 < len)
+IsPutFault b len put.BatchFull = (b.phase ≡ Open) × (b.busy ≡ false) × (len ≤ 56) × (length b.messages ≡ 16)
+
+-- a close is taken
+pub record CanClose (b : Pending) : Type 0 where
+  pub is_open : b.phase ≡ Open
+  pub idle : b.busy ≡ false
+  pub none : b.messages ≡ []
+
+-- why a close is refused, likewise
+abbrev pub IsCloseFault : Pending → CloseFault → Type 0
+IsCloseFault b close.Closed = IsShut b
+IsCloseFault b close.Busy = (b.phase ≡ Open) × (b.busy ≡ true)
+IsCloseFault b close.Pending = (b.phase ≡ Open) × (b.busy ≡ false) × (0 < length b.messages)
+
+-- the phase once the contents are sent
+abbrev pub sent : Phase → Phase
+sent Open = Open
+sent Closing = Closed
+sent Closed = Closed
+
+-- what a batch always keeps
+pub record IsKept (b : Pending) : Type 0 where
+  pub few : length b.messages ≤ 16
+  pub each : All IsMessage b.messages
+  pub numbers : next_of b ≤ 2 ^ 48
+  pub alone : b.phase ≡ Closing → b.messages ≡ []
+  pub owner_bits : b.sender.0 < 2 ^ 8

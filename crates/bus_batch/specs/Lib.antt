@@ -1,0 +1,5 @@
+pub mod Messages
+pub mod Frames
+pub mod Reading
+pub mod Steps
+pub mod Batches

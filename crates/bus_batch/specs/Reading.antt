@@ -1,0 +1,75 @@
+-- Where a reader of frames stands.
+use Rattle.std.specs.Prelude.{◌≡◌, ℕ, zero, suc, ◌+◌, ◌-◌, ◌*◌, ◌<◌, ◌≤◌, List, [], ◌∷◌, ◌++◌, length, flat_map, All, ◌⊎◌, Option, Some, None}
+use Rattle.bus_register.specs.declared.registers.SenderNo.{SenderNo}
+use Rattle.bus_batch.specs.declared.messages.Piece.{Piece}
+use Rattle.bus_batch.specs.declared.messages.Piece.TheVariants as piece
+use Rattle.bus_batch.specs.declared.readers.Place.{Place}
+use Rattle.bus_batch.specs.declared.readers.Place.TheVariants.{Between, Body, Data, Ended, Bad}
+use Rattle.bus_batch.specs.Messages.{Numbered, IsNumbered}
+use Rattle.bus_batch.specs.Frames.{Frame, AreFrames, AreFramesFrom, data_len, words_of_bytes, message_words, message_pieces, item_pieces, end_word, log_words, log_pieces}
+
+-- what a reader knows: how many senders there are, the least tenure that the next frame may have, its place in the log, and
+-- the bytes that it has of an unfinished message
+pub record Reading : Type 0 where
+  pub senders : ℕ
+  pub least : ℕ
+  pub place : Place
+  pub bytes : List ℕ
+
+-- messages of so many words, at most room of them, and then the frames of a log: the words of these, and their pieces
+pub record Fills (senders least : ℕ) (owner : SenderNo) (left room : ℕ) (rest : List ℕ) (pieces : List (Option Piece)) : Type 0 where
+  pub messages : List Numbered
+  pub few : length messages ≤ room
+  pub each : All IsNumbered messages
+  pub long : length (flat_map message_words messages) ≡ left
+  pub frames : List Frame
+  pub lawful : AreFramesFrom senders least frames
+  pub words_are : rest ≡ flat_map message_words messages ++ log_words frames
+  pub pieces_are : pieces ≡ flat_map (message_pieces owner) messages ++ log_pieces frames
+
+-- the rest of a message of len bytes that has some already, and then what fills the frame
+pub record Completes (senders least : ℕ) (owner : SenderNo) (left room number len : ℕ) (bytes rest : List ℕ) (pieces : List (Option Piece)) : Type 0 where
+  pub more : List ℕ
+  pub together : length bytes + length more ≡ len
+  pub each : All (λ byte. byte < 256) more
+  -- one less than the words of the message that are left
+  pub n : ℕ
+  pub n_is : data_len (length more) ≡ suc n
+  pub rest_after : List ℕ
+  pub pieces_after : List (Option Piece)
+  pub fills : Fills senders least owner (left - suc n) room rest_after pieces_after
+  pub within : suc n ≤ left
+  pub words_are : rest ≡ words_of_bytes (suc n) more ++ rest_after
+  pub pieces_are : pieces ≡ item_pieces n (record { sender = owner; number = number; message = bytes ++ more }) ++ pieces_after
+
+-- the rest of a log, and its pieces, that may follow where a reader stands
+abbrev pub Awaits : Reading → List ℕ → List (Option Piece) → Type 0
+Awaits reader rest pieces = at reader.place
+  where
+    at : Place → Type 0
+    at Between = (frames : List Frame) × AreFramesFrom reader.senders reader.least frames × (rest ≡ log_words frames) × (pieces ≡ log_pieces frames)
+    at (Body owner left room) = Fills reader.senders reader.least owner left room rest pieces ⊎ ((left ≡ 1) × (room ≡ 16) × (rest ≡ end_word ∷ []) × (pieces ≡ Some piece.End ∷ []))
+    at (Data owner left room number len) = Completes reader.senders reader.least owner left room number len reader.bytes rest pieces
+    at Ended = (rest ≡ []) × (pieces ≡ [])
+    at Bad = ⊥
+
+-- The reader has read these words, which gave these pieces: what can follow them in a log, and give, is exactly what it awaits.
+pub record HasRead (senders : ℕ) (words : List ℕ) (pieces : List (Option Piece)) (reader : Reading) : Type 0 where
+  pub many : length pieces ≡ length words
+  pub leads : (rest : List ℕ) (further : List (Option Piece)) → Awaits reader rest further
+      → (frames : List Frame) × AreFrames senders frames × (log_words frames ≡ words ++ rest) × (log_pieces frames ≡ pieces ++ further)
+  pub covers : (frames : List Frame) (rest : List ℕ) → AreFrames senders frames → log_words frames ≡ words ++ rest
+      → (further : List (Option Piece)) × Awaits reader rest further × (log_pieces frames ≡ pieces ++ further)
+  pub begins : (rest : List ℕ) × (further : List (Option Piece)) × Awaits reader rest further
+
+-- the reader has met a bad word, and stays so
+abbrev pub HasMetBadWord : Reading → Type 0
+HasMetBadWord reader = reader.place ≡ Bad
+
+-- what the numbers of a reader always keep: the words that are left can be filled
+abbrev pub IsSound : Place → List ℕ → Type 0
+IsSound Between bytes = bytes ≡ []
+IsSound (Body owner left room) bytes = (bytes ≡ []) × (1 ≤ left) × (left ≤ 8 * room) × (room ≤ 16)
+IsSound (Data owner left room number len) bytes = (length bytes < len) × (len ≤ 56) × (data_len (len - length bytes) ≤ left) × (left ≤ data_len (len - length bytes) + 8 * room) × (room < 16)
+IsSound Ended bytes = Unit {0}
+IsSound Bad bytes = Unit {0}

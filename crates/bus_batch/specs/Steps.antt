@@ -1,0 +1,47 @@
+-- What the words of a log are made of, one by one, and what one word does to a reader.
+use Rattle.std.specs.Prelude.{◌≡◌, ℕ, ◌+◌, ◌<◌, ◌≤◌, ◌^◌, List, ◌∷◌, Option, Result, IfOk, OnErr, ◌⊎◌}
+use Rattle.bus_batch.specs.declared.messages.Piece.{Piece}
+use Rattle.bus_batch.specs.declared.readers.BadWord.{BadWord}
+use Rattle.bus_batch.specs.declared.readers.Head.{Head}
+use Rattle.bus_register.specs.declared.registers.SenderNo.{SenderNo}
+use Rattle.bus_batch.specs.declared.readers.Place.{Place}
+use Rattle.bus_batch.specs.declared.readers.Place.TheVariants.{Between, Body, Bad}
+use Rattle.bus_batch.specs.declared.readers.Length.{Length}
+use Rattle.bus_batch.specs.Frames.{head_word, message_word}
+use Rattle.bus_batch.specs.Reading.{Reading, Awaits}
+
+-- a word is this head, of one of so many senders and of a tenure not below least
+pub record IsHead (senders least word : ℕ) (h : Head) : Type 0 where
+  pub is : word ≡ head_word h.owner.0 h.count h.tenure
+  pub owner : h.owner.0 < senders
+  pub owner_bits : h.owner.0 < 2 ^ 8
+  pub some : 1 ≤ h.count
+  pub most : h.count ≤ 128
+  pub late : least ≤ h.tenure
+  pub tenure : h.tenure < 2 ^ 40
+
+-- a word begins a message of this length and number
+pub record IsMessageWord (word : ℕ) (m : Length) : Type 0 where
+  pub is : word ≡ message_word m.len m.number
+  pub len : m.len ≤ 56
+  pub number : m.number < 2 ^ 48
+
+-- a word that gave this piece, or nothing, has led from one reader to the other
+pub record Takes (old : Reading) (word : ℕ) (found : Option Piece) (new : Reading) : Type 0 where
+  pub leads : (rest : List ℕ) (pieces : List (Option Piece)) → Awaits new rest pieces → Awaits old (word ∷ rest) (found ∷ pieces)
+  pub covers : (rest : List ℕ) (pieces : List (Option Piece)) → Awaits old (word ∷ rest) pieces → (further : List (Option Piece)) × (pieces ≡ found ∷ further) × Awaits new rest further
+  pub begins : (rest : List ℕ) × (pieces : List (Option Piece)) × Awaits new rest pieces
+
+-- no log goes on with the word
+abbrev pub Refuses : Reading → ℕ → Type 0
+Refuses old word = (rest : List ℕ) (pieces : List (Option Piece)) → ¬ Awaits old (word ∷ rest) pieces
+
+-- one step of a reader
+pub record Steps (old : Reading) (word : ℕ) (answer : Result (Option Piece) BadWord) (new : Reading) : Type 0 where
+  pub good : IfOk answer (λ found. Takes old word found new)
+  pub bad : OnErr answer (Refuses old word × (new.place ≡ Bad))
+
+-- the place after a message: in the next one's place, or between frames
+pub record IsAfter (owner : SenderNo) (left room : ℕ) (p : Place) : Type 0 where
+  pub none : left ≡ 0 → p ≡ Between
+  pub some : 0 < left → p ≡ Body owner left room

@@ -1,0 +1,320 @@
+//! The batch that a sender fills, and the words of the frame that it makes.
+
+ghost use Rattle.std.specs.Prelude.{◌≡◌, ◌≢◌, ℕ, ◌+◌, ◌*◌, ◌-◌, ◌<◌, ◌≤◌, ◌^◌, List, [], ◌∷◌, ◌++◌, length, drop, IfOk, IfErr, OnOk, OnErr, IsTrue, ◌↔◌, false, true, Some, slice_get};
+ghost use Rattle.bus_batch.specs.Messages.{Numbered, IsMessage};
+ghost use Rattle.bus_batch.specs.Frames.{data_word, message_words, data_len, frame_words, IsFrame, body_words};
+ghost use Rattle.std.specs.Prelude.{flat_map};
+ghost use Rattle.bus_batch.specs.Messages.{numbered};
+
+use crate::messages::Message;
+use crate::words::{COUNT, END, HIGH, TAG};
+use arrayvec::ArrayVec;
+use bus_register::SenderNo;
+use std::marker::Model;
+
+/// Why a message is not taken; of several causes the first counts.
+#[derive(Clone, Copy, Debug, PartialEq, Eq)]
+pub enum PutFault {
+    /// A close was accepted, or the order is known to have ended.
+    Closed,
+    /// The batch is on its way.
+    Busy,
+    /// More than 56 bytes.
+    TooLong,
+    /// 16 messages wait.
+    BatchFull,
+}
+
+/// Why a close is not taken; of several causes the first counts.
+#[derive(Clone, Copy, Debug, PartialEq, Eq)]
+pub enum CloseFault {
+    /// A close was accepted, or the order is known to have ended.
+    Closed,
+    /// The batch is on its way.
+    Busy,
+    /// Messages wait.
+    Pending,
+}
+
+/// Whether a batch takes messages.
+#[derive(Clone, Copy, Debug, PartialEq, Eq)]
+pub enum Phase {
+    Open,
+    /// A close was accepted, and its end mark waits.
+    Closing,
+    Closed,
+}
+
+/// At most 16 messages of one sender, numbered one after another, that go into the log together;
+/// or an end mark alone.
+#[derive(Debug, Drop)]
+pub struct Batch {
+    sender: SenderNo,
+    first: u64,
+    messages: ArrayVec<Message, 16>,
+    phase: Phase,
+    busy: bool,
+}
+
+impl Model for Batch {
+    ghost use Rattle.bus_batch.specs.Batches.{Pending, IsKept};
+
+    ghost Value = { Pending };
+
+    ghost view = { λ b. record { sender = b.sender; first = b.first; messages = b.messages.items; phase = b.phase; busy = b.busy } };
+
+    ghost invariant = { λ b. IsKept (record { sender = b.sender; first = b.first; messages = b.messages.items; phase = b.phase; busy = b.busy }) };
+}
+
+impl Batch {
+    ghost use Rattle.bus_batch.specs.declared.batches.Phase.TheVariants as phase;
+    ghost use Rattle.bus_batch.specs.Batches.{Pending, next_of, HasSomething, frame_of, body_of, CanPut, IsPutFault, CanClose, IsCloseFault, sent};
+
+    /// An empty batch of a sender whose next message has the number `next`.
+    pub fn new(sender: SenderNo, next: u64) -> Batch
+        requires { next ≤ 2 ^ 48 }
+        ensures { result ≡ record { sender = sender; first = next; messages = []; phase = phase.Open; busy = false } }
+    {
+        Batch {
+            sender,
+            first: next,
+            messages: ArrayVec::new(),
+            phase: Phase::Open,
+            busy: false,
+        }
+    }
+
+    /// How many messages wait.
+    pub fn len(&self) -> u64
+        ensures len { result ≡ length self.now.messages }
+        ensures few { result ≤ 16 }
+    {
+        self.messages.len() as u64
+    }
+
+    /// No message waits.
+    pub fn is_empty(&self) -> bool
+        ensures { IsTrue result ↔ (self.now.messages ≡ []) }
+    {
+        self.messages.is_empty()
+    }
+
+    /// An end mark waits.
+    pub fn is_closing(&self) -> bool
+        ensures { IsTrue result ↔ (self.now.phase ≡ phase.Closing) }
+    {
+        self.phase == Phase::Closing
+    }
+
+    /// Nothing more is sent.
+    pub fn is_closed(&self) -> bool
+        ensures { IsTrue result ↔ (self.now.phase ≡ phase.Closed) }
+    {
+        self.phase == Phase::Closed
+    }
+
+    /// The contents are on their way.
+    pub fn is_busy(&self) -> bool
+        ensures { result ≡ self.now.busy }
+    {
+        self.busy
+    }
+
+    /// The sender.
+    pub fn sender(&self) -> SenderNo
+        ensures { result ≡ self.now.sender }
+    {
+        self.sender
+    }
+
+    /// The number that the next message gets. The messages that wait have those before it.
+    pub fn next_number(&self) -> u64
+        ensures { result ≡ next_of self.now }
+    {
+        self.first + self.messages.len() as u64
+    }
+
+    /// Appends a message and gives its number.
+    pub fn put(&mut self, bytes: &[u8]) -> Result<u64, PutFault>
+        requires { next_of self.old < 2 ^ 48 }
+        ensures number { IfOk result (λ number. number ≡ next_of self.old) }
+        ensures taken { OnOk result (self.new ≡ record self.old { messages = self.old.messages ++ bytes.now ∷ [] }) }
+        ensures could { OnOk result (CanPut self.old (length bytes.now)) }
+        ensures fault { IfErr result (IsPutFault self.old (length bytes.now)) }
+        ensures refused { OnErr result (self.new ≡ self.old) }
+    {
+        if self.phase != Phase::Open {
+            return Err(PutFault::Closed);
+        }
+        if self.busy {
+            return Err(PutFault::Busy);
+        }
+        let Some(message) = Message::of_bytes(bytes) else {
+            return Err(PutFault::TooLong);
+        };
+        if self.messages.is_full() {
+            return Err(PutFault::BatchFull);
+        }
+        let number = self.first + self.messages.len() as u64;
+        self.messages.push(message);
+        Ok(number)
+    }
+
+    /// Lets an end mark wait in place of messages.
+    pub fn close(&mut self) -> Result<(), CloseFault>
+        ensures taken { OnOk result (self.new ≡ record self.old { phase = phase.Closing }) }
+        ensures could { OnOk result (CanClose self.old) }
+        ensures fault { IfErr result (IsCloseFault self.old) }
+        ensures refused { OnErr result (self.new ≡ self.old) }
+    {
+        if self.phase != Phase::Open {
+            return Err(CloseFault::Closed);
+        }
+        if self.busy {
+            return Err(CloseFault::Busy);
+        }
+        if !self.messages.is_empty() {
+            return Err(CloseFault::Pending);
+        }
+        self.phase = Phase::Closing;
+        Ok(())
+    }
+
+    /// The contents go on their way.
+    pub fn begin(&mut self)
+        requires not_closed { self.old.phase ≢ phase.Closed }
+        requires idle { self.old.busy ≡ false }
+        requires something { HasSomething self.old }
+        ensures { self.new ≡ record self.old { busy = true } }
+    {
+        self.busy = true;
+    }
+
+    /// The contents come back, not sent.
+    pub fn back(&mut self)
+        requires { self.old.busy ≡ true }
+        ensures { self.new ≡ record self.old { busy = false } }
+    {
+        self.busy = false;
+    }
+
+    /// The contents were sent.
+    pub fn done(&mut self)
+        requires { self.old.busy ≡ true }
+        ensures { self.new ≡ record { sender = self.old.sender; first = next_of self.old; messages = []; phase = sent self.old.phase; busy = false } }
+    {
+        self.first += self.messages.len() as u64;
+        self.messages.clear();
+        if self.phase == Phase::Closing {
+            self.phase = Phase::Closed;
+        }
+        self.busy = false;
+    }
+
+    /// The order had ended: the contents come back and are never sent.
+    pub fn ended(&mut self)
+        requires { self.old.busy ≡ true }
+        ensures { self.new ≡ record self.old { phase = phase.Closed; busy = false } }
+    {
+        self.phase = Phase::Closed;
+        self.busy = false;
+    }
+
+    /// How many words the frame has, its head included: 2 to 129.
+    pub fn frame_len(&self) -> u64
+        requires { HasSomething self.now }
+        ensures len { (tenure : ℕ) → result ≡ length (frame_words (frame_of self.now tenure)) }
+        ensures least { 2 ≤ result }
+        ensures most { result ≤ 129 }
+
+        // In each tenure the frame is one that a log may have.
+        ensures lawful { (senders : ℕ) (tenure : ℕ) → self.now.sender.0 < senders → tenure < 2 ^ 40 → IsFrame senders (frame_of self.now tenure) }
+    {
+        let _kept = &self.first;
+        1 + self.body_len()
+    }
+
+    /// The frame's word at `i`; its head at 0.
+    pub fn word(&self, i: u64, tenure: u64) -> u64
+        requires something { HasSomething self.now }
+        requires below { i < length (frame_words (frame_of self.now tenure)) }
+        requires tenure { tenure < 2 ^ 40 }
+        ensures { slice_get (frame_words (frame_of self.now tenure)) i ≡ Some result }
+    {
+        if i == 0 {
+            return TAG + self.sender.0 as u64 * HIGH + self.body_len() * COUNT + tenure;
+        }
+        if self.phase == Phase::Closing {
+            return END;
+        }
+        self.body_word(i - 1)
+    }
+
+    /// How many words the frame has after its head.
+    fn body_len(&self) -> u64
+        ensures len { result ≡ length (body_words (body_of self.now.phase self.now.first self.now.messages)) }
+        ensures most { result ≤ 128 }
+    {
+        if self.phase == Phase::Closing {
+            return 1;
+        }
+        let mut len = 0;
+        for message in self.messages.as_slice() {
+            len += words_of(message);
+        }
+        len
+    }
+
+    /// The word at `i` of those of the messages.
+    fn body_word(&self, i: u64) -> u64
+        requires { i < length (flat_map message_words (numbered self.now.first self.now.messages)) }
+        ensures { slice_get (flat_map message_words (numbered self.now.first self.now.messages)) i ≡ Some result }
+    {
+        let mut place = i;
+        let mut number = self.first;
+        for message in self.messages.as_slice() {
+            let words = words_of(message);
+            if place < words {
+                return word_of(message, number, place);
+            }
+            place -= words;
+            number += 1;
+        }
+        0
+    }
+}
+
+/// How many words a message has: its own and those of its bytes.
+fn words_of(message: &Message) -> u64
+    ensures words { result ≡ 1 + data_len (length message.now) }
+    ensures most { result ≤ 8 }
+{
+    1 + (message.len() as u64 + 7) / 8
+}
+
+/// The word at `place` of a message with this number.
+fn word_of(message: &Message, number: u64, place: u64) -> u64
+    requires number { number < 2 ^ 48 }
+    requires place { place < 1 + data_len (length message.now) }
+    ensures { slice_get (message_words (record { number = number; message = message.now })) place ≡ Some result }
+{
+    if place == 0 {
+        2 * TAG + message.len() as u64 * HIGH + number
+    } else {
+        data_word_of(message.as_slice(), 8 * (place as usize - 1))
+    }
+}
+
+/// The word of the bytes from `start` on.
+fn data_word_of(bytes: &[u8], start: usize) -> u64
+    requires { start ≤ length bytes.now }
+    ensures { result ≡ data_word (drop start bytes.now) }
+{
+    let mut word = [0u8; 8];
+    for i in 0..8 {
+        if i < bytes.len() - start {
+            word[i] = bytes[start + i];
+        }
+    }
+    u64::from_be_bytes(word)
+}

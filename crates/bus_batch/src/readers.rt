@@ -1,0 +1,354 @@
+//! A reader of the log's words, one at a time.
+
+ghost use Rattle.std.specs.Prelude.{◌≡◌, ℕ, ◌+◌, ◌*◌, ◌-◌, ◌<◌, ◌≤◌, ◌^◌, List, [], ◌∷◌, ◌++◌, length, All, IfSome, IfNone, IfOk, OnErr, IsErr, IsTrue, ◌↔◌, false};
+ghost use Rattle.bus_batch.specs.Frames.{data_len};
+
+use crate::messages::{Item, Message, Piece};
+use crate::words::{COUNT, END, HIGH, NUMBERS, TAG};
+use bus_register::SenderNo;
+use std::marker::Model;
+use std::mem;
+
+/// No log goes on with this word.
+#[derive(Clone, Copy, Debug, PartialEq, Eq)]
+pub struct BadWord;
+
+/// What a head says.
+#[derive(Clone, Copy)]
+struct Head {
+    tenure: u64,
+    owner: SenderNo,
+    count: u64,
+}
+
+/// What a message word says.
+#[derive(Clone, Copy)]
+struct Length {
+    len: u64,
+    number: u64,
+}
+
+/// Where a reader stands in the log.
+#[derive(Clone, Copy, Debug)]
+enum Place {
+    /// At a head, or at the end.
+    Between,
+    /// In a message's place: of the frame so many words are left, and so many messages at most.
+    Body {
+        owner: SenderNo,
+        left: u64,
+        room: u64,
+    },
+    /// Within a message of so many bytes; `left` counts its words too.
+    Data {
+        owner: SenderNo,
+        left: u64,
+        room: u64,
+        number: u64,
+        len: u64,
+    },
+    /// After an end mark.
+    Ended,
+    /// After a bad word.
+    Bad,
+}
+
+/// The most messages of a frame.
+const BATCH_MESSAGES: u64 = 16;
+
+ghost use Rattle.bus_batch.specs.Steps.{IsHead, IsMessageWord, IsAfter};
+
+/// The head that a word is, of one of so many senders and of a tenure not below `least`.
+fn head_of(word: u64, senders: u64, least: u64) -> Option<Head>
+    ensures some { IfSome result (IsHead senders least word) }
+    ensures none { IfNone result ((h : _) → ¬ IsHead senders least word h) }
+{
+    let tag = word / TAG;
+    let owner = word % TAG / HIGH;
+    let count = word % HIGH / COUNT;
+    let tenure = word % COUNT;
+    if tag == 1 && owner < senders && count >= 1 && count <= 128 && tenure >= least {
+        Some(Head {
+            tenure,
+            owner: SenderNo(owner as u8),
+            count,
+        })
+    } else {
+        None
+    }
+}
+
+/// The length and the number that a message word has.
+fn message_of(word: u64) -> Option<Length>
+    ensures some { IfSome result (IsMessageWord word) }
+    ensures none { IfNone result ((m : _) → ¬ IsMessageWord word m) }
+{
+    let tag = word / TAG;
+    let len = word % TAG / HIGH;
+    let number = word % HIGH;
+    if tag == 2 && len <= 56 && number < NUMBERS {
+        Some(Length { len, number })
+    } else {
+        None
+    }
+}
+
+/// Reads the words of a log in order, and tells what each says.
+///
+/// After a bad word it answers `BadWord` for good.
+#[derive(Debug, Drop)]
+pub struct FrameReader {
+    senders: u64,
+    least: u64,
+    place: Place,
+    bytes: Message,
+}
+
+impl Model for FrameReader {
+    ghost use Rattle.std.specs.Prelude.{◌≡◌};
+    ghost use Rattle.bus_batch.specs.Reading.{Reading, IsSound};
+
+    ghost Value = { Reading };
+
+    ghost view = { λ r. record { senders = r.senders; least = r.least; place = r.place; bytes = r.bytes } };
+
+    ghost invariant = { λ r. IsSound r.place r.bytes };
+}
+
+impl FrameReader {
+    ghost use Rattle.bus_batch.specs.declared.readers.Place.TheVariants as place;
+    ghost use Rattle.bus_batch.specs.Frames.{IsBadWord, GivesPiece, IsLog, Spells, order_in, owners_in, end_word};
+    ghost use Rattle.bus_batch.specs.Reading.{HasRead, HasMetBadWord};
+    ghost use Rattle.bus_batch.specs.Steps.{Steps};
+
+    /// A reader of a log of so many senders, before its first word.
+    pub fn new(senders: u64) -> FrameReader
+        ensures senders { result.senders ≡ senders }
+        ensures read { HasRead senders [] [] result }
+    {
+        FrameReader {
+            senders,
+            least: 0,
+            place: Place::Between,
+            bytes: Message::new(),
+        }
+    }
+
+    /// The words so far end within a frame: they begin a log and are none.
+    pub fn inside(&self) -> bool
+        ensures torn { (words : _) (pieces : _) → HasRead self.now.senders words pieces self.now → IsTrue result → ¬ IsLog self.now.senders words }
+        // Outside the words are a log, and the pieces say its order and owners.
+        ensures whole { (words : _) (pieces : _) → HasRead self.now.senders words pieces self.now → result ≡ false → Spells self.now.senders words (order_in pieces) (owners_in pieces) }
+    {
+        matches!(self.place, Place::Body { .. } | Place::Data { .. })
+    }
+
+    /// The same reader once more. Takes no memory.
+    pub fn copied(&self) -> FrameReader
+        ensures { result ≡ self.now }
+    {
+        FrameReader {
+            senders: self.senders,
+            least: self.least,
+            place: self.place,
+            bytes: self.bytes.copied(),
+        }
+    }
+
+    /// Takes a word in a head's place.
+    fn take_head(&mut self, word: u64) -> Result<Option<Piece>, BadWord>
+        requires { self.old.place ≡ place.Between }
+        ensures senders { self.new.senders ≡ self.old.senders }
+        ensures steps { Steps self.old word result self.new }
+    {
+        match head_of(word, self.senders, self.least) {
+            Some(head) => {
+                self.least = head.tenure + 1;
+                self.place = Place::Body {
+                    owner: head.owner,
+                    left: head.count,
+                    room: BATCH_MESSAGES,
+                };
+                Ok(Some(Piece::Head {
+                    tenure: head.tenure,
+                    owner: head.owner,
+                }))
+            }
+            None => {
+                self.place = Place::Bad;
+                Err(BadWord)
+            }
+        }
+    }
+
+    /// Takes a word in a message's place.
+    fn take_message(
+        &mut self,
+        word: u64,
+        owner: SenderNo,
+        left: u64,
+        room: u64,
+    ) -> Result<Option<Piece>, BadWord>
+        requires { self.old.place ≡ place.Body owner left room }
+        ensures senders { self.new.senders ≡ self.old.senders }
+        ensures steps { Steps self.old word result self.new }
+    {
+        if word == END {
+            return self.take_end(word, owner, left, room);
+        }
+        match message_of(word) {
+            Some(length) => self.take_length(word, owner, left, room, length),
+            None => {
+                self.place = Place::Bad;
+                Err(BadWord)
+            }
+        }
+    }
+
+    /// Takes an end word.
+    fn take_end(
+        &mut self,
+        word: u64,
+        owner: SenderNo,
+        left: u64,
+        room: u64,
+    ) -> Result<Option<Piece>, BadWord>
+        requires place { self.old.place ≡ place.Body owner left room }
+        requires word { word ≡ end_word }
+        ensures senders { self.new.senders ≡ self.old.senders }
+        ensures steps { Steps self.old word result self.new }
+    {
+        if left == 1 && room == BATCH_MESSAGES {
+            self.place = Place::Ended;
+            Ok(Some(Piece::End))
+        } else {
+            self.place = Place::Bad;
+            Err(BadWord)
+        }
+    }
+
+    /// Takes a message word.
+    fn take_length(
+        &mut self,
+        word: u64,
+        owner: SenderNo,
+        left: u64,
+        room: u64,
+        length: Length,
+    ) -> Result<Option<Piece>, BadWord>
+        requires place { self.old.place ≡ place.Body owner left room }
+        requires word { IsMessageWord word length }
+        ensures senders { self.new.senders ≡ self.old.senders }
+        ensures steps { Steps self.old word result self.new }
+    {
+        let _held = &self.bytes;
+        let words = 1 + (length.len + 7) / 8;
+        if left < words || 8 * (room - 1) < left - words {
+            self.place = Place::Bad;
+            return Err(BadWord);
+        }
+        if length.len == 0 {
+            self.place = place_after(owner, left - 1, room - 1);
+            return Ok(Some(Piece::Item(Item {
+                sender: owner,
+                number: length.number,
+                message: Message::new(),
+            })));
+        }
+        self.place = Place::Data {
+            owner,
+            left: left - 1,
+            room: room - 1,
+            number: length.number,
+            len: length.len,
+        };
+        Ok(None)
+    }
+
+    /// Takes a word of a message's bytes.
+    fn take_bytes(
+        &mut self,
+        word: u64,
+        owner: SenderNo,
+        left: u64,
+        room: u64,
+        length: Length,
+    ) -> Result<Option<Piece>, BadWord>
+        requires { self.old.place ≡ place.Data owner left room length.number length.len }
+        ensures senders { self.new.senders ≡ self.old.senders }
+        ensures steps { Steps self.old word result self.new }
+    {
+        let missing = length.len as usize - self.bytes.len();
+        let taken = missing.min(8);
+        let bytes = word.to_be_bytes();
+        if !are_zero(&bytes[taken..]) {
+            self.place = Place::Bad;
+            return Err(BadWord);
+        }
+        self.bytes.append(&bytes[..taken]);
+        if taken == missing {
+            let message = mem::take(&mut self.bytes);
+            self.place = place_after(owner, left - 1, room);
+            return Ok(Some(Piece::Item(Item {
+                sender: owner,
+                number: length.number,
+                message,
+            })));
+        }
+        self.place = Place::Data {
+            owner,
+            left: left - 1,
+            room,
+            number: length.number,
+            len: length.len,
+        };
+        Ok(None)
+    }
+
+    /// Takes the next word, and gives what it says.
+    pub fn feed(&mut self, word: u64) -> Result<Option<Piece>, BadWord>
+        ensures senders { self.new.senders ≡ self.old.senders }
+
+        // It refuses exactly the words that no log goes on with.
+        ensures bad { (words : _) (pieces : _) → HasRead self.old.senders words pieces self.old → (IsErr result ↔ IsBadWord self.old.senders words word) }
+        ensures gives { (words : _) (pieces : _) → HasRead self.old.senders words pieces self.old → IfOk result (GivesPiece self.old.senders words word) }
+        ensures read { (words : _) (pieces : _) → HasRead self.old.senders words pieces self.old → IfOk result (λ found. HasRead self.old.senders (words ++ word ∷ []) (pieces ++ found ∷ []) self.new) }
+
+        ensures met { OnErr result (HasMetBadWord self.new) }
+        ensures for_good { HasMetBadWord self.old → IsErr result }
+    {
+        match self.place {
+            Place::Between => self.take_head(word),
+            Place::Body { owner, left, room } => self.take_message(word, owner, left, room),
+            Place::Data {
+                owner,
+                left,
+                room,
+                number,
+                len,
+            } => self.take_bytes(word, owner, left, room, Length { len, number }),
+            Place::Ended | Place::Bad => {
+                self.place = Place::Bad;
+                Err(BadWord)
+            }
+        }
+    }
+}
+
+/// Where a reader stands after a message, with so many words and messages left.
+fn place_after(owner: SenderNo, left: u64, room: u64) -> Place
+    ensures { IsAfter owner left room result }
+{
+    if left == 0 {
+        Place::Between
+    } else {
+        Place::Body { owner, left, room }
+    }
+}
+
+/// Each byte is zero.
+fn are_zero(bytes: &[u8]) -> bool
+    ensures { IsTrue result ↔ All (λ b. b ≡ 0) bytes.now }
+{
+    bytes.iter().all(|b| *b == 0)
+}

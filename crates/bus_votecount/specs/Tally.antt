@@ -1,0 +1,24 @@
+-- Counts of votes, and the words that hold them. The counters of Aspnes and Herlihy 1990, in this project's own layout.
+use Rattle.std.specs.Prelude.{ℕ, ◌+◌, ◌*◌, ◌/◌, ◌%◌, ◌^◌, Bool, true, false, List, ℤ, pos, ◌-ℤ◌, sum_by}
+use Rattle.bus_votecount.specs.declared.tallies.Tally.{Tally}
+
+-- the counts that a word holds: heads in the high half, tails in the low half
+abbrev pub tally_of : ℕ → Tally
+tally_of word = record { heads = word / 2 ^ 32; tails = word % 2 ^ 32 }
+
+-- the word that holds these counts
+abbrev pub word_of : Tally → ℕ
+word_of t = t.heads * 2 ^ 32 + t.tails
+
+-- one vote more, on one side
+abbrev pub voted : Tally → Bool → Tally
+voted t true = record t { heads = t.heads + 1 }
+voted t false = record t { tails = t.tails + 1 }
+
+-- how many votes there are
+abbrev pub votes_of : Tally → ℕ
+votes_of t = t.heads + t.tails
+
+-- all heads minus all tails
+abbrev pub total_of : List Tally → ℤ
+total_of ts = pos (sum_by (λ t. t.heads) ts) -ℤ pos (sum_by (λ t. t.tails) ts)

@@ -1,0 +1,6 @@
+//! The votes of one process in one coin, and the words that hold them.
+#![tactic(auto)]
+
+pub mod tallies;
+
+pub use tallies::{Tally, total};

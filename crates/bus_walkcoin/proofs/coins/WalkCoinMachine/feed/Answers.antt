@@ -1,0 +1,34 @@
+use Rattle.std.proofs.Common.{◌≡◌, arith, [], ◌∷◌, ◌+ℤ◌, sym, ◌∙◌, ap, subst}
+use Rattle.std.proofs.lemmas.Int.{ints}
+use Rattle.bus_votecount.specs.Tally.{tally_of, votes_of, total_of}
+use Rattle.bus_walkcoin.specs.declared.coins.Phase.{Phase}
+use Rattle.bus_walkcoin.specs.Coin.{CoinState, PhaseFits, LeadFits, after_load, coin_fed, fed_at}
+use Rattle.bus_walkcoin.specs.CoinLaws.{load_fits, load_lead}
+use Rattle.bus_walkcoin.proofs.coins.WalkCoinMachine.feed.Goals as goal
+
+-- the new phase, with the sum written plainly
+goes_on : (c : goal.After-self-in-ReadVotes-1) → c.go_on-self-inside.result ≡ after_load c.self.inside.n (votes_of c.self.inside.own) c.in-ReadVotes.of (c.in-ReadVotes.lead +ℤ total_of (tally_of c.args.got ∷ []))
+goes_on c =
+    let f = subst LeadFits c.in-ReadVotes.is c.self.invariant.lead in
+    let b = subst (PhaseFits c.self.inside.n (votes_of c.self.inside.own)) c.in-ReadVotes.is c.self.invariant.fits in
+    let t : c.total.result ≡ total_of (tally_of c.args.got ∷ []) = c.total.ensures ∙ ap (λ t. total_of (t ∷ [])) c.of_word.ensures.counts in
+    let few = c.self.invariant.few in
+    c.go_on-self-inside.ensures ∙ ap (after_load c.self.inside.n (votes_of c.self.inside.own) c.in-ReadVotes.of) (omega (arith, ints))
+
+pub invariant_of-self-in-ReadVotes : goal.invariant_of-self-in-ReadVotes
+invariant_of-self-in-ReadVotes c =
+    let b = subst (PhaseFits c.self.inside.n (votes_of c.self.inside.own)) c.in-ReadVotes.is c.self.invariant.fits in
+    let f = subst LeadFits c.in-ReadVotes.is c.self.invariant.lead in
+    record {
+      below = c.self.invariant.below;
+      few = c.self.invariant.few;
+      room = c.self.invariant.room;
+      votes = c.self.invariant.votes;
+      fits = subst (PhaseFits c.self.inside.n (votes_of c.self.inside.own)) (sym (goes_on c)) (load_fits c.self.inside.n (votes_of c.self.inside.own) c.in-ReadVotes.of (c.in-ReadVotes.lead +ℤ total_of (tally_of c.args.got ∷ [])) b.1 c.self.invariant.votes);
+      lead = subst LeadFits (sym (goes_on c)) (load_lead c.self.inside.n (votes_of c.self.inside.own) c.in-ReadVotes.of c.in-ReadVotes.lead c.args.got (omega arith) f);
+    }
+
+pub returns-in-ReadVotes : goal.returns-in-ReadVotes
+returns-in-ReadVotes c =
+    let held : Phase → CoinState = λ ph. record { n = c.self.inside.n; me = c.self.inside.me.0; at = c.self.inside.at.0; own = c.self.inside.own; phase = ph } in
+    ap held (goes_on c) ∙ sym (ap (λ ph. fed_at ph (held ph) c.args.got c.args.word) c.in-ReadVotes.is) ∙ ap (λ s. coin_fed s c.args.got c.args.word) c.self.view_is

@@ -1,0 +1,166 @@
+//! One process in one coin.
+
+ghost use Rattle.std.specs.Prelude.{◌≡◌, ℕ, ◌+◌, ◌<◌, ◌≤◌, ◌^◌};
+ghost use Rattle.bus_walkcoin.specs.CoinRule.{settled};
+ghost use Rattle.bus_walkcoin.specs.Coin.{after_load, answer_of, wants_of, coin_started};
+
+use bus_register::{Kind, Machine, Op, Reg, SenderNo};
+use bus_votecount::{Tally, total};
+use std::marker::Model;
+
+/// Where a process stands in a coin.
+#[derive(Clone, Copy, Debug, PartialEq, Eq)]
+pub enum Phase {
+    /// It adds a vote to its own counter next.
+    Vote,
+    /// It loads the counter of process `of` next; `lead` is heads minus tails of those below.
+    ReadVotes { of: u64, lead: i64 },
+    /// It has the answer.
+    Answered(bool),
+}
+
+/// A process that votes at random until the total is far from zero, or until its own votes are
+/// used up. Counter `j` is the word at `at + j`.
+#[derive(Drop)]
+pub struct WalkCoin {
+    n: u64,
+    me: SenderNo,
+    at: Reg,
+    own: Tally,
+    phase: Phase,
+}
+
+impl Model for WalkCoin {
+    ghost use Rattle.bus_walkcoin.specs.Coin.{CoinState, Sized};
+
+    ghost Value = { CoinState };
+
+    ghost view = { λ c. record { n = c.n; me = c.me.0; at = c.at.0; own = c.own; phase = c.phase } };
+
+    ghost invariant = { λ c. Sized c.n c.me.0 c.at.0 c.own c.phase };
+}
+
+/// What the total says after so many own votes.
+fn settle(n: u64, votes: u32, lead: i64) -> Option<bool>
+    requires { n ≤ 64 }
+    ensures { result ≡ settled n votes lead }
+{
+    let barrier = 2 * n as i64;
+    if barrier <= lead {
+        Some(true)
+    } else if lead <= -barrier {
+        Some(false)
+    } else if votes == 64 {
+        Some(0 < lead)
+    } else {
+        None
+    }
+}
+
+/// Where a process stands that has loaded the counter of process `of`.
+fn go_on(n: u64, votes: u32, of: u64, lead: i64) -> Phase
+    requires few { n ≤ 64 }
+    requires below { of < n }
+    ensures { result ≡ after_load n votes of lead }
+{
+    if of + 1 < n {
+        Phase::ReadVotes { of: of + 1, lead }
+    } else {
+        match settle(n, votes, lead) {
+            Some(answer) => Phase::Answered(answer),
+            None => Phase::Vote,
+        }
+    }
+}
+
+impl WalkCoin {
+    /// Process `me` of `n`, over the words from `at` on, which are zero before the first step.
+    pub fn start(n: u64, me: SenderNo, at: Reg) -> WalkCoin
+        requires me_below { me.0 < n }
+        requires few { n ≤ 64 }
+        requires room { at.0 + n ≤ 2 ^ 64 }
+        ensures { result ≡ coin_started n me.0 at.0 }
+    {
+        WalkCoin {
+            n,
+            me,
+            at,
+            own: Tally { heads: 0, tails: 0 },
+            phase: Phase::Vote,
+        }
+    }
+
+    /// How many words a coin of `n` processes has.
+    pub fn width(n: u64) -> u64
+        ensures { result ≡ n }
+    {
+        // One counter for each process.
+        n
+    }
+
+    /// The answer, once there is one.
+    pub fn answer(&self) -> Option<bool>
+        ensures { result ≡ answer_of self.now }
+    {
+        match self.phase {
+            Phase::Answered(answer) => Some(answer),
+            _ => None,
+        }
+    }
+
+    /// The next step is a vote, which asks for a random word.
+    pub fn wants_word(&self) -> bool
+        ensures { result ≡ wants_of self.now }
+    {
+        match self.phase {
+            Phase::Vote => true,
+            _ => false,
+        }
+    }
+}
+
+impl Machine for WalkCoin {
+    ghost use Rattle.bus_walkcoin.specs.Coin.{coin_kind, coin_op, coin_fed};
+    ghost use Rattle.bus_walkcoin.specs.CoinLaws.{coin_names_each_step};
+
+    ghost kind_of = { coin_kind };
+
+    ghost op = { coin_op };
+
+    ghost fed = { coin_fed };
+
+    ghost names_each_step = { coin_names_each_step };
+
+    fn kind(&self) -> Option<Kind> {
+        match self.phase {
+            Phase::Vote => Some(Kind::Vote),
+            Phase::ReadVotes { of: _, lead: _ } => Some(Kind::ReadVotes),
+            Phase::Answered(_) => None,
+        }
+    }
+
+    fn next(&self, word: u32) -> Option<Op> {
+        match self.phase {
+            Phase::Vote => Some(Op::Store(
+                Reg(self.at.0 + u64::from(self.me.0)),
+                self.own.vote(word % 2 == 1).word(),
+            )),
+            Phase::ReadVotes { of, lead: _ } => Some(Op::Load(Reg(self.at.0 + of))),
+            Phase::Answered(_) => None,
+        }
+    }
+
+    fn feed(&mut self, got: u64, word: u32) {
+        match self.phase {
+            Phase::Vote => {
+                self.own = self.own.vote(word % 2 == 1);
+                self.phase = Phase::ReadVotes { of: 0, lead: 0 };
+            }
+            Phase::ReadVotes { of, lead } => {
+                let lead = lead + total(&[Tally::of_word(got)]);
+                self.phase = go_on(self.n, self.own.heads + self.own.tails, of, lead);
+            }
+            Phase::Answered(_) => {}
+        }
+    }
+}
