@@ -1,0 +1,16 @@
+pub mod Deciding
+pub mod Fallback
+pub mod FallbackLaws
+pub mod Chain
+pub mod ChainSteps
+pub mod ChainMoves
+pub mod ChainOutcome
+pub mod ChainLaws
+pub mod Lift
+pub mod LiftLaws
+pub mod Objects
+pub mod ObjectLaws
+pub mod ObjectNames
+pub mod DecideLaw
+pub mod RoundLaws
+pub mod DecideLaws

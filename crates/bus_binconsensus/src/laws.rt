@@ -1,0 +1,13 @@
+//! What holds of every binary decision, over any ratifier.
+
+ghost use Rattle.std.specs.Prelude.{◌≡◌, ℕ, ◌+◌, ◌*◌, ◌-◌, ◌<◌, ◌≤◌, ◌^◌};
+ghost use Rattle.bus_binconsensus.specs.DecideLaw.{DecideLaw};
+ghost use Rattle.bus_coinconc.specs.Conciliator.{conciliator_op, conciliator_fed};
+ghost use Rattle.bus_coinconc.specs.ConciliatorProtocol.{conciliator_protocol};
+
+use bus_adoptcommit::Ratifier;
+
+/// A binary decision of any number of rounds keeps its law, over any ratifier.
+pub fn decide_is_lawful<Q: Ratifier>()
+    ensures { DecideLaw Q.op Q.fed Q.protocol conciliator_op conciliator_fed conciliator_protocol }
+{}
