@@ -1,16 +1,16 @@
 -- The words of a batch.
-use Rattle.std.proofs.Common.{◌≡◌, ℕ, zero, suc, ◌+◌, ◌-◌, ◌*◌, ◌/◌, ◌^◌, ◌<◌, ◌≤◌, List, [], ◌∷◌, ◌++◌, length, get_or, take, drop, replicate, arith, refl, sym, ap, ◌∙◌, subst, inl, inr, append_assoc, Some, None}
-use Rattle.std.specs.Prelude.{All, Option, slice_get, ◌⊎◌}
+use Rattle.std.proofs.Common.{◌≡◌, ℕ, zero, suc, ◌+◌, ◌-◌, ◌*◌, ◌^◌, ◌<◌, ◌≤◌, List, [], ◌∷◌, ◌++◌, length, get_or, take, drop, replicate, arith, refl, sym, ap, ◌∙◌, inl, inr, Some}
+use Rattle.std.specs.Prelude.{All, slice_get, ◌⊎◌}
 use Rattle.std.specs.Int.{w64, from_be_bytes}
 use Rattle.std.specs.List.{flat_map}
 use Rattle.std.proofs.lemmas.Bool.{cases_lt}
-use Rattle.std.proofs.lemmas.List.{length-take, length-append, length-replicate, get_or-take, get_or-drop, get_or_append_left, get_or-append-add, get_or-replicate, ext_get_or, drop-drop}
+use Rattle.std.proofs.lemmas.List.{length-append, get_or-take, get_or-drop, get_or_append_left, get_or-append-add, get_or-replicate, ext_get_or, drop-drop}
 use Rattle.std.proofs.Math.Seq.{drop-cons}
 use Rattle.std.proofs.lemmas.List.Elements.{All-nil, All-cons, All-head, All-tail}
 use Rattle.std.proofs.lemmas.Grind.{common_steps}
 use Rattle.bus_batch.specs.declared.batches.Phase.{Phase}
 use Rattle.bus_batch.specs.declared.batches.Phase.TheVariants as phase
-use Rattle.bus_batch.specs.Messages.{Numbered, IsMessage, IsNumbered, numbered}
+use Rattle.bus_batch.specs.Messages.{IsMessage, IsNumbered, numbered}
 use Rattle.bus_batch.specs.Frames.{IsFrame, IsBody, body_words, data_word, data_len, words_of_bytes, message_words}
 use Rattle.bus_batch.specs.Batches.{Pending, HasSomething, IsKept, body_of, frame_of}
 use Rattle.bus_batch.proofs.WordLaws.{length-message_words, words_least}

@@ -1,20 +1,19 @@
 -- A word in a message's place, and what comes after a message.
-use Rattle.std.proofs.Common.{◌≡◌, ℕ, zero, suc, ◌+◌, ◌-◌, ◌*◌, ◌/◌, ◌^◌, ◌<◌, ◌≤◌, List, [], ◌∷◌, ◌++◌, length, replicate, arith, refl, sym, ap, ◌∙◌, subst, inl, inr, append_assoc}
-use Rattle.std.specs.Prelude.{All, Option, Some, None}
+use Rattle.std.proofs.Common.{◌≡◌, ℕ, suc, ◌+◌, ◌-◌, ◌*◌, ◌<◌, ◌≤◌, List, [], ◌∷◌, ◌++◌, length, replicate, arith, refl, sym, ap, ◌∙◌, subst, inl, inr}
+use Rattle.std.specs.Prelude.{Option, Some, None}
 use Rattle.std.specs.List.{flat_map}
 use Rattle.std.proofs.lemmas.Bool.{cases_lt}
 use Rattle.std.proofs.lemmas.List.Elements.{All-nil, All-replicate}
 use Rattle.std.proofs.Math.ListN.{length-replicate}
 use Rattle.bus_register.specs.declared.registers.SenderNo.{SenderNo}
-use Rattle.bus_batch.specs.declared.messages.Item.{Item}
 use Rattle.bus_batch.specs.declared.messages.Piece.{Piece}
 use Rattle.bus_batch.specs.declared.messages.Piece.TheVariants as piece
 use Rattle.bus_batch.specs.declared.readers.Length.{Length}
 use Rattle.bus_batch.specs.declared.readers.Place.{Place}
 use Rattle.bus_batch.specs.declared.readers.Place.TheVariants as place
 use Rattle.bus_batch.specs.Messages.{Numbered, IsNumbered}
-use Rattle.bus_batch.specs.Frames.{end_word, Frame, Body, Messages, EndMark, IsFrame, IsBody, AreFramesFrom, data_len, item_of, item_pieces, words_of_bytes, message_word, message_words, message_pieces, log_words, log_pieces}
-use Rattle.bus_batch.specs.Reading.{Reading, Awaits, Fills, Completes}
+use Rattle.bus_batch.specs.Frames.{end_word, data_len, item_of, item_pieces, words_of_bytes, message_word, message_words, message_pieces, log_words, log_pieces}
+use Rattle.bus_batch.specs.Reading.{Awaits, Fills, Completes}
 use Rattle.bus_batch.specs.Steps.{IsMessageWord, IsAfter, Takes, Refuses}
 use Rattle.bus_batch.proofs.WordLaws.{message_parts, not_end, words_most, words_least}
 use Rattle.bus_batch.proofs.Fillings.{First, first, fills_some, fills_more}

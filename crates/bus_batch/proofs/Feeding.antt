@@ -1,6 +1,6 @@
 -- From one step of a reader to what it has read.
-use Rattle.std.proofs.Common.{◌≡◌, ℕ, zero, suc, ◌+◌, ◌<◌, ◌≤◌, Bool, true, false, List, [], ◌∷◌, ◌++◌, length, arith, refl, sym, ap, ◌∙◌, subst, inl, inr, append_assoc, Ok, Err, Some, None}
-use Rattle.std.specs.Prelude.{Option, Result, IfOk, IsErr, IsTrue, ◌↔◌, slice_get}
+use Rattle.std.proofs.Common.{◌≡◌, ℕ, suc, ◌+◌, ◌≤◌, true, false, List, [], ◌∷◌, ◌++◌, length, arith, refl, sym, ap, ◌∙◌, subst, inl, inr, append_assoc, Ok, Err, Some}
+use Rattle.std.specs.Prelude.{Option, Result, IfOk, IsErr, ◌↔◌, slice_get}
 use Rattle.std.proofs.lemmas.List.{length-append}
 use Rattle.std.proofs.Common.{append-nil}
 use Rattle.std.specs.List.{flat_map}
@@ -9,10 +9,10 @@ use Rattle.bus_batch.specs.declared.messages.Piece.{Piece}
 use Rattle.bus_batch.specs.declared.readers.BadWord.{BadWord}
 use Rattle.bus_batch.specs.declared.readers.Place.{Place}
 use Rattle.bus_batch.specs.declared.readers.Place.TheVariants as place
-use Rattle.bus_batch.specs.Frames.{Frame, AreFrames, IsLog, BeginsLog, IsBadWord, GivesPiece, end_word, log_words, log_pieces, message_words, words_of_bytes}
+use Rattle.bus_batch.specs.Frames.{IsLog, BeginsLog, IsBadWord, GivesPiece, end_word, log_words, log_pieces, message_words, words_of_bytes}
 use Rattle.bus_batch.specs.Frames.{Spells, order_in, owners_in}
 use Rattle.bus_batch.proofs.PieceLaws.{order_in-log, owners_in-log}
-use Rattle.bus_batch.specs.Reading.{Reading, Awaits, HasRead, IsSound, Fills, Completes}
+use Rattle.bus_batch.specs.Reading.{Reading, Awaits, HasRead, IsSound}
 use Rattle.bus_batch.specs.Steps.{Steps, Takes, Refuses}
 use Rattle.bus_batch.proofs.Taking.{reading}
 

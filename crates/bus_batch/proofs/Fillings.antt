@@ -8,10 +8,10 @@ use Rattle.std.proofs.lemmas.Bool.{cases_lt}
 use Rattle.std.proofs.lemmas.List.Elements.{All-cons, All-head, All-tail, All-replicate, All-nil}
 use Rattle.bus_register.specs.declared.registers.SenderNo.{SenderNo}
 use Rattle.bus_batch.specs.declared.messages.Piece.{Piece}
-use Rattle.bus_batch.specs.Messages.{Numbered, IsMessage, IsNumbered}
-use Rattle.bus_batch.specs.Frames.{Frame, AreFramesFrom, message_word, data_len, words_of_bytes, message_words, message_pieces, item_pieces, item_of, log_words, log_pieces}
+use Rattle.bus_batch.specs.Messages.{Numbered, IsNumbered}
+use Rattle.bus_batch.specs.Frames.{Frame, AreFramesFrom, message_word, data_len, words_of_bytes, message_words, message_pieces, log_words, log_pieces}
 use Rattle.bus_batch.specs.Reading.{Fills}
-use Rattle.bus_batch.proofs.WordLaws.{length-words_of_bytes, length-message_words, words_most}
+use Rattle.bus_batch.proofs.WordLaws.{length-message_words}
 
 -- a message of so many zero bytes
 zeros : ℕ → Numbered

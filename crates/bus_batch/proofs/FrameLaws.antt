@@ -1,16 +1,15 @@
 -- Words spell one log at most, and a frame's words begin no other frame's.
-use Rattle.std.proofs.Common.{◌≡◌, ℕ, zero, suc, ◌+◌, ◌-◌, ◌*◌, ◌/◌, ◌^◌, ◌<◌, ◌≤◌, min, List, [], ◌∷◌, ◌++◌, length, take, drop, replicate, refl, sym, ap, ◌∙◌, subst, append_assoc, append-nil, arith, Bool, true, false}
-use Rattle.std.specs.Prelude.{All, Option, map, ◌||◌}
+use Rattle.std.proofs.Common.{◌≡◌, ℕ, zero, suc, ◌+◌, ◌*◌, ◌<◌, ◌≤◌, min, List, [], ◌∷◌, ◌++◌, length, take, drop, refl, sym, ap, ◌∙◌, subst, append-nil, arith, Bool, true, false}
+use Rattle.std.specs.Prelude.{All, map, ◌||◌}
 use Rattle.std.proofs.lemmas.Bool.{false≢true}
 use Rattle.bus_batch.specs.declared.messages.Item.{Item}
 use Rattle.bus_batch.proofs.PieceLaws.{flat_map-append, or_assoc, order_made}
-use Rattle.std.specs.Int.{w64, to_be_bytes}
 use Rattle.std.specs.List.{flat_map}
-use Rattle.std.proofs.lemmas.List.{length-append, length-drop, take-append-drop}
+use Rattle.std.proofs.lemmas.List.{length-drop, take-append-drop}
 use Rattle.std.proofs.lemmas.List.Elements.{All-head, All-tail, All-drop}
 use Rattle.bus_register.specs.declared.registers.SenderNo.{SenderNo}
-use Rattle.bus_batch.specs.Messages.{Numbered, IsMessage, IsNumbered}
-use Rattle.bus_batch.specs.Frames.{Frame, Body, Messages, EndMark, IsBody, IsFrame, AreFramesFrom, AreFrames, Spells, Order, order_of, has_end, ends, items_of, tenure_and_owner, end_word, head_word, message_word, data_word, data_len, words_of_bytes, message_words, body_words, frame_words, log_words}
+use Rattle.bus_batch.specs.Messages.{Numbered, IsNumbered}
+use Rattle.bus_batch.specs.Frames.{Frame, Body, Messages, EndMark, IsBody, IsFrame, AreFramesFrom, Spells, Order, order_of, has_end, ends, items_of, tenure_and_owner, head_word, message_word, data_word, data_len, words_of_bytes, message_words, body_words, frame_words, log_words}
 use Rattle.bus_batch.proofs.WordLaws.{head_parts, message_parts, not_end, length-words_of_bytes}
 use Rattle.bus_batch.proofs.Bytes.{data_bytes, taken}
 use Rattle.bus_batch.proofs.Heads.{body_most}

@@ -1,6 +1,6 @@
 -- A word in a head's place.
-use Rattle.std.proofs.Common.{◌≡◌, ℕ, zero, suc, ◌+◌, ◌-◌, ◌*◌, ◌/◌, ◌^◌, ◌<◌, ◌≤◌, List, [], ◌∷◌, ◌++◌, length, arith, refl, sym, ap, ◌∙◌, subst, inl, inr}
-use Rattle.std.specs.Prelude.{Option, Some, None}
+use Rattle.std.proofs.Common.{◌≡◌, ℕ, ◌+◌, ◌^◌, ◌<◌, ◌≤◌, List, [], ◌∷◌, ◌++◌, length, arith, refl, sym, ap, ◌∙◌, subst, inl, inr}
+use Rattle.std.specs.Prelude.{Option, Some}
 use Rattle.std.specs.List.{flat_map}
 use Rattle.bus_register.specs.declared.registers.SenderNo.{SenderNo}
 use Rattle.bus_batch.specs.declared.messages.Piece.{Piece}
@@ -8,8 +8,8 @@ use Rattle.bus_batch.specs.declared.messages.Piece.TheVariants as piece
 use Rattle.bus_batch.specs.declared.readers.Head.{Head}
 use Rattle.bus_batch.specs.declared.readers.Place.TheVariants as place
 use Rattle.bus_batch.specs.Messages.{Numbered}
-use Rattle.bus_batch.specs.Frames.{end_word, Frame, Body, Messages, EndMark, IsFrame, IsBody, AreFramesFrom, head_word, message_words, message_pieces, body_words, body_pieces, log_words, log_pieces}
-use Rattle.bus_batch.specs.Reading.{Reading, Awaits, Fills}
+use Rattle.bus_batch.specs.Frames.{end_word, Frame, Body, Messages, EndMark, IsFrame, IsBody, AreFramesFrom, head_word, message_words, body_words, body_pieces, log_words, log_pieces}
+use Rattle.bus_batch.specs.Reading.{Awaits}
 use Rattle.bus_batch.specs.Steps.{IsHead, Takes, Refuses}
 use Rattle.bus_batch.proofs.WordLaws.{head_parts, words_most, words_least}
 use Rattle.bus_batch.proofs.Fillings.{fills_some}

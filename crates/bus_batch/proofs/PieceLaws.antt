@@ -1,15 +1,11 @@
 -- The pieces of a log say its order and its owners.
-use Rattle.std.proofs.Common.{◌≡◌, ℕ, zero, suc, ◌+◌, List, [], ◌∷◌, ◌++◌, length, refl, sym, ap, ◌∙◌, append_assoc, append-nil, Some, None, Bool, true, false, arith}
-use Rattle.std.specs.Prelude.{Option, map, ◌||◌}
+use Rattle.std.proofs.Common.{◌≡◌, ℕ, zero, suc, List, [], ◌∷◌, ◌++◌, length, refl, sym, ap, ◌∙◌, append_assoc, Bool, true, false}
+use Rattle.std.specs.Prelude.{map, ◌||◌}
 use Rattle.std.specs.List.{flat_map, list_any}
-use Rattle.std.proofs.lemmas.List.{length-append}
 use Rattle.bus_register.specs.declared.registers.SenderNo.{SenderNo}
 use Rattle.bus_batch.specs.declared.messages.Item.{Item}
-use Rattle.bus_batch.specs.declared.messages.Piece.{Piece}
-use Rattle.bus_batch.specs.declared.messages.Piece.TheVariants as piece
 use Rattle.bus_batch.specs.Messages.{Numbered}
-use Rattle.bus_batch.specs.Frames.{Frame, Body, Messages, EndMark, Order, order_of, has_end, ends, items_of, body_items, item_of, tenure_and_owner, item_pieces, message_pieces, body_pieces, frame_pieces, log_pieces, log_words, frame_words, body_words, message_words, words_of_bytes, data_len, piece_items, piece_owners, is_end, order_in, owners_in}
-use Rattle.bus_batch.proofs.WordLaws.{length-words_of_bytes}
+use Rattle.bus_batch.specs.Frames.{Frame, Body, Messages, EndMark, Order, order_of, has_end, ends, items_of, body_items, item_of, tenure_and_owner, item_pieces, message_pieces, body_pieces, log_pieces, data_len, piece_items, piece_owners, is_end, order_in, owners_in}
 
 pub flat_map-append : {A B : Type 0} (f : A → List B) (xs ys : List A) → flat_map f (xs ++ ys) ≡ flat_map f xs ++ flat_map f ys
 flat_map-append f [] ys = refl

@@ -1,11 +1,11 @@
 -- Words of frames, taken apart.
-use Rattle.std.proofs.Common.{◌≡◌, ℕ, zero, suc, ◌+◌, ◌-◌, ◌*◌, ◌/◌, ◌%◌, ◌^◌, ◌<◌, ◌≤◌, min, List, [], ◌∷◌, ◌++◌, length, get_or, take, drop, replicate, arith, refl, sym, ap, ◌∙◌, subst, append_assoc}
+use Rattle.std.proofs.Common.{◌≡◌, ℕ, zero, suc, ◌+◌, ◌*◌, ◌^◌, ◌<◌, ◌≤◌, List, [], ◌∷◌, length, drop, arith, refl, ap}
 use Rattle.std.specs.Prelude.{All}
 use Rattle.std.specs.List.{flat_map}
 use Rattle.std.proofs.Math.ListN.{length-append}
-use Rattle.std.proofs.lemmas.List.Elements.{All-cons, All-head, All-tail, All-replicate, All-nil}
-use Rattle.bus_batch.specs.Messages.{Numbered, IsMessage, IsNumbered}
-use Rattle.bus_batch.specs.Frames.{head_word, message_word, end_word, data_word, data_len, words_of_bytes, message_words}
+use Rattle.std.proofs.lemmas.List.Elements.{All-head, All-tail}
+use Rattle.bus_batch.specs.Messages.{Numbered, IsNumbered}
+use Rattle.bus_batch.specs.Frames.{head_word, message_word, end_word, data_len, words_of_bytes, message_words}
 
 -- the parts of a head and of a message word
 pub head_parts : (o c t o' c' t' : ℕ) → o < 2 ^ 8 → c < 2 ^ 14 → t < 2 ^ 40 → o' < 2 ^ 8 → c' < 2 ^ 14 → t' < 2 ^ 40

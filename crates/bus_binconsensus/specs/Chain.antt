@@ -47,7 +47,7 @@ abbrev pub entered : {X : Type 0} → Objects X → Link X → Bool → Link X
 entered objects d v = record d {
   at = d.at + (objects d.after).width d.n;
   after = d.after - 1;
-  object = (objects (d.after - 1)).started d.n d.me v (d.at + (objects d.after).width d.n)
+  object = (objects (d.after - 1)).started d.n d.me v (d.at + (objects d.after).width d.n);
 }
 
 abbrev pub handed_by : {X : Type 0} → Objects X → Option Verdict → Link X → Link X

@@ -1,12 +1,11 @@
 -- A chain keeps the law of a binary decision.
-use Rattle.std.proofs.Common.{◌≡◌, ◌≢◌, ℕ, ◌+◌, ◌-◌, ◌<◌, ◌≤◌, Bool, true, Option, Some, None, IsSome, arith, refl, sym, ◌∙◌, ap, subst}
+use Rattle.std.proofs.Common.{◌≡◌, ℕ, Bool, Option, Some, None, IsSome, arith, refl, sym, ◌∙◌, ap}
 use Rattle.bus_register.specs.declared.registers.Op.{Op}
-use Rattle.bus_register.specs.Words.{register}
-use Rattle.bus_register.specs.Protocol.{Laws, IsStore}
+use Rattle.bus_register.specs.Protocol.{Laws}
 use Rattle.bus_adoptcommit.specs.declared.verdicts.Verdict.{Verdict}
-use Rattle.bus_adoptcommit.specs.declared.verdicts.Verdict.TheVariants.{Commit, Adopt}
+use Rattle.bus_adoptcommit.specs.declared.verdicts.Verdict.TheVariants.{Adopt}
 use Rattle.bus_binconsensus.specs.Deciding.{Decides}
-use Rattle.bus_binconsensus.specs.Chain.{Objects, HandsOn, Link, span, handed, value_told, chain_op, chain_fed, chain_protocol, ChainKeeps}
+use Rattle.bus_binconsensus.specs.Chain.{Objects, HandsOn, handed, value_told, chain_op, chain_fed, chain_protocol}
 use Rattle.bus_binconsensus.specs.ChainSteps.{span_own, span_within, begun_in, chain_starts, chain_goes}
 use Rattle.bus_binconsensus.specs.ChainMoves.{chain_moves, chain_enters}
 use Rattle.bus_binconsensus.specs.ChainOutcome.{chain_decides}
@@ -35,8 +34,8 @@ module _ {X : Type 0} (op : X → ℕ → Option Op) (fed : X → ℕ → ℕ �
     enters = λ n at words old new p v k below few none goes beside. chain_enters op fed objects laws top n at words old new p v k below few none goes beside;
     moves = λ n at words words' old new p d word o k here next goes beside step. chain_moves op fed objects laws top n at words words' old new p d word o k here next goes beside step;
     fits = λ n at words locals p d word o k here q.
-      let w = k.walks p d here in
-      (laws d.after).fits n d.at words (k.visits d.after) p d.object word o (k.kept d.after d.at w.belongs.within w.belongs.place) w.here q;
+        let w = k.walks p d here in
+        (laws d.after).fits n d.at words (k.visits d.after) p d.object word o (k.kept d.after d.at w.belongs.within w.belongs.place) w.here q;
     frame = λ n at words words' old new k agree same. record {
       visits = k.visits;
       kept = λ i r h e. (laws i).frame n r words words' (k.visits i) (k.visits i) (k.kept i r h e) (λ q a b. let w = span_within objects n i top h in let o = span_own objects n i in agree q (omega arith) (omega arith)) (λ q. refl);

@@ -1,16 +1,16 @@
 -- A step of one process keeps what a chain keeps, and so does a start.
-use Rattle.std.proofs.Common.{◌≡◌, ◌≢◌, ℕ, ◌+◌, ◌-◌, ◌<◌, ◌≤◌, Bool, false, true, cond, Option, Some, None, ◌==◌, inl, inr, ◌⊎◌, arith, refl, sym, ◌∙◌, ap, subst}
+use Rattle.std.proofs.Common.{◌≡◌, ◌≢◌, ℕ, ◌+◌, ◌-◌, ◌<◌, ◌≤◌, Bool, cond, Option, Some, None, inl, inr, ◌⊎◌, arith, refl, sym, ◌∙◌, ap, subst}
 use Rattle.std.proofs.lemmas.Bool.{cases_eq}
 use Rattle.std.proofs.lemmas.Bool.Decides.{eqb_tells}
 use Rattle.std.proofs.lemmas.Option.{same_Some}
 use Rattle.bus_register.specs.declared.registers.Op.{Op}
 use Rattle.bus_register.specs.Words.{register}
-use Rattle.bus_register.specs.Tables.{Beside, Agree, Stepped, put}
+use Rattle.bus_register.specs.Tables.{Beside, Stepped, put}
 use Rattle.bus_register.specs.TableLaws.{put_here, put_beside}
-use Rattle.bus_register.specs.Protocol.{Protocol, Laws, Goes, Starts}
+use Rattle.bus_register.specs.Protocol.{Laws, Goes}
 use Rattle.bus_adoptcommit.specs.declared.verdicts.Verdict.{Verdict}
 use Rattle.bus_adoptcommit.specs.declared.verdicts.Verdict.TheVariants.{Commit, Adopt}
-use Rattle.bus_binconsensus.specs.Chain.{Objects, HandsOn, Link, span, entered, handed_by, chain_fed, chain_started, chain_protocol, ChainBelongs, Passed, Walk, Rests, ChainKeeps}
+use Rattle.bus_binconsensus.specs.Chain.{Objects, HandsOn, Link, span, entered, handed_by, chain_fed, chain_started, Passed, Walk, Rests, ChainKeeps}
 use Rattle.bus_binconsensus.specs.ChainSteps.{span_own, span_next, span_below, span_within}
 
 by_order : (a b : ℕ) → a ≢ b → (a < b) ⊎ (b < a)
@@ -101,16 +101,16 @@ module _ {X : Type 0} (op : X → ℕ → Option Op) (fed : X → ℕ → ℕ �
               let deep = span_within objects n d.after top walk.belongs.within in
               subst (λ z. (objects z).Keeps n r words' (stepped_visits z)) (sym i) (subst (λ z. (objects d.after).Keeps n z words' (stepped_visits d.after)) (sym same)
               ((laws d.after).moves n d.at words words' (visits d.after) (stepped_visits d.after) p d.object word o (kept d.after d.at walk.belongs.within place) walk.here next
-                  (put_at_here d.after p _ visits) (λ q ne. put_at_process d.after p _ visits d.after q ne)
-                  record { here = step.here; elsewhere = λ q a b ne. step.elsewhere q (omega arith) (omega arith) ne }))
+              (put_at_here d.after p _ visits) (λ q ne. put_at_process d.after p _ visits d.after q ne)
+              record { here = step.here; elsewhere = λ q a b ne. step.elsewhere q (omega arith) (omega arith) ne }))
           | inr ne ↦
               let apart : (register o < r) ⊎ (r + (objects k).width n ≤ register o) = elim (by_order k d.after ne) [
                 | inl lt ↦ let s = span_below objects n k d.after lt in inl (omega arith)
                 | inr gt ↦ let s = span_below objects n d.after k gt in inr (omega arith)
               ] in
               (laws k).frame n r words words' (visits k) (stepped_visits k) (kept k r h e)
-                  (λ q a b. step.elsewhere q (omega arith) (omega arith) (λ i. elim apart [ inl x ↦ omega arith | inr x ↦ omega arith ]))
-                  (λ q. put_at_object d.after p _ visits k q ne)
+              (λ q a b. step.elsewhere q (omega arith) (omega arith) (λ i. elim apart [ inl x ↦ omega arith | inr x ↦ omega arith ]))
+              (λ q. put_at_object d.after p _ visits k q ne)
         ]
 
     -- the way so far, with the new local state
@@ -126,22 +126,22 @@ module _ {X : Type 0} (op : X → ℕ → Option Op) (fed : X → ℕ → ℕ �
         | inr ne ↦ walk.first x (sym (put_at_object d.after p _ visits top p ne) ∙ e)
       ];
       passed = λ k h h'.
-        let a = walk.passed k h h' in
-        let before_is : stepped_visits k p ≡ Some a.before = put_at_object d.after p _ visits k p (omega arith) ∙ a.before_is in
-        elim (cases_eq (k - 1) d.after) [
-          | inl i ↦
-              let same : a.next ≡ d.object = same_Some _ _ (sym a.next_is ∙ ap (λ z. visits z p) i ∙ walk.here) in
-              let stays : (objects (k - 1)).input a.next ≡ (objects (k - 1)).input stepped_object =
-                  ap (objects (k - 1)).input same ∙ ap (λ z. (objects z).input d.object) i ∙ sym own_goes.input ∙ ap (λ z. (objects z).input stepped_object) (sym i) in
-              record {
-                before = a.before;
-                next = stepped_object;
-                before_is = before_is;
-                next_is = ap (λ z. stepped_visits z p) i ∙ put_at_here d.after p _ visits;
-                handed = a.handed ∙ ap (λ z. Some (Adopt z)) stays;
-              }
-          | inr ne ↦ record { before = a.before; next = a.next; before_is = before_is; next_is = put_at_object d.after p _ visits (k - 1) p ne ∙ a.next_is; handed = a.handed }
-        ];
+          let a = walk.passed k h h' in
+          let before_is : stepped_visits k p ≡ Some a.before = put_at_object d.after p _ visits k p (omega arith) ∙ a.before_is in
+          elim (cases_eq (k - 1) d.after) [
+            | inl i ↦
+                let same : a.next ≡ d.object = same_Some _ _ (sym a.next_is ∙ ap (λ z. visits z p) i ∙ walk.here) in
+                let stays : (objects (k - 1)).input a.next ≡ (objects (k - 1)).input stepped_object =
+                ap (objects (k - 1)).input same ∙ ap (λ z. (objects z).input d.object) i ∙ sym own_goes.input ∙ ap (λ z. (objects z).input stepped_object) (sym i) in
+                record {
+                  before = a.before;
+                  next = stepped_object;
+                  before_is = before_is;
+                  next_is = ap (λ z. stepped_visits z p) i ∙ put_at_here d.after p _ visits;
+                  handed = a.handed ∙ ap (λ z. Some (Adopt z)) stays;
+                }
+            | inr ne ↦ record { before = a.before; next = a.next; before_is = before_is; next_is = put_at_object d.after p _ visits (k - 1) p ne ∙ a.next_is; handed = a.handed }
+          ];
     }
 
   -- process p, which stands in an object that adopted v, enters the next one
@@ -243,9 +243,9 @@ module _ {X : Type 0} (op : X → ℕ → Option Op) (fed : X → ℕ → ℕ �
         let r : ℕ = d.at + (objects d.after).width n in
         let b = walk1.belongs in
         keeps_with (next_visits visits1 p stayed walk1 v more adopted) (entered objects stayed v)
-            (entered_kept words' visits1 kept1 p (d.after - 1) r v (let w = b.within in omega arith) (next_place visits1 p stayed walk1 v more adopted) b.below b.few (walk1.ahead (d.after - 1) (omega arith)))
-            (λ j q ne. put_at_process (d.after - 1) p _ visits1 j q ne ∙ put_at_process d.after p _ k.visits j q ne)
-            now (next_walk visits1 p stayed walk1 v more adopted) (next_rests visits1 p stayed walk1 v more adopted)
+        (entered_kept words' visits1 kept1 p (d.after - 1) r v (let w = b.within in omega arith) (next_place visits1 p stayed walk1 v more adopted) b.below b.few (walk1.ahead (d.after - 1) (omega arith)))
+        (λ j q ne. put_at_process (d.after - 1) p _ visits1 j q ne ∙ put_at_process d.after p _ k.visits j q ne)
+        now (next_walk visits1 p stayed walk1 v more adopted) (next_rests visits1 p stayed walk1 v more adopted)
 
     by_verdict : (x : Option Verdict) → (objects d.after).output stayed.object ≡ x → new p ≡ Some (handed_by objects x stayed) → ChainKeeps objects top n at words' new
     by_verdict None e now = stays now (λ v f. absurd (let g = sym e ∙ f in cc g))

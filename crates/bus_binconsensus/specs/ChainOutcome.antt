@@ -1,7 +1,6 @@
 -- All who come out of a chain have one value, and it is the input of one who has begun.
-use Rattle.std.proofs.Common.{◌≡◌, ◌≢◌, ℕ, zero, suc, ◌+◌, ◌-◌, ◌<◌, ◌≤◌, Bool, false, true, cond, Option, Some, None, ◌==◌, inl, inr, ◌⊎◌, arith, refl, sym, ◌∙◌, ap, subst}
+use Rattle.std.proofs.Common.{◌≡◌, ℕ, zero, suc, ◌+◌, ◌-◌, ◌<◌, ◌≤◌, Bool, false, true, cond, Option, Some, None, inl, inr, ◌⊎◌, arith, refl, sym, ◌∙◌, ap, subst}
 use Rattle.std.proofs.lemmas.Bool.{cases_eq}
-use Rattle.std.proofs.lemmas.Bool.Decides.{eqb_tells}
 use Rattle.std.proofs.lemmas.Option.{same_Some}
 use Rattle.bus_register.specs.declared.registers.Op.{Op}
 use Rattle.bus_register.specs.Tables.{of_some}
@@ -10,8 +9,8 @@ use Rattle.bus_register.specs.Protocol.{Protocol, Laws, counted, inputs, outputs
 use Rattle.bus_adoptcommit.specs.declared.verdicts.Verdict.{Verdict}
 use Rattle.bus_adoptcommit.specs.declared.verdicts.Verdict.TheVariants.{Commit, Adopt}
 use Rattle.bus_adoptcommit.specs.Agreement.{value_of}
-use Rattle.bus_binconsensus.specs.Deciding.{Agrees, IsChosen, Decides}
-use Rattle.bus_binconsensus.specs.Chain.{Objects, HandsOn, Link, span, value_told, chain_protocol, Passed, Walk, ChainKeeps}
+use Rattle.bus_binconsensus.specs.Deciding.{Decides}
+use Rattle.bus_binconsensus.specs.Chain.{Objects, HandsOn, Link, span, value_told, chain_protocol, Walk, ChainKeeps}
 use Rattle.bus_binconsensus.specs.ChainSteps.{span_within, begun_in, begun_past}
 
 -- an input that counts is that of a local state that has begun
@@ -73,14 +72,17 @@ module _ {X : Type 0} (op : X → ℕ → Option Op) (fed : X → ℕ → ℕ �
       let c = counted_is (objects i) a.0 v a.2 in
       let b = present i q a.0 a.1 in
       elim (cases_eq i top) [
-        | inl i' ↦ inl (i', ap (of_some (counted (chain_protocol objects top))) b.here ∙ is_counted (chain_protocol objects top) b.local v
-            (elim (cases_eq b.local.after top) [
-              | inl j ↦
-                  let x : a.0 ≡ b.local.object = same_Some _ _ (sym a.1 ∙ ap (λ z. k.visits z q) (i' ∙ sym j) ∙ b.walk.here) in
-                  begun_in op fed objects laws top b.local (ap (λ z. (objects z).has_begun b.local.object) (j ∙ sym i') ∙ ap (objects i).has_begun (sym x) ∙ c.0)
-              | inr ne ↦ begun_past op fed objects laws top b.local ne
-            ])
-            (sym (b.walk.first a.0 (ap (λ z. k.visits z q) (sym i') ∙ a.1)) ∙ ap (λ z. (objects z).input a.0) (sym i') ∙ c.1))
+        | inl i' ↦ inl (
+          i',
+          ap (of_some (counted (chain_protocol objects top))) b.here ∙ is_counted (chain_protocol objects top) b.local v
+              (elim (cases_eq b.local.after top) [
+                | inl j ↦
+                    let x : a.0 ≡ b.local.object = same_Some _ _ (sym a.1 ∙ ap (λ z. k.visits z q) (i' ∙ sym j) ∙ b.walk.here) in
+                    begun_in op fed objects laws top b.local (ap (λ z. (objects z).has_begun b.local.object) (j ∙ sym i') ∙ ap (objects i).has_begun (sym x) ∙ c.0)
+                | inr ne ↦ begun_past op fed objects laws top b.local ne
+              ])
+              (sym (b.walk.first a.0 (ap (λ z. k.visits z q) (sym i') ∙ a.1)) ∙ ap (λ z. (objects z).input a.0) (sym i') ∙ c.1),
+        )
         | inr ne ↦
             let less : b.local.after < i + 1 = let z = b.reached in omega arith in
             let w = b.walk.passed (i + 1) less (omega arith) in
@@ -142,13 +144,13 @@ module _ {X : Type 0} (op : X → ℕ → Option Op) (fed : X → ℕ → ℕ �
   pub chain_decides : Decides (inputs (chain_protocol objects top) locals) (outputs (chain_protocol objects top) locals)
   chain_decides = record {
     agrees = λ p q v w e f.
-      let a = stopped p v e in
-      let b = stopped q w f in
-      elim (below_or a.local.after b.local.after) [
-        | inl h ↦ sym (agree_down q p w v b a (omega arith))
-        | inr h ↦ agree_down p q v w a b h
-      ];
+        let a = stopped p v e in
+        let b = stopped q w f in
+        elim (below_or a.local.after b.local.after) [
+          | inl h ↦ sym (agree_down q p w v b a (omega arith))
+          | inr h ↦ agree_down p q v w a b h
+        ];
     chosen = λ p v e.
-      let a = stopped p v e in
-      origin (top - a.local.after) a.local.after (let w = a.walk.belongs.within in omega arith) p a.local.object (Commit v) a.walk.here a.commits;
+        let a = stopped p v e in
+        origin (top - a.local.after) a.local.after (let w = a.walk.belongs.within in omega arith) p a.local.object (Commit v) a.walk.here a.commits;
   }

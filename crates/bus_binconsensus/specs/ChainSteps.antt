@@ -1,13 +1,13 @@
 -- Each single step in a chain, whatever it found.
-use Rattle.std.proofs.Common.{◌≡◌, ◌≢◌, ℕ, zero, suc, ◌+◌, ◌-◌, ◌<◌, ◌≤◌, Bool, true, false, cond, Option, Some, None, IsSome, ◌==◌, inl, inr, ◌⊎◌, arith, refl, sym, ◌∙◌, ap, subst}
+use Rattle.std.proofs.Common.{◌≡◌, ◌≢◌, ℕ, zero, suc, ◌+◌, ◌-◌, ◌<◌, ◌≤◌, Bool, true, cond, Option, Some, None, inl, inr, arith, refl, sym, ◌∙◌, ap, subst}
 use Rattle.std.proofs.lemmas.Bool.{cases_eq}
 use Rattle.std.proofs.lemmas.Bool.Decides.{eqb_tells}
 use Rattle.bus_register.specs.declared.registers.Op.{Op}
 use Rattle.bus_register.specs.Words.{register}
-use Rattle.bus_register.specs.Protocol.{Protocol, Laws, Goes, Starts}
+use Rattle.bus_register.specs.Protocol.{Laws, Goes, Starts}
 use Rattle.bus_adoptcommit.specs.declared.verdicts.Verdict.{Verdict}
 use Rattle.bus_adoptcommit.specs.declared.verdicts.Verdict.TheVariants.{Commit, Adopt}
-use Rattle.bus_binconsensus.specs.Chain.{Objects, HandsOn, Link, span, steps_from, steps_after, entered, handed, handed_by, chain_op, chain_fed, chain_started, chain_protocol, ChainBelongs}
+use Rattle.bus_binconsensus.specs.Chain.{Objects, HandsOn, Link, span, steps_from, steps_after, entered, handed_by, chain_fed, chain_protocol, ChainBelongs}
 
 module _ {X : Type 0} (objects : Objects X) (n : ℕ) where
   pub span_own : (k : ℕ) → (objects k).width n ≤ span objects n k
@@ -107,7 +107,7 @@ module _ {X : Type 0} (op : X → ℕ → Option Op) (fed : X → ℕ → ℕ �
               let s = steps_next objects d.n d.after ne in
               let t = steps_own objects d.n (d.after - 1) in
               let u : (objects (d.after - 1)).left ((objects (d.after - 1)).started d.n d.me v r) ≤ (objects (d.after - 1)).steps d.n =
-                  ((laws (d.after - 1)).starts d.n d.me r v (let x = b.below in omega arith) (let x = b.few in omega arith)).bounded in
+              ((laws (d.after - 1)).starts d.n d.me r v (let x = b.below in omega arith) (let x = b.few in omega arith)).bounded in
               omega arith;
         }
 

@@ -1,12 +1,12 @@
 -- What holds of a binary decision, in one record.
-use Rattle.std.specs.Prelude.{◌≡◌, ℕ, ◌+◌, ◌*◌, ◌-◌, ◌<◌, ◌≤◌, Bool, true, false, Option, Some}
+use Rattle.std.specs.Prelude.{◌≡◌, ℕ, ◌+◌, ◌*◌, ◌-◌, ◌≤◌, Bool, false, Option, Some}
 use Rattle.bus_register.specs.declared.registers.Op.{Op}
 use Rattle.bus_register.specs.Protocol.{Protocol, Laws}
 use Rattle.bus_adoptcommit.specs.declared.verdicts.Verdict.{Verdict}
 use Rattle.bus_binconsensus.specs.declared.objects.Object.{Object}
 use Rattle.bus_binconsensus.specs.Deciding.{Decides}
-use Rattle.bus_binconsensus.specs.Chain.{Passed, Walk}
-use Rattle.bus_binconsensus.specs.Objects.{Part, part_at, first_of, objects_of, object_calls, Decider, decide_op, decide_fed, decide_protocol}
+use Rattle.bus_binconsensus.specs.Chain.{Walk}
+use Rattle.bus_binconsensus.specs.Objects.{part_at, first_of, objects_of, object_calls, Decider, decide_op, decide_fed, decide_protocol}
 use Rattle.bus_binconsensus.specs.Objects.Part.{Ratifier, Conciliator, FallbackWord}
 
 -- which objects the rounds have: after each conciliator comes a ratifier, and after the last ratifier the fallback word

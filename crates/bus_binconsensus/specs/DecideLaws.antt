@@ -1,5 +1,5 @@
 -- A binary decision keeps its law, over any ratifier and any conciliator.
-use Rattle.std.proofs.Common.{◌≡◌, ℕ, ◌+◌, ◌*◌, ◌-◌, ◌<◌, ◌≤◌, Bool, false, Option, Some, arith, refl, sym, ◌∙◌, ap}
+use Rattle.std.proofs.Common.{◌≡◌, ℕ, ◌+◌, ◌*◌, ◌-◌, ◌≤◌, Bool, false, Option, arith, refl, ◌∙◌, ap}
 use Rattle.std.proofs.Math.Nat.{mul-le-mul_left}
 use Rattle.bus_register.specs.declared.registers.Op.{Op}
 use Rattle.bus_register.specs.Protocol.{Protocol, Laws}
@@ -28,8 +28,8 @@ module _ {S T : Type 0} (op : S → ℕ → Option Op) (fed : S → ℕ → ℕ 
     in_turn = λ rounds n at words locals k. record { visits = k.visits; walks = k.walks };
     steps = λ rounds n. steps_of_rounds P C n rounds ∙ ap (λ z. rounds * P.steps n + (rounds - 1) * z + 1) (quickC n);
     quick = λ rounds n.
-      let a = steps_of_rounds P C n rounds ∙ ap (λ z. rounds * P.steps n + (rounds - 1) * z + 1) (quickC n) in
-      let b = mul-le-mul_left rounds (quick n) in
-      omega arith;
+        let a = steps_of_rounds P C n rounds ∙ ap (λ z. rounds * P.steps n + (rounds - 1) * z + 1) (quickC n) in
+        let b = mul-le-mul_left rounds (quick n) in
+        omega arith;
     asks = λ never rounds d. asks_by never d.object;
   }

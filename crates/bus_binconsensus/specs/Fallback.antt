@@ -1,5 +1,5 @@
 -- One process at a fallback word (Herlihy 1991: consensus by compare_exchange).
-use Rattle.std.specs.Prelude.{◌≡◌, ℕ, ◌+◌, ◌-◌, ◌<◌, Bool, true, false, Option, Some, None, is_some, ◌==◌, if◌then◌else◌, ◌⊎◌}
+use Rattle.std.specs.Prelude.{◌≡◌, ℕ, ◌+◌, ◌<◌, Bool, true, false, Option, Some, None, is_some, ◌==◌, if◌then◌else◌, ◌⊎◌}
 use Rattle.bus_register.specs.declared.kinds.Kind.{Kind}
 use Rattle.bus_register.specs.declared.kinds.Kind.TheVariants as kinds
 use Rattle.bus_register.specs.declared.registers.Op.{Op}

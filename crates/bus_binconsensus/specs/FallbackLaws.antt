@@ -5,9 +5,9 @@ use Rattle.std.proofs.lemmas.Option.{same_Some}
 use Rattle.bus_register.specs.declared.registers.Op.{Op}
 use Rattle.bus_register.specs.declared.registers.Op.TheVariants.{Cas}
 use Rattle.bus_register.specs.Words.{register, after, SumFits}
-use Rattle.bus_register.specs.Tables.{Beside, Agree, Stepped, of_some}
+use Rattle.bus_register.specs.Tables.{Beside, Stepped, of_some}
 use Rattle.bus_register.specs.TableLaws.{some_of}
-use Rattle.bus_register.specs.Protocol.{Laws, Starts, Goes, IsStore, inputs, outputs}
+use Rattle.bus_register.specs.Protocol.{Laws, Goes, inputs, outputs}
 use Rattle.bus_binconsensus.specs.declared.fallbacks.Fallback.{Fallback}
 use Rattle.bus_binconsensus.specs.Deciding.{Decides}
 use Rattle.bus_binconsensus.specs.Fallback.{digit, won, op_from, op_of, fed_of, Belongs, Filled, Keeps, fallback_protocol, left_from}
@@ -80,9 +80,11 @@ module _ (n at : ℕ) (words words' : ℕ → ℕ) (old new : ℕ → Option Fal
         (record { by = p; local = fed_of s (words at); here = mine; took = refl; is = now }, now ∙ ap (λ x. 1 + digit (won x s.value)) (sym z), inl z)
     | inr f ↦
         let same : words' at ≡ words at = word_after ∙ ap (λ x. cond (x == 0) (1 + digit s.value) x) f.is ∙ nonzero f.local.value s.value ∙ sym f.is in
-        let apart : f.by ≢ p = λ i. let e : s ≡ f.local = same_Some _ _ (sym here ∙ ap old (sym i) ∙ f.here) in let g : is_some s.decided ≡ true = ap (λ z. is_some z.decided) e ∙ f.took in let h : is_some s.decided ≡ false = ap is_some undecided in cc in
-        (record { by = f.by; local = f.local; here = beside f.by apart ∙ f.here; took = f.took; is = same ∙ f.is },
-         same ∙ f.is ∙ ap (λ x. 1 + digit x) (sym (won_is f.local.value s.value)) ∙ ap (λ x. 1 + digit (won x s.value)) (sym f.is), inr same)
+        let apart : f.by ≢ p = λ i. let e : s ≡ f.local = same_Some _ _ (sym here ∙ ap old (sym i) ∙ f.here) in let g : is_some s.decided ≡ true = ap (λ z. is_some z.decided) e ∙ f.took in let h : is_some s.decided ≡ false = ap is_some undecided in cc in (
+          record { by = f.by; local = f.local; here = beside f.by apart ∙ f.here; took = f.took; is = same ∙ f.is },
+          same ∙ f.is ∙ ap (λ x. 1 + digit x) (sym (won_is f.local.value s.value)) ∙ ap (λ x. 1 + digit (won x s.value)) (sym f.is),
+          inr same,
+        )
   ]
 
   is_mine : (q : ℕ) (t : Fallback) → new q ≡ Some t → q ≡ p → t ≡ fed_of s (words at)

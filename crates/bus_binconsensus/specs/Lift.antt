@@ -1,5 +1,5 @@
 -- A protocol whose local states are a part of other local states: a process of one kind of object among several kinds.
-use Rattle.std.specs.Prelude.{◌≡◌, ℕ, Bool, Option, Some, None}
+use Rattle.std.specs.Prelude.{◌≡◌, ℕ, Bool, Option, Some}
 use Rattle.bus_register.specs.Tables.{of_some}
 use Rattle.bus_register.specs.Protocol.{Protocol}
 use Rattle.bus_adoptcommit.specs.declared.verdicts.Verdict.{Verdict}

@@ -1,12 +1,12 @@
 -- A lifted protocol keeps the law of what it was lifted from.
-use Rattle.std.proofs.Common.{◌≡◌, ◌≢◌, ℕ, ◌+◌, ◌<◌, ◌≤◌, Bool, true, false, Option, Some, None, IsSome, inl, inr, arith, refl, sym, ◌∙◌, ap, subst}
+use Rattle.std.proofs.Common.{◌≡◌, ℕ, ◌<◌, ◌≤◌, Bool, true, false, Option, Some, None, IsSome, inl, inr, arith, refl, sym, ◌∙◌, ap}
 use Rattle.std.proofs.lemmas.Bool.{cases_eq}
 use Rattle.std.proofs.lemmas.Option.{same_Some}
 use Rattle.bus_register.specs.declared.registers.Op.{Op}
-use Rattle.bus_register.specs.Words.{register, SumFits}
-use Rattle.bus_register.specs.Tables.{of_some, Beside, Agree, Stepped, put}
+use Rattle.bus_register.specs.Words.{register}
+use Rattle.bus_register.specs.Tables.{of_some, Beside, Stepped, put}
 use Rattle.bus_register.specs.TableLaws.{put_here, put_beside}
-use Rattle.bus_register.specs.Protocol.{Protocol, Laws, Goes, Starts, IsStore, counted, inputs, outputs}
+use Rattle.bus_register.specs.Protocol.{Protocol, Laws, Goes, IsStore, counted, inputs, outputs}
 use Rattle.bus_adoptcommit.specs.declared.verdicts.Verdict.{Verdict}
 use Rattle.bus_binconsensus.specs.Chain.{HandsOn}
 use Rattle.bus_binconsensus.specs.Lift.{Reads, lifted, LiftBelongs, LiftKeeps, lift}
@@ -100,13 +100,13 @@ module _ {S X M : Type 0} (op : S → ℕ → Option Op) (fed : S → ℕ → �
   pub lift_laws : Laws opX fedX (lift reads into P) HandsOn
   lift_laws = record {
     starts = λ n me at v below few.
-      let a = laws.starts n me at v below few in
-      record {
-        belongs = record { inner = P.started n me v at; is = refl; belongs = a.belongs };
-        input = e.input_is _ ∙ a.input;
-        fresh = e.begun_is _ ∙ a.fresh;
-        bounded = let b = a.bounded in let c = e.left_is (P.started n me v at) in omega arith;
-      };
+        let a = laws.starts n me at v below few in
+        record {
+          belongs = record { inner = P.started n me v at; is = refl; belongs = a.belongs };
+          input = e.input_is _ ∙ a.input;
+          fresh = e.begun_is _ ∙ a.fresh;
+          bounded = let b = a.bounded in let c = e.left_is (P.started n me v at) in omega arith;
+        };
     goes = lift_goes;
     ends = common.ends;
     unended = common.unended;
@@ -118,11 +118,11 @@ module _ {S X M : Type 0} (op : S → ℕ → Option Op) (fed : S → ℕ → �
     fits = λ n at words locals p x word o k here q. let a = lifted_some into (k.inner p) x (sym here ∙ k.is p) in laws.fits n at words k.inner p a.0 word o k.keeps a.1 (op_inside x a.0 word o a.2 q);
     frame = λ n at words words' old new k agree same. record { inner = k.inner; is = λ p. same p ∙ k.is p; keeps = laws.frame n at words words' k.inner k.inner k.keeps agree (λ p. refl) };
     known = λ n at words locals p x k here.
-      let a = lifted_some into (k.inner p) x (sym here ∙ k.is p) in
-      let b = laws.known n at words k.inner p a.0 k.keeps a.1 in
-      (b.0, record { inner = a.0; is = a.2; belongs = b.1 });
+        let a = lifted_some into (k.inner p) x (sym here ∙ k.is p) in
+        let b = laws.known n at words k.inner p a.0 k.keeps a.1 in
+        (b.0, record { inner = a.0; is = a.2; belongs = b.1 });
     outcome = λ n at words locals k.
-      tells (inputs P k.inner) (inputs (lift reads into P) locals) (outputs P k.inner) (outputs (lift reads into P) locals) (laws.outcome n at words k.inner k.keeps)
-          (λ p. ap (of_some (counted (lift reads into P))) (k.is p) ∙ inputs_inside (k.inner p))
-          (λ p. ap (of_some reads.output) (k.is p) ∙ outputs_inside (k.inner p));
+        tells (inputs P k.inner) (inputs (lift reads into P) locals) (outputs P k.inner) (outputs (lift reads into P) locals) (laws.outcome n at words k.inner k.keeps)
+        (λ p. ap (of_some (counted (lift reads into P))) (k.is p) ∙ inputs_inside (k.inner p))
+        (λ p. ap (of_some reads.output) (k.is p) ∙ outputs_inside (k.inner p));
   }

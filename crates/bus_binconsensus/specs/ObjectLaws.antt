@@ -1,22 +1,20 @@
 -- The objects of a decision keep the law that a chain asks, and a decision keeps its law.
-use Rattle.std.proofs.Common.{◌≡◌, ◌≢◌, ℕ, zero, suc, ◌+◌, ◌*◌, ◌-◌, ◌%◌, ◌<◌, ◌≤◌, Bool, true, false, cond, Option, Some, None, IsSome, is_some, ◌==◌, inl, inr, arith, refl, sym, ◌∙◌, ap, subst}
-use Rattle.std.proofs.lemmas.Bool.Decides.{eqb_tells}
+use Rattle.std.proofs.Common.{◌≡◌, ℕ, Bool, true, false, Option, Some, None, IsSome, refl, sym, ◌∙◌, ap}
 use Rattle.std.proofs.lemmas.Option.{same_Some}
 use Rattle.bus_register.specs.declared.registers.Op.{Op}
 use Rattle.bus_register.specs.Protocol.{Protocol, Laws, IsStore}
 use Rattle.bus_adoptcommit.specs.declared.verdicts.Verdict.{Verdict}
 use Rattle.bus_adoptcommit.specs.declared.verdicts.Verdict.TheVariants.{Commit, Adopt}
 use Rattle.bus_adoptcommit.specs.Agreement.{Legal, value_of}
-use Rattle.bus_binconsensus.specs.declared.fallbacks.Fallback.{Fallback}
 use Rattle.bus_binconsensus.specs.declared.objects.Object.{Object}
 use Rattle.bus_binconsensus.specs.declared.objects.Object.TheVariants.{Ratify, Concile, Fall}
 use Rattle.bus_binconsensus.specs.Deciding.{Decides, IsChosen}
 use Rattle.bus_binconsensus.specs.Fallback.{op_of, fed_of, fallback_protocol}
 use Rattle.bus_binconsensus.specs.FallbackLaws.{fallback_laws}
-use Rattle.bus_binconsensus.specs.Chain.{HandsOn, span, steps_from, chain_protocol}
+use Rattle.bus_binconsensus.specs.Chain.{HandsOn}
 use Rattle.bus_binconsensus.specs.ChainLaws.{chain_laws}
-use Rattle.bus_binconsensus.specs.Lift.{Reads, lifted, lift, LiftBelongs}
-use Rattle.bus_binconsensus.specs.LiftLaws.{Ends, Embeds, lift_laws}
+use Rattle.bus_binconsensus.specs.Lift.{lifted}
+use Rattle.bus_binconsensus.specs.LiftLaws.{Ends, lift_laws}
 use Rattle.bus_binconsensus.specs.Objects.{Part, part_at, first_of, object_op, object_fed, object_output, object_begun, object_wants, reads_of, part_protocol, objects_of, decide_op, decide_fed, decide_protocol}
 use Rattle.bus_binconsensus.specs.Objects.Part.{Ratifier, Conciliator, FallbackWord}
 
@@ -48,9 +46,9 @@ ratifier_tells ins ins' outs outs' l same told =
 adopts_tell : (ins ins' : ℕ → Option Bool) (outs : ℕ → Option Bool) (outs' : ℕ → Option Verdict) → IsChosen ins outs → ((p : ℕ) → ins' p ≡ ins p) → ((p : ℕ) → outs' p ≡ lifted Adopt (outs p)) → HandsOn ins' outs'
 adopts_tell ins ins' outs outs' chosen same told = record {
   valid = λ p d e.
-    let a = lifted_is Adopt (outs p) d (sym (told p) ∙ e) in
-    let b = chosen p a.0 a.1 in
-    (b.0, same b.0 ∙ b.1 ∙ ap (λ z. Some (value_of z)) a.2);
+      let a = lifted_is Adopt (outs p) d (sym (told p) ∙ e) in
+      let b = chosen p a.0 a.1 in
+      (b.0, same b.0 ∙ b.1 ∙ ap (λ z. Some (value_of z)) a.2);
   coherent = λ p q v d e f. absurd (let a = lifted_is Adopt (outs p) (Commit v) (sym (told p) ∙ e) in let g = a.2 in cc);
 }
 
@@ -58,15 +56,15 @@ adopts_tell ins ins' outs outs' chosen same told = record {
 commits_tell : (ins ins' : ℕ → Option Bool) (outs : ℕ → Option Bool) (outs' : ℕ → Option Verdict) → Decides ins outs → ((p : ℕ) → ins' p ≡ ins p) → ((p : ℕ) → outs' p ≡ lifted Commit (outs p)) → HandsOn ins' outs'
 commits_tell ins ins' outs outs' d same told = record {
   valid = λ p x e.
-    let a = lifted_is Commit (outs p) x (sym (told p) ∙ e) in
-    let b = d.chosen p a.0 a.1 in
-    (b.0, same b.0 ∙ b.1 ∙ ap (λ z. Some (value_of z)) a.2);
+      let a = lifted_is Commit (outs p) x (sym (told p) ∙ e) in
+      let b = d.chosen p a.0 a.1 in
+      (b.0, same b.0 ∙ b.1 ∙ ap (λ z. Some (value_of z)) a.2);
   coherent = λ p q v x e f.
-    let a = lifted_is Commit (outs p) (Commit v) (sym (told p) ∙ e) in
-    let b = lifted_is Commit (outs q) x (sym (told q) ∙ f) in
-    let c : a.0 ≡ v = ap value_of a.2 in
-    let g : b.0 ≡ value_of x = ap value_of b.2 in
-    sym g ∙ d.agrees q p b.0 a.0 b.1 a.1 ∙ c;
+      let a = lifted_is Commit (outs p) (Commit v) (sym (told p) ∙ e) in
+      let b = lifted_is Commit (outs q) x (sym (told q) ∙ f) in
+      let c : a.0 ≡ v = ap value_of a.2 in
+      let g : b.0 ≡ value_of x = ap value_of b.2 in
+      sym g ∙ d.agrees q p b.0 a.0 b.1 a.1 ∙ c;
 }
 
 module _ {S T : Type 0} (op : S → ℕ → Option Op) (fed : S → ℕ → ℕ → S) (P : Protocol S Bool Verdict) (laws : Laws op fed P Legal)
@@ -108,11 +106,11 @@ module _ {S T : Type 0} (op : S → ℕ → Option Op) (fed : S → ℕ → ℕ 
   objects_law : (k : ℕ) → Laws (object_op op opC) (object_fed fed fedC) (objects_of P C k) HandsOn
   objects_law k =
       let by : (part : Part) → Laws (object_op op opC) (object_fed fed fedC) (record (part_protocol P C part) { input = (reads_of P C).input; has_begun = (reads_of P C).has_begun; output = (reads_of P C).output; wants_word = (reads_of P C).wants_word; left = (reads_of P C).left }) HandsOn =
-          λ part. elim part as (λ z. Laws (object_op op opC) (object_fed fed fedC) (record (part_protocol P C z) { input = (reads_of P C).input; has_begun = (reads_of P C).has_begun; output = (reads_of P C).output; wants_word = (reads_of P C).wants_word; left = (reads_of P C).left }) HandsOn) [
-            | Ratifier ↦ part_laws Ratifier
-            | Conciliator ↦ part_laws Conciliator
-            | FallbackWord ↦ part_laws FallbackWord
-          ] in
+      λ part. elim part as (λ z. Laws (object_op op opC) (object_fed fed fedC) (record (part_protocol P C z) { input = (reads_of P C).input; has_begun = (reads_of P C).has_begun; output = (reads_of P C).output; wants_word = (reads_of P C).wants_word; left = (reads_of P C).left }) HandsOn) [
+        | Ratifier ↦ part_laws Ratifier
+        | Conciliator ↦ part_laws Conciliator
+        | FallbackWord ↦ part_laws FallbackWord
+      ] in
       by (part_at k)
 
   fallback_commits : (n me at : ℕ) (x : Object S T) (v : Bool) → (objects_of P C 0).Belongs n me at x → object_output P C x ≡ Some (Adopt v) → ⊥

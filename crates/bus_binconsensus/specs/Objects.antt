@@ -1,12 +1,11 @@
 -- The objects of a binary decision, numbered from the end: the fallback word is 0, and before it stand ratifiers with odd
 -- numbers and conciliators with even ones, from one ratifier to another. R rounds begin at the ratifier 2R - 1.
-use Rattle.std.specs.Prelude.{ℕ, ◌+◌, ◌*◌, ◌-◌, ◌%◌, Bool, false, Option, Some, None, is_some, ◌==◌, if◌then◌else◌}
+use Rattle.std.specs.Prelude.{ℕ, ◌*◌, ◌-◌, ◌%◌, Bool, false, Option, is_some, ◌==◌, if◌then◌else◌}
 use Rattle.bus_register.specs.declared.kinds.Kind.{Kind}
 use Rattle.bus_register.specs.declared.registers.Op.{Op}
 use Rattle.bus_register.specs.Protocol.{Protocol}
 use Rattle.bus_adoptcommit.specs.declared.verdicts.Verdict.{Verdict}
 use Rattle.bus_adoptcommit.specs.declared.verdicts.Verdict.TheVariants.{Commit, Adopt}
-use Rattle.bus_binconsensus.specs.declared.fallbacks.Fallback.{Fallback}
 use Rattle.bus_binconsensus.specs.declared.objects.Object.{Object}
 use Rattle.bus_binconsensus.specs.declared.objects.Object.TheVariants.{Ratify, Concile, Fall}
 use Rattle.bus_binconsensus.specs.Fallback as fallback

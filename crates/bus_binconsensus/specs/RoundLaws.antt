@@ -1,10 +1,10 @@
 -- Which objects the rounds have, and how many words and steps they have together.
-use Rattle.std.proofs.Common.{◌≡◌, ◌≢◌, ℕ, zero, suc, ◌+◌, ◌*◌, ◌-◌, ◌%◌, ◌<◌, ◌≤◌, Bool, true, false, cond, ◌==◌, inl, inr, arith, refl, sym, ◌∙◌, ap, subst}
+use Rattle.std.proofs.Common.{◌≡◌, ◌≢◌, ℕ, zero, suc, ◌+◌, ◌*◌, ◌-◌, ◌%◌, Bool, true, false, cond, ◌==◌, inl, inr, arith, refl, ◌∙◌, ap}
 use Rattle.std.proofs.lemmas.Bool.Decides.{eqb_tells}
 use Rattle.bus_register.specs.Protocol.{Protocol}
 use Rattle.bus_adoptcommit.specs.declared.verdicts.Verdict.{Verdict}
 use Rattle.bus_binconsensus.specs.Chain.{span, steps_from}
-use Rattle.bus_binconsensus.specs.Objects.{Part, part_at, first_of, part_protocol, objects_of, decide_protocol}
+use Rattle.bus_binconsensus.specs.Objects.{part_at, part_protocol, objects_of, decide_protocol}
 use Rattle.bus_binconsensus.specs.Objects.Part.{Ratifier, Conciliator, FallbackWord}
 use Rattle.bus_binconsensus.specs.DecideLaw.{Rounds}
 

@@ -1,4 +1,4 @@
-use Rattle.std.proofs.Common.{◌≡◌, ◌<◌, arith, ◌∙◌}
+use Rattle.std.proofs.Common.{arith, ◌∙◌}
 use Rattle.bus_batch.proofs.Batching.{data_word_is}
 use Rattle.bus_batch.proofs.batches.data_word_of.Goals as goal
 

@@ -1,4 +1,4 @@
-use Rattle.std.proofs.Common.{◌≡◌, ◌<◌, ◌*◌, ◌-◌, ap, arith, sym, Some, drop, ◌∙◌}
+use Rattle.std.proofs.Common.{◌*◌, ◌-◌, ap, arith, sym, Some, drop, ◌∙◌}
 use Rattle.bus_batch.specs.Frames.{data_word}
 use Rattle.bus_batch.proofs.Batching.{get_message}
 use Rattle.bus_batch.proofs.batches.word_of.Goals as goal

@@ -1,4 +1,4 @@
-use Rattle.std.proofs.Common.{◌≡◌, ◌≤◌, [], ◌∷◌, arith, refl, append-nil}
+use Rattle.std.proofs.Common.{[], ◌∷◌, arith, refl, append-nil}
 use Rattle.bus_batch.specs.Frames.{frame_words}
 use Rattle.bus_batch.proofs.laws.frame_spells.Goals as goal
 

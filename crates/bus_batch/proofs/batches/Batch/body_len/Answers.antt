@@ -1,4 +1,4 @@
-use Rattle.std.proofs.Common.{◌≡◌, ◌+◌, ◌*◌, ◌≤◌, length, drop, arith, subst, ap}
+use Rattle.std.proofs.Common.{◌≡◌, ◌+◌, length, drop, arith, ap}
 use Rattle.std.specs.List.{flat_map}
 use Rattle.bus_batch.specs.Messages.{numbered}
 use Rattle.bus_batch.specs.Frames.{message_words}

@@ -1,4 +1,4 @@
-use Rattle.std.proofs.Common.{◌≡◌, ◌≤◌, arith, subst}
+use Rattle.std.proofs.Common.{arith, subst}
 use Rattle.bus_batch.specs.Batches.{IsKept}
 use Rattle.bus_batch.proofs.Batching.{body_least, is_frame}
 use Rattle.bus_batch.proofs.batches.Batch.frame_len.Goals as goal

@@ -1,7 +1,6 @@
 use Rattle.bus_batch.specs.declared.readers.Place.TheVariants as place
 use Rattle.bus_batch.specs.declared.messages.Piece.TheVariants as piece
-use Rattle.std.proofs.Common.{◌≡◌, ◌<◌, ◌≤◌, ◌+◌, ◌-◌, ◌++◌, min, length, take, drop, arith, refl, sym, ap, ◌∙◌, subst, Ok, Some, None}
-use Rattle.std.specs.Int.{w64, to_be_bytes}
+use Rattle.std.proofs.Common.{◌≡◌, ◌-◌, ◌++◌, min, length, take, arith, refl, sym, ap, ◌∙◌, subst, Ok, Some, None}
 use Rattle.std.proofs.lemmas.Bool.{false≢true}
 use Rattle.bus_batch.specs.Steps.{Steps}
 use Rattle.bus_batch.proofs.Bytes.{takes_last, takes_part, refuses_padding}

@@ -1,7 +1,7 @@
 use Rattle.bus_batch.specs.declared.readers.Place.TheVariants as place
 use Rattle.std.proofs.Common.{refl, inl, inr}
 use Rattle.bus_batch.proofs.Bodies.{takes_end, refuses_end}
-use Rattle.bus_batch.proofs.Taking.{reading, good, refused, at_place, sound_at}
+use Rattle.bus_batch.proofs.Taking.{good, refused, at_place, sound_at}
 use Rattle.bus_batch.proofs.readers.FrameReader.take_end.Goals as goal
 
 pub returns-then-room-eq-BATCH_MESSAGES-clause-steps : goal.returns-then-room-eq-BATCH_MESSAGES-clause-steps

@@ -1,8 +1,7 @@
 use Rattle.bus_batch.specs.declared.readers.Place.TheVariants as place
-use Rattle.bus_batch.specs.declared.messages.Piece.TheVariants as piece
-use Rattle.std.proofs.Common.{Some, refl}
+use Rattle.std.proofs.Common.{refl}
 use Rattle.bus_batch.proofs.Heads.{takes_head, refuses_head}
-use Rattle.bus_batch.proofs.Taking.{reading, good, refused, at_place}
+use Rattle.bus_batch.proofs.Taking.{good, refused, at_place}
 use Rattle.bus_batch.proofs.readers.FrameReader.take_head.Goals as goal
 
 pub returns-in-Some-clause-steps : goal.returns-in-Some-clause-steps

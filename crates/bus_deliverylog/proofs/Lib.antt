@@ -1,0 +1,4 @@
+pub mod ReadLaws
+pub mod ReceiveLaws
+pub mod WriteLaws
+pub mod WritingSteps

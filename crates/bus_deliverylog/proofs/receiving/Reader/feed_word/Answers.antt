@@ -1,0 +1,37 @@
+use Rattle.std.proofs.Common.{◌≡◌, ◌+◌, Bool, true, false, Some, refl, sym, ap, ◌∙◌}
+use Rattle.bus_batch.specs.Frames.{is_end}
+use Rattle.bus_deliverylog.specs.Receiving.{Receiving, turn_of}
+use Rattle.bus_deliverylog.proofs.ReceiveLaws.{good_word, moved}
+use Rattle.bus_deliverylog.proofs.receiving.Reader.feed_word.Goals as goal
+
+pub returns-in-None-clause-word : goal.returns-in-None-clause-word
+returns-in-None-clause-word c words pieces had =
+    let found_is = c.in-None.is in
+    good_word words pieces c.args.self.now _ c.copied-frames.result c.feed.new.self c.args.got c.in-Ok.found _
+    (c.copied-frames.ensures ∙ ap (λ (r : Receiving). r.frames) c.self.view_is) had c.in-Ok.ensures.gives c.in-Ok.ensures.read c.in-Ok.ensures.senders
+    (sym (ap turn_of found_is))
+    (ap (λ (b : Bool). moved (record { log_at = c.self.inside.log.0; length_at = c.self.inside.length.0; log_words = c.self.inside.words; known = c.self.inside.known; place = c.self.inside.place; frames = c.self.inside.frames; ended = c.self.inside.ended }) c.feed.new.self b) ((ap (λ (r : Receiving). r.ended) c.self.view_is ∙ c.requires.going) ∙ sym (ap is_end found_is)) ∙ ap (λ (r : Receiving). moved r c.feed.new.self (is_end c.in-Ok.found)) c.self.view_is)
+
+pub returns-in-Some-Head-clause-word : goal.returns-in-Some-Head-clause-word
+returns-in-Some-Head-clause-word c words pieces had =
+    let found_is = c.in-Some-Head.is ∙ ap Some c.in-Some-Head.field-0-is in
+    good_word words pieces c.args.self.now _ c.copied-frames.result c.feed.new.self c.args.got c.in-Ok.found _
+    (c.copied-frames.ensures ∙ ap (λ (r : Receiving). r.frames) c.self.view_is) had c.in-Ok.ensures.gives c.in-Ok.ensures.read c.in-Ok.ensures.senders
+    (sym (ap turn_of found_is))
+    (ap (λ (b : Bool). moved (record { log_at = c.self.inside.log.0; length_at = c.self.inside.length.0; log_words = c.self.inside.words; known = c.self.inside.known; place = c.self.inside.place; frames = c.self.inside.frames; ended = c.self.inside.ended }) c.feed.new.self b) ((ap (λ (r : Receiving). r.ended) c.self.view_is ∙ c.requires.going) ∙ sym (ap is_end found_is)) ∙ ap (λ (r : Receiving). moved r c.feed.new.self (is_end c.in-Ok.found)) c.self.view_is)
+
+pub returns-in-Some-Item-clause-word : goal.returns-in-Some-Item-clause-word
+returns-in-Some-Item-clause-word c words pieces had =
+    let found_is = c.in-Some-Item.is ∙ ap Some c.in-Some-Item.field-0-is in
+    good_word words pieces c.args.self.now _ c.copied-frames.result c.feed.new.self c.args.got c.in-Ok.found _
+    (c.copied-frames.ensures ∙ ap (λ (r : Receiving). r.frames) c.self.view_is) had c.in-Ok.ensures.gives c.in-Ok.ensures.read c.in-Ok.ensures.senders
+    (sym (ap turn_of found_is))
+    (ap (λ (b : Bool). moved (record { log_at = c.self.inside.log.0; length_at = c.self.inside.length.0; log_words = c.self.inside.words; known = c.self.inside.known; place = c.self.inside.place; frames = c.self.inside.frames; ended = c.self.inside.ended }) c.feed.new.self b) ((ap (λ (r : Receiving). r.ended) c.self.view_is ∙ c.requires.going) ∙ sym (ap is_end found_is)) ∙ ap (λ (r : Receiving). moved r c.feed.new.self (is_end c.in-Ok.found)) c.self.view_is)
+
+pub returns-in-Some-End-clause-word : goal.returns-in-Some-End-clause-word
+returns-in-Some-End-clause-word c words pieces had =
+    let found_is = c.in-Some-End.is ∙ ap Some c.in-Some-End.field-0-is in
+    good_word words pieces c.args.self.now _ c.copied-frames.result c.feed.new.self c.args.got c.in-Ok.found _
+    (c.copied-frames.ensures ∙ ap (λ (r : Receiving). r.frames) c.self.view_is) had c.in-Ok.ensures.gives c.in-Ok.ensures.read c.in-Ok.ensures.senders
+    (sym (ap turn_of found_is))
+    (ap (λ (b : Bool). moved (record { log_at = c.self.inside.log.0; length_at = c.self.inside.length.0; log_words = c.self.inside.words; known = c.self.inside.known; place = c.self.inside.place; frames = c.self.inside.frames; ended = c.self.inside.ended }) c.feed.new.self b) (refl ∙ sym (ap is_end found_is)) ∙ ap (λ (r : Receiving). moved r c.feed.new.self (is_end c.in-Ok.found)) c.self.view_is)

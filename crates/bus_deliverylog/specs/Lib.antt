@@ -1,0 +1,5 @@
+pub mod Orders
+pub mod Logs
+pub mod Writing
+pub mod WritingLaws
+pub mod Receiving

@@ -1,0 +1,62 @@
+-- A receiver's end of the log: what it knows, and what one load does to it.
+use Rattle.std.specs.Prelude.{◌≡◌, ℕ, ◌+◌, ◌<◌, ◌≤◌, List, [], ◌∷◌, ◌++◌, length, ◌⊎◌, Bool, true, false, Option, Some, None, if◌then◌else◌, ◌==◌}
+use Rattle.bus_register.specs.declared.kinds.Kind.{Kind}
+use Rattle.bus_register.specs.declared.kinds.Kind.TheVariants.{LoadLength, LoadLogWord}
+use Rattle.bus_register.specs.declared.registers.Op.{Op}
+use Rattle.bus_register.specs.declared.registers.Op.TheVariants.{Load}
+use Rattle.bus_batch.specs.declared.messages.Piece.{Piece}
+use Rattle.bus_batch.specs.declared.messages.Piece.TheVariants as piece
+use Rattle.bus_batch.specs.Frames.{IsBadWord, GivesPiece, is_end}
+use Rattle.bus_batch.specs.Reading.{Reading, HasRead}
+use Rattle.bus_deliverylog.specs.declared.receiving.RecvTurn.{RecvTurn}
+use Rattle.bus_deliverylog.specs.declared.receiving.RecvTurn.TheVariants as turn
+
+-- the places of the log and of its length, how many words the log can have, the length that it knows, its place in the log,
+-- what it has read of the words before its place, and whether the end was among them
+pub record Receiving : Type 0 where
+  pub log_at : ℕ
+  pub length_at : ℕ
+  pub log_words : ℕ
+  pub known : ℕ
+  pub place : ℕ
+  pub frames : Reading
+  pub ended : Bool
+
+-- at the length that it knows it loads the length, else the word at its place; after the end nothing
+abbrev pub receiving_kind : Receiving → Option Kind
+receiving_kind r = if r.ended then None else if r.place == r.known then Some LoadLength else Some LoadLogWord
+
+abbrev pub receiving_op : Receiving → Option Op
+receiving_op r = if r.ended then None else if r.place == r.known then Some (Load (record { 0 = r.length_at })) else Some (Load (record { 0 = r.log_at + r.place }))
+
+-- what a receiver answers of a word
+abbrev pub turn_of : Option Piece → RecvTurn
+turn_of None = turn.Going
+turn_of (Some (piece.Head tenure owner)) = turn.Head tenure owner
+turn_of (Some (piece.Item item)) = turn.Item item
+turn_of (Some piece.End) = turn.End
+
+-- it has read these words, which gave these pieces
+pub record HasReceived (words : List ℕ) (pieces : List (Option Piece)) (r : Receiving) : Type 0 where
+  pub read : HasRead r.frames.senders words pieces r.frames
+  pub place : r.place ≡ length words
+
+-- a load of the length: the known one gives Empty, a larger one is known from then on, and any other changes nothing
+pub record TakesLength (old : Receiving) (got : ℕ) (answer : RecvTurn) (new : Receiving) : Type 0 where
+  pub same : got ≡ old.known → (answer ≡ turn.Empty) × (new ≡ old)
+  pub more : old.known < got → got ≤ old.log_words → (answer ≡ turn.Going) × (new ≡ record old { known = got })
+  pub less : got < old.known → (answer ≡ turn.Going) × (new ≡ old)
+  pub beyond : old.known < got → old.log_words < got → (answer ≡ turn.Going) × (new ≡ old)
+
+-- a good word: what it gives is answered, and the place moves on
+pub record TakesGood (words : List ℕ) (pieces : List (Option Piece)) (old : Receiving) (got : ℕ) (answer : RecvTurn) (new : Receiving) : Type 0 where
+  pub found : Option Piece
+  pub gives : GivesPiece old.frames.senders words got found
+  pub answer_is : answer ≡ turn_of found
+  pub received : HasReceived (words ++ got ∷ []) (pieces ++ found ∷ []) new
+  pub new_is : new ≡ record old { place = old.place + 1; frames = new.frames; ended = is_end found }
+
+-- a load of a log word: a bad word gives Going and changes nothing
+abbrev pub TakesWord : List ℕ → List (Option Piece) → Receiving → ℕ → RecvTurn → Receiving → Type 0
+TakesWord words pieces old got answer new =
+    (IsBadWord old.frames.senders words got × (answer ≡ turn.Going) × (new ≡ old)) ⊎ TakesGood words pieces old got answer new

@@ -1,0 +1,30 @@
+//! What a log says.
+
+use bus_batch::Item;
+use bus_register::SenderNo;
+
+/// The items that were delivered, one after another, and whether anything may follow.
+#[derive(Debug, Drop)]
+pub struct Order {
+    pub items: Vec<Item>,
+    pub ended: bool,
+}
+
+/// What a whole log says.
+#[derive(Debug, Drop)]
+pub struct LogRead {
+    pub order: Order,
+    /// The tenure and the owner of each frame.
+    pub owners: Vec<(u64, SenderNo)>,
+}
+
+/// Why words are not read; of several causes the one that shows first.
+#[derive(Clone, Copy, Debug, PartialEq, Eq)]
+pub enum LogFault {
+    /// No log goes on with the word at this place.
+    BadWord { place: u64 },
+    /// The words end within a frame.
+    Torn,
+    /// Memory was refused. No later word was looked at.
+    NoMemory,
+}

@@ -1,0 +1,171 @@
+//! A receiver's end of the log.
+
+ghost use Rattle.std.specs.Prelude.{◌≡◌, ◌≢◌, ℕ, ◌+◌, ◌<◌, ◌≤◌, ◌^◌, [], false};
+ghost use Rattle.bus_batch.specs.Reading.{HasRead};
+
+use bus_batch::{FrameReader, Item, Piece};
+use bus_register::{Kind, Op, Reg, SenderNo};
+use std::marker::Model;
+
+/// What a receiver answers after one step.
+#[derive(Debug, Drop, PartialEq, Eq)]
+pub enum RecvTurn {
+    Going,
+    /// The length is the one that it knew, and its place is there.
+    Empty,
+    /// A frame begins.
+    Head { tenure: u64, owner: SenderNo },
+    Item(Item),
+    /// The order has ended.
+    End,
+}
+
+/// A receiver of the log: it loads the length and the words below it, one at a time.
+///
+/// It takes steps as a machine does: `kind` and `next` tell the step, and `feed` is told what was
+/// found. A length past the log's words is not believed.
+#[derive(Debug, Drop)]
+pub struct Reader {
+    log: Reg,
+    length: Reg,
+    words: u64,
+    known: u64,
+    place: u64,
+    frames: FrameReader,
+    ended: bool,
+}
+
+impl Model for Reader {
+    ghost use Rattle.std.specs.Prelude.{◌+◌, ◌<◌, ◌≤◌, ◌^◌};
+    ghost use Rattle.bus_deliverylog.specs.Receiving.{Receiving};
+
+    ghost Value = { Receiving };
+
+    ghost view = { λ r. record { log_at = r.log.0; length_at = r.length.0; log_words = r.words; known = r.known; place = r.place; frames = r.frames; ended = r.ended } };
+
+    ghost invariant = { λ r. (r.log.0 + r.words < 2 ^ 64) × (r.known ≤ r.words) × (r.place ≤ r.known) };
+}
+
+impl Reader {
+    ghost use Rattle.bus_deliverylog.specs.Receiving.{receiving_kind, receiving_op, HasReceived, TakesLength, TakesWord};
+
+    /// A receiver at the first word of a log of so many senders, which can have `words` words from
+    /// `log` on, and its length at `length`. It knows no word.
+    pub fn new(senders: u64, log: Reg, length: Reg, words: u64) -> Reader
+        requires { log.0 + words < 2 ^ 64 }
+        ensures at { (result.log_at ≡ log.0) × (result.length_at ≡ length.0) × (result.log_words ≡ words) }
+        ensures start { (result.known ≡ 0) × (result.place ≡ 0) × (result.ended ≡ false) }
+        ensures senders { result.frames.senders ≡ senders }
+        ensures received { HasReceived [] [] result }
+    {
+        Reader {
+            log,
+            length,
+            words,
+            known: 0,
+            place: 0,
+            frames: FrameReader::new(senders),
+            ended: false,
+        }
+    }
+
+    /// How many words it has read.
+    pub fn place(&self) -> u64
+        ensures place { result ≡ self.now.place }
+        ensures within { result ≤ self.now.known }
+    {
+        self.place
+    }
+
+    /// The length that it knows.
+    pub fn known(&self) -> u64
+        ensures known { result ≡ self.now.known }
+        ensures within { result ≤ self.now.log_words }
+    {
+        self.known
+    }
+
+    /// The end was among what it read.
+    pub fn has_ended(&self) -> bool
+        ensures { result ≡ self.now.ended }
+    {
+        self.ended
+    }
+
+    /// What the next step is for; none after the end.
+    pub fn kind(&self) -> Option<Kind>
+        ensures { result ≡ receiving_kind self.now }
+    {
+        if self.ended {
+            None
+        } else if self.place == self.known {
+            Some(Kind::LoadLength)
+        } else {
+            Some(Kind::LoadLogWord)
+        }
+    }
+
+    /// The next step; none after the end.
+    pub fn next(&self) -> Option<Op>
+        ensures { result ≡ receiving_op self.now }
+    {
+        if self.ended {
+            None
+        } else if self.place == self.known {
+            Some(Op::Load(self.length))
+        } else {
+            Some(Op::Load(Reg(self.log.0 + self.place)))
+        }
+    }
+
+    /// The step that `next` told was taken, and found `got`.
+    pub fn feed(&mut self, got: u64) -> RecvTurn
+        requires { self.old.ended ≡ false }
+        ensures length { self.old.place ≡ self.old.known → TakesLength self.old got result self.new }
+        ensures word { self.old.place ≢ self.old.known → (words : _) (pieces : _) → HasReceived words pieces self.old → TakesWord words pieces self.old got result self.new }
+        ensures place { self.new.place ≤ self.old.place + 1 }
+    {
+        if self.place == self.known {
+            return self.feed_length(got);
+        }
+        self.feed_word(got)
+    }
+
+    /// A length was found.
+    fn feed_length(&mut self, got: u64) -> RecvTurn
+        ensures length { TakesLength self.old got result self.new }
+        ensures place { self.new.place ≡ self.old.place }
+    {
+        if got == self.known {
+            return RecvTurn::Empty;
+        }
+        if self.known < got && got <= self.words {
+            self.known = got;
+        }
+        RecvTurn::Going
+    }
+
+    /// A word of the log was found.
+    fn feed_word(&mut self, got: u64) -> RecvTurn
+        requires unread { self.old.place ≢ self.old.known }
+        requires going { self.old.ended ≡ false }
+        ensures word { (words : _) (pieces : _) → HasReceived words pieces self.old → TakesWord words pieces self.old got result self.new }
+        ensures place { self.new.place ≤ self.old.place + 1 }
+    {
+        let mut frames = self.frames.copied();
+        let Ok(found) = frames.feed(got) else {
+            return RecvTurn::Going;
+        };
+        self.frames = frames;
+        self.place += 1;
+        match found {
+            None => RecvTurn::Going,
+            Some(Piece::Head { tenure, owner }) => RecvTurn::Head { tenure, owner },
+            Some(Piece::Item(item)) => RecvTurn::Item(item),
+            Some(Piece::End) => {
+                self.ended = true;
+                RecvTurn::End
+            }
+        }
+    }
+}

@@ -1,0 +1,10 @@
+pub mod Pieces
+pub mod LineLemmas
+pub mod NumberLemmas
+pub mod ScriptLemmas
+pub mod StreamLemmas
+pub mod RunLemmas
+pub mod SpelledLemmas
+pub mod TextLemmas
+pub mod RatifyLineLemmas
+pub mod ScriptSpelledLemmas

@@ -1,0 +1,68 @@
+//! The program `bus`. `bus ratify` reads a script from standard input and writes its answer to
+//! standard output.
+//!
+//! Exit status: 0 where the script was played; 1 where it was refused or the program could not do
+//! its work, which standard error then says; 2 where the command line was refused or asked for help.
+#![tactic(auto)]
+
+mod command_line;
+mod grammar;
+mod outcomes;
+mod ratify;
+mod streams;
+#[cfg(test)]
+mod tests;
+
+use self::command_line::{Task, parse};
+use self::outcomes::{Outcome, RunFault};
+use self::ratify::ratify;
+use clap::error::ErrorKind;
+use std::process::ExitCode;
+use std::rt::Env;
+use std::{env, io};
+
+fn main(rt: HostRuntime) -> ExitCode {
+    bus(&rt)
+}
+
+/// The whole program.
+fn bus<R: AllocGlobal + Env + Input + Print + Eprint>(rt: &R) -> ExitCode {
+    let words = match given_words(rt) {
+        Ok(words) => words,
+        Err(error) if error.kind() == io::ErrorKind::OutOfMemory => {
+            return end(rt, Err(RunFault::NoMemory));
+        }
+        Err(_) => {
+            let _ = eprintln!(rt; "error: an argument is not text");
+            return ExitCode::from(2);
+        }
+    };
+    match parse(rt.alloc(), words.as_slice()) {
+        Ok(Task::Ratify) => end(
+            rt,
+            ratify(rt.alloc(), &mut rt.reader(), &mut io::writer(rt)),
+        ),
+        Err(error) if error.kind() == ErrorKind::OutOfMemory => end(rt, Err(RunFault::NoMemory)),
+        Err(error) => {
+            let _ = rt.eprint(&error);
+            ExitCode::from(2)
+        }
+    }
+}
+
+/// The words of the command line, of which the first is the program's name.
+fn given_words<R: AllocGlobal + Env>(rt: &R) -> io::Result<Vec<String>> {
+    Ok(env::args(rt)?.collect(rt.alloc())?)
+}
+
+/// Says what kept a command from its work, and gives the exit status.
+fn end<R: Eprint>(rt: &R, ended: Result<Outcome, RunFault>) -> ExitCode {
+    match ended {
+        Ok(Outcome::Done) => ExitCode::SUCCESS,
+        Ok(Outcome::Refused) => ExitCode::FAILURE,
+        Err(fault) => {
+            let _ = eprintln!(rt; "bus: {fault}");
+            ExitCode::FAILURE
+        }
+    }
+}

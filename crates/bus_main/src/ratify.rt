@@ -1,0 +1,84 @@
+//! `bus ratify`: one adopt-commit object, played by the schedule of a script.
+
+ghost use Rattle.std.specs.Prelude.{◌≡◌, ◌+◌, ◌<◌, ℕ, List, length, IfOk, OnOk, IfSome, IfErr, IsErrOf, string_bytes};
+ghost use Rattle.std.specs.Io.KnownBytes.{Appends, Keeps, IsAtEnd};
+ghost use Rattle.bus_main.specs.declared.outcomes.Outcome.{Outcome};
+ghost use Rattle.bus_main.specs.Streams.{input_limit, ReadsWhole, ReadsAtMost, WritesPart};
+ghost use Rattle.bus_main.specs.RatifyRun.{IsAnswer};
+
+pub mod laws;
+pub mod refusals;
+pub mod script;
+pub mod text;
+
+use self::refusals::ReadingFault;
+use self::script::read_script;
+use self::text::{refusal_text, verdict_text};
+use crate::outcomes::{Outcome, RunFault};
+use crate::streams::{read_whole, write_whole};
+use bus_adoptcommit::TwoCollect;
+use bus_adoptcommit::objects::verdicts;
+use bus_adoptcommit::two_collect::two_collect_is_exact;
+use std::alloc::Global;
+use std::io::{Read, Write};
+
+/// What is written for an input.
+#[derive(Debug, Drop)]
+pub struct Answer {
+    pub outcome: Outcome,
+    pub text: String,
+}
+
+/// What is written for an input: verdicts, or the first refusal. Memory is its only error.
+pub fn answer_to(alloc: Global, input: &[u8]) -> Result<Answer, RunFault>
+    ensures ok { IfOk result (λ answer. IsAnswer input.now answer.outcome (string_bytes answer.text)) }
+    ensures err { IfErr result (λ fault. fault ≡ RunFault.NoMemory) }
+{
+    match read_script(alloc, input) {
+        Ok(script) => {
+            two_collect_is_exact();
+            let verdicts = verdicts::<TwoCollect>(alloc, &script.inputs, &script.schedule)?;
+            Ok(Answer {
+                outcome: Outcome::Done,
+                text: verdict_text(alloc, &verdicts)?,
+            })
+        }
+        Err(ReadingFault::Refused(refusal)) => Ok(Answer {
+            outcome: Outcome::Refused,
+            text: refusal_text(alloc, refusal)?,
+        }),
+        Err(ReadingFault::NoMemory) => Err(RunFault::NoMemory),
+    }
+}
+
+/// Reads a script to its end, plays it, and writes the answer and nothing else.
+pub fn ratify<R: Read, W: Write>(
+    alloc: Global,
+    reader: &mut R,
+    writer: &mut W,
+) -> Result<Outcome, RunFault>
+    // All of the input was read, and all of its answer was written.
+    ensures ok { IfOk result (λ outcome. (input text : List ℕ) × ReadsWhole (R.remaining reader.old) input × IsAnswer input outcome text
+        × Appends (W.contents writer.old) (W.contents writer.new) text) }
+
+    // The input was read whole, and a part of its answer was written.
+    ensures write { IsErrOf result RunFault.Write → (input : List ℕ) × (outcome : Outcome) × (text : List ℕ) × ReadsWhole (R.remaining reader.old) input × IsAnswer input outcome text
+        × WritesPart (W.contents writer.old) (W.contents writer.new) text }
+
+    // The input is too long, and nothing was written.
+    ensures too_much { IsErrOf result RunFault.TooMuch → IfSome (R.remaining reader.old) (λ input. input_limit < length input) }
+    ensures too_much_unwritten { IsErrOf result RunFault.TooMuch → Keeps (W.contents writer.old) (W.contents writer.new) }
+
+    // Nothing was written.
+    ensures read_unwritten { IsErrOf result RunFault.Read → Keeps (W.contents writer.old) (W.contents writer.new) }
+    ensures no_memory_unwritten { IsErrOf result RunFault.NoMemory → Keeps (W.contents writer.old) (W.contents writer.new) }
+
+    // The reader is at its end, or it gave no more than shows that the input is too long.
+    ensures end { OnOk result (IsAtEnd (R.remaining reader.new)) }
+    ensures taken { ReadsAtMost (R.remaining reader.old) (R.remaining reader.new) (input_limit + 1) }
+{
+    let input = read_whole(alloc, reader)?;
+    let answer = answer_to(alloc, input.as_slice())?;
+    write_whole(writer, answer.text.as_bytes())?;
+    Ok(answer.outcome)
+}

@@ -1,0 +1,58 @@
+//! An input that is read whole, and a text that is written whole.
+
+ghost use Rattle.std.specs.Prelude.{◌≡◌, ◌+◌, ◌<◌, ◌⊎◌, ℕ, List, length, IfOk, OnOk, IfErr, IsErrOf};
+ghost use Rattle.std.specs.Io.KnownBytes.{Appends, Consumes, IsAtEnd};
+ghost use Rattle.bus_main.specs.Streams.{input_limit, ReadsWhole, ReadsAtMost, WritesPart};
+
+use crate::outcomes::RunFault;
+use std::alloc::Global;
+use std::io::{Read, Write};
+
+/// How many bytes a script has at most.
+const INPUT_LIMIT: usize = 1_048_576;
+
+/// How many bytes are read at once.
+const CHUNK: usize = 16_384;
+
+/// Reads to the end, and gives up where more comes than an input may have. Each error of the reader
+/// counts, an interrupted read too.
+pub fn read_whole<R: Read>(alloc: Global, reader: &mut R) -> Result<Vec<u8>, RunFault>
+    ensures ok { IfOk result (λ input. ReadsWhole (R.remaining reader.old) input.items) }
+    ensures end { OnOk result (IsAtEnd (R.remaining reader.new)) }
+    ensures too_much { IsErrOf result RunFault.TooMuch → (bytes : List ℕ) × (length bytes ≡ input_limit + 1) × Consumes (R.remaining reader.old) (R.remaining reader.new) bytes }
+    ensures kinds { IfErr result (λ fault. (fault ≡ RunFault.Read) ⊎ ((fault ≡ RunFault.TooMuch) ⊎ (fault ≡ RunFault.NoMemory))) }
+    ensures taken { ReadsAtMost (R.remaining reader.old) (R.remaining reader.new) (input_limit + 1) }
+{
+    let mut input = Vec::new(alloc);
+    let mut chunk = [0u8; CHUNK];
+    while input.len() <= INPUT_LIMIT {
+        let room = CHUNK.min(INPUT_LIMIT + 1 - input.len());
+        let Ok(count) = reader.read(&mut chunk[..room]) else {
+            return Err(RunFault::Read);
+        };
+        if count == 0 {
+            return Ok(input);
+        }
+        input.extend_from_slice(&chunk[..count])?;
+    }
+    Err(RunFault::TooMuch)
+}
+
+/// Writes all of a text. Each error of the writer counts, and so does a write that takes no byte.
+pub fn write_whole<W: Write>(writer: &mut W, text: &[u8]) -> Result<(), RunFault>
+    ensures ok { OnOk result (Appends (W.contents writer.old) (W.contents writer.new) text.now) }
+    ensures err { IfErr result (λ fault. fault ≡ RunFault.Write) }
+    ensures part { WritesPart (W.contents writer.old) (W.contents writer.new) text.now }
+{
+    let mut rest = text;
+    while !rest.is_empty() {
+        match writer.write(rest) {
+            Ok(count) if count > 0 => rest = &rest[count..],
+            _ => return Err(RunFault::Write),
+        }
+    }
+    match writer.flush() {
+        Ok(()) => Ok(()),
+        Err(_) => Err(RunFault::Write),
+    }
+}

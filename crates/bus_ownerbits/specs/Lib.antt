@@ -1,0 +1,12 @@
+pub mod Sizes
+pub mod NumberLaws
+pub mod Election
+pub mod ElectionSized
+pub mod ElectionNames
+pub mod ElectionKeeps
+pub mod ElectionCases
+pub mod ElectionSteps
+pub mod ElectionGrows
+pub mod ElectionMoves
+pub mod ElectionLaws
+pub mod ElectionLaw

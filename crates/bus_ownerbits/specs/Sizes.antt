@@ -1,0 +1,28 @@
+-- How many bits an owner's number has.
+use Rattle.std.specs.Prelude.{ℕ, ◌+◌, ◌*◌, ◌-◌, ◌/◌, ◌%◌, ◌≤◌, ◌^◌, ◌==◌, nat_lt, [], ◌∷◌, count_by, Bool, true, false}
+
+-- b is the least count of bits that spell n numbers
+pub record IsBits (n b : ℕ) : Type 0 where
+  pub enough : n ≤ 2 ^ b
+  pub least : (k : ℕ) → n ≤ 2 ^ k → b ≤ k
+
+-- for at most 64 numbers: how many of 1, 2, 4, 8, 16 and 32 are less than n
+abbrev pub bits_of : ℕ → ℕ
+bits_of n = count_by (λ power. nat_lt power n) (1 ∷ 2 ∷ 4 ∷ 8 ∷ 16 ∷ 32 ∷ [])
+
+-- 1 for true
+abbrev pub digit : Bool → ℕ
+digit false = 0
+digit true = 1
+
+-- the bit of value 2 ^ k
+abbrev pub bit_at : ℕ → ℕ → Bool
+bit_at k number = (number / 2 ^ k) % 2 == 1
+
+-- the steps of a binary decision of so many rounds, at most
+abbrev pub decision_cost : ℕ → ℕ → ℕ
+decision_cost rounds n = rounds * (2 * n + 2) + (rounds - 1) * (2 + 64 * (n + 1)) + 1
+
+-- the turns that an election takes at most: its announcement, for each bit a decision and a search, and one more for its owner
+abbrev pub election_bound : ℕ → ℕ → ℕ
+election_bound n rounds = 2 + bits_of n * (rounds * (2 * n + 2) + (rounds - 1) * (2 + 64 * (n + 1)) + 1 + n)

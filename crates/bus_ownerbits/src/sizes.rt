@@ -1,0 +1,34 @@
+//! How many bits an owner's number has, and how many turns an election takes at most.
+
+ghost use Rattle.std.specs.Prelude.{◌≡◌, ℕ, ◌+◌, ◌*◌, ◌-◌, ◌<◌, ◌≤◌, ◌^◌};
+ghost use Rattle.bus_ownerbits.specs.Sizes.{IsBits, bits_of, election_bound};
+
+/// How many bits the numbers below `n` have: the least count of bits that spell `n` numbers.
+pub fn bits(n: u64) -> u64
+    requires some { 1 ≤ n }
+    requires few { n ≤ 64 }
+    ensures least { IsBits n result }
+    ensures value { result ≡ bits_of n }
+{
+    let mut bits = 0;
+    let mut reach = 1;
+    while reach < n {
+        reach *= 2;
+        bits += 1;
+    }
+    bits
+}
+
+/// How many of its own turns an election takes at most, with one more for its owner, in so many
+/// rounds for each bit.
+pub fn bound(n: u64, rounds: u64) -> u64
+    requires some { 1 ≤ n }
+    requires few { n ≤ 64 }
+    requires rounds_some { 1 ≤ rounds }
+    requires rounds_few { rounds ≤ 8 }
+    ensures { result ≡ election_bound n rounds }
+{
+    let ratifiers = rounds * (2 * n + 2);
+    let conciliators = (rounds - 1) * (2 + 64 * (n + 1));
+    2 + bits(n) * (ratifiers + conciliators + 1 + n)
+}
