@@ -28,8 +28,8 @@ returns-in_err-note-in-Ok-clause-no_memory c _ = record {
 pub returns-in-Err-clause-exact : goal.returns-in-Err-clause-exact
 returns-in-Err-clause-exact c order owners spelt =
     absurd ((subst (λ z. IsBadWord z (take c.loop-place.place c.args.words.now) (get_or c.args.words.now c.loop-place.place 0)) c.loop-place.invariant.senders_are
-        ((c.in-Err.ensures.bad (take c.loop-place.place c.args.words.now) c.loop-place.invariant.pieces c.loop-place.invariant.had).0 refl))
-      (spells_begin c.args.senders c.loop-place.place c.args.words.now order owners c.loop-place-test.true spelt))
+    ((c.in-Err.ensures.bad (take c.loop-place.place c.args.words.now) c.loop-place.invariant.pieces c.loop-place.invariant.had).0 refl))
+    (spells_begin c.args.senders c.loop-place.place c.args.words.now order owners c.loop-place-test.true spelt))
 
 pub returns-in-Err-clause-bad : goal.returns-in-Err-clause-bad
 returns-in-Err-clause-bad c place e =
@@ -38,7 +38,7 @@ returns-in-Err-clause-bad c place e =
       below = c.loop-place-test.true;
       good = subst (λ z. BeginsLog z (take c.loop-place.place c.args.words.now)) c.loop-place.invariant.senders_are (begins c.loop-place.reader.senders (take c.loop-place.place c.args.words.now) c.loop-place.invariant.pieces c.loop-place.reader c.loop-place.invariant.had);
       bad = (subst (λ z. IsBadWord z (take c.loop-place.place c.args.words.now) (get_or c.args.words.now c.loop-place.place 0)) c.loop-place.invariant.senders_are
-        ((c.in-Err.ensures.bad (take c.loop-place.place c.args.words.now) c.loop-place.invariant.pieces c.loop-place.invariant.had).0 refl));
+          ((c.in-Err.ensures.bad (take c.loop-place.place c.args.words.now) c.loop-place.invariant.pieces c.loop-place.invariant.had).0 refl));
     })
 
 pub returns-then-inside-clause-torn : goal.returns-then-inside-clause-torn
