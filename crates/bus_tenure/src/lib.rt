@@ -1,0 +1,10 @@
+//! One sender's part: the page that it may hold, and its turns.
+#![tactic(auto)]
+
+pub mod pages;
+pub mod phases;
+pub mod turns;
+
+pub use pages::Page;
+pub use phases::{Leaving, Phase};
+pub use turns::Turn;

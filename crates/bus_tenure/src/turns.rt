@@ -1,0 +1,26 @@
+//! What a turn of a sender answers.
+
+use bus_register::SenderNo;
+
+/// The answer to one turn of a sender. Tenures and message numbers count from 0.
+#[derive(Clone, Copy, Debug, PartialEq, Eq)]
+pub enum Turn {
+    /// Nothing is pending, and it is not closing. No step was taken.
+    Idle,
+    /// The stage shows no tenure that it may enter: another sender holds the page, or it has been there.
+    Waiting,
+    /// A step was taken, and more are to come.
+    Going,
+    /// The election of this tenure chose another sender.
+    Lost { tenure: u64, owner: SenderNo },
+    /// It has taken the page of this tenure.
+    Own { tenure: u64 },
+    /// Its messages with these numbers, the first and the last, stand in the order.
+    Delivered { tenure: u64, first: u64, last: u64 },
+    /// Its frame does not fit the log. The messages are kept.
+    Full,
+    /// The order has ended, or it has closed: nothing more is sent.
+    Closed,
+    /// All tenures of the sitting are spent.
+    Spent,
+}

@@ -1,0 +1,93 @@
+-- A lawful bus: words, page and local states fit one order and one list of owners.
+use Rattle.std.specs.Prelude.{◌≡◌, ℕ, ◌+◌, ◌*◌, ◌<◌, ◌≤◌, ◌^◌, true, false, Option, Some, None, List, [], ◌∷◌, ◌++◌, take, is_some, slice_get}
+use Rattle.bus_register.specs.Tables.{of_some}
+use Rattle.bus_register.specs.Protocol.{Protocol}
+use Rattle.bus_batch.specs.Batches.{Pending, IsKept, HasSomething, frame_of}
+use Rattle.bus_batch.specs.declared.batches.Phase.TheVariants.{Closed}
+use Rattle.bus_batch.specs.Frames.{Frame, frame_words}
+use Rattle.bus_tenure.specs.Core.{Core, Layout, log_at, frame_len}
+use Rattle.bus_tenure.specs.declared.pages.Page.{Page}
+use Rattle.bus_tenure.specs.declared.phases.Phase.{Phase}
+use Rattle.bus_tenure.specs.declared.phases.Phase.TheVariants as phase
+use Rattle.bus_world.specs.Log.{read, sent, AreEarlier, Logged, Knows}
+use Rattle.bus_world.specs.Tenures.{Standing, Tenures}
+use Rattle.bus_world.specs.Tenures.Standing.{Rests, Runs, Holds}
+
+-- sizes that are served
+pub record IsLayout (x : Layout) : Type 0 where
+  pub senders : x.senders ≤ 8
+  pub rows : x.rows ≤ 2 ^ 40
+  pub capacity : x.capacity < 2 ^ 40
+
+-- what a sender stands in, as far as tenures go
+abbrev pub stands_at : {E : Type 0} → Phase E → Standing E
+stands_at phase.Resting = Rests
+stands_at (phase.Electing t e) = Runs t e
+stands_at (phase.Taken t) = Holds t
+stands_at (phase.Holding t page stored published) = Holds t
+stands_at (phase.Giving t leaving) = Holds t
+
+abbrev pub standing_of : {E : Type 0} → Core E → Option (Standing E)
+standing_of c = Some (stands_at c.phase)
+
+abbrev pub least_of : {E : Type 0} → Option (Core E) → ℕ
+least_of None = 0
+least_of (Some c) = c.least
+
+-- the frame of a holder is not published: the words that it has stored stand past the length
+pub record IsWriting {E : Type 0} (words : ℕ → ℕ) (frames : List Frame) (c : Core E) (t : ℕ) (page : Page) (stored : ℕ) : Type 0 where
+  pub base : c.queue.first ≡ sent c.me frames
+  pub page_knows : Knows page frames t (words 0)
+  pub earlier : AreEarlier t frames
+  pub stored_below : stored ≤ frame_len c
+  pub allowed : 0 < stored → (page.ended ≡ false) × (page.words + frame_len c ≤ c.layout.capacity)
+  pub words_are : read words (log_at c.layout + words 0) stored ≡ take stored (frame_words (frame_of c.queue t))
+
+-- it is published: it is the last frame, and the page does not know it yet
+pub record HasWritten {E : Type 0} (words : ℕ → ℕ) (frames : List Frame) (c : Core E) (t : ℕ) (page : Page) : Type 0 where
+  pub front : List Frame
+  pub frames_are : frames ≡ front ++ frame_of c.queue t ∷ []
+  pub base : c.queue.first ≡ sent c.me front
+  pub page_knows : Knows page front t page.words
+  pub earlier : AreEarlier t front
+  pub is_open : page.ended ≡ false
+  pub len_is : words 0 ≡ page.words + frame_len c
+
+pub record HasBegun (q : Pending) : Type 0 where
+  pub busy : q.busy ≡ true
+  pub is_open : q.phase ≡ Closed → ⊥
+  pub something : HasSomething q
+
+abbrev pub Fits : {E : Type 0} → (ℕ → ℕ) → List Frame → Core E → Phase E → Type 0
+Fits words frames c phase.Resting = (c.queue.busy ≡ false) × (c.queue.first ≡ sent c.me frames)
+Fits words frames c (phase.Electing t e) = HasBegun c.queue × (c.queue.first ≡ sent c.me frames)
+-- between events no page is under way
+Fits words frames c (phase.Taken t) = ⊥
+Fits words frames c (phase.Holding t page stored false) = HasBegun c.queue × IsWriting words frames c t page stored
+Fits words frames c (phase.Holding t page stored true) = HasBegun c.queue × HasWritten words frames c t page
+Fits words frames c (phase.Giving t leaving) = ⊥
+
+-- one sender's part
+pub record Part {E : Type 0} (x : Layout) (words : ℕ → ℕ) (frames : List Frame) (p : ℕ) (c : Core E) : Type 0 where
+  pub layout : c.layout ≡ x
+  pub me : c.me ≡ p
+  pub below : p < x.senders
+  pub sender : c.queue.sender.0 ≡ p
+  pub queue : IsKept c.queue
+  pub fits : Fits words frames c c.phase
+
+-- each frame's owner took the page of its tenure
+abbrev pub AreOwned : List ℕ → List Frame → Type 0
+AreOwned owners [] = Unit {0}
+AreOwned owners (f ∷ frames) = (slice_get owners f.tenure ≡ Some f.owner.0) × AreOwned owners frames
+
+-- what senders, words, page and owners always keep
+pub record Sending {E : Type 0} (P : Protocol E (Unit {0}) ℕ) (x : Layout) (words : ℕ → ℕ) (home : Option Page) (senders : ℕ → Option (Core E)) (owners : List ℕ) (frames : List Frame) : Type 0 where
+  pub tenures : Tenures P x.senders x.rows 2 words (words 1) (is_some home) (λ p. of_some standing_of (senders p)) (λ p. least_of (senders p)) owners
+  pub log : Logged x.senders x.capacity (log_at x) words (words 0) frames
+  pub owned : AreOwned owners frames
+  -- a page at home knows the frames, all of which are of tenures that have ended
+  pub page_knows : (page : Page) (t : ℕ) → home ≡ Some page → words 1 ≡ 2 * t → Knows page frames t (words 0) × AreEarlier t frames
+  pub parts : (p : ℕ) (c : Core E) → senders p ≡ Some c → Part x words frames p c
+  -- who stays in an election that has an owner is that owner
+  pub chosen : (p : ℕ) (c : Core E) (t : ℕ) (e : E) (o : ℕ) → senders p ≡ Some c → c.phase ≡ phase.Electing t e → P.output e ≡ Some o → o ≡ p

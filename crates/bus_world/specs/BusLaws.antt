@@ -1,0 +1,554 @@
+-- Each turn of a sender keeps what senders, words, page and owners keep.
+use Rattle.std.proofs.Common.{◌≡◌, ◌≢◌, ℕ, suc, ◌+◌, ◌*◌, ◌<◌, ◌≤◌, Bool, true, false, Option, Some, None, ◌⊎◌, inl, inr, List, [], ◌∷◌, ◌++◌, length, take, is_some, slice_get, slice_index, slice_set, arith, refl, sym, ◌∙◌, ap, subst}
+use Rattle.std.proofs.lemmas.Bool.{cases_eq, true≢false}
+use Rattle.std.proofs.lemmas.Grind.{common_steps}
+use Rattle.std.proofs.lemmas.List.{take_more, get_or-set_same, get_or-set_other}
+use Rattle.std.proofs.Math.ListN.{length-set}
+use Rattle.std.specs.Prelude.{All}
+use Rattle.std.proofs.lemmas.List.Elements.{All-from_recursion}
+use Rattle.bus_batch.specs.Messages.{IsMessage}
+use Rattle.std.proofs.lemmas.Option.{gets, same_Some}
+use Rattle.bus_register.specs.declared.registers.Op.{Op}
+use Rattle.bus_register.specs.declared.registers.SenderNo.{SenderNo}
+use Rattle.bus_register.specs.Words.{register, after}
+use Rattle.bus_register.specs.Tables.{of_some, Beside, Agree, Stepped}
+use Rattle.bus_register.specs.Protocol.{Protocol, Laws}
+use Rattle.bus_batch.specs.Batches.{Pending, IsKept, next_of, frame_of}
+use Rattle.bus_batch.specs.Frames.{Frame, frame_words, IsFrame, items_of, has_end}
+use Rattle.bus_tenure.specs.Core.{Core, Election, Layout, log_at, frame_len, rested, queue_after, page_after}
+use Rattle.bus_tenure.specs.declared.phases.Leaving.{Leaving}
+use Rattle.bus_tenure.specs.declared.phases.Leaving.TheVariants.{Sent, FoundEnd, NoRoom}
+use Rattle.bus_tenure.specs.declared.pages.Page.{Page}
+use Rattle.bus_tenure.specs.declared.phases.Phase.{Phase}
+use Rattle.bus_tenure.specs.declared.phases.Phase.TheVariants as phase
+use Rattle.bus_world.specs.Log.{read, sent, AreCounted, AreEarlier, Logged, Knows}
+use Rattle.bus_register.specs.Tables.{put}
+use Rattle.bus_register.specs.TableLaws.{put_here, put_beside}
+use Rattle.bus_world.specs.LogLaws.{read-agree, Logged-agree, Logged-publish, sent-append_other, sent-append_owner, has_end-append, AreEarlier-append, AreEarlier-later}
+use Rattle.bus_world.specs.QueueLaws.{body_is, counted_frame, length-items, ends-body}
+use Rattle.bus_ownerbits.specs.ElectionKeeps.{OneOwner}
+use Rattle.bus_world.specs.Tenures.{Standing}
+use Rattle.bus_world.specs.Tenures.Standing.{Runs, Holds}
+use Rattle.bus_world.specs.TenuresLaws as tenures
+use Rattle.bus_world.specs.Bus.{IsLayout, stands_at, standing_of, least_of, IsWriting, HasBegun, Fits, Part, AreOwned, Sending}
+
+-- one step on the words: the step's own word has changed and no other
+pub record Changes (o : Op) (words words' : ℕ → ℕ) : Type 0 where
+  pub here : words' (register o) ≡ after o (words (register o))
+  pub elsewhere : (r : ℕ) → r ≢ register o → words' r ≡ words r
+
+-- the other words are the same
+pub Knows-len : (page : Page) (frames : List Frame) (past len len' : ℕ) → len' ≡ len → Knows page frames past len → Knows page frames past len'
+Knows-len page frames past len len' e k = subst (λ z. Knows page frames past z) (sym e) k
+
+module _ {E : Type 0} (x : Layout) (words words' : ℕ → ℕ) (frames : List Frame) (c : Core E) (layout : c.layout ≡ x)
+    (agree : Agree (log_at x) x.capacity words words') (len : words' 0 ≡ words 0) where
+  writing_stays : (t : ℕ) (page : Page) (stored : ℕ) → IsWriting words frames c t page stored → IsWriting words' frames c t page stored
+  writing_stays t page stored w = record {
+    base = w.base;
+    page_knows = Knows-len page frames t (words 0) (words' 0) len w.page_knows;
+    earlier = w.earlier;
+    stored_below = w.stored_below;
+    allowed = w.allowed;
+    words_are = ap (λ z. read words' (log_at c.layout + z) stored) len ∙ read-agree words words' (log_at c.layout + words 0) stored (λ r a b. agree r (let z = ap log_at layout in omega arith) (bound r a b)) ∙ w.words_are;
+  } where
+    bound : (r : ℕ) → log_at c.layout + words 0 ≤ r → r < log_at c.layout + words 0 + stored → r < log_at x + x.capacity
+    bound r a b =
+        let l = ap log_at layout in let cap = ap (λ (z : Layout). z.capacity) layout in
+        let positive : 0 < stored = omega arith in
+        let room = (w.allowed positive).1 in let knows = w.page_knows.words in let below = w.stored_below in
+        omega arith
+
+  Fits-agree : (ph : Phase E) → Fits words frames c ph → Fits words' frames c ph
+  Fits-agree phase.Resting f = f
+  Fits-agree (phase.Electing t e) f = f
+  Fits-agree (phase.Taken t) f = f
+  Fits-agree (phase.Holding t page stored false) f = (f.0, writing_stays t page stored f.1)
+  Fits-agree (phase.Holding t page stored true) f = (f.0, let h = f.1 in record { front = h.front; frames_are = h.frames_are; base = h.base; page_knows = h.page_knows; earlier = h.earlier; is_open = h.is_open; len_is = len ∙ h.len_is })
+  Fits-agree (phase.Giving t leaving) f = f
+
+pub Part-agree : {E : Type 0} (x : Layout) (words words' : ℕ → ℕ) (frames : List Frame) (p : ℕ) (c : Core E) → Agree (log_at x) x.capacity words words' → words' 0 ≡ words 0 → Part x words frames p c → Part x words' frames p c
+Part-agree x words words' frames p c agree len h = record { layout = h.layout; me = h.me; below = h.below; sender = h.sender; queue = h.queue; fits = Fits-agree x words words' frames c h.layout agree len c.phase h.fits }
+
+-- a sender that holds no page only counts its own items
+Fits-rests : {E : Type 0} (words words' : ℕ → ℕ) (frames frames' : List Frame) (c : Core E) (ph : Phase E) → ((t : ℕ) → stands_at ph ≡ Holds t → ⊥) → sent c.me frames' ≡ sent c.me frames → Fits words frames c ph → Fits words' frames' c ph
+Fits-rests words words' frames frames' c phase.Resting free e f = (f.0, f.1 ∙ sym e)
+Fits-rests words words' frames frames' c (phase.Electing t u) free e f = (f.0, f.1 ∙ sym e)
+Fits-rests words words' frames frames' c (phase.Taken t) free e f = absurd (free t refl)
+Fits-rests words words' frames frames' c (phase.Holding t page stored published) free e f = absurd (free t refl)
+Fits-rests words words' frames frames' c (phase.Giving t leaving) free e f = absurd (free t refl)
+
+pub Part-rests : {E : Type 0} (x : Layout) (words words' : ℕ → ℕ) (frames frames' : List Frame) (p : ℕ) (c : Core E) → ((t : ℕ) → stands_at c.phase ≡ Holds t → ⊥) → sent p frames' ≡ sent p frames → Part x words frames p c → Part x words' frames' p c
+Part-rests x words words' frames frames' p c free e h = record {
+  layout = h.layout;
+  me = h.me;
+  below = h.below;
+  sender = h.sender;
+  queue = h.queue;
+  fits = Fits-rests words words' frames frames' c c.phase free (subst (λ z. sent z frames' ≡ sent z frames) (sym h.me) e) h.fits;
+}
+
+pub part_of : {E : Type 0} (x : Layout) (words words' : ℕ → ℕ) (frames frames' : List Frame) (p : ℕ) (c : Core E) (ph : Phase E) → Part x words frames p c → Fits words' frames' (record c { phase = ph }) ph → Part x words' frames' p (record c { phase = ph })
+part_of x words words' frames frames' p c ph h f = record { layout = h.layout; me = h.me; below = h.below; sender = h.sender; queue = h.queue; fits = f }
+
+pub resting_apart : {E : Type 0} (t : ℕ) (e : E) → phase.Resting ≡ phase.Electing t e → ⊥
+resting_apart t e h = cc
+
+holding_apart : {E : Type 0} (u : ℕ) (page : Page) (k : ℕ) (published : Bool) (t : ℕ) (e : E) → phase.Holding u page k published ≡ phase.Electing t e → ⊥
+holding_apart u page k published t e h = cc
+
+same_electing : {E : Type 0} (t u : ℕ) (e f : E) → phase.Electing t e ≡ phase.Electing u f → e ≡ f
+same_electing t u e f h = cc
+
+take_all : (xs : List ℕ) → take (length xs) xs ≡ xs
+take_all xs = grind (arith, common_steps)
+
+not_busy : (leaving : Leaving) (q : Pending) → (queue_after leaving q).busy ≡ false
+not_busy Sent q = refl
+not_busy FoundEnd q = refl
+not_busy NoRoom q = refl
+
+sender_after : (leaving : Leaving) (q : Pending) → (queue_after leaving q).sender ≡ q.sender
+sender_after Sent q = refl
+sender_after FoundEnd q = refl
+sender_after NoRoom q = refl
+
+none_short : All IsMessage []
+none_short = All-from_recursion IsMessage [] tt
+
+-- the frame was not published
+abbrev pub IsUnsent : Leaving → Type 0
+IsUnsent Sent = ⊥
+IsUnsent FoundEnd = Unit {0}
+IsUnsent NoRoom = Unit {0}
+
+unsent_base : (leaving : Leaving) → IsUnsent leaving → (q : Pending) → (queue_after leaving q).first ≡ q.first
+unsent_base Sent u q = absurd u
+unsent_base FoundEnd u q = refl
+unsent_base NoRoom u q = refl
+
+unsent_queue : (leaving : Leaving) → IsUnsent leaving → (q : Pending) → IsKept q → IsKept (queue_after leaving q)
+unsent_queue Sent u q is = absurd u
+unsent_queue FoundEnd u q is = record { few = is.few; each = is.each; numbers = is.numbers; alone = λ e. absurd cc; owner_bits = is.owner_bits }
+unsent_queue NoRoom u q is = record { few = is.few; each = is.each; numbers = is.numbers; alone = is.alone; owner_bits = is.owner_bits }
+
+unsent_knows : {E : Type 0} (leaving : Leaving) → IsUnsent leaving → (c : Core E) (t : ℕ) (page : Page) (frames : List Frame) (len : ℕ) → Knows page frames t len → Knows (page_after c t page leaving) frames (t + 1) len
+unsent_knows Sent u c t page frames len k = absurd u
+unsent_knows FoundEnd u c t page frames len k = record { entries = k.entries; next = k.next; ended = k.ended; tenures = refl; words = k.words }
+unsent_knows NoRoom u c t page frames len k = record { entries = k.entries; next = k.next; ended = k.ended; tenures = refl; words = k.words }
+
+AreOwned-push : (owners : List ℕ) (o : ℕ) (frames : List Frame) → AreOwned owners frames → AreOwned (owners ++ o ∷ []) frames
+AreOwned-push owners o [] a = tt
+AreOwned-push owners o (f ∷ frames) a = (tenures.push_before owners o f.tenure (within owners f.tenure f.owner.0 a.0) ∙ a.0, AreOwned-push owners o frames a.1)
+  where
+    within : (xs : List ℕ) (u v : ℕ) → slice_get xs u ≡ Some v → u < length xs
+    within xs u v e = grind (arith, common_steps, gets)
+
+AreOwned-append : (owners : List ℕ) (frames : List Frame) (f : Frame) → AreOwned owners frames → slice_get owners f.tenure ≡ Some f.owner.0 → AreOwned owners (frames ++ f ∷ [])
+AreOwned-append owners [] f a e = (e, tt)
+AreOwned-append owners (g ∷ frames) f a e = (a.0, AreOwned-append owners frames f a.1 e)
+
+module _ {E : Type 0} (X : Election E) (P : Protocol E (Unit {0}) ℕ) (laws : Laws X.op X.fed P OneOwner) (x : Layout) (ok : IsLayout x) (width : x.width ≡ P.width x.senders) where
+  module _ (words : ℕ → ℕ) (home : Option Page) (senders : ℕ → Option (Core E)) (owners : List ℕ) (frames : List Frame) (h : Sending P x words home senders owners frames) where
+    abbrev S : ℕ → Option (Standing E)
+    S q = of_some standing_of (senders q)
+
+    abbrev L : ℕ → ℕ
+    L q = least_of (senders q)
+
+    -- a start has no owner
+    unstarted : (p at : ℕ) → p < x.senders → P.output (P.started x.senders p tt at) ≡ None
+    unstarted p at below = elim (tenures.some_or_none (X.op (P.started x.senders p tt at) 0)) [
+      | inr o ↦ laws.unended (P.started x.senders p tt at) 0 o.0 o.1
+      | inl none ↦ absurd (true≢false (sym (laws.ends (P.started x.senders p tt at) 0 none).1 ∙ (laws.starts x.senders p at tt below (let z = ok.senders in omega arith)).fresh))
+    ]
+
+    -- where a sender stands
+    stand : (p : ℕ) (c : Core E) → senders p ≡ Some c → S p ≡ Some (stands_at c.phase)
+    stand p c e = ap (of_some standing_of) e
+
+    least_is : (p : ℕ) (c : Core E) → senders p ≡ Some c → L p ≡ c.least
+    least_is p c e = ap least_of e
+
+    -- at most one sender holds the page
+    one_holder : (p q t u : ℕ) → S p ≡ Some (Holds t) → S q ≡ Some (Holds u) → p ≡ q
+    one_holder p q t u a b =
+        let i = h.tenures.holding p t a in let j = h.tenures.holding q u b in
+        same_Some _ _ (sym i.2 ∙ ap (slice_get owners) (i.0 ∙ sym j.0) ∙ j.2)
+
+    module _ (p : ℕ) (c c' : Core E) (senders' : ℕ → Option (Core E)) (old : senders p ≡ Some c) (new : senders' p ≡ Some c') (beside : Beside p senders senders') where
+      abbrev S' : ℕ → Option (Standing E)
+      S' q = of_some standing_of (senders' q)
+
+      abbrev L' : ℕ → ℕ
+      L' q = least_of (senders' q)
+
+      S-beside : Beside p S S'
+      S-beside q ne = ap (of_some standing_of) (beside q ne)
+
+      L-beside : Beside p L L'
+      L-beside q ne = ap least_of (beside q ne)
+
+      now : S' p ≡ Some (stands_at c'.phase)
+      now = ap (of_some standing_of) new
+
+      L-same : c'.least ≡ c.least → (q : ℕ) → L' q ≡ L q
+      L-same e q = elim (cases_eq q p) [
+        | inl i ↦ ap L' i ∙ ap least_of new ∙ e ∙ sym (ap least_of old) ∙ ap L (sym i)
+        | inr ne ↦ L-beside q ne
+      ]
+
+      S-same : stands_at c'.phase ≡ stands_at c.phase → (q : ℕ) → S' q ≡ S q
+      S-same e q = elim (cases_eq q p) [
+        | inl i ↦ ap S' i ∙ now ∙ ap Some e ∙ sym (ap (of_some standing_of) old) ∙ ap S (sym i)
+        | inr ne ↦ S-beside q ne
+      ]
+
+      parts_from : (words' : ℕ → ℕ) (frames' : List Frame) → ((q : ℕ) (d : Core E) → q ≢ p → senders q ≡ Some d → Part x words' frames' q d) → Part x words' frames' p c' → (q : ℕ) (d : Core E) → senders' q ≡ Some d → Part x words' frames' q d
+      parts_from words' frames' others own q d e = elim (cases_eq q p) [
+        | inl i ↦ subst (λ z. Part x words' frames' z d) (sym i) (subst (Part x words' frames' p) (same_Some _ _ (sym new ∙ ap senders' (sym i) ∙ e)) own)
+        | inr ne ↦ others q d ne (sym (beside q ne) ∙ e)
+      ]
+
+      chosen_from : ((t : ℕ) (e : E) (o : ℕ) → c'.phase ≡ phase.Electing t e → P.output e ≡ Some o → o ≡ p) → (q : ℕ) (d : Core E) (t : ℕ) (e : E) (o : ℕ) → senders' q ≡ Some d → d.phase ≡ phase.Electing t e → P.output e ≡ Some o → o ≡ q
+      chosen_from own q d t e o a b out = elim (cases_eq q p) [
+        | inl i ↦ own t e o (ap (λ z. z.phase) (same_Some _ _ (sym new ∙ ap senders' (sym i) ∙ a)) ∙ b) out ∙ sym i
+        | inr ne ↦ h.chosen q d t e o (sym (beside q ne) ∙ a) b out
+      ]
+
+      chosen_resting : c'.phase ≡ phase.Resting → (q : ℕ) (d : Core E) (t : ℕ) (e : E) (o : ℕ) → senders' q ≡ Some d → d.phase ≡ phase.Electing t e → P.output e ≡ Some o → o ≡ q
+      chosen_resting rests = chosen_from (λ t e o a b. absurd (resting_apart t e (sym rests ∙ a)))
+
+      chosen_holding : (u : ℕ) (page : Page) (k : ℕ) (published : Bool) → c'.phase ≡ phase.Holding u page k published → (q : ℕ) (d : Core E) (t : ℕ) (e : E) (o : ℕ) → senders' q ≡ Some d → d.phase ≡ phase.Electing t e → P.output e ≡ Some o → o ≡ q
+      chosen_holding u page k published holds = chosen_from (λ t e o a b. absurd (holding_apart u page k published t e (sym holds ∙ a)))
+
+      -- the others, where p alone may hold the page
+      others_rest : (t : ℕ) (words' : ℕ → ℕ) (frames' : List Frame) → S p ≡ Some (Holds t) → ((q : ℕ) → q ≢ p → sent q frames' ≡ sent q frames) → (q : ℕ) (d : Core E) → q ≢ p → senders q ≡ Some d → Part x words' frames' q d
+      others_rest t words' frames' holds same q d ne e = Part-rests x words words' frames frames' q d (λ u f. ne (sym (one_holder p q t u holds (stand q d e ∙ ap Some f)))) (same q ne) (h.parts q d e)
+
+      others_agree : (words' : ℕ → ℕ) → Agree (log_at x) x.capacity words words' → words' 0 ≡ words 0 → (q : ℕ) (d : Core E) → q ≢ p → senders q ≡ Some d → Part x words' frames q d
+      others_agree words' agree len q d ne e = Part-agree x words words' frames q d agree len (h.parts q d e)
+
+      -- ── a load of the stage that raises the first tenure it may enter ──
+      pub spends : c'.phase ≡ phase.Resting → c.phase ≡ phase.Resting → c.least ≤ c'.least → Part x words frames p c' → Sending P x words home senders' owners frames
+      spends rests rested more part = record {
+        tenures = tenures.same X.op X.fed P laws x.senders x.rows 2 words (words 1) (is_some home) S L' owners
+            (tenures.raises X.op X.fed P laws x.senders x.rows 2 words (words 1) (is_some home) S L owners h.tenures p L' (stand p c old ∙ ap (λ z. Some (stands_at z)) rested) L-beside
+            (let a = least_is p c old in let b = ap least_of new in omega arith))
+            words (words 1) (is_some home) S' L' owners (λ r a b. refl) refl refl (S-same (ap stands_at (rests ∙ sym rested))) (λ q. refl) refl;
+        log = h.log;
+        owned = h.owned;
+        page_knows = h.page_knows;
+        parts = parts_from words frames (λ q d ne e. h.parts q d e) part;
+        chosen = chosen_resting rests;
+      }
+
+      -- ── a load of the stage that begins a tenure ──
+      pub begins : (t : ℕ) → c.phase ≡ phase.Resting → words 1 ≡ 2 * t → c.least ≤ t → t < x.rows → p < x.senders → c'.phase ≡ phase.Electing t (P.started x.senders p tt (2 + t * P.width x.senders)) → c'.least ≡ c.least → Part x words frames p c' → Sending P x words home senders' owners frames
+      begins t rested is_open enters room below began least part = record {
+        tenures = tenures.same X.op X.fed P laws x.senders x.rows 2 words (words 1) (is_some home) S' L owners
+            (tenures.begins X.op X.fed P laws x.senders x.rows 2 words (words 1) (is_some home) S L owners h.tenures p t below (omega (arith, ok.senders)) (stand p c old ∙ ap (λ z. Some (stands_at z)) rested) is_open
+            (let a = least_is p c old in omega arith) room S' (now ∙ ap (λ z. Some (stands_at z)) began) S-beside)
+            words (words 1) (is_some home) S' L' owners (λ r a b. refl) refl refl (λ q. refl) (L-same least) refl;
+        log = h.log;
+        owned = h.owned;
+        page_knows = h.page_knows;
+        parts = parts_from words frames (λ q d ne e. h.parts q d e) part;
+        chosen = chosen_from (λ u e o a b. absurd (
+            let e_is = same_electing t u (P.started x.senders p tt (2 + t * P.width x.senders)) e (sym began ∙ a) in
+            let bad : None ≡ Some o = sym (unstarted p (2 + t * P.width x.senders) below) ∙ ap P.output e_is ∙ b in
+            let wrong : ⊥ = cc in wrong));
+      }
+
+      -- words of rows and words of the log are apart
+      in_row : (t : ℕ) → t < x.rows → (r : ℕ) → r < 2 + t * P.width x.senders + P.width x.senders → r < log_at x
+      in_row t room r l = let apart = tenures.row_apart t x.rows (P.width x.senders) room in let w = ap (λ z. x.rows * z) width in omega arith
+
+      module _ (t : ℕ) (e : E) (word : ℕ) (o : Op) (words' : ℕ → ℕ) (elects : c.phase ≡ phase.Electing t e) (next : X.op e word ≡ Some o) (step : Changes o words words') where
+        abbrev later : E
+        later = X.fed e (words (register o)) word
+
+        runs : S p ≡ Some (Runs t e)
+        runs = stand p c old ∙ ap (λ z. Some (stands_at z)) elects
+
+        -- its word is one of its row
+        row_bounds : (t < x.rows) × (2 + t * P.width x.senders ≤ register o) × (register o < 2 + t * P.width x.senders + P.width x.senders)
+        row_bounds = tenures.within_its_row X.op X.fed P laws x.senders x.rows 2 words (words 1) (is_some home) S L owners h.tenures p t e word o runs next
+
+        outside : (r : ℕ) → (r < 2) ⊎ (log_at x ≤ r) → words' r ≡ words r
+        outside r c = step.elsewhere r (let b = in_row t row_bounds.0 (register o) row_bounds.2 in let a = row_bounds.1 in elim c [ inl l ↦ omega arith | inr l ↦ omega arith ])
+
+        stepped : Stepped 2 (x.rows * P.width x.senders) o words words'
+        stepped = record { here = step.here; elsewhere = λ r a b ne. step.elsewhere r ne }
+
+        log_agrees : Agree (log_at x) x.capacity words words'
+        log_agrees r a b = outside r (inr a)
+
+        row_log : Logged x.senders x.capacity (log_at x) words' (words' 0) frames
+        row_log = subst (λ z. Logged x.senders x.capacity (log_at x) words' z frames) (sym (outside 0 (inl (omega arith)))) (Logged-agree x.senders x.capacity (log_at x) words (words 0) frames h.log words' (λ r a b. log_agrees r a (let z = h.log.fits in omega arith)))
+
+        knows_row : (page : Page) (u : ℕ) → home ≡ Some page → words' 1 ≡ 2 * u → Knows page frames u (words' 0) × AreEarlier u frames
+        knows_row page u a b = let k = h.page_knows page u a (sym (outside 1 (inl (omega arith))) ∙ b) in (Knows-len page frames u (words 0) (words' 0) (outside 0 (inl (omega arith))) k.0, k.1)
+
+        -- ── a step of its election ──
+        pub elects_on : c'.phase ≡ phase.Electing t later → c'.least ≡ c.least → ((u : ℕ) → P.output later ≡ Some u → u ≡ p) → Part x words' frames p c' → Sending P x words' home senders' owners frames
+        elects_on goes least mine part = record {
+          tenures = tenures.same X.op X.fed P laws x.senders x.rows 2 words' (words 1) (is_some home) S' L owners
+              (tenures.elects X.op X.fed P laws x.senders x.rows 2 words (words 1) (is_some home) S L owners h.tenures p t e word o runs next words' stepped S' (now ∙ ap (λ z. Some (stands_at z)) goes) S-beside)
+              words' (words' 1) (is_some home) S' L' owners (λ r a b. refl) (outside 1 (inl (omega arith))) refl (λ q. refl) (L-same least) refl;
+          log = row_log;
+          owned = h.owned;
+          page_knows = knows_row;
+          parts = parts_from words' frames (others_agree words' log_agrees (outside 0 (inl (omega arith)))) part;
+          chosen = chosen_from (λ u f v a b. mine v (ap P.output (same_electing t u later f (sym goes ∙ a)) ∙ b));
+        }
+
+        -- ── its last step, which chooses another ──
+        pub loses : (u : ℕ) → P.output later ≡ Some u → u ≢ p → c'.phase ≡ phase.Resting → c'.least ≡ t + 1 → Part x words' frames p c' → Sending P x words' home senders' owners frames
+        loses u out other rests least part =
+            let mid : ℕ → Option (Standing E) = put p (Some (Runs t later)) S in
+            let at_mid = tenures.elects X.op X.fed P laws x.senders x.rows 2 words (words 1) (is_some home) S L owners h.tenures p t e word o runs next words' stepped mid (put_here p (Some (Runs t later)) S) (put_beside p (Some (Runs t later)) S) in
+            record {
+              tenures = tenures.same X.op X.fed P laws x.senders x.rows 2 words' (words 1) (is_some home) S' L' owners
+                  (tenures.loses X.op X.fed P laws x.senders x.rows 2 words' (words 1) (is_some home) mid L owners at_mid p t u later (put_here p (Some (Runs t later)) S) out other S' (now ∙ ap (λ z. Some (stands_at z)) rests)
+                  (λ q ne. S-beside q ne ∙ sym (put_beside p (Some (Runs t later)) S q ne)) L' (ap least_of new ∙ least) L-beside)
+                  words' (words' 1) (is_some home) S' L' owners (λ r a b. refl) (outside 1 (inl (omega arith))) refl (λ q. refl) (λ q. refl) refl;
+              log = row_log;
+              owned = h.owned;
+              page_knows = knows_row;
+              parts = parts_from words' frames (others_agree words' log_agrees (outside 0 (inl (omega arith)))) part;
+              chosen = chosen_resting rests;
+            }
+
+      -- ── it takes the page ──
+      module _ (t : ℕ) (e : E) (page : Page) (words' : ℕ → ℕ) (elects : c.phase ≡ phase.Electing t e) (out : P.output e ≡ Some p) (at_home : home ≡ Some page)
+          (stage : words' 1 ≡ 2 * t + 1) (elsewhere : (r : ℕ) → r ≢ 1 → words' r ≡ words r) (goes : c' ≡ record c { phase = phase.Holding t page 0 false }) where
+        elected : S p ≡ Some (Runs t e)
+        elected = stand p c old ∙ ap (λ z. Some (stands_at z)) elects
+
+        opened : words 1 ≡ 2 * t
+        opened = (tenures.finds_home X.op X.fed P laws x.senders x.rows 2 words (words 1) (is_some home) S L owners h.tenures p t e elected out).0
+
+        part : Part x words frames p c
+        part = h.parts p c old
+
+        fits_then : HasBegun c.queue × IsWriting words' frames (record c { phase = phase.Holding t page 0 false }) t page 0
+        fits_then =
+            let f = subst (Fits words frames c) elects part.fits in
+            let k = h.page_knows page t at_home opened in (
+              f.0,
+              record {
+                base = f.1;
+                page_knows = Knows-len page frames t (words 0) (words' 0) (elsewhere 0 (omega arith)) k.0;
+                earlier = k.1;
+                stored_below = omega arith;
+                allowed = λ z. absurd (omega arith);
+                words_are = refl;
+              },
+            )
+
+        stage_past : (r : ℕ) → 2 ≤ r → words' r ≡ words r
+        stage_past r a = elsewhere r (omega arith)
+
+        log_past : (r : ℕ) → log_at x ≤ r → words' r ≡ words r
+        log_past r a = elsewhere r (omega arith)
+
+        pub takes : Sending P x words' None senders' (owners ++ p ∷ []) frames
+        takes = record {
+          tenures = tenures.same X.op X.fed P laws x.senders x.rows 2 words (2 * t + 1) false S' L (owners ++ p ∷ [])
+              (tenures.takes X.op X.fed P laws x.senders x.rows 2 words (words 1) (is_some home) S L owners h.tenures p t e elected out S' (now ∙ ap (λ z. Some (stands_at z.phase)) goes) S-beside)
+              words' (words' 1) false S' L' (owners ++ p ∷ []) (λ r a b. stage_past r a) stage refl (λ q. refl) (L-same (ap (λ z. z.least) goes)) refl;
+          log = subst (λ z. Logged x.senders x.capacity (log_at x) words' z frames) (sym (elsewhere 0 (omega arith))) (Logged-agree x.senders x.capacity (log_at x) words (words 0) frames h.log words' (λ r a b. log_past r a));
+          owned = AreOwned-push owners p frames h.owned;
+          page_knows = λ g u a b. absurd cc;
+          parts = parts_from words' frames (others_agree words' (λ r a b. log_past r a) (elsewhere 0 (omega arith)))
+              (subst (Part x words' frames p) (sym goes) (part_of x words words' frames frames p c (phase.Holding t page 0 false) part fits_then));
+          chosen = chosen_holding t page 0 false (ap (λ z. z.phase) goes);
+        }
+
+      -- ── what a holder does ──
+      module _ (t : ℕ) (page : Page) (stored : ℕ) (published : Bool) (holds : c.phase ≡ phase.Holding t page stored published) where
+        own_part : Part x words frames p c
+        own_part = h.parts p c old
+
+        is_holder : S p ≡ Some (Holds t)
+        is_holder = stand p c old ∙ ap (λ z. Some (stands_at z)) holds
+
+        held : (t ≡ h.tenures.ended) × (words 1 ≡ 2 * t + 1) × (slice_get owners t ≡ Some p) × (L p ≤ t)
+        held = h.tenures.holding p t is_holder
+
+        -- ── it stores the next word of its frame ──
+        module _ (words' : ℕ → ℕ) (none_yet : published ≡ false) (is_open : page.ended ≡ false) (room : page.words + frame_len c ≤ c.layout.capacity) (more : stored < frame_len c)
+            (word : words' (log_at c.layout + page.words + stored) ≡ slice_index (frame_words (frame_of c.queue t)) stored) (elsewhere : (r : ℕ) → r ≢ log_at c.layout + page.words + stored → words' r ≡ words r)
+            (goes : c' ≡ record c { phase = phase.Holding t page (stored + 1) false }) where
+          writing : HasBegun c.queue × IsWriting words frames c t page stored
+          writing = subst (λ z. Fits words frames c (phase.Holding t page stored z)) none_yet (subst (Fits words frames c) holds own_part.fits)
+
+          place : log_at c.layout + page.words + stored ≡ log_at x + words 0 + stored
+          place = ap (λ z. log_at z + page.words + stored) own_part.layout ∙ ap (λ z. log_at x + z + stored) writing.1.page_knows.words
+
+          past : (r : ℕ) → r < log_at x + words 0 + stored → words' r ≡ words r
+          past r l = elsewhere r (let e = place in omega arith)
+
+          len_same : words' 0 ≡ words 0
+          len_same = past 0 (omega arith)
+
+          stage_same : words' 1 ≡ words 1
+          stage_same = past 1 (omega arith)
+
+          one_more : IsWriting words' frames (record c { phase = phase.Holding t page (stored + 1) false }) t page (stored + 1)
+          one_more = let w = writing.1 in record {
+            base = w.base;
+            page_knows = Knows-len page frames t (words 0) (words' 0) len_same w.page_knows;
+            earlier = w.earlier;
+            stored_below = omega arith;
+            allowed = λ z. (is_open, room);
+            words_are =
+                let at = log_at c.layout + words' 0 in
+                let same_at : log_at c.layout + words' 0 ≡ log_at x + words 0 = ap (λ z. log_at c.layout + z) len_same ∙ ap (λ z. log_at z + words 0) own_part.layout in
+                let before : read words' (log_at c.layout + words' 0) stored ≡ take stored (frame_words (frame_of c.queue t)) =
+                read-agree words words' (log_at c.layout + words' 0) stored (λ r a b. past r (omega arith)) ∙ ap (λ z. read words (log_at c.layout + z) stored) len_same ∙ w.words_are in
+                let last : words' (log_at c.layout + words' 0 + stored) ≡ slice_index (frame_words (frame_of c.queue t)) stored = ap words' (let e = place in omega arith) ∙ word in
+                ap (read words' (log_at c.layout + words' 0)) (let e : stored + 1 ≡ suc stored = omega arith in e) ∙ ap (λ z. z ++ words' (log_at c.layout + words' 0 + stored) ∷ []) before ∙ ap (λ z. take stored (frame_words (frame_of c.queue t)) ++ z ∷ []) last
+                ∙ sym (take_more (frame_words (frame_of c.queue t)) stored 0 more);
+          }
+
+          pub writes : Sending P x words' home senders' owners frames
+          writes = record {
+            tenures = tenures.same X.op X.fed P laws x.senders x.rows 2 words (words 1) (is_some home) S L owners h.tenures words' (words' 1) (is_some home) S' L' owners
+                (λ r a b. past r (let w = ap (λ z. x.rows * z) width in omega arith)) stage_same refl (S-same (ap (λ z. stands_at z.phase) goes ∙ sym (ap stands_at holds))) (L-same (ap (λ z. z.least) goes)) refl;
+            log = subst (λ z. Logged x.senders x.capacity (log_at x) words' z frames) (sym len_same) (Logged-agree x.senders x.capacity (log_at x) words (words 0) frames h.log words' (λ r a b. past r (omega arith)));
+            owned = h.owned;
+            page_knows = λ g u a b. let k = h.page_knows g u a (sym stage_same ∙ b) in (Knows-len g frames u (words 0) (words' 0) len_same k.0, k.1);
+            parts = parts_from words' frames (others_rest t words' frames is_holder (λ q ne. refl)) (subst (Part x words' frames p) (sym goes) (part_of x words words' frames frames p c (phase.Holding t page (stored + 1) false) own_part (writing.0, one_more)));
+            chosen = chosen_holding t page (stored + 1) false (ap (λ z. z.phase) goes);
+          }
+
+        -- ── it stores the length ──
+        module _ (words' : ℕ → ℕ) (none_yet : published ≡ false) (is_open : page.ended ≡ false) (room : page.words + frame_len c ≤ c.layout.capacity) (all : frame_len c ≤ stored)
+            (word : words' 0 ≡ page.words + frame_len c) (elsewhere : (r : ℕ) → r ≢ 0 → words' r ≡ words r)
+            (goes : c' ≡ record c { phase = phase.Holding t page stored true }) where
+          abbrev f : Frame
+          f = frame_of c.queue t
+
+          written : HasBegun c.queue × IsWriting words frames c t page stored
+          written = subst (λ z. Fits words frames c (phase.Holding t page stored z)) none_yet (subst (Fits words frames c) holds own_part.fits)
+
+          in_rows : t < x.rows
+          in_rows = (h.tenures.owned t p held.2).0
+
+          sender_is : c.queue.sender.0 ≡ p
+          sender_is = own_part.sender
+
+          still_open : has_end frames ≡ false
+          still_open = sym written.1.page_knows.ended ∙ is_open
+
+          is_frame : IsFrame x.senders f
+          is_frame = record {
+            tenure = (let a = in_rows in let b = ok.rows in omega arith);
+            owner = (let a = sender_is in let b = own_part.below in omega arith);
+            owner_bits = (let a = sender_is in let b = own_part.below in let d = ok.senders in omega arith);
+            body = body_is c.queue own_part.queue written.0.something;
+          }
+
+          all_stored : stored ≡ frame_len c
+          all_stored = let a = written.1.stored_below in omega arith
+
+          whole : read words (log_at x + words 0) (length (frame_words f)) ≡ frame_words f
+          whole =
+              ap (λ z. read words (log_at z + words 0) (length (frame_words f))) (sym own_part.layout) ∙ ap (read words (log_at c.layout + words 0)) (sym all_stored) ∙ written.1.words_are
+              ∙ ap (λ z. take z (frame_words f)) all_stored ∙ take_all (frame_words f)
+
+          len_now : words' 0 ≡ words 0 + length (frame_words f)
+          len_now = word ∙ ap (λ z. z + frame_len c) written.1.page_knows.words
+
+          counts : AreCounted (sent f.owner.0 frames) (items_of f)
+          counts = subst (λ z. AreCounted z (items_of f)) (written.1.base ∙ ap (λ z. sent z frames) (own_part.me ∙ sym sender_is)) (counted_frame c.queue t)
+
+          pub publishes : Sending P x words' home senders' owners (frames ++ f ∷ [])
+          publishes = record {
+            tenures = tenures.same X.op X.fed P laws x.senders x.rows 2 words (words 1) (is_some home) S L owners h.tenures words' (words' 1) (is_some home) S' L' owners
+                (λ r a b. elsewhere r (omega arith)) (elsewhere 1 (omega arith)) refl (S-same (ap (λ z. stands_at z.phase) goes ∙ sym (ap stands_at holds))) (L-same (ap (λ z. z.least) goes)) refl;
+            log = subst (λ z. Logged x.senders x.capacity (log_at x) words' z (frames ++ f ∷ [])) (sym len_now)
+                (Logged-agree x.senders x.capacity (log_at x) words (words 0 + length (frame_words f)) (frames ++ f ∷ [])
+                (Logged-publish x.senders x.capacity (log_at x) words (words 0) frames h.log f is_frame still_open written.1.earlier counts whole
+                (let a = written.1.page_knows.words in let b = ap (λ (z : Layout). z.capacity) own_part.layout in omega arith))
+                words' (λ r a b. elsewhere r (omega arith)));
+            owned = AreOwned-append owners frames f h.owned (held.2 ∙ ap Some (sym sender_is));
+            page_knows = λ g u a b. absurd (let y = elsewhere 1 (omega arith) in let z = held.1 in omega arith);
+            parts = parts_from words' (frames ++ f ∷ []) (others_rest t words' (frames ++ f ∷ []) is_holder (λ q ne. sent-append_other q frames f (λ e. ne (e ∙ sender_is))))
+                (subst (Part x words' (frames ++ f ∷ []) p) (sym goes) (part_of x words words' frames (frames ++ f ∷ []) p c (phase.Holding t page stored true) own_part (
+                  written.0,
+                  record {
+                    front = frames;
+                    frames_are = refl;
+                    base = written.1.base;
+                    page_knows = Knows-len page frames t (words 0) page.words written.1.page_knows.words written.1.page_knows;
+                    earlier = written.1.earlier;
+                    is_open = is_open;
+                    len_is = word;
+                  },
+                )));
+            chosen = chosen_holding t page stored true (ap (λ z. z.phase) goes);
+          }
+
+        -- ── it gives the page back ──
+        module _ (leaving : Leaving) (words' : ℕ → ℕ) (stage : words' 1 ≡ 2 * t + 2) (elsewhere : (r : ℕ) → r ≢ 1 → words' r ≡ words r) (goes : c' ≡ rested c leaving t)
+            (base_now : (queue_after leaving c.queue).first ≡ sent c.me frames) (queue_now : IsKept (queue_after leaving c.queue)) (knows_now : Knows (page_after c t page leaving) frames (t + 1) (words 0)) (earlier_now : AreEarlier (t + 1) frames) where
+          rests_now : Fits words' frames (rested c leaving t) phase.Resting
+          rests_now = (not_busy leaving c.queue, base_now)
+
+          pub gives_back : Sending P x words' (Some (page_after c t page leaving)) senders' owners frames
+          gives_back = record {
+            tenures = tenures.same X.op X.fed P laws x.senders x.rows 2 words (2 * t + 2) true S' L' owners
+                (tenures.gives X.op X.fed P laws x.senders x.rows 2 words (words 1) (is_some home) S L owners h.tenures p t is_holder S' (now ∙ ap (λ z. Some (stands_at z.phase)) goes) S-beside L' (ap least_of new ∙ ap (λ z. z.least) goes) L-beside)
+                words' (words' 1) true S' L' owners (λ r a b. elsewhere r (omega arith)) stage refl (λ q. refl) (λ q. refl) refl;
+            log = subst (λ z. Logged x.senders x.capacity (log_at x) words' z frames) (sym (elsewhere 0 (omega arith))) (Logged-agree x.senders x.capacity (log_at x) words (words 0) frames h.log words' (λ r a b. elsewhere r (omega arith)));
+            owned = h.owned;
+            page_knows = λ g u a b.
+                let g_is : page_after c t page leaving ≡ g = same_Some _ _ a in
+                let u_is : t + 1 ≡ u = omega arith in (
+                  subst (λ z. Knows z frames u (words' 0)) g_is (subst (λ z. Knows (page_after c t page leaving) frames z (words' 0)) u_is (Knows-len (page_after c t page leaving) frames (t + 1) (words 0) (words' 0) (elsewhere 0 (omega arith)) knows_now)),
+                  subst (λ z. AreEarlier z frames) u_is earlier_now,
+                );
+            parts = parts_from words' frames (others_agree words' (λ r a b. elsewhere r (omega arith)) (elsewhere 0 (omega arith))) (subst (Part x words' frames p) (sym goes) record {
+              layout = own_part.layout;
+              me = own_part.me;
+              below = own_part.below;
+              sender = ap (λ (z : SenderNo). z.0) (sender_after leaving c.queue) ∙ own_part.sender;
+              queue = queue_now;
+              fits = rests_now;
+            });
+            chosen = chosen_resting (ap (λ z. z.phase) goes);
+          }
+
+        -- what was not published changes nothing
+        module _ (words' : ℕ → ℕ) (stage : words' 1 ≡ 2 * t + 2) (elsewhere : (r : ℕ) → r ≢ 1 → words' r ≡ words r) where
+          pub gives_unsent : (leaving : Leaving) → IsUnsent leaving → published ≡ false → c' ≡ rested c leaving t → Sending P x words' (Some (page_after c t page leaving)) senders' owners frames
+          gives_unsent leaving unsent none_yet goes =
+              let w = subst (λ z. Fits words frames c (phase.Holding t page stored z)) none_yet (subst (Fits words frames c) holds own_part.fits) in
+              gives_back leaving words' stage elsewhere goes (unsent_base leaving unsent c.queue ∙ w.1.base) (unsent_queue leaving unsent c.queue own_part.queue) (unsent_knows leaving unsent c t page frames (words 0) w.1.page_knows) (AreEarlier-later t (t + 1) frames (omega arith) w.1.earlier)
+
+          pub gives_sent : published ≡ true → c' ≡ rested c Sent t → Sending P x words' (Some (page_after c t page Sent)) senders' owners frames
+          gives_sent sent_yet goes =
+              let w = subst (λ z. Fits words frames c (phase.Holding t page stored z)) sent_yet (subst (Fits words frames c) holds own_part.fits) in
+              let f = frame_of c.queue t in
+              let me_is : c.queue.sender.0 ≡ c.me = own_part.sender ∙ sym own_part.me in
+              let base_now : next_of c.queue ≡ sent c.me frames =
+              ap (λ z. z + length c.queue.messages) w.1.base ∙ ap (λ z. sent c.me w.1.front + z) (sym (length-items c.queue t own_part.queue))
+              ∙ ap (λ z. sent z w.1.front + length (items_of f)) (sym me_is) ∙ sym (sent-append_owner w.1.front f) ∙ ap (λ z. sent z (w.1.front ++ f ∷ [])) me_is ∙ ap (sent c.me) (sym w.1.frames_are) in
+              let k = w.1.page_knows in
+              let small : c.me < 8 = let a = own_part.me in let b = own_part.below in let d = ok.senders in omega arith in
+              gives_back Sent words' stage elsewhere goes base_now
+              record { few = omega arith; each = none_short; numbers = (let a = own_part.queue.numbers in omega arith); alone = λ z. refl; owner_bits = own_part.queue.owner_bits }
+              record {
+                entries = length-set page.next c.me (next_of c.queue) ∙ k.entries;
+                next = λ s l. elim (cases_eq s c.me) [
+                  | inl i ↦ ap (slice_index (slice_set page.next c.me (next_of c.queue))) i ∙ get_or-set_same page.next c.me (next_of c.queue) 0 (let a = k.entries in omega arith) ∙ base_now ∙ ap (λ z. sent z frames) (sym i)
+                  | inr ne ↦ get_or-set_other page.next c.me s (next_of c.queue) 0 ne ∙ k.next s l ∙ sym (sent-append_other s w.1.front f (λ e. ne (e ∙ me_is))) ∙ ap (sent s) (sym w.1.frames_are)
+                ];
+                ended = sym (ends-body c.queue) ∙ sym (has_end-append w.1.front f (sym k.ended ∙ w.1.is_open)) ∙ ap has_end (sym w.1.frames_are);
+                tenures = refl;
+                words = sym w.1.len_is;
+              }
+              (subst (AreEarlier (t + 1)) (sym w.1.frames_are) (AreEarlier-append (t + 1) w.1.front f (AreEarlier-later t (t + 1) w.1.front (omega arith) w.1.earlier) (omega arith)))

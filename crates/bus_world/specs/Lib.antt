@@ -1,0 +1,15 @@
+pub mod Tenures
+pub mod TenuresLaws
+pub mod Log
+pub mod LogLaws
+pub mod Bus
+pub mod QueueLaws
+pub mod BusLaws
+pub mod Turning
+pub mod TurningLaws
+pub mod Headline
+pub mod Receiving
+pub mod ReceivingLaws
+pub mod World
+pub mod PutLaws
+pub mod WorldLaws

@@ -1,0 +1,40 @@
+-- The log that words hold below the length, and the page that knows of it.
+use Rattle.std.specs.Prelude.{◌≡◌, ℕ, zero, suc, ◌+◌, ◌<◌, ◌≤◌, List, [], ◌∷◌, ◌++◌, length, slice_index}
+use Rattle.bus_batch.specs.declared.messages.Item.{Item}
+use Rattle.bus_batch.specs.Frames.{Frame, AreFrames, log_words, order_of, has_end}
+use Rattle.bus_deliverylog.specs.Orders.{of_sender}
+use Rattle.bus_tenure.specs.declared.pages.Page.{Page}
+
+-- so many words of a table, from a place on
+abbrev pub read : (ℕ → ℕ) → ℕ → ℕ → List ℕ
+read words at zero = []
+read words at (suc k) = read words at k ++ words (at + k) ∷ []
+
+-- how many items of a sender frames have
+abbrev pub sent : ℕ → List Frame → ℕ
+sent s frames = length (of_sender s (order_of frames))
+
+-- items whose numbers count up from a first one, none skipped and none repeated
+abbrev pub AreCounted : ℕ → List Item → Type 0
+AreCounted first [] = Unit {0}
+AreCounted first (i ∷ items) = (i.number ≡ first) × AreCounted (first + 1) items
+
+-- frames of tenures below this one
+abbrev pub AreEarlier : ℕ → List Frame → Type 0
+AreEarlier tenure [] = Unit {0}
+AreEarlier tenure (f ∷ frames) = (f.tenure < tenure) × AreEarlier tenure frames
+
+-- the words below the length are frames, and each sender's numbers count from 0
+pub record Logged (n capacity at : ℕ) (words : ℕ → ℕ) (len : ℕ) (frames : List Frame) : Type 0 where
+  pub lawful : AreFrames n frames
+  pub words_are : read words at len ≡ log_words frames
+  pub fits : len ≤ capacity
+  pub counted : (s : ℕ) → AreCounted 0 (of_sender s (order_of frames))
+
+-- the page knows how many items of each sender the frames have, whether they have ended, the tenures and the length
+pub record Knows (page : Page) (frames : List Frame) (past len : ℕ) : Type 0 where
+  pub entries : length page.next ≡ 8
+  pub next : (s : ℕ) → s < 8 → slice_index page.next s ≡ sent s frames
+  pub ended : page.ended ≡ has_end frames
+  pub tenures : page.tenures ≡ past
+  pub words : page.words ≡ len

@@ -1,0 +1,140 @@
+-- A turn of a sender changes what nobody has put: messages go from a batch into the order, and nowhere else.
+use Rattle.std.proofs.Common.{◌≡◌, ℕ, ◌+◌, ◌/◌, Bool, true, false, cond, ◌&&◌, ◌==◌, nat_lt, nat_le, Option, Some, None, inl, inr, List, [], ◌∷◌, ◌++◌, filter, map, is_some, slice_get, slice_index, slice_set, arith, refl, sym, ◌∙◌, ap}
+use Rattle.std.proofs.lemmas.Bool.{cases_eq}
+use Rattle.std.proofs.lemmas.Grind.{common_steps}
+use Rattle.std.proofs.lemmas.List.{map-append}
+use Rattle.std.proofs.lemmas.Option.{slice_get_within}
+use Rattle.bus_register.specs.declared.registers.SenderNo.{SenderNo}
+use Rattle.bus_register.specs.TableLaws.{get_set_same, get_set_other}
+use Rattle.bus_batch.specs.declared.batches.Phase.{Phase as BatchPhase}
+use Rattle.bus_batch.specs.declared.batches.Phase.TheVariants.{Open, Closing, Closed}
+use Rattle.bus_batch.specs.declared.messages.Item.{Item}
+use Rattle.bus_batch.specs.Messages.{numbered}
+use Rattle.bus_batch.specs.Batches.{Pending, IsKept, frame_of, body_of}
+use Rattle.bus_batch.specs.Frames.{Frame, order_of, items_of, body_items, item_of}
+use Rattle.bus_tenure.specs.Core.{Core, Election, frame_len, has_room, is_empty, is_closing, is_closed, Situation, IsClosed, IsIdle, IsSpent, LooksAtStage, Elects, TakesPage, StoresWord, StoresLength, GivesBack, situation_at, situation_of, resting, electing, holding, begun, saw_stage, waits, elected, rested}
+use Rattle.bus_tenure.specs.declared.pages.Page.{Page}
+use Rattle.bus_tenure.specs.declared.phases.Leaving.{Leaving}
+use Rattle.bus_tenure.specs.declared.phases.Leaving.TheVariants.{Sent, FoundEnd, NoRoom}
+use Rattle.bus_tenure.specs.declared.phases.Phase.{Phase}
+use Rattle.bus_tenure.specs.declared.phases.Phase.TheVariants as phase
+use Rattle.bus_deliverylog.specs.Orders.{of_sender}
+use Rattle.bus_world.specs.LogLaws.{of_sender-append, owned_items, others_items}
+use Rattle.bus_world.specs.Turning.{Side, found, frames_after, laid, turned}
+use Rattle.bus_world.specs.World.{waiting_at, waiting_of}
+
+-- the messages of a frame are those of the batch
+messages_numbered : (owner : SenderNo) (base : ℕ) (ms : List (List ℕ)) → map (λ (i : Item). i.message) (map (item_of owner) (numbered base ms)) ≡ ms
+messages_numbered owner base [] = refl
+messages_numbered owner base (m ∷ ms) = ap (λ z. m ∷ z) (messages_numbered owner (base + 1) ms)
+
+messages_at : (ph : BatchPhase) (q : Pending) → q.phase ≡ ph → IsKept q → map (λ (i : Item). i.message) (body_items q.sender (body_of ph q.first q.messages)) ≡ q.messages
+messages_at Open q e is = messages_numbered q.sender q.first q.messages
+messages_at Closing q e is = sym (is.alone e)
+messages_at Closed q e is = messages_numbered q.sender q.first q.messages
+
+messages_of_frame : (q : Pending) (t : ℕ) → IsKept q → map (λ (i : Item). i.message) (items_of (frame_of q t)) ≡ q.messages
+messages_of_frame q t is = messages_at q.phase q refl is
+
+module _ {E : Type 0} where
+  waits_same : (b : Bool) (c d : Core E) (ms : List (List ℕ)) → waiting_of (Some c) ≡ ms → waiting_of (Some d) ≡ ms → waiting_of (Some (cond b c d)) ≡ ms
+  waits_same true c d ms e f = e
+  waits_same false c d ms e f = f
+
+  elected_waits : (c : Core E) (t : ℕ) (e : E) (o : Option ℕ) → waiting_of (Some (elected c t e o)) ≡ c.queue.messages
+  elected_waits c t e None = refl
+  elected_waits c t e (Some o) = waits_same (o == c.me) (record c { phase = phase.Electing t e }) (record c { queue = record c.queue { busy = false }; least = t + 1; phase = phase.Resting }) c.queue.messages refl refl
+
+  laid_waits : (c : Core E) (t : ℕ) (home : Option Page) → waiting_of (Some (laid c t home)) ≡ c.queue.messages
+  laid_waits c t None = refl
+  laid_waits c t (Some page) = refl
+
+module _ {E : Type 0} (X : Election E) (side : Side E) (frames : List Frame) (p : ℕ) (c : Core E) (old : slice_get side.senders p ≡ Some c) (kept : IsKept c.queue) (sender : c.queue.sender.0 ≡ p) (word : ℕ) where
+  abbrev sent_of : List Frame → ℕ → List (List ℕ)
+  sent_of fs q = map (λ (i : Item). i.message) (of_sender q (order_of fs))
+
+  abbrev Puts : Situation E → Type 0
+  Puts s = (q : ℕ) → sent_of (frames_after c s frames) q ++ waiting_of (slice_get (turned X side p c s word).senders q) ≡ sent_of frames q ++ waiting_of (slice_get side.senders q)
+
+  -- where the order stays and the batch keeps its messages
+  stays : (c' : Core E) → waiting_of (Some c') ≡ waiting_of (Some c) → (q : ℕ) → sent_of frames q ++ waiting_of (slice_get (slice_set side.senders p c') q) ≡ sent_of frames q ++ waiting_of (slice_get side.senders q)
+  stays c' e q = ap (λ z. sent_of frames q ++ z) (elim (cases_eq q p) [
+    | inl i ↦ ap waiting_of (ap (slice_get (slice_set side.senders p c')) i ∙ get_set_same side.senders p c' (slice_get_within side.senders p c old)) ∙ e ∙ ap waiting_of (sym old ∙ ap (slice_get side.senders) (sym i))
+    | inr ne ↦ ap waiting_of (get_set_other side.senders p c' q ne)
+  ])
+
+  module _ (rests : c.phase ≡ phase.Resting) where
+    resting_waits : waiting_of (Some c) ≡ c.queue.messages
+    resting_waits = ap (waiting_at c) rests
+
+    looks_puts : Puts LooksAtStage
+    looks_puts = stays (saw_stage X c (slice_index side.words 1))
+        (waits_same (waits c (slice_index side.words 1)) c (cond (nat_le c.layout.rows (slice_index side.words 1 / 2)) (record c { least = slice_index side.words 1 / 2 }) (begun X c (slice_index side.words 1 / 2))) c.queue.messages resting_waits
+        (waits_same (nat_le c.layout.rows (slice_index side.words 1 / 2)) (record c { least = slice_index side.words 1 / 2 }) (begun X c (slice_index side.words 1 / 2)) c.queue.messages
+        (ap (waiting_at (record c { least = slice_index side.words 1 / 2 })) rests) refl) ∙ sym resting_waits)
+
+    pick : (b : Bool) (s u : Situation E) → Puts s → Puts u → Puts (cond b s u)
+    pick true s u e f = e
+    pick false s u e f = f
+
+    rest_puts : Puts (resting c)
+    rest_puts = pick (is_closed c.queue.phase) IsClosed _ (stays c refl) (pick (is_empty c.queue.messages && cond (is_closing c.queue.phase) false true) IsIdle _ (stays c refl) (pick (nat_le c.layout.rows c.least) IsSpent LooksAtStage (stays c refl) looks_puts))
+
+  module _ (t : ℕ) (e : E) (elects : c.phase ≡ phase.Electing t e) where
+    electing_waits : waiting_of (Some c) ≡ c.queue.messages
+    electing_waits = ap (waiting_at c) elects
+
+    elect_puts : Puts (electing X t e)
+    elect_puts = pick' (is_some (X.owner e))
+      where
+        pick' : (b : Bool) → Puts (cond b (TakesPage t) (Elects t e))
+        pick' true = stays (laid c t side.home) (laid_waits c t side.home ∙ sym electing_waits)
+        pick' false = stays (elected c t (X.fed e (found side.words (X.op e word)) word) (X.owner (X.fed e (found side.words (X.op e word)) word))) (elected_waits c t (X.fed e (found side.words (X.op e word)) word) (X.owner (X.fed e (found side.words (X.op e word)) word)) ∙ sym electing_waits)
+
+  module _ (t : ℕ) (page : Page) (stored : ℕ) where
+    -- the frame goes into the order, and its messages out of what waits
+    publish_puts : c.phase ≡ phase.Holding t page stored false → Puts (StoresLength t page stored)
+    publish_puts holds q = elim (cases_eq q p) [
+      | inl i ↦
+          let c' = record c { phase = phase.Holding t page stored true } in
+          let now : waiting_of (slice_get (slice_set side.senders p c') q) ≡ [] = ap waiting_of (ap (slice_get (slice_set side.senders p c')) i ∙ get_set_same side.senders p c' (slice_get_within side.senders p c old)) in
+          let before : waiting_of (slice_get side.senders q) ≡ c.queue.messages = ap waiting_of (ap (slice_get side.senders) i ∙ old) ∙ ap (waiting_at c) holds in
+          let mine : of_sender q (order_of (frames ++ frame_of c.queue t ∷ [])) ≡ of_sender q (order_of frames) ++ items_of (frame_of c.queue t) =
+          of_sender-append q frames (frame_of c.queue t) ∙ ap (λ z. of_sender q (order_of frames) ++ filter (λ (x : Item). x.sender.0 == z) (items_of (frame_of c.queue t))) (i ∙ sym sender) ∙ ap (λ z. of_sender q (order_of frames) ++ z) (owned_items (frame_of c.queue t)) in
+          ap (λ z. sent_of (frames ++ frame_of c.queue t ∷ []) q ++ z) now ∙ no_more (sent_of (frames ++ frame_of c.queue t ∷ []) q) ∙ ap (map (λ (x : Item). x.message)) mine
+          ∙ map-append (λ (x : Item). x.message) (of_sender q (order_of frames)) (items_of (frame_of c.queue t)) ∙ ap (λ z. sent_of frames q ++ z) (messages_of_frame c.queue t kept ∙ sym before)
+      | inr ne ↦
+          let c' = record c { phase = phase.Holding t page stored true } in
+          ap (λ z. sent_of (frames ++ frame_of c.queue t ∷ []) q ++ z) (ap waiting_of (get_set_other side.senders p c' q ne))
+          ∙ ap (λ z. map (λ (x : Item). x.message) z ++ waiting_of (slice_get side.senders q)) (of_sender-append q frames (frame_of c.queue t) ∙ ap (λ z. of_sender q (order_of frames) ++ z) (others_items q (frame_of c.queue t) (λ i. ne (i ∙ sender))) ∙ no_items (of_sender q (order_of frames)))
+    ] where
+      no_more : (xs : List (List ℕ)) → xs ++ [] ≡ xs
+      no_more xs = grind (arith, common_steps)
+
+      no_items : (xs : List Item) → xs ++ [] ≡ xs
+      no_items xs = grind (arith, common_steps)
+
+    hold_puts : (published : Bool) → c.phase ≡ phase.Holding t page stored published → Puts (holding c t page stored published)
+    hold_puts true holds = stays (rested c Sent t) (sym (ap (waiting_at c) holds))
+    hold_puts false holds =
+        let waits_now : waiting_of (Some c) ≡ c.queue.messages = ap (waiting_at c) holds in
+        choose page.ended (GivesBack t page FoundEnd) _ (stays (rested c FoundEnd t) (sym waits_now))
+        (choose (has_room c page) (cond (nat_lt stored (frame_len c)) (StoresWord t page stored) (StoresLength t page stored)) (GivesBack t page NoRoom)
+        (choose (nat_lt stored (frame_len c)) (StoresWord t page stored) (StoresLength t page stored) (stays (record c { phase = phase.Holding t page (stored + 1) false }) (sym waits_now)) (publish_puts holds))
+        (stays (rested c NoRoom t) (sym waits_now)))
+      where
+        choose : (b : Bool) (s u : Situation E) → Puts s → Puts u → Puts (cond b s u)
+        choose true s u e f = e
+        choose false s u e f = f
+
+  -- between events no page is on its way home
+  module _ (at_rest : (t : ℕ) (leaving : Leaving) → c.phase ≡ phase.Giving t leaving → ⊥) where
+    puts_at : (ph : Phase E) → c.phase ≡ ph → Puts (situation_at X c ph)
+    puts_at phase.Resting e = rest_puts e
+    puts_at (phase.Electing t u) e = elect_puts t u e
+    puts_at (phase.Taken t) e = stays c refl
+    puts_at (phase.Holding t page stored published) e = hold_puts t page stored published e
+    puts_at (phase.Giving t leaving) e = absurd (at_rest t leaving e)
+
+    pub turn_puts : Puts (situation_of X c)
+    turn_puts = puts_at c.phase refl

@@ -1,0 +1,185 @@
+-- The bus as a machine that plays events, and what it always keeps.
+use Rattle.std.specs.Prelude.{◌≡◌, ◌≢◌, ℕ, ◌+◌, ◌<◌, Bool, true, false, ◌&&◌, Option, Some, None, List, [], ◌∷◌, ◌++◌, length, take, map, nat_lt, nat_le, slice_get, slice_index, slice_set, All, if◌then◌else◌, ◌==◌}
+use Rattle.bus_register.specs.Protocol.{Protocol, inputs, outputs}
+use Rattle.bus_batch.specs.declared.batches.Phase.{Phase}
+use Rattle.bus_batch.specs.declared.batches.Phase.TheVariants.{Open, Closing, Closed}
+use Rattle.bus_batch.specs.Batches.{Pending}
+use Rattle.bus_batch.specs.Frames.{Frame, Order, order_of, order_in, log_words, log_pieces, AreFrames}
+use Rattle.bus_deliverylog.specs.declared.receiving.RecvTurn.{RecvTurn}
+use Rattle.bus_deliverylog.specs.Receiving.{Receiving, HasReceived, TakesLength, TakesWord}
+use Rattle.bus_tenure.specs.Core.{Core, Election, Layout, log_at, is_empty, situation_of}
+use Rattle.bus_tenure.specs.declared.phases.Phase.{Phase as SenderPhase}
+use Rattle.bus_tenure.specs.declared.phases.Phase.TheVariants as phase
+use Rattle.bus_deliverylog.specs.Orders.{of_sender}
+use Rattle.bus_world.specs.Log.{read}
+use Rattle.bus_world.specs.Headline.{Faithful}
+use Rattle.bus_deliverylog.specs.Orders.{IsPrefixOfOrder}
+use Rattle.bus_world.specs.Receiving.{Receives}
+use Rattle.bus_ownerbits.specs.ElectionKeeps.{OneOwner}
+use Rattle.std.specs.Prelude.{replicate}
+use Rattle.bus_batch.specs.Reading.{HasRead}
+use Rattle.bus_tenure.specs.declared.pages.Page.{Page}
+use Rattle.bus_tenure.specs.Core.{words_of}
+use Rattle.bus_world.specs.Turning.{Side, turned, IsSide, frames_after}
+
+-- the senders' side, and the receivers
+pub record Bus (E : Type 0) : Type 0 where
+  pub side : Side E
+  pub receivers : List Receiving
+
+-- what may happen next, in any order and number: nothing is assumed of who is scheduled, of the random words, or of who stops
+pub data Event : Type 0 where
+  Put : (sender : ℕ) → (bytes : List ℕ) → Event
+  Close : (sender : ℕ) → Event
+  Turn : (sender : ℕ) → (word : ℕ) → Event
+  Recv : (receiver : ℕ) → Event
+
+-- bytes are bytes
+abbrev pub IsEvent : Event → Type 0
+IsEvent (Put s bytes) = All (λ byte. byte < 256) bytes
+IsEvent (Close s) = Unit {0}
+IsEvent (Turn s word) = Unit {0}
+IsEvent (Recv r) = Unit {0}
+
+abbrev pub is_open : Phase → Bool
+is_open Open = true
+is_open Closing = false
+is_open Closed = false
+
+-- a message of so many bytes is accepted
+abbrev pub can_put : Pending → ℕ → Bool
+can_put q len = is_open q.phase && ((if q.busy then false else true) && (nat_le len 56 && nat_lt (length q.messages) 16))
+
+-- a close is accepted
+abbrev pub can_close : Pending → Bool
+can_close q = is_open q.phase && ((if q.busy then false else true) && is_empty q.messages)
+
+abbrev pub put_in : {E : Type 0} → Core E → List ℕ → Core E
+put_in c bytes = if can_put c.queue (length bytes) then record c { queue = record c.queue { messages = c.queue.messages ++ bytes ∷ [] } } else c
+
+abbrev pub close_in : {E : Type 0} → Core E → Core E
+close_in c = if can_close c.queue then record c { queue = record c.queue { phase = Closing } } else c
+
+abbrev pub with_sender : {E : Type 0} → Side E → ℕ → Core E → Side E
+with_sender side s c = record side { senders = slice_set side.senders s c }
+
+-- what one step of a receiver does, where it found this number
+pub record RecvStep (old : Receiving) (got : ℕ) (answer : RecvTurn) (new : Receiving) : Type 0 where
+  pub senders : new.frames.senders ≡ old.frames.senders
+  pub at_length : old.place ≡ old.known → TakesLength old got answer new
+  pub at_word : old.place ≢ old.known → (words : List ℕ) (pieces : List _) → HasReceived words pieces old → TakesWord words pieces old got answer new
+
+abbrev pub recv_found : List ℕ → Receiving → ℕ
+recv_found words v = if v.place == v.known then slice_index words v.length_at else slice_index words (v.log_at + v.place)
+
+-- ---- one event
+-- of a sender that there is
+abbrev pub SenderDoes : {E : Type 0} → Side E → Option (Core E) → (Core E → Side E) → Side E → Type 0
+SenderDoes old None f new = new ≡ old
+SenderDoes old (Some c) f new = new ≡ f c
+
+abbrev pub ReceiverDoes : List ℕ → List Receiving → ℕ → Option Receiving → List Receiving → Type 0
+ReceiverDoes words old r None new = new ≡ old
+ReceiverDoes words old r (Some v) new = (next : Receiving) × (answer : RecvTurn) × ((v.ended ≡ true → next ≡ v) × (v.ended ≡ false → RecvStep v (recv_found words v) answer next)) × (new ≡ slice_set old r next)
+
+abbrev pub Happens : {E : Type 0} → Election E → Bus E → Event → Bus E → Type 0
+Happens X old (Put s bytes) new = SenderDoes old.side (slice_get old.side.senders s) (λ c. with_sender old.side s (put_in c bytes)) new.side × (new.receivers ≡ old.receivers)
+Happens X old (Close s) new = SenderDoes old.side (slice_get old.side.senders s) (λ c. with_sender old.side s (close_in c)) new.side × (new.receivers ≡ old.receivers)
+Happens X old (Turn s word) new = SenderDoes old.side (slice_get old.side.senders s) (λ c. turned X old.side s c (situation_of X c) word) new.side × (new.receivers ≡ old.receivers)
+Happens X old (Recv r) new = (new.side ≡ old.side) × ReceiverDoes old.side.words old.receivers r (slice_get old.receivers r) new.receivers
+
+-- any list of events, one after another
+abbrev pub Runs : {E : Type 0} → Election E → Bus E → List Event → Bus E → Type 0
+Runs X old [] new = new ≡ old
+Runs {E} X old (e ∷ events) new = (mid : Bus E) × IsEvent e × Happens X old e mid × Runs X mid events new
+
+-- ---- what the bus always keeps
+pub record IsReceiver (x : Layout) (frames : List Frame) (len : ℕ) (v : Receiving) : Type 0 where
+  pub senders : v.frames.senders ≡ x.senders
+  pub log : v.log_at ≡ log_at x
+  pub len_at : v.length_at ≡ 0
+  pub log_words : v.log_words ≡ x.capacity
+  pub receives : Receives x.senders frames len v.place v.known v.frames
+
+pub record LawfulBus {E : Type 0} (P : Protocol E (Unit {0}) ℕ) (x : Layout) (bus : Bus E) (frames : List Frame) : Type 0 where
+  pub side : IsSide P x bus.side frames
+  pub receivers : (r : ℕ) (v : Receiving) → slice_get bus.receivers r ≡ Some v → IsReceiver x frames (slice_index bus.side.words 0) v
+
+-- ---- what it promises
+-- messages of a sender that are not in the order yet
+abbrev pub waiting_at : {E : Type 0} → Core E → SenderPhase E → List (List ℕ)
+waiting_at c phase.Resting = c.queue.messages
+waiting_at c (phase.Electing t e) = c.queue.messages
+waiting_at c (phase.Taken t) = c.queue.messages
+waiting_at c (phase.Holding t page stored true) = []
+waiting_at c (phase.Holding t page stored false) = c.queue.messages
+waiting_at c (phase.Giving t leaving) = []
+
+abbrev pub waiting_of : {E : Type 0} → Option (Core E) → List (List ℕ)
+waiting_of None = []
+waiting_of (Some c) = waiting_at c c.phase
+
+-- what a sender has put: its messages in the order, and those that are not in it yet
+abbrev pub put_by : {E : Type 0} → Bus E → List Frame → ℕ → List (List ℕ)
+put_by bus frames s = map (λ i. i.message) (of_sender s (order_of frames)) ++ waiting_of (slice_get bus.side.senders s)
+
+-- what a receiver was given: the items and the end among the pieces below its place
+abbrev pub given_at : List Frame → Receiving → Order
+given_at frames v = order_in (take v.place (log_pieces frames))
+
+-- the headline, of one moment
+pub record KeepsPromises {E : Type 0} (P : Protocol E (Unit {0}) ℕ) (x : Layout) (bus : Bus E) (frames : List Frame) : Type 0 where
+  -- the words below the length are frames, of which only the last may be an end
+  pub lawful : AreFrames x.senders frames
+  pub words_are : read (slice_index bus.side.words) (log_at x) (slice_index bus.side.words 0) ≡ log_words frames
+  -- each tenure has at most one owner, who announced for it, and whoever took its page is that owner
+  pub elections : ℕ → ℕ → Option E
+  pub one_owner : (t : ℕ) → t < x.rows → OneOwner (inputs P (elections t)) (outputs P (elections t))
+  pub owned : (t o : ℕ) → slice_get bus.side.owners t ≡ Some o → (t < x.rows) × (outputs P (elections t) o ≡ Some o)
+  -- each sender's messages are those it put, in its order, none skipped and none repeated
+  pub faithful : Faithful (order_of frames) (put_by bus frames)
+  -- what each receiver was given is a prefix of the one order
+  pub delivered : (r : ℕ) (v : Receiving) → slice_get bus.receivers r ≡ Some v → IsPrefixOfOrder (given_at frames v) (order_of frames)
+
+-- ---- a new bus
+abbrev pub new_page : Page
+new_page = record { next = replicate 8 0; ended = false; tenures = 0; words = 0 }
+
+abbrev pub new_core : {E : Type 0} → Layout → ℕ → Core E
+new_core x p = record { layout = x; me = p; queue = record { sender = record { 0 = p }; first = 0; messages = []; phase = Open; busy = false }; least = 0; phase = phase.Resting }
+
+-- words of zero, the page at home, senders and receivers at their starts
+pub record IsNew {E : Type 0} (x : Layout) (bus : Bus E) : Type 0 where
+  pub words : bus.side.words ≡ replicate (words_of x) 0
+  pub home : bus.side.home ≡ Some new_page
+  pub senders : (p : ℕ) (c : Core E) → slice_get bus.side.senders p ≡ Some c → (p < x.senders) × (c ≡ new_core x p)
+  pub owners : bus.side.owners ≡ []
+  pub receivers : (r : ℕ) (v : Receiving) → slice_get bus.receivers r ≡ Some v → (v.frames.senders ≡ x.senders) × (v.log_at ≡ log_at x) × (v.length_at ≡ 0) × (v.log_words ≡ x.capacity) × (v.known ≡ 0) × (v.place ≡ 0) × HasRead x.senders [] [] v.frames
+
+-- ---- what a list of events puts
+abbrev pub frames_by : {E : Type 0} → Election E → Option (Core E) → List Frame → List Frame
+frames_by X None frames = frames
+frames_by X (Some c) frames = frames_after c (situation_of X c) frames
+
+-- the frames of the log after an event
+abbrev pub event_frames : {E : Type 0} → Election E → Bus E → Event → List Frame → List Frame
+event_frames X b (Put s bytes) frames = frames
+event_frames X b (Close s) frames = frames
+event_frames X b (Turn s word) frames = frames_by X (slice_get b.side.senders s) frames
+event_frames X b (Recv r) frames = frames
+
+abbrev pub accepted_by : {E : Type 0} → Option (Core E) → List ℕ → List (List ℕ)
+accepted_by None bytes = []
+accepted_by (Some c) bytes = if can_put c.queue (length bytes) then bytes ∷ [] else []
+
+-- the message that an event puts for a sender: none, or the bytes of a put that is accepted
+abbrev pub accepted : {E : Type 0} → Bus E → Event → ℕ → List (List ℕ)
+accepted b (Put s bytes) q = if q == s then accepted_by (slice_get b.side.senders s) bytes else []
+accepted b (Close s) q = []
+accepted b (Turn s word) q = []
+accepted b (Recv r) q = []
+
+-- the messages that a list of events puts for a sender, in their order
+abbrev pub accepted_in : {E : Type 0} (X : Election E) (b : Bus E) (events : List Event) (b' : Bus E) → Runs X b events b' → ℕ → List (List ℕ)
+accepted_in X b [] b' run q = []
+accepted_in X b (e ∷ events) b' run q = accepted b e q ++ accepted_in X run.0 events b' run.3 q

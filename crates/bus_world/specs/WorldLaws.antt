@@ -1,0 +1,591 @@
+-- Every event keeps the bus lawful, and a lawful bus keeps its promises.
+use Rattle.std.proofs.Common.{◌≡◌, ◌≢◌, ℕ, zero, suc, ◌+◌, ◌<◌, ◌≤◌, ◌^◌, Bool, true, false, cond, ◌&&◌, ◌==◌, nat_lt, nat_le, Option, Some, None, ◌⊎◌, inl, inr, List, [], ◌∷◌, ◌++◌, length, filter, map, flat_map, take, slice_get, slice_index, slice_set, is_some, arith, refl, sym, ◌∙◌, ap, subst, append_assoc, replicate}
+use Rattle.std.specs.Prelude.{All}
+use Rattle.std.proofs.lemmas.Bool.{cases_eq, cases_lt, true≢false}
+use Rattle.std.proofs.lemmas.Bool.Decides.{nat_tests, eqb_tells}
+use Rattle.std.proofs.lemmas.Grind.{common_steps}
+use Rattle.std.proofs.lemmas.List.{length-append, length-take, get_or_append_left, get_or-replicate}
+use Rattle.std.proofs.lemmas.List.Elements.{All-append, All-from_recursion}
+use Rattle.std.proofs.lemmas.Option.{same_Some, slice_get_within}
+use Rattle.bus_register.specs.declared.registers.SenderNo.{SenderNo}
+use Rattle.bus_register.specs.Protocol.{Protocol, Laws}
+use Rattle.bus_register.specs.Tables.{of_some}
+use Rattle.bus_batch.specs.declared.batches.Phase.{Phase}
+use Rattle.bus_batch.specs.declared.batches.Phase.TheVariants.{Open, Closing, Closed}
+use Rattle.bus_batch.specs.declared.messages.Item.{Item}
+use Rattle.bus_batch.specs.Messages.{IsMessage, Numbered}
+use Rattle.bus_batch.specs.Batches.{Pending, IsKept, next_of, frame_of}
+use Rattle.bus_batch.specs.Frames.{IsBadWord, Frame, Body, Messages, EndMark, order_of, items_of, body_items, item_of, log_words, frame_words, body_words, message_words, log_pieces}
+use Rattle.bus_tenure.specs.Core.{Core, Election, Layout, log_at, words_of, is_empty, situation_of, Situation, IsClosed, IsIdle, IsSpent, LooksAtStage, Elects, TakesPage, AwaitsPage, StoresWord, StoresLength, GivesBack, HasHanded}
+use Rattle.bus_tenure.specs.declared.phases.Phase.{Phase as SenderPhase}
+use Rattle.bus_tenure.specs.declared.phases.Phase.TheVariants as phase
+use Rattle.bus_deliverylog.specs.Orders.{of_sender}
+use Rattle.bus_world.specs.Log.{sent, read, AreCounted, Logged, Knows}
+use Rattle.bus_world.specs.LogLaws.{length-read, log_words-append}
+use Rattle.bus_world.specs.ReceivingLaws.{given_is_prefix, goes_on, Receives-known, Receives-word, Receives-append}
+use Rattle.bus_world.specs.Receiving.{Receives}
+use Rattle.bus_batch.specs.Reading.{HasRead}
+use Rattle.bus_deliverylog.specs.declared.receiving.RecvTurn.{RecvTurn}
+use Rattle.bus_deliverylog.specs.Receiving.{Receiving, HasReceived}
+use Rattle.bus_ownerbits.specs.ElectionKeeps.{OneOwner}
+use Rattle.bus_world.specs.Tenures.{Standing}
+use Rattle.bus_world.specs.Tenures.Standing.{Rests}
+use Rattle.bus_world.specs.TenuresLaws as tenures
+use Rattle.bus_world.specs.Bus.{IsLayout, Part, Fits, Sending, least_of, stands_at, standing_of}
+use Rattle.bus_world.specs.BusLaws as bus
+use Rattle.bus_world.specs.Turning.{Side, turned, IsSide, frames_after}
+use Rattle.bus_world.specs.TurningLaws as turning
+use Rattle.bus_world.specs.PutLaws as puts
+use Rattle.bus_tenure.specs.declared.phases.Leaving.{Leaving}
+use Rattle.bus_register.specs.TableLaws.{get_set_same, get_set_other, some_of}
+use Rattle.bus_world.specs.World.{frames_by, event_frames, accepted_by, accepted, accepted_in, waiting_at, Event, Put, Close, Turn, Recv, IsEvent, Happens, Runs, SenderDoes, ReceiverDoes, recv_found, Bus, is_open, can_put, can_close, put_in, close_in, with_sender, LawfulBus, IsReceiver, RecvStep, IsNew, new_page, KeepsPromises, put_by, waiting_of}
+
+-- ---- numbers
+counted_at : (first : ℕ) (items : List Item) (k : ℕ) (i : Item) → AreCounted first items → slice_get items k ≡ Some i → i.number ≡ first + k
+counted_at first [] k i a e = absurd cc
+counted_at first (x ∷ items) zero i a e = ap (λ (z : Item). z.number) (sym (same_Some _ _ e)) ∙ a.0 ∙ (let z : first ≡ first + 0 = omega arith in z)
+counted_at first (x ∷ items) (suc k) i a e = counted_at (first + 1) items k i a.1 e ∙ (let z : first + 1 + k ≡ first + suc k = omega arith in z)
+
+-- ---- each item has a word
+shorter : {A : Type 0} (b : Bool) (x : A) (ys : List A) (n : ℕ) → length ys ≤ n → length (cond b (x ∷ ys) ys) ≤ suc n
+shorter true x ys n l = omega arith
+shorter false x ys n l = omega arith
+
+filter_short : (p : Item → Bool) (xs : List Item) → length (filter p xs) ≤ length xs
+filter_short p [] = omega arith
+filter_short p (x ∷ xs) = shorter (p x) x (filter p xs) (length xs) (filter_short p xs)
+
+items_short : (owner : SenderNo) (ms : List Numbered) → length (map (item_of owner) ms) ≤ length (flat_map message_words ms)
+items_short owner [] = omega arith
+items_short owner (m ∷ ms) = let a = length-append (message_words m) (flat_map message_words ms) in let b = items_short owner ms in omega arith
+
+body_short : (owner : SenderNo) (b : Body) → length (body_items owner b) ≤ length (body_words b)
+body_short owner (Messages ms) = items_short owner ms
+body_short owner EndMark = omega arith
+
+order_short : (frames : List Frame) → length (order_of frames).items ≤ length (log_words frames)
+order_short [] = omega arith
+order_short (f ∷ frames) =
+    let a = length-append (items_of f) (order_of frames).items in let b = length-append (frame_words f) (log_words frames) in let d = body_short f.owner f.body in let e = order_short frames in omega arith
+
+sent_short : (s : ℕ) (frames : List Frame) → sent s frames ≤ length (log_words frames)
+sent_short s frames = let a = filter_short (λ i. i.sender.0 == s) (order_of frames).items in let b = order_short frames in omega arith
+
+-- ---- tests
+and_left : (a b : Bool) → (a && b) ≡ true → a ≡ true
+and_left true b e = refl
+and_left false b e = e
+
+and_right : (a b : Bool) → (a && b) ≡ true → b ≡ true
+and_right true b e = e
+and_right false b e = absurd (true≢false (sym e))
+
+open_is : (ph : Phase) → is_open ph ≡ true → ph ≡ Open
+open_is Open e = refl
+open_is Closing e = absurd (true≢false (sym e))
+open_is Closed e = absurd (true≢false (sym e))
+
+not_busy : (b : Bool) → cond b false true ≡ true → b ≡ false
+not_busy true e = absurd (true≢false (sym e))
+not_busy false e = refl
+
+lt_is : (a b : ℕ) → nat_lt a b ≡ true → a < b
+lt_is a b e = grind (arith, nat_tests)
+
+le_is : (a b : ℕ) → nat_le a b ≡ true → a ≤ b
+le_is a b e = grind (arith, nat_tests)
+
+empty_is : {A : Type 0} (xs : List A) → is_empty xs ≡ true → xs ≡ []
+empty_is [] e = refl
+empty_is (x ∷ xs) e = absurd (true≢false (sym e))
+
+same_side : {E : Type 0} (P : Protocol E (Unit {0}) ℕ) (x : Layout) (frames : List Frame) (side side' : Side E) → side' ≡ side → IsSide P x side frames → IsSide P x side' frames
+same_side P x frames side side' e h = subst (λ z. IsSide P x z frames) (sym e) h
+
+-- a batch that is not on its way is that of a sender that has begun no tenure
+idle_rests : {E : Type 0} (words : ℕ → ℕ) (frames : List Frame) (c : Core E) (ph : SenderPhase E) → Fits words frames c ph → c.queue.busy ≡ false → ph ≡ phase.Resting
+idle_rests words frames c phase.Resting f e = refl
+idle_rests words frames c (phase.Electing t u) f e = absurd (true≢false (sym f.0.busy ∙ e))
+idle_rests words frames c (phase.Taken t) f e = absurd f
+idle_rests words frames c (phase.Holding t page stored true) f e = absurd (true≢false (sym f.0.busy ∙ e))
+idle_rests words frames c (phase.Holding t page stored false) f e = absurd (true≢false (sym f.0.busy ∙ e))
+idle_rests words frames c (phase.Giving t leaving) f e = absurd f
+
+module _ {E : Type 0} (X : Election E) (P : Protocol E (Unit {0}) ℕ) (laws : Laws X.op X.fed P OneOwner) (x : Layout) (ok : IsLayout x) (width : x.width ≡ P.width x.senders)
+    (starts : (n me at : ℕ) → X.started n me x.rounds at ≡ P.started n me tt at) (owner_is : (e : E) → X.owner e ≡ P.output e) where
+  -- ---- what a lawful bus promises
+  pub keeps_promises : (b : Bus E) (frames : List Frame) → LawfulBus P x b frames → KeepsPromises P x b frames
+  keeps_promises b frames h =
+      let sending = h.side.sending in
+      record {
+        lawful = sending.log.lawful;
+        words_are = sending.log.words_are;
+        elections = sending.tenures.elections;
+        one_owner = tenures.one_owner X.op X.fed P laws x.senders x.rows 2 (slice_index b.side.words) (slice_index b.side.words 1) _ _ _ b.side.owners sending.tenures;
+        owned = λ t o e. let w = sending.tenures.owned t o e in (w.0, ap (of_some P.output) w.1.1 ∙ w.1.2);
+        faithful = record {
+          numbered = λ s k i e. counted_at 0 (of_sender s (order_of frames)) k i (sending.log.counted s) e ∙ (let z : 0 + k ≡ k = omega arith in z);
+          messages = λ s. record { rest = waiting_of (slice_get b.side.senders s); together = refl };
+        };
+        delivered = λ r v e. given_is_prefix x.senders frames v.place sending.log.lawful;
+      }
+
+  module _ (side : Side E) (frames : List Frame) (h : IsSide P x side frames) (p : ℕ) (c : Core E) (old : slice_get side.senders p ≡ Some c) where
+    abbrev W : ℕ → ℕ
+    W = slice_index side.words
+
+    own : Part x W frames p c
+    own = h.sending.parts p c old
+
+    replaced : (q : Pending) → c.queue.busy ≡ false → q.busy ≡ false → q.sender ≡ c.queue.sender → q.first ≡ c.queue.first → IsKept q → IsSide P x (with_sender side p (record c { queue = q })) frames
+    replaced q idle idle' sender first kept =
+        let rests = idle_rests W frames c c.phase own.fits idle in
+        let fits = subst (Fits W frames c) rests own.fits in
+        record {
+          words = h.words;
+          sending = bus.spends X P laws x ok width W side.home (slice_get side.senders) side.owners frames h.sending p c (record c { queue = q }) (slice_get (slice_set side.senders p (record c { queue = q }))) old
+              (turning.placed X P laws x ok width starts owner_is side frames h p c old 0 (record c { queue = q })) (turning.others X P laws x ok width starts owner_is side frames h p c old 0 (record c { queue = q })) rests rests (omega arith)
+              record {
+                layout = own.layout;
+                me = own.me;
+                below = own.below;
+                sender = ap (λ (z : SenderNo). z.0) sender ∙ own.sender;
+                queue = kept;
+                fits = subst (Fits W frames (record c { queue = q })) (sym rests) (idle', first ∙ fits.1);
+              };
+        }
+
+    -- its numbers stay far below their range
+    numbers_fit : c.queue.busy ≡ false → next_of c.queue < 2 ^ 48
+    numbers_fit idle =
+        let fits = subst (Fits W frames c) (idle_rests W frames c c.phase own.fits idle) own.fits in
+        let few = own.queue.few in let short = sent_short c.me frames in let cap = ok.capacity in let within = h.sending.log.fits in
+        let size : length (log_words frames) ≡ W 0 = sym (ap length h.sending.log.words_are) ∙ length-read W (log_at x) (W 0) in
+        let base = fits.1 in
+        omega arith
+
+    put_lawful : (bytes : List ℕ) → All (λ byte. byte < 256) bytes → IsSide P x (with_sender side p (put_in c bytes)) frames
+    put_lawful bytes small = by_test (can_put c.queue (length bytes)) refl
+      where
+        by_test : (b : Bool) → can_put c.queue (length bytes) ≡ b → IsSide P x (with_sender side p (cond b (record c { queue = record c.queue { messages = c.queue.messages ++ bytes ∷ [] } }) c)) frames
+        by_test false e = turning.unchanged X P laws x ok width starts owner_is side frames h p c old 0
+        by_test true e =
+            let tests = and_right (is_open c.queue.phase) (cond c.queue.busy false true && (nat_le (length bytes) 56 && nat_lt (length c.queue.messages) 16)) e in
+            let sizes = and_right (cond c.queue.busy false true) (nat_le (length bytes) 56 && nat_lt (length c.queue.messages) 16) tests in
+            let idle = not_busy c.queue.busy (and_left (cond c.queue.busy false true) (nat_le (length bytes) 56 && nat_lt (length c.queue.messages) 16) tests) in
+            let is = open_is c.queue.phase (and_left (is_open c.queue.phase) (cond c.queue.busy false true && (nat_le (length bytes) 56 && nat_lt (length c.queue.messages) 16)) e) in
+            let short = le_is (length bytes) 56 (and_left (nat_le (length bytes) 56) (nat_lt (length c.queue.messages) 16) sizes) in
+            let room = lt_is (length c.queue.messages) 16 (and_right (nat_le (length bytes) 56) (nat_lt (length c.queue.messages) 16) sizes) in
+            let more = length-append c.queue.messages (bytes ∷ []) in
+            let fit = numbers_fit idle in
+            replaced (record c.queue { messages = c.queue.messages ++ bytes ∷ [] }) idle idle refl refl record {
+              few = (omega arith);
+              each = All-append IsMessage c.queue.messages (bytes ∷ []) own.queue.each (All-from_recursion IsMessage (bytes ∷ []) ((short, small), tt));
+              numbers = (omega arith);
+              alone = λ z. absurd (let bad = sym is ∙ z in let wrong : ⊥ = cc in wrong);
+              owner_bits = own.queue.owner_bits;
+            }
+
+    close_lawful : IsSide P x (with_sender side p (close_in c)) frames
+    close_lawful = by_test (can_close c.queue) refl
+      where
+        by_test : (b : Bool) → can_close c.queue ≡ b → IsSide P x (with_sender side p (cond b (record c { queue = record c.queue { phase = Closing } }) c)) frames
+        by_test false e = turning.unchanged X P laws x ok width starts owner_is side frames h p c old 0
+        by_test true e =
+            let tests = and_right (is_open c.queue.phase) (cond c.queue.busy false true && is_empty c.queue.messages) e in
+            let idle = not_busy c.queue.busy (and_left (cond c.queue.busy false true) (is_empty c.queue.messages) tests) in
+            let none = empty_is c.queue.messages (and_right (cond c.queue.busy false true) (is_empty c.queue.messages) tests) in
+            replaced (record c.queue { phase = Closing }) idle idle refl refl record { few = own.queue.few; each = own.queue.each; numbers = own.queue.numbers; alone = λ z. none; owner_bits = own.queue.owner_bits }
+
+-- ---- receivers
+index-read : (words : ℕ → ℕ) (at k i : ℕ) → i < k → slice_index (read words at k) i ≡ words (at + i)
+index-read words at zero i l = absurd (omega arith)
+index-read words at (suc k) i l = elim (cases_lt i k) [
+  | inl below ↦ get_or_append_left (read words at k) (words (at + k) ∷ []) 0 i (let z = length-read words at k in omega arith) ∙ index-read words at k i below
+  | inr past ↦
+      let size = length-read words at k in
+      let e : i ≡ length (read words at k) = omega arith in
+      ap (slice_index (read words at k ++ words (at + k) ∷ [])) e ∙ last (read words at k) (words (at + k)) ∙ ap words (omega arith)
+] where
+  last : (xs : List ℕ) (w : ℕ) → slice_index (xs ++ w ∷ []) (length xs) ≡ w
+  last xs w = grind (arith, common_steps)
+
+module _ (x : Layout) (frames : List Frame) (words : ℕ → ℕ) (log : Logged x.senders x.capacity (log_at x) words (words 0) frames) (v : Receiving) (h : IsReceiver x frames (words 0) v) where
+  size_is : length (log_words frames) ≡ words 0
+  size_is = sym (ap length log.words_are) ∙ length-read words (log_at x) (words 0)
+
+  received : HasReceived (take v.place (log_words frames)) (take v.place (log_pieces frames)) v
+  received = record {
+    read = subst (λ z. HasRead z (take v.place (log_words frames)) (take v.place (log_pieces frames)) v.frames) (sym h.senders) h.receives.has_read;
+    place = sym (length-take v.place (log_words frames) ∙ (let a = h.receives.place_below in let b = h.receives.known_below in let d = size_is in omega arith));
+  }
+
+  module _ (answer : RecvTurn) (next : Receiving) where
+    at_length : v.place ≡ v.known → RecvStep v (words 0) answer next → IsReceiver x frames (words 0) next
+    at_length e s = elim (cases_lt v.known (words 0)) [
+      | inl l ↦
+          let t = ((s.at_length e).more l (let a = log.fits in let b = h.log_words in omega arith)).1 in
+          subst (IsReceiver x frames (words 0)) (sym t) record {
+            senders = h.senders;
+            log = h.log;
+            len_at = h.len_at;
+            log_words = h.log_words;
+            receives = Receives-known x.senders frames (words 0) v.place v.known v.frames h.receives (omega arith);
+          }
+      | inr l ↦
+          let t = ((s.at_length e).same (let a = h.receives.known_below in omega arith)).1 in
+          subst (IsReceiver x frames (words 0)) (sym t) h
+    ]
+
+    at_word : v.place ≢ v.known → RecvStep v (words (log_at x + v.place)) answer next → IsReceiver x frames (words 0) next
+    at_word ne s =
+        let more : v.place < v.known = let a = h.receives.place_below in omega arith in
+        let word_is : slice_index (log_words frames) v.place ≡ words (log_at x + v.place) =
+        ap (λ z. slice_index z v.place) (sym log.words_are) ∙ index-read words (log_at x) (words 0) v.place (let a = h.receives.known_below in omega arith) in
+        elim (s.at_word ne (take v.place (log_words frames)) (take v.place (log_pieces frames)) received) [
+          | inl bad ↦ absurd (subst (λ z. IsBadWord z (take v.place (log_words frames)) (words (log_at x + v.place))) h.senders bad.0
+              (goes_on x.senders frames (words 0) v.place v.known v.frames h.receives log.lawful size_is more (words (log_at x + v.place)) word_is))
+          | inr good ↦
+              let senders_now : next.frames.senders ≡ x.senders = s.senders ∙ h.senders in
+              let n = good.new_is in
+              record {
+                senders = senders_now;
+                log = ap (λ (z : Receiving). z.log_at) n ∙ h.log;
+                len_at = ap (λ (z : Receiving). z.length_at) n ∙ h.len_at;
+                log_words = ap (λ (z : Receiving). z.log_words) n ∙ h.log_words;
+                receives = subst (λ z. Receives x.senders frames (words 0) z next.known next.frames) (sym (ap (λ (z : Receiving). z.place) n)) (subst (λ z. Receives x.senders frames (words 0) (v.place + 1) z next.frames) (sym (ap (λ (z : Receiving). z.known) n))
+                    (Receives-word x.senders frames (words 0) v.place v.known v.frames h.receives log.lawful size_is more (words (log_at x + v.place)) word_is good.found next.frames
+                    (subst (λ z. HasRead z (take v.place (log_words frames) ++ words (log_at x + v.place) ∷ []) (take v.place (log_pieces frames) ++ good.found ∷ []) next.frames) senders_now good.received.read)));
+              }
+        ]
+
+-- receivers, where the log has grown
+module _ (x : Layout) (frames : List Frame) (words words' : ℕ → ℕ) (log : Logged x.senders x.capacity (log_at x) words (words 0) frames) where
+  same_len : (log' : Logged x.senders x.capacity (log_at x) words' (words' 0) frames) → words' 0 ≡ words 0
+  same_len log' = sym (length-read words' (log_at x) (words' 0)) ∙ ap length log'.words_are ∙ sym (ap length log.words_are) ∙ length-read words (log_at x) (words 0)
+
+  receiver_stays : (log' : Logged x.senders x.capacity (log_at x) words' (words' 0) frames) (v : Receiving) → IsReceiver x frames (words 0) v → IsReceiver x frames (words' 0) v
+  receiver_stays log' v h = subst (λ z. IsReceiver x frames z v) (sym (same_len log')) h
+
+  receiver_follows : (f : Frame) (log' : Logged x.senders x.capacity (log_at x) words' (words' 0) (frames ++ f ∷ [])) (v : Receiving) → IsReceiver x frames (words 0) v → IsReceiver x (frames ++ f ∷ []) (words' 0) v
+  receiver_follows f log' v h =
+      let size : length (log_words frames) ≡ words 0 = sym (ap length log.words_are) ∙ length-read words (log_at x) (words 0) in
+      let size' : length (log_words (frames ++ f ∷ [])) ≡ words' 0 = sym (ap length log'.words_are) ∙ length-read words' (log_at x) (words' 0) in
+      let more = ap length (log_words-append frames f) ∙ length-append (log_words frames) (frame_words f) in
+      record { senders = h.senders; log = h.log; len_at = h.len_at; log_words = h.log_words; receives = Receives-append x.senders frames f (words 0) (words' 0) v.place v.known v.frames size (omega arith) h.receives }
+
+-- a turn publishes at most one frame
+one_or_none : {E : Type 0} (c : Core E) (s : Situation E) (frames : List Frame) → (frames_after c s frames ≡ frames) ⊎ ((f : Frame) × (frames_after c s frames ≡ frames ++ f ∷ []))
+one_or_none c IsClosed frames = inl refl
+one_or_none c IsIdle frames = inl refl
+one_or_none c IsSpent frames = inl refl
+one_or_none c LooksAtStage frames = inl refl
+one_or_none c (Elects t e) frames = inl refl
+one_or_none c (TakesPage t) frames = inl refl
+one_or_none c (AwaitsPage t) frames = inl refl
+one_or_none c (StoresWord t page stored) frames = inl refl
+one_or_none c (StoresLength t page stored) frames = inr (frame_of c.queue t, refl)
+one_or_none c (GivesBack t page leaving) frames = inl refl
+one_or_none c (HasHanded t leaving) frames = inl refl
+
+-- the frames of one bus begin those of the other
+pub record Continues (frames frames' : List Frame) : Type 0 where
+  pub more : List Frame
+  pub together : frames ++ more ≡ frames'
+
+zeros : (n r : ℕ) → slice_index (replicate n 0) r ≡ 0
+zeros n r = elim (cases_lt r n) [ inl l ↦ get_or-replicate n r 0 0 l | inr g ↦ past n r g ]
+  where
+    past : (n r : ℕ) → n ≤ r → slice_index (replicate n 0) r ≡ 0
+    past n r g = grind (arith, common_steps)
+
+replicated : (n : ℕ) → length {A = ℕ} (replicate n 0) ≡ n
+replicated n = grind (arith, common_steps)
+
+nothing : (k : ℕ) → take {A = ℕ} k [] ≡ []
+nothing k = grind (arith, common_steps)
+
+no_rest : (xs : List (List ℕ)) → xs ++ [] ≡ xs
+no_rest xs = grind (arith, common_steps)
+
+no_more : (frames : List Frame) → frames ++ [] ≡ frames
+no_more frames = grind (arith, common_steps)
+
+module _ {E : Type 0} (X : Election E) (P : Protocol E (Unit {0}) ℕ) (laws : Laws X.op X.fed P OneOwner) (x : Layout) (ok : IsLayout x) (width : x.width ≡ P.width x.senders)
+    (starts : (n me at : ℕ) → X.started n me x.rounds at ≡ P.started n me tt at) (owner_is : (e : E) → X.owner e ≡ P.output e) where
+  -- what an event leaves: a lawful bus, whose log continues the one before
+  pub record Left (frames : List Frame) (b : Bus E) : Type 0 where
+    pub frames_now : List Frame
+    pub lawful : LawfulBus P x b frames_now
+    pub continues : Continues frames frames_now
+
+  -- what one event leaves, with the frames that it says
+  record After (frames target : List Frame) (b : Bus E) : Type 0 where
+    left : Left frames b
+    now_is : left.frames_now ≡ target
+
+  module _ (b : Bus E) (frames : List Frame) (h : LawfulBus P x b frames) (b' : Bus E) where
+    -- the receivers are the same, and so is the log
+    quiet : IsSide P x b'.side frames → b'.receivers ≡ b.receivers → Left frames b'
+    quiet side same = record {
+      frames_now = frames;
+      lawful = record { side = side; receivers = λ r v e. receiver_stays x frames (slice_index b.side.words) (slice_index b'.side.words) h.side.sending.log side.sending.log v (h.receivers r v (ap (λ z. slice_get z r) (sym same) ∙ e)) };
+      continues = record { more = []; together = no_more frames };
+    }
+
+    longer : (f : Frame) → IsSide P x b'.side (frames ++ f ∷ []) → b'.receivers ≡ b.receivers → Left frames b'
+    longer f side same = record {
+      frames_now = frames ++ f ∷ [];
+      lawful = record { side = side; receivers = λ r v e. receiver_follows x frames (slice_index b.side.words) (slice_index b'.side.words) h.side.sending.log f side.sending.log v (h.receivers r v (ap (λ z. slice_get z r) (sym same) ∙ e)) };
+      continues = record { more = f ∷ []; together = refl };
+    }
+
+    put_left : (s : ℕ) (bytes : List ℕ) → All (λ byte. byte < 256) bytes → (o : Option (Core E)) → slice_get b.side.senders s ≡ o → SenderDoes b.side o (λ c. with_sender b.side s (put_in c bytes)) b'.side → b'.receivers ≡ b.receivers → After frames frames b'
+    unfolding quiet longer
+    put_left s bytes small None i d same = record { left = quiet (same_side P x frames b.side b'.side d h.side) same; now_is = refl }
+    put_left s bytes small (Some c) i d same = record { left = quiet (same_side P x frames (with_sender b.side s (put_in c bytes)) b'.side d (put_lawful X P laws x ok width starts owner_is b.side frames h.side s c i bytes small)) same; now_is = refl }
+
+    close_left : (s : ℕ) (o : Option (Core E)) → slice_get b.side.senders s ≡ o → SenderDoes b.side o (λ c. with_sender b.side s (close_in c)) b'.side → b'.receivers ≡ b.receivers → After frames frames b'
+    unfolding quiet longer
+    close_left s None i d same = record { left = quiet (same_side P x frames b.side b'.side d h.side) same; now_is = refl }
+    close_left s (Some c) i d same = record { left = quiet (same_side P x frames (with_sender b.side s (close_in c)) b'.side d (close_lawful X P laws x ok width starts owner_is b.side frames h.side s c i)) same; now_is = refl }
+
+    turn_left : (s word : ℕ) (o : Option (Core E)) → slice_get b.side.senders s ≡ o → SenderDoes b.side o (λ c. turned X b.side s c (situation_of X c) word) b'.side → b'.receivers ≡ b.receivers → After frames (frames_by X o frames) b'
+    unfolding quiet longer
+    turn_left s word None i d same = record { left = quiet (same_side P x frames b.side b'.side d h.side) same; now_is = refl }
+    turn_left s word (Some c) i d same =
+        let side = subst (λ z. IsSide P x z (frames_after c (situation_of X c) frames)) (sym d) (turning.turn_lawful X P laws x ok width starts owner_is b.side frames h.side s c i word) in
+        elim (one_or_none c (situation_of X c) frames) [
+          | inl e ↦ record { left = quiet (subst (IsSide P x b'.side) e side) same; now_is = sym e }
+          | inr f ↦ record { left = longer f.0 (subst (IsSide P x b'.side) f.1 side) same; now_is = sym f.1 }
+        ]
+
+    recv_left : (r : ℕ) (o : Option Receiving) → slice_get b.receivers r ≡ o → b'.side ≡ b.side → ReceiverDoes b.side.words b.receivers r o b'.receivers → After frames frames b'
+    unfolding quiet longer
+    recv_left r None i d rs = record { left = quiet (same_side P x frames b.side b'.side d h.side) rs; now_is = refl }
+    recv_left r (Some v) i d rs =
+        let words = slice_index b.side.words in
+        let log = h.side.sending.log in
+        let own = h.receivers r v i in
+        let goes : v.ended ≡ false → RecvStep v (recv_found b.side.words v) rs.1 rs.0 → IsReceiver x frames (words 0) rs.0 = λ going step. elim (eqb_tells v.place v.known) [
+          | inl y ↦ at_length x frames words log v own rs.1 rs.0 y.1 (subst (λ z. RecvStep v z rs.1 rs.0) (ap (λ q. cond q (words v.length_at) (words (v.log_at + v.place))) y.0 ∙ ap words own.len_at) step)
+          | inr y ↦ at_word x frames words log v own rs.1 rs.0 y.1 (subst (λ z. RecvStep v z rs.1 rs.0) (ap (λ q. cond q (words v.length_at) (words (v.log_at + v.place))) y.0 ∙ ap (λ q. words (q + v.place)) own.log) step)
+        ] in
+        let ended_or : (q : Bool) → v.ended ≡ q → IsReceiver x frames (words 0) rs.0 = λ q. elim q as (λ z. v.ended ≡ z → IsReceiver x frames (words 0) rs.0) [
+          | true ↦ λ e. subst (IsReceiver x frames (words 0)) (sym (rs.2.0 e)) own
+          | false ↦ λ e. goes e (rs.2.1 e)
+        ] in
+        let next_is = ended_or v.ended refl in
+        record {
+          now_is = refl;
+          left = record {
+            frames_now = frames;
+            lawful = record {
+              side = same_side P x frames b.side b'.side d h.side;
+              receivers = λ q w e. subst (λ z. IsReceiver x frames (slice_index z.words 0) w) (sym d) (elim (cases_eq q r) [
+                | inl j ↦ subst (IsReceiver x frames (words 0)) (same_Some _ _ (sym (get_set_same b.receivers r rs.0 (slice_get_within b.receivers r v i)) ∙ ap (λ z. slice_get z r) (sym rs.3) ∙ ap (slice_get b'.receivers) (sym j) ∙ e)) next_is
+                | inr ne ↦ h.receivers q w (sym (get_set_other b.receivers r rs.0 q ne) ∙ ap (λ z. slice_get z q) (sym rs.3) ∙ e)
+              ]);
+            };
+            continues = record { more = []; together = no_more frames };
+          };
+        }
+
+    -- whatever happens next
+    event_left : (e : Event) → IsEvent e → Happens X b e b' → After frames (event_frames X b e frames) b'
+    event_left (Put s bytes) is d = put_left s bytes is (slice_get b.side.senders s) refl d.0 d.1
+    event_left (Close s) is d = close_left s (slice_get b.side.senders s) refl d.0 d.1
+    event_left (Turn s word) is d = turn_left s word (slice_get b.side.senders s) refl d.0 d.1
+    event_left (Recv r) is d = recv_left r (slice_get b.receivers r) refl d.0 d.1
+
+    -- ---- what it puts
+    bus_same : b'.side ≡ b.side → (fs : List Frame) (q : ℕ) → put_by b' fs q ≡ put_by b fs q
+    bus_same d fs q = ap (λ z. map (λ i. i.message) (of_sender q (order_of fs)) ++ waiting_of (slice_get z.senders q)) d
+
+    -- a sender that is another, or has another batch
+    module _ (s : ℕ) (c c' : Core E) (old : slice_get b.side.senders s ≡ Some c) (now : b'.side.senders ≡ slice_set b.side.senders s c') (more : List (List ℕ)) (waits : waiting_of (Some c') ≡ waiting_of (Some c) ++ more) where
+      at_sender : put_by b' frames s ≡ put_by b frames s ++ more
+      at_sender =
+          let front = map (λ (i : Item). i.message) (of_sender s (order_of frames)) in
+          ap (λ z. front ++ waiting_of (slice_get z s)) now ∙ ap (λ z. front ++ waiting_of z) (get_set_same b.side.senders s c' (slice_get_within b.side.senders s c old)) ∙ ap (λ z. front ++ z) waits
+          ∙ sym (append_assoc front (waiting_of (Some c)) more) ∙ ap (λ z. (front ++ waiting_of z) ++ more) (sym old)
+
+      at_other : (q : ℕ) → q ≢ s → put_by b' frames q ≡ put_by b frames q
+      at_other q ne = ap (λ z. map (λ (i : Item). i.message) (of_sender q (order_of frames)) ++ waiting_of (slice_get z q)) now ∙ ap (λ z. map (λ (i : Item). i.message) (of_sender q (order_of frames)) ++ waiting_of z) (get_set_other b.side.senders s c' q ne)
+
+    put_waits : (c : Core E) (bytes : List ℕ) → Fits (slice_index b.side.words) frames c c.phase → waiting_of (Some (put_in c bytes)) ≡ waiting_of (Some c) ++ cond (can_put c.queue (length bytes)) (bytes ∷ []) []
+    put_waits c bytes fits = by_test (can_put c.queue (length bytes)) refl
+      where
+        by_test : (t : Bool) → can_put c.queue (length bytes) ≡ t → waiting_of (Some (cond t (record c { queue = record c.queue { messages = c.queue.messages ++ bytes ∷ [] } }) c)) ≡ waiting_of (Some c) ++ cond t (bytes ∷ []) []
+        by_test false e = sym (no_rest (waiting_of (Some c)))
+        by_test true e =
+            let tests = and_right (is_open c.queue.phase) (cond c.queue.busy false true && (nat_le (length bytes) 56 && nat_lt (length c.queue.messages) 16)) e in
+            let idle = not_busy c.queue.busy (and_left (cond c.queue.busy false true) (nat_le (length bytes) 56 && nat_lt (length c.queue.messages) 16) tests) in
+            let rests = idle_rests (slice_index b.side.words) frames c c.phase fits idle in
+            ap (waiting_at (record c { queue = record c.queue { messages = c.queue.messages ++ bytes ∷ [] } })) rests ∙ ap (λ z. z ++ bytes ∷ []) (sym (ap (waiting_at c) rests))
+
+    close_waits : (c : Core E) → Fits (slice_index b.side.words) frames c c.phase → waiting_of (Some (close_in c)) ≡ waiting_of (Some c) ++ []
+    close_waits c fits = by_test (can_close c.queue) refl
+      where
+        by_test : (t : Bool) → can_close c.queue ≡ t → waiting_of (Some (cond t (record c { queue = record c.queue { phase = Closing } }) c)) ≡ waiting_of (Some c) ++ []
+        by_test false e = sym (no_rest (waiting_of (Some c)))
+        by_test true e =
+            let tests = and_right (is_open c.queue.phase) (cond c.queue.busy false true && is_empty c.queue.messages) e in
+            let idle = not_busy c.queue.busy (and_left (cond c.queue.busy false true) (is_empty c.queue.messages) tests) in
+            let rests = idle_rests (slice_index b.side.words) frames c c.phase fits idle in
+            ap (waiting_at (record c { queue = record c.queue { phase = Closing } })) rests ∙ sym (ap (waiting_at c) rests) ∙ sym (no_rest (waiting_of (Some c)))
+
+    own_part : (s : ℕ) (c : Core E) → slice_get b.side.senders s ≡ Some c → Part x (slice_index b.side.words) frames s c
+    own_part s c i = h.side.sending.parts s c i
+
+    put_puts : (s : ℕ) (bytes : List ℕ) (o : Option (Core E)) → slice_get b.side.senders s ≡ o → SenderDoes b.side o (λ c. with_sender b.side s (put_in c bytes)) b'.side → (q : ℕ) → put_by b' frames q ≡ put_by b frames q ++ cond (q == s) (accepted_by o bytes) []
+    put_puts s bytes None i d q = bus_same d frames q ∙ sym (no_rest (put_by b frames q)) ∙ ap (λ z. put_by b frames q ++ z) (sym (same_arms (q == s)))
+      where
+        same_arms : (t : Bool) → cond {A = List (List ℕ)} t [] [] ≡ []
+        same_arms true = refl
+        same_arms false = refl
+    put_puts s bytes (Some c) i d q = elim (eqb_tells q s) [
+      | inl y ↦ subst (λ z. put_by b' frames z ≡ put_by b frames z ++ cond (q == s) (accepted_by (Some c) bytes) []) (sym y.1) (at_sender s c (put_in c bytes) i (ap (λ (z : Side E). z.senders) d) (accepted_by (Some c) bytes) (put_waits c bytes (own_part s c i).fits)
+          ∙ ap (λ t. put_by b frames s ++ cond t (accepted_by (Some c) bytes) []) (sym y.0))
+      | inr y ↦ at_other s c (put_in c bytes) i (ap (λ (z : Side E). z.senders) d) (accepted_by (Some c) bytes) (put_waits c bytes (own_part s c i).fits) q y.1 ∙ sym (no_rest (put_by b frames q)) ∙ ap (λ t. put_by b frames q ++ cond t (accepted_by (Some c) bytes) []) (sym y.0)
+    ]
+
+    close_puts : (s : ℕ) (o : Option (Core E)) → slice_get b.side.senders s ≡ o → SenderDoes b.side o (λ c. with_sender b.side s (close_in c)) b'.side → (q : ℕ) → put_by b' frames q ≡ put_by b frames q ++ []
+    close_puts s None i d q = bus_same d frames q ∙ sym (no_rest (put_by b frames q))
+    close_puts s (Some c) i d q = elim (cases_eq q s) [
+      | inl y ↦ subst (λ z. put_by b' frames z ≡ put_by b frames z ++ []) (sym y) (at_sender s c (close_in c) i (ap (λ (z : Side E). z.senders) d) [] (close_waits c (own_part s c i).fits))
+      | inr ne ↦ at_other s c (close_in c) i (ap (λ (z : Side E). z.senders) d) [] (close_waits c (own_part s c i).fits) q ne ∙ sym (no_rest (put_by b frames q))
+    ]
+
+    never_giving : (c : Core E) (ph : SenderPhase E) → c.phase ≡ ph → Fits (slice_index b.side.words) frames c ph → (t : ℕ) (leaving : Leaving) → ph ≡ phase.Giving t leaving → ⊥
+    never_giving c ph e fits t leaving g = subst (Fits (slice_index b.side.words) frames c) g fits
+
+    turn_event_puts : (s word : ℕ) (o : Option (Core E)) → slice_get b.side.senders s ≡ o → SenderDoes b.side o (λ c. turned X b.side s c (situation_of X c) word) b'.side → (q : ℕ) → put_by b' (frames_by X o frames) q ≡ put_by b frames q ++ []
+    turn_event_puts s word None i d q = bus_same d frames q ∙ sym (no_rest (put_by b frames q))
+    turn_event_puts s word (Some c) i d q =
+        let part = own_part s c i in
+        ap (λ (z : Side E). map (λ (v : Item). v.message) (of_sender q (order_of (frames_after c (situation_of X c) frames))) ++ waiting_of (slice_get z.senders q)) d
+        ∙ puts.turn_puts X b.side frames s c i part.queue part.sender word (λ t leaving g. never_giving c c.phase refl part.fits t leaving g) q ∙ sym (no_rest (put_by b frames q))
+
+    event_puts : (e : Event) → Happens X b e b' → (q : ℕ) → put_by b' (event_frames X b e frames) q ≡ put_by b frames q ++ accepted b e q
+    event_puts (Put s bytes) d q = put_puts s bytes (slice_get b.side.senders s) refl d.0 q
+    event_puts (Close s) d q = close_puts s (slice_get b.side.senders s) refl d.0 q
+    event_puts (Turn s word) d q = turn_event_puts s word (slice_get b.side.senders s) refl d.0 q
+    event_puts (Recv r) d q = bus_same d.0 frames q ∙ sym (no_rest (put_by b frames q))
+
+  -- ---- any list of events
+  -- what a list of events leaves: a lawful bus, whose log continues the one before, and what each sender has put by then
+  pub record Ran (b : Bus E) (frames : List Frame) (b' : Bus E) (put : ℕ → List (List ℕ)) : Type 0 where
+    pub frames_now : List Frame
+    pub lawful : LawfulBus P x b' frames_now
+    pub continues : Continues frames frames_now
+    pub puts : (s : ℕ) → put_by b' frames_now s ≡ put_by b frames s ++ put s
+
+  pub run_left : (events : List Event) (b b' : Bus E) (frames : List Frame) → LawfulBus P x b frames → (run : Runs X b events b') → Ran b frames b' (accepted_in X b events b' run)
+  run_left [] b b' frames h run = record {
+    frames_now = frames;
+    lawful = subst (λ z. LawfulBus P x z frames) (sym run) h;
+    continues = record { more = []; together = no_more frames };
+    puts = λ s. ap (λ z. put_by z frames s) run ∙ sym (no_rest (put_by b frames s));
+  }
+  run_left (e ∷ events) b b' frames h run =
+      let a = event_left b frames h run.0 e run.1 run.2 in
+      let l = a.left in
+      let r = run_left events run.0 b' l.frames_now l.lawful run.3 in
+      record {
+        frames_now = r.frames_now;
+        lawful = r.lawful;
+        continues = record { more = l.continues.more ++ r.continues.more; together = sym (append_assoc frames l.continues.more r.continues.more) ∙ ap (λ z. z ++ r.continues.more) l.continues.together ∙ r.continues.together };
+        puts = λ s. r.puts s ∙ ap (λ z. put_by run.0 z s ++ accepted_in X run.0 events b' run.3 s) a.now_is ∙ ap (λ z. z ++ accepted_in X run.0 events b' run.3 s) (event_puts b frames h run.0 e run.2 s)
+            ∙ append_assoc (put_by b frames s) (accepted b e s) (accepted_in X run.0 events b' run.3 s);
+      }
+
+  -- ---- a new bus is lawful
+  module _ (b : Bus E) (new : IsNew x b) where
+    zero_at : (r : ℕ) → slice_index b.side.words r ≡ 0
+    zero_at r = ap (λ z. slice_index z r) new.words ∙ zeros (words_of x) r
+
+    new_standing : (p : ℕ) (s : Standing E) → of_some standing_of (slice_get b.side.senders p) ≡ Some s → s ≡ Rests
+    new_standing p s e =
+        let o = some_of standing_of (slice_get b.side.senders p) s e in
+        sym (same_Some _ _ o.2) ∙ ap (λ (z : Core E). stands_at z.phase) (new.senders p o.0 o.1).1
+
+    new_least : (p : ℕ) (o : Option (Core E)) → slice_get b.side.senders p ≡ o → least_of o ≡ 0
+    new_least p None e = refl
+    new_least p (Some c) e = ap (λ (z : Core E). z.least) (new.senders p c e).1
+
+    new_part : (p : ℕ) (c : Core E) → slice_get b.side.senders p ≡ Some c → Part x (slice_index b.side.words) [] p c
+    new_part p c e =
+        let n = new.senders p c e in
+        let small : p < 256 = let a = n.0 in let d = ok.senders in omega arith in
+        subst (Part x (slice_index b.side.words) [] p) (sym n.1) record {
+          layout = refl;
+          me = refl;
+          below = n.0;
+          sender = refl;
+          queue = record { few = omega arith; each = All-from_recursion IsMessage [] tt; numbers = omega arith; alone = λ z. refl; owner_bits = omega arith };
+          fits = (refl, refl);
+        }
+
+    new_knows : Knows new_page [] 0 0
+    new_knows = record { entries = refl; next = λ s l. zeros 8 s; ended = refl; tenures = refl; words = refl }
+
+    new_sending : Sending P x (slice_index b.side.words) b.side.home (slice_get b.side.senders) b.side.owners []
+    new_sending = record {
+      tenures = tenures.same X.op X.fed P laws x.senders x.rows 2 (slice_index b.side.words) 0 true (λ q. of_some standing_of (slice_get b.side.senders q)) (λ _. 0) []
+          (tenures.fresh X.op X.fed P laws x.senders x.rows 2 (slice_index b.side.words) (λ q. of_some standing_of (slice_get b.side.senders q)) (λ r a d. zero_at r) new_standing)
+          (slice_index b.side.words) (slice_index b.side.words 1) (is_some b.side.home) (λ q. of_some standing_of (slice_get b.side.senders q)) (λ q. least_of (slice_get b.side.senders q)) b.side.owners
+          (λ r a d. refl) (zero_at 1) (ap is_some new.home) (λ q. refl) (λ q. new_least q (slice_get b.side.senders q) refl) new.owners;
+      log = subst (λ z. Logged x.senders x.capacity (log_at x) (slice_index b.side.words) z []) (sym (zero_at 0)) record { lawful = tt; words_are = refl; fits = omega arith; counted = λ s. tt };
+      owned = tt;
+      page_knows = λ page t e d.
+          let page_is : new_page ≡ page = same_Some _ _ (sym new.home ∙ e) in
+          let t_is : 0 ≡ t = let z = zero_at 1 in omega arith in
+          (subst (λ z. Knows z [] t (slice_index b.side.words 0)) page_is (subst (λ z. Knows new_page [] z (slice_index b.side.words 0)) t_is (subst (λ z. Knows new_page [] 0 z) (sym (zero_at 0)) new_knows)), tt);
+      parts = new_part;
+      chosen = λ p c t e o f g out. absurd (bus.resting_apart t e (sym (ap (λ (z : Core E). z.phase) (new.senders p c f).1) ∙ g));
+    }
+
+    pub new_is_lawful : LawfulBus P x b []
+    new_is_lawful = record {
+      side = record { words = ap length new.words ∙ replicated (words_of x); sending = new_sending };
+      receivers = λ r v e.
+          let n = new.receivers r v e in
+          let none : take v.place (log_words []) ≡ [] = nothing v.place in
+          record {
+            senders = n.0;
+            log = n.1;
+            len_at = n.2;
+            log_words = n.3;
+            receives = record {
+              place_below = (let a = n.4 in let d = n.5 in omega arith);
+              known_below = (let a = n.4 in omega arith);
+              has_read = subst (λ z. HasRead x.senders (take z (log_words [])) (take z (log_pieces [])) v.frames) (sym n.5) n.6;
+            };
+          };
+    }
+
+  new_puts : (b : Bus E) → IsNew x b → (s : ℕ) → put_by b [] s ≡ []
+  new_puts b new s = waiting_new (slice_get b.side.senders s) refl
+    where
+      waiting_new : (o : Option (Core E)) → slice_get b.side.senders s ≡ o → waiting_of o ≡ []
+      waiting_new None e = refl
+      waiting_new (Some c) e = ap (λ z. waiting_of (Some z)) (new.senders s c e).1
+
+  -- the headline: whatever happens to a new bus, in whatever order, it keeps its promises; and what a sender has put is what its
+  -- accepted puts were, in their order
+  pub headline : (events : List Event) (b b' : Bus E) → IsNew x b → (run : Runs X b events b') → (frames : List Frame) × KeepsPromises P x b' frames × ((s : ℕ) → put_by b' frames s ≡ accepted_in X b events b' run s)
+  headline events b b' new run =
+      let r = run_left events b b' [] (new_is_lawful b new) run in
+      (r.frames_now, keeps_promises X P laws x ok width starts owner_is b' r.frames_now r.lawful, λ s. r.puts s ∙ ap (λ z. z ++ accepted_in X b events b' run s) (new_puts b new s))
+
+  -- the log of a later moment begins with that of an earlier one
+  pub growing : (events more_events : List Event) (b mid later : Bus E) → IsNew x b → Runs X b events mid → Runs X mid more_events later → (frames : List Frame) × (more : List Frame) × KeepsPromises P x mid frames × KeepsPromises P x later (frames ++ more)
+  growing events more_events b mid later new run run' =
+      let r = run_left events b mid [] (new_is_lawful b new) run in
+      let q = run_left more_events mid later r.frames_now r.lawful run' in (
+        r.frames_now,
+        q.continues.more,
+        keeps_promises X P laws x ok width starts owner_is mid r.frames_now r.lawful,
+        subst (KeepsPromises P x later) (sym q.continues.together) (keeps_promises X P laws x ok width starts owner_is later q.frames_now q.lawful),
+      )
