@@ -1,16 +1,15 @@
 -- What a reading of a log knows along the words.
-use Rattle.std.proofs.Common.{◌≡◌, ℕ, zero, suc, ◌+◌, ◌<◌, ◌≤◌, List, [], ◌∷◌, ◌++◌, length, get_or, take, drop, Bool, true, false, refl, sym, ap, ◌∙◌, subst, append_assoc, append-nil, arith, Ok, Err, Some, None}
-use Rattle.std.specs.Prelude.{Option, Result, ◌||◌}
+use Rattle.std.proofs.Common.{◌≡◌, ℕ, suc, ◌<◌, List, [], ◌∷◌, ◌++◌, length, get_or, take, drop, Bool, true, false, refl, sym, ap, ◌∙◌, subst, append_assoc, append-nil}
+use Rattle.std.specs.Prelude.{Option, ◌||◌}
 use Rattle.std.specs.List.{flat_map, list_any}
-use Rattle.std.proofs.lemmas.List.{take-append-drop, take_more}
+use Rattle.std.proofs.lemmas.List.{take-append-drop}
 use Rattle.std.proofs.Math.Seq.{drop-cons}
 use Rattle.bus_register.specs.declared.registers.SenderNo.{SenderNo}
 use Rattle.bus_batch.specs.declared.messages.Item.{Item}
 use Rattle.bus_batch.specs.declared.messages.Piece.{Piece}
-use Rattle.bus_batch.specs.Frames.{Order, Spells, IsLog, BeginsLog, IsBadWord, piece_items, piece_owners, is_end, order_in, owners_in}
+use Rattle.bus_batch.specs.Frames.{Order, Spells, IsLog, BeginsLog, piece_items, piece_owners, is_end, order_in, owners_in}
 use Rattle.bus_batch.specs.Reading.{Reading, HasRead}
 use Rattle.bus_batch.proofs.PieceLaws.{flat_map-append, list_any-append, order_made}
-use Rattle.bus_deliverylog.specs.Logs.{IsFirstBad, IsTorn, StopsAtGood}
 
 -- a reader has read these words, and what was noted is what their pieces say
 pub record Reads (senders : ℕ) (words : List ℕ) (reader : Reading) (order : Order) (owners : List (ℕ × SenderNo)) : Type 0 where

@@ -1,12 +1,12 @@
 -- What one good word does to a receiver.
-use Rattle.std.proofs.Common.{◌≡◌, ℕ, ◌+◌, List, [], ◌∷◌, ◌++◌, length, Bool, refl, sym, ap, ◌∙◌, subst, inl, inr}
+use Rattle.std.proofs.Common.{◌≡◌, ℕ, ◌+◌, List, [], ◌∷◌, ◌++◌, Bool, sym, ap, ◌∙◌, subst, inr}
 use Rattle.std.specs.Prelude.{Option}
 use Rattle.std.proofs.lemmas.List.{length-append}
 use Rattle.bus_batch.specs.declared.messages.Piece.{Piece}
 use Rattle.bus_batch.specs.Frames.{GivesPiece, is_end}
 use Rattle.bus_batch.specs.Reading.{Reading, HasRead}
 use Rattle.bus_deliverylog.specs.declared.receiving.RecvTurn.{RecvTurn}
-use Rattle.bus_deliverylog.specs.Receiving.{Receiving, HasReceived, TakesGood, TakesWord, turn_of}
+use Rattle.bus_deliverylog.specs.Receiving.{Receiving, HasReceived, TakesWord, turn_of}
 
 -- the receiver after a good word
 abbrev pub moved : Receiving → Reading → Bool → Receiving

@@ -1,5 +1,5 @@
 -- What a reading of a whole log answers.
-use Rattle.std.specs.Prelude.{◌≡◌, ℕ, ◌<◌, List, [], ◌∷◌, ◌++◌, length, take, slice_index, ◌+◌}
+use Rattle.std.specs.Prelude.{ℕ, ◌<◌, List, length, take, slice_index, ◌+◌}
 use Rattle.bus_batch.specs.Frames.{IsLog, BeginsLog, IsBadWord}
 
 -- the word at a place is the first bad one: the words before it begin a log

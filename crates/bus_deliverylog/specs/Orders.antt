@@ -1,4 +1,5 @@
--- Orders, and what the log says of them.
+-- Orders: the one list of items that all receivers are given parts of (total order, and of each sender its own order, as in
+-- Hadzilacos and Toueg 1994).
 use Rattle.std.specs.Prelude.{◌≡◌, ℕ, ◌++◌, List, filter, true, ◌==◌}
 use Rattle.bus_batch.specs.declared.messages.Item.{Item}
 use Rattle.bus_batch.specs.Frames.{Order}

@@ -3,6 +3,7 @@ pub mod NumberLaws
 pub mod Election
 pub mod ElectionSized
 pub mod ElectionNames
+pub mod ElectionAsks
 pub mod ElectionKeeps
 pub mod ElectionCases
 pub mod ElectionSteps

@@ -60,7 +60,8 @@ impl<Q: Ratifier + Drop> Election<Q> {
         requires few { n ≤ 64 }
         requires rounds_some { 1 ≤ rounds }
         requires rounds_few { rounds ≤ 8 }
-        ensures { result ≡ (election_protocol (decide_protocol Q.protocol conciliator_protocol) decision_cost rounds).width n }
+        ensures words { result ≡ n + bits_of n * (rounds * Q.protocol.width n + (rounds - 1) * (n + 2) + 1) }
+        ensures protocol { result ≡ (election_protocol (decide_protocol Q.protocol conciliator_protocol) decision_cost rounds).width n }
     {
         n + bits(n) * Decide::<Q>::width(n, rounds)
     }

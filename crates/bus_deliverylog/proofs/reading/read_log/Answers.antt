@@ -1,10 +1,10 @@
-use Rattle.std.proofs.Common.{◌≡◌, ◌+◌, ◌<◌, ◌≤◌, List, ℕ, length, get_or, take, [], ◌∷◌, ◌++◌, refl, ap, ◌∙◌, sym, subst, arith}
+use Rattle.std.proofs.Common.{◌≡◌, ◌+◌, get_or, take, [], ◌∷◌, ◌++◌, refl, ◌∙◌, sym, subst, arith}
 use Rattle.std.proofs.lemmas.List.{take_all, take_more}
-use Rattle.bus_batch.specs.Frames.{BeginsLog, IsBadWord, IsLog, Spells, order_in, owners_in}
+use Rattle.bus_batch.specs.Frames.{BeginsLog, IsBadWord, Spells, order_in, owners_in}
 use Rattle.bus_batch.proofs.FrameLaws.{spells_one}
 use Rattle.bus_deliverylog.specs.Orders.{order_held}
 use Rattle.bus_deliverylog.specs.Logs.{IsFirstBad, IsTorn}
-use Rattle.bus_deliverylog.proofs.ReadLaws.{Reads, reads_more, begins, spells_begin}
+use Rattle.bus_deliverylog.proofs.ReadLaws.{reads_more, begins, spells_begin}
 use Rattle.bus_deliverylog.proofs.reading.read_log.Goals as goal
 
 pub loop-place-preserved : goal.loop-place-preserved

@@ -1,4 +1,4 @@
-use Rattle.std.proofs.Common.{arith, refl}
+use Rattle.std.proofs.Common.{subst, arith, refl}
 use Rattle.bus_binconsensus.specs.DecideLaw.{DecideLaw}
 use Rattle.bus_binconsensus.specs.DecideLaws.{decide_law}
 use Rattle.bus_binconsensus.specs.Objects.{decide_op, decide_fed, decide_protocol}
@@ -6,13 +6,15 @@ use Rattle.bus_coinconc.specs.Conciliation.{Conciles}
 use Rattle.bus_coinconc.specs.Conciliator.{conciliator_op, conciliator_fed}
 use Rattle.bus_coinconc.specs.ConciliatorLaws.{conciliator_laws}
 use Rattle.bus_coinconc.specs.ConciliatorProtocol.{conciliator_protocol}
+use Rattle.bus_ownerbits.specs.ElectionKeeps.{StageStands}
 use Rattle.bus_ownerbits.specs.ElectionLaws.{election_laws, owner_below}
 use Rattle.bus_ownerbits.specs.ElectionSteps.{turns_after, busy}
+use Rattle.bus_ownerbits.specs.ElectionAsks.{asks_as_told}
 use Rattle.bus_ownerbits.specs.Sizes.{decision_cost}
 use Rattle.bus_ownerbits.proofs.laws.election_is_lawful.Goals as goal
 
-pub returns : goal.returns
-returns g c =
+pub returns-clause-lawful : goal.returns-clause-lawful
+returns-clause-lawful g c =
     let P = g.Q.Ratifier.protocol in
     let law : DecideLaw g.Q.Machine.op g.Q.Machine.fed P conciliator_op conciliator_fed conciliator_protocol =
     decide_law g.Q.Machine.op g.Q.Machine.fed P g.met.Q.Ratifier.laws g.met.Q.Ratifier.quick conciliator_op conciliator_fed conciliator_protocol Conciles conciliator_laws (λ ins outs o. o.valid) (λ n. refl) in
@@ -22,8 +24,12 @@ returns g c =
     record {
       laws = election_laws op fed D decision_cost law.laws law.quick;
       below = owner_below op fed D decision_cost law.laws law.quick;
+      found = λ rounds n at words locals k p i s here e. (subst (λ z. StageStands (D rounds) k.visits n at words p z s) e (k.stands p s here).stage).0;
       turns_start = λ rounds n me at. refl;
       turns_fall = λ s got word. turns_after op fed D decision_cost law.laws law.quick 1 s got word;
       turns_last = λ rounds n me at s b. let e = b.enough in omega arith;
       turns_enough = λ rounds n me at s word o b q. busy op fed D decision_cost law.laws law.quick rounds n me at s b s.stage word o refl q;
     }
+
+pub returns-clause-asks : goal.returns-clause-asks
+returns-clause-asks g c = asks_as_told g.Q.Ratifier.protocol conciliator_protocol

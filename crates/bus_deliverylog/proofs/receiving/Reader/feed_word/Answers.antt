@@ -1,4 +1,4 @@
-use Rattle.std.proofs.Common.{◌≡◌, ◌+◌, Bool, true, false, Some, refl, sym, ap, ◌∙◌}
+use Rattle.std.proofs.Common.{Bool, Some, refl, sym, ap, ◌∙◌}
 use Rattle.bus_batch.specs.Frames.{is_end}
 use Rattle.bus_deliverylog.specs.Receiving.{Receiving, turn_of}
 use Rattle.bus_deliverylog.proofs.ReceiveLaws.{good_word, moved}

@@ -1,0 +1,42 @@
+use Rattle.std.proofs.Common.{◌≡◌, false, is_some, IsSome, sym, ◌∙◌, ap, subst}
+use Rattle.bus_binconsensus.specs.Objects.{decide_protocol}
+use Rattle.bus_coinconc.specs.ConciliatorProtocol.{conciliator_protocol}
+use Rattle.bus_ownerbits.specs.Election.{owner_of}
+use Rattle.bus_tenure.specs.Elections.{election_of}
+use Rattle.bus_tenure.proofs.Lawful.{belongs_after}
+use Rattle.bus_tenure.proofs.Turning.{sender_some, sender_tells, differs, its_op, lost_state, lost_answer, keeps_electing}
+use Rattle.bus_tenure.proofs.cores.SenderCore.elect.Goals as goal
+
+pub invariant_of-self-in_default-owner : goal.invariant_of-self-in_default-owner
+invariant_of-self-in_default-owner g c =
+    let X = election_of g.Q.Machine.kind_of g.Q.Machine.op g.Q.Machine.fed g.Q.Ratifier.protocol in
+    let unowned : is_some (owner_of (decide_protocol g.Q.Ratifier.protocol conciliator_protocol) c.in-Electing.election) ≡ false =
+    sym (sender_tells _) ∙ ap is_some (sym c.owner.ensures) ∙ sym c.is_some.ensures ∙ c.if-is_some.false in
+    keeps_electing _ _ _ c.in-Electing.tenure c.in-Electing.election c.feed.new.self _ c.self.invariant c.in-Electing.is c.feed.ensures
+    (λ b. belongs_after g.Q.Machine.op g.Q.Machine.fed g.Q.Ratifier.protocol g.met.Q.Ratifier.laws g.met.Q.Ratifier.quick c.self.inside.sizes.rounds c.self.inside.sizes.senders c.self.inside.me.0 _ c.in-Electing.election c.args.got c.args.word b
+    (subst IsSome (its_op X _ _ c.self.view_is c.in-Electing.tenure c.in-Electing.election c.in-Electing.is unowned c.args.word) c.requires.steps))
+
+pub invariant_of-self-then-owner-self : goal.invariant_of-self-then-owner-self
+invariant_of-self-then-owner-self g c =
+    let X = election_of g.Q.Machine.kind_of g.Q.Machine.op g.Q.Machine.fed g.Q.Ratifier.protocol in
+    let unowned : is_some (owner_of (decide_protocol g.Q.Ratifier.protocol conciliator_protocol) c.in-Electing.election) ≡ false =
+    sym (sender_tells _) ∙ ap is_some (sym c.owner.ensures) ∙ sym c.is_some.ensures ∙ c.if-is_some.false in
+    keeps_electing _ _ _ c.in-Electing.tenure c.in-Electing.election c.feed.new.self _ c.self.invariant c.in-Electing.is c.feed.ensures
+    (λ b. belongs_after g.Q.Machine.op g.Q.Machine.fed g.Q.Ratifier.protocol g.met.Q.Ratifier.laws g.met.Q.Ratifier.quick c.self.inside.sizes.rounds c.self.inside.sizes.senders c.self.inside.me.0 _ c.in-Electing.election c.args.got c.args.word b
+    (subst IsSome (its_op X _ _ c.self.view_is c.in-Electing.tenure c.in-Electing.election c.in-Electing.is unowned c.args.word) c.requires.steps))
+
+pub returns-clause-state : goal.returns-clause-state
+returns-clause-state g c =
+    let X = election_of g.Q.Machine.kind_of g.Q.Machine.op g.Q.Machine.fed g.Q.Ratifier.protocol in
+    let unowned : is_some (owner_of (decide_protocol g.Q.Ratifier.protocol conciliator_protocol) c.in-Electing.election) ≡ false =
+    sym (sender_tells _) ∙ ap is_some (sym c.owner.ensures) ∙ sym c.is_some.ensures ∙ c.if-is_some.false in
+    lost_state X _ _ c.self.view_is c.in-Electing.tenure c.in-Electing.election c.in-Electing.is unowned c.args.got c.args.word c.feed.new.self c.feed.ensures c.in-Some.owner.0
+    (sender_some _ c.in-Some.owner (sym c.owner-2.ensures ∙ c.in-Some.is)) (differs _ _ c.if-owner-self.false) c.back.new.self c.back.ensures
+
+pub returns-clause-answer : goal.returns-clause-answer
+returns-clause-answer g c =
+    let X = election_of g.Q.Machine.kind_of g.Q.Machine.op g.Q.Machine.fed g.Q.Ratifier.protocol in
+    let unowned : is_some (owner_of (decide_protocol g.Q.Ratifier.protocol conciliator_protocol) c.in-Electing.election) ≡ false =
+    sym (sender_tells _) ∙ ap is_some (sym c.owner.ensures) ∙ sym c.is_some.ensures ∙ c.if-is_some.false in
+    lost_answer X _ _ c.self.view_is c.in-Electing.tenure c.in-Electing.election c.in-Electing.is unowned c.args.got c.args.word c.feed.new.self c.feed.ensures c.in-Some.owner.0
+    (sender_some _ c.in-Some.owner (sym c.owner-2.ensures ∙ c.in-Some.is)) (differs _ _ c.if-owner-self.false)

@@ -1,0 +1,54 @@
+-- What every sender keeps.
+use Rattle.std.specs.Prelude.{◌≡◌, ◌≢◌, ℕ, ◌+◌, ◌<◌, ◌≤◌, ◌^◌, Bool, true, false}
+use Rattle.bus_batch.specs.Batches.{Pending, HasSomething}
+use Rattle.bus_batch.specs.declared.batches.Phase.TheVariants.{Closed}
+use Rattle.bus_tenure.specs.declared.phases.Phase.{Phase}
+use Rattle.bus_tenure.specs.declared.phases.Phase.TheVariants.{Resting, Electing, Taken, Holding, Giving}
+use Rattle.bus_tenure.specs.Core.{Layout, Core, row_at, words_of, frame_len}
+
+-- the sizes of a bus, with so many words in each row
+pub record AreSizes (x : Layout) (width : ℕ) : Type 0 where
+  pub some : 1 ≤ x.senders
+  pub few : x.senders ≤ 8
+  pub rounds_some : 1 ≤ x.rounds
+  pub rounds_few : x.rounds ≤ 8
+  pub rows_few : x.rows ≤ 2 ^ 16
+  pub capacity_few : x.capacity ≤ 2 ^ 20
+  pub width_is : x.width ≡ width
+  pub room : words_of x ≤ 2 ^ 63
+
+-- the contents of a batch are on their way
+pub record IsUnderWay (q : Pending) : Type 0 where
+  pub busy : q.busy ≡ true
+  pub not_closed : q.phase ≢ Closed
+  pub something : HasSomething q
+
+-- in a tenure that the bus has, with the batch under way
+pub record IsInTenure {E : Type 0} (c : Core E) (tenure : ℕ) : Type 0 where
+  pub below : tenure < c.layout.rows
+  pub under_way : IsUnderWay c.queue
+
+-- with the page before it: so many words of the frame are stored; where the length is, the frame has its room
+pub record IsHolding {E : Type 0} (c : Core E) (tenure words stored : ℕ) (published : Bool) : Type 0 where
+  pub in_tenure : IsInTenure c tenure
+  pub within : stored ≤ frame_len c
+  pub room : published ≡ true → words + frame_len c ≤ c.layout.capacity
+
+-- in an election, whose local state belongs to the row of the tenure
+pub record IsElecting {E : Type 0} (Belongs : ℕ → E → Type 0) (c : Core E) (tenure : ℕ) (election : E) : Type 0 where
+  pub in_tenure : IsInTenure c tenure
+  pub belongs : Belongs (row_at c.layout tenure) election
+
+abbrev pub PhaseKeeps : {E : Type 0} → (ℕ → E → Type 0) → Core E → Phase E → Type 0
+PhaseKeeps Belongs c Resting = c.queue.busy ≡ false
+PhaseKeeps Belongs c (Electing t e) = IsElecting Belongs c t e
+PhaseKeeps Belongs c (Taken t) = IsInTenure c t
+PhaseKeeps Belongs c (Holding t page stored published) = IsHolding c t page.words stored published
+PhaseKeeps Belongs c (Giving t leaving) = IsInTenure c t
+
+-- the batch is the sender's own, and as the phase has it
+pub record CoreKeeps {E : Type 0} (width : ℕ) (Belongs : ℕ → E → Type 0) (c : Core E) : Type 0 where
+  pub sizes : AreSizes c.layout width
+  pub me_below : c.me < c.layout.senders
+  pub sender_is : c.queue.sender.0 ≡ c.me
+  pub phase : PhaseKeeps Belongs c c.phase
