@@ -124,6 +124,7 @@ impl Reader {
         ensures length { self.old.place ≡ self.old.known → TakesLength self.old got result self.new }
         ensures word { self.old.place ≢ self.old.known → (words : _) (pieces : _) → HasReceived words pieces self.old → TakesWord words pieces self.old got result self.new }
         ensures place { self.new.place ≤ self.old.place + 1 }
+        ensures senders { self.new.frames.senders ≡ self.old.frames.senders }
     {
         if self.place == self.known {
             return self.feed_length(got);
@@ -135,6 +136,7 @@ impl Reader {
     fn feed_length(&mut self, got: u64) -> RecvTurn
         ensures length { TakesLength self.old got result self.new }
         ensures place { self.new.place ≡ self.old.place }
+        ensures senders { self.new.frames.senders ≡ self.old.frames.senders }
     {
         if got == self.known {
             return RecvTurn::Empty;
@@ -151,6 +153,7 @@ impl Reader {
         requires going { self.old.ended ≡ false }
         ensures word { (words : _) (pieces : _) → HasReceived words pieces self.old → TakesWord words pieces self.old got result self.new }
         ensures place { self.new.place ≤ self.old.place + 1 }
+        ensures senders { self.new.frames.senders ≡ self.old.frames.senders }
     {
         let mut frames = self.frames.copied();
         let Ok(found) = frames.feed(got) else {
