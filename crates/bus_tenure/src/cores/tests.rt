@@ -88,6 +88,7 @@ fn alone_in_the_first_tenure(rt: HostRuntime) -> Result<(), Fail> {
     assert_eq!(rt; word(&rt, &cells, STAGE), 2);
     assert_eq!(rt; core.pending(), 0);
     assert_eq!(rt; core.rest(), Turn::Idle);
+    assert_eq!(rt; core.next_number(), 1);
     let next = core.put(b"b").ok().expect(&rt, "put");
     assert_eq!(rt; next, 1);
     assert_eq!(rt; core.rest(), Turn::Spent);
