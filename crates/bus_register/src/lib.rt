@@ -6,6 +6,8 @@ pub mod kinds;
 pub mod machines;
 pub mod memory;
 pub mod registers;
+#[cfg(test)]
+mod tests;
 
 pub use kinds::Kind;
 pub use machines::Machine;
