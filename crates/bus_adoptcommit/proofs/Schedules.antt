@@ -5,12 +5,13 @@ use Rattle.std.proofs.Common.{replicate, slice_index, drop, ◌≡◌, ◌≢◌
 use Rattle.std.proofs.lemmas.Bool.{cases_eq, cases_lt, true≢false, lt-ltb, le-ltb}
 use Rattle.std.proofs.lemmas.Bool.Decides.{eqb_tells}
 use Rattle.std.proofs.lemmas.Grind.{common_steps}
-use Rattle.std.proofs.lemmas.List.{get_or-replicate}
+use Rattle.std.proofs.lemmas.List.{get_or-replicate, length-map, length-replicate, take_all}
 use Rattle.std.proofs.lemmas.List.Sums.{count_by_more_yes, count_by_more_no}
-use Rattle.std.proofs.lemmas.Option.{gets, same_Some, slice_get_past, slice_get_within, slice_get-map}
+use Rattle.std.proofs.lemmas.Option.{same_Some, slice_get_past, slice_get_within, slice_get-map}
 use Rattle.bus_register.specs.declared.registers.Op.{Op}
 use Rattle.bus_register.specs.Protocol.{Protocol, Laws, counted, inputs, outputs}
 use Rattle.bus_register.specs.Tables.{of_some}
+use Rattle.bus_register.specs.TableLaws.{some_or_none, here_not}
 use Rattle.bus_adoptcommit.specs.declared.verdicts.Verdict.{Verdict}
 use Rattle.bus_adoptcommit.specs.Agreement.{Legal}
 use Rattle.bus_adoptcommit.specs.AgreementLaws.{Legal-fewer}
@@ -18,31 +19,13 @@ use Rattle.bus_adoptcommit.specs.Plays.{AtStarts, Turn, IsExact, Verdicts}
 use Rattle.bus_adoptcommit.specs.Schedule.{table_of, entries, entered, finished, LegalThroughout}
 
 -- ── lists ──
-some_or_none : {A : Type 0} (o : Option A) → (o ≡ None) ⊎ ((x : A) × (o ≡ Some x))
-some_or_none None = inl refl
-some_or_none (Some x) = inr (x, refl)
-
--- a place within a list has an element
-here_not : {A : Type 0} (xs : List A) (p : ℕ) → p < length xs → slice_get xs p ≡ None → ⊥
-here_not xs p l e = grind (arith, common_steps, gets)
-
--- a list that is taken whole
-take_past : {A : Type 0} (k : ℕ) (xs : List A) → length xs ≤ k → take k xs ≡ xs
-take_past k xs h = grind (arith, common_steps)
-
 -- a vector that was lent whole
 pub whole : {A : Type 0} (xs ys : List A) (k : ℕ) → k ≡ length xs → length ys ≡ length xs → take k (xs ++ drop (length xs) ys) ≡ xs
 whole xs ys k e f = grind (arith, common_steps)
 
--- lengths
-length-replicate : (k : ℕ) → length {A = ℕ} (replicate k 0) ≡ k
-length-replicate k = grind (arith, common_steps)
-
+-- words of zero
 pub length-zeros : (cells : List ℕ) (k : ℕ) → cells ≡ replicate k 0 → length cells ≡ k
-length-zeros cells k e = ap length e ∙ length-replicate k
-
-length-mapped : {A B : Type 0} (f : A → B) (xs : List A) → length (map f xs) ≡ length xs
-length-mapped f xs = grind (arith, common_steps)
+length-zeros cells k e = ap length e ∙ length-replicate k 0
 
 -- ── the entries of a schedule ──
 entry_here : (schedule : List ℕ) (i p : ℕ) → i < length schedule → get_or schedule i 0 ≡ p → entries (take (i + 1) schedule) p ≡ entries (take i schedule) p + 1
@@ -258,12 +241,12 @@ module _ {S : Type 0} (op : S → ℕ → Option Op) (fed : S → ℕ → ℕ �
 
     -- the whole schedule was played
     all_follow : AllFollow op fed P (length given) given schedule processes
-    all_follow = subst (λ z. AllFollow op fed P (length given) given z processes) (take_past i schedule l) h.follows
+    all_follow = subst (λ z. AllFollow op fed P (length given) given z processes) (take_all i schedule l) h.follows
 
     legal_after : (j : ℕ) → Legal (entered given (take j schedule)) (finished (P.steps (length given)) (outputs P (slice_get processes)) (take j schedule))
     legal_after j = elim (cases_lt i j) [
       | inr c ↦ h.legal j c
-      | inl c ↦ subst (λ z. Legal (entered given z) (finished (P.steps (length given)) (outputs P (slice_get processes)) z)) (take_past i schedule l ∙ sym (take_past j schedule (omega arith))) (h.legal i (omega arith))
+      | inl c ↦ subst (λ z. Legal (entered given z) (finished (P.steps (length given)) (outputs P (slice_get processes)) z)) (take_all i schedule l ∙ sym (take_all j schedule (omega arith))) (h.legal i (omega arith))
     ]
 
     -- the verdict of a process with all its entries
@@ -284,7 +267,7 @@ module _ {S : Type 0} (op : S → ℕ → Option Op) (fed : S → ℕ → ℕ �
     -- all that is promised
     pub verdicts_after : Verdicts op fed P given schedule outs
     verdicts_after = record {
-      one_each = ap length e ∙ length-mapped P.output processes ∙ h.size;
+      one_each = ap length e ∙ length-map processes P.output ∙ h.size;
       throughout = subst (LegalThroughout (P.steps (length given)) given schedule) (sym verdicts_are) legal_after;
       at_end = subst (Legal (entered given schedule)) (sym verdicts_are) (legal_now (length given) given schedule processes ws h.size all_follow k);
       stands = λ p below c. subst (λ z. IsSome (z p)) (sym verdicts_are) (elim (some_or_none (slice_get processes p)) [

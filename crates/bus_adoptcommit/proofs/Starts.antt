@@ -1,31 +1,16 @@
 -- Processes come to their starts one after another.
-use Rattle.std.proofs.Common.{◌≡◌, ◌≢◌, ℕ, ◌+◌, ◌<◌, ◌≤◌, Bool, List, [], ◌∷◌, ◌++◌, length, slice_get, Option, Some, None, inl, inr, arith, refl, sym, ◌∙◌, ap, subst}
+use Rattle.std.proofs.Common.{◌≡◌, ℕ, ◌+◌, ◌<◌, ◌≤◌, Bool, List, [], ◌∷◌, ◌++◌, slice_get, Option, Some, inl, inr, arith, sym, ◌∙◌, ap, subst}
 use Rattle.std.proofs.lemmas.Bool.{cases_eq}
-use Rattle.std.proofs.lemmas.Grind.{common_steps}
 use Rattle.std.proofs.lemmas.List.{length_push}
-use Rattle.std.proofs.lemmas.Option.{gets, same_Some, slice_get_past}
+use Rattle.std.proofs.lemmas.Option.{same_Some, slice_get_past}
 use Rattle.bus_register.specs.declared.registers.Op.{Op}
 use Rattle.bus_register.specs.Protocol.{Protocol, Laws}
+use Rattle.bus_register.specs.TableLaws.{push_here, push_beside}
 use Rattle.bus_adoptcommit.specs.declared.verdicts.Verdict.{Verdict}
 use Rattle.bus_adoptcommit.specs.Agreement.{Legal}
 use Rattle.bus_adoptcommit.specs.Plays.{AtStarts}
 
--- a list with one element more
-push_here : {A : Type 0} (xs : List A) (x : A) (p : ℕ) → p ≡ length xs → slice_get (xs ++ x ∷ []) p ≡ Some x
-push_here xs x p e = grind (arith, common_steps, gets)
-
-push_beside : {A : Type 0} (xs : List A) (x : A) (p : ℕ) → p ≢ length xs → slice_get (xs ++ x ∷ []) p ≡ slice_get xs p
-push_beside xs x p ne = grind (arith, common_steps, gets)
-
--- an empty list has no element
-nobody : {A : Type 0} (p : ℕ) → slice_get {X = A} [] p ≡ None
-nobody p = refl
-
 module _ {S : Type 0} (op : S → ℕ → Option Op) (fed : S → ℕ → ℕ → S) (P : Protocol S Bool Verdict) (laws : Laws op fed P Legal) where
-  -- before the first
-  pub starts_none : (n : ℕ) (given : List Bool) → AtStarts P n 0 given []
-  starts_none n given = record { size = refl; starts = λ p s e. absurd cc; kept = laws.frame n 0 (λ _. 0) (λ _. 0) (λ _. None) (slice_get []) (laws.fresh n 0 (λ _. 0) (λ r a b. refl)) (λ r a b. refl) (λ q. nobody q) }
-
   -- one more
   pub starts_one : (n i : ℕ) (given : List Bool) (processes new : List S) (v : Bool) (s : S) → AtStarts P n i given processes → slice_get given i ≡ Some v → i < n → n ≤ 64 → s ≡ P.started n i v 0 → new ≡ processes ++ s ∷ [] → AtStarts P n (i + 1) given new
   starts_one n i given processes new v s h e below few is pushed =

@@ -1,9 +1,7 @@
 -- What follows of adopt-commit.
 use Rattle.std.proofs.Common.{◌≡◌, ℕ, Bool, Option, Some}
-use Rattle.bus_register.specs.declared.registers.Op.{Op}
-use Rattle.bus_register.specs.Protocol.{Protocol, Laws}
 use Rattle.bus_adoptcommit.specs.declared.verdicts.Verdict.{Verdict}
-use Rattle.bus_adoptcommit.specs.Agreement.{WeaklyLegal, Legal}
+use Rattle.bus_adoptcommit.specs.Agreement.{Legal}
 
 -- fewer outputs are legal too
 pub Legal-fewer : (inputs : ℕ → Option Bool) (outputs fewer : ℕ → Option Verdict) → ((p : ℕ) (d : Verdict) → fewer p ≡ Some d → outputs p ≡ Some d) → Legal inputs outputs → Legal inputs fewer

@@ -1,5 +1,5 @@
 -- What follows of tables, and of words that a list holds.
-use Rattle.std.proofs.Common.{◌≡◌, ℕ, ◌<◌, List, length, slice_get, slice_index, slice_set, Option, Some, None, inl, inr, arith, refl, ◌∙◌, ap}
+use Rattle.std.proofs.Common.{◌≡◌, ◌≢◌, ℕ, ◌<◌, List, [], ◌∷◌, ◌++◌, length, slice_get, slice_index, slice_set, Option, Some, None, ◌⊎◌, inl, inr, arith, refl, ◌∙◌, ap}
 use Rattle.std.proofs.lemmas.Bool.Decides.{eqb_tells}
 use Rattle.std.proofs.lemmas.Grind.{common_steps}
 use Rattle.std.proofs.lemmas.List.{get_or-set_same, get_or-set_other}
@@ -20,6 +20,22 @@ put_beside p x table q ne = elim (eqb_tells q p) [ inl h ↦ absurd (ne h.1) | i
 pub some_of : {A B : Type 0} (f : A → Option B) (o : Option A) (b : B) → of_some f o ≡ Some b → (s : A) × (o ≡ Some s) × (f s ≡ Some b)
 some_of f None b e = absurd cc
 some_of f (Some s) b e = (s, refl, e)
+
+-- an option has a value or none
+pub some_or_none : {A : Type 0} (o : Option A) → (o ≡ None) ⊎ ((x : A) × (o ≡ Some x))
+some_or_none None = inl refl
+some_or_none (Some x) = inr (x, refl)
+
+-- a place within a list has an element
+pub here_not : {A : Type 0} (xs : List A) (p : ℕ) → p < length xs → slice_get xs p ≡ None → ⊥
+here_not xs p l e = grind (arith, common_steps, gets)
+
+-- a list with one element more
+pub push_here : {A : Type 0} (xs : List A) (x : A) (p : ℕ) → p ≡ length xs → slice_get (xs ++ x ∷ []) p ≡ Some x
+push_here xs x p e = grind (arith, common_steps, gets)
+
+pub push_beside : {A : Type 0} (xs : List A) (x : A) (p : ℕ) → p ≢ length xs → slice_get (xs ++ x ∷ []) p ≡ slice_get xs p
+push_beside xs x p ne = grind (arith, common_steps, gets)
 
 -- a list with another element at p
 pub get_set_same : {A : Type 0} (xs : List A) (p : ℕ) (x : A) → p < length xs → slice_get (slice_set xs p x) p ≡ Some x
