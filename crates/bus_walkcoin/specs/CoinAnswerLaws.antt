@@ -3,9 +3,10 @@ use Rattle.std.proofs.Common.{◌≡◌, ◌≢◌, ℕ, ◌+◌, ◌-◌, ◌<�
 use Rattle.std.specs.Prelude.{◌↔◌, filter, count_by}
 use Rattle.std.specs.List.{enumerate_from}
 use Rattle.std.proofs.Math.Nat.{suc-mod, mod_self, mod-le, mod-eq_of_lt}
+use Rattle.std.proofs.lemmas.Bool.{ltb-true, ltb-false, lt-ltb}
 use Rattle.std.proofs.lemmas.Bool.Decides.{nat_tests, eqb_tells}
 use Rattle.std.proofs.lemmas.Int.{ints}
-use Rattle.std.proofs.lemmas.List.{map-append, drop-append-le, append-nil, drop_all}
+use Rattle.std.proofs.lemmas.List.{map-append, drop-append-le, append-nil, drop_all, length_push}
 use Rattle.std.proofs.lemmas.List.Elements.{filter-append}
 use Rattle.std.proofs.lemmas.List.Sums.{sum_by-append, sum_by-cons}
 use Rattle.bus_votecount.specs.declared.tallies.Tally.{Tally}
@@ -14,7 +15,6 @@ use Rattle.bus_walkcoin.specs.declared.coins.Phase.{Phase}
 use Rattle.bus_walkcoin.specs.declared.coins.Phase.TheVariants.{Vote, ReadVotes, Answered}
 use Rattle.bus_walkcoin.specs.Coin.{CoinState, after_settled, after_load, coin_started, answer_at, wants_at, coin_op, coin_fed, op_at, fed_at}
 use Rattle.bus_walkcoin.specs.CoinRule.{Entry, is_head, settled, votes, counted, total_seen, coin_answer, coin_votes}
-use Rattle.bus_walkcoin.specs.CoinLaws.{is_lt, not_lt, lt_is}
 use Rattle.bus_walkcoin.specs.CoinAnswer.{Took, CoinAnswer, Unanswered}
 
 -- ---- one step more in a list
@@ -54,9 +54,6 @@ votes_load n trail e r = votes_push n trail e ∙ elim (eqb_tells (length trail 
 
 total_push : (xs : List Tally) (x : Tally) → total_of (xs ++ x ∷ []) ≡ total_of xs +ℤ total_of (x ∷ [])
 total_push xs x = omega (arith, ints, sum_by-append (λ t. t.heads) xs (x ∷ []), sum_by-append (λ t. t.tails) xs (x ∷ []))
-
-length_push : {X : Type 0} (xs : List X) (x : X) → length (xs ++ x ∷ []) ≡ length xs + 1
-length_push xs x = length-append xs (x ∷ [])
 
 -- the place in a round, one step later
 place_more : (k n r : ℕ) → k % (n + 1) ≡ r → r < n → (k + 1) % (n + 1) ≡ r + 1
@@ -98,11 +95,11 @@ settled_stands n trail (Some answer) r e = (r, e)
 load_stands : (n votes' of : ℕ) (lead : ℤ) (trail : List Entry) (b : Bool) → nat_lt (of + 1) n ≡ b → of < n
     → (of + 1 < n → length trail % (n + 1) ≡ of + 2) → (of + 1 ≡ n → (length trail % (n + 1) ≡ 0) × (coin_answer n trail ≡ settled n votes' lead)) → lead ≡ total_seen (of + 1) trail
     → StandsAt n trail (cond b (ReadVotes (of + 1) lead) (after_settled (settled n votes' lead)))
-load_stands n votes' of lead trail true e h more last sum = let l = is_lt (of + 1) n e in (more l ∙ omega arith, l, sum)
-load_stands n votes' of lead trail false e h more last sum = let l = not_lt (of + 1) n e in let a = last (omega arith) in settled_stands n trail (settled n votes' lead) a.0 a.1
+load_stands n votes' of lead trail true e h more last sum = let l = ltb-true (of + 1) n e in (more l ∙ omega arith, l, sum)
+load_stands n votes' of lead trail false e h more last sum = let l = ltb-false (of + 1) n e in let a = last (omega arith) in settled_stands n trail (settled n votes' lead) a.0 a.1
 
 round_is : (n : ℕ) (trail : List Entry) → 0 < length trail → length trail % (n + 1) ≡ 0 → coin_answer n trail ≡ settled n (length (votes n trail)) (total_seen n trail)
-round_is n trail some r = ap (λ z. cond (z && (length trail % (n + 1) == 0)) (settled n (length (votes n trail)) (total_seen n trail)) None) (lt_is 0 (length trail) some) ∙ ap (λ z. cond (z == 0) (settled n (length (votes n trail)) (total_seen n trail)) None) r
+round_is n trail some r = ap (λ z. cond (z && (length trail % (n + 1) == 0)) (settled n (length (votes n trail)) (total_seen n trail)) None) (lt-ltb 0 (length trail) some) ∙ ap (λ z. cond (z == 0) (settled n (length (votes n trail)) (total_seen n trail)) None) r
 
 step_stands : (ph : Phase) (n : ℕ) (trail : List Entry) (s : CoinState) (e : Entry) → 0 < n → s.n ≡ n → s.own ≡ counted (votes n trail) → StandsAt n trail ph → IsSome (op_at ph s e.word) → Stands n (trail ++ e ∷ []) (fed_at ph s e.got e.word)
 step_stands Vote n trail s e some n_is own h next = record {

@@ -1,6 +1,6 @@
 -- What follows of single steps of a coin.
-use Rattle.std.proofs.Common.{◌≡◌, ◌≢◌, ℕ, ◌+◌, ◌*◌, ◌<◌, ◌≤◌, ◌^◌, Bool, true, false, cond, Option, Some, None, is_some, [], ◌∷◌, nat_lt, nat_eq, ℤ, pos, neg_ℤ, ◌+ℤ◌, ◌≤ℤ◌, arith, refl}
-use Rattle.std.proofs.lemmas.Bool.Decides.{nat_tests}
+use Rattle.std.proofs.Common.{◌≡◌, ◌≢◌, ℕ, ◌+◌, ◌*◌, ◌<◌, ◌≤◌, ◌^◌, Bool, true, false, cond, Option, Some, None, is_some, [], ◌∷◌, nat_lt, ℤ, pos, neg_ℤ, ◌+ℤ◌, ◌≤ℤ◌, arith, refl}
+use Rattle.std.proofs.lemmas.Bool.{ltb-true, eqb-false}
 use Rattle.std.proofs.lemmas.Int.{ints}
 use Rattle.bus_votecount.specs.Tally.{tally_of, total_of}
 use Rattle.bus_walkcoin.specs.declared.coins.Phase.{Phase}
@@ -16,18 +16,6 @@ names_at (Answered answer) s word = refl
 pub coin_names_each_step : (s : CoinState) (word : ℕ) → is_some (coin_kind s) ≡ is_some (coin_op s word)
 coin_names_each_step s word = names_at s.phase s word
 
-pub is_lt : (a b : ℕ) → nat_lt a b ≡ true → a < b
-is_lt a b e = grind (arith, nat_tests)
-
-pub not_lt : (a b : ℕ) → nat_lt a b ≡ false → b ≤ a
-not_lt a b e = grind (arith, nat_tests)
-
-pub lt_is : (a b : ℕ) → a < b → nat_lt a b ≡ true
-lt_is a b h = grind (arith, nat_tests)
-
-not_eq : (a b : ℕ) → nat_eq a b ≡ false → a ≢ b
-not_eq a b e = grind (arith, nat_tests)
-
 open_if : (a b c d : Bool) → cond a (Some true) (cond b (Some false) (cond c (Some d) None)) ≡ None → c ≡ false
 open_if true b c d e = absurd cc
 open_if false true c d e = absurd cc
@@ -36,14 +24,14 @@ open_if false false false d e = refl
 
 -- without an answer, votes are left
 pub settled_none : (n votes : ℕ) (lead : ℤ) → settled n votes lead ≡ None → votes ≢ 64
-settled_none n votes lead e = not_eq votes 64 (open_if _ _ _ _ e)
+settled_none n votes lead e = eqb-false votes 64 (open_if _ _ _ _ e)
 
 settled_fits : (n votes : ℕ) (o : Option Bool) → 0 < votes → votes ≤ 64 → (o ≡ None → votes ≢ 64) → PhaseFits n votes (after_settled o)
 settled_fits n votes None some most ne = let h = ne refl in omega arith
 settled_fits n votes (Some answer) some most ne = some
 
 load_if : (n votes of : ℕ) (lead : ℤ) (b : Bool) → nat_lt (of + 1) n ≡ b → 0 < votes → votes ≤ 64 → PhaseFits n votes (cond b (ReadVotes (of + 1) lead) (after_settled (settled n votes lead)))
-load_if n votes of lead true e some most = (is_lt (of + 1) n e, some)
+load_if n votes of lead true e some most = (ltb-true (of + 1) n e, some)
 load_if n votes of lead false e some most = settled_fits n votes (settled n votes lead) some most (settled_none n votes lead)
 
 -- after a load the next step fits

@@ -1,6 +1,6 @@
 -- The coin keeps the laws of a protocol.
 use Rattle.std.proofs.Common.{◌≡◌, ◌≢◌, ℕ, ◌+◌, ◌-◌, ◌*◌, ◌<◌, ◌≤◌, Bool, true, false, cond, Option, Some, None, IsSome, ◌⊎◌, inl, inr, nat_lt, [], ◌∷◌, ℤ, pos, ◌+ℤ◌, arith, refl, sym, ◌∙◌, ap, subst}
-use Rattle.std.proofs.lemmas.Bool.{cases_eq}
+use Rattle.std.proofs.lemmas.Bool.{cases_eq, ltb-true, lt-ltb}
 use Rattle.std.proofs.lemmas.Option.{same_Some}
 use Rattle.bus_register.specs.declared.registers.Op.{Op}
 use Rattle.bus_register.specs.Words.{register, after, SumFits}
@@ -12,7 +12,7 @@ use Rattle.bus_walkcoin.specs.declared.coins.Phase.{Phase}
 use Rattle.bus_walkcoin.specs.declared.coins.Phase.TheVariants.{Vote, ReadVotes, Answered}
 use Rattle.bus_walkcoin.specs.Coin.{CoinState, after_settled, after_load, coin_started, answer_at, wants_at, coin_op, coin_fed, op_at, fed_at, PhaseFits}
 use Rattle.bus_walkcoin.specs.CoinRule.{settled, is_head}
-use Rattle.bus_walkcoin.specs.CoinLaws.{is_lt, lt_is, load_fits}
+use Rattle.bus_walkcoin.specs.CoinLaws.{load_fits}
 use Rattle.bus_walkcoin.specs.CoinProtocol.{left_at, begun_at, Belongs, tally_at, Keeps, coin_protocol, AnyAnswers}
 
 -- a vote is one more
@@ -29,11 +29,11 @@ settled_left n votes None = omega arith
 settled_left n votes (Some answer) = omega arith
 
 settled_begun : (votes : ℕ) (o : Option Bool) → 0 < votes → begun_at votes (after_settled o) ≡ true
-settled_begun votes None h = lt_is 0 votes h
+settled_begun votes None h = lt-ltb 0 votes h
 settled_begun votes (Some answer) h = refl
 
 left_if : (n votes of : ℕ) (lead : ℤ) (b : Bool) → nat_lt (of + 1) n ≡ b → of < n → left_at n votes (cond b (ReadVotes (of + 1) lead) (after_settled (settled n votes lead))) < (64 - votes) * (n + 1) + (n - of)
-left_if n votes of lead true e h = let g = is_lt (of + 1) n e in omega arith
+left_if n votes of lead true e h = let g = ltb-true (of + 1) n e in omega arith
 left_if n votes of lead false e h = let g = settled_left n votes (settled n votes lead) in omega arith
 
 load_left : (n votes of : ℕ) (lead : ℤ) → of < n → left_at n votes (after_load n votes of lead) < (64 - votes) * (n + 1) + (n - of)
