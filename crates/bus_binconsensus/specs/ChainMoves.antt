@@ -1,6 +1,6 @@
 -- A step of one process keeps what a chain keeps, and so does a start.
 use Rattle.std.proofs.Common.{◌≡◌, ◌≢◌, ℕ, ◌+◌, ◌-◌, ◌<◌, ◌≤◌, Bool, cond, Option, Some, None, inl, inr, ◌⊎◌, arith, refl, sym, ◌∙◌, ap, subst}
-use Rattle.std.proofs.lemmas.Bool.{cases_eq}
+use Rattle.std.proofs.lemmas.Bool.{cases_eq, cases_lt}
 use Rattle.std.proofs.lemmas.Bool.Decides.{eqb_tells}
 use Rattle.std.proofs.lemmas.Option.{same_Some}
 use Rattle.bus_register.specs.declared.registers.Op.{Op}
@@ -12,9 +12,6 @@ use Rattle.bus_adoptcommit.specs.declared.verdicts.Verdict.{Verdict}
 use Rattle.bus_adoptcommit.specs.declared.verdicts.Verdict.TheVariants.{Commit, Adopt}
 use Rattle.bus_binconsensus.specs.Chain.{Objects, HandsOn, Link, span, entered, handed_by, chain_fed, chain_started, Passed, Walk, Rests, ChainKeeps}
 use Rattle.bus_binconsensus.specs.ChainSteps.{span_own, span_next, span_below, span_within}
-
-by_order : (a b : ℕ) → a ≢ b → (a < b) ⊎ (b < a)
-by_order a b ne = grind arith
 
 -- a table of tables with another value at one place
 abbrev pub put_at : {A : Type 0} → ℕ → ℕ → A → (ℕ → ℕ → A) → ℕ → ℕ → A
@@ -104,9 +101,9 @@ module _ {X : Type 0} (op : X → ℕ → Option Op) (fed : X → ℕ → ℕ �
               (put_at_here d.after p _ visits) (λ q ne. put_at_process d.after p _ visits d.after q ne)
               record { here = step.here; elsewhere = λ q a b ne. step.elsewhere q (omega arith) (omega arith) ne }))
           | inr ne ↦
-              let apart : (register o < r) ⊎ (r + (objects k).width n ≤ register o) = elim (by_order k d.after ne) [
+              let apart : (register o < r) ⊎ (r + (objects k).width n ≤ register o) = elim (cases_lt k d.after) [
                 | inl lt ↦ let s = span_below objects n k d.after lt in inl (omega arith)
-                | inr gt ↦ let s = span_below objects n d.after k gt in inr (omega arith)
+                | inr ge ↦ let s = span_below objects n d.after k (omega arith) in inr (omega arith)
               ] in
               (laws k).frame n r words words' (visits k) (stepped_visits k) (kept k r h e)
               (λ q a b. step.elsewhere q (omega arith) (omega arith) (λ i. elim apart [ inl x ↦ omega arith | inr x ↦ omega arith ]))

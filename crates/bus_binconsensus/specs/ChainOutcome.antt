@@ -1,7 +1,7 @@
 -- All who come out of a chain have one value, and it is the input of one who has begun.
-use Rattle.std.proofs.Common.{◌≡◌, ℕ, zero, suc, ◌+◌, ◌-◌, ◌<◌, ◌≤◌, Bool, false, true, cond, Option, Some, None, inl, inr, ◌⊎◌, arith, refl, sym, ◌∙◌, ap, subst}
-use Rattle.std.proofs.lemmas.Bool.{cases_eq}
-use Rattle.std.proofs.lemmas.Option.{same_Some}
+use Rattle.std.proofs.Common.{◌≡◌, ℕ, zero, suc, ◌+◌, ◌-◌, ◌<◌, ◌≤◌, Bool, true, cond, Option, Some, None, inl, inr, ◌⊎◌, arith, refl, sym, ◌∙◌, ap, subst}
+use Rattle.std.proofs.lemmas.Bool.{cases_eq, cases_lt}
+use Rattle.std.proofs.lemmas.Option.{cond_some, same_Some}
 use Rattle.bus_register.specs.declared.registers.Op.{Op}
 use Rattle.bus_register.specs.Tables.{of_some}
 use Rattle.bus_register.specs.TableLaws.{some_of}
@@ -15,18 +15,10 @@ use Rattle.bus_binconsensus.specs.ChainSteps.{span_within, begun_in, begun_past}
 
 -- an input that counts is that of a local state that has begun
 pub counted_is : {S I O : Type 0} (P : Protocol S I O) (s : S) (v : I) → counted P s ≡ Some v → (P.has_begun s ≡ true) × (P.input s ≡ v)
-counted_is P s v =
-    let by : (b : Bool) → cond b (Some (P.input s)) None ≡ Some v → (b ≡ true) × (P.input s ≡ v) = λ b. elim b as (λ z. cond z (Some (P.input s)) None ≡ Some v → (z ≡ true) × (P.input s ≡ v)) [
-      | true ↦ λ e. (refl, same_Some _ _ e)
-      | false ↦ λ e. absurd cc
-    ] in
-    by (P.has_begun s)
+counted_is P s v e = cond_some (P.has_begun s) (P.input s) v e
 
 pub is_counted : {S I O : Type 0} (P : Protocol S I O) (s : S) (v : I) → P.has_begun s ≡ true → P.input s ≡ v → counted P s ≡ Some v
 is_counted P s v b e = ap (λ z. cond z (Some (P.input s)) None) b ∙ ap Some e
-
-below_or : (a b : ℕ) → (a < b) ⊎ (b ≤ a)
-below_or a b = grind arith
 
 told_is : (x : Option Verdict) (v : Bool) → value_told x ≡ Some v → (d : Verdict) × (x ≡ Some d) × (value_of d ≡ v)
 told_is None v e = absurd cc
@@ -56,7 +48,7 @@ module _ {X : Type 0} (op : X → ℕ → Option Op) (fed : X → ℕ → ℕ �
   present i p x e =
       let by : (l : Option (Link X)) → locals p ≡ l → Present i p x = λ l. elim l as (λ z. locals p ≡ z → Present i p x) [
         | None ↦ λ f. absurd (let a = k.absent p i f in cc)
-        | Some d ↦ λ f. let w = k.walks p d f in record { local = d; here = f; walk = w; reached = elim (below_or i d.after) [ inl h ↦ absurd (let a = w.ahead i h in cc) | inr h ↦ h ] }
+        | Some d ↦ λ f. let w = k.walks p d f in record { local = d; here = f; walk = w; reached = elim (cases_lt i d.after) [ inl h ↦ absurd (let a = w.ahead i h in cc) | inr h ↦ h ] }
       ] in
       by (locals p) refl
 
@@ -146,7 +138,7 @@ module _ {X : Type 0} (op : X → ℕ → Option Op) (fed : X → ℕ → ℕ �
     agrees = λ p q v w e f.
         let a = stopped p v e in
         let b = stopped q w f in
-        elim (below_or a.local.after b.local.after) [
+        elim (cases_lt a.local.after b.local.after) [
           | inl h ↦ sym (agree_down q p w v b a (omega arith))
           | inr h ↦ agree_down p q v w a b h
         ];

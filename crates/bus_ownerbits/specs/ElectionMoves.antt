@@ -1,13 +1,13 @@
 -- A step of one process keeps what an election keeps, and so does a start.
 use Rattle.std.proofs.Common.{◌≡◌, ◌≢◌, ℕ, zero, suc, ◌+◌, ◌*◌, ◌-◌, ◌/◌, ◌<◌, ◌≤◌, ◌^◌, Bool, true, false, cond, Option, Some, None, inl, inr, ◌⊎◌, arith, refl, sym, ◌∙◌, ap, subst}
-use Rattle.std.proofs.lemmas.Bool.{cases_eq}
+use Rattle.std.proofs.lemmas.Bool.{cases_eq, cases_lt}
 use Rattle.std.proofs.lemmas.Option.{same_Some}
 use Rattle.bus_register.specs.declared.registers.Op.{Op}
 use Rattle.bus_register.specs.declared.registers.Op.TheVariants.{Load, Store}
 use Rattle.bus_register.specs.Words.{register, after}
 use Rattle.bus_register.specs.Tables.{of_some, Beside, Stepped}
 use Rattle.bus_register.specs.TableLaws.{some_of}
-use Rattle.bus_register.specs.Protocol.{Protocol, Laws, Goes, counted, inputs, outputs}
+use Rattle.bus_register.specs.Protocol.{Laws, Goes, counted, inputs, outputs}
 use Rattle.bus_binconsensus.specs.Deciding.{Decides}
 use Rattle.bus_binconsensus.specs.ChainMoves.{put_at, put_at_here, put_at_object, put_at_process}
 use Rattle.bus_binconsensus.specs.ChainOutcome.{counted_is}
@@ -21,9 +21,6 @@ use Rattle.bus_ownerbits.specs.ElectionGrows.{Grows, grows_on, seen_is, spelled_
 use Rattle.bus_ownerbits.specs.ElectionSteps.{Ready, entered_is, proposing_belongs, searching_belongs, row_within, ready, enough_is, stage_is, propose_stays, propose_ready, search_ready, search_takes, going_begun, fed_begun}
 use Rattle.bus_ownerbits.specs.NumberLaws.{next_bit, none_above, bits_enough, between, at_least}
 
-by_order : (a b : ℕ) → a ≢ b → (a < b) ⊎ (b < a)
-by_order a b ne = grind arith
-
 -- an announcement is 0 or 1
 announced_or : {S : Type 0} (o : Option (Electing S)) → (announcement o ≡ 0) ⊎ (announcement o ≡ 1)
 announced_or None = inl refl
@@ -32,9 +29,6 @@ announced_or (Some s) =
     by (begun_at s.stage)
 
 module _ {S : Type 0} (op : S → ℕ → Option Op) (fed : S → ℕ → ℕ → S) (D : Decisions S) (cost : ℕ → ℕ → ℕ) (laws : (r : ℕ) → Laws op fed (D r) Decides) (cheap : (r n : ℕ) → (D r).steps n ≤ cost r n) (rounds n at : ℕ) where
-  abbrev P : Protocol S Bool Bool
-  P = D rounds
-
   -- the first word of a bit's decision
   abbrev pub row : ℕ → ℕ
   row k = at + n + k * (D rounds).width n
@@ -355,9 +349,9 @@ module _ {S : Type 0} (op : S → ℕ → Option Op) (fed : S → ℕ → ℕ �
               let a = g.above in
               let b = g.below in
               let w = row_within j (bits_of n) ((D rounds).width n) h in
-              let apart : (register o < row j) ⊎ (row j + (D rounds).width n ≤ register o) = elim (by_order j k0 ne) [
+              let apart : (register o < row j) ⊎ (row j + (D rounds).width n ≤ register o) = elim (cases_lt j k0) [
                 | inl lt ↦ let x = row_within j k0 ((D rounds).width n) lt in inr (omega arith)
-                | inr gt ↦ let x = row_within k0 j ((D rounds).width n) gt in inl (omega arith)
+                | inr ge ↦ let x = row_within k0 j ((D rounds).width n) (omega arith) in inl (omega arith)
               ] in
               (laws rounds).frame n (row j) words words' (k.visits j) (visits1 j) (k.kept j h)
               (λ r l u. step.elsewhere r (omega arith) (omega arith) (λ i. elim apart [ inl x ↦ omega arith | inr x ↦ omega arith ]))

@@ -1,5 +1,5 @@
 -- Each single step of an election, whatever it found.
-use Rattle.std.proofs.Common.{◌≡◌, ◌≢◌, ℕ, zero, suc, ◌+◌, ◌*◌, ◌-◌, ◌<◌, ◌≤◌, ◌^◌, Bool, true, Option, Some, None, IsSome, arith, refl, sym, ◌∙◌, ap, subst}
+use Rattle.std.proofs.Common.{◌≡◌, ◌≢◌, ℕ, zero, suc, ◌+◌, ◌*◌, ◌-◌, ◌<◌, ◌≤◌, ◌^◌, Bool, true, Option, Some, arith, refl, sym, ◌∙◌, ap, subst}
 use Rattle.std.proofs.Math.Nat.{mul-le-mul_right}
 use Rattle.std.proofs.lemmas.Option.{same_Some}
 use Rattle.bus_register.specs.declared.registers.Op.{Op}
@@ -9,7 +9,7 @@ use Rattle.bus_binconsensus.specs.Deciding.{Decides}
 use Rattle.bus_ownerbits.specs.declared.stages.Stage.{Stage}
 use Rattle.bus_ownerbits.specs.declared.stages.Stage.TheVariants.{Announce, Propose, Search, Alone}
 use Rattle.bus_ownerbits.specs.Sizes.{bits_of, bit_at}
-use Rattle.bus_ownerbits.specs.Election.{Decisions, Electing, place, proposing, going, seeking, with_bit, searched, fed_at, election_fed, op_at, election_op, bit_told}
+use Rattle.bus_ownerbits.specs.Election.{Decisions, Electing, place, proposing, going, seeking, with_bit, searched, fed_at, election_fed, op_at, election_op}
 use Rattle.bus_ownerbits.specs.ElectionCases.{going_case, seeking_case, decided_case, searched_case}
 use Rattle.bus_ownerbits.specs.ElectionKeeps.{each_bit, work_at, StageBelongs, ElectionBelongs, begun_at, election_protocol}
 
@@ -21,10 +21,6 @@ peel (suc x) e ne = let s : suc x - 1 ≡ x = omega arith in let m : (suc x - 1)
 -- the rows of a table of b rows
 pub row_within : (k b w : ℕ) → k < b → k * w + w ≤ b * w
 row_within k b w h = let m : (k + 1) * w ≤ b * w = mul-le-mul_right w (let g : k + 1 ≤ b = omega arith in g) in omega arith
-
-told_some : (o : Option Bool) (spelled : ℕ) → IsSome o → IsSome (bit_told o spelled)
-told_some None spelled s = absurd cc
-told_some (Some bit) spelled s = refl
 
 module _ {S : Type 0} (op : S → ℕ → Option Op) (fed : S → ℕ → ℕ → S) (D : Decisions S) (cost : ℕ → ℕ → ℕ) (laws : (r : ℕ) → Laws op fed (D r) Decides) (cheap : (r n : ℕ) → (D r).steps n ≤ cost r n) (rounds : ℕ) where
   -- a process between two stages, with so many turns more than it needs for the bits that are left

@@ -1,25 +1,18 @@
 -- What follows of numbers and their bits.
-use Rattle.std.proofs.Common.{add-one, ◌≡◌, ℕ, zero, suc, ◌+◌, ◌*◌, ◌-◌, ◌/◌, ◌%◌, ◌<◌, ◌≤◌, ◌^◌, ◌==◌, nat_lt, Bool, true, false, cond, inl, inr, ◌⊎◌, arith, refl, sym, ◌∙◌, ap, subst}
+use Rattle.std.proofs.Common.{add-one, ◌≡◌, ℕ, zero, suc, ◌+◌, ◌*◌, ◌-◌, ◌/◌, ◌%◌, ◌<◌, ◌≤◌, ◌^◌, ◌==◌, nat_lt, Bool, true, false, cond, inl, inr, ◌⊎◌, arith, sym, ◌∙◌, ap, subst}
 use Rattle.std.proofs.Math.Nat.{div-one, pow-suc}
-use Rattle.std.proofs.lemmas.Nat.{div-mul-add, pow_pos, pow_below}
-use Rattle.std.proofs.lemmas.Bool.{cases_eq}
-use Rattle.std.proofs.lemmas.Bool.Decides.{eqb_tells, nat_tests}
+use Rattle.std.proofs.lemmas.Nat.{div-mul-add, mod_below, pow_pos, pow_below}
+use Rattle.std.proofs.lemmas.Bool.{cases_eq, cases_lt, lt-ltb, le-ltb}
+use Rattle.std.proofs.lemmas.Bool.Decides.{eqb_tells}
 use Rattle.bus_ownerbits.specs.Sizes.{IsBits, bits_of, digit, bit_at}
 
-is_lt : (a b : ℕ) → nat_lt a b ≡ true → a < b
-is_lt a b e = grind (arith, nat_tests)
-
-not_lt : (a b : ℕ) → nat_lt a b ≡ false → b ≤ a
-not_lt a b e = grind (arith, nat_tests)
-
--- a number less than a power fits its bits
+-- a test tells
 pub tested : (a b : ℕ) → ((nat_lt a b ≡ true) × (a < b)) ⊎ ((nat_lt a b ≡ false) × (b ≤ a))
 tested a b =
-    let by : (x : Bool) → nat_lt a b ≡ x → ((nat_lt a b ≡ true) × (a < b)) ⊎ ((nat_lt a b ≡ false) × (b ≤ a)) = λ x. elim x as (λ z. nat_lt a b ≡ z → ((nat_lt a b ≡ true) × (a < b)) ⊎ ((nat_lt a b ≡ false) × (b ≤ a))) [
-      | true ↦ λ e. inl (e, is_lt a b e)
-      | false ↦ λ e. inr (e, not_lt a b e)
-    ] in
-    by (nat_lt a b) refl
+    elim (cases_lt a b) [
+      | inl l ↦ inl (lt-ltb a b l, l)
+      | inr g ↦ inr (le-ltb a b g, g)
+    ]
 
 -- the quotient from its bounds
 pub quotient : (c w s : ℕ) → s * w ≤ c → c < s * w + w → c / w ≡ s
@@ -47,9 +40,6 @@ at_least s l c e =
     let f : (c / 2 ^ l) * 2 ^ l ≡ s * 2 ^ l = ap (λ z. z * 2 ^ l) e in
     omega arith
 
-pub lowest_fits : (s l : ℕ) → (s * 2 ^ l) / 2 ^ l ≡ s
-lowest_fits s l = let w = pow_pos l in quotient (s * 2 ^ l) (2 ^ l) s (omega arith) (omega arith)
-
 digit_of : (x : ℕ) → x < 2 → digit (x == 1) ≡ x
 digit_of x h = elim (eqb_tells x 1) [ inl e ↦ ap digit e.0 ∙ sym e.1 | inr e ↦ ap digit e.0 ∙ (let n = e.1 in omega arith) ]
 
@@ -62,9 +52,6 @@ halved x = omega arith
 odd_less : (x : ℕ) → x % 2 < 2
 odd_less x = omega arith
 
-mod_less : (c w : ℕ) → 0 < w → c % w < w
-mod_less c w p = omega arith
-
 half_high : (w y e r : ℕ) → e < 2 → r < w → w * (2 * y + e) + r < y * (2 * w) + 2 * w
 half_high w y zero r h h' = omega arith
 half_high w y (suc zero) r h h' = omega arith
@@ -76,7 +63,7 @@ half c w p =
     let x : ℕ = c / w in
     let q : c ≡ w * x + c % w = omega arith in
     let m : w * x ≡ w * (2 * (x / 2) + x % 2) = ap (λ z. w * z) (halved x) in
-    let high = half_high w (x / 2) (x % 2) (c % w) (odd_less x) (mod_less c w p) in
+    let high = half_high w (x / 2) (x % 2) (c % w) (odd_less x) (mod_below c w p) in
     quotient c (2 * w) (x / 2) (omega arith) (omega arith)
 
 -- the bits down to one of value 2 ^ k, from those above it
@@ -105,20 +92,14 @@ spells n b low high = record {
   least = λ k h. elim (tested k (suc b)) [ inl t ↦ absurd (let u = pow_up k b (let x = t.1 in omega arith) in omega arith) | inr t ↦ t.1 ];
 }
 
-less_tested : (a b : ℕ) → a < b → nat_lt a b ≡ true
-less_tested a b h = elim (tested a b) [ inl t ↦ t.0 | inr t ↦ absurd (let x = t.1 in omega arith) ]
-
-more_tested : (a b : ℕ) → b ≤ a → nat_lt a b ≡ false
-more_tested a b h = elim (tested a b) [ inl t ↦ absurd (let x = t.1 in omega arith) | inr t ↦ t.0 ]
-
 count_is : (n : ℕ) (a b c d e f : Bool) → nat_lt 1 n ≡ a → nat_lt 2 n ≡ b → nat_lt 4 n ≡ c → nat_lt 8 n ≡ d → nat_lt 16 n ≡ e → nat_lt 32 n ≡ f
     → bits_of n ≡ 0 + cond a 1 0 + cond b 1 0 + cond c 1 0 + cond d 1 0 + cond e 1 0 + cond f 1 0
 count_is n a b c d e f p q r s t u = rw (p, q, r, s, t, u)
 
 pub bits_are : (n : ℕ) → 1 ≤ n → n ≤ 64 → IsBits n (bits_of n)
 bits_are n some few =
-    let below : (a : ℕ) → a < n → nat_lt a n ≡ true = λ a h. less_tested a n h in
-    let above : (a : ℕ) → n ≤ a → nat_lt a n ≡ false = λ a h. more_tested a n h in
+    let below : (a : ℕ) → a < n → nat_lt a n ≡ true = λ a h. lt-ltb a n h in
+    let above : (a : ℕ) → n ≤ a → nat_lt a n ≡ false = λ a h. le-ltb a n h in
     elim (tested 1 n) [
       | inr t ↦ let h = t.1 in let e : n ≡ 1 = omega arith in subst (λ z. IsBits z (bits_of z)) (sym e) record { enough = omega arith; least = λ k g. omega arith }
       | inl t1 ↦ let h1 = t1.1 in elim (tested 2 n) [
@@ -145,9 +126,3 @@ same_bits n a b x y = let p = x.least b y.enough in let q = y.least a x.enough i
 
 pub bits_enough : (n : ℕ) → n ≤ 64 → n ≤ 2 ^ bits_of n
 bits_enough n few = elim (tested 0 n) [ inl t ↦ (bits_are n t.1 few).enough | inr t ↦ let h = t.1 in omega arith ]
-
-pub bits_few : (n : ℕ) → bits_of n ≤ 6
-bits_few n =
-    let one : (b : Bool) → cond {A = ℕ} b 1 0 ≤ 1 = λ b. elim b as (λ z. cond {A = ℕ} z 1 0 ≤ 1) [ true ↦ omega arith | false ↦ omega arith ] in
-    let a = one (nat_lt 1 n) in let b = one (nat_lt 2 n) in let c = one (nat_lt 4 n) in let d = one (nat_lt 8 n) in let e = one (nat_lt 16 n) in let f = one (nat_lt 32 n) in
-    omega arith
