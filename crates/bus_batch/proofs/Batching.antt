@@ -1,30 +1,20 @@
 -- The words of a batch.
-use Rattle.std.proofs.Common.{◌≡◌, ℕ, zero, suc, ◌+◌, ◌-◌, ◌*◌, ◌^◌, ◌<◌, ◌≤◌, List, [], ◌∷◌, ◌++◌, length, get_or, take, drop, replicate, arith, refl, sym, ap, ◌∙◌, inl, inr, Some}
-use Rattle.std.specs.Prelude.{All, slice_get, ◌⊎◌}
+use Rattle.std.proofs.Common.{◌≡◌, ℕ, zero, suc, ◌+◌, ◌-◌, ◌*◌, ◌<◌, ◌≤◌, List, [], ◌∷◌, ◌++◌, length, get_or, take, drop, replicate, arith, refl, sym, ap, ◌∙◌, inl, inr, Some}
+use Rattle.std.specs.Prelude.{slice_get, ◌⊎◌}
 use Rattle.std.specs.Int.{w64, from_be_bytes}
 use Rattle.std.specs.List.{flat_map}
 use Rattle.std.proofs.lemmas.Bool.{cases_lt}
 use Rattle.std.proofs.lemmas.List.{length-append, get_or-take, get_or-drop, get_or_append_left, get_or-append-add, get_or-replicate, ext_get_or, drop-drop}
 use Rattle.std.proofs.Math.Seq.{drop-cons}
-use Rattle.std.proofs.lemmas.List.Elements.{All-nil, All-cons, All-head, All-tail}
 use Rattle.std.proofs.lemmas.Grind.{common_steps}
 use Rattle.bus_batch.specs.declared.batches.Phase.{Phase}
 use Rattle.bus_batch.specs.declared.batches.Phase.TheVariants as phase
-use Rattle.bus_batch.specs.Messages.{IsMessage, IsNumbered, numbered}
-use Rattle.bus_batch.specs.Frames.{IsFrame, IsBody, body_words, data_word, data_len, words_of_bytes, message_words}
-use Rattle.bus_batch.specs.Batches.{Pending, HasSomething, IsKept, body_of, frame_of}
-use Rattle.bus_batch.proofs.WordLaws.{length-message_words, words_least}
+use Rattle.bus_batch.specs.Messages.{numbered}
+use Rattle.bus_batch.specs.Frames.{body_words, data_word, data_len, words_of_bytes, message_words}
+use Rattle.bus_batch.specs.Batches.{body_of}
+use Rattle.bus_batch.specs.WordLaws.{length-message_words, words_least}
+use Rattle.bus_batch.specs.BatchLaws.{length-numbered}
 use Rattle.bus_batch.proofs.Bytes.{padded_len}
-
-pub length-numbered : (first : ℕ) (ms : List (List ℕ)) → length (numbered first ms) ≡ length ms
-length-numbered first [] = refl
-length-numbered first (m ∷ ms) = ap suc (length-numbered (first + 1) ms)
-
-pub numbered_each : (first : ℕ) (ms : List (List ℕ)) → first + length ms ≤ 2 ^ 48 → All IsMessage ms → All IsNumbered (numbered first ms)
-numbered_each first [] fits each = All-nil IsNumbered
-numbered_each first (m ∷ ms) fits each =
-    All-cons IsNumbered (record { number = first; message = m }) (numbered (first + 1) ms)
-    (omega arith, All-head IsMessage m ms each) (numbered_each (first + 1) ms (omega arith) (All-tail IsMessage m ms each))
 
 pub body_least : (p : Phase) (first : ℕ) (ms : List (List ℕ)) → (0 < length ms) ⊎ (p ≡ phase.Closing) → 1 ≤ length (body_words (body_of p first ms))
 body_least phase.Open first ms (inl some) = let a = words_least (numbered first ms) in let b = length-numbered first ms in omega arith
@@ -32,21 +22,6 @@ body_least phase.Open first ms (inr e) = absurd (cc)
 body_least phase.Closing first ms h = omega arith
 body_least phase.Closed first ms (inl some) = let a = words_least (numbered first ms) in let b = length-numbered first ms in omega arith
 body_least phase.Closed first ms (inr e) = absurd (cc)
-
-is_body : (p : Phase) (first : ℕ) (ms : List (List ℕ)) → (0 < length ms) ⊎ (p ≡ phase.Closing) → length ms ≤ 16 → first + length ms ≤ 2 ^ 48 → All IsMessage ms → IsBody (body_of p first ms)
-is_body phase.Open first ms (inl some) few fits each = let b = length-numbered first ms in (omega arith, omega arith, numbered_each first ms fits each)
-is_body phase.Open first ms (inr e) few fits each = absurd (cc)
-is_body phase.Closing first ms h few fits each = tt
-is_body phase.Closed first ms (inl some) few fits each = let b = length-numbered first ms in (omega arith, omega arith, numbered_each first ms fits each)
-is_body phase.Closed first ms (inr e) few fits each = absurd (cc)
-
-pub is_frame : (b : Pending) (senders tenure : ℕ) → HasSomething b → IsKept b → b.sender.0 < senders → tenure < 2 ^ 40 → IsFrame senders (frame_of b tenure)
-is_frame b senders tenure some kept owner below = record {
-  tenure = below;
-  owner = owner;
-  owner_bits = kept.owner_bits;
-  body = is_body b.phase b.first b.messages some kept.few kept.numbers kept.each;
-}
 
 -- ---- data words
 

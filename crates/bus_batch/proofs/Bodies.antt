@@ -3,6 +3,7 @@ use Rattle.std.proofs.Common.{◌≡◌, ℕ, suc, ◌+◌, ◌-◌, ◌*◌, �
 use Rattle.std.specs.Prelude.{Option, Some, None}
 use Rattle.std.specs.List.{flat_map}
 use Rattle.std.proofs.lemmas.Bool.{cases_lt}
+use Rattle.std.proofs.lemmas.List.{nil_from_length}
 use Rattle.std.proofs.lemmas.List.Elements.{All-nil, All-replicate}
 use Rattle.std.proofs.Math.ListN.{length-replicate}
 use Rattle.bus_register.specs.declared.registers.SenderNo.{SenderNo}
@@ -15,7 +16,7 @@ use Rattle.bus_batch.specs.Messages.{Numbered, IsNumbered}
 use Rattle.bus_batch.specs.Frames.{end_word, data_len, item_of, item_pieces, words_of_bytes, message_word, message_words, message_pieces, log_words, log_pieces}
 use Rattle.bus_batch.specs.Reading.{Awaits, Fills, Completes}
 use Rattle.bus_batch.specs.Steps.{IsMessageWord, IsAfter, Takes, Refuses}
-use Rattle.bus_batch.proofs.WordLaws.{message_parts, not_end, words_most, words_least}
+use Rattle.bus_batch.specs.WordLaws.{message_parts, not_end, words_most, words_least}
 use Rattle.bus_batch.proofs.Fillings.{First, first, fills_some, fills_more}
 
 -- ---- the place after a message
@@ -45,10 +46,6 @@ module _ (senders least : ℕ) (owner : SenderNo) (left room : ℕ) (p : Place) 
 
   pub after_begins : left ≤ 8 * room → (rest : List ℕ) × (pieces : List (Option Piece)) × Awaits (record { senders = senders; least = least; place = p; bytes = bytes }) rest pieces
   after_begins h = let s = fills_some senders least owner left room h in (s.0, s.1, after_covers s.0 s.1 s.2)
-
-length-zero : (xs : List ℕ) → length xs ≡ 0 → xs ≡ []
-length-zero [] e = refl
-length-zero (x ∷ xs) e = absurd (omega arith)
 
 -- the rest of a message can follow
 pub completes_some : (senders least : ℕ) (owner : SenderNo) (left room number len : ℕ) (bytes : List ℕ)
@@ -112,7 +109,7 @@ module _ (senders least word : ℕ) (owner : SenderNo) (left room : ℕ) (bytes 
           → (further : List (Option Piece)) × (pieces ≡ Some (piece.Item (record { sender = owner; number = m.number; message = [] })) ∷ further) × Awaits (record { senders = senders; least = least; place = p; bytes = bytes' }) rest further
       empty_covers rest pieces a =
           let f = begun rest pieces a in let e = same_len f in
-          let nothing : f.message.message ≡ [] = length-zero f.message.message (omega arith) in
+          let nothing : f.message.message ≡ [] = nil_from_length f.message.message (omega arith) in
           let fills : Fills senders least owner (left - 1) (room - 1) f.rest_after f.pieces_after = subst (λ z. Fills senders least owner z (room - 1) f.rest_after f.pieces_after) (ap (λ z. left - (1 + data_len (length z))) nothing) f.fills in
           let words : rest ≡ f.rest_after = f.words_are ∙ ap (λ z. words_of_bytes (data_len (length z)) z ++ f.rest_after) nothing in
           let gives : pieces ≡ Some (piece.Item (record { sender = owner; number = m.number; message = [] })) ∷ f.pieces_after =

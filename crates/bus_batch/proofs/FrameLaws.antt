@@ -1,16 +1,18 @@
 -- Words spell one log at most, and a frame's words begin no other frame's.
-use Rattle.std.proofs.Common.{◌≡◌, ℕ, zero, suc, ◌+◌, ◌*◌, ◌<◌, ◌≤◌, min, List, [], ◌∷◌, ◌++◌, length, take, drop, refl, sym, ap, ◌∙◌, subst, append-nil, arith, Bool, true, false}
+use Rattle.std.proofs.Common.{◌≡◌, ℕ, zero, suc, ◌+◌, ◌*◌, ◌<◌, ◌≤◌, min, List, [], ◌∷◌, ◌++◌, length, take, drop, refl, sym, ap, ◌∙◌, subst, append-nil, arith, Bool, false}
 use Rattle.std.specs.Prelude.{All, map, ◌||◌}
-use Rattle.std.proofs.lemmas.Bool.{false≢true}
+use Rattle.std.proofs.Math.Bool.{or-false, or_assoc}
+use Rattle.std.proofs.lemmas.Bool.{false≢true, or_parts}
 use Rattle.bus_batch.specs.declared.messages.Item.{Item}
-use Rattle.bus_batch.proofs.PieceLaws.{flat_map-append, or_assoc, order_made}
+use Rattle.bus_batch.specs.PieceLaws.{order_made}
 use Rattle.std.specs.List.{flat_map}
-use Rattle.std.proofs.lemmas.List.{length-drop, take-append-drop}
+use Rattle.std.proofs.lemmas.List.{length-drop, map-append, nil_from_length, take-append-drop}
+use Rattle.std.proofs.lemmas.List.Concat.{flat_map-append}
 use Rattle.std.proofs.lemmas.List.Elements.{All-head, All-tail, All-drop}
 use Rattle.bus_register.specs.declared.registers.SenderNo.{SenderNo}
 use Rattle.bus_batch.specs.Messages.{Numbered, IsNumbered}
 use Rattle.bus_batch.specs.Frames.{Frame, Body, Messages, EndMark, IsBody, IsFrame, AreFramesFrom, Spells, Order, order_of, has_end, ends, items_of, tenure_and_owner, head_word, message_word, data_word, data_len, words_of_bytes, message_words, body_words, frame_words, log_words}
-use Rattle.bus_batch.proofs.WordLaws.{head_parts, message_parts, not_end, length-words_of_bytes}
+use Rattle.bus_batch.specs.WordLaws.{head_parts, message_parts, not_end, length-words_of_bytes}
 use Rattle.bus_batch.proofs.Bytes.{data_bytes, taken}
 use Rattle.bus_batch.proofs.Heads.{body_most}
 
@@ -25,12 +27,8 @@ same_parts (x ∷ xs) (y ∷ ys) us vs n e =
     let s = same_parts xs ys us vs (omega arith) rest in
     ((let a = s.0 in cc), s.1)
 
-empty : (xs : List ℕ) → length xs ≤ 0 → xs ≡ []
-empty [] h = refl
-empty (x ∷ xs) h = absurd (omega arith)
-
 same_bytes : (n : ℕ) (a b : List ℕ) → length a ≡ length b → length a ≤ 8 * n → All (λ x. x < 256) a → All (λ x. x < 256) b → words_of_bytes n a ≡ words_of_bytes n b → a ≡ b
-same_bytes zero a b size few small small' e = empty a (omega arith) ∙ sym (empty b (omega arith))
+same_bytes zero a b size few small small' e = nil_from_length a (omega arith) ∙ sym (nil_from_length b (omega arith))
 same_bytes (suc n) a b size few small small' e =
     let first : data_word a ≡ data_word b = cc in
     let rest : words_of_bytes n (drop 8 a) ≡ words_of_bytes n (drop 8 b) = cc in
@@ -110,37 +108,21 @@ no_frame_begins_another senders f g rest lawful lawful' e = same_frame senders f
 
 -- ---- one frame more
 
-or-false : (a b : Bool) → (a || b) ≡ false → a ≡ false
-or-false true b e = absurd (false≢true (sym e))
-or-false false b e = refl
-
-or-false_right : (a b : Bool) → (a || b) ≡ false → b ≡ false
-or-false_right true b e = absurd (false≢true (sym e))
-or-false_right false b e = e
-
 pub frames_more : (senders least : ℕ) (fs : List Frame) (f : Frame) → AreFramesFrom senders least fs → has_end fs ≡ false → IsFrame senders f → least ≤ f.tenure
     → All (λ p. p.0 < f.tenure) (map tenure_and_owner fs) → AreFramesFrom senders least (fs ++ f ∷ [])
 frames_more senders least [] f lawful unended frame late above = (frame, late, (λ _. refl), tt)
 frames_more senders least (g ∷ gs) f lawful unended frame late above =
-    let open_ends : ends g.body ≡ false = or-false (ends g.body) (has_end gs) unended in
+    let open_both = or_parts (ends g.body) (has_end gs) unended in
     let first : g.tenure < f.tenure = All-head (λ p. p.0 < f.tenure) (tenure_and_owner g) (map tenure_and_owner gs) above in (
       lawful.0,
       lawful.1,
-      (λ e. absurd (false≢true (sym open_ends ∙ ap ends e))),
-      frames_more senders (g.tenure + 1) gs f lawful.3 (or-false_right (ends g.body) (has_end gs) unended) frame (omega arith) (All-tail (λ p. p.0 < f.tenure) (tenure_and_owner g) (map tenure_and_owner gs) above),
+      (λ e. absurd (false≢true (sym open_both.0 ∙ ap ends e))),
+      frames_more senders (g.tenure + 1) gs f lawful.3 open_both.1 frame (omega arith) (All-tail (λ p. p.0 < f.tenure) (tenure_and_owner g) (map tenure_and_owner gs) above),
     )
 
 has_end-append : (fs gs : List Frame) → has_end (fs ++ gs) ≡ (has_end fs || has_end gs)
 has_end-append [] gs = refl
 has_end-append (f ∷ fs) gs = ap (λ z. ends f.body || z) (has_end-append fs gs) ∙ sym (or_assoc (ends f.body) (has_end fs) (has_end gs))
-
-map-snoc : (fs : List Frame) (f : Frame) → map tenure_and_owner (fs ++ f ∷ []) ≡ map tenure_and_owner fs ++ tenure_and_owner f ∷ []
-map-snoc [] f = refl
-map-snoc (g ∷ fs) f = ap (λ z. tenure_and_owner g ∷ z) (map-snoc fs f)
-
-or-nothing : (b : Bool) → (b || false) ≡ b
-or-nothing true = refl
-or-nothing false = refl
 
 -- words of a log that has not ended, and a frame of a later tenure after them, spell its items too
 pub spells_more : (senders : ℕ) (words : List ℕ) (order : Order) (owners : List (ℕ × SenderNo)) (f : Frame)
@@ -154,8 +136,8 @@ spells_more senders words order owners f s unended frame above =
       words_are = flat_map-append frame_words s.frames (f ∷ []) ∙ ap (λ z. log_words s.frames ++ z) (append-nil (frame_words f)) ∙ ap (λ z. z ++ frame_words f) s.words_are;
       order_is =
           ap (λ (z : List Item). order_made z (has_end (s.frames ++ f ∷ []))) (flat_map-append items_of s.frames (f ∷ []) ∙ ap (λ z. flat_map items_of s.frames ++ z) (append-nil (items_of f)) ∙ ap (λ (z : Order). z.items ++ items_of f) s.order_is)
-          ∙ ap (λ (z : Bool). order_made (order.items ++ items_of f) z) (has_end-append s.frames (f ∷ []) ∙ ap (λ z. z || has_end (f ∷ [])) open_still ∙ or-nothing (ends f.body));
-      owners_are = map-snoc s.frames f ∙ ap (λ z. z ++ tenure_and_owner f ∷ []) s.owners_are;
+          ∙ ap (λ (z : Bool). order_made (order.items ++ items_of f) z) (has_end-append s.frames (f ∷ []) ∙ ap (λ z. z || has_end (f ∷ [])) open_still ∙ or-false (ends f.body));
+      owners_are = map-append tenure_and_owner s.frames (f ∷ []) ∙ ap (λ z. z ++ tenure_and_owner f ∷ []) s.owners_are;
     }
 
 -- no words spell the empty order

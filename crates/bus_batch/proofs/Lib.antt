@@ -1,4 +1,3 @@
-pub mod WordLaws
 pub mod Fillings
 pub mod Heads
 pub mod Bodies
@@ -6,5 +5,4 @@ pub mod Bytes
 pub mod Taking
 pub mod Feeding
 pub mod Batching
-pub mod PieceLaws
 pub mod FrameLaws

@@ -3,3 +3,6 @@ pub mod Frames
 pub mod Reading
 pub mod Steps
 pub mod Batches
+pub mod WordLaws
+pub mod PieceLaws
+pub mod BatchLaws

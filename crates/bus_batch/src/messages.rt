@@ -7,9 +7,6 @@ use bus_register::SenderNo;
 use std::alloc::AllocError;
 use std::marker::Model;
 
-/// The most bytes of a message.
-pub const MESSAGE_BYTES: usize = 56;
-
 /// At most 56 bytes.
 #[derive(Debug, Drop, PartialEq, Eq)]
 pub struct Message {

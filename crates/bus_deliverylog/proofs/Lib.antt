@@ -2,4 +2,3 @@ pub mod ReadLaws
 pub mod ReceiveLaws
 pub mod WriteLaws
 pub mod WritingSteps
-pub mod PrefixLaws

@@ -1,15 +1,18 @@
 -- What a reading of a log knows along the words.
-use Rattle.std.proofs.Common.{◌≡◌, ℕ, suc, ◌<◌, List, [], ◌∷◌, ◌++◌, length, get_or, take, drop, Bool, true, false, refl, sym, ap, ◌∙◌, subst, append_assoc, append-nil}
+use Rattle.std.proofs.Common.{◌≡◌, ℕ, suc, ◌<◌, List, [], ◌∷◌, ◌++◌, length, get_or, take, drop, Bool, sym, ap, ◌∙◌, subst, append_assoc, append-nil}
 use Rattle.std.specs.Prelude.{Option, ◌||◌}
 use Rattle.std.specs.List.{flat_map, list_any}
+use Rattle.std.proofs.Math.Bool.{or-false}
 use Rattle.std.proofs.lemmas.List.{take-append-drop}
+use Rattle.std.proofs.lemmas.List.Concat.{flat_map-append}
+use Rattle.std.proofs.lemmas.List.Folds.{list_any-append}
 use Rattle.std.proofs.Math.Seq.{drop-cons}
 use Rattle.bus_register.specs.declared.registers.SenderNo.{SenderNo}
 use Rattle.bus_batch.specs.declared.messages.Item.{Item}
 use Rattle.bus_batch.specs.declared.messages.Piece.{Piece}
-use Rattle.bus_batch.specs.Frames.{Order, Spells, IsLog, BeginsLog, piece_items, piece_owners, is_end, order_in, owners_in}
+use Rattle.bus_batch.specs.Frames.{Order, Spells, BeginsLog, piece_items, piece_owners, is_end, order_in, owners_in}
 use Rattle.bus_batch.specs.Reading.{Reading, HasRead}
-use Rattle.bus_batch.proofs.PieceLaws.{flat_map-append, list_any-append, order_made}
+use Rattle.bus_batch.specs.PieceLaws.{order_made}
 
 -- a reader has read these words, and what was noted is what their pieces say
 pub record Reads (senders : ℕ) (words : List ℕ) (reader : Reading) (order : Order) (owners : List (ℕ × SenderNo)) : Type 0 where
@@ -18,10 +21,6 @@ pub record Reads (senders : ℕ) (words : List ℕ) (reader : Reading) (order : 
   pub had : HasRead reader.senders words pieces reader
   pub order_is : order ≡ order_in pieces
   pub owners_are : owners ≡ owners_in pieces
-
-or-nothing : (b : Bool) → (b || false) ≡ b
-or-nothing true = refl
-or-nothing false = refl
 
 -- one word more
 pub reads_more : (senders word : ℕ) (words words' : List ℕ) (old new : Reading) (order order' : Order) (owners owners' : List (ℕ × SenderNo)) (found : Option Piece)
@@ -36,7 +35,7 @@ reads_more senders word words words' old new order order' owners owners' found r
   order_is =
       ap (λ (z : List Item). order_made z order'.ended) (items ∙ ap (λ (z : Order). z.items ++ piece_items found) r.order_is ∙ ap (λ z. flat_map piece_items r.pieces ++ z) (sym (append-nil (piece_items found))) ∙ sym (flat_map-append piece_items r.pieces (found ∷ [])))
       ∙ ap (λ (z : Bool). order_made (flat_map piece_items (r.pieces ++ found ∷ [])) z)
-      (ended ∙ ap (λ (z : Order). z.ended || is_end found) r.order_is ∙ ap (λ z. list_any is_end r.pieces || z) (sym (or-nothing (is_end found))) ∙ sym (list_any-append is_end r.pieces (found ∷ [])));
+      (ended ∙ ap (λ (z : Order). z.ended || is_end found) r.order_is ∙ ap (λ z. list_any is_end r.pieces || z) (sym (or-false (is_end found))) ∙ sym (list_any-append is_end r.pieces (found ∷ [])));
   owners_are = owners_are ∙ ap (λ z. z ++ piece_owners found) r.owners_are ∙ ap (λ z. flat_map piece_owners r.pieces ++ z) (sym (append-nil (piece_owners found))) ∙ sym (flat_map-append piece_owners r.pieces (found ∷ []));
 }
 
@@ -58,6 +57,3 @@ spells_begin senders place words order owners below s = (
     words_are = s.words_are ∙ sym (append_assoc (take place words) (get_or words place 0 ∷ []) (drop (suc place) words) ∙ ap (λ z. take place words ++ z) (sym (drop-cons words place 0 below)) ∙ take-append-drop place words);
   },
 )
-
-pub spells_log : (senders : ℕ) (words : List ℕ) (order : Order) (owners : List (ℕ × SenderNo)) → Spells senders words order owners → IsLog senders words
-spells_log senders words order owners s = record { frames = s.frames; lawful = s.lawful; words_are = s.words_are }

@@ -1,8 +1,7 @@
 -- A writer's steps, one by one, and the log after them.
 use Rattle.std.proofs.Common.{◌≡◌, ◌≢◌, ℕ, zero, suc, ◌+◌, ◌<◌, ◌⊎◌, List, [], ◌∷◌, ◌++◌, length, get_or, Bool, true, false, Some, None, refl, sym, ap, ◌∙◌, subst, arith, inl, inr}
 use Rattle.std.specs.Prelude.{All, if◌then◌else◌, nat_lt, ◌==◌, slice_index}
-use Rattle.std.proofs.lemmas.Bool.{cases_eq, false≢true}
-use Rattle.std.proofs.lemmas.Bool.Decides.{eqb_tells, nat_tests}
+use Rattle.std.proofs.lemmas.Bool.{cases_eq, eqb-true, false≢true}
 use Rattle.bus_register.specs.declared.kinds.Kind.TheVariants.{StoreLogWord, StoreLength}
 use Rattle.bus_register.specs.declared.registers.Op.{Op}
 use Rattle.bus_register.specs.declared.registers.Op.TheVariants.{Store}
@@ -19,9 +18,6 @@ not_both true c e = absurd (cc)
 not_both false true e = (refl, refl)
 not_both false false e = absurd (cc)
 
-equal_from : (a b : ℕ) → (a == b) ≡ true → a ≡ b
-equal_from a b e = elim (eqb_tells a b) [ inl h ↦ h.1 | inr h ↦ absurd (false≢true (sym h.0 ∙ e)) ]
-
 op_length : {A : Type 0} (b c : Bool) (x y : A) → b ≡ false → c ≡ true → (if b then Some x else if c then Some y else None) ≡ Some y
 op_length true c x y e e' = absurd (false≢true (sym e))
 op_length false true x y e e' = refl
@@ -31,9 +27,6 @@ op_cases : {A : Type 0} (b c : Bool) (x y o : A) → (if b then Some x else if c
 op_cases true c x y o e = inl (refl, (let e' : Some x ≡ Some o = e in cc))
 op_cases false true x y o e = inr (refl, (let e' : Some y ≡ Some o = e in cc))
 op_cases false false x y o e = absurd (cc)
-
-below_from : (a b : ℕ) → nat_lt a b ≡ true → a < b
-below_from a b e = grind (arith, nat_tests)
 
 -- ---- words of a table
 
@@ -60,7 +53,7 @@ pub stored_more : (table table' : ℕ → ℕ) (w : Writing) (o : Op) → HasSto
 stored_more table table' w o had apart is here beside k below short =
     elim (op_cases (nat_lt w.stored (length w.frame)) (w.stored == length w.frame) _ _ o is) [
       | inl s ↦ word s.1 (cases_eq k w.stored)
-      | inr s ↦ length_step s.1 (equal_from w.stored (length w.frame) s.0)
+      | inr s ↦ length_step s.1 (eqb-true w.stored (length w.frame) s.0)
     ]
   where
     word : o ≡ Store (record { 0 = w.log_at + w.from + w.stored }) (slice_index w.frame w.stored) → (k ≡ w.stored) ⊎ (k ≢ w.stored) → table' (w.log_at + w.from + k) ≡ slice_index w.frame k
@@ -80,7 +73,7 @@ pub raises : (table : ℕ → ℕ) (w : Writing) → HasStored table w → writi
     → (writing_op w ≡ Some (Store (record { 0 = w.length_at }) (w.from + length w.frame))) × (words_at table (w.log_at + w.from) (length w.frame) ≡ w.frame)
 raises table w had is =
     let tests = not_both (nat_lt w.stored (length w.frame)) (w.stored == length w.frame) is in
-    let all : w.stored ≡ length w.frame = equal_from w.stored (length w.frame) tests.1 in (
+    let all : w.stored ≡ length w.frame = eqb-true w.stored (length w.frame) tests.1 in (
       op_length (nat_lt w.stored (length w.frame)) (w.stored == length w.frame) _ _ tests.0 tests.1,
       words_at-is table (w.log_at + w.from) w.frame (λ k below. had k (omega arith) below),
     )

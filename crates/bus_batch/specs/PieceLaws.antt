@@ -1,23 +1,13 @@
 -- The pieces of a log say its order and its owners.
-use Rattle.std.proofs.Common.{◌≡◌, ℕ, zero, suc, List, [], ◌∷◌, ◌++◌, length, refl, sym, ap, ◌∙◌, append_assoc, Bool, true, false}
+use Rattle.std.proofs.Common.{◌≡◌, ℕ, zero, suc, List, [], ◌∷◌, ◌++◌, length, refl, ap, ◌∙◌, Bool, false}
 use Rattle.std.specs.Prelude.{map, ◌||◌}
 use Rattle.std.specs.List.{flat_map, list_any}
+use Rattle.std.proofs.lemmas.List.Concat.{flat_map-append}
+use Rattle.std.proofs.lemmas.List.Folds.{list_any-append}
 use Rattle.bus_register.specs.declared.registers.SenderNo.{SenderNo}
 use Rattle.bus_batch.specs.declared.messages.Item.{Item}
 use Rattle.bus_batch.specs.Messages.{Numbered}
 use Rattle.bus_batch.specs.Frames.{Frame, Body, Messages, EndMark, Order, order_of, has_end, ends, items_of, body_items, item_of, tenure_and_owner, item_pieces, message_pieces, body_pieces, log_pieces, data_len, piece_items, piece_owners, is_end, order_in, owners_in}
-
-pub flat_map-append : {A B : Type 0} (f : A → List B) (xs ys : List A) → flat_map f (xs ++ ys) ≡ flat_map f xs ++ flat_map f ys
-flat_map-append f [] ys = refl
-flat_map-append f (x ∷ xs) ys = ap (λ z. f x ++ z) (flat_map-append f xs ys) ∙ sym (append_assoc (f x) (flat_map f xs) (flat_map f ys))
-
-pub or_assoc : (a b c : Bool) → ((a || b) || c) ≡ (a || (b || c))
-or_assoc true b c = refl
-or_assoc false b c = refl
-
-pub list_any-append : {A : Type 0} (p : A → Bool) (xs ys : List A) → list_any p (xs ++ ys) ≡ (list_any p xs || list_any p ys)
-list_any-append p [] ys = refl
-list_any-append p (x ∷ xs) ys = ap (λ z. p x || z) (list_any-append p xs ys) ∙ sym (or_assoc (p x) (list_any p xs) (list_any p ys))
 
 item_items : (n : ℕ) (item : Item) → flat_map piece_items (item_pieces n item) ≡ item ∷ []
 item_items zero item = refl
@@ -60,7 +50,7 @@ body_owners : (o : SenderNo) (b : Body) → flat_map piece_owners (body_pieces o
 body_owners o (Messages ms) = messages_owners o ms
 body_owners o EndMark = refl
 
-body_end : (o : SenderNo) (b : Body) → list_any is_end (body_pieces o b) ≡ ends b
+pub body_end : (o : SenderNo) (b : Body) → list_any is_end (body_pieces o b) ≡ ends b
 body_end o (Messages ms) = messages_end o ms
 body_end o EndMark = refl
 
