@@ -1,5 +1,4 @@
 pub mod Pieces
-pub mod LineLemmas
 pub mod NumberLemmas
 pub mod ScriptLemmas
 pub mod StreamLemmas

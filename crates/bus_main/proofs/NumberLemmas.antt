@@ -4,7 +4,8 @@ use Rattle.std.specs.Str.{all_ascii_digits}
 use Rattle.std.specs.Char.{is_ascii_digit, digit_value}
 use Rattle.std.specs.Int.{IsInRange}
 use Rattle.std.specs.Str.Parse.{digits_value, digits_value_after}
-use Rattle.std.proofs.lemmas.Bool.{le-ltb, lt-ltb, lt-leb, le-leb, eq-eqb, cases_lt}
+use Rattle.std.proofs.Math.Bool.{or-true}
+use Rattle.std.proofs.lemmas.Bool.{le-ltb, lt-ltb, le-leb, cases_lt, and_right}
 use Rattle.std.proofs.lemmas.Bool.Decides.{eqb_tells}
 use Rattle.std.proofs.lemmas.List.{drop_more, drop_all}
 use Rattle.std.proofs.lemmas.Str.{digit_value_digit}
@@ -13,61 +14,26 @@ use Rattle.bus_main.specs.Grammar.{number_of, is_number}
 
 -- ---- four tests in a row
 
-first_fails : (a b c d : Bool) → a ≡ false → (a && b && c && d) ≡ false
-first_fails a b c d e = rw e refl
-
-second_fails : (a b c d : Bool) → b ≡ false → (a && b && c && d) ≡ false
-second_fails true b c d e = rw e refl
-second_fails false b c d e = refl
-
-third_fails : (a b c d : Bool) → c ≡ false → (a && b && c && d) ≡ false
-third_fails true true c d e = rw e refl
-third_fails true false c d e = refl
-third_fails false b c d e = refl
-
-fourth_fails : (a b c d : Bool) → d ≡ false → (a && b && c && d) ≡ false
-fourth_fails true true true d e = e
-fourth_fails true true false d e = refl
-fourth_fails true false c d e = refl
-fourth_fails false b c d e = refl
-
-all_pass : (a b c d : Bool) → a ≡ true → b ≡ true → c ≡ true → d ≡ true → (a && b && c && d) ≡ true
+pub all_pass : (a b c d : Bool) → a ≡ true → b ≡ true → c ≡ true → d ≡ true → (a && b && c && d) ≡ true
 all_pass a b c d e f g h = rw (e, f, g, h) refl
 
 no_number : (word : List ℕ) → is_number word ≡ false → number_of word ≡ None
 no_number word e = ap (λ b. cond b (Some (digits_value 10 word)) None) e
 
-abbrev some_byte : List ℕ → Bool
+abbrev pub some_byte : List ℕ → Bool
 some_byte word = ltb 0 (length word)
 
-abbrev no_leading_zero : List ℕ → Bool
+abbrev pub no_leading_zero : List ℕ → Bool
 no_leading_zero word = leb (length word) 1 || not (eqb (get_or word 0 0) 48)
 
-abbrev fits : List ℕ → Bool
+abbrev pub fits : List ℕ → Bool
 fits word = ltb (digits_value 10 word) (2 ^ 64)
-
--- ---- what is no number
-
-pub empty_is_none : (word : List ℕ) → length word ≡ 0 → number_of word ≡ None
-empty_is_none word e = no_number word (first_fails (some_byte word) (all_ascii_digits word) (no_leading_zero word) (fits word) (le-ltb 0 (length word) (omega arith)))
-
-pub leading_zero_is_none : (word : List ℕ) → 1 < length word → get_or word 0 0 ≡ 48 → number_of word ≡ None
-leading_zero_is_none word long e =
-    no_number word (third_fails (some_byte word) (all_ascii_digits word) (no_leading_zero word) (fits word) (rw (lt-leb (length word) 1 long, eq-eqb (get_or word 0 0) 48 e) refl))
 
 -- ---- one digit after another
 
 pub digits_value_after-le : (v : ℕ) (ds : List ℕ) → v ≤ digits_value_after 10 v ds
 digits_value_after-le v [] = omega arith
 digits_value_after-le v (d ∷ ds) = let more = digits_value_after-le (v * 10 + digit_value d) ds in omega arith
-
-pub digits_go_on : (word : List ℕ) (i : ℕ) → i < length word → is_ascii_digit (get_or word i 0) ≡ true → all_ascii_digits (drop i word) ≡ all_ascii_digits word → all_ascii_digits (drop (i + 1) word) ≡ all_ascii_digits word
-digits_go_on word i lt digit e = ap (λ b. b && all_ascii_digits (drop (i + 1) word)) (sym digit) ∙ ap all_ascii_digits (sym (drop_more word i 0 lt)) ∙ e
-
-pub other_byte_is_none : (word : List ℕ) (i : ℕ) → i < length word → is_ascii_digit (get_or word i 0) ≡ false → all_ascii_digits (drop i word) ≡ all_ascii_digits word → number_of word ≡ None
-other_byte_is_none word i lt other e =
-    no_number word (second_fails (some_byte word) (all_ascii_digits word) (no_leading_zero word) (fits word)
-    (sym e ∙ ap all_ascii_digits (drop_more word i 0 lt) ∙ ap (λ b. b && all_ascii_digits (drop (i + 1) word)) other))
 
 digit_range : (c : ℕ) → is_ascii_digit c ≡ true → IsInRange 48 57 c
 digit_range c e = (tells_all_ascii_digits.parts c [] (rw e refl)).0
@@ -83,18 +49,14 @@ too_large_is_none word i v lt digit e over =
     let whole = value_goes_on word i v lt digit e in
     let more = digits_value_after-le (v * 10 + (get_or word i 0 - 48)) (drop (i + 1) word) in
     let large : 2 ^ 64 ≤ digits_value 10 word = omega arith in
-    no_number word (fourth_fails (some_byte word) (all_ascii_digits word) (no_leading_zero word) (fits word) (le-ltb (digits_value 10 word) (2 ^ 64) large))
-
-or_true : (a : Bool) → (a || true) ≡ true
-or_true true = refl
-or_true false = refl
+    no_number word (and_right (some_byte word && all_ascii_digits word && no_leading_zero word) (fits word) (le-ltb (digits_value 10 word) (2 ^ 64) large))
 
 no_zero : (word : List ℕ) → (1 < length word → get_or word 0 0 ≢ 48) → no_leading_zero word ≡ true
 no_zero word zeros =
     elim (cases_lt 1 (length word)) [
       | inl long ↦ elim (eqb_tells (get_or word 0 0) 48) [
         | inl is ↦ absurd (zeros long is.1)
-        | inr other ↦ ap (λ b. leb (length word) 1 || not b) other.0 ∙ or_true (leb (length word) 1)
+        | inr other ↦ ap (λ b. leb (length word) 1 || not b) other.0 ∙ or-true (leb (length word) 1)
       ]
       | inr short ↦ ap (λ b. b || not (eqb (get_or word 0 0) 48)) (le-leb (length word) 1 short)
     ]

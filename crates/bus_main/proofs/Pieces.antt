@@ -5,7 +5,7 @@ use Rattle.std.specs.Option.{option_copied}
 use Rattle.std.specs.List.{before_first, after_first, position_or_len, onto_first}
 use Rattle.std.proofs.lemmas.Bool.{ltb-false, ltb-true}
 use Rattle.std.proofs.lemmas.Option.{cond_some}
-use Rattle.std.proofs.lemmas.List.{length-drop}
+use Rattle.std.proofs.lemmas.List.{length-drop, take_all}
 use Rattle.std.proofs.lemmas.List.Sums.{prefix_len-le-length}
 use Rattle.std.proofs.lemmas.List.Splits.{slice_split_first}
 use Rattle.bus_main.specs.Grammar.{lines_of, words_of, words_left}
@@ -27,21 +27,16 @@ found_nowhere p xs e =
     let near = prefix_len-le-length (λ x. not (p x)) xs in
     omega arith
 
--- all of a list
-take_whole : (xs : List ℕ) (k : ℕ) → k ≡ length xs → take k xs ≡ xs
-take_whole [] k e = rw e refl
-take_whole (x ∷ xs) k e = rw e (ap (λ (l : List ℕ). x ∷ l) (take_whole xs (length xs) refl))
-
 pub front_at : (p : ℕ → Bool) (xs : List ℕ) (i : ℕ) → position p xs ≡ Some i → take i xs ≡ before_first p xs
 front_at p xs i e = ap (λ n. take n xs) (sym (found_at p xs i e).1)
 
 pub rest_at : (p : ℕ → Bool) (xs : List ℕ) (i : ℕ) → position p xs ≡ Some i → (position_or_len p xs < length xs) × (take (length xs - (i + 1)) (drop (i + 1) xs) ≡ after_first p xs)
 rest_at p xs i e =
     let k = found_at p xs i e in
-    (k.0, take_whole (drop (i + 1) xs) (length xs - (i + 1)) (omega (arith, length-drop (i + 1) xs)) ∙ ap (λ n. drop (n + 1) xs) (sym k.1))
+    (k.0, take_all (length xs - (i + 1)) (drop (i + 1) xs) (omega (arith, length-drop (i + 1) xs)) ∙ ap (λ n. drop (n + 1) xs) (sym k.1))
 
 pub front_nowhere : (p : ℕ → Bool) (xs : List ℕ) → position p xs ≡ None → xs ≡ before_first p xs
-front_nowhere p xs e = sym (take_whole xs (position_or_len p xs) (found_nowhere p xs e))
+front_nowhere p xs e = sym (take_all (position_or_len p xs) xs (omega (arith, found_nowhere p xs e)))
 
 -- ---- lines
 
@@ -78,7 +73,7 @@ pub line_split : (text line : List ℕ) (rest : Option (Bor (List ℕ))) (empty 
     → line ≡ before_first ends_line text
     → MatchOption rest (position_or_len ends_line text ≡ length text) (λ r. (position_or_len ends_line text < length text) × (r.now ≡ after_first ends_line text))
     → lines_of text ≡ line ∷ lines_of (unwrap_or rest empty).now
-line_split text line None empty some none front whole = rw (none, front, take_whole text _ whole) (line_last text whole some)
+line_split text line None empty some none front whole = rw (none, front, take_all (position_or_len ends_line text) text (omega (arith, whole))) (line_last text whole some)
 line_split text line (Some r) empty some none front split = rw (split.1, front) (line_first text split.0)
 
 -- ---- words
@@ -100,5 +95,5 @@ pub word_split : (text word : List ℕ) (rest : Option (Bor (List ℕ)))
     → word ≡ before_first ends_word text
     → MatchOption rest (position_or_len ends_word text ≡ length text) (λ r. (position_or_len ends_word text < length text) × (r.now ≡ after_first ends_word text))
     → words_of text ≡ word ∷ words_left (option_copied rest)
-word_split text word None front whole = rw (front, take_whole text _ whole) (word_last text whole)
+word_split text word None front whole = rw (front, take_all (position_or_len ends_word text) text (omega (arith, whole))) (word_last text whole)
 word_split text word (Some r) front split = rw (split.1, front) (slice_split_first ends_word text 0 split.0)

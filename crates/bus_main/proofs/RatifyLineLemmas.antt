@@ -3,14 +3,15 @@ use Rattle.std.proofs.Common.{◌≡◌, ℕ, ◌^◌, ◌<◌, ◌≤◌, Bool,
 use Rattle.std.specs.Prelude.{decimal, codes, option_and_then}
 use Rattle.std.specs.List.{AllByRecursion}
 use Rattle.std.specs.Str.{bytes_eq}
-use Rattle.std.proofs.lemmas.Bool.{leb-true, le-leb}
+use Rattle.std.proofs.lemmas.Bool.{and_parts, leb-true, le-leb}
 use Rattle.std.proofs.lemmas.Fmt.{decimal_digit}
+use Rattle.std.proofs.lemmas.Option.{cond_some}
 use Rattle.std.proofs.lemmas.Slice.Eq.{bytes_eq-Decides}
 use Rattle.bus_main.specs.Grammar.{number_of, each_of, arguments_of}
 use Rattle.bus_main.specs.RatifyScript.{bit_of, if_between, if_any, inputs_of, steps_of}
 use Rattle.bus_main.specs.RatifyText.{bit}
 use Rattle.bus_main.specs.RatifyLines.{IsInputsLine, IsStepsLine}
-use Rattle.bus_main.proofs.SpelledLemmas.{NoSpace, and_parts, chained, number_plain, number_spelled, number_read, line_spelled, line_read}
+use Rattle.bus_main.proofs.SpelledLemmas.{NoSpace, chained, number_plain, number_spelled, number_read, line_spelled, line_read}
 
 -- ---- the line of inputs
 
@@ -43,24 +44,16 @@ all_good (b ∷ bits) = (tt, all_good bits)
 
 between : {A : Type 0} (low high : ℕ) (xs ys : List A) → if_between low high xs ≡ Some ys → (xs ≡ ys) × (low ≤ length ys) × (length ys ≤ high)
 between low high xs ys e =
-    let k = kept_list (leb low (length xs) && leb (length xs) high) xs ys e in
+    let k = cond_some (leb low (length xs) && leb (length xs) high) xs ys e in
     let p = and_parts (leb low (length xs)) (leb (length xs) high) k.0 in
     let same = ap length k.1 in
     (k.1, omega (arith, leb-true low (length xs) p.0), omega (arith, leb-true (length xs) high p.1))
-  where
-    kept_list : {A : Type 0} (b : Bool) (xs ys : List A) → cond b (Some xs) None ≡ Some ys → (b ≡ true) × (xs ≡ ys)
-    kept_list true xs ys e = (refl, cc)
-    kept_list false xs ys e = absurd cc
 
 any : {A : Type 0} (xs ys : List A) → if_any xs ≡ Some ys → (xs ≡ ys) × (1 ≤ length ys)
 any xs ys e =
-    let k = kept_list (leb 1 (length xs)) xs ys e in
+    let k = cond_some (leb 1 (length xs)) xs ys e in
     let same = ap length k.1 in
     (k.1, omega (arith, leb-true 1 (length xs) k.0))
-  where
-    kept_list : {A : Type 0} (b : Bool) (xs ys : List A) → cond b (Some xs) None ≡ Some ys → (b ≡ true) × (xs ≡ ys)
-    kept_list true xs ys e = (refl, cc)
-    kept_list false xs ys e = absurd cc
 
 pub inputs_spelled : (line : List ℕ) (inputs : List Bool) → inputs_of line ≡ Some inputs → IsInputsLine line inputs
 inputs_spelled line inputs e =

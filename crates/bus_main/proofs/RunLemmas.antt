@@ -2,7 +2,7 @@
 use Rattle.std.proofs.Common.{◌≡◌, ℕ, zero, suc, ◌<◌, ◌≤◌, Bool, true, false, cond, ltb, ◌&&◌, List, [], ◌∷◌, ◌++◌, length, Option, Some, None, Result, Ok, Err, refl, sym, ap, subst, ◌∙◌, inl, inr, arith}
 use Rattle.std.specs.Prelude.{IsSome}
 use Rattle.std.specs.List.{All, list_all}
-use Rattle.std.proofs.lemmas.Bool.{cases_lt, ltb-true}
+use Rattle.std.proofs.lemmas.Bool.{and_parts, cases_lt, ltb-true}
 use Rattle.std.proofs.lemmas.List.Folds.{list_all-append}
 use Rattle.bus_register.specs.declared.registers.Op.{Op}
 use Rattle.bus_register.specs.Protocol.{Protocol}
@@ -58,14 +58,10 @@ lines_known : (lines : List (ℕ × List ℕ)) (script : RatifyScript) → scrip
 lines_known [] script e = absurd cc
 lines_known (line ∷ lines) script e = behind_known line.0 (inputs_of line.1) lines script e
 
-and_true : (a b : Bool) → (a && b) ≡ true → (a ≡ true) × (b ≡ true)
-and_true true b e = (refl, e)
-and_true false b e = absurd cc
-
 all_below : (n : ℕ) (xs : List ℕ) → all_known n xs ≡ true → All (λ p. p < n) xs
 all_below n [] e k d lt = absurd (omega arith)
-all_below n (x ∷ xs) e zero d lt = ltb-true x n (and_true (ltb x n) (all_known n xs) e).0
-all_below n (x ∷ xs) e (suc k) d lt = all_below n xs (and_true (ltb x n) (all_known n xs) e).1 k d (omega arith)
+all_below n (x ∷ xs) e zero d lt = ltb-true x n (and_parts (ltb x n) (all_known n xs) e).0
+all_below n (x ∷ xs) e (suc k) d lt = all_below n xs (and_parts (ltb x n) (all_known n xs) e).1 k d (omega arith)
 
 pub script_known : (bytes : List ℕ) (script : RatifyScript) → ratify_script bytes ≡ Ok script → All (λ p. p < length script.inputs) script.schedule
 script_known bytes script e = all_below (length script.inputs) script.schedule (lines_known (script_lines bytes) script e)

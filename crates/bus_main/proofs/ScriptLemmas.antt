@@ -4,7 +4,7 @@ use Rattle.std.specs.List.{list_all}
 use Rattle.std.proofs.lemmas.Bool.{le-leb, lt-ltb, le-ltb}
 use Rattle.std.proofs.lemmas.List.{length-append}
 use Rattle.std.proofs.lemmas.List.Folds.{list_all-append}
-use Rattle.std.proofs.Math.Bool.{and-true}
+use Rattle.std.proofs.Math.Bool.{and-false, and-true}
 use Rattle.bus_main.specs.Grammar.{number_of, each_of, and_before}
 
 -- these, and then those that are behind them, if they are something
@@ -31,10 +31,6 @@ some_now steps p = le-leb 1 (length (steps ++ p ∷ [])) (omega (arith, length-a
 all_and : (n : ℕ) (steps : List ℕ) (p : ℕ) → list_all (λ q. ltb q n) (steps ++ p ∷ []) ≡ list_all (λ q. ltb q n) steps && ltb p n
 all_and n steps p = list_all-append (λ q. ltb q n) steps (p ∷ []) ∙ ap (λ b. list_all (λ q. ltb q n) steps && b) (and-true (ltb p n))
 
-and_false : (b : Bool) → (b && false) ≡ false
-and_false true = refl
-and_false false = refl
-
 -- a step of a process
 pub TakesSteps-one : (n p : ℕ) (words left : List (List ℕ)) (word : List ℕ) (is_empty are_known : Bool) (old new newer : List ℕ) → TakesSteps n words (word ∷ left) is_empty are_known old new → number_of word ≡ Some p → p < n → newer ≡ new ++ p ∷ []
     → TakesSteps n words left false are_known old newer
@@ -53,6 +49,6 @@ TakesSteps-stranger n p words left word is_empty are_known old new h number le =
   steps = h.steps ++ p ∷ [];
   said = behind_one_more h.steps p (each_of number_of left) ∙ ap (λ o. behind h.steps (and_before o (each_of number_of left))) (sym number) ∙ h.said;
   none = ap not (sym (some_now h.steps p));
-  known = sym (and_false (list_all (λ q. ltb q n) h.steps)) ∙ ap (λ b. list_all (λ q. ltb q n) h.steps && b) (sym (le-ltb p n le)) ∙ sym (all_and n h.steps p);
+  known = sym (and-false (list_all (λ q. ltb q n) h.steps)) ∙ ap (λ b. list_all (λ q. ltb q n) h.steps && b) (sym (le-ltb p n le)) ∙ sym (all_and n h.steps p);
   taken = λ k. absurd cc;
 }

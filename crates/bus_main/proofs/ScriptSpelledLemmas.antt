@@ -1,12 +1,11 @@
 -- Scripts are what they spell, both ways.
 use Rattle.std.proofs.Common.{◌≡◌, ℕ, ◌<◌, Bool, true, false, cond, ltb, List, [], ◌∷◌, ◌++◌, length, Option, Some, None, Result, Ok, Err, refl, sym, ap, ◌∙◌}
 use Rattle.std.specs.List.{AllByRecursion, list_all}
-use Rattle.std.proofs.lemmas.Bool.{ltb-true, lt-ltb}
+use Rattle.std.proofs.lemmas.Bool.{and_parts, ltb-true, lt-ltb}
 use Rattle.bus_main.specs.declared.ratify.refusals.LineFault.TheVariants.{NoSuchProcess}
 use Rattle.bus_main.specs.declared.ratify.refusals.Refusal.{Refusal}
 use Rattle.bus_main.specs.RatifyScript.{RatifyScript, inputs_of, steps_of, refused_at, steps_among, then_steps, schedule_of, with_schedule, script_behind, script_of}
 use Rattle.bus_main.specs.RatifyLines.{AreSteps, IsScript}
-use Rattle.bus_main.proofs.SpelledLemmas.{and_parts}
 use Rattle.bus_main.proofs.RatifyLineLemmas.{inputs_spelled, inputs_read, steps_spelled, steps_read}
 
 all_below : (n : ℕ) (steps : List ℕ) → list_all (λ p. ltb p n) steps ≡ true → AllByRecursion (λ p. p < n) steps

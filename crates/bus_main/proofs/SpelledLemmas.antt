@@ -1,38 +1,24 @@
 -- Numbers and words are what they spell, both ways.
-use Rattle.std.proofs.Common.{◌≡◌, ℕ, zero, suc, ◌^◌, ◌<◌, Bool, true, false, cond, eqb, ltb, leb, not, ◌&&◌, ◌||◌, List, [], ◌∷◌, ◌++◌, length, get_or, Option, Some, None, refl, sym, ap, subst, ◌∙◌, append-nil, arith}
+use Rattle.std.proofs.Common.{◌≡◌, ℕ, zero, suc, ◌^◌, ◌<◌, Bool, true, false, cond, eqb, leb, not, ◌&&◌, ◌||◌, List, [], ◌∷◌, ◌++◌, length, get_or, Option, Some, None, refl, sym, ap, subst, ◌∙◌, append-nil, arith}
 use Rattle.std.specs.Prelude.{decimal, flat_map, map, option_and_then}
 use Rattle.std.specs.List.{AllByRecursion, join_with_byte}
 use Rattle.std.specs.Str.{all_ascii_digits, bytes_eq}
 use Rattle.std.specs.Str.Parse.{digits_value}
-use Rattle.std.proofs.lemmas.Bool.{ltb-true, leb-true, lt-ltb, eq-eqb, ne_eqb}
+use Rattle.std.proofs.Math.Bool.{or-true}
+use Rattle.std.proofs.lemmas.Bool.{and_parts, ltb-true, leb-true, lt-ltb, eq-eqb, ne_eqb}
+use Rattle.std.proofs.lemmas.Option.{cond_some}
 use Rattle.std.proofs.lemmas.Fmt.{digits_decimal, digits_value-decimal, decimal-digits_value, decimal_nonempty, first_decimal, decimal_digit}
 use Rattle.std.proofs.lemmas.Slice.Eq.{bytes_eq-Decides}
 use Rattle.std.proofs.lemmas.List.Elements.{All-from_recursion}
 use Rattle.std.proofs.lemmas.List.Splits.{slice_split_none, slice_split_at, join_with_byte-slice_split}
 use Rattle.std.proofs.lemmas.Str.Parse.{IsNumeralModel, numerals_by_value, tells_all_ascii_digits}
 use Rattle.bus_main.specs.Grammar.{number_of, is_number, each_of, and_before, words_of, behind_first, arguments_of}
+use Rattle.bus_main.proofs.NumberLemmas.{all_pass, some_byte, no_leading_zero, fits}
 
 -- ---- numbers
 
 pub digits_model : IsNumeralModel (λ ds. all_ascii_digits ds ≡ true) (digits_value 10)
 digits_model = numerals_by_value (λ ds. all_ascii_digits ds ≡ true) tells_all_ascii_digits
-
-abbrev some_byte : List ℕ → Bool
-some_byte word = ltb 0 (length word)
-
-abbrev no_leading_zero : List ℕ → Bool
-no_leading_zero word = leb (length word) 1 || not (eqb (get_or word 0 0) 48)
-
-abbrev fits : List ℕ → Bool
-fits word = ltb (digits_value 10 word) (2 ^ 64)
-
-pub and_parts : (a b : Bool) → (a && b) ≡ true → (a ≡ true) × (b ≡ true)
-and_parts true b e = (refl, e)
-and_parts false b e = absurd cc
-
-some_is : (b : Bool) (m n : ℕ) → cond b (Some m) None ≡ Some n → (b ≡ true) × (m ≡ n)
-some_is true m n e = (refl, cc)
-some_is false m n e = absurd cc
 
 lead : (a z : Bool) → (a || not z) ≡ true → z ≡ true → a ≡ true
 lead true z e is = refl
@@ -41,7 +27,7 @@ lead false false e is = absurd cc
 
 pub number_spelled : (word : List ℕ) (n : ℕ) → number_of word ≡ Some n → (word ≡ decimal n) × (n < 2 ^ 64)
 number_spelled word n e =
-    let k = some_is (is_number word) (digits_value 10 word) n e in
+    let k = cond_some (is_number word) (digits_value 10 word) n e in
     let p = and_parts (some_byte word && all_ascii_digits word && no_leading_zero word) (fits word) k.0 in
     let q = and_parts (some_byte word && all_ascii_digits word) (no_leading_zero word) p.0 in
     let r = and_parts (some_byte word) (all_ascii_digits word) q.0 in
@@ -50,24 +36,17 @@ number_spelled word n e =
     let alone : get_or word 0 0 ≡ 48 → length word ≡ 1 = λ is. let short = leb-true (length word) 1 (lead (leb (length word) 1) (eqb (get_or word 0 0) 48) q.1 (eq-eqb (get_or word 0 0) 48 is)) in omega arith in
     (sym (decimal-digits_value digits_model word r.1 some alone small) ∙ ap decimal k.1, omega (arith, k.1))
 
-all_four : (a b c d : Bool) → a ≡ true → b ≡ true → c ≡ true → d ≡ true → (a && b && c && d) ≡ true
-all_four a b c d e f g h = rw (e, f, g, h) refl
-
-or_right : (a : Bool) → (a || true) ≡ true
-or_right true = refl
-or_right false = refl
-
 leads_well : (n : ℕ) → n < 2 ^ 64 → no_leading_zero (decimal n) ≡ true
 leads_well zero lt = ap no_leading_zero (decimal_digit 0 (omega arith))
 leads_well (suc m) lt =
     let first = first_decimal (suc m) (omega arith) lt in
-    ap (λ z. leb (length (decimal (suc m))) 1 || not z) (ne_eqb (get_or (decimal (suc m)) 0 0) 48 (λ e. omega arith)) ∙ or_right (leb (length (decimal (suc m))) 1)
+    ap (λ z. leb (length (decimal (suc m))) 1 || not z) (ne_eqb (get_or (decimal (suc m)) 0 0) 48 (λ e. omega arith)) ∙ or-true (leb (length (decimal (suc m))) 1)
 
 pub number_read : (n : ℕ) → n < 2 ^ 64 → number_of (decimal n) ≡ Some n
 number_read n lt =
     let value = digits_value-decimal digits_model n lt in
     let small : digits_value 10 (decimal n) < 2 ^ 64 = rw value lt in
-    let pass : is_number (decimal n) ≡ true = all_four (some_byte (decimal n)) (all_ascii_digits (decimal n)) (no_leading_zero (decimal n)) (fits (decimal n)) (lt-ltb 0 (length (decimal n)) (decimal_nonempty n lt)) (digits_decimal digits_model n lt) (leads_well n lt) (lt-ltb (digits_value 10 (decimal n)) (2 ^ 64) small) in
+    let pass : is_number (decimal n) ≡ true = all_pass (some_byte (decimal n)) (all_ascii_digits (decimal n)) (no_leading_zero (decimal n)) (fits (decimal n)) (lt-ltb 0 (length (decimal n)) (decimal_nonempty n lt)) (digits_decimal digits_model n lt) (leads_well n lt) (lt-ltb (digits_value 10 (decimal n)) (2 ^ 64) small) in
     ap (λ b. cond b (Some (digits_value 10 (decimal n))) None) pass ∙ ap (λ m. Some m) value
 
 -- ---- words
@@ -105,10 +84,6 @@ pub chained : {A B : Type 0} (f : A → Option B) (o : Option A) (y : B) → opt
 chained f None y e = absurd cc
 chained f (Some x) y e = (x, refl, e)
 
-kept : (b : Bool) (xs ys : List (List ℕ)) → cond b (Some xs) None ≡ Some ys → (b ≡ true) × (xs ≡ ys)
-kept true xs ys e = (refl, cc)
-kept false xs ys e = absurd cc
-
 module _ {A : Type 0} (read : List ℕ → Option A) (spell : A → List ℕ) (Good : A → Type 0) (to : (word : List ℕ) (x : A) → read word ≡ Some x → (word ≡ spell x) × Good x) (from : (x : A) → Good x → read (spell x) ≡ Some x) where
   before_is : (o : Option A) (p : Option (List A)) (xs : List A) → and_before o p ≡ Some xs → (x : A) × (ys : List A) × (o ≡ Some x) × (p ≡ Some ys) × (xs ≡ x ∷ ys)
   before_is None p xs e = absurd cc
@@ -135,7 +110,7 @@ module _ {A : Type 0} (read : List ℕ → Option A) (spell : A → List ℕ) (G
   behind_is : (keyword : List ℕ) (all words : List (List ℕ)) → behind_first keyword all ≡ Some words → all ≡ keyword ∷ words
   behind_is keyword [] words e = absurd cc
   behind_is keyword (first ∷ rest) words e =
-      let k = kept (bytes_eq first keyword) rest words e in
+      let k = cond_some (bytes_eq first keyword) rest words e in
       let same : first ≡ keyword = (bytes_eq-Decides first keyword).0 k.0 in
       rw (same, k.1) refl
 

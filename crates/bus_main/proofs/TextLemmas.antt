@@ -1,5 +1,5 @@
 -- The lines of a text are what it spells, both ways.
-use Rattle.std.proofs.Common.{◌≡◌, ◌≢◌, ℕ, ◌<◌, cond, List, [], ◌∷◌, ◌++◌, length, refl, sym, ap, subst, ◌∙◌, append_assoc, inl, inr, arith}
+use Rattle.std.proofs.Common.{◌≡◌, ◌≢◌, ℕ, ◌<◌, cond, List, [], ◌∷◌, ◌++◌, length, refl, sym, ap, subst, ◌∙◌, append_assoc, append-nil, inl, inr, arith}
 use Rattle.std.specs.List.{AllByRecursion, onto_first}
 use Rattle.std.proofs.lemmas.Bool.{ne_eqb}
 use Rattle.std.proofs.lemmas.Bool.Decides.{eqb_tells}
@@ -30,17 +30,9 @@ front_lines : (front : List (List ℕ)) (last : List ℕ) → AllByRecursion IsL
 front_lines [] last is = (tt, is.0)
 front_lines (line ∷ front) last is = let k = front_lines front last is.1 in ((is.0, k.0), k.1)
 
-all_of : (lines : List (List ℕ)) → lines ++ [] ≡ lines
-all_of [] = refl
-all_of (line ∷ lines) = ap (λ (l : List (List ℕ)). line ∷ l) (all_of lines)
-
-no_more : (bytes : List ℕ) → bytes ≡ bytes ++ []
-no_more [] = refl
-no_more (b ∷ bytes) = ap (λ (l : List ℕ). b ∷ l) (no_more bytes)
-
 pub text_read : (text : List ℕ) (lines : List (List ℕ)) → IsText text lines → lines_of text ≡ lines
 text_read text lines h = elim h.spelled [
-  | inl e ↦ ap lines_of (e ∙ no_more (ended lines)) ∙ ended_read lines [] h.each ∙ all_of lines
+  | inl e ↦ ap lines_of (e ∙ sym (append-nil (ended lines))) ∙ ended_read lines [] h.each ∙ append-nil lines
   | inr k ↦
       let is = front_lines k.0 k.1 (subst (AllByRecursion IsLine) k.2 h.each) in
       ap lines_of k.4 ∙ ended_read k.0 k.1 is.0 ∙ ap (λ (l : List (List ℕ)). k.0 ++ l) (line_alone k.1 is.1 k.3) ∙ sym k.2
