@@ -1,5 +1,4 @@
 -- The law of the elections that a sender takes part in, over any ratifier.
-use Rattle.std.proofs.Math.Nat.{mul-le-mul_right}
 use Rattle.std.proofs.Common.{◌≡◌, ℕ, ◌+◌, ◌*◌, ◌-◌, ◌<◌, ◌≤◌, Bool, true, false, Option, Some, None, IsSome, IfSome, refl, sym, subst, arith}
 use Rattle.bus_register.specs.Words.{register}
 use Rattle.bus_register.specs.declared.registers.Op.{Op}
@@ -16,7 +15,7 @@ use Rattle.bus_coinconc.specs.ConciliatorProtocol.{conciliator_protocol}
 use Rattle.bus_ownerbits.specs.Election.{election_op, election_fed}
 use Rattle.bus_ownerbits.specs.ElectionKeeps.{OneOwner}
 use Rattle.bus_ownerbits.specs.ElectionLaws.{election_laws}
-use Rattle.bus_ownerbits.specs.ElectionSteps.{turns_after}
+use Rattle.bus_ownerbits.specs.ElectionSteps.{row_within, turns_after}
 use Rattle.bus_ownerbits.specs.Sizes.{decision_cost}
 use Rattle.bus_tenure.specs.declared.phases.Phase.TheVariants.{Electing}
 use Rattle.bus_tenure.specs.Core.{Core, row_at, words_of}
@@ -32,7 +31,7 @@ for_some None y most e f = tt
 for_some (Some o) y most e f = f o (sym e)
 
 row_place : (r t rows w width capacity : ℕ) → r < 2 + t * w + width → w ≡ width → t < rows → r < 2 + rows * w + capacity
-row_place r t rows w width capacity h e below = let m = mul-le-mul_right w (let l : t + 1 ≤ rows = omega arith in l) in omega arith
+row_place r t rows w width capacity h e below = let m = row_within t rows w below in omega arith
 
 module _ {S : Type 0} (op : S → ℕ → Option Op) (fed : S → ℕ → ℕ → S) (P : Protocol S Bool Verdict) (laws : Laws op fed P Legal) (quick : (n : ℕ) → P.steps n ≤ 2 * n + 2) where
   law : DecideLaw op fed P conciliator_op conciliator_fed conciliator_protocol

@@ -1,6 +1,5 @@
 -- What an election's sender is after a step of it, from what its calls gave.
-use Rattle.std.proofs.Common.{◌≡◌, ℕ, ◌+◌, ◌==◌, false, cond, Option, Some, None, is_some, refl, sym, ◌∙◌, ap, subst, inl, inr}
-use Rattle.std.proofs.lemmas.Bool.Decides.{eqb_tells}
+use Rattle.std.proofs.Common.{◌≡◌, ℕ, ◌+◌, ◌==◌, false, cond, Option, Some, None, is_some, refl, sym, ◌∙◌, ap, subst}
 use Rattle.bus_register.specs.declared.registers.SenderNo.{SenderNo}
 use Rattle.bus_batch.specs.Batches.{Pending}
 use Rattle.bus_ownerbits.specs.ElectionNames.{sender}
@@ -12,9 +11,6 @@ use Rattle.bus_tenure.specs.Keeping.{CoreKeeps, PhaseKeeps, IsElecting}
 pub sender_some : (x : Option ℕ) (v : SenderNo) → sender x ≡ Some v → x ≡ Some v.0
 sender_some None v e = cc
 sender_some (Some k) v e = let same : record { 0 = k } ≡ v = cc in ap (λ z. Some z.0) same
-
-pub differs : (a b : ℕ) → (a ≡ b → ⊥) → (a == b) ≡ false
-differs a b h = elim (eqb_tells a b) [ inl e ↦ absurd (h e.1) | inr e ↦ e.0 ]
 
 pub sender_tells : (x : Option ℕ) → is_some (sender x) ≡ is_some x
 sender_tells None = refl

@@ -32,9 +32,6 @@ length_at = 0
 abbrev pub stage_at : ℕ
 stage_at = 1
 
-abbrev pub rows_at : ℕ
-rows_at = 2
-
 abbrev pub row_at : Layout → ℕ → ℕ
 row_at x t = 2 + t * x.width
 

@@ -1,10 +1,11 @@
 use Rattle.std.proofs.Common.{◌≡◌, false, is_some, IsSome, sym, ◌∙◌, ap, subst}
+use Rattle.std.proofs.lemmas.Bool.{ne_eqb}
 use Rattle.bus_binconsensus.specs.Objects.{decide_protocol}
 use Rattle.bus_coinconc.specs.ConciliatorProtocol.{conciliator_protocol}
 use Rattle.bus_ownerbits.specs.Election.{owner_of}
 use Rattle.bus_tenure.specs.Elections.{election_of}
 use Rattle.bus_tenure.proofs.Lawful.{belongs_after}
-use Rattle.bus_tenure.proofs.Turning.{sender_some, sender_tells, differs, its_op, lost_state, lost_answer, keeps_electing}
+use Rattle.bus_tenure.proofs.Turning.{sender_some, sender_tells, its_op, lost_state, lost_answer, keeps_electing}
 use Rattle.bus_tenure.proofs.cores.SenderCore.elect.Goals as goal
 
 pub invariant_of-self-in_default-owner : goal.invariant_of-self-in_default-owner
@@ -31,7 +32,7 @@ returns-clause-state g c =
     let unowned : is_some (owner_of (decide_protocol g.Q.Ratifier.protocol conciliator_protocol) c.in-Electing.election) ≡ false =
     sym (sender_tells _) ∙ ap is_some (sym c.owner.ensures) ∙ sym c.is_some.ensures ∙ c.if-is_some.false in
     lost_state X _ _ c.self.view_is c.in-Electing.tenure c.in-Electing.election c.in-Electing.is unowned c.args.got c.args.word c.feed.new.self c.feed.ensures c.in-Some.owner.0
-    (sender_some _ c.in-Some.owner (sym c.owner-2.ensures ∙ c.in-Some.is)) (differs _ _ c.if-owner-self.false) c.back.new.self c.back.ensures
+    (sender_some _ c.in-Some.owner (sym c.owner-2.ensures ∙ c.in-Some.is)) (ne_eqb _ _ c.if-owner-self.false) c.back.new.self c.back.ensures
 
 pub returns-clause-answer : goal.returns-clause-answer
 returns-clause-answer g c =
@@ -39,4 +40,4 @@ returns-clause-answer g c =
     let unowned : is_some (owner_of (decide_protocol g.Q.Ratifier.protocol conciliator_protocol) c.in-Electing.election) ≡ false =
     sym (sender_tells _) ∙ ap is_some (sym c.owner.ensures) ∙ sym c.is_some.ensures ∙ c.if-is_some.false in
     lost_answer X _ _ c.self.view_is c.in-Electing.tenure c.in-Electing.election c.in-Electing.is unowned c.args.got c.args.word c.feed.new.self c.feed.ensures c.in-Some.owner.0
-    (sender_some _ c.in-Some.owner (sym c.owner-2.ensures ∙ c.in-Some.is)) (differs _ _ c.if-owner-self.false)
+    (sender_some _ c.in-Some.owner (sym c.owner-2.ensures ∙ c.in-Some.is)) (ne_eqb _ _ c.if-owner-self.false)
