@@ -1,13 +1,13 @@
 -- Each turn of a sender keeps what senders, words, page and owners keep.
 use Rattle.std.proofs.Common.{◌≡◌, ◌≢◌, ℕ, suc, ◌+◌, ◌*◌, ◌<◌, ◌≤◌, Bool, true, false, Option, Some, None, ◌⊎◌, inl, inr, List, [], ◌∷◌, ◌++◌, length, take, is_some, slice_get, slice_index, slice_set, arith, refl, sym, ◌∙◌, ap, subst}
 use Rattle.std.proofs.lemmas.Bool.{cases_eq, true≢false}
-use Rattle.std.proofs.lemmas.Grind.{common_steps}
 use Rattle.std.proofs.lemmas.List.{take_more, get_or-set_same, get_or-set_other}
 use Rattle.std.proofs.Math.ListN.{length-set}
+use Rattle.std.proofs.Math.Seq.{take-length}
 use Rattle.std.specs.Prelude.{All}
 use Rattle.std.proofs.lemmas.List.Elements.{All-from_recursion}
 use Rattle.bus_batch.specs.Messages.{IsMessage}
-use Rattle.std.proofs.lemmas.Option.{gets, same_Some}
+use Rattle.std.proofs.lemmas.Option.{same_Some, slice_get_within}
 use Rattle.bus_register.specs.declared.registers.Op.{Op}
 use Rattle.bus_register.specs.declared.registers.SenderNo.{SenderNo}
 use Rattle.bus_register.specs.Words.{register, after}
@@ -23,10 +23,12 @@ use Rattle.bus_tenure.specs.declared.phases.Phase.{Phase}
 use Rattle.bus_tenure.specs.declared.phases.Phase.TheVariants as phase
 use Rattle.bus_world.specs.Log.{read, sent, AreCounted, AreEarlier, Logged, Knows}
 use Rattle.bus_register.specs.Tables.{put}
-use Rattle.bus_register.specs.TableLaws.{put_here, put_beside}
+use Rattle.bus_register.specs.TableLaws.{put_here, put_beside, some_or_none, push_beside}
 use Rattle.bus_world.specs.LogLaws.{read-agree, Logged-agree, Logged-publish, sent-append_other, sent-append_owner, has_end-append, AreEarlier-append, AreEarlier-later}
-use Rattle.bus_world.specs.QueueLaws.{body_is, counted_frame, length-items, ends-body}
+use Rattle.bus_batch.specs.BatchLaws.{is_frame}
+use Rattle.bus_world.specs.QueueLaws.{counted_frame, length-items, ends-body}
 use Rattle.bus_ownerbits.specs.ElectionKeeps.{OneOwner}
+use Rattle.bus_ownerbits.specs.ElectionSteps.{row_within}
 use Rattle.bus_world.specs.Tenures.{Standing}
 use Rattle.bus_world.specs.Tenures.Standing.{Runs, Holds}
 use Rattle.bus_world.specs.TenuresLaws as tenures
@@ -100,9 +102,6 @@ holding_apart u page k published t e h = cc
 same_electing : {E : Type 0} (t u : ℕ) (e f : E) → phase.Electing t e ≡ phase.Electing u f → e ≡ f
 same_electing t u e f h = cc
 
-take_all : (xs : List ℕ) → take (length xs) xs ≡ xs
-take_all xs = grind (arith, common_steps)
-
 not_busy : (leaving : Leaving) (q : Pending) → (queue_after leaving q).busy ≡ false
 not_busy Sent q = refl
 not_busy FoundEnd q = refl
@@ -139,10 +138,7 @@ unsent_knows NoRoom u c t page frames len k = record { entries = k.entries; next
 
 AreOwned-push : (owners : List ℕ) (o : ℕ) (frames : List Frame) → AreOwned owners frames → AreOwned (owners ++ o ∷ []) frames
 AreOwned-push owners o [] a = tt
-AreOwned-push owners o (f ∷ frames) a = (tenures.push_before owners o f.tenure (within owners f.tenure f.owner.0 a.0) ∙ a.0, AreOwned-push owners o frames a.1)
-  where
-    within : (xs : List ℕ) (u v : ℕ) → slice_get xs u ≡ Some v → u < length xs
-    within xs u v e = grind (arith, common_steps, gets)
+AreOwned-push owners o (f ∷ frames) a = (push_beside owners o f.tenure (let l = slice_get_within owners f.tenure f.owner.0 a.0 in omega arith) ∙ a.0, AreOwned-push owners o frames a.1)
 
 AreOwned-append : (owners : List ℕ) (frames : List Frame) (f : Frame) → AreOwned owners frames → slice_get owners f.tenure ≡ Some f.owner.0 → AreOwned owners (frames ++ f ∷ [])
 AreOwned-append owners [] f a e = (e, tt)
@@ -158,7 +154,7 @@ module _ {E : Type 0} (X : Election E) (P : Protocol E (Unit {0}) ℕ) (laws : L
 
     -- a start has no owner
     unstarted : (p at : ℕ) → p < x.senders → P.output (P.started x.senders p tt at) ≡ None
-    unstarted p at below = elim (tenures.some_or_none (X.op (P.started x.senders p tt at) 0)) [
+    unstarted p at below = elim (some_or_none (X.op (P.started x.senders p tt at) 0)) [
       | inr o ↦ laws.unended (P.started x.senders p tt at) 0 o.0 o.1
       | inl none ↦ absurd (true≢false (sym (laws.ends (P.started x.senders p tt at) 0 none).1 ∙ (laws.starts x.senders p at tt below (let z = ok.senders in omega arith)).fresh))
     ]
@@ -262,7 +258,7 @@ module _ {E : Type 0} (X : Election E) (P : Protocol E (Unit {0}) ℕ) (laws : L
 
       -- words of rows and words of the log are apart
       in_row : (t : ℕ) → t < x.rows → (r : ℕ) → r < 2 + t * P.width x.senders + P.width x.senders → r < log_at x
-      in_row t room r l = let apart = tenures.row_apart t x.rows (P.width x.senders) room in let w = ap (λ z. x.rows * z) width in omega arith
+      in_row t room r l = let apart = row_within t x.rows (P.width x.senders) room in let w = ap (λ z. x.rows * z) width in omega arith
 
       module _ (t : ℕ) (e : E) (word : ℕ) (o : Op) (words' : ℕ → ℕ) (elects : c.phase ≡ phase.Electing t e) (next : X.op e word ≡ Some o) (step : Changes o words words') where
         abbrev later : E
@@ -443,13 +439,8 @@ module _ {E : Type 0} (X : Election E) (P : Protocol E (Unit {0}) ℕ) (laws : L
           still_open : has_end frames ≡ false
           still_open = sym written.1.page_knows.ended ∙ is_open
 
-          is_frame : IsFrame x.senders f
-          is_frame = record {
-            tenure = (let a = in_rows in let b = ok.rows in omega arith);
-            owner = (let a = sender_is in let b = own_part.below in omega arith);
-            owner_bits = (let a = sender_is in let b = own_part.below in let d = ok.senders in omega arith);
-            body = body_is c.queue own_part.queue written.0.something;
-          }
+          frame_lawful : IsFrame x.senders f
+          frame_lawful = is_frame c.queue x.senders t written.0.something own_part.queue (let a = sender_is in let b = own_part.below in omega arith) (let a = in_rows in let b = ok.rows in omega arith)
 
           all_stored : stored ≡ frame_len c
           all_stored = let a = written.1.stored_below in omega arith
@@ -457,7 +448,7 @@ module _ {E : Type 0} (X : Election E) (P : Protocol E (Unit {0}) ℕ) (laws : L
           whole : read words (log_at x + words 0) (length (frame_words f)) ≡ frame_words f
           whole =
               ap (λ z. read words (log_at z + words 0) (length (frame_words f))) (sym own_part.layout) ∙ ap (read words (log_at c.layout + words 0)) (sym all_stored) ∙ written.1.words_are
-              ∙ ap (λ z. take z (frame_words f)) all_stored ∙ take_all (frame_words f)
+              ∙ ap (λ z. take z (frame_words f)) all_stored ∙ take-length (frame_words f)
 
           len_now : words' 0 ≡ words 0 + length (frame_words f)
           len_now = word ∙ ap (λ z. z + frame_len c) written.1.page_knows.words
@@ -471,7 +462,7 @@ module _ {E : Type 0} (X : Election E) (P : Protocol E (Unit {0}) ℕ) (laws : L
                 (λ r a b. elsewhere r (omega arith)) (elsewhere 1 (omega arith)) refl (S-same (ap (λ z. stands_at z.phase) goes ∙ sym (ap stands_at holds))) (L-same (ap (λ z. z.least) goes)) refl;
             log = subst (λ z. Logged x.senders x.capacity (log_at x) words' z (frames ++ f ∷ [])) (sym len_now)
                 (Logged-agree x.senders x.capacity (log_at x) words (words 0 + length (frame_words f)) (frames ++ f ∷ [])
-                (Logged-publish x.senders x.capacity (log_at x) words (words 0) frames h.log f is_frame still_open written.1.earlier counts whole
+                (Logged-publish x.senders x.capacity (log_at x) words (words 0) frames h.log f frame_lawful still_open written.1.earlier counts whole
                 (let a = written.1.page_knows.words in let b = ap (λ (z : Layout). z.capacity) own_part.layout in omega arith))
                 words' (λ r a b. elsewhere r (omega arith)));
             owned = AreOwned-append owners frames f h.owned (held.2 ∙ ap Some (sym sender_is));

@@ -1,9 +1,9 @@
 -- What a new frame, and a word past the length, do to the log.
-use Rattle.std.proofs.Common.{◌≡◌, ◌≢◌, ℕ, zero, suc, ◌+◌, ◌<◌, ◌≤◌, Bool, true, false, inl, inr, List, [], ◌∷◌, ◌++◌, length, filter, map, ◌==◌, ◌||◌, cond, arith, refl, sym, ◌∙◌, ap, subst, append_assoc}
-use Rattle.std.proofs.lemmas.Bool.{cases_eq, true≢false}
-use Rattle.std.proofs.lemmas.Bool.Decides.{eqb_tells}
+use Rattle.std.proofs.Common.{◌≡◌, ◌≢◌, ℕ, zero, suc, ◌+◌, ◌<◌, ◌≤◌, true, false, inl, inr, List, [], ◌∷◌, ◌++◌, length, filter, map, ◌==◌, ◌||◌, cond, arith, refl, sym, ◌∙◌, ap, subst, append_assoc}
+use Rattle.std.proofs.Math.Bool.{or-false}
+use Rattle.std.proofs.lemmas.Bool.{cases_eq, eq-eqb, ne_eqb, or_parts, true≢false}
 use Rattle.std.proofs.lemmas.Grind.{common_steps, flat_map-append}
-use Rattle.std.proofs.lemmas.List.{length-append}
+use Rattle.std.proofs.lemmas.List.{append-nil, length-append}
 use Rattle.std.proofs.lemmas.List.Elements.{filter-append}
 use Rattle.bus_register.specs.Tables.{Agree}
 use Rattle.bus_batch.specs.declared.messages.Item.{Item}
@@ -34,39 +34,21 @@ pub AreCounted-append : (first : ℕ) (xs ys : List Item) → AreCounted first x
 AreCounted-append first [] ys a b = subst (λ z. AreCounted z ys) (omega arith) b
 AreCounted-append first (x ∷ xs) ys a b = (a.0, AreCounted-append (first + 1) xs ys a.1 (subst (λ z. AreCounted z ys) (omega arith) b))
 
-or_left : (a b : Bool) → (a || b) ≡ false → a ≡ false
-or_left true b e = absurd (true≢false e)
-or_left false b e = refl
-
-or_right : (a b : Bool) → (a || b) ≡ false → b ≡ false
-or_right true b e = absurd (true≢false e)
-or_right false b e = e
-
-or_false : (a b : Bool) → a ≡ false → (a || b) ≡ b
-or_false a b e = ap (λ z. z || b) e
-
-or_end : (a : Bool) → (a || false) ≡ a
-or_end true = refl
-or_end false = refl
-
 pub has_end-append : (frames : List Frame) (f : Frame) → has_end frames ≡ false → has_end (frames ++ f ∷ []) ≡ ends f.body
-has_end-append [] f e = or_end (ends f.body)
-has_end-append (g ∷ frames) f e = or_false (ends g.body) (has_end (frames ++ f ∷ [])) (or_left (ends g.body) (has_end frames) e) ∙ has_end-append frames f (or_right (ends g.body) (has_end frames) e)
+has_end-append [] f e = or-false (ends f.body)
+has_end-append (g ∷ frames) f e = let none = or_parts (ends g.body) (has_end frames) e in ap (λ z. z || has_end (frames ++ f ∷ [])) none.0 ∙ has_end-append frames f none.1
 
 pub AreFramesFrom-append : (n least : ℕ) (frames : List Frame) (f : Frame) → AreFramesFrom n least frames → IsFrame n f → has_end frames ≡ false → AreEarlier f.tenure frames → least ≤ f.tenure → AreFramesFrom n least (frames ++ f ∷ [])
 AreFramesFrom-append n least [] f a b e c l = (b, l, (λ z. refl), tt)
 AreFramesFrom-append n least (g ∷ frames) f a b e c l = (
   a.0,
   a.1,
-  (λ z. let t : true ≡ false = sym (ap ends z) ∙ or_left (ends g.body) (has_end frames) e in absurd (true≢false t)),
-  AreFramesFrom-append n (g.tenure + 1) frames f a.3 b (or_right (ends g.body) (has_end frames) e) c.1 (let z = c.0 in omega arith),
+  (λ z. let t : true ≡ false = sym (ap ends z) ∙ (or_parts (ends g.body) (has_end frames) e).0 in absurd (true≢false t)),
+  AreFramesFrom-append n (g.tenure + 1) frames f a.3 b (or_parts (ends g.body) (has_end frames) e).1 c.1 (let z = c.0 in omega arith),
 )
 
 pub items-append : (frames : List Frame) (f : Frame) → (order_of (frames ++ f ∷ [])).items ≡ (order_of frames).items ++ items_of f
-items-append frames f = flat_map-append items_of frames (f ∷ []) ∙ ap (λ z. (order_of frames).items ++ z) (one (items_of f))
-  where
-    one : (xs : List Item) → xs ++ [] ≡ xs
-    one xs = grind (arith, common_steps)
+items-append frames f = flat_map-append items_of frames (f ∷ []) ∙ ap (λ z. (order_of frames).items ++ z) (append-nil (items_of f))
 
 pub of_sender-append : (s : ℕ) (frames : List Frame) (f : Frame) → of_sender s (order_of (frames ++ f ∷ [])) ≡ of_sender s (order_of frames) ++ filter (λ i. i.sender.0 == s) (items_of f)
 of_sender-append s frames f = ap (filter (λ i. i.sender.0 == s)) (items-append frames f) ∙ filter-append (λ i. i.sender.0 == s) (order_of frames).items (items_of f)
@@ -80,26 +62,17 @@ AreEarlier-later t u [] l a = tt
 AreEarlier-later t u (g ∷ frames) l a = ((let z = a.0 in omega arith), AreEarlier-later t u frames l a.1)
 
 pub log_words-append : (frames : List Frame) (f : Frame) → log_words (frames ++ f ∷ []) ≡ log_words frames ++ frame_words f
-log_words-append frames f = flat_map-append frame_words frames (f ∷ []) ∙ ap (λ z. log_words frames ++ z) (one (frame_words f))
-  where
-    one : (xs : List ℕ) → xs ++ [] ≡ xs
-    one xs = grind (arith, common_steps)
-
-same_yes : (a : ℕ) → (a == a) ≡ true
-same_yes a = elim (eqb_tells a a) [ inl h ↦ h.0 | inr h ↦ absurd (h.1 refl) ]
-
-same_no : (a b : ℕ) → a ≢ b → (a == b) ≡ false
-same_no a b ne = elim (eqb_tells a b) [ inl h ↦ absurd (ne h.1) | inr h ↦ h.0 ]
+log_words-append frames f = flat_map-append frame_words frames (f ∷ []) ∙ ap (λ z. log_words frames ++ z) (append-nil (frame_words f))
 
 -- a frame's items are its owner's
 owned_messages : (owner : SenderNo) (messages : List Numbered) → filter (λ i. i.sender.0 == owner.0) (map (item_of owner) messages) ≡ map (item_of owner) messages
 owned_messages owner [] = refl
-owned_messages owner (m ∷ messages) = ap (λ b. cond b (item_of owner m ∷ filter (λ i. i.sender.0 == owner.0) (map (item_of owner) messages)) (filter (λ i. i.sender.0 == owner.0) (map (item_of owner) messages))) (same_yes owner.0)
+owned_messages owner (m ∷ messages) = ap (λ b. cond b (item_of owner m ∷ filter (λ i. i.sender.0 == owner.0) (map (item_of owner) messages)) (filter (λ i. i.sender.0 == owner.0) (map (item_of owner) messages))) (eq-eqb owner.0 owner.0 refl)
     ∙ ap (λ z. item_of owner m ∷ z) (owned_messages owner messages)
 
 others_messages : (s : ℕ) (owner : SenderNo) (messages : List Numbered) → s ≢ owner.0 → filter (λ i. i.sender.0 == s) (map (item_of owner) messages) ≡ []
 others_messages s owner [] ne = refl
-others_messages s owner (m ∷ messages) ne = ap (λ b. cond b (item_of owner m ∷ filter (λ i. i.sender.0 == s) (map (item_of owner) messages)) (filter (λ i. i.sender.0 == s) (map (item_of owner) messages))) (same_no owner.0 s (λ e. ne (sym e)))
+others_messages s owner (m ∷ messages) ne = ap (λ b. cond b (item_of owner m ∷ filter (λ i. i.sender.0 == s) (map (item_of owner) messages)) (filter (λ i. i.sender.0 == s) (map (item_of owner) messages))) (ne_eqb owner.0 s (λ e. ne (sym e)))
     ∙ others_messages s owner messages ne
 
 owned_body : (owner : SenderNo) (b : Body) → filter (λ i. i.sender.0 == owner.0) (body_items owner b) ≡ body_items owner b

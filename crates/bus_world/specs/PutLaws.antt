@@ -1,8 +1,7 @@
 -- A turn of a sender changes what nobody has put: messages go from a batch into the order, and nowhere else.
-use Rattle.std.proofs.Common.{◌≡◌, ℕ, ◌+◌, ◌/◌, Bool, true, false, cond, ◌&&◌, ◌==◌, nat_lt, nat_le, Option, Some, None, inl, inr, List, [], ◌∷◌, ◌++◌, filter, map, is_some, slice_get, slice_index, slice_set, arith, refl, sym, ◌∙◌, ap}
+use Rattle.std.proofs.Common.{◌≡◌, ℕ, ◌+◌, ◌/◌, Bool, true, false, cond, ◌&&◌, ◌==◌, nat_lt, nat_le, Option, Some, None, inl, inr, List, [], ◌∷◌, ◌++◌, filter, map, is_some, slice_get, slice_index, slice_set, refl, sym, ◌∙◌, ap}
 use Rattle.std.proofs.lemmas.Bool.{cases_eq}
-use Rattle.std.proofs.lemmas.Grind.{common_steps}
-use Rattle.std.proofs.lemmas.List.{map-append}
+use Rattle.std.proofs.lemmas.List.{append-nil, map-append}
 use Rattle.std.proofs.lemmas.Option.{slice_get_within}
 use Rattle.bus_register.specs.declared.registers.SenderNo.{SenderNo}
 use Rattle.bus_register.specs.TableLaws.{get_set_same, get_set_other}
@@ -63,6 +62,11 @@ module _ {E : Type 0} (X : Election E) (side : Side E) (frames : List Frame) (p 
     | inr ne ↦ ap waiting_of (get_set_other side.senders p c' q ne)
   ])
 
+  -- one of two situations
+  choose : (b : Bool) (s u : Situation E) → Puts s → Puts u → Puts (cond b s u)
+  choose true s u e f = e
+  choose false s u e f = f
+
   module _ (rests : c.phase ≡ phase.Resting) where
     resting_waits : waiting_of (Some c) ≡ c.queue.messages
     resting_waits = ap (waiting_at c) rests
@@ -73,12 +77,8 @@ module _ {E : Type 0} (X : Election E) (side : Side E) (frames : List Frame) (p 
         (waits_same (nat_le c.layout.rows (slice_index side.words 1 / 2)) (record c { least = slice_index side.words 1 / 2 }) (begun X c (slice_index side.words 1 / 2)) c.queue.messages
         (ap (waiting_at (record c { least = slice_index side.words 1 / 2 })) rests) refl) ∙ sym resting_waits)
 
-    pick : (b : Bool) (s u : Situation E) → Puts s → Puts u → Puts (cond b s u)
-    pick true s u e f = e
-    pick false s u e f = f
-
     rest_puts : Puts (resting c)
-    rest_puts = pick (is_closed c.queue.phase) IsClosed _ (stays c refl) (pick (is_empty c.queue.messages && cond (is_closing c.queue.phase) false true) IsIdle _ (stays c refl) (pick (nat_le c.layout.rows c.least) IsSpent LooksAtStage (stays c refl) looks_puts))
+    rest_puts = choose (is_closed c.queue.phase) IsClosed _ (stays c refl) (choose (is_empty c.queue.messages && cond (is_closing c.queue.phase) false true) IsIdle _ (stays c refl) (choose (nat_le c.layout.rows c.least) IsSpent LooksAtStage (stays c refl) looks_puts))
 
   module _ (t : ℕ) (e : E) (elects : c.phase ≡ phase.Electing t e) where
     electing_waits : waiting_of (Some c) ≡ c.queue.messages
@@ -101,18 +101,13 @@ module _ {E : Type 0} (X : Election E) (side : Side E) (frames : List Frame) (p 
           let before : waiting_of (slice_get side.senders q) ≡ c.queue.messages = ap waiting_of (ap (slice_get side.senders) i ∙ old) ∙ ap (waiting_at c) holds in
           let mine : of_sender q (order_of (frames ++ frame_of c.queue t ∷ [])) ≡ of_sender q (order_of frames) ++ items_of (frame_of c.queue t) =
           of_sender-append q frames (frame_of c.queue t) ∙ ap (λ z. of_sender q (order_of frames) ++ filter (λ (x : Item). x.sender.0 == z) (items_of (frame_of c.queue t))) (i ∙ sym sender) ∙ ap (λ z. of_sender q (order_of frames) ++ z) (owned_items (frame_of c.queue t)) in
-          ap (λ z. sent_of (frames ++ frame_of c.queue t ∷ []) q ++ z) now ∙ no_more (sent_of (frames ++ frame_of c.queue t ∷ []) q) ∙ ap (map (λ (x : Item). x.message)) mine
+          ap (λ z. sent_of (frames ++ frame_of c.queue t ∷ []) q ++ z) now ∙ append-nil (sent_of (frames ++ frame_of c.queue t ∷ []) q) ∙ ap (map (λ (x : Item). x.message)) mine
           ∙ map-append (λ (x : Item). x.message) (of_sender q (order_of frames)) (items_of (frame_of c.queue t)) ∙ ap (λ z. sent_of frames q ++ z) (messages_of_frame c.queue t kept ∙ sym before)
       | inr ne ↦
           let c' = record c { phase = phase.Holding t page stored true } in
           ap (λ z. sent_of (frames ++ frame_of c.queue t ∷ []) q ++ z) (ap waiting_of (get_set_other side.senders p c' q ne))
-          ∙ ap (λ z. map (λ (x : Item). x.message) z ++ waiting_of (slice_get side.senders q)) (of_sender-append q frames (frame_of c.queue t) ∙ ap (λ z. of_sender q (order_of frames) ++ z) (others_items q (frame_of c.queue t) (λ i. ne (i ∙ sender))) ∙ no_items (of_sender q (order_of frames)))
-    ] where
-      no_more : (xs : List (List ℕ)) → xs ++ [] ≡ xs
-      no_more xs = grind (arith, common_steps)
-
-      no_items : (xs : List Item) → xs ++ [] ≡ xs
-      no_items xs = grind (arith, common_steps)
+          ∙ ap (λ z. map (λ (x : Item). x.message) z ++ waiting_of (slice_get side.senders q)) (of_sender-append q frames (frame_of c.queue t) ∙ ap (λ z. of_sender q (order_of frames) ++ z) (others_items q (frame_of c.queue t) (λ i. ne (i ∙ sender))) ∙ append-nil (of_sender q (order_of frames)))
+    ]
 
     hold_puts : (published : Bool) → c.phase ≡ phase.Holding t page stored published → Puts (holding c t page stored published)
     hold_puts true holds = stays (rested c Sent t) (sym (ap (waiting_at c) holds))
@@ -122,10 +117,6 @@ module _ {E : Type 0} (X : Election E) (side : Side E) (frames : List Frame) (p 
         (choose (has_room c page) (cond (nat_lt stored (frame_len c)) (StoresWord t page stored) (StoresLength t page stored)) (GivesBack t page NoRoom)
         (choose (nat_lt stored (frame_len c)) (StoresWord t page stored) (StoresLength t page stored) (stays (record c { phase = phase.Holding t page (stored + 1) false }) (sym waits_now)) (publish_puts holds))
         (stays (rested c NoRoom t) (sym waits_now)))
-      where
-        choose : (b : Bool) (s u : Situation E) → Puts s → Puts u → Puts (cond b s u)
-        choose true s u e f = e
-        choose false s u e f = f
 
   -- between events no page is on its way home
   module _ (at_rest : (t : ℕ) (leaving : Leaving) → c.phase ≡ phase.Giving t leaving → ⊥) where

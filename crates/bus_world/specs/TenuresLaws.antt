@@ -2,30 +2,18 @@
 use Rattle.std.proofs.Common.{◌≡◌, ◌≢◌, ℕ, ◌+◌, ◌*◌, ◌<◌, ◌≤◌, Bool, true, false, Option, Some, None, ◌⊎◌, inl, inr, List, [], ◌∷◌, ◌++◌, length, slice_get, arith, refl, sym, ◌∙◌, ap, subst}
 use mathlib.Core.Path.{fun_ext}
 use Rattle.std.proofs.lemmas.Bool.{cases_eq, cases_lt}
-use Rattle.std.proofs.lemmas.Grind.{common_steps}
 use Rattle.std.proofs.lemmas.List.{length_push}
-use Rattle.std.proofs.lemmas.Option.{gets, same_Some, slice_get_within}
+use Rattle.std.proofs.lemmas.Option.{same_Some, slice_get_past, slice_get_within}
 use Rattle.bus_register.specs.declared.registers.Op.{Op}
 use Rattle.bus_register.specs.Words.{register}
 use Rattle.bus_register.specs.Tables.{of_some, Beside, put, Agree, Stepped}
-use Rattle.bus_register.specs.TableLaws.{put_here, put_beside}
+use Rattle.bus_register.specs.TableLaws.{put_here, put_beside, some_or_none, here_not, push_here, push_beside}
 use Rattle.bus_register.specs.Protocol.{Protocol, Laws, inputs, outputs}
 use Rattle.bus_ownerbits.specs.ElectionKeeps.{OneOwner}
+use Rattle.bus_ownerbits.specs.ElectionSteps.{row_within}
 use Rattle.bus_world.specs.Tenures.{Standing, Tenures}
 use Rattle.bus_world.specs.Tenures.Standing.{Rests, Runs, Holds}
 use Rattle.bus_world.specs.Tenures.Stage.{Open, Held}
-
-pub push_here : {A : Type 0} (xs : List A) (x : A) → slice_get (xs ++ x ∷ []) (length xs) ≡ Some x
-push_here xs x = grind (arith, common_steps, gets)
-
-pub push_before : {A : Type 0} (xs : List A) (x : A) (p : ℕ) → p < length xs → slice_get (xs ++ x ∷ []) p ≡ slice_get xs p
-push_before xs x p l = grind (arith, common_steps, gets)
-
-push_past : {A : Type 0} (xs : List A) (x : A) (p : ℕ) → length xs < p → slice_get (xs ++ x ∷ []) p ≡ None
-push_past xs x p l = grind (arith, common_steps, gets)
-
-here_not : {A : Type 0} (xs : List A) (p : ℕ) → p < length xs → slice_get xs p ≡ None → ⊥
-here_not xs p l e = grind (arith, common_steps, gets)
 
 same_Electing : {E : Type 0} (t u : ℕ) (e f : E) → Runs t e ≡ Runs u f → (t ≡ u) × (e ≡ f)
 same_Electing t u e f h = (cc, cc)
@@ -42,14 +30,6 @@ resting_no_electing t e h = cc
 resting_no_holding : {E : Type 0} (t : ℕ) → ◌≡◌ {A = Standing E} Rests (Holds t) → ⊥
 resting_no_holding t h = cc
 
-pub some_or_none : {A : Type 0} (o : Option A) → (o ≡ None) ⊎ ((x : A) × (o ≡ Some x))
-some_or_none None = inl refl
-some_or_none (Some x) = inr (x, refl)
-
--- rows lie one after another
-pub row_apart : (t u w : ℕ) → t < u → t * w + w ≤ u * w
-row_apart t u w h = grind arith
-
 module _ {E : Type 0} (op : E → ℕ → Option Op) (fed : E → ℕ → ℕ → E) (P : Protocol E (Unit {0}) ℕ) (laws : Laws op fed P OneOwner) (n rows at : ℕ) where
   -- ── what holds at any moment ──
   pub one_owner : (words : ℕ → ℕ) (stage : ℕ) (home : Bool) (standing : ℕ → Option (Standing E)) (least : ℕ → ℕ) (owners : List ℕ) (h : Tenures P n rows at words stage home standing least owners)
@@ -65,7 +45,7 @@ module _ {E : Type 0} (op : E → ℕ → Option Op) (fed : E → ℕ → ℕ �
         (subst (λ z. Tenures P n rows at words' stage home z least' owners') (sym (fun_ext c)) (subst (λ z. Tenures P n rows at words' stage home standing z owners') (sym (fun_ext d))
         (subst (λ z. Tenures P n rows at words' stage home standing least z) (sym e) record {
           elections = h.elections;
-          kept = λ t l. let apart = row_apart t rows (P.width n) l in laws.frame n (at + t * P.width n) words words' (h.elections t) (h.elections t) (h.kept t l) (λ r u v. agree r (omega arith) (omega arith)) (λ q. refl);
+          kept = λ t l. let apart = row_within t rows (P.width n) l in laws.frame n (at + t * P.width n) words words' (h.elections t) (h.elections t) (h.kept t l) (λ r u v. agree r (omega arith) (omega arith)) (λ q. refl);
           ended = h.ended;
           stage_is = h.stage_is;
           begun = h.begun;
@@ -237,12 +217,12 @@ module _ {E : Type 0} (op : E → ℕ → Option Op) (fed : E → ℕ → ℕ �
         kept = λ u l. elim (cases_eq u t) [
           | inl i ↦ subst (λ z. P.Keeps n (at + z * P.width n) words' (stepped_rows z)) (sym i) (subst (λ z. P.Keeps n (at + t * P.width n) words' z) (sym (put_here t stepped_row h.elections))
               (laws.moves n (at + t * P.width n) words words' (h.elections t) stepped_row p e word o (h.kept t within_row.0) (h.electing p t e stands).2 next (put_here p (Some later) (h.elections t)) (put_beside p (Some later) (h.elections t))
-              record { here = step.here; elsewhere = λ r a b ne. let apart = row_apart t rows (P.width n) within_row.0 in step.elsewhere r (omega arith) (omega arith) ne }))
+              record { here = step.here; elsewhere = λ r a b ne. let apart = row_within t rows (P.width n) within_row.0 in step.elsewhere r (omega arith) (omega arith) ne }))
           | inr ne ↦ subst (λ z. P.Keeps n (at + u * P.width n) words' z) (sym (put_beside t stepped_row h.elections u ne))
               (laws.frame n (at + u * P.width n) words words' (h.elections u) (h.elections u) (h.kept u l)
-              (λ r a b. let apart = row_apart u rows (P.width n) l in step.elsewhere r (omega arith) (omega arith) (elim (cases_lt u t) [
-                | inl x ↦ (let z = row_apart u t (P.width n) x in let y = within_row.1 in omega arith)
-                | inr x ↦ (let z = row_apart t u (P.width n) (omega arith) in let y = within_row.2 in omega arith)
+              (λ r a b. let apart = row_within u rows (P.width n) l in step.elsewhere r (omega arith) (omega arith) (elim (cases_lt u t) [
+                | inl x ↦ (let z = row_within u t (P.width n) x in let y = within_row.1 in omega arith)
+                | inr x ↦ (let z = row_within t u (P.width n) (omega arith) in let y = within_row.2 in omega arith)
               ])) (λ q. refl))
         ];
         ended = h.ended;
@@ -412,11 +392,11 @@ module _ {E : Type 0} (op : E → ℕ → Option Op) (fed : E → ℕ → ℕ �
         ];
         holding = λ q v f. elim (cases_eq q p) [
           | inl i ↦ let s = same_Holding t v (same_Some _ _ (sym now ∙ ap standing' (sym i) ∙ f)) in
-              (sym s ∙ sym found.3, omega (arith, s), ap (slice_get (owners ++ p ∷ [])) (sym s ∙ sym found.2) ∙ push_here owners p ∙ ap Some (sym i), subst (λ z. least z ≤ v) (sym i) (let z = (h.electing p t e stands).1 in omega (arith, s)))
+              (sym s ∙ sym found.3, omega (arith, s), ap (slice_get (owners ++ p ∷ [])) (sym s ∙ sym found.2) ∙ push_here owners p (length owners) refl ∙ ap Some (sym i), subst (λ z. least z ≤ v) (sym i) (let z = (h.electing p t e stands).1 in omega (arith, s)))
           | inr ne ↦ absurd (nobody_held q v (sym (beside q ne) ∙ f))
         ];
         owned = λ v o f. elim (cases_lt v (length owners)) [
-          | inl l ↦ let b = h.owned v o (sym (push_before owners p v l) ∙ f) in (
+          | inl l ↦ let b = h.owned v o (sym (push_beside owners p v (omega arith)) ∙ f) in (
             b.0,
             b.1,
             elim (cases_eq o p) [
@@ -425,11 +405,11 @@ module _ {E : Type 0} (op : E → ℕ → Option Op) (fed : E → ℕ → ℕ �
             ],
           )
           | inr g ↦ elim (cases_lt (length owners) v) [
-            | inl past ↦ absurd (let z = push_past owners p v past in let bad : None ≡ Some o = sym z ∙ f in let no : ⊥ = cc in no)
+            | inl past ↦ absurd (let z = push_beside owners p v (omega arith) ∙ slice_get_past owners v (omega arith) in let bad : None ≡ Some o = sym z ∙ f in let no : ⊥ = cc in no)
             | inr last ↦
                 let v_is : v ≡ length owners = omega arith in
                 let at_t : v ≡ t = v_is ∙ found.2 in
-                let o_is : p ≡ o = same_Some _ _ (sym (push_here owners p) ∙ ap (slice_get (owners ++ p ∷ [])) (sym v_is) ∙ f) in
+                let o_is : p ≡ o = same_Some _ _ (sym (push_here owners p (length owners) refl) ∙ ap (slice_get (owners ++ p ∷ [])) (sym v_is) ∙ f) in
                 let b = h.electing p t e stands in
                 ((let y = b.0 in omega arith), (e, ap (λ z. h.elections z o) at_t ∙ ap (h.elections t) (sym o_is) ∙ b.2, out ∙ ap Some o_is), inr (ap standing' (sym o_is) ∙ now ∙ ap (λ z. Some (Holds z)) (sym at_t)))
           ]
@@ -488,7 +468,7 @@ module _ {E : Type 0} (op : E → ℕ → Option Op) (fed : E → ℕ → ℕ �
   pub fresh : (words : ℕ → ℕ) (standing : ℕ → Option (Standing E)) → Agree at (rows * P.width n) (λ _. 0) words → ((p : ℕ) (s : Standing E) → standing p ≡ Some s → s ≡ Rests) → Tenures P n rows at words 0 true standing (λ _. 0) []
   fresh words standing zero rest = record {
     elections = λ t p. None;
-    kept = λ t l. let apart = row_apart t rows (P.width n) l in laws.fresh n (at + t * P.width n) words (λ r a b. zero r (omega arith) (omega arith));
+    kept = λ t l. let apart = row_within t rows (P.width n) l in laws.fresh n (at + t * P.width n) words (λ r a b. zero r (omega arith) (omega arith));
     ended = 0;
     stage_is = Open refl refl refl;
     begun = λ t p e f. absurd cc;

@@ -1,8 +1,8 @@
 -- Each turn of a sender keeps what the senders keep, whatever the random word.
 use Rattle.std.proofs.Common.{◌≡◌, ◌≢◌, ℕ, ◌+◌, ◌*◌, ◌/◌, ◌%◌, ◌<◌, ◌≤◌, Bool, true, false, cond, ◌&&◌, nat_lt, nat_le, Option, Some, None, inl, inr, List, [], ◌∷◌, ◌++◌, length, is_some, slice_get, slice_index, slice_set, arith, refl, sym, ◌∙◌, ap, subst}
 use mathlib.Core.Path.{fun_ext}
-use Rattle.std.proofs.lemmas.Bool.{cases_eq, true≢false}
-use Rattle.std.proofs.lemmas.Bool.Decides.{nat_tests, eqb_tells}
+use Rattle.std.proofs.lemmas.Bool.{cases_eq, leb-false, leb-true, ltb-false, ltb-true, true≢false}
+use Rattle.std.proofs.lemmas.Bool.Decides.{eqb_tells}
 use Rattle.std.proofs.lemmas.List.{get_or-set_same, get_or-set_other}
 use Rattle.std.proofs.lemmas.Option.{same_Some, slice_get_within}
 use Rattle.std.proofs.Math.ListN.{length-set}
@@ -10,7 +10,7 @@ use Rattle.bus_register.specs.declared.registers.Op.{Op}
 use Rattle.bus_register.specs.declared.registers.Op.TheVariants.{Store}
 use Rattle.bus_register.specs.Words.{register, after}
 use Rattle.bus_register.specs.Tables.{of_some, Beside}
-use Rattle.bus_register.specs.TableLaws.{get_set_same, get_set_other}
+use Rattle.bus_register.specs.TableLaws.{some_or_none, get_set_same, get_set_other}
 use Rattle.bus_register.specs.Protocol.{Protocol, Laws}
 use Rattle.bus_batch.specs.Frames.{Frame, frame_words}
 use Rattle.bus_batch.specs.Batches.{HasSomething, frame_of}
@@ -23,6 +23,7 @@ use Rattle.bus_tenure.specs.declared.phases.Leaving.TheVariants.{Sent, FoundEnd,
 use Rattle.bus_tenure.specs.declared.phases.Phase.{Phase}
 use Rattle.bus_tenure.specs.declared.phases.Phase.TheVariants as phase
 use Rattle.bus_ownerbits.specs.ElectionKeeps.{OneOwner}
+use Rattle.bus_ownerbits.specs.ElectionSteps.{row_within}
 use Rattle.bus_world.specs.Tenures.Standing.{Runs}
 use Rattle.bus_world.specs.TenuresLaws as tenures
 use Rattle.bus_world.specs.Bus.{IsLayout, least_of, Part, Fits, HasBegun, Sending, stands_at}
@@ -51,22 +52,10 @@ closing_apart : Closing ≡ Closed → ⊥
 closing_apart h = cc
 
 -- ---- tests
-lt_true : (a b : ℕ) → nat_lt a b ≡ true → a < b
-lt_true a b e = grind (arith, nat_tests)
-
-lt_false : (a b : ℕ) → nat_lt a b ≡ false → b ≤ a
-lt_false a b e = grind (arith, nat_tests)
-
-le_true : (a b : ℕ) → nat_le a b ≡ true → a ≤ b
-le_true a b e = grind (arith, nat_tests)
-
-le_false : (a b : ℕ) → nat_le a b ≡ false → b < a
-le_false a b e = grind (arith, nat_tests)
-
 -- the stage shows a tenure that is open and may be entered
 open_stage : {E : Type 0} (c : Core E) (got : ℕ) → waits c got ≡ false → (got ≡ 2 * (got / 2)) × (c.least ≤ got / 2)
 open_stage c got e = elim (eqb_tells (got % 2) 0) [
-  | inl h ↦ (let z = h.1 in omega arith, lt_false (got / 2) c.least (ap (λ b. cond b (nat_lt (got / 2) c.least) true) (sym h.0) ∙ e))
+  | inl h ↦ (let z = h.1 in omega arith, ltb-false (got / 2) c.least (ap (λ b. cond b (nat_lt (got / 2) c.least) true) (sym h.0) ∙ e))
   | inr h ↦ absurd (true≢false (ap (λ b. cond b (nat_lt (got / 2) c.least) true) (sym h.0) ∙ e))
 ]
 
@@ -155,7 +144,7 @@ module _ {E : Type 0} (X : Election E) (P : Protocol E (Unit {0}) ℕ) (laws : L
             by_room true d = after_load (record c { least = got / 2 }) (bus.spends X P laws x ok width W side.home (slice_get side.senders) side.owners frames h.sending p c (record c { least = got / 2 }) (slice_get (slice_set side.senders p (record c { least = got / 2 }))) old (placed (record c { least = got / 2 })) (others (record c { least = got / 2 }))
                 rests rests stage.1 (part_least (got / 2)))
             by_room false d = after_load (begun X c (got / 2)) (bus.begins X P laws x ok width W side.home (slice_get side.senders) side.owners frames h.sending p c (begun X c (got / 2)) (slice_get (slice_set side.senders p (begun X c (got / 2)))) old (placed (begun X c (got / 2))) (others (begun X c (got / 2)))
-                (got / 2) rests stage.0 stage.1 (let a = le_false c.layout.rows (got / 2) d in let b = rows_is in omega arith) part.below (ap (phase.Electing (got / 2)) (sym start_is)) refl (part_begun (got / 2) is_open something))
+                (got / 2) rests stage.0 stage.1 (let a = leb-false c.layout.rows (got / 2) d in let b = rows_is in omega arith) part.below (ap (phase.Electing (got / 2)) (sym start_is)) refl (part_begun (got / 2) is_open something))
 
     rest_lawful : Kept (resting c)
     rest_lawful = by_closed c.queue.phase refl
@@ -222,7 +211,7 @@ module _ {E : Type 0} (X : Election E) (P : Protocol E (Unit {0}) ℕ) (laws : L
       row = tenures.within_its_row X.op X.fed P laws x.senders x.rows 2 W (W 1) (is_some side.home) (λ q. of_some (λ d. Some (stands_at d.phase)) (slice_get side.senders q)) (λ q. least_of (slice_get side.senders q)) side.owners h.sending.tenures p t e word o runs next
 
       in_words : register o < length side.words
-      in_words = let a = row.2 in let b = tenures.row_apart t x.rows (P.width x.senders) row.0 in let d = h.words in let f = ap (λ z. x.rows * z) width in omega arith
+      in_words = let a = row.2 in let b = row_within t x.rows (P.width x.senders) row.0 in let d = h.words in let f = ap (λ z. x.rows * z) width in omega arith
 
       abbrev words_now : List ℕ
       words_now = slice_set side.words (register o) (after o (slice_index side.words (register o)))
@@ -263,7 +252,7 @@ module _ {E : Type 0} (X : Election E) (P : Protocol E (Unit {0}) ℕ) (laws : L
 
     -- an election without an owner has a step
     has_step : X.owner e ≡ None → (o : Op) × (X.op e word ≡ Some o)
-    has_step none = elim (tenures.some_or_none (X.op e word)) [
+    has_step none = elim (some_or_none (X.op e word)) [
       | inr o ↦ o
       | inl stop ↦ absurd (let a = (laws.ends e word stop).0 in true≢false (sym a ∙ ap is_some (sym (owner_is e) ∙ none)))
     ]
@@ -281,9 +270,6 @@ module _ {E : Type 0} (X : Election E) (P : Protocol E (Unit {0}) ℕ) (laws : L
 
   -- ---- a holder of the page
   module _ (t : ℕ) (page : Page) (stored : ℕ) (published : Bool) (holds : c.phase ≡ phase.Holding t page stored published) where
-    held_fits : Fits W frames c (phase.Holding t page stored published)
-    held_fits = subst (Fits W frames c) holds part.fits
-
     capacity_is : c.layout.capacity ≡ x.capacity
     capacity_is = ap (λ (z : Layout). z.capacity) part.layout
 
@@ -338,14 +324,14 @@ module _ {E : Type 0} (X : Election E) (P : Protocol E (Unit {0}) ℕ) (laws : L
           }
 
       stores_by : (b : Bool) → nat_lt stored (frame_len c) ≡ b → Kept (cond b (StoresWord t page stored) (StoresLength t page stored))
-      stores_by true e = store_lawful (lt_true stored (frame_len c) e)
-      stores_by false e = publish_lawful (lt_false stored (frame_len c) e)
+      stores_by true e = store_lawful (ltb-true stored (frame_len c) e)
+      stores_by false e = publish_lawful (ltb-false stored (frame_len c) e)
 
     hold_lawful : Kept (holding c t page stored published)
     hold_lawful = by_published published refl
       where
         by_room : (b : Bool) → published ≡ false → page.ended ≡ false → has_room c page ≡ b → Kept (cond b (cond (nat_lt stored (frame_len c)) (StoresWord t page stored) (StoresLength t page stored)) (GivesBack t page NoRoom))
-        by_room true a d e = stores_by a d (le_true (page.words + frame_len c) c.layout.capacity e) (nat_lt stored (frame_len c)) refl
+        by_room true a d e = stores_by a d (leb-true (page.words + frame_len c) c.layout.capacity e) (nat_lt stored (frame_len c)) refl
         by_room false a d e = unsent_lawful NoRoom tt a
 
         by_ended : (b : Bool) → published ≡ false → page.ended ≡ b → Kept (cond b (GivesBack t page FoundEnd) (cond (has_room c page) (cond (nat_lt stored (frame_len c)) (StoresWord t page stored) (StoresLength t page stored)) (GivesBack t page NoRoom)))

@@ -1,10 +1,11 @@
 -- Every event keeps the bus lawful, and a lawful bus keeps its promises.
 use Rattle.std.proofs.Common.{◌≡◌, ◌≢◌, ℕ, zero, suc, ◌+◌, ◌<◌, ◌≤◌, ◌^◌, Bool, true, false, cond, ◌&&◌, ◌==◌, nat_lt, nat_le, Option, Some, None, ◌⊎◌, inl, inr, List, [], ◌∷◌, ◌++◌, length, filter, map, flat_map, take, slice_get, slice_index, slice_set, is_some, arith, refl, sym, ◌∙◌, ap, subst, append_assoc, replicate}
 use Rattle.std.specs.Prelude.{All}
-use Rattle.std.proofs.lemmas.Bool.{cases_eq, cases_lt, true≢false}
-use Rattle.std.proofs.lemmas.Bool.Decides.{nat_tests, eqb_tells}
+use Rattle.std.proofs.lemmas.Bool.{and_parts, cases_eq, cases_lt, leb-true, ltb-true, true≢false}
+use Rattle.std.proofs.lemmas.Bool.Decides.{eqb_tells}
 use Rattle.std.proofs.lemmas.Grind.{common_steps}
-use Rattle.std.proofs.lemmas.List.{length-append, length-take, get_or_append_left, get_or-replicate}
+use Rattle.std.proofs.lemmas.List.{append-nil, length-append, length-replicate, length-take, get_or_append_left, get_or_past, get_or-replicate}
+use Rattle.std.proofs.Math.Seq.{take-nil}
 use Rattle.std.proofs.lemmas.List.Elements.{All-append, All-from_recursion}
 use Rattle.std.proofs.lemmas.Option.{same_Some, slice_get_within}
 use Rattle.bus_register.specs.declared.registers.SenderNo.{SenderNo}
@@ -72,14 +73,6 @@ sent_short : (s : ℕ) (frames : List Frame) → sent s frames ≤ length (log_w
 sent_short s frames = let a = filter_short (λ i. i.sender.0 == s) (order_of frames).items in let b = order_short frames in omega arith
 
 -- ---- tests
-and_left : (a b : Bool) → (a && b) ≡ true → a ≡ true
-and_left true b e = refl
-and_left false b e = e
-
-and_right : (a b : Bool) → (a && b) ≡ true → b ≡ true
-and_right true b e = e
-and_right false b e = absurd (true≢false (sym e))
-
 open_is : (ph : Phase) → is_open ph ≡ true → ph ≡ Open
 open_is Open e = refl
 open_is Closing e = absurd (true≢false (sym e))
@@ -88,12 +81,6 @@ open_is Closed e = absurd (true≢false (sym e))
 not_busy : (b : Bool) → cond b false true ≡ true → b ≡ false
 not_busy true e = absurd (true≢false (sym e))
 not_busy false e = refl
-
-lt_is : (a b : ℕ) → nat_lt a b ≡ true → a < b
-lt_is a b e = grind (arith, nat_tests)
-
-le_is : (a b : ℕ) → nat_le a b ≡ true → a ≤ b
-le_is a b e = grind (arith, nat_tests)
 
 empty_is : {A : Type 0} (xs : List A) → is_empty xs ≡ true → xs ≡ []
 empty_is [] e = refl
@@ -170,12 +157,13 @@ module _ {E : Type 0} (X : Election E) (P : Protocol E (Unit {0}) ℕ) (laws : L
         by_test : (b : Bool) → can_put c.queue (length bytes) ≡ b → IsSide P x (with_sender side p (cond b (record c { queue = record c.queue { messages = c.queue.messages ++ bytes ∷ [] } }) c)) frames
         by_test false e = turning.unchanged X P laws x ok width starts owner_is side frames h p c old 0
         by_test true e =
-            let tests = and_right (is_open c.queue.phase) (cond c.queue.busy false true && (nat_le (length bytes) 56 && nat_lt (length c.queue.messages) 16)) e in
-            let sizes = and_right (cond c.queue.busy false true) (nat_le (length bytes) 56 && nat_lt (length c.queue.messages) 16) tests in
-            let idle = not_busy c.queue.busy (and_left (cond c.queue.busy false true) (nat_le (length bytes) 56 && nat_lt (length c.queue.messages) 16) tests) in
-            let is = open_is c.queue.phase (and_left (is_open c.queue.phase) (cond c.queue.busy false true && (nat_le (length bytes) 56 && nat_lt (length c.queue.messages) 16)) e) in
-            let short = le_is (length bytes) 56 (and_left (nat_le (length bytes) 56) (nat_lt (length c.queue.messages) 16) sizes) in
-            let room = lt_is (length c.queue.messages) 16 (and_right (nat_le (length bytes) 56) (nat_lt (length c.queue.messages) 16) sizes) in
+            let opened = and_parts (is_open c.queue.phase) (cond c.queue.busy false true && (nat_le (length bytes) 56 && nat_lt (length c.queue.messages) 16)) e in
+            let idled = and_parts (cond c.queue.busy false true) (nat_le (length bytes) 56 && nat_lt (length c.queue.messages) 16) opened.1 in
+            let sized = and_parts (nat_le (length bytes) 56) (nat_lt (length c.queue.messages) 16) idled.1 in
+            let idle = not_busy c.queue.busy idled.0 in
+            let is = open_is c.queue.phase opened.0 in
+            let short = leb-true (length bytes) 56 sized.0 in
+            let room = ltb-true (length c.queue.messages) 16 sized.1 in
             let more = length-append c.queue.messages (bytes ∷ []) in
             let fit = numbers_fit idle in
             replaced (record c.queue { messages = c.queue.messages ++ bytes ∷ [] }) idle idle refl refl record {
@@ -192,9 +180,9 @@ module _ {E : Type 0} (X : Election E) (P : Protocol E (Unit {0}) ℕ) (laws : L
         by_test : (b : Bool) → can_close c.queue ≡ b → IsSide P x (with_sender side p (cond b (record c { queue = record c.queue { phase = Closing } }) c)) frames
         by_test false e = turning.unchanged X P laws x ok width starts owner_is side frames h p c old 0
         by_test true e =
-            let tests = and_right (is_open c.queue.phase) (cond c.queue.busy false true && is_empty c.queue.messages) e in
-            let idle = not_busy c.queue.busy (and_left (cond c.queue.busy false true) (is_empty c.queue.messages) tests) in
-            let none = empty_is c.queue.messages (and_right (cond c.queue.busy false true) (is_empty c.queue.messages) tests) in
+            let tests = and_parts (cond c.queue.busy false true) (is_empty c.queue.messages) (and_parts (is_open c.queue.phase) (cond c.queue.busy false true && is_empty c.queue.messages) e).1 in
+            let idle = not_busy c.queue.busy tests.0 in
+            let none = empty_is c.queue.messages tests.1 in
             replaced (record c.queue { phase = Closing }) idle idle refl refl record { few = own.queue.few; each = own.queue.each; numbers = own.queue.numbers; alone = λ z. none; owner_bits = own.queue.owner_bits }
 
 -- ---- receivers
@@ -294,22 +282,7 @@ pub record Continues (frames frames' : List Frame) : Type 0 where
   pub together : frames ++ more ≡ frames'
 
 zeros : (n r : ℕ) → slice_index (replicate n 0) r ≡ 0
-zeros n r = elim (cases_lt r n) [ inl l ↦ get_or-replicate n r 0 0 l | inr g ↦ past n r g ]
-  where
-    past : (n r : ℕ) → n ≤ r → slice_index (replicate n 0) r ≡ 0
-    past n r g = grind (arith, common_steps)
-
-replicated : (n : ℕ) → length {A = ℕ} (replicate n 0) ≡ n
-replicated n = grind (arith, common_steps)
-
-nothing : (k : ℕ) → take {A = ℕ} k [] ≡ []
-nothing k = grind (arith, common_steps)
-
-no_rest : (xs : List (List ℕ)) → xs ++ [] ≡ xs
-no_rest xs = grind (arith, common_steps)
-
-no_more : (frames : List Frame) → frames ++ [] ≡ frames
-no_more frames = grind (arith, common_steps)
+zeros n r = elim (cases_lt r n) [ inl l ↦ get_or-replicate n r 0 0 l | inr g ↦ get_or_past (replicate n 0) r 0 (omega (arith, length-replicate {A = ℕ} n 0)) ]
 
 module _ {E : Type 0} (X : Election E) (P : Protocol E (Unit {0}) ℕ) (laws : Laws X.op X.fed P OneOwner) (x : Layout) (ok : IsLayout x) (width : x.width ≡ P.width x.senders)
     (starts : (n me at : ℕ) → X.started n me x.rounds at ≡ P.started n me tt at) (owner_is : (e : E) → X.owner e ≡ P.output e) where
@@ -330,7 +303,7 @@ module _ {E : Type 0} (X : Election E) (P : Protocol E (Unit {0}) ℕ) (laws : L
     quiet side same = record {
       frames_now = frames;
       lawful = record { side = side; receivers = λ r v e. receiver_stays x frames (slice_index b.side.words) (slice_index b'.side.words) h.side.sending.log side.sending.log v (h.receivers r v (ap (λ z. slice_get z r) (sym same) ∙ e)) };
-      continues = record { more = []; together = no_more frames };
+      continues = record { more = []; together = append-nil frames };
     }
 
     longer : (f : Frame) → IsSide P x b'.side (frames ++ f ∷ []) → b'.receivers ≡ b.receivers → Left frames b'
@@ -387,7 +360,7 @@ module _ {E : Type 0} (X : Election E) (P : Protocol E (Unit {0}) ℕ) (laws : L
                 | inr ne ↦ h.receivers q w (sym (get_set_other b.receivers r rs.0 q ne) ∙ ap (λ z. slice_get z q) (sym rs.3) ∙ e)
               ]);
             };
-            continues = record { more = []; together = no_more frames };
+            continues = record { more = []; together = append-nil frames };
           };
         }
 
@@ -417,10 +390,10 @@ module _ {E : Type 0} (X : Election E) (P : Protocol E (Unit {0}) ℕ) (laws : L
     put_waits c bytes fits = by_test (can_put c.queue (length bytes)) refl
       where
         by_test : (t : Bool) → can_put c.queue (length bytes) ≡ t → waiting_of (Some (cond t (record c { queue = record c.queue { messages = c.queue.messages ++ bytes ∷ [] } }) c)) ≡ waiting_of (Some c) ++ cond t (bytes ∷ []) []
-        by_test false e = sym (no_rest (waiting_of (Some c)))
+        by_test false e = sym (append-nil (waiting_of (Some c)))
         by_test true e =
-            let tests = and_right (is_open c.queue.phase) (cond c.queue.busy false true && (nat_le (length bytes) 56 && nat_lt (length c.queue.messages) 16)) e in
-            let idle = not_busy c.queue.busy (and_left (cond c.queue.busy false true) (nat_le (length bytes) 56 && nat_lt (length c.queue.messages) 16) tests) in
+            let tests = (and_parts (is_open c.queue.phase) (cond c.queue.busy false true && (nat_le (length bytes) 56 && nat_lt (length c.queue.messages) 16)) e).1 in
+            let idle = not_busy c.queue.busy (and_parts (cond c.queue.busy false true) (nat_le (length bytes) 56 && nat_lt (length c.queue.messages) 16) tests).0 in
             let rests = idle_rests (slice_index b.side.words) frames c c.phase fits idle in
             ap (waiting_at (record c { queue = record c.queue { messages = c.queue.messages ++ bytes ∷ [] } })) rests ∙ ap (λ z. z ++ bytes ∷ []) (sym (ap (waiting_at c) rests))
 
@@ -428,18 +401,18 @@ module _ {E : Type 0} (X : Election E) (P : Protocol E (Unit {0}) ℕ) (laws : L
     close_waits c fits = by_test (can_close c.queue) refl
       where
         by_test : (t : Bool) → can_close c.queue ≡ t → waiting_of (Some (cond t (record c { queue = record c.queue { phase = Closing } }) c)) ≡ waiting_of (Some c) ++ []
-        by_test false e = sym (no_rest (waiting_of (Some c)))
+        by_test false e = sym (append-nil (waiting_of (Some c)))
         by_test true e =
-            let tests = and_right (is_open c.queue.phase) (cond c.queue.busy false true && is_empty c.queue.messages) e in
-            let idle = not_busy c.queue.busy (and_left (cond c.queue.busy false true) (is_empty c.queue.messages) tests) in
+            let tests = (and_parts (is_open c.queue.phase) (cond c.queue.busy false true && is_empty c.queue.messages) e).1 in
+            let idle = not_busy c.queue.busy (and_parts (cond c.queue.busy false true) (is_empty c.queue.messages) tests).0 in
             let rests = idle_rests (slice_index b.side.words) frames c c.phase fits idle in
-            ap (waiting_at (record c { queue = record c.queue { phase = Closing } })) rests ∙ sym (ap (waiting_at c) rests) ∙ sym (no_rest (waiting_of (Some c)))
+            ap (waiting_at (record c { queue = record c.queue { phase = Closing } })) rests ∙ sym (ap (waiting_at c) rests) ∙ sym (append-nil (waiting_of (Some c)))
 
     own_part : (s : ℕ) (c : Core E) → slice_get b.side.senders s ≡ Some c → Part x (slice_index b.side.words) frames s c
     own_part s c i = h.side.sending.parts s c i
 
     put_puts : (s : ℕ) (bytes : List ℕ) (o : Option (Core E)) → slice_get b.side.senders s ≡ o → SenderDoes b.side o (λ c. with_sender b.side s (put_in c bytes)) b'.side → (q : ℕ) → put_by b' frames q ≡ put_by b frames q ++ cond (q == s) (accepted_by o bytes) []
-    put_puts s bytes None i d q = bus_same d frames q ∙ sym (no_rest (put_by b frames q)) ∙ ap (λ z. put_by b frames q ++ z) (sym (same_arms (q == s)))
+    put_puts s bytes None i d q = bus_same d frames q ∙ sym (append-nil (put_by b frames q)) ∙ ap (λ z. put_by b frames q ++ z) (sym (same_arms (q == s)))
       where
         same_arms : (t : Bool) → cond {A = List (List ℕ)} t [] [] ≡ []
         same_arms true = refl
@@ -447,31 +420,31 @@ module _ {E : Type 0} (X : Election E) (P : Protocol E (Unit {0}) ℕ) (laws : L
     put_puts s bytes (Some c) i d q = elim (eqb_tells q s) [
       | inl y ↦ subst (λ z. put_by b' frames z ≡ put_by b frames z ++ cond (q == s) (accepted_by (Some c) bytes) []) (sym y.1) (at_sender s c (put_in c bytes) i (ap (λ (z : Side E). z.senders) d) (accepted_by (Some c) bytes) (put_waits c bytes (own_part s c i).fits)
           ∙ ap (λ t. put_by b frames s ++ cond t (accepted_by (Some c) bytes) []) (sym y.0))
-      | inr y ↦ at_other s c (put_in c bytes) i (ap (λ (z : Side E). z.senders) d) (accepted_by (Some c) bytes) (put_waits c bytes (own_part s c i).fits) q y.1 ∙ sym (no_rest (put_by b frames q)) ∙ ap (λ t. put_by b frames q ++ cond t (accepted_by (Some c) bytes) []) (sym y.0)
+      | inr y ↦ at_other s c (put_in c bytes) i (ap (λ (z : Side E). z.senders) d) (accepted_by (Some c) bytes) (put_waits c bytes (own_part s c i).fits) q y.1 ∙ sym (append-nil (put_by b frames q)) ∙ ap (λ t. put_by b frames q ++ cond t (accepted_by (Some c) bytes) []) (sym y.0)
     ]
 
     close_puts : (s : ℕ) (o : Option (Core E)) → slice_get b.side.senders s ≡ o → SenderDoes b.side o (λ c. with_sender b.side s (close_in c)) b'.side → (q : ℕ) → put_by b' frames q ≡ put_by b frames q ++ []
-    close_puts s None i d q = bus_same d frames q ∙ sym (no_rest (put_by b frames q))
+    close_puts s None i d q = bus_same d frames q ∙ sym (append-nil (put_by b frames q))
     close_puts s (Some c) i d q = elim (cases_eq q s) [
       | inl y ↦ subst (λ z. put_by b' frames z ≡ put_by b frames z ++ []) (sym y) (at_sender s c (close_in c) i (ap (λ (z : Side E). z.senders) d) [] (close_waits c (own_part s c i).fits))
-      | inr ne ↦ at_other s c (close_in c) i (ap (λ (z : Side E). z.senders) d) [] (close_waits c (own_part s c i).fits) q ne ∙ sym (no_rest (put_by b frames q))
+      | inr ne ↦ at_other s c (close_in c) i (ap (λ (z : Side E). z.senders) d) [] (close_waits c (own_part s c i).fits) q ne ∙ sym (append-nil (put_by b frames q))
     ]
 
     never_giving : (c : Core E) (ph : SenderPhase E) → c.phase ≡ ph → Fits (slice_index b.side.words) frames c ph → (t : ℕ) (leaving : Leaving) → ph ≡ phase.Giving t leaving → ⊥
     never_giving c ph e fits t leaving g = subst (Fits (slice_index b.side.words) frames c) g fits
 
     turn_event_puts : (s word : ℕ) (o : Option (Core E)) → slice_get b.side.senders s ≡ o → SenderDoes b.side o (λ c. turned X b.side s c (situation_of X c) word) b'.side → (q : ℕ) → put_by b' (frames_by X o frames) q ≡ put_by b frames q ++ []
-    turn_event_puts s word None i d q = bus_same d frames q ∙ sym (no_rest (put_by b frames q))
+    turn_event_puts s word None i d q = bus_same d frames q ∙ sym (append-nil (put_by b frames q))
     turn_event_puts s word (Some c) i d q =
         let part = own_part s c i in
         ap (λ (z : Side E). map (λ (v : Item). v.message) (of_sender q (order_of (frames_after c (situation_of X c) frames))) ++ waiting_of (slice_get z.senders q)) d
-        ∙ puts.turn_puts X b.side frames s c i part.queue part.sender word (λ t leaving g. never_giving c c.phase refl part.fits t leaving g) q ∙ sym (no_rest (put_by b frames q))
+        ∙ puts.turn_puts X b.side frames s c i part.queue part.sender word (λ t leaving g. never_giving c c.phase refl part.fits t leaving g) q ∙ sym (append-nil (put_by b frames q))
 
     event_puts : (e : Event) → Happens X b e b' → (q : ℕ) → put_by b' (event_frames X b e frames) q ≡ put_by b frames q ++ accepted b e q
     event_puts (Put s bytes) d q = put_puts s bytes (slice_get b.side.senders s) refl d.0 q
     event_puts (Close s) d q = close_puts s (slice_get b.side.senders s) refl d.0 q
     event_puts (Turn s word) d q = turn_event_puts s word (slice_get b.side.senders s) refl d.0 q
-    event_puts (Recv r) d q = bus_same d.0 frames q ∙ sym (no_rest (put_by b frames q))
+    event_puts (Recv r) d q = bus_same d.0 frames q ∙ sym (append-nil (put_by b frames q))
 
   -- ---- any list of events
   -- what a list of events leaves: a lawful bus, whose log continues the one before, and what each sender has put by then
@@ -485,8 +458,8 @@ module _ {E : Type 0} (X : Election E) (P : Protocol E (Unit {0}) ℕ) (laws : L
   run_left [] b b' frames h run = record {
     frames_now = frames;
     lawful = subst (λ z. LawfulBus P x z frames) (sym run) h;
-    continues = record { more = []; together = no_more frames };
-    puts = λ s. ap (λ z. put_by z frames s) run ∙ sym (no_rest (put_by b frames s));
+    continues = record { more = []; together = append-nil frames };
+    puts = λ s. ap (λ z. put_by z frames s) run ∙ sym (append-nil (put_by b frames s));
   }
   run_left (e ∷ events) b b' frames h run =
       let a = event_left b frames h run.0 e run.1 run.2 in
@@ -548,10 +521,10 @@ module _ {E : Type 0} (X : Election E) (P : Protocol E (Unit {0}) ℕ) (laws : L
 
     pub new_is_lawful : LawfulBus P x b []
     new_is_lawful = record {
-      side = record { words = ap length new.words ∙ replicated (words_of x); sending = new_sending };
+      side = record { words = ap length new.words ∙ length-replicate (words_of x) 0; sending = new_sending };
       receivers = λ r v e.
           let n = new.receivers r v e in
-          let none : take v.place (log_words []) ≡ [] = nothing v.place in
+          let none : take v.place (log_words []) ≡ [] = take-nil v.place in
           record {
             senders = n.0;
             log = n.1;
