@@ -2,7 +2,7 @@
 use Rattle.std.proofs.Common.{◌≡◌, ◌≢◌, ℕ, ◌+◌, ◌<◌, ◌≤◌, Bool, true, false, not, cond, Option, Some, None, ◌⊎◌, inl, inr, arith, refl, sym, ◌∙◌, ap, subst}
 use Rattle.std.proofs.lemmas.Bool.{cases_eq}
 use Rattle.std.proofs.lemmas.Bool.Decides.{eqb_tells}
-use Rattle.std.proofs.lemmas.Option.{same_Some}
+use Rattle.std.proofs.lemmas.Option.{cond_some, same_Some}
 use Rattle.bus_register.specs.declared.registers.Op.{Op}
 use Rattle.bus_register.specs.Words.{register, after}
 use Rattle.bus_register.specs.Tables.{of_some, Beside, Agree, Stepped}
@@ -15,10 +15,6 @@ use Rattle.bus_coinconc.specs.Conciliation.{IsInput}
 use Rattle.bus_coinconc.specs.Conciliator.{ConciliatorState, bit, conciliator_op, conciliator_fed, op_at, stage_after}
 use Rattle.bus_coinconc.specs.ConciliatorProtocol.{begun_at, Belongs, coin_at, coins, counted, marked, StageSaw, Keeps}
 use Rattle.bus_coinconc.specs.ConciliatorGoes.{bit_le, bit_same, goes_of}
-
-counted_is : (b : Bool) (x v : Bool) → cond b (Some x) None ≡ Some v → v ≡ x
-counted_is true x v e = sym (same_Some _ _ e)
-counted_is false x v e = absurd cc
 
 cases_bool : (v w : Bool) → (v ≡ w) ⊎ (v ≢ w)
 cases_bool true true = inl refl
@@ -51,7 +47,7 @@ module _ (n at : ℕ) (words words' : ℕ → ℕ) (old new : ℕ → Option Con
   marked_now = ap (of_some counted) goes ∙ ap (λ z. cond z (Some s.input) None) begun_now
 
   marked_was : (v : Bool) → marked old p ≡ Some v → v ≡ s.input
-  marked_was v e = counted_is (begun_at s.stage) s.input v (ap (of_some counted) (sym here) ∙ e)
+  marked_was v e = sym (cond_some (begun_at s.stage) s.input v (ap (of_some counted) (sym here) ∙ e)).1
 
   -- an input that counts goes on to count
   marked_stays : (q : ℕ) (v : Bool) → marked old q ≡ Some v → marked new q ≡ Some v
