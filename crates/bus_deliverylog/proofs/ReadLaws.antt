@@ -57,3 +57,15 @@ spells_begin senders place words order owners below s = (
     words_are = s.words_are ∙ sym (append_assoc (take place words) (get_or words place 0 ∷ []) (drop (suc place) words) ∙ ap (λ z. take place words ++ z) (sym (drop-cons words place 0 below)) ∙ take-append-drop place words);
   },
 )
+
+-- words that begin a log begin one at each place
+pub front_begins : (senders place : ℕ) (words : List ℕ) → place < length words → BeginsLog senders words → BeginsLog senders (take place words ++ get_or words place 0 ∷ [])
+front_begins senders place words below log = (
+  drop (suc place) words ++ log.0,
+  record {
+    frames = log.1.frames;
+    lawful = log.1.lawful;
+    words_are = log.1.words_are ∙ ap (λ z. z ++ log.0) (sym (take-append-drop place words) ∙ ap (λ z. take place words ++ z) (drop-cons words place 0 below) ∙ sym (append_assoc (take place words) (get_or words place 0 ∷ []) (drop (suc place) words)))
+        ∙ append_assoc (take place words ++ get_or words place 0 ∷ []) (drop (suc place) words) log.0;
+  },
+)

@@ -53,7 +53,7 @@ end_in_body o (Messages ms) fs p q others last rest later = elim (parted (body_p
 end_in_body o EndMark fs p q others last rest later = only_end p q (ap (λ z. Some piece.End ∷ log_pieces z) (sym (last refl)) ∙ rest) later
 
 -- nothing follows an end
-end_last : (senders least : ℕ) (fs : List Frame) (p q : List (Option Piece)) → AreFramesFrom senders least fs → log_pieces fs ≡ p ++ q → list_any is_end p ≡ true → q ≡ []
+pub end_last : (senders least : ℕ) (fs : List Frame) (p q : List (Option Piece)) → AreFramesFrom senders least fs → log_pieces fs ≡ p ++ q → list_any is_end p ≡ true → q ≡ []
 end_last senders least [] p q lawful e ended = (tail_empty p q e).1
 end_last senders least (f ∷ fs) [] q lawful e ended = absurd (false≢true ended)
 end_last senders least (f ∷ fs) (x ∷ p) q lawful e ended =

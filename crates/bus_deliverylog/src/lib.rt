@@ -2,12 +2,14 @@
 //! which loads the length and then the words; and the reading of a whole log.
 #![tactic(auto)]
 
+pub mod fronts;
 pub mod laws;
 pub mod orders;
 pub mod reading;
 pub mod receiving;
 pub mod writing;
 
+pub use fronts::read_front;
 pub use orders::{LogFault, LogRead, Order};
 pub use reading::read_log;
 pub use receiving::{Reader, RecvTurn};

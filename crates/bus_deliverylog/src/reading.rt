@@ -43,7 +43,7 @@ pub fn read_log(alloc: Global, words: &[u64], senders: u64) -> Result<LogRead, L
 }
 
 /// Notes what a word gave.
-fn note(read: &mut LogRead, found: Option<Piece>) -> Result<(), LogFault>
+pub(crate) fn note(read: &mut LogRead, found: Option<Piece>) -> Result<(), LogFault>
     ensures items { OnOk result (read.new.order.items.items ≡ read.old.order.items.items ++ piece_items found) }
     ensures ended { OnOk result (read.new.order.ended ≡ (read.old.order.ended || is_end found)) }
     ensures owners { OnOk result (read.new.owners.items ≡ read.old.owners.items ++ piece_owners found) }

@@ -58,6 +58,13 @@ impl Cells {
         self.words.is_empty()
     }
 
+    /// All words, by the numbers of their registers, without a step.
+    pub fn as_slice(&self) -> &[u64]
+        ensures { result.now ≡ self.now }
+    {
+        &self.words
+    }
+
     /// The word in a register, without a step.
     pub fn get(&self, register: Reg) -> u64
         requires { register.0 < length self.now }

@@ -5,7 +5,7 @@
 pub struct Reg(pub u64);
 
 /// The number of a sender, counted from 0.
-#[derive(Clone, Copy, Debug, PartialEq, Eq)]
+#[derive(Clone, Copy, Debug, Default, PartialEq, Eq)]
 pub struct SenderNo(pub u8);
 
 /// One atomic step on one word. Each gives back what the word was before it.
