@@ -123,7 +123,7 @@ module _ {E : Type 0} (X : Election E) (side : Side E) (frames : List Frame) (p 
     puts_at : (ph : Phase E) → c.phase ≡ ph → Puts (situation_at X c ph)
     puts_at phase.Resting e = rest_puts e
     puts_at (phase.Electing t u) e = elect_puts t u e
-    puts_at (phase.Taken t) e = stays c refl
+    puts_at (phase.Taken t) e = stays (laid c t side.home) (laid_waits c t side.home ∙ sym (ap (waiting_at c) e))
     puts_at (phase.Holding t page stored published) e = hold_puts t page stored published e
     puts_at (phase.Giving t leaving) e = absurd (at_rest t leaving e)
 

@@ -6,6 +6,7 @@ use Rattle.bus_batch.specs.declared.batches.Phase.TheVariants.{Open, Closing, Cl
 use Rattle.bus_batch.specs.Batches.{Pending}
 use Rattle.bus_batch.specs.Frames.{Frame, Order, order_of, order_in, log_words, log_pieces, AreFrames}
 use Rattle.bus_deliverylog.specs.declared.receiving.RecvTurn.{RecvTurn}
+use Rattle.bus_deliverylog.specs.declared.receiving.RecvTurn.TheVariants.{End as RecvEnd}
 use Rattle.bus_deliverylog.specs.Receiving.{Receiving, HasReceived, TakesLength, TakesWord}
 use Rattle.bus_tenure.specs.Core.{Core, Election, Layout, log_at, is_empty, situation_of}
 use Rattle.bus_tenure.specs.declared.phases.Phase.{Phase as SenderPhase}
@@ -72,6 +73,11 @@ pub record RecvStep (old : Receiving) (got : ℕ) (answer : RecvTurn) (new : Rec
 abbrev pub recv_found : List ℕ → Receiving → ℕ
 recv_found words v = if v.place == v.known then slice_index words v.length_at else slice_index words (v.log_at + v.place)
 
+-- one turn of a receiver: after the end it answers End for good, and takes no step
+pub record RecvDoes (words : List ℕ) (old : Receiving) (answer : RecvTurn) (new : Receiving) : Type 0 where
+  pub ended : old.ended ≡ true → (answer ≡ RecvEnd) × (new ≡ old)
+  pub going : old.ended ≡ false → RecvStep old (recv_found words old) answer new
+
 -- ---- one event
 -- of a sender that there is
 abbrev pub SenderDoes : {E : Type 0} → Side E → Option (Core E) → (Core E → Side E) → Side E → Type 0
@@ -80,7 +86,7 @@ SenderDoes old (Some c) f new = new ≡ f c
 
 abbrev pub ReceiverDoes : List ℕ → List Receiving → ℕ → Option Receiving → List Receiving → Type 0
 ReceiverDoes words old r None new = new ≡ old
-ReceiverDoes words old r (Some v) new = (next : Receiving) × (answer : RecvTurn) × ((v.ended ≡ true → next ≡ v) × (v.ended ≡ false → RecvStep v (recv_found words v) answer next)) × (new ≡ slice_set old r next)
+ReceiverDoes words old r (Some v) new = (next : Receiving) × (answer : RecvTurn) × RecvDoes words v answer next × (new ≡ slice_set old r next)
 
 abbrev pub Happens : {E : Type 0} → Election E → Bus E → Event → Bus E → Type 0
 Happens X old (Put s bytes) new = SenderDoes old.side (slice_get old.side.senders s) (λ c. with_sender old.side s (put_in c bytes)) new.side × (new.receivers ≡ old.receivers)

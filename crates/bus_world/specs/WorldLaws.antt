@@ -143,12 +143,21 @@ module _ {E : Type 0} (X : Election E) (P : Protocol E (Unit {0}) ℕ) (laws : L
         }
 
     -- its numbers stay far below their range
-    numbers_fit : c.queue.busy ≡ false → next_of c.queue < 2 ^ 48
-    numbers_fit idle =
-        let fits = subst (Fits W frames c) (idle_rests W frames c c.phase own.fits idle) own.fits in
-        let few = own.queue.few in let short = sent_short c.me frames in let cap = ok.capacity in let within = h.sending.log.fits in
+    first_below : (ph : SenderPhase E) → Fits W frames c ph → c.queue.first ≤ length (log_words frames)
+    first_below phase.Resting f = let short = sent_short c.me frames in let base = f.1 in omega arith
+    first_below (phase.Electing t u) f = let short = sent_short c.me frames in let base = f.1 in omega arith
+    first_below (phase.Taken t) f = absurd f
+    first_below (phase.Holding t page stored true) f =
+        let written = f.1 in let short = sent_short c.me written.front in let base = written.base in
+        let more = ap length (ap log_words written.frames_are ∙ log_words-append written.front (frame_of c.queue t)) ∙ length-append (log_words written.front) (frame_words (frame_of c.queue t)) in
+        omega arith
+    first_below (phase.Holding t page stored false) f = let short = sent_short c.me frames in let base = f.1.base in omega arith
+    first_below (phase.Giving t leaving) f = absurd f
+
+    pub numbers_fit : next_of c.queue < 2 ^ 48
+    numbers_fit =
+        let few = own.queue.few in let first = first_below c.phase own.fits in let cap = ok.capacity in let within = h.sending.log.fits in
         let size : length (log_words frames) ≡ W 0 = sym (ap length h.sending.log.words_are) ∙ length-read W (log_at x) (W 0) in
-        let base = fits.1 in
         omega arith
 
     put_lawful : (bytes : List ℕ) → All (λ byte. byte < 256) bytes → IsSide P x (with_sender side p (put_in c bytes)) frames
@@ -165,7 +174,7 @@ module _ {E : Type 0} (X : Election E) (P : Protocol E (Unit {0}) ℕ) (laws : L
             let short = leb-true (length bytes) 56 sized.0 in
             let room = ltb-true (length c.queue.messages) 16 sized.1 in
             let more = length-append c.queue.messages (bytes ∷ []) in
-            let fit = numbers_fit idle in
+            let fit = numbers_fit in
             replaced (record c.queue { messages = c.queue.messages ++ bytes ∷ [] }) idle idle refl refl record {
               few = (omega arith);
               each = All-append IsMessage c.queue.messages (bytes ∷ []) own.queue.each (All-from_recursion IsMessage (bytes ∷ []) ((short, small), tt));
@@ -202,7 +211,7 @@ module _ (x : Layout) (frames : List Frame) (words : ℕ → ℕ) (log : Logged 
   size_is : length (log_words frames) ≡ words 0
   size_is = sym (ap length log.words_are) ∙ length-read words (log_at x) (words 0)
 
-  received : HasReceived (take v.place (log_words frames)) (take v.place (log_pieces frames)) v
+  pub received : HasReceived (take v.place (log_words frames)) (take v.place (log_pieces frames)) v
   received = record {
     read = subst (λ z. HasRead z (take v.place (log_words frames)) (take v.place (log_pieces frames)) v.frames) (sym h.senders) h.receives.has_read;
     place = sym (length-take v.place (log_words frames) ∙ (let a = h.receives.place_below in let b = h.receives.known_below in let d = size_is in omega arith));
@@ -293,9 +302,9 @@ module _ {E : Type 0} (X : Election E) (P : Protocol E (Unit {0}) ℕ) (laws : L
     pub continues : Continues frames frames_now
 
   -- what one event leaves, with the frames that it says
-  record After (frames target : List Frame) (b : Bus E) : Type 0 where
-    left : Left frames b
-    now_is : left.frames_now ≡ target
+  pub record After (frames target : List Frame) (b : Bus E) : Type 0 where
+    pub left : Left frames b
+    pub now_is : left.frames_now ≡ target
 
   module _ (b : Bus E) (frames : List Frame) (h : LawfulBus P x b frames) (b' : Bus E) where
     -- the receivers are the same, and so is the log
@@ -345,8 +354,8 @@ module _ {E : Type 0} (X : Election E) (P : Protocol E (Unit {0}) ℕ) (laws : L
           | inr y ↦ at_word x frames words log v own rs.1 rs.0 y.1 (subst (λ z. RecvStep v z rs.1 rs.0) (ap (λ q. cond q (words v.length_at) (words (v.log_at + v.place))) y.0 ∙ ap (λ q. words (q + v.place)) own.log) step)
         ] in
         let ended_or : (q : Bool) → v.ended ≡ q → IsReceiver x frames (words 0) rs.0 = λ q. elim q as (λ z. v.ended ≡ z → IsReceiver x frames (words 0) rs.0) [
-          | true ↦ λ e. subst (IsReceiver x frames (words 0)) (sym (rs.2.0 e)) own
-          | false ↦ λ e. goes e (rs.2.1 e)
+          | true ↦ λ e. subst (IsReceiver x frames (words 0)) (sym (rs.2.ended e).1) own
+          | false ↦ λ e. goes e (rs.2.going e)
         ] in
         let next_is = ended_or v.ended refl in
         record {
@@ -365,7 +374,7 @@ module _ {E : Type 0} (X : Election E) (P : Protocol E (Unit {0}) ℕ) (laws : L
         }
 
     -- whatever happens next
-    event_left : (e : Event) → IsEvent e → Happens X b e b' → After frames (event_frames X b e frames) b'
+    pub event_left : (e : Event) → IsEvent e → Happens X b e b' → After frames (event_frames X b e frames) b'
     event_left (Put s bytes) is d = put_left s bytes is (slice_get b.side.senders s) refl d.0 d.1
     event_left (Close s) is d = close_left s (slice_get b.side.senders s) refl d.0 d.1
     event_left (Turn s word) is d = turn_left s word (slice_get b.side.senders s) refl d.0 d.1

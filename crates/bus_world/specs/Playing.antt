@@ -1,0 +1,167 @@
+-- The bus as a program holds it, and what it answers to each event.
+use Rattle.std.specs.Prelude.{◌≡◌, ◌≢◌, ℕ, ◌<◌, ◌≤◌, ◌⊎◌, Option, Some, None, List, [], ◌∷◌, ◌++◌, length, map, take, slice_get, slice_index, slice_set}
+use Rattle.bus_register.specs.Protocol.{Protocol}
+use Rattle.bus_batch.specs.Batches.{Pending, next_of, CanPut, IsPutFault, CanClose, IsCloseFault}
+use Rattle.bus_batch.specs.declared.batches.PutFault.{PutFault}
+use Rattle.bus_batch.specs.declared.batches.CloseFault.{CloseFault}
+use Rattle.bus_batch.specs.Frames.{Frame}
+use Rattle.bus_deliverylog.specs.Orders.{IsPrefixOfOrder}
+use Rattle.bus_deliverylog.specs.Receiving.{Receiving}
+use Rattle.bus_deliverylog.specs.declared.receiving.RecvTurn.{RecvTurn}
+use Rattle.bus_tenure.specs.Core.{Core, Election, Layout, log_at, situation_of, op_at, answer_at}
+use Rattle.bus_world.specs.Headline.{IsPrefix}
+use Rattle.bus_world.specs.Log.{read}
+use Rattle.bus_world.specs.Turning.{found}
+use Rattle.bus_world.specs.World.{Bus, Event, Put, Close, Turn, Recv, Happens, LawfulBus, RecvDoes, IsNew, IsEvent, Runs, KeepsPromises, put_by, accepted_in, given_at}
+use Rattle.bus_world.specs.declared.events.Event.{Event as Told}
+use Rattle.bus_world.specs.declared.events.Event.TheVariants as told
+use Rattle.bus_world.specs.declared.events.Answer.{Answer}
+use Rattle.bus_world.specs.declared.events.Answer.TheVariants as answer
+use Rattle.bus_world.specs.declared.events.StepFault.{StepFault}
+use Rattle.bus_world.specs.declared.events.StepFault.TheVariants as fault
+use Rattle.bus_world.specs.declared.shapes.Shape.{Shape}
+use Rattle.bus_world.specs.declared.shapes.MakeFault.{MakeFault}
+use Rattle.bus_world.specs.declared.shapes.MakeFault.TheVariants as make
+
+-- a bus with its sizes
+pub record Sitting (E : Type 0) : Type 0 where
+  pub layout : Layout
+  pub bus : Bus E
+
+-- what every bus that a program holds keeps
+pub record IsSitting {E : Type 0} (P : Protocol E (Unit {0}) ℕ) (z : Sitting E) : Type 0 where
+  pub senders_few : z.layout.senders ≤ 8
+  pub rows_few : z.layout.rows ≤ 256
+  pub capacity_few : z.layout.capacity ≤ 65536
+  pub senders : length z.bus.side.senders ≡ z.layout.senders
+  pub frames : List Frame
+  pub lawful : LawfulBus P z.layout z.bus frames
+
+-- the words of its log below the length
+abbrev pub log_of : {E : Type 0} → Sitting E → List ℕ
+log_of z = read (slice_index z.bus.side.words) (log_at z.layout) (slice_index z.bus.side.words 0)
+
+-- ---- shapes
+abbrev pub Within : ℕ → ℕ → ℕ → Type 0
+Within low high n = (low ≤ n) × (n ≤ high)
+
+abbrev pub Beyond : ℕ → ℕ → ℕ → Type 0
+Beyond low high n = (n < low) ⊎ (high < n)
+
+-- a bus of this shape is served
+pub record IsServed (shape : Shape) : Type 0 where
+  pub senders : Within 1 8 shape.senders
+  pub receivers : Within 1 8 shape.receivers
+  pub rounds : Within 1 8 shape.rounds
+  pub rows : Within 1 256 shape.rows
+  pub log_words : Within 16 65536 shape.log_words
+
+-- why no bus is made: each cause where it holds and no earlier one
+abbrev pub MakeRefused : Shape → MakeFault → Type 0
+MakeRefused shape make.Senders = Beyond 1 8 shape.senders
+MakeRefused shape make.Receivers = Within 1 8 shape.senders × Beyond 1 8 shape.receivers
+MakeRefused shape make.Rounds = Within 1 8 shape.senders × Within 1 8 shape.receivers × Beyond 1 8 shape.rounds
+MakeRefused shape make.Rows = Within 1 8 shape.senders × Within 1 8 shape.receivers × Within 1 8 shape.rounds × Beyond 1 256 shape.rows
+MakeRefused shape make.LogWords = Within 1 8 shape.senders × Within 1 8 shape.receivers × Within 1 8 shape.rounds × Within 1 256 shape.rows × Beyond 16 65536 shape.log_words
+MakeRefused shape make.NoMemory = IsServed shape
+
+-- a new bus of this shape
+pub record IsMade {E : Type 0} (x : Layout) (shape : Shape) (z : Sitting E) : Type 0 where
+  pub served : IsServed shape
+  pub layout : z.layout ≡ x
+  pub new : IsNew x z.bus
+  pub senders : length z.bus.side.senders ≡ shape.senders
+  pub receivers : length z.bus.receivers ≡ shape.receivers
+
+-- the event that a program tells
+abbrev pub event_told : Told → Event
+event_told (told.Put s bytes) = Put s bytes.items
+event_told (told.Close s) = Close s
+event_told (told.Turn s word) = Turn s word
+event_told (told.Recv r) = Recv r
+
+-- ---- what is answered
+-- a message of so many bytes gets the number that was told before
+abbrev pub PutGives : {E : Type 0} → Option (Core E) → ℕ → ℕ → Type 0
+PutGives None len number = ⊥
+PutGives (Some c) len number = CanPut c.queue len × (number ≡ next_of c.queue)
+
+-- a close is taken
+abbrev pub CloseGives : {E : Type 0} → Option (Core E) → Type 0
+CloseGives None = ⊥
+CloseGives (Some c) = CanClose c.queue
+
+-- a turn of a sender gives the answer of its situation and of what its step found
+abbrev pub TurnAnswers : {E : Type 0} → Election E → List ℕ → Option (Core E) → ℕ → Answer → Type 0
+TurnAnswers X words None word a = ⊥
+TurnAnswers X words (Some c) word a = a ≡ answer.Turn (answer_at X c (situation_of X c) (found words (op_at X c (situation_of X c) word)) word)
+
+-- a turn of a receiver gives the answer of the step that it took
+abbrev pub RecvAnswers : List ℕ → List Receiving → ℕ → Option Receiving → Answer → List Receiving → Type 0
+RecvAnswers words old r None a new = ⊥
+RecvAnswers words old r (Some v) a new = (next : Receiving) × (turn : RecvTurn) × RecvDoes words v turn next × (new ≡ slice_set old r next) × (a ≡ answer.Recv turn)
+
+abbrev pub Answers : {E : Type 0} → Election E → Bus E → Event → Answer → Bus E → Type 0
+Answers X old (Put s bytes) a new = (number : ℕ) × PutGives (slice_get old.side.senders s) (length bytes) number × (a ≡ answer.Number number)
+Answers X old (Close s) a new = CloseGives (slice_get old.side.senders s) × (a ≡ answer.Closing)
+Answers X old (Turn s word) a new = TurnAnswers X old.side.words (slice_get old.side.senders s) word a
+Answers X old (Recv r) a new = RecvAnswers old.side.words old.receivers r (slice_get old.receivers r) a new.receivers
+
+-- ---- why an event is refused
+abbrev pub PutRefused : {E : Type 0} → Option (Core E) → ℕ → StepFault → Type 0
+PutRefused None len why = why ≡ fault.NoSuchSender
+PutRefused (Some c) len why = (cause : PutFault) × IsPutFault c.queue len cause × (why ≡ fault.Put cause)
+
+abbrev pub CloseRefused : {E : Type 0} → Option (Core E) → StepFault → Type 0
+CloseRefused None why = why ≡ fault.NoSuchSender
+CloseRefused (Some c) why = (cause : CloseFault) × IsCloseFault c.queue cause × (why ≡ fault.Close cause)
+
+abbrev pub TurnRefused : {E : Type 0} → Option (Core E) → StepFault → Type 0
+TurnRefused None why = why ≡ fault.NoSuchSender
+TurnRefused (Some c) why = ⊥
+
+abbrev pub RecvRefused : Option Receiving → StepFault → Type 0
+RecvRefused None why = why ≡ fault.NoSuchReceiver
+RecvRefused (Some v) why = ⊥
+
+-- each fault where its cause holds and no earlier one
+abbrev pub Refused : {E : Type 0} → Bus E → Event → StepFault → Type 0
+Refused b (Put s bytes) why = PutRefused (slice_get b.side.senders s) (length bytes) why
+Refused b (Close s) why = CloseRefused (slice_get b.side.senders s) why
+Refused b (Turn s word) why = TurnRefused (slice_get b.side.senders s) why
+Refused b (Recv r) why = RecvRefused (slice_get b.receivers r) why
+
+-- ---- lists of events
+-- each event is answered, one after another
+abbrev pub AllAnswered : {E : Type 0} → Election E → Bus E → List Event → Bus E → Type 0
+AllAnswered X old [] new = new ≡ old
+AllAnswered {E} X old (e ∷ events) new = (mid : Bus E) × (a : Answer) × IsEvent e × Happens X old e mid × Answers X old e a mid × AllAnswered X mid events new
+
+-- what each receiver was given goes on from what it was given before
+abbrev pub GivenGrows : {E : Type 0} → Bus E → List Frame → Bus E → List Frame → Type 0
+GivenGrows old frames new frames' = (r : ℕ) (v v' : Receiving) → slice_get old.receivers r ≡ Some v → slice_get new.receivers r ≡ Some v' → IsPrefixOfOrder (given_at frames v) (given_at frames' v')
+
+-- The headline: events lead from one bus to another, which keeps its promises as the one before did. Frames, owners and what
+-- each receiver was given are extended and never otherwise changed, and what each sender has put has grown by its accepted
+-- puts, in their order.
+pub record Leads {E : Type 0} (X : Election E) (P : Protocol E (Unit {0}) ℕ) (x : Layout) (old : Bus E) (events : List Event) (new : Bus E) : Type 0 where
+  pub run : Runs X old events new
+  pub frames : List Frame
+  pub more : List Frame
+  pub before : KeepsPromises P x old frames
+  pub after : KeepsPromises P x new (frames ++ more)
+  pub puts : (s : ℕ) → put_by new (frames ++ more) s ≡ put_by old frames s ++ accepted_in X old events new run s
+  pub owners : IsPrefix old.side.owners new.side.owners
+  pub given : GivenGrows old frames new (frames ++ more)
+
+-- all events were answered
+pub record Played {E : Type 0} (X : Election E) (P : Protocol E (Unit {0}) ℕ) (x : Layout) (old : Bus E) (events : List Event) (new : Bus E) : Type 0 where
+  pub answered : AllAnswered X old events new
+  pub leads : Leads X P x old events new
+
+-- the event at a place is the first that is refused: those before it have happened, and no other
+pub record Stops {E : Type 0} (X : Election E) (P : Protocol E (Unit {0}) ℕ) (x : Layout) (old : Bus E) (events : List Event) (place : ℕ) (why : StepFault) (new : Bus E) : Type 0 where
+  pub played : Played X P x old (take place events) new
+  pub event : Event
+  pub at : slice_get events place ≡ Some event
+  pub refused : Refused new event why

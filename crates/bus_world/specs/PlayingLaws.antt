@@ -1,0 +1,413 @@
+-- What a program holds stays a bus.
+use Rattle.std.proofs.Common.{◌≡◌, ◌≢◌, ℕ, ◌+◌, ◌*◌, ◌-◌, ◌/◌, ◌<◌, ◌≤◌, ◌^◌, Bool, true, false, cond, ◌&&◌, ◌==◌, nat_lt, nat_le, Option, Some, None, is_some, ◌⊎◌, inl, inr, List, [], ◌∷◌, ◌++◌, length, map, get_or, slice_get, slice_index, slice_set, arith, refl, sym, ◌∙◌, ap, subst}
+use Rattle.std.specs.Prelude.{Result, Ok, Err, IfOk, IfErr, OnOk, OnErr, IsSome, IfSome, All}
+use Rattle.std.proofs.lemmas.Bool.{true≢false}
+use Rattle.std.proofs.lemmas.Bool.Decides.{nat_tests, eqb_tells}
+use Rattle.std.proofs.lemmas.Grind.{common_steps}
+use Rattle.std.proofs.lemmas.List.{length-map}
+use Rattle.std.proofs.lemmas.Option.{gets, slice_get_past, slice_get-get_or, same_Some}
+use Rattle.std.proofs.Math.ListN.{length-set}
+use Rattle.bus_register.specs.declared.registers.SenderNo.{SenderNo}
+use Rattle.bus_register.specs.Protocol.{Protocol, Laws}
+use Rattle.bus_register.specs.Words.{register, after, SumFits}
+use Rattle.bus_register.specs.declared.registers.Op.{Op}
+use Rattle.bus_register.specs.declared.registers.Op.TheVariants.{Load, Store}
+use Rattle.bus_register.specs.Tables.{of_some}
+use Rattle.bus_batch.specs.Frames.{Frame}
+use Rattle.bus_batch.specs.Batches.{Pending, next_of, IsPutFault, IsCloseFault}
+use Rattle.bus_batch.specs.declared.batches.Phase.TheVariants.{Closing}
+use Rattle.bus_batch.specs.declared.batches.PutFault.{PutFault}
+use Rattle.bus_batch.specs.declared.batches.PutFault.TheVariants as put
+use Rattle.bus_batch.specs.declared.batches.CloseFault.{CloseFault}
+use Rattle.bus_batch.specs.declared.batches.CloseFault.TheVariants as close
+use Rattle.bus_deliverylog.specs.Receiving.{Receiving, receiving_op}
+use Rattle.bus_deliverylog.specs.declared.receiving.RecvTurn.{RecvTurn}
+use Rattle.bus_ownerbits.specs.ElectionKeeps.{OneOwner}
+use Rattle.bus_tenure.specs.Core.{Core, Election, Layout, is_empty, is_closing, is_closed, has_room, frame_len, words_of, waits, Situation, IsClosed, IsIdle, IsSpent, LooksAtStage, Elects, TakesPage, AwaitsPage, StoresWord, StoresLength, GivesBack, HasHanded, situation_at, situation_of, op_at, answer_at, answer_of_election, answer_of_leaving}
+use Rattle.bus_tenure.specs.declared.pages.Page.{Page}
+use Rattle.bus_tenure.specs.declared.phases.Leaving.{Leaving}
+use Rattle.bus_tenure.specs.declared.phases.Leaving.TheVariants.{Sent, FoundEnd, NoRoom}
+use Rattle.bus_tenure.specs.declared.phases.Phase.{Phase}
+use Rattle.bus_tenure.specs.declared.phases.Phase.TheVariants as phase
+use Rattle.bus_tenure.specs.declared.turns.Turn.{Turn as Answered}
+use Rattle.bus_tenure.specs.declared.turns.Turn.TheVariants as turn
+use Rattle.bus_world.specs.Bus.{IsLayout, Part, stands_at, standing_of}
+use Rattle.bus_register.specs.TableLaws.{push_here}
+use Rattle.bus_world.specs.Turning.{Side, turned, stepped, found, home_after, core_after, owners_after, frames_after, IsSide}
+use Rattle.bus_world.specs.TurningLaws.{turn_lawful}
+use Rattle.bus_world.specs.World.{Bus, Event, Put, Close, Turn, Recv, IsEvent, Happens, SenderDoes, ReceiverDoes, RecvDoes, with_sender, put_in, close_in, is_open, can_put, can_close, LawfulBus, IsReceiver}
+use Rattle.bus_world.specs.WorldLaws.{event_left, numbers_fit}
+use Rattle.bus_world.specs.Playing.{Sitting, IsSitting, PutGives, PutRefused, CloseGives, CloseRefused, TurnAnswers, TurnRefused, RecvAnswers, RecvRefused}
+use Rattle.bus_world.specs.Telling.{Tells, SenderTells, TurnTells}
+use Rattle.bus_world.specs.TellingLaws.{turn_true}
+use Rattle.bus_world.specs.declared.events.StepFault.{StepFault}
+use Rattle.bus_world.specs.declared.events.StepFault.TheVariants as fault
+use Rattle.bus_world.specs.declared.events.Answer.{Answer}
+use Rattle.bus_world.specs.declared.events.Answer.TheVariants as answer
+
+-- a list with the same element in its place
+pub set_same : {A : Type 0} (xs : List A) (p : ℕ) (x : A) → slice_get xs p ≡ Some x → slice_set xs p x ≡ xs
+set_same xs p x h = grind (arith, common_steps, gets)
+
+length_senders : {E : Type 0} (side side' : Side E) (o : Option (Core E)) (f : Core E → Side E) → ((c : Core E) → length (f c).senders ≡ length side.senders) → SenderDoes side o f side' → length side'.senders ≡ length side.senders
+length_senders side side' None f same d = ap (λ (z : Side _). length z.senders) d
+length_senders side side' (Some c) f same d = ap (λ (z : Side _). length z.senders) d ∙ same c
+
+-- the senders stay as many
+event_length : {E : Type 0} (X : Election E) (b b' : Bus E) (e : Event) → Happens X b e b' → length b'.side.senders ≡ length b.side.senders
+event_length X b b' (Put s bytes) d = length_senders b.side b'.side (slice_get b.side.senders s) _ (λ c. length-set b.side.senders s (put_in c bytes)) d.0
+event_length X b b' (Close s) d = length_senders b.side b'.side (slice_get b.side.senders s) _ (λ c. length-set b.side.senders s (close_in c)) d.0
+event_length X b b' (Turn s word) d = length_senders b.side b'.side (slice_get b.side.senders s) _ (λ c. length-set b.side.senders s _) d.0
+event_length X b b' (Recv r) d = ap (λ (z : Side _). length z.senders) d.0
+
+module _ {E : Type 0} (X : Election E) (P : Protocol E (Unit {0}) ℕ) (x : Layout) (laws : Laws X.op X.fed P OneOwner) (width : x.width ≡ P.width x.senders)
+    (starts : (n me at : ℕ) → X.started n me x.rounds at ≡ P.started n me tt at) (owner_is : (e : E) → X.owner e ≡ P.output e) where
+  pub layout_served : (b : Bus E) → IsSitting P record { layout = x; bus = b } → IsLayout x
+  layout_served b h = record { senders = h.senders_few; rows = (let z = h.rows_few in omega arith); capacity = (let z = h.capacity_few in omega arith) }
+
+  -- whatever happens to it
+  pub sitting_after : (b b' : Bus E) (e : Event) → IsSitting P record { layout = x; bus = b } → IsEvent e → Happens X b e b' → IsSitting P record { layout = x; bus = b' }
+  sitting_after b b' e h is d =
+      let a = event_left X P laws x (layout_served b h) width starts owner_is b h.frames h.lawful b' e is d in
+      record {
+        senders_few = h.senders_few;
+        rows_few = h.rows_few;
+        capacity_few = h.capacity_few;
+        senders = event_length X b b' e d ∙ h.senders;
+        frames = a.left.frames_now;
+        lawful = a.left.lawful;
+      }
+
+-- ---- results
+refuses : {A F : Type 0} (r : Result A F) (Q : F → Type 0) (P : Type 0) → IfErr r Q → ((e : F) → Q e → P) → OnErr r P
+refuses (Ok a) Q P h f = tt
+refuses (Err e) Q P h f = f e h
+
+-- ---- tests
+and_no : (a : Bool) → (a && false) ≡ false
+and_no true = refl
+and_no false = refl
+
+longer : (len : ℕ) → 56 < len → nat_le len 56 ≡ false
+longer len l = grind (arith, nat_tests)
+
+put_allowed : (q : Pending) (len : ℕ) (why : PutFault) → IsPutFault q len why → can_put q len ≡ false
+put_allowed q len put.Closed (inl e) = ap (λ z. is_open z && (cond q.busy false true && (nat_le len 56 && nat_lt (length q.messages) 16))) e
+put_allowed q len put.Closed (inr e) = ap (λ z. is_open z && (cond q.busy false true && (nat_le len 56 && nat_lt (length q.messages) 16))) e
+put_allowed q len put.Busy e = ap (λ z. is_open z && (cond q.busy false true && (nat_le len 56 && nat_lt (length q.messages) 16))) e.0 ∙ ap (λ z. cond z false true && (nat_le len 56 && nat_lt (length q.messages) 16)) e.1
+put_allowed q len put.TooLong e =
+    ap (λ z. is_open z && (cond q.busy false true && (nat_le len 56 && nat_lt (length q.messages) 16))) e.0 ∙ ap (λ z. cond z false true && (nat_le len 56 && nat_lt (length q.messages) 16)) e.1 ∙ ap (λ z. z && nat_lt (length q.messages) 16) (longer len e.2)
+put_allowed q len put.BatchFull e =
+    ap (λ z. is_open z && (cond q.busy false true && (nat_le len 56 && nat_lt (length q.messages) 16))) e.0 ∙ ap (λ z. cond z false true && (nat_le len 56 && nat_lt (length q.messages) 16)) e.1
+    ∙ ap (λ z. nat_le len 56 && nat_lt z 16) e.3 ∙ and_no (nat_le len 56)
+
+some_left : {A : Type 0} (xs : List A) → 0 < length xs → is_empty xs ≡ false
+some_left [] l = absurd (omega arith)
+some_left (x ∷ xs) l = refl
+
+close_allowed : (q : Pending) (why : CloseFault) → IsCloseFault q why → can_close q ≡ false
+close_allowed q close.Closed (inl e) = ap (λ z. is_open z && (cond q.busy false true && is_empty q.messages)) e
+close_allowed q close.Closed (inr e) = ap (λ z. is_open z && (cond q.busy false true && is_empty q.messages)) e
+close_allowed q close.Busy e = ap (λ z. is_open z && (cond q.busy false true && is_empty q.messages)) e.0 ∙ ap (λ z. cond z false true && is_empty q.messages) e.1
+close_allowed q close.Pending e = ap (λ z. is_open z && (cond q.busy false true && is_empty q.messages)) e.0 ∙ ap (λ z. cond z false true && is_empty q.messages) e.1 ∙ some_left q.messages e.2
+
+-- ---- who took the page, as the answer of a turn tells it
+abbrev pub owners_by : Answered → ℕ → List ℕ → List ℕ
+owners_by turn.Idle p owners = owners
+owners_by turn.Waiting p owners = owners
+owners_by turn.Going p owners = owners
+owners_by (turn.Lost t o) p owners = owners
+owners_by (turn.Own t) p owners = owners ++ p ∷ []
+owners_by (turn.Delivered t first last) p owners = owners
+owners_by turn.Full p owners = owners
+owners_by turn.Closed p owners = owners
+owners_by turn.Spent p owners = owners
+
+module _ {E : Type 0} (X : Election E) (c : Core E) (p : ℕ) (owners : List ℕ) where
+  stage_told : (a b : Bool) → owners ≡ owners_by (cond a turn.Waiting (cond b turn.Spent turn.Going)) p owners
+  stage_told true b = refl
+  stage_told false true = refl
+  stage_told false false = refl
+
+  election_told : (t : ℕ) (o : Option ℕ) → owners ≡ owners_by (answer_of_election c t o) p owners
+  election_told t None = refl
+  election_told t (Some o) = by_test (o == c.me)
+    where
+      by_test : (a : Bool) → owners ≡ owners_by (cond a turn.Going (turn.Lost t record { 0 = o })) p owners
+      by_test true = refl
+      by_test false = refl
+
+  leaving_told : (t : ℕ) (leaving : Leaving) → owners ≡ owners_by (answer_of_leaving c.queue t leaving) p owners
+  leaving_told t Sent = by_test (is_closing c.queue.phase)
+    where
+      by_test : (a : Bool) → owners ≡ owners_by (cond a turn.Closed (turn.Delivered t c.queue.first (next_of c.queue - 1))) p owners
+      by_test true = refl
+      by_test false = refl
+  leaving_told t FoundEnd = refl
+  leaving_told t NoRoom = refl
+
+  pub owners_told : (z : Situation E) (got word : ℕ) → owners_after z p owners ≡ owners_by (answer_at X c z got word) p owners
+  owners_told IsClosed got word = refl
+  owners_told IsIdle got word = refl
+  owners_told IsSpent got word = refl
+  owners_told LooksAtStage got word = stage_told (waits c got) (nat_le c.layout.rows (got / 2))
+  owners_told (Elects t e) got word = election_told t (X.owner (X.fed e got word))
+  owners_told (TakesPage t) got word = refl
+  owners_told (AwaitsPage t) got word = refl
+  owners_told (StoresWord t page stored) got word = refl
+  owners_told (StoresLength t page stored) got word = refl
+  owners_told (GivesBack t page leaving) got word = leaving_told t leaving
+  owners_told (HasHanded t leaving) got word = leaving_told t leaving
+
+  -- ---- what the situation of a running election tells
+  resting_apart : (a b d : Bool) (t : ℕ) (e : E) → cond {A = Situation E} a IsClosed (cond b IsIdle (cond d IsSpent LooksAtStage)) ≡ Elects t e → ⊥
+  resting_apart true b d t e i = cc
+  resting_apart false true d t e i = cc
+  resting_apart false false true t e i = cc
+  resting_apart false false false t e i = cc
+
+  electing_is : (a : Bool) (t u : ℕ) (e f : E) → cond {A = Situation E} a (TakesPage t) (Elects t e) ≡ Elects u f → (a ≡ false) × (phase.Electing t e ≡ phase.Electing u f)
+  electing_is true t u e f i = absurd cc
+  electing_is false t u e f i = (refl, (let same : Elects t e ≡ Elects u f = i in cc))
+
+  holding_apart : (a b d g : Bool) (t u stored : ℕ) (page : Page) (e : E) → cond {A = Situation E} a (GivesBack t page Sent) (cond b (GivesBack t page FoundEnd) (cond d (cond g (StoresWord t page stored) (StoresLength t page stored)) (GivesBack t page NoRoom))) ≡ Elects u e → ⊥
+  holding_apart true b d g t u stored page e i = cc
+  holding_apart false true d g t u stored page e i = cc
+  holding_apart false false true true t u stored page e i = cc
+  holding_apart false false true false t u stored page e i = cc
+  holding_apart false false false g t u stored page e i = cc
+
+  elects : (ph : Phase E) (t : ℕ) (e : E) → situation_at X c ph ≡ Elects t e → (ph ≡ phase.Electing t e) × (is_some (X.owner e) ≡ false)
+  elects phase.Resting t e i = absurd (resting_apart (is_closed c.queue.phase) (is_empty c.queue.messages && cond (is_closing c.queue.phase) false true) (nat_le c.layout.rows c.least) t e i)
+  elects (phase.Electing u f) t e i = let is = electing_is (is_some (X.owner f)) u t f e i in (is.1, subst (λ z. is_some (X.owner z) ≡ false) (let both : phase.Electing u f ≡ phase.Electing t e = is.1 in cc) is.0)
+  elects (phase.Taken u) t e i = absurd cc
+  elects (phase.Holding u page stored published) t e i = absurd (holding_apart published page.ended (has_room c page) (nat_lt stored (frame_len c)) u t stored page e i)
+  elects (phase.Giving u leaving) t e i = absurd cc
+
+-- as many numbers as senders
+pub numbers_many : (senders : List SenderNo) {most : ℕ} → length (map (λ s. s.0) senders) < most → length senders < most
+numbers_many senders l = let same = length-map senders (λ (s : SenderNo). s.0) in omega arith
+
+-- a sender or receiver that there is
+pub there : {A : Type 0} (xs : List A) (p : ℕ) (x : A) → p < length xs → x ≡ get_or xs p x → slice_get xs p ≡ Some x
+there xs p x l e = slice_get-get_or xs p x l ∙ ap Some (sym e)
+
+-- the bytes of a program are bytes
+pub small_bytes : (bytes : List ℕ) → ((i : ℕ) → get_or bytes i 0 < 256) → All (λ byte. byte < 256) bytes
+small_bytes bytes f k d l = subst (λ z. z < 256) (same_Some _ _ (sym (slice_get-get_or bytes k 0 l) ∙ slice_get-get_or bytes k d l)) (f k)
+
+module _ {E : Type 0} (X : Election E) (P : Protocol E (Unit {0}) ℕ) (x : Layout) (laws : Laws X.op X.fed P OneOwner) (width : x.width ≡ P.width x.senders)
+    (starts : (n me at : ℕ) → X.started n me x.rounds at ≡ P.started n me tt at) (owner_is : (e : E) → X.owner e ≡ P.output e)
+    (b : Bus E) (h : IsSitting P record { layout = x; bus = b }) (now : Sitting E) (is : record { layout = x; bus = b } ≡ now) where
+  served : IsLayout x
+  served = layout_served X P x laws width starts owner_is b h
+
+  abbrev with_core : ℕ → Core E → Bus E
+  with_core s c = record { side = with_sender b.side s c; receivers = b.receivers }
+
+  -- ---- where there is none
+  no_sender : (s : ℕ) → length b.side.senders ≤ s → slice_get now.bus.side.senders s ≡ None
+  no_sender s l = subst (λ z. slice_get z.bus.side.senders s ≡ None) is (slice_get_past b.side.senders s l)
+
+  no_receiver : (r : ℕ) → length b.receivers ≤ r → slice_get now.bus.receivers r ≡ None
+  no_receiver r l = subst (λ z. slice_get z.bus.receivers r ≡ None) is (slice_get_past b.receivers r l)
+
+  pub put_unknown : (s len : ℕ) → length b.side.senders ≤ s → PutRefused (slice_get now.bus.side.senders s) len fault.NoSuchSender
+  put_unknown s len l = subst (λ o. PutRefused o len fault.NoSuchSender) (sym (no_sender s l)) refl
+
+  pub close_unknown : (s : ℕ) → length b.side.senders ≤ s → CloseRefused (slice_get now.bus.side.senders s) fault.NoSuchSender
+  close_unknown s l = subst (λ o. CloseRefused o fault.NoSuchSender) (sym (no_sender s l)) refl
+
+  pub turn_unknown : (s : ℕ) → length b.side.senders ≤ s → TurnRefused (slice_get now.bus.side.senders s) fault.NoSuchSender
+  turn_unknown s l = subst (λ o. TurnRefused o fault.NoSuchSender) (sym (no_sender s l)) refl
+
+  pub recv_unknown : (r : ℕ) → length b.receivers ≤ r → RecvRefused (slice_get now.bus.receivers r) fault.NoSuchReceiver
+  recv_unknown r l = subst (λ o. RecvRefused o fault.NoSuchReceiver) (sym (no_receiver r l)) refl
+
+  -- and nothing happens
+  pub put_idle : (s : ℕ) (bytes : List ℕ) → length b.side.senders ≤ s → Happens X now.bus (Put s bytes) now.bus
+  put_idle s bytes l = (subst (λ o. SenderDoes now.bus.side o (λ c. with_sender now.bus.side s (put_in c bytes)) now.bus.side) (sym (no_sender s l)) refl, refl)
+
+  pub close_idle : (s : ℕ) → length b.side.senders ≤ s → Happens X now.bus (Close s) now.bus
+  close_idle s l = (subst (λ o. SenderDoes now.bus.side o (λ c. with_sender now.bus.side s (close_in c)) now.bus.side) (sym (no_sender s l)) refl, refl)
+
+  pub turn_idle : (s word : ℕ) → length b.side.senders ≤ s → Happens X now.bus (Turn s word) now.bus
+  turn_idle s word l = (subst (λ o. SenderDoes now.bus.side o (λ c. turned X now.bus.side s c (situation_of X c) word) now.bus.side) (sym (no_sender s l)) refl, refl)
+
+  pub recv_idle : (r : ℕ) → length b.receivers ≤ r → Happens X now.bus (Recv r) now.bus
+  recv_idle r l = (refl, subst (λ o. ReceiverDoes now.bus.side.words now.bus.receivers r o now.bus.receivers) (sym (no_receiver r l)) refl)
+
+  module _ (s : ℕ) (c : Core E) (old : slice_get b.side.senders s ≡ Some c) where
+    same_core : with_core s c ≡ b
+    same_core = ap (λ z. record { side = record b.side { senders = z }; receivers = b.receivers }) (set_same b.side.senders s c old)
+
+    now_has : Some c ≡ slice_get now.bus.side.senders s
+    now_has = sym (subst (λ z. slice_get z.bus.side.senders s ≡ Some c) is old)
+
+    -- ---- a put
+    pub put_fits : next_of c.queue < 2 ^ 48
+    put_fits = numbers_fit X P laws x served width starts owner_is b.side h.frames h.lawful.side s c old
+
+    module _ (bytes : List ℕ) (c' : Core E) (put_is : c' ≡ put_in c bytes) where
+      put_does : Happens X b (Put s bytes) (with_core s c')
+      put_does = (subst (λ o. SenderDoes b.side o (λ k. with_sender b.side s (put_in k bytes)) (with_sender b.side s c')) (sym old) (ap (with_sender b.side s) put_is), refl)
+
+      pub put_happens : Happens X now.bus (Put s bytes) (with_core s c')
+      put_happens = subst (λ z. Happens X z.bus (Put s bytes) (with_core s c')) is put_does
+
+      pub put_sits : All (λ byte. byte < 256) bytes → IsSitting P record { layout = x; bus = with_core s c' }
+      put_sits small = sitting_after X P x laws width starts owner_is b (with_core s c') (Put s bytes) h small put_does
+
+      pub put_keeps : (r : Result ℕ StepFault) → IfErr r (PutRefused (Some c) (length bytes)) → OnErr r (record { layout = x; bus = with_core s c' } ≡ now)
+      put_keeps r w = refuses r (PutRefused (Some c) (length bytes)) _ w (λ why q.
+          let same : c' ≡ c = put_is ∙ ap (λ t. cond t (record c { queue = record c.queue { messages = c.queue.messages ++ bytes ∷ [] } }) c) (put_allowed c.queue (length bytes) q.0 q.1) in
+          ap (λ z. record { layout = x; bus = with_core s z }) same ∙ ap (λ z. record { layout = x; bus = z }) same_core ∙ is)
+
+    pub put_gives : (len : ℕ) (r : Result ℕ StepFault) → IfOk r (PutGives (Some c) len) → IfOk r (PutGives (slice_get now.bus.side.senders s) len)
+    put_gives len r = subst (λ o. IfOk r (PutGives o len)) now_has
+
+    pub put_refused : (len : ℕ) (r : Result ℕ StepFault) → IfErr r (PutRefused (Some c) len) → IfErr r (PutRefused (slice_get now.bus.side.senders s) len)
+    put_refused len r = subst (λ o. IfErr r (PutRefused o len)) now_has
+
+    -- ---- a close
+    module _ (c' : Core E) (close_is : c' ≡ close_in c) where
+      close_does : Happens X b (Close s) (with_core s c')
+      close_does = (subst (λ o. SenderDoes b.side o (λ k. with_sender b.side s (close_in k)) (with_sender b.side s c')) (sym old) (ap (with_sender b.side s) close_is), refl)
+
+      pub close_happens : Happens X now.bus (Close s) (with_core s c')
+      close_happens = subst (λ z. Happens X z.bus (Close s) (with_core s c')) is close_does
+
+      pub close_sits : IsSitting P record { layout = x; bus = with_core s c' }
+      close_sits = sitting_after X P x laws width starts owner_is b (with_core s c') (Close s) h tt close_does
+
+      pub close_keeps : (r : Result (Unit {0}) StepFault) → IfErr r (CloseRefused (Some c)) → OnErr r (record { layout = x; bus = with_core s c' } ≡ now)
+      close_keeps r w = refuses r (CloseRefused (Some c)) _ w (λ why q.
+          let same : c' ≡ c = close_is ∙ ap (λ t. cond t (record c { queue = record c.queue { phase = Closing } }) c) (close_allowed c.queue q.0 q.1) in
+          ap (λ z. record { layout = x; bus = with_core s z }) same ∙ ap (λ z. record { layout = x; bus = z }) same_core ∙ is)
+
+    pub close_gives : (r : Result (Unit {0}) StepFault) → OnOk r (CloseGives (Some c)) → OnOk r (CloseGives (slice_get now.bus.side.senders s))
+    close_gives r = subst (λ o. OnOk r (CloseGives o)) now_has
+
+    pub close_refused : (r : Result (Unit {0}) StepFault) → IfErr r (CloseRefused (Some c)) → IfErr r (CloseRefused (slice_get now.bus.side.senders s))
+    close_refused r = subst (λ o. IfErr r (CloseRefused o)) now_has
+
+    -- ---- a turn
+    part : Part x (slice_index b.side.words) h.frames s c
+    part = h.lawful.side.sending.parts s c old
+
+    pub words_enough : length b.side.words ≡ words_of c.layout
+    words_enough = h.lawful.side.words ∙ ap words_of (sym part.layout)
+
+    module _ (word : ℕ) where
+      kept_below : (o : Op) (r v : ℕ) → Store record { 0 = r } v ≡ o → SumFits o (slice_index b.side.words (register o))
+      kept_below o r v e = subst (λ z. SumFits z (slice_index b.side.words (register z))) e tt
+
+      -- what an election adds to stays in range
+      election_fits : (t : ℕ) (e : E) → situation_of X c ≡ Elects t e → (o : Op) → X.op e word ≡ Some o → SumFits o (slice_index b.side.words (register o))
+      election_fits t e i o w =
+          let tenures = h.lawful.side.sending.tenures in
+          let has = tenures.electing s t e (ap (of_some standing_of) old ∙ ap (λ z. Some (stands_at z)) (elects X c s [] c.phase t e i).0) in
+          laws.fits x.senders (2 + t * P.width x.senders) (slice_index b.side.words) (tenures.elections t) s e word o (tenures.kept t has.0) has.2 w
+
+      sums_at : (z : Situation E) → situation_of X c ≡ z → (o : Op) → op_at X c z word ≡ Some o → SumFits o (slice_index b.side.words (register o))
+      sums_at IsClosed i o w = absurd cc
+      sums_at IsIdle i o w = absurd cc
+      sums_at IsSpent i o w = absurd cc
+      sums_at LooksAtStage i o w = subst (λ z. SumFits z (slice_index b.side.words (register z))) (same_Some _ _ w) tt
+      sums_at (Elects t e) i o w = election_fits t e i o w
+      sums_at (TakesPage t) i o w = kept_below o 1 (2 * t + 1) (same_Some _ _ w)
+      sums_at (AwaitsPage t) i o w = absurd cc
+      sums_at (StoresWord t page stored) i o w = kept_below o _ _ (same_Some _ _ w)
+      sums_at (StoresLength t page stored) i o w = kept_below o 0 _ (same_Some _ _ w)
+      sums_at (GivesBack t page leaving) i o w = kept_below o 1 (2 * t + 2) (same_Some _ _ w)
+      sums_at (HasHanded t leaving) i o w = kept_below o 1 (2 * t + 2) (same_Some _ _ w)
+
+      pub sums_fit : (o : Op) → op_at X c (situation_of X c) word ≡ Some o → SumFits o (slice_index b.side.words (register o))
+      sums_fit o w = sums_at (situation_of X c) refl o w
+
+      abbrev step_found : ℕ
+      step_found = found b.side.words (op_at X c (situation_of X c) word)
+
+      abbrev answered : Answered
+      answered = answer_at X c (situation_of X c) step_found word
+
+      turn_keeps : IsSide P x (turned X b.side s c (situation_of X c) word) (frames_after c (situation_of X c) h.frames)
+      turn_keeps = turn_lawful X P laws x served width starts owner_is b.side h.frames h.lawful.side s c old word
+
+      -- there is room for one more owner
+      pub owner_fits : (t : ℕ) → answered ≡ turn.Own t → length b.side.owners < 256
+      owner_fits t told =
+          let more = owners_told X c s b.side.owners (situation_of X c) step_found word ∙ ap (λ a. owners_by a s b.side.owners) told in
+          let own = turn_keeps.sending.tenures.owned (length b.side.owners) s (ap (λ l. slice_get l (length b.side.owners)) more ∙ push_here b.side.owners s (length b.side.owners) refl) in
+          let below = own.0 in let few = h.rows_few in
+          omega arith
+
+      module _ (words : List ℕ) (home : Option Page) (c' : Core E) (owners : List ℕ) (words_are : words ≡ stepped b.side.words (op_at X c (situation_of X c) word)) (home_is : home ≡ home_after c (situation_of X c) b.side.home)
+          (core_is : c' ≡ core_after X c (situation_of X c) b.side.home step_found word) (owners_are : owners ≡ owners_by answered s b.side.owners) where
+        abbrev with_turn : Bus E
+        with_turn = record { side = record { words = words; home = home; senders = slice_set b.side.senders s c'; owners = owners }; receivers = b.receivers }
+
+        side_is : with_turn.side ≡ turned X b.side s c (situation_of X c) word
+        side_is =
+            ap (λ z. record { words = z; home = home; senders = slice_set b.side.senders s c'; owners = owners }) words_are
+            ∙ ap (λ z. record { words = stepped b.side.words (op_at X c (situation_of X c) word); home = z; senders = slice_set b.side.senders s c'; owners = owners }) home_is
+            ∙ ap (λ z. record { words = stepped b.side.words (op_at X c (situation_of X c) word); home = home_after c (situation_of X c) b.side.home; senders = slice_set b.side.senders s z; owners = owners }) core_is
+            ∙ ap (λ z. record { words = stepped b.side.words (op_at X c (situation_of X c) word); home = home_after c (situation_of X c) b.side.home; senders = slice_set b.side.senders s (core_after X c (situation_of X c) b.side.home step_found word); owners = z })
+            (owners_are ∙ sym (owners_told X c s b.side.owners (situation_of X c) step_found word))
+
+        turn_does : Happens X b (Turn s word) with_turn
+        turn_does = (subst (λ o. SenderDoes b.side o (λ k. turned X b.side s k (situation_of X k) word) with_turn.side) (sym old) side_is, refl)
+
+        pub turn_happens : Happens X now.bus (Turn s word) with_turn
+        turn_happens = subst (λ z. Happens X z.bus (Turn s word) with_turn) is turn_does
+
+        pub turn_sits : IsSitting P record { layout = x; bus = with_turn }
+        turn_sits = sitting_after X P x laws width starts owner_is b with_turn (Turn s word) h tt turn_does
+
+        -- and its answer tells the truth
+        pub turn_tells : (t : Answered) → t ≡ answered → Tells P x b (Turn s word) (answer.Turn t) with_turn
+        turn_tells t e = (h.frames, h.lawful.side.sending.log.lawful, h.lawful.side.sending.log.words_are,
+            subst (λ o. SenderTells P x (slice_index b.side.words) (slice_index words) h.frames s o t) (sym old)
+            (subst (λ a. TurnTells P x (slice_index b.side.words) (slice_index words) h.frames s c a) (sym e)
+            (subst (λ w. TurnTells P x (slice_index b.side.words) (slice_index w) h.frames s c answered) (sym words_are) (turn_true X P laws x served width starts owner_is b.side h.frames h.lawful.side s c old word))))
+
+      pub turn_answers : (t : Answered) → t ≡ answered → TurnAnswers X now.bus.side.words (slice_get now.bus.side.senders s) word (answer.Turn t)
+      turn_answers t e = subst (λ z. TurnAnswers X z.bus.side.words (slice_get z.bus.side.senders s) word (answer.Turn t)) is (subst (λ o. TurnAnswers X b.side.words o word (answer.Turn t)) (sym old) (ap answer.Turn e))
+
+  -- ---- a turn of a receiver
+  module _ (r : ℕ) (v : Receiving) (old : slice_get b.receivers r ≡ Some v) where
+    own_reader : IsReceiver x h.frames (slice_index b.side.words 0) v
+    own_reader = h.lawful.receivers r v old
+
+    pub loads_within : IfSome (receiving_op v) (λ o. register o < length b.side.words)
+    loads_within = by_end v.ended (v.place == v.known) (eqb_tells v.place v.known)
+      where
+        few : 2 ≤ length b.side.words
+        few = let z = h.lawful.side.words in omega arith
+
+        by_end : (e q : Bool) → ((q ≡ true) × (v.place ≡ v.known)) ⊎ ((q ≡ false) × (v.place ≢ v.known)) → IfSome (cond {A = Option Op} e None (cond q (Some (Load (record { 0 = v.length_at }))) (Some (Load (record { 0 = v.log_at + v.place }))))) (λ o. register o < length b.side.words)
+        by_end true q how = tt
+        by_end false true how = let a = own_reader.len_at in let z = few in omega arith
+        by_end false false (inl how) = absurd (true≢false (sym how.0))
+        by_end false false (inr how) =
+            let a = own_reader.log in let z = h.lawful.side.words in let d = own_reader.receives.place_below in let g = own_reader.receives.known_below in let f = h.lawful.side.sending.log.fits in let ne = how.1 in
+            let below : v.place < v.known = omega arith in
+            omega arith
+
+    module _ (turn : RecvTurn) (next : Receiving) (does : RecvDoes b.side.words v turn next) where
+      abbrev with_reader : List ℕ → Bus E
+      with_reader words = record { side = record b.side { words = words }; receivers = slice_set b.receivers r next }
+
+      module _ (words : List ℕ) (same : words ≡ b.side.words) where
+        recv_does : Happens X b (Recv r) (with_reader words)
+        recv_does = (ap (λ z. record b.side { words = z }) same, subst (λ o. ReceiverDoes b.side.words b.receivers r o (slice_set b.receivers r next)) (sym old) (next, turn, does, refl))
+
+        pub recv_happens : Happens X now.bus (Recv r) (with_reader words)
+        recv_happens = subst (λ z. Happens X z.bus (Recv r) (with_reader words)) is recv_does
+
+        pub recv_sits : IsSitting P record { layout = x; bus = with_reader words }
+        recv_sits = sitting_after X P x laws width starts owner_is b (with_reader words) (Recv r) h tt recv_does
+
+      pub recv_answers : RecvAnswers now.bus.side.words now.bus.receivers r (slice_get now.bus.receivers r) (answer.Recv turn) (slice_set b.receivers r next)
+      recv_answers = subst (λ z. RecvAnswers z.bus.side.words z.bus.receivers r (slice_get z.bus.receivers r) (answer.Recv turn) (slice_set b.receivers r next)) is
+          (subst (λ o. RecvAnswers b.side.words b.receivers r o (answer.Recv turn) (slice_set b.receivers r next)) (sym old) (next, turn, does, refl, refl))

@@ -1,0 +1,26 @@
+-- Senders and receivers at their starts.
+use Rattle.std.specs.Prelude.{◌≡◌, ℕ, ◌<◌, Some, List, [], length, slice_get}
+use Rattle.bus_batch.specs.Reading.{HasRead}
+use Rattle.bus_deliverylog.specs.Receiving.{Receiving}
+use Rattle.bus_tenure.specs.Core.{Core, Layout}
+use Rattle.bus_world.specs.World.{new_core}
+
+-- so many senders, each at its start
+pub record AreNewCores {E : Type 0} (x : Layout) (many : ℕ) (senders : List (Core E)) : Type 0 where
+  pub many_are : length senders ≡ many
+  pub each : (p : ℕ) (c : Core E) → slice_get senders p ≡ Some c → (p < many) × (c ≡ new_core x p)
+
+-- a receiver at its start
+pub record IsNewReader (senders log capacity : ℕ) (v : Receiving) : Type 0 where
+  pub senders_are : v.frames.senders ≡ senders
+  pub log_is : v.log_at ≡ log
+  pub length_is : v.length_at ≡ 0
+  pub words_are : v.log_words ≡ capacity
+  pub known : v.known ≡ 0
+  pub place : v.place ≡ 0
+  pub read : HasRead senders [] [] v.frames
+
+-- so many receivers, each at its start
+pub record AreNewReaders (senders log capacity many : ℕ) (receivers : List Receiving) : Type 0 where
+  pub many_are : length receivers ≡ many
+  pub each : (r : ℕ) (v : Receiving) → slice_get receivers r ≡ Some v → IsNewReader senders log capacity v

@@ -1,0 +1,44 @@
+//! What may happen to a bus, and what it answers.
+
+use bus_batch::{CloseFault, PutFault};
+use bus_deliverylog::RecvTurn;
+use bus_tenure::Turn;
+
+/// What may happen next. Senders and receivers are numbered from 0.
+#[derive(Debug, Drop)]
+pub enum Event {
+    /// A message is put into the sender's batch.
+    Put { sender: u64, bytes: Vec<u8> },
+    /// The sender is to close the order.
+    Close(u64),
+    /// The sender takes a turn; `word` is the random word of a vote.
+    Turn { sender: u64, word: u32 },
+    /// The receiver takes a turn.
+    Recv(u64),
+}
+
+/// The answer to an event.
+#[derive(Debug, Drop)]
+pub enum Answer {
+    /// The number of the message that was put.
+    Number(u64),
+    Closing,
+    Turn(Turn),
+    Recv(RecvTurn),
+}
+
+/// Why an event is refused; of several causes the first counts. A refused event changes nothing.
+#[derive(Clone, Copy, Debug, PartialEq, Eq)]
+pub enum StepFault {
+    NoSuchSender,
+    NoSuchReceiver,
+    Put(PutFault),
+    Close(CloseFault),
+}
+
+/// The first event that was refused. Those before its place have happened, and no other.
+#[derive(Clone, Copy, Debug, PartialEq, Eq)]
+pub struct PlayFault {
+    pub place: usize,
+    pub why: StepFault,
+}

@@ -1,0 +1,66 @@
+//! The sizes of a bus.
+
+ghost use Rattle.std.specs.Prelude.{◌≡◌, IfSome, None, ◌≢◌};
+ghost use Rattle.bus_world.specs.Playing.{IsServed, MakeRefused};
+
+use bus_register::NoMemory;
+
+/// The sizes of a bus. `World::new` refuses all others than those named here.
+#[derive(Clone, Copy, Debug, PartialEq, Eq)]
+pub struct Shape {
+    /// 1 to 8.
+    pub senders: u64,
+    /// 1 to 8.
+    pub receivers: u64,
+    /// Of one binary decision: 1 to 8.
+    pub rounds: u64,
+    /// The tenures of a sitting: 1 to 256.
+    pub rows: u64,
+    /// 16 to 65,536.
+    pub log_words: u64,
+}
+
+/// Why no bus is made; of several causes the first counts.
+#[derive(Clone, Copy, Debug, PartialEq, Eq)]
+pub enum MakeFault {
+    Senders,
+    Receivers,
+    Rounds,
+    Rows,
+    LogWords,
+    /// Memory was refused.
+    NoMemory,
+}
+
+impl Shape {
+    /// Why it is not served; none where it is.
+    pub fn fault(self) -> Option<MakeFault>
+        ensures fault { IfSome result (MakeRefused self) }
+        ensures served { result ≡ None → IsServed self }
+        ensures no_memory { IfSome result (λ why. why ≢ MakeFault.NoMemory) }
+    {
+        if self.senders < 1 || self.senders > 8 {
+            Some(MakeFault::Senders)
+        } else if self.receivers < 1 || self.receivers > 8 {
+            Some(MakeFault::Receivers)
+        } else if self.rounds < 1 || self.rounds > 8 {
+            Some(MakeFault::Rounds)
+        } else if self.rows < 1 || self.rows > 256 {
+            Some(MakeFault::Rows)
+        } else if self.log_words < 16 || self.log_words > 65536 {
+            Some(MakeFault::LogWords)
+        } else {
+            None
+        }
+    }
+}
+
+impl From<NoMemory> for MakeFault {
+    ghost use Rattle.bus_world.specs.declared.shapes.MakeFault.TheVariants.{NoMemory as no_memory};
+
+    ghost from_gives = { λ _ fault. fault ≡ no_memory };
+
+    fn from(_error: NoMemory) -> MakeFault {
+        MakeFault::NoMemory
+    }
+}

@@ -1,0 +1,50 @@
+//! The senders and receivers of a new bus.
+
+ghost use Rattle.std.specs.Prelude.{◌≡◌, ℕ, ◌+◌, ◌*◌, ◌<◌, ◌≤◌, ◌^◌, [], length, slice_get, Some, IfOk};
+ghost use Rattle.bus_batch.specs.Reading.{HasRead};
+ghost use Rattle.bus_tenure.specs.Core.{words_of};
+ghost use Rattle.bus_tenure.specs.Elections.{layout_of};
+ghost use Rattle.bus_world.specs.Playing.{IsServed};
+ghost use Rattle.bus_world.specs.Starting.{AreNewCores, AreNewReaders};
+
+use crate::shapes::Shape;
+use bus_adoptcommit::Ratifier;
+use bus_deliverylog::Reader;
+use bus_register::{NoMemory, Reg, SenderNo};
+use bus_tenure::SenderCore;
+use std::alloc::Global;
+
+/// A sender for each number, with nothing pending.
+pub fn new_senders<Q: Ratifier + Drop>(
+    alloc: Global,
+    shape: Shape,
+) -> Result<Vec<SenderCore<Q>>, NoMemory>
+    requires served { IsServed shape }
+    requires room { words_of (layout_of Q.protocol shape.senders shape.rounds shape.rows shape.log_words) ≤ 2 ^ 63 }
+    ensures { IfOk result (λ senders. AreNewCores (layout_of Q.protocol shape.senders shape.rounds shape.rows shape.log_words) shape.senders senders.items) }
+{
+    let mut senders = Vec::new(alloc);
+    for me in 0..shape.senders {
+        let core = SenderCore::new(
+            shape.senders,
+            SenderNo(me as u8),
+            shape.rounds,
+            shape.rows,
+            shape.log_words,
+        );
+        senders.push(core)?;
+    }
+    Ok(senders)
+}
+
+/// A receiver for each number, at the first word of the log.
+pub fn new_receivers(alloc: Global, shape: Shape, log: Reg) -> Result<Vec<Reader>, NoMemory>
+    requires { log.0 + shape.log_words < 2 ^ 64 }
+    ensures { IfOk result (λ receivers. AreNewReaders shape.senders log.0 shape.log_words shape.receivers receivers.items) }
+{
+    let mut receivers = Vec::new(alloc);
+    for _ in 0..shape.receivers {
+        receivers.push(Reader::new(shape.senders, log, Reg(0), shape.log_words))?;
+    }
+    Ok(receivers)
+}

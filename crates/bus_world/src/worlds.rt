@@ -1,0 +1,281 @@
+//! A bus that plays events.
+
+ghost use Rattle.std.specs.Prelude.{◌≡◌, ℕ, ◌<◌, length, map, slice_get, List, Some, All, IfOk, IfErr, OnOk, OnErr};
+ghost use Rattle.std.specs.Option.{option_copied};
+ghost use Rattle.bus_batch.specs.Frames.{Frame, AreFrames, log_words, order_of};
+ghost use Rattle.bus_deliverylog.specs.Orders.{order_held};
+ghost use Rattle.bus_deliverylog.specs.Receiving.{Receiving};
+ghost use Rattle.bus_tenure.specs.Elections.{Elector, election_of, elections, layout_of};
+ghost use Rattle.bus_world.specs.declared.events.Answer.TheVariants as answer;
+ghost use Rattle.bus_world.specs.World.{Put, Close, Turn as SenderTurn, Recv, IsEvent, Happens, KeepsPromises, given_at};
+ghost use Rattle.bus_world.specs.Telling.{Tells};
+ghost use Rattle.bus_world.specs.Playing.{event_told, Answers, PutGives, CloseGives, Refused, IsMade, MakeRefused, log_of, Played, Stops};
+
+use crate::events::{Answer, Event, PlayFault, StepFault};
+use crate::shapes::{MakeFault, Shape};
+use crate::starts::{new_receivers, new_senders};
+use crate::turns::{close_to, note_owner, put_to, turn_receiver, turn_sender};
+use arrayvec::ArrayVec;
+use bus_adoptcommit::Ratifier;
+use bus_deliverylog::{Order, Reader, read_front, read_log};
+use bus_ownerbits::Election;
+use bus_ownerbits::laws::election_is_lawful;
+use bus_register::{Cells, NoMemory, Reg, SenderNo};
+use bus_tenure::{Page, SenderCore};
+use std::alloc::Global;
+use std::marker::Model;
+
+/// A bus: its words, its page, its senders and its receivers, which one caller moves by events.
+#[derive(Drop)]
+pub struct World<Q: Ratifier> {
+    shape: Shape,
+    cells: Cells,
+    home: Option<Page>,
+    senders: Vec<SenderCore<Q>>,
+    receivers: Vec<Reader>,
+    /// Who took the page, by tenure.
+    owners: ArrayVec<SenderNo, 256>,
+}
+
+impl<Q: Ratifier> Model for World<Q> {
+    ghost use Rattle.std.specs.Prelude.{map};
+    ghost use Rattle.bus_tenure.specs.Elections.{Elector, elections, layout_of};
+    ghost use Rattle.bus_world.specs.Playing.{Sitting, IsSitting};
+
+    ghost Value = { Sitting (Elector Q) };
+
+    ghost view = { λ w. record { layout = layout_of Q.protocol w.shape.senders w.shape.rounds w.shape.rows w.shape.log_words; bus = record { side = record { words = w.cells; home = w.home; senders = w.senders.items; owners = map (λ s. s.0) w.owners.items }; receivers = w.receivers.items } } };
+
+    ghost invariant = { λ w. IsSitting (elections Q.protocol w.shape.rounds) (record { layout = layout_of Q.protocol w.shape.senders w.shape.rounds w.shape.rows w.shape.log_words; bus = record { side = record { words = w.cells; home = w.home; senders = w.senders.items; owners = map (λ s. s.0) w.owners.items }; receivers = w.receivers.items } }) };
+}
+
+impl<Q: Ratifier + Drop> World<Q> {
+    /// A new bus, with its words at zero and its page at home.
+    pub fn new(alloc: Global, shape: Shape) -> Result<World<Q>, MakeFault>
+        ensures made { IfOk result (IsMade (layout_of Q.protocol shape.senders shape.rounds shape.rows shape.log_words) shape) }
+        ensures fault { IfErr result (MakeRefused shape) }
+    {
+        if let Some(fault) = shape.fault() {
+            return Err(fault);
+        }
+        election_is_lawful::<Q>();
+        let width = Election::<Q>::width(shape.senders, shape.rounds);
+        let log = 2 + shape.rows * width;
+        let cells = Cells::new(alloc, log + shape.log_words)?;
+        let senders = new_senders(alloc, shape)?;
+        let receivers = new_receivers(alloc, shape, Reg(log))?;
+        Ok(World {
+            shape,
+            cells,
+            home: Some(NEW_PAGE),
+            senders,
+            receivers,
+            owners: ArrayVec::new(),
+        })
+    }
+
+    /// A message is put into the batch of a sender.
+    fn put_at(&mut self, sender: u64, bytes: &[u8]) -> Result<u64, StepFault>
+        ensures bytes { All (λ byte. byte < 256) bytes.now }
+        ensures layout { self.new.layout ≡ self.old.layout }
+        ensures happens { let X = election_of Q.kind_of Q.op Q.fed Q.protocol in Happens X self.old.bus (Put sender bytes.now) self.new.bus }
+        ensures number { IfOk result (PutGives (slice_get self.old.bus.side.senders sender) (length bytes.now)) }
+        ensures fault { IfErr result (Refused self.old.bus (Put sender bytes.now)) }
+        ensures refused { OnErr result (self.new ≡ self.old) }
+    {
+        election_is_lawful::<Q>();
+        if sender >= self.senders.len() as u64 {
+            return Err(StepFault::NoSuchSender);
+        }
+        put_to(&mut self.senders[sender as usize], bytes)
+    }
+
+    /// An end mark waits at a sender.
+    fn close_at(&mut self, sender: u64) -> Result<(), StepFault>
+        ensures layout { self.new.layout ≡ self.old.layout }
+        ensures happens { let X = election_of Q.kind_of Q.op Q.fed Q.protocol in Happens X self.old.bus (Close sender) self.new.bus }
+        ensures could { OnOk result (CloseGives (slice_get self.old.bus.side.senders sender)) }
+        ensures fault { IfErr result (Refused self.old.bus (Close sender)) }
+        ensures refused { OnErr result (self.new ≡ self.old) }
+    {
+        election_is_lawful::<Q>();
+        if sender >= self.senders.len() as u64 {
+            return Err(StepFault::NoSuchSender);
+        }
+        close_to(&mut self.senders[sender as usize])
+    }
+
+    /// A sender takes a turn.
+    fn turn_at(&mut self, sender: u64, word: u32) -> Result<Answer, StepFault>
+        ensures layout { self.new.layout ≡ self.old.layout }
+        ensures happens { let X = election_of Q.kind_of Q.op Q.fed Q.protocol in Happens X self.old.bus (SenderTurn sender word) self.new.bus }
+        ensures answer { let X = election_of Q.kind_of Q.op Q.fed Q.protocol in IfOk result (λ a. Answers X self.old.bus (SenderTurn sender word) a self.new.bus) }
+        ensures tells { IfOk result (λ a. Tells (elections Q.protocol self.old.layout.rounds) self.old.layout self.old.bus (SenderTurn sender word) a self.new.bus) }
+        ensures fault { IfErr result (Refused self.old.bus (SenderTurn sender word)) }
+        ensures refused { OnErr result (self.new ≡ self.old) }
+    {
+        election_is_lawful::<Q>();
+        if sender >= self.senders.len() as u64 {
+            return Err(StepFault::NoSuchSender);
+        }
+        let core = &mut self.senders[sender as usize];
+        let turn = turn_sender(&mut self.cells, &mut self.home, core, word);
+        note_owner(&mut self.owners, SenderNo(sender as u8), turn);
+        Ok(Answer::Turn(turn))
+    }
+
+    /// A receiver takes a turn.
+    fn recv_at(&mut self, receiver: u64) -> Result<Answer, StepFault>
+        ensures layout { self.new.layout ≡ self.old.layout }
+        ensures happens { let X = election_of Q.kind_of Q.op Q.fed Q.protocol in Happens X self.old.bus (Recv receiver) self.new.bus }
+        ensures answer { let X = election_of Q.kind_of Q.op Q.fed Q.protocol in IfOk result (λ a. Answers X self.old.bus (Recv receiver) a self.new.bus) }
+        ensures fault { IfErr result (Refused self.old.bus (Recv receiver)) }
+        ensures refused { OnErr result (self.new ≡ self.old) }
+    {
+        election_is_lawful::<Q>();
+        if receiver as usize >= self.receivers.len() {
+            return Err(StepFault::NoSuchReceiver);
+        }
+        let reader = &mut self.receivers[receiver as usize];
+        Ok(Answer::Recv(turn_receiver(&mut self.cells, reader)))
+    }
+
+    /// A message is put into the batch of a sender, and gets this number. Takes no memory.
+    pub fn put(&mut self, sender: SenderNo, bytes: &[u8]) -> Result<u64, StepFault>
+        ensures layout { self.new.layout ≡ self.old.layout }
+        ensures happens { let X = election_of Q.kind_of Q.op Q.fed Q.protocol in Happens X self.old.bus (Put sender.0 bytes.now) self.new.bus }
+        ensures number { IfOk result (PutGives (slice_get self.old.bus.side.senders sender.0) (length bytes.now)) }
+        ensures fault { IfErr result (Refused self.old.bus (Put sender.0 bytes.now)) }
+        ensures refused { OnErr result (self.new ≡ self.old) }
+    {
+        self.put_at(u64::from(sender.0), bytes)
+    }
+
+    /// A sender is to close the order. Takes no memory.
+    pub fn close(&mut self, sender: SenderNo) -> Result<(), StepFault>
+        ensures layout { self.new.layout ≡ self.old.layout }
+        ensures happens { let X = election_of Q.kind_of Q.op Q.fed Q.protocol in Happens X self.old.bus (Close sender.0) self.new.bus }
+        ensures could { OnOk result (CloseGives (slice_get self.old.bus.side.senders sender.0)) }
+        ensures fault { IfErr result (Refused self.old.bus (Close sender.0)) }
+        ensures refused { OnErr result (self.new ≡ self.old) }
+    {
+        self.close_at(u64::from(sender.0))
+    }
+
+    /// What happens next, and its answer. A refused event changes nothing. Takes no memory.
+    pub fn step(&mut self, event: &Event) -> Result<Answer, StepFault>
+        ensures layout { self.new.layout ≡ self.old.layout }
+        ensures is { IsEvent (event_told event.now) }
+        ensures happens { let X = election_of Q.kind_of Q.op Q.fed Q.protocol in Happens X self.old.bus (event_told event.now) self.new.bus }
+        ensures answer { let X = election_of Q.kind_of Q.op Q.fed Q.protocol in IfOk result (λ a. Answers X self.old.bus (event_told event.now) a self.new.bus) }
+        ensures tells { IfOk result (λ a. Tells (elections Q.protocol self.old.layout.rounds) self.old.layout self.old.bus (event_told event.now) a self.new.bus) }
+        ensures fault { IfErr result (Refused self.old.bus (event_told event.now)) }
+        ensures refused { OnErr result (self.new ≡ self.old) }
+    {
+        match event {
+            Event::Put { sender, bytes } => Ok(Answer::Number(self.put_at(*sender, bytes)?)),
+            Event::Close(sender) => {
+                self.close_at(*sender)?;
+                Ok(Answer::Closing)
+            }
+            Event::Turn { sender, word } => self.turn_at(*sender, *word),
+            Event::Recv(receiver) => self.recv_at(*receiver),
+        }
+    }
+
+    /// Events, one after another, up to the first that is refused. Takes no memory.
+    pub fn play(&mut self, events: &[Event]) -> Result<(), PlayFault>
+        ensures layout { self.new.layout ≡ self.old.layout }
+        ensures played { let X = election_of Q.kind_of Q.op Q.fed Q.protocol in OnOk result (Played X (elections Q.protocol self.old.layout.rounds) self.old.layout self.old.bus (map event_told events.now) self.new.bus) }
+        ensures stopped { let X = election_of Q.kind_of Q.op Q.fed Q.protocol in IfErr result (λ fault. Stops X (elections Q.protocol self.old.layout.rounds) self.old.layout self.old.bus (map event_told events.now) fault.place fault.why self.new.bus) }
+    {
+        election_is_lawful::<Q>();
+        let _ = &self.shape;
+        for (place, event) in events.iter().enumerate() {
+            if let Err(why) = self.step(event) {
+                return Err(PlayFault { place, why });
+            }
+        }
+        Ok(())
+    }
+
+    /// Who took the page, by tenure.
+    pub fn owners(&self) -> &[SenderNo]
+        ensures { map (λ s. s.0) result.now ≡ self.now.bus.side.owners }
+    {
+        self.owners.as_slice()
+    }
+
+    /// The page, where it is at home.
+    pub fn page(&self) -> Option<&Page>
+        ensures { option_copied result ≡ self.now.bus.side.home }
+    {
+        self.home.as_ref()
+    }
+
+    /// A sender, where there is one of this number.
+    pub fn core(&self, sender: SenderNo) -> Option<&SenderCore<Q>>
+        ensures { option_copied result ≡ slice_get self.now.bus.side.senders sender.0 }
+    {
+        let number = usize::from(sender.0);
+        if number < self.senders.len() {
+            Some(&self.senders[number])
+        } else {
+            None
+        }
+    }
+
+    /// How many receivers there are.
+    pub fn receivers(&self) -> u64
+        ensures { result ≡ length self.now.bus.receivers }
+    {
+        self.receivers.len() as u64
+    }
+
+    /// The words of the log below the length.
+    pub fn log(&self) -> &[u64]
+        ensures { result.now ≡ log_of self.now }
+    {
+        let words = self.cells.as_slice();
+        let log = words.len() - self.shape.log_words as usize;
+        &words[log..log + words[0] as usize]
+    }
+
+    /// The order: what the frames below the length say. Memory is its only refusal.
+    pub fn order(&self, alloc: Global) -> Result<Order, NoMemory>
+        ensures { IfOk result (λ order. (frames : List Frame) → AreFrames self.now.layout.senders frames → log_of self.now ≡ log_words frames → order_held order ≡ order_of frames) }
+    {
+        match read_log(alloc, self.log(), self.shape.senders) {
+            Ok(read) => Ok(read.order),
+            Err(_) => Err(NoMemory),
+        }
+    }
+
+    /// What a receiver was given, which there must be. Memory is its only refusal.
+    pub fn given(&self, alloc: Global, receiver: u64) -> Result<Order, NoMemory>
+        requires { receiver < length self.now.bus.receivers }
+        ensures { IfOk result (λ order. (frames : List Frame) (v : Receiving) → AreFrames self.now.layout.senders frames → log_of self.now ≡ log_words frames → slice_get self.now.bus.receivers receiver ≡ Some v → order_held order ≡ given_at frames v) }
+    {
+        let place = self.receivers[receiver as usize].place();
+        match read_front(alloc, &self.log()[..place as usize], self.shape.senders) {
+            Ok(front) => Ok(front.order),
+            Err(_) => Err(NoMemory),
+        }
+    }
+
+    /// What a bus promises.
+    pub fn promises(&self)
+        ensures { (frames : List Frame) × KeepsPromises (elections Q.protocol self.now.layout.rounds) self.now.layout self.now.bus frames }
+    {
+        election_is_lawful::<Q>();
+        let _ = &self.shape;
+    }
+}
+
+/// The page of a new bus.
+const NEW_PAGE: Page = Page {
+    next: [0; 8],
+    ended: false,
+    tenures: 0,
+    words: 0,
+};
