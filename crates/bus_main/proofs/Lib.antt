@@ -7,3 +7,7 @@ pub mod SpelledLemmas
 pub mod TextLemmas
 pub mod RatifyLineLemmas
 pub mod ScriptSpelledLemmas
+pub mod HexLemmas
+pub mod RepeatLemmas
+pub mod PlayLemmas
+pub mod GivenLemmas

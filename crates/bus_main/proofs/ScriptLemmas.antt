@@ -21,7 +21,7 @@ pub record TakesSteps (n : ℕ) (words left : List (List ℕ)) (is_empty are_kno
   pub known : are_known ≡ list_all (λ p. ltb p n) steps
   pub taken : are_known ≡ true → new ≡ old ++ steps
 
-behind_one_more : (steps : List ℕ) (p : ℕ) (left : Option (List ℕ)) → behind (steps ++ p ∷ []) left ≡ behind steps (and_before (Some p) left)
+pub behind_one_more : (steps : List ℕ) (p : ℕ) (left : Option (List ℕ)) → behind (steps ++ p ∷ []) left ≡ behind steps (and_before (Some p) left)
 behind_one_more steps p None = refl
 behind_one_more steps p (Some left) = ap (λ l. Some l) (append_assoc steps (p ∷ []) left)
 

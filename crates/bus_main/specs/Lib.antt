@@ -6,3 +6,7 @@ pub mod RatifyScript
 pub mod RatifyLines
 pub mod RatifyText
 pub mod RatifyRun
+pub mod ReplayLines
+pub mod ReplayText
+pub mod ReplayRun
+pub mod ReplayTold

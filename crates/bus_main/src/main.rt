@@ -1,5 +1,5 @@
-//! The program `bus`. `bus ratify` reads a script from standard input and writes its answer to
-//! standard output.
+//! The program `bus`. `bus ratify` and `bus replay` read a script from standard input and write its
+//! answer to standard output.
 //!
 //! Exit status: 0 where the script was played; 1 where it was refused or the program could not do
 //! its work, which standard error then says; 2 where the command line was refused or asked for help.
@@ -9,6 +9,7 @@ mod command_line;
 mod grammar;
 mod outcomes;
 mod ratify;
+mod replay;
 mod streams;
 #[cfg(test)]
 mod tests;
@@ -16,6 +17,8 @@ mod tests;
 use self::command_line::{Task, parse};
 use self::outcomes::{Outcome, RunFault};
 use self::ratify::ratify;
+use self::replay::replay;
+use bus_adoptcommit::TwoCollect;
 use clap::error::ErrorKind;
 use std::process::ExitCode;
 use std::rt::Env;
@@ -41,6 +44,10 @@ fn bus<R: AllocGlobal + Env + Input + Print + Eprint>(rt: &R) -> ExitCode {
         Ok(Task::Ratify) => end(
             rt,
             ratify(rt.alloc(), &mut rt.reader(), &mut io::writer(rt)),
+        ),
+        Ok(Task::Replay) => end(
+            rt,
+            replay::<TwoCollect, _, _>(rt.alloc(), &mut rt.reader(), &mut io::writer(rt)),
         ),
         Err(error) if error.kind() == ErrorKind::OutOfMemory => end(rt, Err(RunFault::NoMemory)),
         Err(error) => {

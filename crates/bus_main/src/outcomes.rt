@@ -16,6 +16,13 @@ pub enum Outcome {
     Refused,
 }
 
+/// What a command writes for an input.
+#[derive(Debug, Drop)]
+pub struct Answer {
+    pub outcome: Outcome,
+    pub text: String,
+}
+
 /// Why a command could not do its work.
 #[derive(Clone, Copy, Debug, PartialEq, Eq)]
 pub enum RunFault {

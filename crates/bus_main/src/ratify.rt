@@ -14,20 +14,13 @@ pub mod text;
 use self::refusals::ReadingFault;
 use self::script::read_script;
 use self::text::{refusal_text, verdict_text};
-use crate::outcomes::{Outcome, RunFault};
+use crate::outcomes::{Answer, Outcome, RunFault};
 use crate::streams::{read_whole, write_whole};
 use bus_adoptcommit::TwoCollect;
 use bus_adoptcommit::objects::verdicts;
 use bus_adoptcommit::two_collect::two_collect_is_exact;
 use std::alloc::Global;
 use std::io::{Read, Write};
-
-/// What is written for an input.
-#[derive(Debug, Drop)]
-pub struct Answer {
-    pub outcome: Outcome,
-    pub text: String,
-}
 
 /// What is written for an input: verdicts, or the first refusal. Memory is its only error.
 pub fn answer_to(alloc: Global, input: &[u8]) -> Result<Answer, RunFault>

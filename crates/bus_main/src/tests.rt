@@ -1,11 +1,14 @@
 //! What no clause says: worked scripts with their texts, bad input, and streams that fail.
 
+mod replay;
+mod streams;
+
+use self::streams::{FailingReader, FullWriter, StuckWriter};
 use super::command_line::parse;
 use super::outcomes::{Outcome, RunFault};
 use super::ratify::ratify;
 use clap::error::ErrorKind;
 use std::io;
-use std::io::{Read, Write};
 use std::process::Abort;
 
 /// Plays a script, and wants this outcome and this text.
@@ -172,79 +175,22 @@ fn longest_script(rt: HostRuntime) {
 
 const SCRIPT: &[u8] = b"inputs 1\nsteps 0 0 0 0\n";
 
-/// Gives a script a byte at a time, and fails at a call.
-#[derive(Drop)]
-struct FailingReader {
-    calls: usize,
-    fails_at: usize,
-    kind: io::ErrorKind,
-}
-
-impl Read for FailingReader {
-    fn read(&mut self, buf: &mut [u8]) -> io::Result<usize> {
-        let call = self.calls;
-        self.calls = call.saturating_add(1);
-        if call == self.fails_at {
-            return Err(io::Error::from(self.kind));
-        }
-        if call < SCRIPT.len() && !buf.is_empty() {
-            buf[0] = SCRIPT[call];
-            return Ok(1);
-        }
-        Ok(0)
-    }
-}
-
 #[test]
 fn failing_reader(rt: HostRuntime) {
     for fails_at in [0, 1, 11, SCRIPT.len() - 1, SCRIPT.len()] {
         for kind in [io::ErrorKind::Other, io::ErrorKind::Interrupted] {
-            let mut reader = FailingReader {
-                calls: 0,
-                fails_at,
-                kind,
-            };
+            let mut reader = FailingReader::new(SCRIPT, fails_at, kind);
             let mut written = Vec::new(rt.alloc());
             let result = ratify(rt.alloc(), &mut reader, &mut written);
             assert_eq!(rt; result, Err(RunFault::Read), "at call {fails_at}");
             assert!(rt; written.is_empty(), "at call {fails_at}");
         }
     }
-    let mut reader = FailingReader {
-        calls: 0,
-        fails_at: SCRIPT.len() + 1,
-        kind: io::ErrorKind::Other,
-    };
+    let mut reader = FailingReader::new(SCRIPT, SCRIPT.len() + 1, io::ErrorKind::Other);
     let mut written = Vec::new(rt.alloc());
     let result = ratify(rt.alloc(), &mut reader, &mut written);
     assert_eq!(rt; result, Ok(Outcome::Done));
     assert_eq!(rt; written.as_slice(), b"0 commit 1\n".as_slice());
-}
-
-/// Takes some bytes, and then fails or takes no more.
-#[derive(Drop)]
-struct FullWriter {
-    written: Vec<u8>,
-    room: usize,
-    fails: bool,
-}
-
-impl Write for FullWriter {
-    fn write(&mut self, buf: &[u8]) -> io::Result<usize> {
-        if self.written.len() < self.room && !buf.is_empty() {
-            self.written.push(buf[0])?;
-            return Ok(1);
-        }
-        if self.fails {
-            Err(io::Error::from(io::ErrorKind::Other))
-        } else {
-            Ok(0)
-        }
-    }
-
-    fn flush(&mut self) -> io::Result<()> {
-        Ok(())
-    }
 }
 
 #[test]
@@ -253,11 +199,7 @@ fn failing_writer(rt: HostRuntime) {
     for fails in [false, true] {
         for room in [0, 1, 5, 10] {
             let mut reader = SCRIPT;
-            let mut writer = FullWriter {
-                written: Vec::new(rt.alloc()),
-                room,
-                fails,
-            };
+            let mut writer = FullWriter::new(rt.alloc(), room, fails);
             let result = ratify(rt.alloc(), &mut reader, &mut writer);
             assert_eq!(rt; result, Err(RunFault::Write), "with room for {room}");
             assert_eq!(rt;
@@ -267,40 +209,17 @@ fn failing_writer(rt: HostRuntime) {
             );
         }
         let mut reader = SCRIPT;
-        let mut writer = FullWriter {
-            written: Vec::new(rt.alloc()),
-            room: 11,
-            fails,
-        };
+        let mut writer = FullWriter::new(rt.alloc(), 11, fails);
         let result = ratify(rt.alloc(), &mut reader, &mut writer);
         assert_eq!(rt; result, Ok(Outcome::Done));
         assert_eq!(rt; writer.written.as_slice(), text.as_slice());
     }
 }
 
-/// Takes all bytes, and then fails to pass them on.
-#[derive(Drop)]
-struct StuckWriter {
-    written: Vec<u8>,
-}
-
-impl Write for StuckWriter {
-    fn write(&mut self, buf: &[u8]) -> io::Result<usize> {
-        self.written.extend_from_slice(buf)?;
-        Ok(buf.len())
-    }
-
-    fn flush(&mut self) -> io::Result<()> {
-        Err(io::Error::from(io::ErrorKind::Other))
-    }
-}
-
 #[test]
 fn stuck_writer(rt: HostRuntime) {
     let mut reader = SCRIPT;
-    let mut writer = StuckWriter {
-        written: Vec::new(rt.alloc()),
-    };
+    let mut writer = StuckWriter::new(rt.alloc());
     let result = ratify(rt.alloc(), &mut reader, &mut writer);
     assert_eq!(rt; result, Err(RunFault::Write));
     assert_eq!(rt; writer.written.as_slice(), b"0 commit 1\n".as_slice());
@@ -329,6 +248,7 @@ fn command_lines(rt: HostRuntime) {
     refuses_words(&rt, &["x"], ErrorKind::InvalidSubcommand);
     refuses_words(&rt, &["help"], ErrorKind::InvalidSubcommand);
     refuses_words(&rt, &["ratify", "x"], ErrorKind::UnknownArgument);
+    refuses_words(&rt, &["replay", "x"], ErrorKind::UnknownArgument);
     refuses_words(&rt, &["--help"], ErrorKind::DisplayHelp);
     refuses_words(&rt, &["ratify", "-h"], ErrorKind::DisplayHelp);
 }

@@ -1,0 +1,127 @@
+-- What `replay` prints.
+use Rattle.std.specs.Prelude.{ℕ, ◌+◌, ◌/◌, ◌%◌, Bool, true, false, List, [], ◌∷◌, ◌++◌, length, codes, decimal, flat_map, nat_lt, if◌then◌else◌}
+use Rattle.std.specs.List.{enumerate_from}
+use Rattle.bus_batch.specs.declared.batches.CloseFault.{CloseFault}
+use Rattle.bus_batch.specs.declared.batches.CloseFault.TheVariants as close
+use Rattle.bus_batch.specs.declared.batches.PutFault.{PutFault}
+use Rattle.bus_batch.specs.declared.batches.PutFault.TheVariants as put
+use Rattle.bus_batch.specs.declared.messages.Item.{Item}
+use Rattle.bus_batch.specs.Frames.{Order}
+use Rattle.bus_deliverylog.specs.declared.receiving.RecvTurn.{RecvTurn}
+use Rattle.bus_deliverylog.specs.declared.receiving.RecvTurn.TheVariants as recv
+use Rattle.bus_tenure.specs.declared.turns.Turn.{Turn as Turned}
+use Rattle.bus_tenure.specs.declared.turns.Turn.TheVariants as turn
+use Rattle.bus_world.specs.World.{Event, Put, Close, Turn, Recv}
+use Rattle.bus_world.specs.declared.events.Answer.{Answer}
+use Rattle.bus_world.specs.declared.events.Answer.TheVariants as answer
+use Rattle.bus_world.specs.declared.events.StepFault.{StepFault}
+use Rattle.bus_world.specs.declared.events.StepFault.TheVariants as fault
+use Rattle.bus_world.specs.declared.shapes.MakeFault.{MakeFault}
+use Rattle.bus_world.specs.declared.shapes.MakeFault.TheVariants as make
+
+-- ---- bytes
+
+-- a digit below 16, in lower case
+abbrev pub hex_digit : ℕ → ℕ
+hex_digit n = if nat_lt n 10 then 48 + n else 87 + n
+
+abbrev pub hex_text : List ℕ → List ℕ
+hex_text [] = codes "-"
+hex_text (b ∷ bytes) = flat_map (λ byte. hex_digit (byte / 16) ∷ hex_digit (byte % 16) ∷ []) (b ∷ bytes)
+
+-- a number behind a space
+abbrev pub behind : ℕ → List ℕ
+behind n = 32 ∷ decimal n
+
+-- ---- answers
+
+abbrev pub turn_text : Turned → List ℕ
+turn_text turn.Idle = codes "idle"
+turn_text turn.Waiting = codes "waiting"
+turn_text turn.Going = codes "going"
+turn_text (turn.Lost t o) = codes "lost" ++ behind t ++ behind o.0
+turn_text (turn.Own t) = codes "own" ++ behind t
+turn_text (turn.Delivered t first last) = codes "delivered" ++ behind t ++ behind first ++ behind last
+turn_text turn.Full = codes "full"
+turn_text turn.Closed = codes "closed"
+turn_text turn.Spent = codes "spent"
+
+-- sender, number and message of an item
+abbrev pub item_text : Item → List ℕ
+item_text i = behind i.sender.0 ++ behind i.number ++ 32 ∷ hex_text i.message
+
+abbrev pub recv_text : RecvTurn → List ℕ
+recv_text recv.Going = codes "going"
+recv_text recv.Empty = codes "empty"
+recv_text (recv.Head t o) = codes "head" ++ behind t ++ behind o.0
+recv_text (recv.Item i) = codes "item" ++ item_text i
+recv_text recv.End = codes "end"
+
+abbrev pub answer_text : Answer → List ℕ
+answer_text (answer.Number n) = codes "number" ++ behind n
+answer_text answer.Closing = codes "closing"
+answer_text (answer.Turn t) = turn_text t
+answer_text (answer.Recv t) = recv_text t
+
+-- who is asked
+abbrev pub event_text : Event → List ℕ
+event_text (Put s bytes) = codes "put" ++ behind s
+event_text (Close s) = codes "close" ++ behind s
+event_text (Turn s word) = codes "turn" ++ behind s
+event_text (Recv r) = codes "recv" ++ behind r
+
+-- the line of a command that was answered
+abbrev pub answer_line : Event → Answer → List ℕ
+answer_line e a = event_text e ++ codes ": " ++ answer_text a ++ 10 ∷ []
+
+-- ---- refusals
+
+abbrev pub put_fault_name : PutFault → List ℕ
+put_fault_name put.Closed = codes "Closed"
+put_fault_name put.Busy = codes "Busy"
+put_fault_name put.TooLong = codes "TooLong"
+put_fault_name put.BatchFull = codes "BatchFull"
+
+abbrev pub close_fault_name : CloseFault → List ℕ
+close_fault_name close.Closed = codes "Closed"
+close_fault_name close.Busy = codes "Busy"
+close_fault_name close.Pending = codes "Pending"
+
+abbrev pub step_fault_name : StepFault → List ℕ
+step_fault_name fault.NoSuchSender = codes "NoSuchSender"
+step_fault_name fault.NoSuchReceiver = codes "NoSuchReceiver"
+step_fault_name (fault.Put why) = put_fault_name why
+step_fault_name (fault.Close why) = close_fault_name why
+
+-- want of memory is no refusal of a script, and is never printed
+abbrev pub make_fault_name : MakeFault → List ℕ
+make_fault_name make.Senders = codes "Senders"
+make_fault_name make.Receivers = codes "Receivers"
+make_fault_name make.Rounds = codes "Rounds"
+make_fault_name make.Rows = codes "Rows"
+make_fault_name make.LogWords = codes "LogWords"
+make_fault_name make.NoMemory = codes "NoMemory"
+
+-- ---- the closing lines
+
+abbrev pub owners_line : List ℕ → List ℕ
+owners_line owners = codes "owners" ++ flat_map behind owners ++ 10 ∷ []
+
+abbrev pub end_text : Bool → List ℕ
+end_text true = codes " end"
+end_text false = []
+
+abbrev pub order_end : Bool → List ℕ
+order_end true = codes "order end" ++ 10 ∷ []
+order_end false = []
+
+-- a line for each item, and one for the end
+abbrev pub order_text : Order → List ℕ
+order_text q = flat_map (λ i. codes "order" ++ item_text i ++ 10 ∷ []) q.items ++ order_end q.ended
+
+abbrev pub given_line : ℕ → Order → List ℕ
+given_line r q = codes "given" ++ behind r ++ behind (length q.items) ++ end_text q.ended ++ 10 ∷ []
+
+-- a line for each receiver, in order
+abbrev pub given_text : List Order → List ℕ
+given_text given = flat_map (λ g. given_line g.0 g.1) (enumerate_from 0 given)
