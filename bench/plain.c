@@ -1,0 +1,171 @@
+// A plain interpreter of `replay` scripts, for comparison: written from docs/PROTOCOL.md and docs/FORMATS.md, with no check of
+// the script's form. It reads standard input and writes standard output. With an argument it passes over each line that would
+// be refused, and names it on standard error.
+#include <stdint.h>
+#include <stdio.h>
+#include <stdlib.h>
+#include <string.h>
+typedef uint64_t u64;
+enum { REST, ELECT, HOLD };
+enum { ANNOUNCE, PROPOSE, READ_PROPOSALS, VERDICT, READ_VERDICTS, MARK, OTHER_MARK, VOTE, READ_VOTES, FALLBACK, SEARCH, WON };
+struct round { u64 proposal[8], verdict[8], mark[2], votes[8]; };
+struct row { u64 announced[8], fallback[3]; struct round round[3][8]; };
+struct page { u64 next[8], ended, words; } home;
+struct sender {
+    char *messages[16]; u64 len[16], count, first, least, tenure, stored, words;
+    int closing, closed, busy, phase, at, bit, spelled, candidate, round, value, j, same, commit, own_votes, published;
+    int64_t total; struct page page; u64 frame[129];
+} S[8];
+struct receiver { u64 place, known, left, tenure, owner, number, bytes, got, count, fresh; int ended; unsigned char data[64]; } M[8];
+static u64 n, m, R, T, L, B, stage, length, *word_of_log, owners[256], owner_count;
+static struct row *rows;
+static char *out; static size_t used, room;
+static void say(const char *format, u64 a, u64 b, u64 c, u64 d) {
+    if (room - used < 256) out = realloc(out, room = 2 * room + 4096);
+    used += sprintf(out + used, format, a, b, c, d);
+}
+static void say_hex(const unsigned char *bytes, u64 len) {
+    if (!len) say(" -", 0, 0, 0, 0); else say(" ", 0, 0, 0, 0);
+    for (u64 i = 0; i < len; i++) say("%02lx", bytes[i], 0, 0, 0);
+}
+static void start_bit(struct sender *s) { s->round = 0; s->value = s->candidate >> s->bit & 1; s->at = PROPOSE; }
+static int fits(struct sender *s, u64 i) { return i < n && (int)(i >> (s->bit + 1)) == s->spelled; }
+static void next_search(struct sender *s) { while ((u64)s->j < n && !fits(s, s->j)) s->j++; }
+static int decided(struct sender *s, u64 me, int v) { // true where the election is lost
+    s->spelled = 2 * s->spelled + v;
+    if (s->bit == 0) { s->at = WON; return s->spelled != (int)me; }
+    int fitting = (s->candidate >> s->bit & 1) == v;
+    s->bit--;
+    if (fitting) { start_bit(s); return 0; }
+    s->at = SEARCH; s->j = 0; next_search(s);
+    return 0;
+}
+static int after_ratifier(struct sender *s, u64 me, int commit, int v) {
+    s->value = v;
+    if (commit) return decided(s, me, v);
+    if ((u64)s->round + 1 == R) { s->at = FALLBACK; return 0; }
+    s->round++; s->at = MARK;
+    return 0;
+}
+static int elect(struct sender *s, u64 me, uint32_t random) {
+    struct row *row = &rows[s->tenure]; struct round *r = &row->round[s->bit][s->round]; u64 w; int v;
+    switch (s->at) {
+    case ANNOUNCE: row->announced[me] = 1; if (!B) { s->at = WON; return 0; } s->bit = B - 1; start_bit(s); return 0;
+    case PROPOSE: r->proposal[me] = 1 + s->value; s->j = 0; s->same = 1; s->at = READ_PROPOSALS; return 0;
+    case READ_PROPOSALS: w = r->proposal[s->j]; if (w && w != 1 + (u64)s->value) s->same = 0; if ((u64)++s->j == n) s->at = VERDICT; return 0;
+    case VERDICT: r->verdict[me] = (s->same ? 3 : 1) + s->value; s->j = 0; s->same = 1; s->commit = -1; s->at = READ_VERDICTS; return 0;
+    case READ_VERDICTS: w = r->verdict[s->j]; if (w >= 3) s->commit = w - 3; else if (w) s->same = 0; if ((u64)++s->j < n) return 0;
+        return after_ratifier(s, me, s->commit >= 0 && s->same, s->commit >= 0 ? s->commit : s->value);
+    case MARK: r->mark[s->value] = 1; s->at = OTHER_MARK; return 0;
+    case OTHER_MARK: s->at = r->mark[1 - s->value] ? VOTE : PROPOSE; s->own_votes = 0; return 0;
+    case VOTE: r->votes[me] += random & 1 ? 1ull << 32 : 1; s->own_votes++; s->j = 0; s->total = 0; s->at = READ_VOTES; return 0;
+    case READ_VOTES: w = r->votes[s->j]; s->total += (int64_t)(w >> 32) - (int64_t)(w & 0xffffffff); if ((u64)++s->j < n) return 0;
+        if (s->total >= 2 * (int64_t)n || s->total <= -2 * (int64_t)n || s->own_votes == 64) { s->value = s->total > 0; s->at = PROPOSE; } else s->at = VOTE;
+        return 0;
+    case FALLBACK: if (!row->fallback[s->bit]) row->fallback[s->bit] = 1 + s->value; v = row->fallback[s->bit] - 1; return decided(s, me, v);
+    default: w = row->announced[s->j]; if (w) { s->candidate = s->j; start_bit(s); } else { s->j++; next_search(s); } return 0;
+    }
+}
+static u64 make_frame(struct sender *s, u64 me) {
+    u64 k = 1;
+    if (s->closing) s->frame[k++] = 3ull << 62;
+    for (u64 i = 0; i < s->count; i++) {
+        s->frame[k++] = 1ull << 63 | s->len[i] << 54 | (s->first + i);
+        for (u64 b = 0; b < s->len[i]; b += 8) { u64 w = 0; for (u64 j = b; j < b + 8; j++) w = w << 8 | (j < s->len[i] ? (unsigned char)s->messages[i][j] : 0); s->frame[k++] = w; }
+    }
+    s->frame[0] = 1ull << 62 | me << 54 | (k - 1) << 40 | s->tenure;
+    return k;
+}
+static int give_back(struct sender *s) { home = s->page; stage = 2 * s->tenure + 2; s->least = s->tenure + 1; s->phase = REST; s->busy = 0; return 0; }
+static int turn(u64 me, uint32_t random) { // true where it is going; else its answer stands in the text
+    struct sender *s = &S[me];
+    if (s->phase == REST) {
+        if (s->closed) { say("closed\n", 0, 0, 0, 0); return 0; }
+        if (!s->count && !s->closing) { say("idle\n", 0, 0, 0, 0); return 0; }
+        if (s->least >= T) { say("spent\n", 0, 0, 0, 0); return 0; }
+        if (stage & 1 || stage / 2 < s->least) { say("waiting\n", 0, 0, 0, 0); return 0; }
+        if (stage / 2 >= T) { s->least = stage / 2; say("spent\n", 0, 0, 0, 0); return 0; }
+        s->tenure = stage / 2; s->phase = ELECT; s->at = ANNOUNCE; s->busy = 1; s->candidate = me; s->spelled = 0;
+        return 1;
+    }
+    if (s->phase == ELECT && s->at != WON) {
+        if (!elect(s, me, random)) return 1;
+        s->phase = REST; s->busy = 0; s->least = s->tenure + 1; say("lost %lu %lu\n", s->tenure, s->spelled, 0, 0); return 0;
+    }
+    if (s->phase == ELECT) {
+        stage = 2 * s->tenure + 1; s->page = home; s->phase = HOLD; s->stored = 0; s->published = 0; s->words = make_frame(s, me); owners[owner_count++] = me;
+        say("own %lu\n", s->tenure, 0, 0, 0); return 0;
+    }
+    if (s->published) {
+        s->page.words += s->words; s->page.next[me] = s->first + s->count; s->page.ended = s->closing; give_back(s);
+        if (s->closing) { s->closed = 1; say("closed\n", 0, 0, 0, 0); return 0; }
+        say("delivered %lu %lu %lu\n", s->tenure, s->first, s->first + s->count - 1, 0); s->first += s->count; s->count = 0; return 0;
+    }
+    if (s->page.ended) { give_back(s); s->closed = 1; say("closed\n", 0, 0, 0, 0); return 0; }
+    if (s->page.words + s->words > L) { give_back(s); say("full\n", 0, 0, 0, 0); return 0; }
+    if (s->stored < s->words) { word_of_log[s->page.words + s->stored] = s->frame[s->stored]; s->stored++; return 1; }
+    length = s->page.words + s->words; s->published = 1;
+    return 1;
+}
+static int recv(u64 me) { // true where it goes on
+    struct receiver *r = &M[me]; u64 w;
+    if (r->ended) { used = r->fresh; say("end\n", 0, 0, 0, 0); return 0; }
+    if (r->place == r->known) { if (length == r->known) { used = r->fresh; say("empty\n", 0, 0, 0, 0); return 0; } r->known = length; used = r->fresh; say("going\n", 0, 0, 0, 0); return 1; }
+    w = word_of_log[r->place++]; used = r->fresh;
+    if (!r->left) { r->left = w >> 40 & 0x3fff; r->owner = w >> 54 & 0xff; say("head %lu %lu\n", w & 0xffffffffff, r->owner, 0, 0); return 1; }
+    r->left--;
+    if (r->got >= r->bytes) {
+        if (w >> 62 == 3) { r->ended = 1; say("end\n", 0, 0, 0, 0); return 0; }
+        r->bytes = w >> 54 & 0xff; r->number = w & 0xffffffffffff; r->got = 0;
+    } else for (int j = 0; j < 8; j++) r->data[r->got++] = w >> (56 - 8 * j);
+    if (r->got < r->bytes) { say("going\n", 0, 0, 0, 0); return 1; }
+    r->count++; say("item %lu %lu", r->owner, r->number, 0, 0); say_hex(r->data, r->bytes); say("\n", 0, 0, 0, 0); r->got = r->bytes = 0;
+    return 1;
+}
+static int refused(int passes, u64 number, const char *why) { // true where the script ends there
+    if (passes) { fprintf(stderr, "%lu\n", number); return 0; }
+    say("line %lu: ", number, 0, 0, 0); say(why, 0, 0, 0, 0); say("\n", 0, 0, 0, 0);
+    return 1;
+}
+int main(int argc, char **argv) {
+    static char text[1 << 20 | 1]; size_t size = fread(text, 1, sizeof text - 1, stdin); char *line = text; u64 s, w, k, number = 0; text[size] = 0;
+    for (char *end; *line; line = end + 1) {
+        end = strchr(line, '\n'); if (!end) { end = line + strlen(line); end[1] = 0; } number++; *end = 0;
+        if (!*line || *line == '#') continue;
+        if (*line == 's') {
+            sscanf(line, "shape %lu %lu %lu %lu %lu", &n, &m, &R, &T, &L); while (1u << B < n) B++;
+            rows = calloc(T, sizeof *rows); word_of_log = calloc(L, 8);
+        } else if (*line == 'p') {
+            s = strtoul(line + 4, &line, 10); struct sender *p = &S[s]; line++; k = *line == '-' ? 0 : strlen(line) / 2;
+            const char *why = p->closing || p->closed ? "Closed" : p->busy ? "Busy" : k > 56 ? "TooLong" : p->count == 16 ? "BatchFull" : 0;
+            if (s >= n) why = "NoSuchSender";
+            if (why) { if (refused(argc > 1, number, why)) goto stop; continue; }
+            p->messages[p->count] = malloc(k + 1); p->len[p->count] = k; for (u64 i = 0; i < k; i++) { unsigned b; sscanf(line + 2 * i, "%2x", &b); p->messages[p->count][i] = b; }
+            say("put %lu: number %lu\n", s, p->first + p->count, 0, 0); p->count++;
+        } else if (*line == 'c') {
+            s = strtoul(line + 6, 0, 10); struct sender *p = &S[s]; const char *why = s >= n ? "NoSuchSender" : p->closing || p->closed ? "Closed" : p->busy ? "Busy" : p->count ? "Pending" : 0;
+            if (why) { if (refused(argc > 1, number, why)) goto stop; continue; }
+            p->closing = 1; say("close %lu: closing\n", s, 0, 0, 0);
+        } else if (*line == 't') {
+            s = strtoul(line + 5, &line, 10); w = strtoul(line, &line, 10); k = strtoul(line, 0, 10);
+            if (s >= n) { if (refused(argc > 1, number, "NoSuchSender")) goto stop; continue; }
+            say("turn %lu: ", s, 0, 0, 0); int going = 1; while (k-- && (going = turn(s, w))) {} if (going) say("going\n", 0, 0, 0, 0);
+        } else {
+            s = strtoul(line + 5, &line, 10); k = strtoul(line, 0, 10);
+            if (s >= m) { if (refused(argc > 1, number, "NoSuchReceiver")) goto stop; continue; }
+            say("recv %lu: ", s, 0, 0, 0); M[s].fresh = used; while (k-- && recv(s)) {}
+        }
+    }
+    say("owners", 0, 0, 0, 0); for (u64 i = 0; i < owner_count; i++) say(" %lu", owners[i], 0, 0, 0); say("\n", 0, 0, 0, 0);
+    M[7].ended = 0; struct receiver all = {0}; struct receiver kept = M[7]; M[7] = all;
+    for (;;) { // the order is what a receiver would be given of the whole log
+        size_t before = used; M[7].fresh = used; int more = recv(7);
+        if (!strncmp(out + before, "item", 4)) { memmove(out + before + 5, out + before + 4, used - before - 4); memcpy(out + before, "order", 5); used++; } else if (M[7].ended) { used = before; say("order end\n", 0, 0, 0, 0); } else used = before;
+        if (!more) break;
+    }
+    M[7] = kept;
+    for (u64 i = 0; i < m; i++) { say("given %lu %lu", i, M[i].count, 0, 0); say(M[i].ended ? " end\n" : "\n", 0, 0, 0, 0); }
+stop:
+    fwrite(out, 1, used, stdout);
+    return 0;
+}
