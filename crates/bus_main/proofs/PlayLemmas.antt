@@ -1,36 +1,15 @@
 -- The lines of a script of `replay`, obeyed one by one.
-use Rattle.std.proofs.Common.{◌≡◌, ℕ, ◌-◌, List, [], ◌∷◌, ◌++◌, Option, Some, None, Result, Ok, Err, IfOk, codes, refl, sym, ap, subst, ◌∙◌, append_assoc, inl, inr}
+use Rattle.std.proofs.Common.{◌≡◌, ℕ, List, [], ◌∷◌, ◌++◌, Some, Result, Ok, Err, IfOk, refl, sym, ap, subst, ◌∙◌, append_assoc, inr}
 use Rattle.bus_tenure.specs.Core.{Election, Layout}
 use Rattle.bus_world.specs.World.{Bus}
-use Rattle.bus_world.specs.Playing.{Sitting, Refused, IsMade}
-use Rattle.bus_world.specs.declared.events.Answer.{Answer}
-use Rattle.bus_world.specs.declared.events.StepFault.{StepFault}
-use Rattle.bus_main.specs.declared.grammar.places.Place.TheVariants.{AtLine}
+use Rattle.bus_world.specs.Playing.{Sitting, IsMade}
 use Rattle.bus_world.specs.declared.shapes.Shape.{Shape}
 use Rattle.bus_main.specs.declared.outcomes.Outcome.{Outcome}
 use Rattle.bus_main.specs.declared.outcomes.Outcome.TheVariants as outcome
 use Rattle.bus_main.specs.Grammar.{script_lines}
-use Rattle.bus_main.specs.Printed.{refusal_line}
-use Rattle.bus_main.specs.ReplayLines.{Command, shape_of, command_of}
-use Rattle.bus_main.specs.ReplayText.{answer_line, step_fault_name}
-use Rattle.bus_main.specs.ReplayRun.{End, Left, Stopped, Repeats, Asked, Prints, Closes, Ends, Begins, Replays, IsReplay}
+use Rattle.bus_main.specs.ReplayLines.{shape_of}
+use Rattle.bus_main.specs.ReplayRun.{End, Left, Stopped, Prints, Closes, Ends, Begins, Replays, IsReplay}
 use Rattle.bus_main.specs.ReplayTold.{IsObeyed, ArePlayed}
-
--- ---- one line
-
-pub bad_line : {E : Type 0} (X : Election E) (b new : Bus E) (line : ℕ × List ℕ) → command_of line.1 ≡ None → IsObeyed X b line outcome.Refused (refusal_line (AtLine line.0) (codes "BadLine")) new
-bad_line {E} X b new line none lines =
-    subst (λ o. Asked X b line.0 o (λ mid rest stop. Prints X mid lines rest stop) [] (Stopped (refusal_line (AtLine line.0) (codes "BadLine")))) (sym none) (refl, refl)
-
-pub refused_line : {E : Type 0} (X : Election E) (b new : Bus E) (line : ℕ × List ℕ) (c : Command) (why : StepFault) → command_of line.1 ≡ Some c → Refused b c.event why
-    → IsObeyed X b line outcome.Refused (refusal_line (AtLine line.0) (step_fault_name why)) new
-refused_line X b new line c why some refused lines =
-    subst (λ o. Asked X b line.0 o (λ mid rest stop. Prints X mid lines rest stop) [] (Stopped (refusal_line (AtLine line.0) (step_fault_name why)))) (sym some) (inl (why, refused, refl, refl))
-
-pub answered_line : {E : Type 0} (X : Election E) (b new : Bus E) (line : ℕ × List ℕ) (c : Command) (last : Answer) → command_of line.1 ≡ Some c → Repeats X b c.event (c.times - 1) last new
-    → IsObeyed X b line outcome.Done (answer_line c.event last) new
-answered_line X b new line c last some repeats lines rest end behind =
-    subst (λ o. Asked X b line.0 o (λ mid after stop. Prints X mid lines after stop) (answer_line c.event last ++ rest) end) (sym some) (inr (new, last, rest, repeats, behind, refl))
 
 -- ---- all lines
 
@@ -44,9 +23,7 @@ all_of : (bytes : List ℕ) → bytes ++ [] ≡ bytes
 all_of [] = refl
 all_of (b ∷ bytes) = ap (λ (l : List ℕ). b ∷ l) (all_of bytes)
 
-pub none_played : {E : Type 0} (X : Election E) (b : Bus E) (lines : List (ℕ × List ℕ)) (text : List ℕ) → Played X b lines lines text text b
-none_played X b lines text = record { printed = []; text_is = sym (all_of text); from_first = λ rest end p. p }
-
+-- one more line was obeyed
 pub one_played : {E : Type 0} (X : Election E) (b : Bus E) (lines left behind : List (ℕ × List ℕ)) (line : ℕ × List ℕ) (old mid new : List ℕ) (now next : Bus E) (o : Outcome) → Played X b lines left old mid now → left ≡ line ∷ behind
     → o ≡ outcome.Done → (added : List ℕ) × IsObeyed X now line o added next × (new ≡ mid ++ added) → Played X b lines behind old new next
 one_played {E} X b lines left behind line old mid new now next o h is done obeyed =
@@ -59,10 +36,12 @@ one_played {E} X b lines left behind line old mid new now next o h is done obeye
           (h.from_first (added ++ rest) end (subst (λ l. Prints X now l (added ++ rest) end) (sym is) (goes_on behind rest end p)));
     }
 
+-- no line is left
 pub all_played : {E : Type 0} (X : Election E) (b : Bus E) (lines left : List (ℕ × List ℕ)) (old new : List ℕ) (now : Bus E) → Played X b lines left old new now → left ≡ [] → (added : List ℕ) × ArePlayed X b lines outcome.Done added now × (new ≡ old ++ added)
 all_played {E} X b lines left old new now h none =
     (h.printed, subst (λ l. Prints X b lines l (Left now)) (all_of h.printed) (h.from_first [] (Left now) (subst (λ l. Prints X now l [] (Left now)) (sym none) (refl, refl))), h.text_is)
 
+-- a line was refused
 pub one_refused : {E : Type 0} (X : Election E) (b : Bus E) (lines left behind : List (ℕ × List ℕ)) (line : ℕ × List ℕ) (old mid new : List ℕ) (now next : Bus E) (o : Outcome) → Played X b lines left old mid now → left ≡ line ∷ behind
     → o ≡ outcome.Refused → (added : List ℕ) × IsObeyed X now line o added next × (new ≡ mid ++ added) → (all : List ℕ) × ArePlayed X b lines outcome.Refused all next × (new ≡ old ++ all)
 one_refused {E} X b lines left behind line old mid new now next o h is refused obeyed =
@@ -114,6 +93,7 @@ opened {E} of input line lines shape z o whole is shape_is made answered =
       subst (λ y. Ends y answered.1 answered.0 o whole) made.layout answered.3,
     )))
 
+-- what follows from a fact of a value
 pub if_ok : {A F : Type 0} (P Q : A → Type 0) (r : Result A F) → ((a : A) → P a → Q a) → IfOk r P → IfOk r Q
 if_ok P Q (Ok a) f h = f a h
 if_ok P Q (Err e) f h = tt

@@ -1,12 +1,12 @@
 -- An event that is repeated while it goes on.
-use Rattle.std.proofs.Common.{◌≡◌, ℕ, zero, suc, ◌-◌, ◌<◌, true, false, Option, Some, None, List, refl, sym, ap, subst, ◌∙◌, ◌⊎◌, inl, inr, slice_get, slice_set, arith}
+use Rattle.std.proofs.Common.{◌≡◌, ℕ, zero, suc, ◌-◌, ◌<◌, true, false, Option, Some, None, List, refl, sym, ap, subst, ◌∙◌, ◌⊎◌, inl, inr, slice_get, arith}
 use Rattle.std.proofs.lemmas.Bool.{true≢false}
 use Rattle.std.proofs.lemmas.Option.{slice_get_within}
 use Rattle.bus_register.specs.TableLaws.{get_set_same}
 use Rattle.bus_deliverylog.specs.Receiving.{Receiving}
 use Rattle.bus_tenure.specs.Core.{Core, Election, situation_of}
 use Rattle.bus_world.specs.Turning.{Side, turned}
-use Rattle.bus_world.specs.World.{Bus, Event, Put, Close, Turn, Recv, Happens, SenderDoes, ReceiverDoes}
+use Rattle.bus_world.specs.World.{Bus, Event, Put, Close, Turn, Recv, Happens, SenderDoes}
 use Rattle.bus_world.specs.Playing.{Answers, Refused, TurnAnswers, RecvAnswers, TurnRefused, RecvRefused}
 use Rattle.bus_world.specs.declared.events.Answer.{Answer}
 use Rattle.bus_world.specs.declared.events.Answer.TheVariants as answer

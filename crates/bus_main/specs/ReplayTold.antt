@@ -1,5 +1,5 @@
 -- The commands of a script, and what the lines of a script leave, as a program holds them.
-use Rattle.std.specs.Prelude.{◌≡◌, ℕ, ◌-◌, Option, Some, List, [], ◌∷◌, ◌++◌}
+use Rattle.std.specs.Prelude.{◌≡◌, ℕ, List, [], ◌∷◌, ◌++◌}
 use Rattle.bus_tenure.specs.Core.{Election}
 use Rattle.bus_world.specs.World.{Bus}
 use Rattle.bus_world.specs.Playing.{event_told}

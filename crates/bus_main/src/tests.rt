@@ -1,7 +1,9 @@
 //! What no clause says: worked scripts with their texts, bad input, and streams that fail.
 
+mod random;
 mod replay;
 mod streams;
+mod tour;
 
 use self::streams::{FailingReader, FullWriter, StuckWriter};
 use super::command_line::parse;

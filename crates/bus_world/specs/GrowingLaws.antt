@@ -1,8 +1,8 @@
 -- What a list of events leaves: owners and what was given only grow, and the bus keeps its promises.
-use Rattle.std.proofs.Common.{◌≡◌, ◌≢◌, ℕ, zero, suc, ◌+◌, ◌-◌, ◌<◌, ◌≤◌, Bool, true, false, Option, Some, None, inl, inr, List, [], ◌∷◌, ◌++◌, length, map, flat_map, take, drop, get_or, slice_get, slice_index, slice_set, arith, refl, sym, ◌∙◌, ap, subst, append_assoc}
+use Rattle.std.proofs.Common.{◌≡◌, ℕ, zero, suc, ◌+◌, ◌-◌, ◌<◌, ◌≤◌, Bool, true, false, Option, Some, None, inl, inr, List, [], ◌∷◌, ◌++◌, length, map, flat_map, take, drop, get_or, slice_get, slice_index, slice_set, arith, refl, sym, ◌∙◌, ap, subst, append_assoc}
 use Rattle.std.proofs.lemmas.Bool.{cases_eq, cases_lt}
 use Rattle.std.proofs.lemmas.Grind.{common_steps, flat_map-append}
-use Rattle.std.proofs.lemmas.List.{length-append, length-take, take-append-drop, take-append-le, take_all, append-nil, map_more}
+use Rattle.std.proofs.lemmas.List.{take-append-drop, take-append-le, take_all, append-nil, map_more}
 use Rattle.std.proofs.Math.Seq.{take-nil}
 use Rattle.std.proofs.lemmas.Option.{same_Some, slice_get_within, slice_get-get_or, slice_get-map}
 use Rattle.bus_register.specs.Protocol.{Protocol, Laws}
@@ -23,7 +23,7 @@ use Rattle.bus_world.specs.World.{Bus, Event, Put, Close, Turn, Recv, IsEvent, H
 use Rattle.bus_world.specs.WorldLaws.{event_left, run_left, keeps_promises, received}
 use Rattle.std.specs.Option.{option_map}
 use Rattle.bus_world.specs.declared.events.Event.{Event as Told}
-use Rattle.bus_world.specs.Playing.{event_told, Answers, AllAnswered, GivenGrows, Leads, Played}
+use Rattle.bus_world.specs.Playing.{event_told, Answers, AllAnswered, Played}
 use Rattle.bus_world.specs.declared.events.Answer.{Answer}
 
 -- ---- owners

@@ -1,6 +1,6 @@
 -- What a program holds stays a bus.
 use Rattle.std.proofs.Common.{◌≡◌, ◌≢◌, ℕ, ◌+◌, ◌*◌, ◌-◌, ◌/◌, ◌<◌, ◌≤◌, ◌^◌, Bool, true, false, cond, ◌&&◌, ◌==◌, nat_lt, nat_le, Option, Some, None, is_some, ◌⊎◌, inl, inr, List, [], ◌∷◌, ◌++◌, length, map, get_or, slice_get, slice_index, slice_set, arith, refl, sym, ◌∙◌, ap, subst}
-use Rattle.std.specs.Prelude.{Result, Ok, Err, IfOk, IfErr, OnOk, OnErr, IsSome, IfSome, All}
+use Rattle.std.specs.Prelude.{Result, Ok, Err, IfOk, IfErr, OnOk, OnErr, IfSome, All}
 use Rattle.std.proofs.lemmas.Bool.{true≢false}
 use Rattle.std.proofs.lemmas.Bool.Decides.{nat_tests, eqb_tells}
 use Rattle.std.proofs.lemmas.Grind.{common_steps}
@@ -9,11 +9,10 @@ use Rattle.std.proofs.lemmas.Option.{gets, slice_get_past, slice_get-get_or, sam
 use Rattle.std.proofs.Math.ListN.{length-set}
 use Rattle.bus_register.specs.declared.registers.SenderNo.{SenderNo}
 use Rattle.bus_register.specs.Protocol.{Protocol, Laws}
-use Rattle.bus_register.specs.Words.{register, after, SumFits}
+use Rattle.bus_register.specs.Words.{register, SumFits}
 use Rattle.bus_register.specs.declared.registers.Op.{Op}
 use Rattle.bus_register.specs.declared.registers.Op.TheVariants.{Load, Store}
 use Rattle.bus_register.specs.Tables.{of_some}
-use Rattle.bus_batch.specs.Frames.{Frame}
 use Rattle.bus_batch.specs.Batches.{Pending, next_of, IsPutFault, IsCloseFault}
 use Rattle.bus_batch.specs.declared.batches.Phase.TheVariants.{Closing}
 use Rattle.bus_batch.specs.declared.batches.PutFault.{PutFault}
@@ -35,14 +34,13 @@ use Rattle.bus_world.specs.Bus.{IsLayout, Part, stands_at, standing_of}
 use Rattle.bus_register.specs.TableLaws.{push_here}
 use Rattle.bus_world.specs.Turning.{Side, turned, stepped, found, home_after, core_after, owners_after, frames_after, IsSide}
 use Rattle.bus_world.specs.TurningLaws.{turn_lawful}
-use Rattle.bus_world.specs.World.{Bus, Event, Put, Close, Turn, Recv, IsEvent, Happens, SenderDoes, ReceiverDoes, RecvDoes, with_sender, put_in, close_in, is_open, can_put, can_close, LawfulBus, IsReceiver}
+use Rattle.bus_world.specs.World.{Bus, Event, Put, Close, Turn, Recv, IsEvent, Happens, SenderDoes, ReceiverDoes, RecvDoes, with_sender, put_in, close_in, is_open, can_put, can_close, IsReceiver}
 use Rattle.bus_world.specs.WorldLaws.{event_left, numbers_fit}
 use Rattle.bus_world.specs.Playing.{Sitting, IsSitting, PutGives, PutRefused, CloseGives, CloseRefused, TurnAnswers, TurnRefused, RecvAnswers, RecvRefused}
 use Rattle.bus_world.specs.Telling.{Tells, SenderTells, TurnTells}
 use Rattle.bus_world.specs.TellingLaws.{turn_true}
 use Rattle.bus_world.specs.declared.events.StepFault.{StepFault}
 use Rattle.bus_world.specs.declared.events.StepFault.TheVariants as fault
-use Rattle.bus_world.specs.declared.events.Answer.{Answer}
 use Rattle.bus_world.specs.declared.events.Answer.TheVariants as answer
 
 -- a list with the same element in its place
@@ -366,10 +364,14 @@ module _ {E : Type 0} (X : Election E) (P : Protocol E (Unit {0}) ℕ) (x : Layo
 
         -- and its answer tells the truth
         pub turn_tells : (t : Answered) → t ≡ answered → Tells P x b (Turn s word) (answer.Turn t) with_turn
-        turn_tells t e = (h.frames, h.lawful.side.sending.log.lawful, h.lawful.side.sending.log.words_are,
-            subst (λ o. SenderTells P x (slice_index b.side.words) (slice_index words) h.frames s o t) (sym old)
-            (subst (λ a. TurnTells P x (slice_index b.side.words) (slice_index words) h.frames s c a) (sym e)
-            (subst (λ w. TurnTells P x (slice_index b.side.words) (slice_index w) h.frames s c answered) (sym words_are) (turn_true X P laws x served width starts owner_is b.side h.frames h.lawful.side s c old word))))
+        turn_tells t e = (
+          h.frames,
+          h.lawful.side.sending.log.lawful,
+          h.lawful.side.sending.log.words_are,
+          subst (λ o. SenderTells P x (slice_index b.side.words) (slice_index words) h.frames s o t) (sym old)
+              (subst (λ a. TurnTells P x (slice_index b.side.words) (slice_index words) h.frames s c a) (sym e)
+              (subst (λ w. TurnTells P x (slice_index b.side.words) (slice_index w) h.frames s c answered) (sym words_are) (turn_true X P laws x served width starts owner_is b.side h.frames h.lawful.side s c old word))),
+        )
 
       pub turn_answers : (t : Answered) → t ≡ answered → TurnAnswers X now.bus.side.words (slice_get now.bus.side.senders s) word (answer.Turn t)
       turn_answers t e = subst (λ z. TurnAnswers X z.bus.side.words (slice_get z.bus.side.senders s) word (answer.Turn t)) is (subst (λ o. TurnAnswers X b.side.words o word (answer.Turn t)) (sym old) (ap answer.Turn e))

@@ -1,27 +1,24 @@
 -- The answers of turns tell the truth.
-use Rattle.std.proofs.Common.{◌≡◌, ◌≢◌, ℕ, ◌+◌, ◌*◌, ◌-◌, ◌/◌, ◌<◌, ◌≤◌, ◌==◌, ◌&&◌, Bool, true, false, cond, nat_lt, nat_le, Option, Some, None, inl, inr, is_some, List, [], ◌∷◌, ◌++◌, length, slice_get, slice_index, slice_set, arith, refl, sym, ◌∙◌, ap, subst}
+use Rattle.std.proofs.Common.{◌≡◌, ℕ, ◌+◌, ◌*◌, ◌-◌, ◌/◌, ◌<◌, ◌≤◌, ◌==◌, ◌&&◌, Bool, true, false, cond, nat_lt, nat_le, Option, Some, None, inl, inr, is_some, List, [], ◌∷◌, ◌++◌, length, slice_get, slice_index, arith, refl, sym, ◌∙◌, ap, subst}
 use Rattle.std.proofs.Math.Nat.{mul-le-mul_right}
 use Rattle.std.proofs.lemmas.Bool.{leb-false, true≢false}
-use Rattle.std.proofs.lemmas.Option.{same_Some}
 use Rattle.bus_register.specs.declared.registers.Op.{Op}
-use Rattle.bus_register.specs.Protocol.{Protocol, Laws, outputs}
+use Rattle.bus_register.specs.Protocol.{Protocol, Laws}
 use Rattle.bus_register.specs.TableLaws.{put_here, put_beside, some_or_none, Stepped-list}
 use Rattle.bus_register.specs.Tables.{of_some, put}
-use Rattle.bus_register.specs.Words.{register, after}
+use Rattle.bus_register.specs.Words.{register}
 use Rattle.bus_batch.specs.Batches.{next_of, frame_of}
 use Rattle.bus_batch.specs.Frames.{Frame}
 use Rattle.bus_ownerbits.specs.ElectionKeeps.{OneOwner}
-use Rattle.bus_tenure.specs.Core.{Core, Election, Layout, row_at, is_empty, is_closing, is_closed, has_room, frame_len, Situation, IsClosed, IsIdle, IsSpent, LooksAtStage, Elects, TakesPage, AwaitsPage, StoresWord, StoresLength, GivesBack, HasHanded, situation_at, situation_of, resting, electing, holding, waits, op_at, answer_at, answer_of_stage, answer_of_election, answer_of_leaving}
+use Rattle.bus_tenure.specs.Core.{Core, Election, Layout, row_at, is_empty, is_closing, is_closed, has_room, frame_len, Situation, IsClosed, IsIdle, IsSpent, LooksAtStage, Elects, TakesPage, StoresWord, StoresLength, GivesBack, situation_at, situation_of, resting, electing, holding, waits, op_at, answer_at, answer_of_election}
 use Rattle.bus_tenure.specs.declared.pages.Page.{Page}
-use Rattle.bus_tenure.specs.declared.phases.Leaving.{Leaving}
 use Rattle.bus_tenure.specs.declared.phases.Leaving.TheVariants.{Sent, FoundEnd, NoRoom}
 use Rattle.bus_tenure.specs.declared.phases.Phase.{Phase}
 use Rattle.bus_tenure.specs.declared.phases.Phase.TheVariants as phase
-use Rattle.bus_tenure.specs.declared.turns.Turn.{Turn as Answered}
 use Rattle.bus_tenure.specs.declared.turns.Turn.TheVariants as turn
 use Rattle.bus_world.specs.Bus.{IsLayout, Part, Fits, stands_at, standing_of}
 use Rattle.bus_world.specs.Turning.{Side, stepped, found, IsSide}
-use Rattle.bus_world.specs.Telling.{HasElected, HasDelivered, TurnTells}
+use Rattle.bus_world.specs.Telling.{HasElected, TurnTells}
 
 module _ {E : Type 0} (X : Election E) (P : Protocol E (Unit {0}) ℕ) (laws : Laws X.op X.fed P OneOwner) (x : Layout) (ok : IsLayout x) (width : x.width ≡ P.width x.senders)
     (starts : (n me at : ℕ) → X.started n me x.rounds at ≡ P.started n me tt at) (owner_is : (e : E) → X.owner e ≡ P.output e)

@@ -1,7 +1,6 @@
 -- What is read from the words of a bus, and what a new one is made of.
-use Rattle.std.proofs.Common.{◌≡◌, ℕ, zero, suc, ◌+◌, ◌*◌, ◌-◌, ◌^◌, ◌<◌, ◌≤◌, Some, List, [], ◌∷◌, ◌++◌, length, map, take, drop, get_or, slice_get, slice_index, replicate, nat_lt, arith, refl, sym, ◌∙◌, ap, subst}
+use Rattle.std.proofs.Common.{◌≡◌, ℕ, zero, suc, ◌+◌, ◌*◌, ◌-◌, ◌^◌, ◌≤◌, Some, List, [], ◌∷◌, ◌++◌, length, map, take, drop, slice_get, slice_index, replicate, nat_lt, arith, refl, sym, ◌∙◌, ap}
 use Rattle.std.proofs.Math.Nat.{mul-le-mul}
-use Rattle.std.proofs.lemmas.Grind.{common_steps}
 use Rattle.std.proofs.lemmas.List.{get_or-drop, take_more, length-take, length-drop, take-append-drop, take-append-le, take_all}
 use Rattle.std.proofs.lemmas.List.Sums.{count_by-le-length}
 use Rattle.bus_register.specs.declared.registers.SenderNo.{SenderNo}
@@ -13,9 +12,9 @@ use Rattle.bus_ownerbits.specs.Sizes.{bits_of}
 use Rattle.bus_tenure.specs.Core.{Core, Layout, log_at, words_of}
 use Rattle.bus_world.specs.Log.{read}
 use Rattle.bus_world.specs.LogLaws.{length-read}
-use Rattle.bus_world.specs.World.{Bus, IsNew, new_page, given_at}
+use Rattle.bus_world.specs.World.{IsNew, new_page}
 use Rattle.bus_world.specs.Playing.{Sitting, IsSitting, log_of}
-use Rattle.bus_world.specs.Starting.{AreNewCores, IsNewReader, AreNewReaders}
+use Rattle.bus_world.specs.Starting.{AreNewCores, AreNewReaders}
 
 -- words of a list, from a place on
 read-list : (words : List ℕ) (at k : ℕ) → at + k ≤ length words → read (slice_index words) at k ≡ take k (drop at words)

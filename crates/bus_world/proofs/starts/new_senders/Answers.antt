@@ -1,4 +1,4 @@
-use Rattle.std.proofs.Common.{◌≡◌, ◌+◌, arith, subst, sym, ap, ◌∙◌, refl}
+use Rattle.std.proofs.Common.{◌≡◌, ◌+◌, arith, subst, sym}
 use Rattle.bus_tenure.specs.Elections.{layout_of}
 use Rattle.bus_world.specs.Starting.{AreNewCores}
 use Rattle.bus_world.specs.StartingLaws.{one_more_core}

@@ -1,7 +1,7 @@
 use Rattle.std.proofs.Common.{◌-◌, sym, ◌∙◌, inl, inr, arith}
 use Rattle.bus_tenure.specs.Elections.{election_of}
 use Rattle.bus_world.specs.Playing.{event_told}
-use Rattle.bus_main.proofs.RepeatLemmas.{once, once_more, at_last, not_refused}
+use Rattle.bus_main.proofs.RepeatLemmas.{once_more, at_last, not_refused}
 use Rattle.bus_main.proofs.replay.playing.repeat.Goals as goal
 use Rattle.bus_main.proofs.replay.playing.repeat.Goals.{then-loop-more-test+else-goes_on, else-loop-more-test}
 

@@ -1,6 +1,5 @@
-use Rattle.std.proofs.Common.{◌≡◌, ◌*◌, ◌≤◌, [], map, refl, arith, ap}
+use Rattle.std.proofs.Common.{◌*◌, [], map, refl, arith, ap}
 use Rattle.bus_tenure.specs.Elections.{elections, election_of, layout_of}
-use Rattle.bus_world.specs.PlayingLaws.{layout_served}
 use Rattle.bus_world.specs.ViewingLaws.{few_words, made_new}
 use Rattle.bus_world.specs.WorldLaws.{new_is_lawful}
 use Rattle.bus_world.proofs.worlds.World.new.Goals as goal

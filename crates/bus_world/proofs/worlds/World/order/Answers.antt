@@ -1,4 +1,4 @@
-use Rattle.std.proofs.Common.{◌≡◌, refl, subst, sym, ap, ◌∙◌, map}
+use Rattle.std.proofs.Common.{subst, sym, ap, ◌∙◌, map}
 use Rattle.bus_batch.specs.Frames.{AreFrames, order_of, tenure_and_owner}
 use Rattle.bus_world.specs.ViewingLaws.{frames_spell}
 use Rattle.bus_world.proofs.worlds.World.order.Goals as goal

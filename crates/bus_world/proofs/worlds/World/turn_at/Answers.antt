@@ -1,4 +1,4 @@
-use Rattle.std.proofs.Common.{refl, subst, arith, ◌∙◌, sym, ap, ◌≡◌, ◌%◌, map, length, slice_set}
+use Rattle.std.proofs.Common.{refl, subst, arith, ◌∙◌, sym, ap, map, slice_set}
 use Rattle.bus_tenure.specs.Elections.{Elector, elections, election_of, layout_of}
 use Rattle.bus_world.specs.PlayingLaws.{there, turn_unknown, turn_idle, words_enough, sums_fit, owner_fits, owners_by, turn_happens, turn_sits, turn_tells, turn_answers, numbers_many}
 use Rattle.bus_world.specs.Telling.{Tells}
