@@ -1,0 +1,19 @@
+-- What a lawful bus with its page at home leaves behind.
+use Rattle.std.proofs.Common.{◌≡◌, ℕ, Some, ap, ◌∙◌, sym, map}
+use Rattle.std.specs.Prelude.{is_some, true, false}
+use Rattle.bus_register.specs.Protocol.{Protocol}
+use Rattle.bus_batch.specs.Frames.{order_of, tenure_and_owner}
+use Rattle.bus_tenure.specs.declared.pages.Page.{Page}
+use Rattle.bus_world.specs.Playing.{Sitting, IsSitting, log_of}
+use Rattle.bus_world.specs.Tenures.Stage.{Open, Held}
+use Rattle.bus_world.specs.ViewingLaws.{frames_spell}
+use Rattle.bus_pageslot.specs.Outcomes.{IsOutcome}
+
+-- the page is at home only while a tenure is open, and then it knows the frames
+pub is_outcome : {E : Type 0} (P : Protocol E (Unit {0}) ℕ) (z : Sitting E) → IsSitting P z → (page : Page) → z.bus.side.home ≡ Some page → IsOutcome record { senders = z.layout.senders; log = log_of z; page = page }
+is_outcome P z h page home =
+    let sending = h.lawful.side.sending in
+    elim sending.tenures.stage_is [
+      | Open stage at_home many ↦ record { order = order_of h.frames; owners = map tenure_and_owner h.frames; spells = frames_spell z.layout.senders h.frames (log_of z) sending.log.lawful sending.log.words_are; counts = (sending.page_knows page _ home stage).0.next }
+      | Held holder stage away many holds ↦ absurd (let gone : is_some z.bus.side.home ≡ false = away in let there : is_some z.bus.side.home ≡ true = ap is_some home in let no : true ≡ false = sym there ∙ gone in (cc))
+    ]

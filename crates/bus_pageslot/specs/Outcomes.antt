@@ -1,0 +1,19 @@
+-- What a bus leaves behind.
+use Rattle.std.specs.Prelude.{◌≡◌, ℕ, ◌<◌, List, length, slice_index}
+use Rattle.bus_register.specs.declared.registers.SenderNo.{SenderNo}
+use Rattle.bus_batch.specs.Frames.{Order, Spells}
+use Rattle.bus_deliverylog.specs.Orders.{of_sender}
+use Rattle.bus_tenure.specs.declared.pages.Page.{Page}
+
+-- how many senders it had, the words of its log below the length, and its page
+pub record Outcome : Type 0 where
+  pub senders : ℕ
+  pub log : List ℕ
+  pub page : Page
+
+-- The words spell an order, and the page has the number of items that each sender has in it. They spell one order alone.
+pub record IsOutcome (z : Outcome) : Type 0 where
+  pub order : Order
+  pub owners : List (ℕ × SenderNo)
+  pub spells : Spells z.senders z.log order owners
+  pub counts : (s : ℕ) → s < 8 → slice_index z.page.next s ≡ length (of_sender s order)
