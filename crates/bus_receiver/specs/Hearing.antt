@@ -1,0 +1,33 @@
+-- What a listener has counted of the answers that a receiver gave.
+use Rattle.std.specs.Prelude.{ℕ, ◌+◌, Bool, true, false, List, replicate, nat_lt, ◌==◌, ◌&&◌, if◌then◌else◌, slice_index, slice_set}
+use Rattle.bus_deliverylog.specs.declared.receiving.RecvTurn.{RecvTurn}
+use Rattle.bus_deliverylog.specs.declared.receiving.RecvTurn.TheVariants as turn
+
+-- how many items of each sender, how many in all, and whether the end was among the answers
+pub record Hearing : Type 0 where
+  pub counts : List ℕ
+  pub items : ℕ
+  pub ended : Bool
+
+-- before any answer
+abbrev pub nothing : Hearing
+nothing = record { counts = replicate 8 0; items = 0; ended = false }
+
+abbrev pub goes_on : Hearing → Bool
+goes_on h = if h.ended then false else true
+
+-- the answer is taken: after the end only the end, and an item where it is the next of its sender
+abbrev pub takes : Hearing → RecvTurn → Bool
+takes h turn.Going = goes_on h
+takes h turn.Empty = goes_on h
+takes h (turn.Head tenure owner) = goes_on h
+takes h (turn.Item item) = goes_on h && (nat_lt item.sender.0 8 && (item.number == slice_index h.counts item.sender.0))
+takes h turn.End = true
+
+-- what is counted with an answer that is taken
+abbrev pub counted : Hearing → RecvTurn → Hearing
+counted h turn.Going = h
+counted h turn.Empty = h
+counted h (turn.Head tenure owner) = h
+counted h (turn.Item item) = record h { counts = slice_set h.counts item.sender.0 (item.number + 1); items = h.items + 1 }
+counted h turn.End = record h { ended = true }

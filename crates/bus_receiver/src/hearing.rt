@@ -1,0 +1,102 @@
+//! A listener that counts what a receiver was given.
+
+ghost use Rattle.std.specs.Prelude.{◌≡◌, ◌+◌, ◌<◌, ◌^◌, ◌&&◌, ◌==◌, nat_lt, slice_index, slice_set, true, false};
+
+use bus_deliverylog::RecvTurn;
+use bus_register::SenderNo;
+use std::marker::Model;
+
+/// A listener: it counts the items of each sender, and refuses an answer that no receiver of a bus
+/// can have been given next.
+#[derive(Debug, Drop)]
+pub struct Heard {
+    counts: [u64; 8],
+    items: u64,
+    ended: bool,
+}
+
+impl Model for Heard {
+    ghost use Rattle.std.specs.Prelude.{◌≡◌, sum as total};
+    ghost use Rattle.bus_receiver.specs.Hearing.{Hearing};
+
+    ghost Value = { Hearing };
+
+    ghost view = { λ h. record { counts = h.counts; items = h.items; ended = h.ended } };
+
+    ghost invariant = { λ h. total h.counts ≡ h.items };
+}
+
+impl Heard {
+    ghost use Rattle.bus_receiver.specs.Hearing.{nothing, goes_on, takes, counted};
+
+    /// A listener that has heard nothing.
+    pub fn new() -> Heard
+        ensures { result ≡ nothing }
+    {
+        Heard {
+            counts: [0; 8],
+            items: 0,
+            ended: false,
+        }
+    }
+
+    /// Takes the next answer of a receiver, or refuses it: an item that is not the next of its
+    /// sender or of no sender below 8, and all but the end after the end. What is refused changes
+    /// nothing.
+    pub fn note(&mut self, turn: &RecvTurn) -> bool
+        requires { self.old.items + 1 < 2 ^ 64 }
+        ensures takes { result ≡ takes self.old turn.now }
+        ensures taken { result ≡ true → self.new ≡ counted self.old turn.now }
+        ensures refused { result ≡ false → self.new ≡ self.old }
+    {
+        match turn {
+            RecvTurn::End => {
+                self.ended = true;
+                true
+            }
+            RecvTurn::Item(item) => self.note_item(item.sender, item.number),
+            RecvTurn::Going | RecvTurn::Empty | RecvTurn::Head { .. } => !self.ended,
+        }
+    }
+
+    /// Takes the item of this number, or refuses it.
+    fn note_item(&mut self, sender: SenderNo, number: u64) -> bool
+        requires { self.old.items + 1 < 2 ^ 64 }
+        ensures takes { result ≡ (goes_on self.old && (nat_lt sender.0 8 && (number == slice_index self.old.counts sender.0))) }
+        ensures taken { result ≡ true → self.new ≡ record self.old { counts = slice_set self.old.counts sender.0 (number + 1); items = self.old.items + 1 } }
+        ensures refused { result ≡ false → self.new ≡ self.old }
+    {
+        if self.ended || sender.0 >= 8 {
+            return false;
+        }
+        let place = usize::from(sender.0);
+        if number != self.counts[place] {
+            return false;
+        }
+        self.items += 1;
+        self.counts[place] = number + 1;
+        true
+    }
+
+    /// How many items of the sender it has taken.
+    pub fn count(&self, sender: SenderNo) -> u64
+        requires { sender.0 < 8 }
+        ensures { result ≡ slice_index self.now.counts sender.0 }
+    {
+        self.counts[usize::from(sender.0)]
+    }
+
+    /// How many items it has taken.
+    pub fn items(&self) -> u64
+        ensures { result ≡ self.now.items }
+    {
+        self.items
+    }
+
+    /// The end was among what it took.
+    pub fn ended(&self) -> bool
+        ensures { result ≡ self.now.ended }
+    {
+        self.ended
+    }
+}

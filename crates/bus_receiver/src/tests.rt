@@ -1,0 +1,145 @@
+//! Two receivers of one bus, and what a listener refuses.
+
+ghost use Rattle.std.specs.Prelude.{◌≡◌, ◌+◌, ◌<◌, ◌^◌};
+
+use super::*;
+use bus_batch::{Item, Message};
+use bus_deliverylog::RecvTurn;
+use bus_pageslot::{Bus, Sender};
+use bus_register::SenderNo;
+use bus_tenure::Turn;
+use bus_world::Shape;
+use std::cmp::Ordering;
+use std::process::Abort;
+use std::sync::Wait;
+
+/// One sender, two receivers, two tenures.
+const SMALL: Shape = Shape {
+    senders: 1,
+    receivers: 2,
+    rounds: 1,
+    rows: 2,
+    log_words: 64,
+};
+
+/// Turns of the sender, up to the one that is answered so.
+fn turns_to<R: Abort + Wait>(rt: &R, bus: &Bus, sender: &mut Sender, want: Turn) {
+    for _ in 0..10 {
+        if sender.turn(rt, bus, 0) == want {
+            return;
+        }
+    }
+    panic!(rt; "{want:?} is not answered");
+}
+
+/// Sees what the receiver's next turns answer.
+fn hears<R: Abort + Wait>(rt: &R, bus: &Bus, receiver: &mut Receiver, want: &[RecvTurn]) {
+    for (i, turn) in want.iter().enumerate() {
+        let got = receiver.turn(rt, bus);
+        assert_eq!(rt; got, *turn, "turn {i}");
+    }
+}
+
+/// An item of no bytes.
+fn item(sender: u8, number: u64) -> RecvTurn {
+    RecvTurn::Item(Item {
+        sender: SenderNo(sender),
+        number,
+        message: Message::new(),
+    })
+}
+
+/// The first item of the bus below, which carries an a.
+fn item_a(rt: &impl Abort) -> RecvTurn {
+    RecvTurn::Item(Item {
+        sender: SenderNo(0),
+        number: 0,
+        message: Message::of_bytes(b"a").expect(rt, "short"),
+    })
+}
+
+/// A frame of sender 0.
+fn head(tenure: u64) -> RecvTurn {
+    RecvTurn::Head {
+        tenure,
+        owner: SenderNo(0),
+    }
+}
+
+#[test]
+fn told_and_meet(rt: HostRuntime) {
+    let (bus, mut senders, mut taps) = Bus::new(rt.alloc(), SMALL).expect(&rt, "memory");
+    let mut sender = senders.pop().expect(&rt, "a sender");
+    let mut second = Receiver::new(taps.pop().expect(&rt, "a pass"));
+    let mut first = Receiver::new(taps.pop().expect(&rt, "a pass"));
+    assert!(rt; sender.next_number() < 1000);
+    assert_eq!(rt; sender.put(b"a"), Ok(0));
+    turns_to(&rt, &bus, &mut sender, Turn::Own { tenure: 0 });
+    hears(&rt, &bus, &mut first, &[RecvTurn::Empty]);
+    let delivered = Turn::Delivered {
+        tenure: 0,
+        first: 0,
+        last: 0,
+    };
+    turns_to(&rt, &bus, &mut sender, delivered);
+    hears(
+        &rt,
+        &bus,
+        &mut first,
+        &[RecvTurn::Going, head(0), RecvTurn::Going, item_a(&rt)],
+    );
+    assert_eq!(rt; first.place(), 3);
+    second.told(&rt, &mut sender, &bus);
+    hears(&rt, &bus, &mut second, &[head(0), RecvTurn::Going]);
+    assert_eq!(rt; first.meet(&rt, &mut second, &bus), Ordering::Greater);
+    hears(&rt, &bus, &mut second, &[item_a(&rt), RecvTurn::Empty]);
+    assert_eq!(rt; first.meet(&rt, &mut second, &bus), Ordering::Equal);
+    assert_eq!(rt; sender.close(), Ok(()));
+    turns_to(&rt, &bus, &mut sender, Turn::Own { tenure: 1 });
+    turns_to(&rt, &bus, &mut sender, Turn::Closed);
+    assert_eq!(rt; first.take(&rt, &bus), head(1));
+    assert_eq!(rt; first.meet(&rt, &mut second, &bus), Ordering::Greater);
+    assert_eq!(rt; second.meet(&rt, &mut first, &bus), Ordering::Less);
+    hears(
+        &rt,
+        &bus,
+        &mut second,
+        &[head(1), RecvTurn::End, RecvTurn::End],
+    );
+    let ended = Receiver::end(bus, first).expect(&rt, "the page is home");
+    assert_eq!(rt; ended.count(SenderNo(0)), 1);
+}
+
+/// Notes an answer, and sees whether it is taken.
+fn notes(rt: &impl Abort, heard: &mut Heard, turn: &RecvTurn, want: bool) {
+    assert!(rt; heard.items() < 1000);
+    let taken = heard.note(turn);
+    assert_eq!(rt; taken, want, "{turn:?}");
+}
+
+#[test]
+fn what_a_listener_refuses(rt: HostRuntime) {
+    let mut heard = Heard::new();
+    notes(&rt, &mut heard, &RecvTurn::Empty, true);
+    notes(&rt, &mut heard, &head(0), true);
+    notes(&rt, &mut heard, &item(0, 1), false);
+    notes(&rt, &mut heard, &item(8, 0), false);
+    notes(&rt, &mut heard, &item(0, 0), true);
+    notes(&rt, &mut heard, &item(0, 0), false);
+    notes(&rt, &mut heard, &item(7, 0), true);
+    notes(&rt, &mut heard, &item(0, 1), true);
+    notes(&rt, &mut heard, &RecvTurn::Going, true);
+    assert_eq!(rt;
+        (heard.count(SenderNo(0)), heard.count(SenderNo(7))),
+        (2, 1)
+    );
+    assert_eq!(rt; (heard.count(SenderNo(1)), heard.items()), (0, 3));
+    assert!(rt; !heard.ended());
+    notes(&rt, &mut heard, &RecvTurn::End, true);
+    assert!(rt; heard.ended());
+    for turn in [RecvTurn::Going, RecvTurn::Empty, head(1), item(0, 2)] {
+        notes(&rt, &mut heard, &turn, false);
+    }
+    notes(&rt, &mut heard, &RecvTurn::End, true);
+    assert_eq!(rt; heard.items(), 3);
+}
