@@ -80,6 +80,7 @@ fn empty_message_word_by_word(rt: HostRuntime) -> Result<(), Fail> {
     assert!(rt; item.message.as_slice().is_empty());
     assert_eq!(rt; recv(&rt, &mut world, 0), RecvTurn::Empty);
     let order = world.order(rt.alloc())?;
+    assert!(rt; world.receivers() > 0);
     let given = world.given(rt.alloc(), 0)?;
     assert_eq!(rt; order.items.as_slice(), [item].as_slice());
     assert_eq!(rt; given.items.as_slice(), order.items.as_slice());
