@@ -13,8 +13,7 @@ use Rattle.bus_tenure.specs.declared.phases.Phase.{Phase as SenderPhase}
 use Rattle.bus_tenure.specs.declared.phases.Phase.TheVariants as phase
 use Rattle.bus_deliverylog.specs.Orders.{of_sender}
 use Rattle.bus_world.specs.Log.{read}
-use Rattle.bus_world.specs.Headline.{Faithful}
-use Rattle.bus_deliverylog.specs.Orders.{IsPrefixOfOrder}
+use Rattle.bus_world.specs.Headline.{Faithful, PrefixDelivery}
 use Rattle.bus_world.specs.Receiving.{Receives}
 use Rattle.bus_ownerbits.specs.ElectionKeeps.{OneOwner}
 use Rattle.std.specs.Prelude.{replicate}
@@ -145,7 +144,7 @@ pub record KeepsPromises {E : Type 0} (P : Protocol E (Unit {0}) ℕ) (x : Layou
   -- each sender's messages are those it put, in its order, none skipped and none repeated
   pub faithful : Faithful (order_of frames) (put_by bus frames)
   -- what each receiver was given is a prefix of the one order
-  pub delivered : (r : ℕ) (v : Receiving) → slice_get bus.receivers r ≡ Some v → IsPrefixOfOrder (given_at frames v) (order_of frames)
+  pub delivered : PrefixDelivery (order_of frames) bus.receivers (given_at frames)
 
 -- ---- a new bus
 abbrev pub new_page : Page
