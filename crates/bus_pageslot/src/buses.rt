@@ -1,7 +1,7 @@
 //! The bus and its lock.
 
-ghost use Rattle.std.specs.Prelude.{◌≡◌, ℕ, ◌≤◌, IfOk, IfErr};
-ghost use Rattle.bus_world.specs.Playing.{MakeRefused};
+ghost use Rattle.std.specs.Prelude.{◌≡◌, ℕ, ◌≤◌, IfOk, OnOk, IfErr};
+ghost use Rattle.bus_world.specs.Playing.{IsServed, MakeRefused};
 ghost use Rattle.bus_pageslot.specs.Seats.{AreNewSeats};
 ghost use Rattle.bus_pageslot.specs.Taps.{AreNewPasses};
 
@@ -27,6 +27,7 @@ impl Bus {
     pub fn new(alloc: Global, shape: Shape) -> Result<(Bus, Vec<Sender>, Vec<Tap>), MakeFault>
         ensures senders { IfOk result (λ made. AreNewSeats shape.senders made.1.items) }
         ensures taps { IfOk result (λ made. AreNewPasses shape.senders shape.receivers made.2.items) }
+        ensures served { OnOk result (IsServed shape) }
         ensures fault { IfErr result (MakeRefused shape) }
     {
         let world = World::new(alloc, shape)?;

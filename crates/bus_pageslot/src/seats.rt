@@ -4,10 +4,11 @@ ghost use Rattle.std.specs.Prelude.{◌≡◌, ℕ, ◌+◌, ◌<◌, ◌≤◌,
 ghost use Rattle.bus_batch.specs.Batches.{Pending, next_of, CanPut, IsPutFault, CanClose, IsCloseFault};
 ghost use Rattle.bus_batch.specs.declared.batches.Phase.TheVariants as queue_phase;
 ghost use Rattle.bus_register.specs.declared.kinds.Kind.TheVariants as kind;
-ghost use Rattle.bus_tenure.specs.Elections.{election_of};
+ghost use Rattle.bus_tenure.specs.Elections.{election_of, elections};
 ghost use Rattle.bus_world.specs.Playing.{log_of};
 ghost use Rattle.bus_world.specs.World.{Runs};
 ghost use Rattle.bus_tenure.specs.declared.turns.Turn.{Turn as Answered};
+ghost use Rattle.bus_pageslot.specs.InStep.{Owes, TakesTold, Answers, StaysInStep};
 ghost use Rattle.bus_pageslot.specs.InWorld.{is_resting, kind_in, seen, tellings};
 ghost use Rattle.bus_pageslot.specs.Seats.{new_seat, queue_by, is_last, GoesOn};
 
@@ -118,6 +119,10 @@ impl Sender {
         ensures number { IfOk result (λ number. number ≡ next_of self.old.queue) }
         ensures taken { OnOk result (self.new ≡ record self.old { queue = record self.old.queue { messages = self.old.queue.messages ++ bytes.now ∷ [] }; fresh = self.old.fresh ++ bytes.now ∷ [] }) }
         ensures could { OnOk result (CanPut self.old.queue (length bytes.now)) }
+
+        // What the bus was told falls short of the batch by the new messages, before and after.
+        ensures owed { (told : Pending) → Owes told self.old.fresh self.old.closes self.old.queue → OnOk result (Owes told self.new.fresh self.new.closes self.new.queue × (told.busy ≡ false)) }
+
         ensures fault { IfErr result (IsPutFault self.old.queue (length bytes.now)) }
         ensures refused { OnErr result (self.new ≡ self.old) }
     {
@@ -132,6 +137,10 @@ impl Sender {
     pub fn close(&mut self) -> Result<(), CloseFault>
         ensures taken { OnOk result (self.new ≡ record self.old { queue = record self.old.queue { phase = queue_phase.Closing }; closes = true }) }
         ensures could { OnOk result (CanClose self.old.queue) }
+
+        // What the bus was told falls short of the batch by the close too, after it.
+        ensures owed { (told : Pending) → Owes told self.old.fresh self.old.closes self.old.queue → OnOk result (Owes told self.new.fresh self.new.closes self.new.queue × (told.busy ≡ false)) }
+
         ensures fault { IfErr result (IsCloseFault self.old.queue) }
         ensures refused { OnErr result (self.new ≡ self.old) }
     {
@@ -180,13 +189,10 @@ impl Sender {
         ensures queue { self.new.queue ≡ queue_by result self.old.queue }
         ensures words { self.old.words ≤ self.new.words }
         ensures stored { let X = election_of Q.kind_of Q.op Q.fed Q.protocol in kind_in X (slice_get world.old.bus.side.senders self.old.queue.sender.0) ≡ Some kind.StoreLength → length (log_of world.new) ≤ self.new.words }
+        ensures in_step { StaysInStep (elections Q.protocol world.old.layout.rounds) world.old world.new self.old.queue.sender.0 self.old self.new }
     {
         let stores_length = kind_of(world, self.batch.sender()) == Some(Kind::StoreLength);
-        let turn = if self.tell_on(world) {
-            take_turn(world, self.batch.sender(), word)
-        } else {
-            Turn::Closed
-        };
+        let turn = self.step_on(world, word);
         if stores_length {
             self.words = self.words.max(length_of(world));
         }
@@ -195,10 +201,23 @@ impl Sender {
         turn
     }
 
+    /// Its step of the turn, and the answer. Its batch does not follow yet.
+    fn step_on<Q: Ratifier + Drop>(&mut self, world: &mut World<Q>, word: u32) -> Turn
+        ensures queue { self.new.queue ≡ self.old.queue }
+        ensures words { self.new.words ≡ self.old.words }
+        ensures answers { Answers (elections Q.protocol world.old.layout.rounds) world.old world.new self.old.queue.sender.0 self.old result self.new }
+    {
+        if !self.tell_on(world) {
+            return Turn::Closed;
+        }
+        take_turn(world, self.batch.sender(), word)
+    }
+
     /// Where no tenure is begun, the world is told of what was accepted. Says whether it took all.
     fn tell_on<Q: Ratifier + Drop>(&mut self, world: &mut World<Q>) -> bool
         ensures rests { is_resting (slice_get world.old.bus.side.senders self.old.queue.sender.0) ≡ true → self.new ≡ record self.old { fresh = []; closes = false } }
         ensures told { let X = election_of Q.kind_of Q.op Q.fed Q.protocol in is_resting (slice_get world.old.bus.side.senders self.old.queue.sender.0) ≡ true → Runs X world.old.bus (tellings self.old.queue.sender.0 self.old.fresh self.old.closes) world.new.bus }
+        ensures takes { is_resting (slice_get world.old.bus.side.senders self.old.queue.sender.0) ≡ true → TakesTold world.old.bus.side.senders world.new.bus.side.senders self.old.queue.sender.0 self.old.fresh self.old.closes result }
         ensures busy { is_resting (slice_get world.old.bus.side.senders self.old.queue.sender.0) ≡ false → (self.new ≡ self.old) × (world.new ≡ world.old) × (result ≡ true) }
         ensures queue { self.new.queue ≡ self.old.queue }
         ensures words { self.new.words ≡ self.old.words }
@@ -228,6 +247,8 @@ impl Sender {
     fn follow(&mut self, turn: Turn)
         ensures queue { self.new.queue ≡ queue_by turn self.old.queue }
         ensures words { self.new.words ≡ self.old.words }
+        ensures fresh { self.old.fresh ≡ [] → self.new.fresh ≡ [] }
+        ensures closes { self.new.closes ≡ self.old.closes }
     {
         match turn {
             Turn::Idle | Turn::Waiting | Turn::Own { .. } | Turn::Spent => {}
@@ -255,6 +276,8 @@ impl Sender {
     fn go_on(&mut self)
         ensures queue { self.new.queue ≡ queue_by (Answered.Going) self.old.queue }
         ensures words { self.new.words ≡ self.old.words }
+        ensures fresh { self.new.fresh ≡ self.old.fresh }
+        ensures closes { self.new.closes ≡ self.old.closes }
     {
         let has_something = self.batch.is_closing() || !self.batch.is_empty();
         if !self.batch.is_closed() && !self.batch.is_busy() && has_something {

@@ -1,9 +1,10 @@
 //! Single steps on a world that its caller holds.
 
-ghost use Rattle.std.specs.Prelude.{◌≡◌, ℕ, length, map, slice_get, slice_index, IsTrue, ◌↔◌};
+ghost use Rattle.std.specs.Prelude.{◌≡◌, ℕ, [], length, map, slice_get, slice_index, IsTrue, ◌↔◌};
 ghost use Rattle.bus_tenure.specs.Elections.{election_of};
 ghost use Rattle.bus_world.specs.Playing.{log_of};
 ghost use Rattle.bus_world.specs.World.{Happens, Runs, IsEvent, Put, Close, Turn as SenderTurn};
+ghost use Rattle.bus_pageslot.specs.InStep.{TakesMessage, TakesMessages, TakesClose, TakesTold};
 ghost use Rattle.bus_pageslot.specs.InWorld.{is_resting, kind_in, answer_in, tellings};
 
 use bus_adoptcommit::Ratifier;
@@ -51,6 +52,7 @@ fn tell_message<Q: Ratifier + Drop>(world: &mut World<Q>, me: SenderNo, bytes: &
     ensures layout { world.new.layout ≡ world.old.layout }
     ensures bytes { IsEvent (Put me.0 bytes.now) }
     ensures happens { let X = election_of Q.kind_of Q.op Q.fed Q.protocol in Happens X world.old.bus (Put me.0 bytes.now) world.new.bus }
+    ensures takes { TakesMessage world.old.bus.side.senders world.new.bus.side.senders me.0 bytes.now result }
 {
     world.put(me, bytes).is_ok()
 }
@@ -59,6 +61,7 @@ fn tell_message<Q: Ratifier + Drop>(world: &mut World<Q>, me: SenderNo, bytes: &
 fn tell_messages<Q: Ratifier + Drop>(world: &mut World<Q>, me: SenderNo, fresh: &[Message]) -> bool
     ensures layout { world.new.layout ≡ world.old.layout }
     ensures runs { let X = election_of Q.kind_of Q.op Q.fed Q.protocol in Runs X world.old.bus (map (Put me.0) fresh.now) world.new.bus }
+    ensures takes { TakesMessages world.old.bus.side.senders world.new.bus.side.senders me.0 fresh.now [] result }
 {
     let mut takes_all = true;
     for message in fresh {
@@ -72,6 +75,7 @@ fn tell_messages<Q: Ratifier + Drop>(world: &mut World<Q>, me: SenderNo, fresh: 
 fn tell_close<Q: Ratifier + Drop>(world: &mut World<Q>, me: SenderNo) -> bool
     ensures layout { world.new.layout ≡ world.old.layout }
     ensures happens { let X = election_of Q.kind_of Q.op Q.fed Q.protocol in Happens X world.old.bus (Close me.0) world.new.bus }
+    ensures takes { TakesClose world.old.bus.side.senders world.new.bus.side.senders me.0 result }
 {
     world.close(me).is_ok()
 }
@@ -85,6 +89,7 @@ pub fn tell<Q: Ratifier + Drop>(
 ) -> bool
     ensures layout { world.new.layout ≡ world.old.layout }
     ensures runs { let X = election_of Q.kind_of Q.op Q.fed Q.protocol in Runs X world.old.bus (tellings me.0 fresh.now closes) world.new.bus }
+    ensures takes { TakesTold world.old.bus.side.senders world.new.bus.side.senders me.0 fresh.now closes result }
 {
     let takes_all = tell_messages(world, me, fresh);
     if closes {

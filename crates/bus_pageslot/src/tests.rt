@@ -8,6 +8,7 @@ use bus_register::{Kind, SenderNo};
 use bus_tenure::Turn;
 use bus_world::{MakeFault, Shape};
 use rand_pcg::Pcg32;
+use std::alloc::Global;
 use std::process::Abort;
 use std::sync::Wait;
 use std::thread::join;
@@ -48,13 +49,60 @@ fn loads<R: Abort + Wait>(rt: &R, bus: &Bus, tap: &mut Tap, want: &[u64]) {
     }
 }
 
+/// The small bus with its sender and its passes.
+fn small(rt: &impl Abort, alloc: Global) -> (Bus, Sender, Tap, Tap) {
+    let (bus, mut senders, mut taps) = Bus::new(alloc, SMALL).expect(rt, "memory");
+    assert_eq!(rt; (senders.len(), taps.len()), (1, 2));
+    let second = taps.pop().expect(rt, "a pass");
+    let first = taps.pop().expect(rt, "a pass");
+    (bus, senders.pop().expect(rt, "a sender"), first, second)
+}
+
+/// The words of an a, the first message of sender 0, in tenure 0.
+const WORDS: [u64; 3] = [
+    0x4000_0200_0000_0000,
+    0x8040_0000_0000_0000,
+    0x6100_0000_0000_0000,
+];
+
+/// The answers of its tenure 0 from the announcement to the last word.
+const TO_LAST_WORD: [Turn; 5] = [
+    Turn::Going,
+    Turn::Own { tenure: 0 },
+    Turn::Going,
+    Turn::Going,
+    Turn::Going,
+];
+
+/// The a is delivered.
+const DELIVERED: Turn = Turn::Delivered {
+    tenure: 0,
+    first: 0,
+    last: 0,
+};
+
 #[test]
 fn receiver_midway(rt: HostRuntime) {
-    let (bus, mut senders, mut taps) = Bus::new(rt.alloc(), SMALL).expect(&rt, "memory");
-    assert_eq!(rt; (senders.len(), taps.len()), (1, 2));
-    let mut sender = senders.pop().expect(&rt, "a sender");
-    let mut second = taps.pop().expect(&rt, "a pass");
-    let mut first = taps.pop().expect(&rt, "a pass");
+    let (bus, mut sender, mut first, mut second) = small(&rt, rt.alloc());
+    puts(&rt, &mut sender, b"a", Ok(0));
+    turns(&rt, &bus, &mut sender, &[Turn::Going]);
+    turns(&rt, &bus, &mut sender, &TO_LAST_WORD);
+    assert_eq!(rt; sender.kind(), Some(Kind::StoreLength));
+    loads(&rt, &bus, &mut first, &[]);
+    assert_eq!(rt; sender.words(), 0);
+    turns(&rt, &bus, &mut sender, &[Turn::Going]);
+    assert_eq!(rt; sender.words(), 3);
+    loads(&rt, &bus, &mut first, &WORDS);
+    assert_eq!(rt; (first.known(), second.known()), (3, 0));
+    assert_eq!(rt; second.told(&rt, &mut sender, &bus), 3);
+    assert_eq!(rt; second.known(), 3);
+    turns(&rt, &bus, &mut sender, &[DELIVERED, Turn::Idle]);
+    assert_eq!(rt; (sender.pending(), sender.next_number()), (0, 1));
+}
+
+#[test]
+fn busy_in_a_tenure(rt: HostRuntime) {
+    let (bus, mut sender, _, _) = small(&rt, rt.alloc());
     assert_eq!(rt; sender.number(), SenderNo(0));
     turns(&rt, &bus, &mut sender, &[Turn::Idle]);
     puts(&rt, &mut sender, b"a", Ok(0));
@@ -64,69 +112,34 @@ fn receiver_midway(rt: HostRuntime) {
     assert_eq!(rt; (sender.turns_left(), sender.wants_word()), (2, false));
     puts(&rt, &mut sender, b"b", Err(PutFault::Busy));
     assert_eq!(rt; sender.close(), Err(CloseFault::Busy));
-    turns(
-        &rt,
-        &bus,
-        &mut sender,
-        &[
-            Turn::Going,
-            Turn::Own { tenure: 0 },
-            Turn::Going,
-            Turn::Going,
-            Turn::Going,
-        ],
-    );
-    assert_eq!(rt; sender.kind(), Some(Kind::StoreLength));
-    loads(&rt, &bus, &mut first, &[]);
-    assert_eq!(rt; sender.words(), 0);
-    turns(&rt, &bus, &mut sender, &[Turn::Going]);
-    assert_eq!(rt; sender.words(), 3);
-    let words = [
-        0x4000_0200_0000_0000,
-        0x8040_0000_0000_0000,
-        0x6100_0000_0000_0000,
-    ];
-    loads(&rt, &bus, &mut first, &words);
-    assert_eq!(rt; (first.known(), second.known()), (3, 0));
-    assert_eq!(rt; second.told(&rt, &mut sender, &bus), 3);
-    assert_eq!(rt; second.known(), 3);
-    let delivered = Turn::Delivered {
-        tenure: 0,
-        first: 0,
-        last: 0,
-    };
-    turns(&rt, &bus, &mut sender, &[delivered, Turn::Idle]);
-    assert_eq!(rt; (sender.pending(), sender.next_number()), (0, 1));
+}
+
+#[test]
+fn closed_and_ended(rt: HostRuntime) {
+    let (bus, mut sender, mut first, mut second) = small(&rt, rt.alloc());
+    puts(&rt, &mut sender, b"a", Ok(0));
+    let mut rng = Pcg32::new(1, 1);
+    assert_eq!(rt; sender.send(&rt, &bus, &mut rng), DELIVERED);
     assert_eq!(rt; sender.close(), Ok(()));
-    turns(
-        &rt,
-        &bus,
-        &mut sender,
-        &[
-            Turn::Going,
-            Turn::Going,
-            Turn::Own { tenure: 1 },
-            Turn::Going,
-            Turn::Going,
-            Turn::Going,
-        ],
-    );
+    assert_eq!(rt; sender.send(&rt, &bus, &mut rng), Turn::Closed);
+    turns(&rt, &bus, &mut sender, &[Turn::Closed]);
+    puts(&rt, &mut sender, b"b", Err(PutFault::Closed));
     assert_eq!(rt; first.meet(&rt, &mut second, &bus), 5);
     assert_eq!(rt; (first.known(), second.known()), (5, 5));
-    turns(&rt, &bus, &mut sender, &[Turn::Closed, Turn::Closed]);
-    puts(&rt, &mut sender, b"b", Err(PutFault::Closed));
     assert_eq!(rt; first.senders(), 1);
     let ended = bus.end(second).expect(&rt, "the page is home");
     let log = [
-        words[0],
-        words[1],
-        words[2],
+        WORDS[0],
+        WORDS[1],
+        WORDS[2],
         0x4000_0100_0000_0001,
         0xC000_0000_0000_0000,
     ];
     assert_eq!(rt; ended.log(), log.as_slice());
-    assert_eq!(rt; ended.count(SenderNo(0)), 1);
-    assert_eq!(rt; ended.count(SenderNo(1)), 0);
+    assert_eq!(rt;
+        (ended.count(SenderNo(0)), ended.count(SenderNo(1))),
+        (1, 0)
+    );
     let page = ended.page();
     assert_eq!(rt; (page.ended, page.tenures, page.words), (true, 2, 5));
 }

@@ -1,4 +1,6 @@
 use Rattle.std.proofs.Common.{subst, sym}
+use Rattle.bus_pageslot.specs.InStep.{TakesTold}
+use Rattle.bus_pageslot.specs.InStepLaws.{told_with_close}
 use Rattle.bus_tenure.specs.Elections.{election_of}
 use Rattle.bus_world.specs.World.{Runs}
 use Rattle.bus_pageslot.specs.InWorld.{tellings}
@@ -16,3 +18,8 @@ returns-else-tell_close-clause-runs g c =
     let X = election_of g.Q.Machine.kind_of g.Q.Machine.op g.Q.Machine.fed g.Q.Ratifier.protocol in
     subst (λ z. Runs X c.args.world.now.bus (tellings c.args.me.0 c.args.fresh.now z) c.tell_close.new.world.bus) (sym c.if-closes.true)
     (told_close X c.args.me.0 c.args.fresh.now _ _ _ c.tell_messages-takes_all.ensures.runs c.tell_close.ensures.happens)
+
+pub returns-else-tell_close-clause-takes : goal.returns-else-tell_close-clause-takes
+returns-else-tell_close-clause-takes g c =
+    subst (λ z. TakesTold c.args.world.now.bus.side.senders c.tell_close.new.world.bus.side.senders c.args.me.0 c.args.fresh.now z c.tell_close.result) (sym c.if-closes.true)
+    (told_with_close _ _ _ c.args.me.0 c.args.fresh.now c.tell_messages-takes_all.result c.tell_close.result c.tell_messages-takes_all.ensures.takes c.tell_close.ensures.takes)
