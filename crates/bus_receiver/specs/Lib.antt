@@ -1,3 +1,5 @@
 pub mod Hearing
+pub mod HearingRuns
+pub mod HearingLaws
 pub mod Receiving
 pub mod ReceivingLaws

@@ -2,6 +2,7 @@
 #![tactic(auto)]
 
 pub mod hearing;
+pub mod laws;
 pub mod receivers;
 
 pub use hearing::Heard;

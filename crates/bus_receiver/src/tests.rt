@@ -9,6 +9,7 @@ use bus_pageslot::{Bus, Sender};
 use bus_register::SenderNo;
 use bus_tenure::Turn;
 use bus_world::Shape;
+use std::alloc::Global;
 use std::cmp::Ordering;
 use std::process::Abort;
 use std::sync::Wait;
@@ -66,47 +67,53 @@ fn head(tenure: u64) -> RecvTurn {
     }
 }
 
-#[test]
-fn told_and_meet(rt: HostRuntime) {
-    let (bus, mut senders, mut taps) = Bus::new(rt.alloc(), SMALL).expect(&rt, "memory");
-    let mut sender = senders.pop().expect(&rt, "a sender");
-    let mut second = Receiver::new(taps.pop().expect(&rt, "a pass"));
-    let mut first = Receiver::new(taps.pop().expect(&rt, "a pass"));
+/// The small bus with its sender and its receivers, once the a stands in the log. The first receiver
+/// has read it, the second has taken no turn.
+fn with_an_a<R: Abort + Wait>(rt: &R, alloc: Global) -> (Bus, Sender, Receiver, Receiver) {
+    let (bus, mut senders, mut taps) = Bus::new(alloc, SMALL).expect(rt, "memory");
+    let mut sender = senders.pop().expect(rt, "a sender");
+    let second = Receiver::new(taps.pop().expect(rt, "a pass"));
+    let mut first = Receiver::new(taps.pop().expect(rt, "a pass"));
     assert!(rt; sender.next_number() < 1000);
     assert_eq!(rt; sender.put(b"a"), Ok(0));
-    turns_to(&rt, &bus, &mut sender, Turn::Own { tenure: 0 });
-    hears(&rt, &bus, &mut first, &[RecvTurn::Empty]);
+    turns_to(rt, &bus, &mut sender, Turn::Own { tenure: 0 });
+    hears(rt, &bus, &mut first, &[RecvTurn::Empty]);
     let delivered = Turn::Delivered {
         tenure: 0,
         first: 0,
         last: 0,
     };
-    turns_to(&rt, &bus, &mut sender, delivered);
+    turns_to(rt, &bus, &mut sender, delivered);
     hears(
-        &rt,
+        rt,
         &bus,
         &mut first,
-        &[RecvTurn::Going, head(0), RecvTurn::Going, item_a(&rt)],
+        &[RecvTurn::Going, head(0), RecvTurn::Going, item_a(rt)],
     );
-    assert_eq!(rt; first.place(), 3);
+    (bus, sender, first, second)
+}
+
+#[test]
+fn told_and_meet(rt: HostRuntime) {
+    let (bus, mut sender, mut first, mut second) = with_an_a(&rt, rt.alloc());
+    assert_eq!(rt; (first.place(), second.place()), (3, 0));
     second.told(&rt, &mut sender, &bus);
     hears(&rt, &bus, &mut second, &[head(0), RecvTurn::Going]);
     assert_eq!(rt; first.meet(&rt, &mut second, &bus), Ordering::Greater);
     hears(&rt, &bus, &mut second, &[item_a(&rt), RecvTurn::Empty]);
     assert_eq!(rt; first.meet(&rt, &mut second, &bus), Ordering::Equal);
+}
+
+#[test]
+fn to_the_end(rt: HostRuntime) {
+    let (bus, mut sender, mut first, mut second) = with_an_a(&rt, rt.alloc());
     assert_eq!(rt; sender.close(), Ok(()));
     turns_to(&rt, &bus, &mut sender, Turn::Own { tenure: 1 });
     turns_to(&rt, &bus, &mut sender, Turn::Closed);
     assert_eq!(rt; first.take(&rt, &bus), head(1));
-    assert_eq!(rt; first.meet(&rt, &mut second, &bus), Ordering::Greater);
     assert_eq!(rt; second.meet(&rt, &mut first, &bus), Ordering::Less);
-    hears(
-        &rt,
-        &bus,
-        &mut second,
-        &[head(1), RecvTurn::End, RecvTurn::End],
-    );
-    let ended = Receiver::end(bus, first).expect(&rt, "the page is home");
+    hears(&rt, &bus, &mut first, &[RecvTurn::End, RecvTurn::End]);
+    let ended = Receiver::end(bus, second).expect(&rt, "the page is home");
     assert_eq!(rt; ended.count(SenderNo(0)), 1);
 }
 

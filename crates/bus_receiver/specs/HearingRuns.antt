@@ -1,0 +1,29 @@
+-- What a listener has counted of answers in a row, from nothing on.
+use Rattle.std.specs.Prelude.{List, [], ◌∷◌, ◌++◌, if◌then◌else◌}
+use Rattle.bus_batch.specs.declared.messages.Item.{Item}
+use Rattle.bus_deliverylog.specs.declared.receiving.RecvTurn.{RecvTurn}
+use Rattle.bus_deliverylog.specs.declared.receiving.RecvTurn.TheVariants as turn
+use Rattle.bus_receiver.specs.Hearing.{Hearing, takes, counted}
+
+-- after one answer, taken or refused
+abbrev pub hears : Hearing → RecvTurn → Hearing
+hears h t = if takes h t then counted h t else h
+
+abbrev pub item_in : RecvTurn → List Item
+item_in turn.Going = []
+item_in turn.Empty = []
+item_in (turn.Head tenure owner) = []
+item_in (turn.Item item) = item ∷ []
+item_in turn.End = []
+
+abbrev pub item_taken : Hearing → RecvTurn → List Item
+item_taken h t = if takes h t then item_in t else []
+
+-- after any answers, and the items among those that were taken
+abbrev pub heard : Hearing → List RecvTurn → Hearing
+heard h [] = h
+heard h (t ∷ turns) = heard (hears h t) turns
+
+abbrev pub items_taken : Hearing → List RecvTurn → List Item
+items_taken h [] = []
+items_taken h (t ∷ turns) = item_taken h t ++ items_taken (hears h t) turns
