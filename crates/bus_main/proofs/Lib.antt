@@ -11,3 +11,6 @@ pub mod HexLemmas
 pub mod RepeatLemmas
 pub mod PlayLemmas
 pub mod GivenLemmas
+pub mod AuditLemmas
+pub mod RunTextLemmas
+pub mod StopLemmas

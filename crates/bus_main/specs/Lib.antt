@@ -1,6 +1,7 @@
 pub mod Grammar
 pub mod Spelled
 pub mod Printed
+pub mod Audit
 pub mod Streams
 pub mod RatifyScript
 pub mod RatifyLines
@@ -10,3 +11,5 @@ pub mod ReplayLines
 pub mod ReplayText
 pub mod ReplayRun
 pub mod ReplayTold
+pub mod RunText
+pub mod Stops

@@ -1,7 +1,9 @@
 -- What is printed where a script is refused, or a command fails.
 use Rattle.std.specs.Prelude.{ℕ, List, [], ◌∷◌, ◌++◌, codes, decimal}
 use Rattle.bus_main.specs.declared.outcomes.RunFault.{RunFault}
-use Rattle.bus_main.specs.declared.outcomes.RunFault.TheVariants.{Read, Write, TooMuch, NoMemory}
+use Rattle.bus_main.specs.declared.outcomes.RunFault.TheVariants.{Read, Write, TooMuch, NoMemory, Make, Spawn, Gate, Stopped, Audit}
+use Rattle.bus_world.specs.declared.shapes.MakeFault.{MakeFault}
+use Rattle.bus_world.specs.declared.shapes.MakeFault.TheVariants as make
 use Rattle.bus_main.specs.declared.grammar.places.Place.{Place}
 use Rattle.bus_main.specs.declared.grammar.places.Place.TheVariants.{AtLine, AtEnd}
 
@@ -13,9 +15,23 @@ place_text AtEnd = codes "end"
 abbrev pub refusal_line : Place → List ℕ → List ℕ
 refusal_line place name = place_text place ++ codes ": " ++ name ++ 10 ∷ []
 
+-- why there is no bus
+abbrev pub make_text : MakeFault → List ℕ
+make_text make.Senders = codes "shape refused"
+make_text make.Receivers = codes "shape refused"
+make_text make.Rounds = codes "shape refused"
+make_text make.Rows = codes "shape refused"
+make_text make.LogWords = codes "shape refused"
+make_text make.NoMemory = codes "no memory"
+
 -- what is wrong where a command could not do its work
 abbrev pub fault_text : RunFault → List ℕ
 fault_text Read = codes "read failed"
 fault_text Write = codes "write failed"
 fault_text TooMuch = codes "input too long"
 fault_text NoMemory = codes "no memory"
+fault_text (Make why) = make_text why
+fault_text Spawn = codes "thread not started"
+fault_text Gate = codes "gate"
+fault_text (Stopped sender) = codes "sender stopped"
+fault_text (Audit why) = codes "audit failed"

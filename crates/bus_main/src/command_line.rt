@@ -1,6 +1,8 @@
 //! The command line of `bus`.
 
-use clap::{Command, Error};
+use crate::run::printing::Request;
+use clap::builder::ValueParser;
+use clap::{Arg, ArgAction, ArgMatches, Command, Error, value_parser};
 use std::alloc::Global;
 
 /// What the program is asked to do.
@@ -8,6 +10,7 @@ use std::alloc::Global;
 pub enum Task {
     Ratify,
     Replay,
+    Run(Request),
 }
 
 /// The task that the words name, of which the first is the program's name.
@@ -21,10 +24,44 @@ pub fn parse<'a>(alloc: Global, words: &'a [String]) -> Result<Task, Error> {
         .subcommand_required(true)
         .disable_help_subcommand(true)
         .subcommand(ratify)?
-        .subcommand(replay)?;
+        .subcommand(replay)?
+        .subcommand(run_command(alloc)?)?;
     let matches = bus.try_get_matches_from(words)?;
-    match matches.subcommand_name() {
-        Some("replay") => Ok(Task::Replay),
+    match matches.subcommand() {
+        Some(("replay", _)) => Ok(Task::Replay),
+        Some(("run", given)) => Ok(Task::Run(request_of(given))),
         _ => Ok(Task::Ratify),
+    }
+}
+
+/// The command `run`.
+fn run_command<'a>(alloc: Global) -> Result<Command<'a>, Error> {
+    let eight = value_parser!(u64).range(1..9);
+    let few = value_parser!(u64).range(0..401);
+    let command = Command::new(alloc, "run")
+        .about("Runs a bus, with a thread for each sender and each receiver")
+        .arg(number(alloc, "senders", "3", eight))?
+        .arg(number(alloc, "receivers", "2", value_parser!(u64).range(1..9)))?
+        .arg(number(alloc, "messages", "100", few))?
+        .arg(number(alloc, "seed", "7", value_parser!(u64)))?;
+    Ok(command)
+}
+
+/// An option that has a number.
+fn number<'a>(alloc: Global, name: &'a str, default: &'a str, parser: ValueParser<'a>) -> Arg<'a> {
+    Arg::new(alloc, name)
+        .long(name)
+        .action(ArgAction::Set)
+        .value_parser(parser)
+        .default_value(default)
+}
+
+/// The run that the options of `run` ask for.
+fn request_of(given: &ArgMatches<'_>) -> Request {
+    Request {
+        senders: given.get_one::<u64>("senders").unwrap_or(3),
+        receivers: given.get_one::<u64>("receivers").unwrap_or(2),
+        messages: given.get_one::<u64>("messages").unwrap_or(100),
+        seed: given.get_one::<u64>("seed").unwrap_or(7),
     }
 }

@@ -1,15 +1,17 @@
 //! The program `bus`. `bus ratify` and `bus replay` read a script from standard input and write its
-//! answer to standard output.
+//! answer to standard output. `bus run` lets threads share a bus, and writes what came of it.
 //!
-//! Exit status: 0 where the script was played; 1 where it was refused or the program could not do
+//! Exit status: 0 where the script was played or the bus was run; 1 where a script was refused or the program could not do
 //! its work, which standard error then says; 2 where the command line was refused or asked for help.
 #![tactic(auto)]
 
+pub mod audit;
 mod command_line;
 mod grammar;
 mod outcomes;
 mod ratify;
 mod replay;
+pub mod run;
 mod streams;
 #[cfg(test)]
 mod tests;
@@ -18,10 +20,13 @@ use self::command_line::{Task, parse};
 use self::outcomes::{Outcome, RunFault};
 use self::ratify::ratify;
 use self::replay::replay;
+use self::run::printing::print_run;
 use bus_adoptcommit::TwoCollect;
 use clap::error::ErrorKind;
 use std::process::ExitCode;
 use std::rt::Env;
+use std::sync::Wait;
+use std::thread::Threads;
 use std::{env, io};
 
 fn main(rt: HostRuntime) -> ExitCode {
@@ -29,7 +34,7 @@ fn main(rt: HostRuntime) -> ExitCode {
 }
 
 /// The whole program.
-fn bus<R: AllocGlobal + Env + Input + Print + Eprint>(rt: &R) -> ExitCode {
+fn bus<R: AllocGlobal + Env + Input + Print + Eprint + Threads + Wait + Sync>(rt: &R) -> ExitCode {
     let words = match given_words(rt) {
         Ok(words) => words,
         Err(error) if error.kind() == io::ErrorKind::OutOfMemory => {
@@ -49,6 +54,7 @@ fn bus<R: AllocGlobal + Env + Input + Print + Eprint>(rt: &R) -> ExitCode {
             rt,
             replay::<TwoCollect, _, _>(rt.alloc(), &mut rt.reader(), &mut io::writer(rt)),
         ),
+        Ok(Task::Run(request)) => end(rt, print_run(rt, rt.alloc(), request, &mut io::writer(rt))),
         Err(error) if error.kind() == ErrorKind::OutOfMemory => end(rt, Err(RunFault::NoMemory)),
         Err(error) => {
             let _ = rt.eprint(&error);

@@ -2,9 +2,11 @@
 
 ghost use Rattle.std.specs.Prelude.{◌≡◌, Some};
 ghost use Rattle.bus_main.specs.Printed.{fault_text};
-ghost use Rattle.bus_main.specs.declared.outcomes.RunFault.TheVariants.{NoMemory as no_memory};
+ghost use Rattle.bus_main.specs.declared.outcomes.RunFault.TheVariants.{NoMemory as no_memory, Make as not_made, Audit as not_fair};
 
+use crate::audit::AuditFault;
 use bus_register::NoMemory;
+use bus_world::MakeFault;
 use std::alloc::AllocError;
 use std::fmt;
 
@@ -31,6 +33,16 @@ pub enum RunFault {
     /// The input is longer than a script may be.
     TooMuch,
     NoMemory,
+    /// No bus was made.
+    Make(MakeFault),
+    /// A thread could not be started.
+    Spawn,
+    /// A gate let a sender's worker not through.
+    Gate,
+    /// A sender could not send, or not close.
+    Stopped { sender: u64 },
+    /// A receiver was given something else than all.
+    Audit(AuditFault),
 }
 
 impl fmt::Display for RunFault {
@@ -41,7 +53,12 @@ impl fmt::Display for RunFault {
             RunFault::Read => "read failed",
             RunFault::Write => "write failed",
             RunFault::TooMuch => "input too long",
-            RunFault::NoMemory => "no memory",
+            RunFault::NoMemory | RunFault::Make(MakeFault::NoMemory) => "no memory",
+            RunFault::Make(_) => "shape refused",
+            RunFault::Spawn => "thread not started",
+            RunFault::Gate => "gate",
+            RunFault::Stopped { .. } => "sender stopped",
+            RunFault::Audit(_) => "audit failed",
         })
     }
 }
@@ -59,5 +76,21 @@ impl From<NoMemory> for RunFault {
 
     fn from(_error: NoMemory) -> RunFault {
         RunFault::NoMemory
+    }
+}
+
+impl From<MakeFault> for RunFault {
+    ghost from_gives = { λ why fault. fault ≡ not_made why };
+
+    fn from(why: MakeFault) -> RunFault {
+        RunFault::Make(why)
+    }
+}
+
+impl From<AuditFault> for RunFault {
+    ghost from_gives = { λ why fault. fault ≡ not_fair why };
+
+    fn from(why: AuditFault) -> RunFault {
+        RunFault::Audit(why)
     }
 }

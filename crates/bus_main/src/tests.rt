@@ -2,6 +2,7 @@
 
 mod random;
 mod replay;
+mod run;
 mod streams;
 mod tour;
 
@@ -251,6 +252,17 @@ fn command_lines(rt: HostRuntime) {
     refuses_words(&rt, &["help"], ErrorKind::InvalidSubcommand);
     refuses_words(&rt, &["ratify", "x"], ErrorKind::UnknownArgument);
     refuses_words(&rt, &["replay", "x"], ErrorKind::UnknownArgument);
+    for rest in [
+        ["run", "--senders", "0"],
+        ["run", "--senders", "9"],
+        ["run", "--receivers", "0"],
+        ["run", "--receivers", "9"],
+        ["run", "--messages", "401"],
+        ["run", "--seed", "18446744073709551616"],
+        ["run", "--seed", "x"],
+    ] {
+        refuses_words(&rt, &rest, ErrorKind::ValueValidation);
+    }
     refuses_words(&rt, &["--help"], ErrorKind::DisplayHelp);
     refuses_words(&rt, &["ratify", "-h"], ErrorKind::DisplayHelp);
 }

@@ -1,5 +1,6 @@
 use Rattle.std.proofs.Common.{◌++◌, take}
-use Rattle.bus_main.proofs.StreamLemmas.{Appends-then, front_done}
+use Rattle.std.proofs.KnownBytes.{Appends-trans}
+use Rattle.bus_main.proofs.StreamLemmas.{front_done}
 use Rattle.bus_main.proofs.streams.write_whole.Goals as goal
 
 pub loop-rest-preserved : goal.loop-rest-preserved
@@ -8,5 +9,5 @@ loop-rest-preserved g c =
     record {
       done = h.done ++ take c.in-Ok.count c.loop-rest.rest.now;
       parts = front_done c.args.text.now h.done c.loop-rest.rest.now c.in-Ok.count h.parts;
-      written = Appends-then _ _ _ _ _ h.written c.in-Ok.ensures.bytes;
+      written = Appends-trans _ _ _ _ _ h.written c.in-Ok.ensures.bytes;
     }

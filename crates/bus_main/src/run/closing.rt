@@ -1,0 +1,140 @@
+//! What a run leaves behind, once all its workers have ended.
+
+ghost use Rattle.std.specs.Prelude.{◌≡◌, ◌≢◌, ◌≤◌, ◌<◌, ◌+◌, ◌⊎◌, ℕ, All, length, Some, IfOk, OnOk, IfErr, IsErrOf};
+ghost use Rattle.std.specs.List.{list_any};
+ghost use Rattle.bus_main.specs.Audit.{OfOrder, IsSpelled, IsFair, SendsEach};
+ghost use Rattle.bus_main.specs.Stops.{is_gate, lowest, first_stop};
+ghost use Rattle.bus_deliverylog.specs.Orders.{of_sender};
+ghost use Rattle.bus_main.specs.declared.outcomes.RunFault.{RunFault as Fault};
+ghost use Rattle.bus_main.specs.declared.outcomes.RunFault.TheVariants.{Stopped as stopped};
+
+use crate::audit::audit;
+use crate::outcomes::RunFault;
+use crate::run::Report;
+use crate::run::crews::Crew;
+use crate::run::workers::{Desk, Ear};
+use bus_pageslot::{Bus, Ended};
+use bus_receiver::{Heard, Receiver};
+use bus_register::SenderNo;
+use bus_world::Shape;
+use std::sync::Wait;
+
+/// Ends the bus that the crew has closed, unless a worker failed, and holds what it left behind
+/// against what each sender was to send and each receiver noted.
+pub fn end_and_audit<W: Wait>(
+    wait: &W,
+    bus: Bus,
+    crew: Crew,
+    mut heards: Vec<Heard>,
+    shape: Shape,
+    messages: u64,
+) -> Result<Report, RunFault>
+    requires { shape.senders ≤ 8 }
+    ensures sent { IfOk result (λ report. OfOrder report.ended (SendsEach shape.senders messages)) }
+    ensures heard { IfOk result (λ report. OfOrder report.ended (λ order. All (IsFair order) report.heards.items)) }
+    ensures each { IfOk result (λ report. length report.heards.items ≡ shape.receivers) }
+    ensures spelled { IfOk result (λ report. IsSpelled report.ended) }
+
+    // Who could not be started comes before what stopped a sender, and that before all else.
+    ensures spawn { (length crew.desks.items ≢ shape.senders) ⊎ (length crew.ears.items ≢ shape.receivers) → IsErrOf result RunFault.Spawn }
+    ensures stopped { length crew.desks.items ≡ shape.senders → length crew.ears.items ≡ shape.receivers → (fault : Fault) → first_stop (λ desk. desk.fault) crew.desks.items ≡ Some fault → IsErrOf result fault }
+{
+    let Crew {
+        mut desks,
+        ears,
+        ..
+    } = crew;
+    if desks.len() as u64 != shape.senders || ears.len() as u64 != shape.receivers {
+        return Err(RunFault::Spawn);
+    }
+    if let Some(fault) = first_fault(desks.as_slice()) {
+        return Err(fault);
+    }
+    let ended = end_bus(wait, bus, &mut desks, ears, &mut heards)?;
+    all_sent(&ended, shape.senders, messages)?;
+    audit(&ended, heards.as_slice())?;
+    if heards.len() as u64 != shape.receivers {
+        return Err(RunFault::Spawn);
+    }
+    Ok(Report { ended, heards })
+}
+
+/// What stopped a sender: a gate before all else, and then what stopped the lowest.
+fn first_fault(desks: &[Desk]) -> Option<RunFault>
+    ensures { result ≡ first_stop (λ desk. desk.fault) desks.now }
+{
+    if gate_refused(desks) {
+        Some(RunFault::Gate)
+    } else {
+        lowest_fault(desks)
+    }
+}
+
+/// A gate let a sender's worker not through.
+fn gate_refused(desks: &[Desk]) -> bool
+    ensures { result ≡ list_any (λ desk. is_gate desk.fault) desks.now }
+{
+    for desk in desks {
+        if matches!(desk.fault, Some(RunFault::Gate)) {
+            return true;
+        }
+    }
+    false
+}
+
+/// What stopped the lowest sender that was stopped.
+fn lowest_fault(desks: &[Desk]) -> Option<RunFault>
+    ensures { result ≡ lowest (λ desk. desk.fault) desks.now }
+{
+    for desk in desks {
+        if let Some(fault) = desk.fault {
+            return Some(fault);
+        }
+    }
+    None
+}
+
+/// Each sender tells the first receiver of the log, by whose pass the bus is ended. What each
+/// receiver noted is put behind `heards`.
+fn end_bus<W: Wait>(
+    wait: &W,
+    bus: Bus,
+    desks: &mut [Desk],
+    ears: Vec<Ear>,
+    heards: &mut Vec<Heard>,
+) -> Result<Ended, RunFault> {
+    let mut first = None;
+    for ear in ears {
+        let Ear { receiver, heard } = ear;
+        if heards.push(heard).is_err() {
+            return Err(RunFault::NoMemory);
+        }
+        if first.is_none() {
+            first = Some(receiver);
+        }
+    }
+    let Some(mut first) = first else {
+        return Err(RunFault::Spawn);
+    };
+    for desk in desks.iter_mut() {
+        first.told(wait, &mut desk.sender, &bus);
+    }
+    match Receiver::end(bus, first) {
+        Ok(ended) => Ok(ended),
+        Err(_) => Err(RunFault::Stopped { sender: 0 }),
+    }
+}
+
+/// Sees that each sender has so many items in the order that the bus left behind.
+fn all_sent(ended: &Ended, senders: u64, messages: u64) -> Result<(), RunFault>
+    requires { senders ≤ 8 }
+    ensures ok { OnOk result (OfOrder ended.now (SendsEach senders messages)) }
+    ensures fault { IfErr result (λ fault. OfOrder ended.now (λ order. (s : ℕ) × (fault ≡ stopped s) × (s < senders) × SendsEach s messages order × (length (of_sender s order) ≢ messages))) }
+{
+    for number in 0..senders {
+        if ended.count(SenderNo(number as u8)) != messages {
+            return Err(RunFault::Stopped { sender: number });
+        }
+    }
+    Ok(())
+}

@@ -1,0 +1,14 @@
+-- The commands: their messages, and what they do.
+use Rattle.std.specs.Prelude.{ℕ, ◌+◌, ◌%◌, ◌^◌, List, [], ◌∷◌, slice_index, slice_set}
+use Rattle.example_counters.specs.declared.Command.{Command}
+use Rattle.example_counters.specs.declared.Command.TheVariants.{Add, Reset}
+
+-- `+`, the counter and the amount, or `0`, the counter and 0
+abbrev pub message_of : Command → List ℕ
+message_of (Add counter amount) = 43 ∷ counter ∷ amount ∷ []
+message_of (Reset counter) = 48 ∷ counter ∷ 0 ∷ []
+
+-- the counters after a command; one that names no counter changes none
+abbrev pub changed : Command → List ℕ → List ℕ
+changed (Add counter amount) counters = slice_set counters counter ((slice_index counters counter + amount) % 2 ^ 64)
+changed (Reset counter) counters = slice_set counters counter 0
