@@ -4,7 +4,7 @@ use Rattle.bus_register.specs.declared.kinds.Kind.{Kind}
 use Rattle.bus_register.specs.declared.kinds.Kind.TheVariants as kind
 use Rattle.bus_register.specs.declared.registers.Op.{Op}
 use Rattle.bus_register.specs.declared.registers.Op.TheVariants.{Load, Store}
-use Rattle.bus_walkcoin.specs.Coin.{CoinState, coin_started, coin_kind, coin_op, coin_fed, answer_of}
+use Rattle.bus_walkcoin.specs.Coin.{coin_started, coin_kind, coin_op, coin_fed, answer_of}
 use Rattle.bus_walkcoin.specs.Coin as coin
 use Rattle.bus_coinconc.specs.declared.conciliators.Stage.{Stage}
 use Rattle.bus_coinconc.specs.declared.conciliators.Stage.TheVariants.{SetMark, ReadOtherMark, Alone, AskCoin}

@@ -1,0 +1,4 @@
+pub mod Sizes
+pub mod Ranges
+pub mod Needs
+pub mod Checks

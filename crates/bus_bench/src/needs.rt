@@ -1,0 +1,114 @@
+//! What a sitting takes of a bus, and whether a bus has it.
+
+ghost use Rattle.std.specs.Prelude.{◌≡◌, ◌*◌, ◌<◌, ◌≤◌, ◌⊎◌, IfOk, IfErr, OnOk, OnErr};
+
+use crate::request::{Request, Size};
+use std::fmt;
+
+/// How many messages a batch has at most.
+pub const BATCH: u64 = 16;
+
+/// How many tenures a bus has.
+pub const TENURES: u64 = 256;
+
+/// How many words the log of a bus has.
+pub const LOG_WORDS: u64 = 65_536;
+
+/// What a sitting takes that does not fit a bus: it has too few tenures, or log words, or both.
+#[derive(Clone, Copy, Debug, PartialEq, Eq)]
+pub struct Shortage {
+    pub tenures: u128,
+    pub words: u128,
+}
+
+impl fmt::Display for Shortage {
+    fn fmt<W: fmt::Write>(&self, f: &mut fmt::Formatter<W>) -> fmt::Result {
+        let (tenures, words) = (self.tenures, self.words);
+        let few_tenures = tenures > u128::from(TENURES);
+        let few_words = words > u128::from(LOG_WORDS);
+        if few_tenures {
+            write!(f, "{tenures} tenures are needed, and a bus has {TENURES}")?;
+        }
+        if few_tenures && few_words {
+            write!(f, "; ")?;
+        }
+        if few_words {
+            write!(f, "{words} log words are needed, and a bus has {LOG_WORDS}")?;
+        }
+        Ok(())
+    }
+}
+
+/// A measurement that fits a bus.
+#[derive(Clone, Copy, Debug, PartialEq, Eq)]
+pub struct Load {
+    pub senders: u64,
+    pub receivers: u64,
+    /// Of each sender.
+    pub messages: u64,
+    pub size: Size,
+    pub repetitions: u64,
+    ghost few_senders: { senders ≤ 8 },
+    ghost few_receivers: { receivers ≤ 8 },
+    ghost few_items: { senders * messages ≤ 4080 },
+    ghost few_repetitions: { repetitions ≤ 10000 },
+}
+
+impl Load {
+    /// How many items each receiver gets.
+    pub fn items(self) -> u64
+        ensures { result ≡ self.senders * self.messages }
+    {
+        self.senders * self.messages
+    }
+}
+
+impl Request {
+    ghost use Rattle.bus_bench.specs.Needs.{batches_of, tenures_of, words_of};
+
+    /// How many batches each sender sends.
+    fn batches(self) -> u128
+        ensures { result ≡ batches_of self }
+    {
+        (u128::from(self.messages) + 15) / u128::from(BATCH)
+    }
+
+    /// How many tenures a sitting takes: one for each batch, and one for the close.
+    pub fn tenures_needed(self) -> u128
+        ensures { result ≡ tenures_of self }
+    {
+        u128::from(self.senders) * self.batches() + 1
+    }
+
+    /// How many log words a sitting takes: one for each batch, for each message one and those of its
+    /// bytes, and two for the close.
+    pub fn words_needed(self) -> u128
+        ensures { result ≡ words_of self }
+    {
+        let each = 1 + self.size.bytes() as u128 / 8;
+        u128::from(self.senders) * (self.batches() + u128::from(self.messages) * each) + 2
+    }
+
+    /// The same, if a bus has enough for it.
+    pub fn load(self) -> Result<Load, Shortage>
+        ensures workers { IfOk result (λ load. (load.senders ≡ self.senders) × (load.receivers ≡ self.receivers)) }
+        ensures messages { IfOk result (λ load. (load.messages ≡ self.messages) × (load.size ≡ self.size)) }
+        ensures repetitions { IfOk result (λ load. load.repetitions ≡ self.repetitions) }
+        ensures fits { OnOk result ((tenures_of self ≤ 256) × (words_of self ≤ 65536)) }
+        ensures needed { IfErr result (λ short. (short.tenures ≡ tenures_of self) × (short.words ≡ words_of self)) }
+        ensures short { OnErr result ((256 < tenures_of self) ⊎ (65536 < words_of self)) }
+    {
+        let tenures = self.tenures_needed();
+        let words = self.words_needed();
+        if tenures > u128::from(TENURES) || words > u128::from(LOG_WORDS) {
+            return Err(Shortage { tenures, words });
+        }
+        Ok(Load {
+            senders: self.senders,
+            receivers: self.receivers,
+            messages: self.messages,
+            size: self.size,
+            repetitions: self.repetitions,
+        })
+    }
+}

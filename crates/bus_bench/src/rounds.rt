@@ -1,0 +1,87 @@
+//! One round: a new bus, all messages, and how long they took.
+
+use crate::checks::{check, close_and_end};
+use crate::crews::{Crew, Worked, man};
+use crate::faults::Fault;
+use crate::needs::{LOG_WORDS, Load, TENURES};
+use crate::workers::Ear;
+use bus_pageslot::Bus;
+use bus_world::Shape;
+use std::alloc::Global;
+use std::sync::Wait;
+use std::thread::Threads;
+use std::time::{Clock, Instant};
+
+/// How many nanoseconds a round took until the last receiver had all items.
+#[derive(Clone, Copy, Debug, PartialEq, Eq)]
+pub struct Times {
+    /// From the opening of the gate.
+    pub from_gate: u64,
+    /// From before the first thread was started.
+    pub with_start: u64,
+}
+
+/// The bus of a round.
+fn shape_of(load: Load) -> Shape {
+    Shape {
+        senders: load.senders,
+        receivers: load.receivers,
+        rounds: 4,
+        rows: TENURES,
+        log_words: LOG_WORDS,
+    }
+}
+
+/// Runs a round to its end and checks it.
+pub fn round<R: Threads + Wait + Clock + Sync>(
+    rt: &R,
+    alloc: Global,
+    load: Load,
+    seed: u64,
+) -> Result<Times, Fault> {
+    let (bus, senders, taps) = Bus::new(alloc, shape_of(load))?;
+    let crew = Crew::new(alloc, senders, taps, load, seed)?;
+    let Worked {
+        crew,
+        started,
+        opened,
+    } = man(rt, &bus, load, crew);
+    if let Some(fault) = crew.fault(load) {
+        return Err(fault);
+    }
+    let times = times_of(&crew.ears, started, opened)?;
+    check(&crew.ears, load)?;
+    close_and_end(rt, bus, crew, load)?;
+    Ok(times)
+}
+
+/// How long the last receiver took.
+fn times_of(
+    ears: &[Ear],
+    started: Option<Instant>,
+    opened: Option<Instant>,
+) -> Result<Times, Fault> {
+    let (Some(started), Some(opened)) = (started, opened) else {
+        return Err(Fault::Clock);
+    };
+    let mut times = Times {
+        from_gate: 0,
+        with_start: 0,
+    };
+    for ear in ears {
+        let Some(done) = ear.done else {
+            return Err(Fault::Clock);
+        };
+        times.from_gate = times.from_gate.max(nanoseconds(done, opened));
+        times.with_start = times.with_start.max(nanoseconds(done, started));
+    }
+    Ok(times)
+}
+
+/// The nanoseconds from `earlier` to `later`; at most `u64::MAX`.
+fn nanoseconds(later: Instant, earlier: Instant) -> u64 {
+    match u64::try_from(later.duration_since(earlier).as_nanos()) {
+        Ok(nanoseconds) => nanoseconds,
+        Err(_) => u64::MAX,
+    }
+}
