@@ -1,16 +1,16 @@
 -- The lowest of the senders that were stopped, as a loop finds it.
 use Rattle.std.proofs.Common.{◌≡◌, ℕ, zero, suc, ◌+◌, ◌<◌, List, [], ◌∷◌, Option, None, Some, length, take, slice_index_or, refl, sym, ap, subst, ◌∙◌, arith}
 use Rattle.std.proofs.lemmas.Option.{none-some}
-use Rattle.bus_main.specs.declared.outcomes.RunFault.{RunFault}
+use Rattle.bus_main.specs.declared.outcomes.SenderFault.{SenderFault}
 use Rattle.bus_main.specs.Stops.{before, lowest}
 
-none_before : (a b : Option RunFault) → before a b ≡ None → (a ≡ None) × (b ≡ None)
+none_before : (a b : Option SenderFault) → before a b ≡ None → (a ≡ None) × (b ≡ None)
 none_before None b e = (refl, e)
 none_before (Some a) b e = absurd (none-some a (sym e))
 
-module _ {A : Type 0} (fault : A → Option RunFault) where
+module _ {A : Type 0} (fault : A → Option SenderFault) where
   -- the first that was stopped
-  pub lowest_at : (xs : List A) (i : ℕ) (d : A) (r : RunFault) → i < length xs → lowest fault (take i xs) ≡ None → fault (slice_index_or xs i d) ≡ Some r → lowest fault xs ≡ Some r
+  pub lowest_at : (xs : List A) (i : ℕ) (d : A) (r : SenderFault) → i < length xs → lowest fault (take i xs) ≡ None → fault (slice_index_or xs i d) ≡ Some r → lowest fault xs ≡ Some r
   lowest_at [] i d r l e h = absurd (omega arith)
   lowest_at (y ∷ ys) zero d r l e h = ap (λ o. before o (lowest fault ys)) h
   lowest_at (y ∷ ys) (suc i) d r l e h =

@@ -2,6 +2,7 @@
 
 ghost use Rattle.std.specs.Prelude.{◌≡◌, Some};
 ghost use Rattle.bus_main.specs.Printed.{fault_text};
+ghost use Rattle.bus_main.specs.Stops.{fault_of};
 ghost use Rattle.bus_main.specs.declared.outcomes.RunFault.TheVariants.{NoMemory as no_memory, Make as not_made, Audit as not_fair};
 
 use crate::audit::AuditFault;
@@ -43,6 +44,15 @@ pub enum RunFault {
     Stopped { sender: u64 },
     /// A receiver was given something else than all.
     Audit(AuditFault),
+}
+
+/// What stopped a sender of a run.
+#[derive(Clone, Copy, Debug, PartialEq, Eq)]
+pub enum SenderFault {
+    /// The gate let its worker not through.
+    Gate,
+    /// It could not put, send or close.
+    Stopped { sender: u64 },
 }
 
 impl fmt::Display for RunFault {
@@ -92,5 +102,16 @@ impl From<AuditFault> for RunFault {
 
     fn from(why: AuditFault) -> RunFault {
         RunFault::Audit(why)
+    }
+}
+
+impl From<SenderFault> for RunFault {
+    ghost from_gives = { λ why fault. fault ≡ fault_of why };
+
+    fn from(why: SenderFault) -> RunFault {
+        match why {
+            SenderFault::Gate => RunFault::Gate,
+            SenderFault::Stopped { sender } => RunFault::Stopped { sender },
+        }
     }
 }

@@ -1,8 +1,9 @@
 //! `bus run`: a bus that a worker of each sender and of each receiver takes its steps on.
 
-ghost use Rattle.std.specs.Prelude.{◌≡◌, ◌≤◌, ◌<◌, ℕ, All, length, IfOk, OnOk, true};
+ghost use Rattle.std.specs.Prelude.{◌≡◌, ◌≤◌, ◌<◌, ℕ, All, length, IfOk, OnOk, IfErr, true};
 ghost use Rattle.bus_world.specs.Playing.{IsServed};
 ghost use Rattle.bus_main.specs.Audit.{OfOrder, IsSpelled, IsFair, SendsEach, shape_of_run};
+ghost use Rattle.bus_main.specs.Stops.{IsRunFault};
 
 pub mod closing;
 pub mod crews;
@@ -68,6 +69,7 @@ pub fn run<R: Threads + Wait + Sync, G: Gate + Sync>(
     ensures heard { IfOk result (λ report. OfOrder report.ended (λ order. All (IsFair order) report.heards.items)) }
     ensures each { IfOk result (λ report. length report.heards.items ≡ receivers) }
     ensures spelled { IfOk result (λ report. IsSpelled report.ended) }
+    ensures fault { IfErr result (IsRunFault senders receivers) }
 {
     let shape = Shape {
         senders,

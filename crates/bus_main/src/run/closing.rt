@@ -3,13 +3,13 @@
 ghost use Rattle.std.specs.Prelude.{◌≡◌, ◌≢◌, ◌≤◌, ◌<◌, ◌+◌, ◌⊎◌, ℕ, All, length, Some, IfOk, OnOk, IfErr, IsErrOf};
 ghost use Rattle.std.specs.List.{list_any};
 ghost use Rattle.bus_main.specs.Audit.{OfOrder, IsSpelled, IsFair, SendsEach};
-ghost use Rattle.bus_main.specs.Stops.{is_gate, lowest, first_stop};
+ghost use Rattle.bus_main.specs.Stops.{is_gate, lowest, first_stop, fault_of, IsStop};
 ghost use Rattle.bus_deliverylog.specs.Orders.{of_sender};
-ghost use Rattle.bus_main.specs.declared.outcomes.RunFault.{RunFault as Fault};
+ghost use Rattle.bus_main.specs.declared.outcomes.SenderFault.{SenderFault};
 ghost use Rattle.bus_main.specs.declared.outcomes.RunFault.TheVariants.{Stopped as stopped};
 
 use crate::audit::audit;
-use crate::outcomes::RunFault;
+use crate::outcomes::{RunFault, SenderFault};
 use crate::run::Report;
 use crate::run::crews::Crew;
 use crate::run::workers::{Desk, Ear};
@@ -37,7 +37,8 @@ pub fn end_and_audit<W: Wait>(
 
     // Who could not be started comes before what stopped a sender, and that before all else.
     ensures spawn { (length crew.desks.items ≢ shape.senders) ⊎ (length crew.ears.items ≢ shape.receivers) → IsErrOf result RunFault.Spawn }
-    ensures stopped { length crew.desks.items ≡ shape.senders → length crew.ears.items ≡ shape.receivers → (fault : Fault) → first_stop (λ desk. desk.fault) crew.desks.items ≡ Some fault → IsErrOf result fault }
+    ensures stopped { length crew.desks.items ≡ shape.senders → length crew.ears.items ≡ shape.receivers → (fault : SenderFault) → first_stop (λ desk. desk.fault) crew.desks.items ≡ Some fault → IsErrOf result (fault_of fault) }
+    ensures fault { IfErr result IsStop }
 {
     let Crew {
         mut desks,
@@ -48,7 +49,7 @@ pub fn end_and_audit<W: Wait>(
         return Err(RunFault::Spawn);
     }
     if let Some(fault) = first_fault(desks.as_slice()) {
-        return Err(fault);
+        return Err(fault.into());
     }
     let ended = end_bus(wait, bus, &mut desks, ears, &mut heards)?;
     all_sent(&ended, shape.senders, messages)?;
@@ -60,11 +61,11 @@ pub fn end_and_audit<W: Wait>(
 }
 
 /// What stopped a sender: a gate before all else, and then what stopped the lowest.
-fn first_fault(desks: &[Desk]) -> Option<RunFault>
+fn first_fault(desks: &[Desk]) -> Option<SenderFault>
     ensures { result ≡ first_stop (λ desk. desk.fault) desks.now }
 {
     if gate_refused(desks) {
-        Some(RunFault::Gate)
+        Some(SenderFault::Gate)
     } else {
         lowest_fault(desks)
     }
@@ -75,7 +76,7 @@ fn gate_refused(desks: &[Desk]) -> bool
     ensures { result ≡ list_any (λ desk. is_gate desk.fault) desks.now }
 {
     for desk in desks {
-        if matches!(desk.fault, Some(RunFault::Gate)) {
+        if matches!(desk.fault, Some(SenderFault::Gate)) {
             return true;
         }
     }
@@ -83,7 +84,7 @@ fn gate_refused(desks: &[Desk]) -> bool
 }
 
 /// What stopped the lowest sender that was stopped.
-fn lowest_fault(desks: &[Desk]) -> Option<RunFault>
+fn lowest_fault(desks: &[Desk]) -> Option<SenderFault>
     ensures { result ≡ lowest (λ desk. desk.fault) desks.now }
 {
     for desk in desks {
@@ -102,7 +103,9 @@ fn end_bus<W: Wait>(
     desks: &mut [Desk],
     ears: Vec<Ear>,
     heards: &mut Vec<Heard>,
-) -> Result<Ended, RunFault> {
+) -> Result<Ended, RunFault>
+    ensures { IfErr result IsStop }
+{
     let mut first = None;
     for ear in ears {
         let Ear { receiver, heard } = ear;
@@ -130,6 +133,7 @@ fn all_sent(ended: &Ended, senders: u64, messages: u64) -> Result<(), RunFault>
     requires { senders ≤ 8 }
     ensures ok { OnOk result (OfOrder ended.now (SendsEach senders messages)) }
     ensures fault { IfErr result (λ fault. OfOrder ended.now (λ order. (s : ℕ) × (fault ≡ stopped s) × (s < senders) × SendsEach s messages order × (length (of_sender s order) ≢ messages))) }
+    ensures kind { IfErr result IsStop }
 {
     for number in 0..senders {
         if ended.count(SenderNo(number as u8)) != messages {

@@ -1,11 +1,13 @@
 //! What the worker of a sender does, and that of a receiver.
 
-ghost use Rattle.std.specs.Prelude.{◌≡◌, ◌++◌, ◌∷◌, [], ◌<◌, ◌^◌, true, None, Some, replicate};
+ghost use Rattle.std.specs.Prelude.{◌≡◌, ◌++◌, ◌∷◌, [], ◌<◌, ◌≤◌, ◌⊎◌, ◌^◌, true, false, None, Some, replicate};
 ghost use Rattle.std.specs.Int.{w64, to_le_bytes, to_be_bytes};
 ghost use Rattle.rand_chacha.specs.ChaCha.{of_seed};
-ghost use Rattle.bus_main.specs.declared.outcomes.RunFault.TheVariants.{Stopped as stopped};
+ghost use Rattle.bus_batch.specs.Batches.{next_of, IsPutFault};
+ghost use Rattle.bus_batch.specs.declared.batches.PutFault.{PutFault};
+ghost use Rattle.bus_main.specs.declared.outcomes.SenderFault.TheVariants.{Stopped as stopped};
 
-use crate::outcomes::RunFault;
+use crate::outcomes::SenderFault;
 use crate::run::{Gate, Load};
 use bus_deliverylog::RecvTurn;
 use bus_pageslot::{Bus, Sender};
@@ -31,7 +33,7 @@ const TOO_MANY_ITEMS: u64 = 8 * MOST_MESSAGES + 1;
 pub struct Desk {
     pub sender: Sender,
     pub rng: ChaCha8Rng,
-    pub fault: Option<RunFault>,
+    pub fault: Option<SenderFault>,
 }
 
 /// A receiver with what was noted of its answers.
@@ -70,7 +72,7 @@ impl Desk {
         ensures before { (self.old.fault ≡ None → ⊥) → self.new.fault ≡ self.old.fault }
     {
         if self.fault.is_none() {
-            self.fault = Some(RunFault::Stopped {
+            self.fault = Some(SenderFault::Stopped {
                 sender: self.number(),
             });
         }
@@ -98,7 +100,7 @@ pub fn send_all<W: Wait, G: Gate>(
 ) -> Desk {
     for first in (0..load.messages).step_by(BATCH) {
         if !gate.arrive(desk.number()) {
-            desk.fault = Some(RunFault::Gate);
+            desk.fault = Some(SenderFault::Gate);
             return desk;
         }
         let end = load.messages.min(first.saturating_add(BATCH as u64));
@@ -122,7 +124,8 @@ fn put_all(sender: &mut Sender, first: u64, end: u64) -> bool {
 
 /// Puts a number as a message of 8 bytes, the highest first. Says whether it was taken.
 fn put_number(sender: &mut Sender, number: u64) -> bool
-    ensures { result ≡ true → sender.new.queue.messages ≡ sender.old.queue.messages ++ to_be_bytes w64 number ∷ [] }
+    ensures taken { result ≡ true → sender.new.queue.messages ≡ sender.old.queue.messages ++ to_be_bytes w64 number ∷ [] }
+    ensures refused { result ≡ false → (400 ≤ next_of sender.old.queue) ⊎ ((why : PutFault) × IsPutFault sender.old.queue 8 why) }
 {
     sender.next_number() < MOST_MESSAGES && sender.put(&number.to_be_bytes()).is_ok()
 }
