@@ -1,16 +1,4 @@
-pub mod Pieces
-pub mod NumberLemmas
-pub mod ScriptLemmas
 pub mod StreamLemmas
-pub mod RunLemmas
-pub mod SpelledLemmas
-pub mod TextLemmas
-pub mod RatifyLineLemmas
-pub mod ScriptSpelledLemmas
-pub mod HexLemmas
-pub mod RepeatLemmas
-pub mod PlayLemmas
-pub mod GivenLemmas
 pub mod AuditLemmas
 pub mod RunTextLemmas
 pub mod StopLemmas

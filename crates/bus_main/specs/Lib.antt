@@ -1,15 +1,5 @@
-pub mod Grammar
-pub mod Spelled
 pub mod Printed
 pub mod Audit
 pub mod Streams
-pub mod RatifyScript
-pub mod RatifyLines
-pub mod RatifyText
-pub mod RatifyRun
-pub mod ReplayLines
-pub mod ReplayText
-pub mod ReplayRun
-pub mod ReplayTold
 pub mod RunText
 pub mod Stops

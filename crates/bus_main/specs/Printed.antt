@@ -1,19 +1,9 @@
--- What is printed where a script is refused, or a command fails.
-use Rattle.std.specs.Prelude.{ℕ, List, [], ◌∷◌, ◌++◌, codes, decimal}
+-- What is printed where a command could not do its work.
+use Rattle.std.specs.Prelude.{ℕ, List, codes}
 use Rattle.bus_main.specs.declared.outcomes.RunFault.{RunFault}
 use Rattle.bus_main.specs.declared.outcomes.RunFault.TheVariants.{Read, Write, TooMuch, NoMemory, Make, Spawn, Gate, Stopped, Audit}
 use Rattle.bus_world.specs.declared.shapes.MakeFault.{MakeFault}
 use Rattle.bus_world.specs.declared.shapes.MakeFault.TheVariants as make
-use Rattle.bus_main.specs.declared.grammar.places.Place.{Place}
-use Rattle.bus_main.specs.declared.grammar.places.Place.TheVariants.{AtLine, AtEnd}
-
-abbrev pub place_text : Place → List ℕ
-place_text (AtLine number) = codes "line " ++ decimal number
-place_text AtEnd = codes "end"
-
--- the one line that names a refusal
-abbrev pub refusal_line : Place → List ℕ → List ℕ
-refusal_line place name = place_text place ++ codes ": " ++ name ++ 10 ∷ []
 
 -- why there is no bus
 abbrev pub make_text : MakeFault → List ℕ

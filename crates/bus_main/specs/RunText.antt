@@ -8,7 +8,7 @@ use Rattle.bus_tenure.specs.declared.pages.Page.{Page}
 use Rattle.bus_pageslot.specs.Outcomes.{Outcome}
 use Rattle.bus_receiver.specs.Hearing.{Hearing}
 use Rattle.bus_main.specs.Audit.{IsFair, SendsEach}
-use Rattle.bus_main.specs.ReplayText.{end_text}
+use Rattle.bus_replay.specs.Text.{end_text}
 
 abbrev pub sender_line : ℕ → ℕ → List ℕ
 sender_line s items = codes "sender " ++ decimal s ++ codes ": " ++ decimal items ++ 10 ∷ []

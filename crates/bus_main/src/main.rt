@@ -7,7 +7,6 @@
 
 pub mod audit;
 mod command_line;
-mod grammar;
 mod outcomes;
 mod ratify;
 mod replay;
@@ -17,11 +16,12 @@ mod streams;
 mod tests;
 
 use self::command_line::{Task, parse};
-use self::outcomes::{Outcome, RunFault};
+use self::outcomes::RunFault;
 use self::ratify::ratify;
 use self::replay::replay;
 use self::run::printing::print_run;
 use bus_adoptcommit::TwoCollect;
+use bus_script::Outcome;
 use clap::error::ErrorKind;
 use std::process::ExitCode;
 use std::rt::Env;

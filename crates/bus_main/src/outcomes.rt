@@ -1,4 +1,4 @@
-//! How a command of the program ends.
+//! Why a command of the program could not do its work.
 
 ghost use Rattle.std.specs.Prelude.{◌≡◌, Some};
 ghost use Rattle.bus_main.specs.Printed.{fault_text};
@@ -10,21 +10,6 @@ use bus_register::NoMemory;
 use bus_world::MakeFault;
 use std::alloc::AllocError;
 use std::fmt;
-
-/// A command that read its input and wrote its answer.
-#[derive(Clone, Copy, Debug, PartialEq, Eq)]
-pub enum Outcome {
-    Done,
-    /// The script was refused, and the answer says so.
-    Refused,
-}
-
-/// What a command writes for an input.
-#[derive(Debug, Drop)]
-pub struct Answer {
-    pub outcome: Outcome,
-    pub text: String,
-}
 
 /// Why a command could not do its work.
 #[derive(Clone, Copy, Debug, PartialEq, Eq)]

@@ -1,48 +1,17 @@
 //! `bus ratify`: one adopt-commit object, played by the schedule of a script.
 
-ghost use Rattle.std.specs.Prelude.{◌≡◌, ◌+◌, ◌<◌, ℕ, List, length, IfOk, OnOk, IfSome, IfErr, IsErrOf, string_bytes};
+ghost use Rattle.std.specs.Prelude.{◌+◌, ◌<◌, ℕ, List, length, IfOk, OnOk, IfSome, IsErrOf};
 ghost use Rattle.std.specs.Io.KnownBytes.{Appends, Keeps, IsAtEnd};
-ghost use Rattle.bus_main.specs.declared.outcomes.Outcome.{Outcome};
+ghost use Rattle.bus_script.specs.declared.answers.Outcome.{Outcome};
+ghost use Rattle.bus_ratify.specs.Answers.{IsAnswer};
 ghost use Rattle.bus_main.specs.Streams.{input_limit, ReadsWhole, ReadsAtMost, WritesPart};
-ghost use Rattle.bus_main.specs.RatifyRun.{IsAnswer};
 
-pub mod laws;
-pub mod refusals;
-pub mod script;
-pub mod text;
-
-use self::refusals::ReadingFault;
-use self::script::read_script;
-use self::text::{refusal_text, verdict_text};
-use crate::outcomes::{Answer, Outcome, RunFault};
+use crate::outcomes::RunFault;
 use crate::streams::{read_whole, write_whole};
-use bus_adoptcommit::TwoCollect;
-use bus_adoptcommit::objects::verdicts;
-use bus_adoptcommit::two_collect::two_collect_is_exact;
+use bus_ratify::answer_to;
+use bus_script::Outcome;
 use std::alloc::Global;
 use std::io::{Read, Write};
-
-/// What is written for an input: verdicts, or the first refusal. Memory is its only error.
-pub fn answer_to(alloc: Global, input: &[u8]) -> Result<Answer, RunFault>
-    ensures ok { IfOk result (λ answer. IsAnswer input.now answer.outcome (string_bytes answer.text)) }
-    ensures err { IfErr result (λ fault. fault ≡ RunFault.NoMemory) }
-{
-    match read_script(alloc, input) {
-        Ok(script) => {
-            two_collect_is_exact();
-            let verdicts = verdicts::<TwoCollect>(alloc, &script.inputs, &script.schedule)?;
-            Ok(Answer {
-                outcome: Outcome::Done,
-                text: verdict_text(alloc, &verdicts)?,
-            })
-        }
-        Err(ReadingFault::Refused(refusal)) => Ok(Answer {
-            outcome: Outcome::Refused,
-            text: refusal_text(alloc, refusal)?,
-        }),
-        Err(ReadingFault::NoMemory) => Err(RunFault::NoMemory),
-    }
-}
 
 /// Reads a script to its end, plays it, and writes the answer and nothing else.
 pub fn ratify<R: Read, W: Write>(

@@ -1,90 +1,19 @@
 //! `bus replay`: a bus, moved line by line by a script.
 
-ghost use Rattle.std.specs.Prelude.{◌≡◌, ℕ, ◌+◌, ◌<◌, List, length, IfOk, OnOk, IfSome, IfErr, IsErrOf, string_bytes};
+ghost use Rattle.std.specs.Prelude.{ℕ, ◌+◌, ◌<◌, List, length, IfOk, OnOk, IfSome, IsErrOf};
 ghost use Rattle.std.specs.Io.KnownBytes.{Appends, Keeps, IsAtEnd};
-ghost use Rattle.bus_tenure.specs.Elections.{Elector, election_of, layout_of};
-ghost use Rattle.bus_main.specs.declared.outcomes.Outcome.{Outcome};
-ghost use Rattle.bus_main.specs.Printed.{refusal_line};
+ghost use Rattle.bus_tenure.specs.Elections.{election_of, layout_of};
+ghost use Rattle.bus_script.specs.declared.answers.Outcome.{Outcome};
+ghost use Rattle.bus_replay.specs.Answers.{IsReplay};
 ghost use Rattle.bus_main.specs.Streams.{input_limit, ReadsWhole, ReadsAtMost, WritesPart};
-ghost use Rattle.bus_main.specs.ReplayRun.{End, Prints, Ends, IsReplay};
 
-pub mod closing;
-pub mod commands;
-pub mod hex;
-pub mod lines;
-pub mod names;
-pub mod playing;
-pub mod text;
-
-use self::closing::push_closing;
-use self::lines::shape_of;
-use self::names::make_fault_name;
-use self::playing::play;
-use crate::grammar::{Lines, Place, refusal_line};
-use crate::outcomes::{Answer, Outcome, RunFault};
+use crate::outcomes::RunFault;
 use crate::streams::{read_whole, write_whole};
 use bus_adoptcommit::Ratifier;
-use bus_world::{MakeFault, World};
+use bus_replay::answer_to;
+use bus_script::Outcome;
 use std::alloc::Global;
 use std::io::{Read, Write};
-
-/// The answer to a script that was refused before there was a bus.
-fn refused(alloc: Global, place: Place, name: &str) -> Result<Answer, RunFault>
-    ensures outcome { IfOk result (λ answer. answer.outcome ≡ Outcome.Refused) }
-    ensures text { IfOk result (λ answer. string_bytes answer.text ≡ refusal_line place name.now) }
-    ensures err { IfErr result (λ fault. fault ≡ RunFault.NoMemory) }
-{
-    Ok(Answer {
-        outcome: Outcome::Refused,
-        text: refusal_line(alloc, place, name)?,
-    })
-}
-
-/// The answer to the lines behind the shape, which move a new bus.
-fn answer_from<Q: Ratifier + Drop>(
-    alloc: Global,
-    mut world: World<Q>,
-    lines: Lines<'_>,
-) -> Result<Answer, RunFault>
-    ensures ok { let X = election_of Q.kind_of Q.op Q.fed Q.protocol in IfOk result (λ answer. (text : List ℕ) × (end : End (Elector Q)) × Prints X world.bus lines.entry text end × Ends world.layout end text answer.outcome (string_bytes answer.text)) }
-    ensures err { IfErr result (λ fault. fault ≡ RunFault.NoMemory) }
-{
-    let mut text = String::new(alloc);
-    match play(alloc, &mut world, lines, &mut text)? {
-        Outcome::Done => {
-            push_closing(alloc, &world, &mut text)?;
-            Ok(Answer {
-                outcome: Outcome::Done,
-                text,
-            })
-        }
-        Outcome::Refused => Ok(Answer {
-            outcome: Outcome::Refused,
-            text,
-        }),
-    }
-}
-
-/// What is written for an input. Memory is its only error.
-pub fn answer_to<Q: Ratifier + Drop>(alloc: Global, input: &[u8]) -> Result<Answer, RunFault>
-    ensures ok { let X = election_of Q.kind_of Q.op Q.fed Q.protocol in
-        IfOk result (λ answer. IsReplay (λ shape. (X, layout_of Q.protocol shape.senders shape.rounds shape.rows shape.log_words)) input.now answer.outcome (string_bytes answer.text)) }
-    ensures err { IfErr result (λ fault. fault ≡ RunFault.NoMemory) }
-{
-    let mut lines = Lines::new(input);
-    let Some(first) = lines.next_line() else {
-        return refused(alloc, Place::AtEnd, "BadLine");
-    };
-    let place = Place::AtLine(first.number);
-    let Some(shape) = shape_of(first.bytes) else {
-        return refused(alloc, place, "BadLine");
-    };
-    match World::<Q>::new(alloc, shape) {
-        Ok(world) => answer_from(alloc, world, lines),
-        Err(MakeFault::NoMemory) => Err(RunFault::NoMemory),
-        Err(fault) => refused(alloc, place, make_fault_name(fault)),
-    }
-}
 
 /// Reads a script to its end, moves a new bus by it, and writes the answer and nothing else.
 pub fn replay<Q: Ratifier + Drop, R: Read, W: Write>(

@@ -7,12 +7,13 @@ ghost use Rattle.bus_main.specs.RunText.{sender_line, sender_lines, receiver_lin
 ghost use Rattle.bus_main.specs.Stops.{IsStop, IsRunFault};
 
 use crate::audit::audit;
-use crate::outcomes::{Outcome, RunFault};
+use crate::outcomes::RunFault;
 use crate::run::{OpenGate, Report, run};
 use crate::streams::write_whole;
 use bus_pageslot::Ended;
 use bus_receiver::Heard;
 use bus_register::SenderNo;
+use bus_script::Outcome;
 use bus_tenure::Page;
 use std::alloc::{AllocError, Global};
 use std::io::Write;

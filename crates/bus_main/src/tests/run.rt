@@ -3,7 +3,7 @@
 ghost use Rattle.std.specs.Prelude.{◌≡◌, ◌+◌, ◌<◌, ◌^◌};
 
 use crate::audit::{AuditFault, audit};
-use crate::outcomes::{Outcome, RunFault};
+use crate::outcomes::RunFault;
 use crate::run::printing::{Request, print_run};
 use crate::run::{Gate, OpenGate, run};
 use bus_batch::{Item, Message};
@@ -11,6 +11,7 @@ use bus_deliverylog::RecvTurn;
 use bus_pageslot::{Bus, Ended};
 use bus_receiver::Heard;
 use bus_register::SenderNo;
+use bus_script::Outcome;
 use bus_world::{MakeFault, Shape};
 use std::process::Abort;
 use std::sync::Wait;

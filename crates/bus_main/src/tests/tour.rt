@@ -1,9 +1,9 @@
 //! The commented scripts of `examples/tour/`, word for word, with their outputs.
 
-use crate::outcomes::Outcome;
 use crate::ratify::ratify;
 use crate::replay::replay;
 use bus_adoptcommit::TwoCollect;
+use bus_script::Outcome;
 use std::process::Abort;
 
 /// Replays a script to its end, and wants this text.

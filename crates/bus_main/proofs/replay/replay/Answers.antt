@@ -4,7 +4,7 @@ use Rattle.bus_tenure.specs.Core.{Election, Layout}
 use Rattle.bus_tenure.specs.Elections.{Elector, election_of, layout_of}
 use Rattle.bus_world.specs.declared.shapes.Shape.{Shape}
 use Rattle.bus_main.specs.Streams.{WritesPart}
-use Rattle.bus_main.specs.ReplayRun.{IsReplay}
+use Rattle.bus_replay.specs.Answers.{IsReplay}
 use Rattle.bus_main.proofs.replay.replay.Goals as goal
 
 pub returns-in_err-write_whole-clause-write : goal.returns-in_err-write_whole-clause-write
@@ -16,7 +16,7 @@ returns-in_err-write_whole-clause-write g c is =
       answer.outcome,
       string_bytes answer.text,
       c.in_ok-input.ensures.ok,
-      subst (λ i. IsReplay of i answer.outcome (string_bytes answer.text)) c.as_slice.ensures.value c.in_ok-answer.ensures.ok,
+      subst (λ i. IsReplay of i answer.outcome (string_bytes answer.text)) c.as_slice.ensures.value c.in_ok-answer.ensures,
       subst (λ t. WritesPart (g.W.Write.contents c.args.writer.now) (g.W.Write.contents c.write_whole.new.writer) t) c.as_bytes.ensures.value c.in_err-write_whole.ensures.part,
     )
 
@@ -28,6 +28,6 @@ returns-clause-ok g c =
       c.in_ok-input.input.items,
       string_bytes answer.text,
       c.in_ok-input.ensures.ok,
-      subst (λ i. IsReplay of i answer.outcome (string_bytes answer.text)) c.as_slice.ensures.value c.in_ok-answer.ensures.ok,
+      subst (λ i. IsReplay of i answer.outcome (string_bytes answer.text)) c.as_slice.ensures.value c.in_ok-answer.ensures,
       subst (λ t. Appends (g.W.Write.contents c.args.writer.now) (g.W.Write.contents c.write_whole.new.writer) t) c.as_bytes.ensures.value c.in_ok-write_whole.ensures.ok,
     )

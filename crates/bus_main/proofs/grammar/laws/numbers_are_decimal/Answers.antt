@@ -1,7 +1,0 @@
-use Rattle.std.proofs.Common.{◌∙◌, ap}
-use Rattle.bus_main.specs.Grammar.{number_of}
-use Rattle.bus_main.proofs.SpelledLemmas.{number_spelled, number_read}
-use Rattle.bus_main.proofs.grammar.laws.numbers_are_decimal.Goals as goal
-
-pub returns : goal.returns
-returns c = λ word n. (number_spelled word n, λ h. ap number_of h.0 ∙ number_read n h.1)

@@ -1,7 +1,0 @@
-use Rattle.std.proofs.Common.{subst}
-use Rattle.bus_main.specs.Spelled.{IsText}
-use Rattle.bus_main.proofs.TextLemmas.{text_read, text_spelled}
-use Rattle.bus_main.proofs.grammar.laws.texts_are_lines.Goals as goal
-
-pub returns : goal.returns
-returns c = λ text lines. (λ e. subst (IsText text) e (text_spelled text), text_read text lines)

@@ -1,0 +1,4 @@
+pub mod StepLemmas
+pub mod PlayLemmas
+pub mod LineLemmas
+pub mod ScriptLemmas

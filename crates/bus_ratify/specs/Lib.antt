@@ -1,0 +1,4 @@
+pub mod Scripts
+pub mod Text
+pub mod Lines
+pub mod Answers

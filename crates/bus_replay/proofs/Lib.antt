@@ -1,0 +1,4 @@
+pub mod HexLemmas
+pub mod RepeatLemmas
+pub mod PlayLemmas
+pub mod GivenLemmas

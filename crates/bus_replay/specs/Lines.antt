@@ -1,0 +1,98 @@
+-- What the lines of a script of `replay` say.
+use Rattle.std.specs.Prelude.{ℕ, ◌+◌, ◌-◌, ◌*◌, ◌^◌, Bool, ◌&&◌, List, [], ◌∷◌, length, Option, Some, None, codes, nat_lt, nat_le, if◌then◌else◌, option_and_then}
+use Rattle.std.specs.Str.{bytes_eq}
+use Rattle.bus_world.specs.World.{Event, Put, Close, Turn, Recv}
+use Rattle.bus_world.specs.declared.shapes.Shape.{Shape}
+use Rattle.bus_script.specs.Grammar.{number_of, and_before, each_of, arguments_of}
+
+-- what a line asks for: an event, at most so many times
+pub record Command : Type 0 where
+  pub event : Event
+  pub times : ℕ
+
+-- ---- bytes in hexadecimal digits, lower case, and `-` for none
+
+-- the value of a digit
+abbrev pub digit_of : ℕ → Option ℕ
+digit_of b = if nat_le 48 b && nat_le b 57 then Some (b - 48) else (if nat_le 97 b && nat_le b 102 then Some (b - 87) else None)
+
+abbrev pub byte_from : Option ℕ → Option ℕ → Option ℕ
+byte_from None low = None
+byte_from (Some high) None = None
+byte_from (Some high) (Some low) = Some (16 * high + low)
+
+-- the bytes of pairs of digits
+abbrev pub pairs_of : List ℕ → Option (List ℕ)
+pairs_of [] = Some []
+pairs_of (high ∷ []) = None
+pairs_of (high ∷ low ∷ digits) = and_before (byte_from (digit_of high) (digit_of low)) (pairs_of digits)
+
+abbrev pub hex_of : List ℕ → Option (List ℕ)
+hex_of word = if bytes_eq word (codes "-") then Some [] else (if nat_lt 0 (length word) then pairs_of word else None)
+
+-- ---- lines
+
+-- five numbers: senders, receivers, rounds, rows, log words
+abbrev pub shape_from : List ℕ → Option Shape
+shape_from [] = None
+shape_from (n ∷ []) = None
+shape_from (n ∷ m ∷ []) = None
+shape_from (n ∷ m ∷ r ∷ []) = None
+shape_from (n ∷ m ∷ r ∷ t ∷ []) = None
+shape_from (n ∷ m ∷ r ∷ t ∷ l ∷ []) = Some (record { senders = n; receivers = m; rounds = r; rows = t; log_words = l })
+shape_from (n ∷ m ∷ r ∷ t ∷ l ∷ x ∷ more) = None
+
+-- what a line `shape N M R T L` says
+abbrev pub shape_of : List ℕ → Option Shape
+shape_of line = option_and_then shape_from (option_and_then (each_of number_of) (arguments_of (codes "shape") line))
+
+abbrev pub put_of : Option ℕ → Option (List ℕ) → Option Command
+put_of None bytes = None
+put_of (Some s) None = None
+put_of (Some s) (Some bytes) = Some (record { event = Put s bytes; times = 1 })
+
+-- `put S HEX`
+abbrev pub put_from : List (List ℕ) → Option Command
+put_from [] = None
+put_from (s ∷ []) = None
+put_from (s ∷ bytes ∷ []) = put_of (number_of s) (hex_of bytes)
+put_from (s ∷ bytes ∷ x ∷ more) = None
+
+-- `close S`
+abbrev pub close_from : List ℕ → Option Command
+close_from [] = None
+close_from (s ∷ []) = Some (record { event = Close s; times = 1 })
+close_from (s ∷ x ∷ more) = None
+
+-- 1 to 10,000
+abbrev pub are_times : ℕ → Bool
+are_times k = nat_le 1 k && nat_le k 10000
+
+-- `turn S W K`: at most K turns of sender S with the random word W
+abbrev pub turn_from : List ℕ → Option Command
+turn_from [] = None
+turn_from (s ∷ []) = None
+turn_from (s ∷ w ∷ []) = None
+turn_from (s ∷ w ∷ k ∷ []) = if nat_lt w (2 ^ 32) && are_times k then Some (record { event = Turn s w; times = k }) else None
+turn_from (s ∷ w ∷ k ∷ x ∷ more) = None
+
+-- `recv M K`: at most K turns of receiver M
+abbrev pub recv_from : List ℕ → Option Command
+recv_from [] = None
+recv_from (m ∷ []) = None
+recv_from (m ∷ k ∷ []) = if are_times k then Some (record { event = Recv m; times = k }) else None
+recv_from (m ∷ k ∷ x ∷ more) = None
+
+abbrev pub or_else : {A : Type 0} → Option A → Option A → Option A
+or_else (Some x) y = Some x
+or_else None y = y
+
+abbrev pub numbers_behind : List ℕ → List ℕ → Option (List ℕ)
+numbers_behind keyword line = option_and_then (each_of number_of) (arguments_of keyword line)
+
+-- what a line behind the first one says
+abbrev pub command_of : List ℕ → Option Command
+command_of line =
+    or_else (option_and_then put_from (arguments_of (codes "put") line))
+    (or_else (option_and_then close_from (numbers_behind (codes "close") line))
+    (or_else (option_and_then turn_from (numbers_behind (codes "turn") line)) (option_and_then recv_from (numbers_behind (codes "recv") line))))

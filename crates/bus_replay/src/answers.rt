@@ -1,0 +1,72 @@
+//! What a script of `replay` is answered with.
+
+ghost use Rattle.std.specs.Prelude.{◌≡◌, ℕ, List, IfOk, string_bytes};
+ghost use Rattle.bus_tenure.specs.Elections.{Elector, election_of, layout_of};
+ghost use Rattle.bus_script.specs.Places.{refusal_line};
+ghost use Rattle.bus_replay.specs.Answers.{End, Prints, Ends, IsReplay};
+
+use crate::closing::push_closing;
+use crate::lines::shape_of;
+use crate::names::make_fault_name;
+use crate::playing::play;
+use bus_adoptcommit::Ratifier;
+use bus_register::NoMemory;
+use bus_script::{Answer, Lines, Outcome, Place, refusal_line};
+use bus_world::{MakeFault, World};
+use std::alloc::Global;
+
+/// The answer to a script that was refused before there was a bus.
+fn refused(alloc: Global, place: Place, name: &str) -> Result<Answer, NoMemory>
+    ensures outcome { IfOk result (λ answer. answer.outcome ≡ Outcome.Refused) }
+    ensures text { IfOk result (λ answer. string_bytes answer.text ≡ refusal_line place name.now) }
+{
+    Ok(Answer {
+        outcome: Outcome::Refused,
+        text: refusal_line(alloc, place, name)?,
+    })
+}
+
+/// The answer to the lines behind the shape, which move a new bus.
+fn answer_from<Q: Ratifier + Drop>(
+    alloc: Global,
+    mut world: World<Q>,
+    lines: Lines<'_>,
+) -> Result<Answer, NoMemory>
+    ensures { let X = election_of Q.kind_of Q.op Q.fed Q.protocol in IfOk result (λ answer. (text : List ℕ) × (end : End (Elector Q)) × Prints X world.bus lines.entry text end × Ends world.layout end text answer.outcome (string_bytes answer.text)) }
+{
+    let mut text = String::new(alloc);
+    match play(alloc, &mut world, lines, &mut text)? {
+        Outcome::Done => {
+            push_closing(alloc, &world, &mut text)?;
+            Ok(Answer {
+                outcome: Outcome::Done,
+                text,
+            })
+        }
+        Outcome::Refused => Ok(Answer {
+            outcome: Outcome::Refused,
+            text,
+        }),
+    }
+}
+
+/// What is written for an input: the answers and the closing lines of a new bus of the shape that
+/// the script gives, with ratifiers of this kind; or the answers up to the first refusal.
+pub fn answer_to<Q: Ratifier + Drop>(alloc: Global, input: &[u8]) -> Result<Answer, NoMemory>
+    ensures { let X = election_of Q.kind_of Q.op Q.fed Q.protocol in
+        IfOk result (λ answer. IsReplay (λ shape. (X, layout_of Q.protocol shape.senders shape.rounds shape.rows shape.log_words)) input.now answer.outcome (string_bytes answer.text)) }
+{
+    let mut lines = Lines::new(input);
+    let Some(first) = lines.next_line() else {
+        return refused(alloc, Place::AtEnd, "BadLine");
+    };
+    let place = Place::AtLine(first.number);
+    let Some(shape) = shape_of(first.bytes) else {
+        return refused(alloc, place, "BadLine");
+    };
+    match World::<Q>::new(alloc, shape) {
+        Ok(world) => answer_from(alloc, world, lines),
+        Err(MakeFault::NoMemory) => Err(NoMemory),
+        Err(fault) => refused(alloc, place, make_fault_name(fault)),
+    }
+}

@@ -1,0 +1,142 @@
+//! What the lines of a script of `replay` say.
+
+ghost use Rattle.std.specs.Prelude.{◌≡◌, ◌⊎◌, [], None, Some, IfOk, IfSome, IfNone, MatchOption, codes, option_and_then};
+ghost use Rattle.std.specs.Option.{option_map};
+ghost use Rattle.bus_script.specs.Grammar.{number_of, each_of, and_before, arguments_of};
+ghost use Rattle.bus_replay.specs.Lines.{shape_of, put_of, put_from, close_from, are_times, turn_from, recv_from, numbers_behind, command_of, hex_of};
+ghost use Rattle.bus_replay.specs.Told.{command_told};
+
+use crate::commands::Command;
+use crate::hex::hex_of;
+use bus_script::{Words, number_of, words_behind};
+use bus_world::{Event, Shape};
+use std::alloc::{AllocError, Global};
+
+/// The number that the next word is.
+fn next_number(words: &mut Words<'_>) -> Option<u64>
+    ensures some { IfSome result (λ n. each_of number_of words.old ≡ and_before (Some n) (each_of number_of words.new)) }
+    ensures none { IfNone result ((words.old ≡ []) ⊎ (each_of number_of words.old ≡ None)) }
+{
+    number_of(words.next_word()?)
+}
+
+/// The sizes that the first line gives.
+pub fn shape_of(line: &[u8]) -> Option<Shape>
+    ensures { result ≡ shape_of line.now }
+{
+    let mut words = words_behind(line, b"shape")?;
+    let senders = next_number(&mut words)?;
+    let receivers = next_number(&mut words)?;
+    let rounds = next_number(&mut words)?;
+    let rows = next_number(&mut words)?;
+    let log_words = next_number(&mut words)?;
+    if words.next_word().is_some() {
+        return None;
+    }
+    Some(Shape {
+        senders,
+        receivers,
+        rounds,
+        rows,
+        log_words,
+    })
+}
+
+/// The sender of a message, and the word that spells its bytes.
+fn put_words(line: &[u8]) -> Option<(u64, &[u8])>
+    ensures { MatchOption result (option_and_then put_from (arguments_of (codes "put") line.now) ≡ None)
+        (λ words. option_and_then put_from (arguments_of (codes "put") line.now) ≡ put_of (Some words.0) (hex_of words.1.now)) }
+{
+    let mut words = words_behind(line, b"put")?;
+    let sender = words.next_word()?;
+    let bytes = words.next_word()?;
+    if words.next_word().is_some() {
+        return None;
+    }
+    Some((number_of(sender)?, bytes))
+}
+
+fn put_of(alloc: Global, line: &[u8]) -> Result<Option<Command>, AllocError>
+    ensures { IfOk result (λ command. option_map command_told command ≡ option_and_then put_from (arguments_of (codes "put") line.now)) }
+{
+    let Some((sender, word)) = put_words(line) else {
+        return Ok(None);
+    };
+    match hex_of(alloc, word)? {
+        Some(bytes) => Ok(Some(Command {
+            event: Event::Put { sender, bytes },
+            times: 1,
+        })),
+        None => Ok(None),
+    }
+}
+
+fn close_of(line: &[u8]) -> Option<Command>
+    ensures { option_map command_told result ≡ option_and_then close_from (numbers_behind (codes "close") line.now) }
+{
+    let mut words = words_behind(line, b"close")?;
+    let sender = next_number(&mut words)?;
+    if words.next_word().is_some() {
+        return None;
+    }
+    Some(Command {
+        event: Event::Close(sender),
+        times: 1,
+    })
+}
+
+fn are_times(times: u64) -> bool
+    ensures { result ≡ are_times times }
+{
+    times >= 1 && times <= 10_000
+}
+
+fn turn_of(line: &[u8]) -> Option<Command>
+    ensures { option_map command_told result ≡ option_and_then turn_from (numbers_behind (codes "turn") line.now) }
+{
+    let mut words = words_behind(line, b"turn")?;
+    let sender = next_number(&mut words)?;
+    let word = next_number(&mut words)?;
+    let times = next_number(&mut words)?;
+    if words.next_word().is_some() || word > u64::from(u32::MAX) || !are_times(times) {
+        return None;
+    }
+    Some(Command {
+        event: Event::Turn {
+            sender,
+            word: word as u32,
+        },
+        times,
+    })
+}
+
+fn recv_of(line: &[u8]) -> Option<Command>
+    ensures { option_map command_told result ≡ option_and_then recv_from (numbers_behind (codes "recv") line.now) }
+{
+    let mut words = words_behind(line, b"recv")?;
+    let receiver = next_number(&mut words)?;
+    let times = next_number(&mut words)?;
+    if words.next_word().is_some() || !are_times(times) {
+        return None;
+    }
+    Some(Command {
+        event: Event::Recv(receiver),
+        times,
+    })
+}
+
+/// What a line behind the first one asks for.
+pub fn command_of(alloc: Global, line: &[u8]) -> Result<Option<Command>, AllocError>
+    ensures { IfOk result (λ command. option_map command_told command ≡ command_of line.now) }
+{
+    if let Some(command) = put_of(alloc, line)? {
+        return Ok(Some(command));
+    }
+    if let Some(command) = close_of(line) {
+        return Ok(Some(command));
+    }
+    match turn_of(line) {
+        Some(command) => Ok(Some(command)),
+        None => Ok(recv_of(line)),
+    }
+}

@@ -1,0 +1,54 @@
+//! What refusals are called.
+
+ghost use Rattle.std.specs.Prelude.{◌≡◌};
+ghost use Rattle.bus_replay.specs.Text.{put_fault_name, close_fault_name, step_fault_name, make_fault_name};
+
+use bus_batch::{CloseFault, PutFault};
+use bus_world::{MakeFault, StepFault};
+
+fn put_fault_name(fault: PutFault) -> &'static str
+    ensures { result.now ≡ put_fault_name fault }
+{
+    match fault {
+        PutFault::Closed => "Closed",
+        PutFault::Busy => "Busy",
+        PutFault::TooLong => "TooLong",
+        PutFault::BatchFull => "BatchFull",
+    }
+}
+
+fn close_fault_name(fault: CloseFault) -> &'static str
+    ensures { result.now ≡ close_fault_name fault }
+{
+    match fault {
+        CloseFault::Closed => "Closed",
+        CloseFault::Busy => "Busy",
+        CloseFault::Pending => "Pending",
+    }
+}
+
+/// Why an event was refused.
+pub fn step_fault_name(fault: StepFault) -> &'static str
+    ensures { result.now ≡ step_fault_name fault }
+{
+    match fault {
+        StepFault::NoSuchSender => "NoSuchSender",
+        StepFault::NoSuchReceiver => "NoSuchReceiver",
+        StepFault::Put(why) => put_fault_name(why),
+        StepFault::Close(why) => close_fault_name(why),
+    }
+}
+
+/// Why no bus was made.
+pub fn make_fault_name(fault: MakeFault) -> &'static str
+    ensures { result.now ≡ make_fault_name fault }
+{
+    match fault {
+        MakeFault::Senders => "Senders",
+        MakeFault::Receivers => "Receivers",
+        MakeFault::Rounds => "Rounds",
+        MakeFault::Rows => "Rows",
+        MakeFault::LogWords => "LogWords",
+        MakeFault::NoMemory => "NoMemory",
+    }
+}
