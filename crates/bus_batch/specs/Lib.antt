@@ -3,6 +3,7 @@ pub mod Frames
 pub mod Reading
 pub mod Steps
 pub mod Batches
+pub mod Faults
 pub mod WordLaws
 pub mod PieceLaws
 pub mod BatchLaws

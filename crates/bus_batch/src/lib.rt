@@ -3,6 +3,7 @@
 #![tactic(auto)]
 
 pub mod batches;
+mod faults;
 pub mod laws;
 pub mod messages;
 pub mod readers;

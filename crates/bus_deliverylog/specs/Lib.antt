@@ -4,3 +4,4 @@ pub mod Writing
 pub mod WritingLaws
 pub mod Receiving
 pub mod PrefixLaws
+pub mod Faults

@@ -32,8 +32,8 @@ page_lines page = codes "tenures " ++ decimal page.tenures ++ 10 ∷ codes "word
 abbrev pub report_text : Order → Page → ℕ → List Hearing → List ℕ
 report_text order page senders heards = sender_lines order senders ++ receiver_lines 0 heards ++ page_lines page
 
--- What is printed of a run that ended well, of what its bus left behind: the order has so many items of each sender, and each
--- receiver was given all of it and the end.
+-- What is printed of a run that ended well, of what its bus left behind: the order has so many items of each sender, each receiver
+-- was given all of it and the end, and the words that are printed are those of the log.
 pub record IsRunText (senders receivers messages : ℕ) (text : List ℕ) : Type 0 where
   pub left : Outcome
   pub order : Order
@@ -43,4 +43,5 @@ pub record IsRunText (senders receivers messages : ℕ) (text : List ℕ) : Type
   pub heards : List Hearing
   pub each : length heards ≡ receivers
   pub fair : All (IsFair order) heards
+  pub words : left.page.words ≡ length left.log
   pub text_is : text ≡ report_text order left.page senders heards

@@ -5,8 +5,6 @@ use Rattle.bus_batch.specs.Batches.{Pending}
 use Rattle.bus_batch.specs.declared.batches.Phase.TheVariants.{Closing}
 use Rattle.bus_tenure.specs.Core.{Core}
 use Rattle.bus_tenure.specs.Seen.{tenure_of}
-use Rattle.bus_tenure.specs.declared.phases.Phase.{Phase}
-use Rattle.bus_tenure.specs.declared.phases.Phase.TheVariants as phase
 use Rattle.bus_tenure.specs.declared.turns.Turn.{Turn}
 use Rattle.bus_world.specs.Playing.{Sitting, IsSitting}
 use Rattle.bus_world.specs.World.{can_put, can_close}
@@ -22,14 +20,6 @@ Owes told (m ∷ fresh) closes own = (can_put told (length m) ≡ true) × Owes 
 pub record IsInStep {E : Type 0} (c : Core E) (s : Seat) : Type 0 where
   pub owed : Owes c.queue s.fresh s.closes s.queue
   pub told : is_none (tenure_of c.phase) ≡ false → (s.fresh ≡ []) × (s.closes ≡ false)
-
--- between events no page is under way, and a batch is busy from the turn that begins a tenure to the one that ends it
-abbrev pub Whole : {E : Type 0} → Phase E → Pending → Type 0
-Whole phase.Resting q = q.busy ≡ false
-Whole (phase.Electing t e) q = q.busy ≡ true
-Whole (phase.Taken t) q = ⊥
-Whole (phase.Holding t page stored published) q = q.busy ≡ true
-Whole (phase.Giving t leaving) q = ⊥
 
 -- ---- what is said of a bus's senders before and after
 -- a message is taken where the batch has room for it

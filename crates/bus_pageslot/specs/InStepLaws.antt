@@ -29,10 +29,18 @@ use Rattle.bus_world.specs.declared.events.StepFault.{StepFault}
 use Rattle.bus_world.specs.Turning.{Side, found, turned, core_after, laid}
 use Rattle.bus_world.specs.World.{Bus, Put, Close, Turn, Happens, SenderDoes, with_sender, put_in, close_in, is_open, can_put, can_close}
 use Rattle.bus_pageslot.specs.Seats.{Seat, queue_by, may_begin}
-use Rattle.bus_pageslot.specs.InStep.{Whole, Owes, IsInStep, TakesMessage, TakesMessages, TakesClose, TakesTold, Answers}
+use Rattle.bus_pageslot.specs.InStep.{Owes, IsInStep, TakesMessage, TakesMessages, TakesClose, TakesTold, Answers}
 use Rattle.bus_pageslot.specs.InWorld.{is_resting, answer_in}
 
 -- ---- a lawful bus
+-- between events no page is under way, and a batch is busy from the turn that begins a tenure to the one that ends it
+abbrev pub Whole : {E : Type 0} → Phase E → Pending → Type 0
+Whole phase.Resting q = q.busy ≡ false
+Whole (phase.Electing t e) q = q.busy ≡ true
+Whole (phase.Taken t) q = ⊥
+Whole (phase.Holding t page stored published) q = q.busy ≡ true
+Whole (phase.Giving t leaving) q = ⊥
+
 fits_whole : {E : Type 0} (words : ℕ → ℕ) (frames : List Frame) (c : Core E) (ph : Phase E) → Fits words frames c ph → Whole ph c.queue
 fits_whole words frames c phase.Resting f = f.0
 fits_whole words frames c (phase.Electing t e) f = f.0.busy

@@ -11,9 +11,11 @@ pub record Outcome : Type 0 where
   pub log : List ℕ
   pub page : Page
 
--- The words spell an order, and the page has the number of items that each sender has in it. They spell one order alone.
+-- The words spell an order, and the page knows of it: how many items each sender has in it, whether it has ended, and how many words there are. They spell one order alone.
 pub record IsOutcome (z : Outcome) : Type 0 where
   pub order : Order
   pub owners : List (ℕ × SenderNo)
   pub spells : Spells z.senders z.log order owners
   pub counts : (s : ℕ) → s < 8 → slice_index z.page.next s ≡ length (of_sender s order)
+  pub ended : z.page.ended ≡ order.ended
+  pub words : z.page.words ≡ length z.log

@@ -1,6 +1,6 @@
 //! What a bus leaves behind.
 
-ghost use Rattle.std.specs.Prelude.{◌≡◌, ℕ, ◌<◌, List, length, None, Some, IfOk, OnErr};
+ghost use Rattle.std.specs.Prelude.{◌≡◌, ℕ, ◌<◌, List, length, None, Some, codes, IfOk, OnErr};
 ghost use Rattle.bus_register.specs.declared.registers.SenderNo.{SenderNo as Number};
 ghost use Rattle.bus_batch.specs.Frames.{Order, Spells};
 ghost use Rattle.bus_deliverylog.specs.Orders.{of_sender};
@@ -11,6 +11,8 @@ use bus_batch::laws::spells_one;
 use bus_register::SenderNo;
 use bus_tenure::Page;
 use bus_world::World;
+use std::error::Error;
+use std::fmt;
 use std::marker::Model;
 
 /// Why a bus leaves nothing behind.
@@ -18,6 +20,16 @@ use std::marker::Model;
 pub enum EndFault {
     /// A sender that took the page has not given it back.
     PageOut,
+}
+
+impl Error for EndFault {}
+
+impl fmt::Display for EndFault {
+    ghost output = { λ _. Some (codes "a sender has not given the page back") };
+
+    fn fmt<W: fmt::Write>(&self, f: &mut fmt::Formatter<W>) -> fmt::Result {
+        f.write_str("a sender has not given the page back")
+    }
 }
 
 /// What a bus leaves behind: its log and its page.
@@ -58,10 +70,14 @@ impl Ended {
         self.world.log()
     }
 
-    /// The page.
+    /// The page. It has the number of the log's words, and whether the order that they spell has
+    /// ended.
     pub fn page(&self) -> &Page
-        ensures { result.now ≡ self.now.page }
+        ensures page { result.now ≡ self.now.page }
+        ensures words { result.now.words ≡ length self.now.log }
+        ensures ended { (order : Order) (owners : List (ℕ × Number)) → Spells self.now.senders self.now.log order owners → result.now.ended ≡ order.ended }
     {
+        spells_one();
         &self.page
     }
 

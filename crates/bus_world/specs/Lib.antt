@@ -17,6 +17,7 @@ pub mod WorldLaws
 pub mod Starting
 pub mod StartingLaws
 pub mod Playing
+pub mod Faults
 pub mod Telling
 pub mod TellingLaws
 pub mod PlayingLaws

@@ -2,6 +2,7 @@
 #![tactic(auto)]
 
 pub mod events;
+mod faults;
 pub mod laws;
 pub mod shapes;
 mod starts;

@@ -7,11 +7,7 @@ ghost use Rattle.std.specs.Prelude.{◌≡◌};
 ghost use Rattle.example_counters.specs.Commands.{changed, message_of};
 
 use anyhow::{Context, ensure};
-use bus_deliverylog::RecvTurn;
-use bus_pageslot::{Bus, Sender};
-use bus_receiver::Receiver;
-use bus_tenure::Turn;
-use bus_world::Shape;
+use bus_receiver::{Bus, Receiver, RecvTurn, Sender, Shape, Turn};
 use rand_pcg::Pcg32;
 use std::sync::Wait;
 use std::thread;
@@ -75,7 +71,7 @@ impl Worker {
     /// Puts a command into the next batch, and gives its number.
     fn put(&mut self, command: Command) -> anyhow::Result<u64> {
         ensure!(self.sender.next_number() < 10, "too many commands");
-        self.sender.put(&encode(command)).ok().context("not taken")
+        Ok(self.sender.put(&encode(command))?)
     }
 
     /// Applies all that has come by now.
@@ -98,7 +94,7 @@ fn main(rt: HostRuntime) -> anyhow::Result<()> {
         rows: 64,
         log_words: 1024,
     };
-    let (bus, senders, taps) = Bus::new(rt.alloc(), shape).ok().context("no memory")?;
+    let (bus, senders, taps) = Bus::new(rt.alloc(), shape)?;
     let mut workers = Vec::new(rt.alloc());
     for (sender, tap) in senders.into_iter().zip(taps) {
         workers.push(Worker {

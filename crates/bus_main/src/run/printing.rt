@@ -1,10 +1,11 @@
 //! What `bus run` prints of a run.
 
-ghost use Rattle.std.specs.Prelude.{◌≡◌, ◌≤◌, ◌⊎◌, ◌++◌, ℕ, List, All, IfOk, IfErr, OnOk, string_bytes, min};
+ghost use Rattle.std.specs.Prelude.{◌≡◌, ◌≤◌, ◌⊎◌, ◌++◌, ℕ, List, All, length, IfOk, IfErr, OnOk, IsErrOf, string_bytes, min};
 ghost use Rattle.std.specs.Io.KnownBytes.{Appends, Keeps};
 ghost use Rattle.bus_main.specs.Audit.{OfOrder, IsFair};
 ghost use Rattle.bus_main.specs.RunText.{sender_line, sender_lines, receiver_line, receiver_lines, page_lines, report_text as text_of, IsRunText};
 ghost use Rattle.bus_main.specs.Stops.{IsStop, IsRunFault};
+ghost use Rattle.bus_main.specs.Streams.{WritesPart};
 
 use crate::audit::audit;
 use crate::outcomes::RunFault;
@@ -40,7 +41,10 @@ pub fn print_run<R: Threads + Wait + Sync, W: Write>(
     // The run ended well, and all of its text was written.
     ensures ok { IfOk result (λ outcome. (outcome ≡ Outcome.Done) × (text : List ℕ) × IsRunText request.senders request.receivers (min request.messages 400) text × Appends (W.contents writer.old) (W.contents writer.new) text) }
 
-    // Else nothing was written, unless a write failed.
+    // The run ended well, and a part of its text was written.
+    ensures write { IsErrOf result RunFault.Write → (text : List ℕ) × IsRunText request.senders request.receivers (min request.messages 400) text × WritesPart (W.contents writer.old) (W.contents writer.new) text }
+
+    // Else the run did not end well, and nothing was written.
     ensures fault { IfErr result (λ fault. (fault ≡ RunFault.Write) ⊎ IsRunFault request.senders request.receivers fault) }
     ensures unwritten { IfErr result (λ fault. (fault ≡ RunFault.Write → ⊥) → Keeps (W.contents writer.old) (W.contents writer.new)) }
 {
@@ -64,6 +68,7 @@ pub fn report_text(alloc: Global, report: &Report, senders: u64) -> Result<Strin
     requires { senders ≤ 8 }
     ensures fair { OnOk result (OfOrder report.now.ended (λ order. All (IsFair order) report.now.heards.items)) }
     ensures text { IfOk result (λ text. OfOrder report.now.ended (λ order. string_bytes text ≡ text_of order report.now.ended.page senders report.now.heards.items)) }
+    ensures words { OnOk result (report.now.ended.page.words ≡ length report.now.ended.log) }
     ensures fault { IfErr result IsStop }
 {
     let heards = report.heards.as_slice();

@@ -1,4 +1,4 @@
-use Rattle.std.proofs.Common.{◌≡◌, ◌+◌, get_or, take, [], ◌∷◌, ◌++◌, refl, ◌∙◌, sym, subst, arith}
+use Rattle.std.proofs.Common.{◌≡◌, ◌+◌, get_or, take, refl, subst, arith}
 use Rattle.std.proofs.lemmas.List.{take_all, take_more}
 use Rattle.bus_batch.specs.Frames.{BeginsLog, IsBadWord}
 use Rattle.bus_batch.specs.Reading.{HasRead}

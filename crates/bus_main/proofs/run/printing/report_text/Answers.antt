@@ -1,4 +1,5 @@
-use Rattle.std.proofs.Common.{All, ◌++◌, string_bytes, ap, ◌∙◌, subst}
+use Rattle.std.proofs.Common.{All, ◌++◌, string_bytes, ap, sym, ◌∙◌, subst}
+use Rattle.bus_tenure.specs.declared.pages.Page.{Page}
 use Rattle.bus_main.specs.Audit.{IsFair}
 use Rattle.bus_main.specs.RunText.{sender_lines, receiver_lines, page_lines}
 use Rattle.bus_main.proofs.RunTextLemmas.{three_parts}
@@ -14,4 +15,7 @@ returns-clause-text c = λ order owners spells.
     c.new-text.ensures.bytes
     (c.in_ok-push_senders.ensures order owners spells)
     (c.in_ok-push_receivers.ensures ∙ ap (λ hs. string_bytes c.push_senders.new.text ++ receiver_lines 0 hs) c.as_slice-heards.ensures.value)
-    (c.in_ok-push_page.ensures ∙ ap (λ g. string_bytes c.push_receivers.new.text ++ page_lines g) c.page.ensures)
+    (c.in_ok-push_page.ensures ∙ ap (λ g. string_bytes c.push_receivers.new.text ++ page_lines g) c.page.ensures.page)
+
+pub returns-clause-words : goal.returns-clause-words
+returns-clause-words c = ap (λ (g : Page). g.words) (sym c.page.ensures.page) ∙ c.page.ensures.words
