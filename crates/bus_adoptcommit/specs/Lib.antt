@@ -1,5 +1,6 @@
 pub mod Agreement
 pub mod AgreementLaws
+pub mod Kinds
 pub mod Schedule
 pub mod Plays
 pub mod TwoCollect

@@ -1,13 +1,15 @@
 -- Two collects are an adopt-commit object, with coherence.
-use Rattle.std.proofs.Common.{◌≡◌, ℕ, ◌+◌, ◌*◌, ◌≤◌, Some, is_some, arith, refl, sym, ◌∙◌, subst}
+use Rattle.std.proofs.Common.{◌≡◌, ℕ, ◌+◌, ◌*◌, ◌≤◌, false, Some, is_some, inl, inr, arith, refl, sym, ◌∙◌, subst}
 use mathlib.Core.Path.{fun_ext}
 use Rattle.std.proofs.lemmas.Option.{same_Some}
+use Rattle.bus_register.specs.declared.kinds.Kind.{Kind}
 use Rattle.bus_register.specs.declared.registers.Op.{Op}
 use Rattle.bus_register.specs.Words.{SumFits}
 use Rattle.bus_register.specs.Protocol.{Laws, IsStore}
 use Rattle.bus_adoptcommit.specs.declared.phases.Phase.{Phase}
 use Rattle.bus_adoptcommit.specs.declared.phases.Phase.TheVariants.{StoreProposal, ReadProposal, StoreVerdict, ReadVerdict, Ended}
 use Rattle.bus_adoptcommit.specs.Agreement.{Legal}
+use Rattle.bus_adoptcommit.specs.Kinds.{IsOfRatifier}
 use Rattle.bus_adoptcommit.specs.Plays.{IsExact}
 use Rattle.bus_adoptcommit.specs.TwoCollect.{Local, kind_at, op_at, op_of, fed_at, fed_of}
 use Rattle.bus_adoptcommit.specs.TwoCollectKeeps.{Keeps, two_collect}
@@ -23,6 +25,21 @@ named_at (ReadProposal of) s = refl
 named_at StoreVerdict s = refl
 named_at (ReadVerdict of) s = refl
 named_at Ended s = refl
+
+-- the kinds are those of a ratifier
+own_kinds_at : (ph : Phase) (k : Kind) → kind_at ph ≡ Some k → IsOfRatifier k
+own_kinds_at StoreProposal k e = inl (sym (same_Some _ _ e))
+own_kinds_at (ReadProposal of) k e = inr (inl (sym (same_Some _ _ e)))
+own_kinds_at StoreVerdict k e = inr (inr (inl (sym (same_Some _ _ e))))
+own_kinds_at (ReadVerdict of) k e = inr (inr (inr (sym (same_Some _ _ e))))
+own_kinds_at Ended k e = absurd cc
+
+pub own_kinds : (s : Local) (k : Kind) → kind_at s.phase ≡ Some k → IsOfRatifier k
+own_kinds s k e = own_kinds_at s.phase k e
+
+-- it asks for no random word
+pub wordless : (s : Local) → two_collect.wants_word s ≡ false
+wordless s = refl
 
 -- a store does not tell what it found
 blind_at : (ph : Phase) (s : Local) (got got' : ℕ) (o : Op) → op_at ph s ≡ Some o → IsStore o → fed_at ph s got ≡ fed_at ph s got'

@@ -1,9 +1,11 @@
 //! Adopt-commit objects that machines make out of words.
 
-ghost use Rattle.std.specs.Prelude.{◌≡◌, ℕ, ◌+◌, ◌*◌, ◌<◌, ◌≤◌, ◌^◌, Bool};
+ghost use Rattle.std.specs.Prelude.{◌≡◌, ℕ, ◌+◌, ◌*◌, ◌<◌, ◌≤◌, ◌^◌, Bool, false, Some};
+ghost use Rattle.bus_register.specs.declared.kinds.Kind.{Kind};
 ghost use Rattle.bus_register.specs.Protocol.{Protocol, Laws};
 ghost use Rattle.bus_adoptcommit.specs.declared.verdicts.Verdict.{Verdict};
 ghost use Rattle.bus_adoptcommit.specs.Agreement.{Legal};
+ghost use Rattle.bus_adoptcommit.specs.Kinds.{IsOfRatifier};
 
 use super::verdicts::Verdict;
 use bus_register::{Machine, Reg, SenderNo};
@@ -33,6 +35,12 @@ pub trait Ratifier: Machine {
     /// What words and local states keep, that each start has it and each step keeps it, and that the
     /// outputs are valid, convergent and coherent.
     ghost laws: { Laws Self.op Self.fed protocol Legal };
+
+    /// Its steps are of a ratifier's four kinds.
+    ghost own_kinds: { (s : Self) (k : Kind) → Self.kind_of s ≡ Some k → IsOfRatifier k };
+
+    /// It asks for no random word.
+    ghost wordless: { (s : Self) → protocol.wants_word s ≡ false };
 
     /// An output stands after at most 2n + 2 own steps.
     ghost quick: { (n : ℕ) → protocol.steps n ≤ 2 * n + 2 };

@@ -6,7 +6,7 @@ ghost use Rattle.bus_adoptcommit.specs.Agreement.{Legal};
 ghost use Rattle.bus_adoptcommit.specs.Plays.{IsExact};
 ghost use Rattle.bus_adoptcommit.specs.TwoCollect.{Local, Sized, proposal_code, verdict_code, verdict_in, kind_at, op_of, fed_of};
 ghost use Rattle.bus_adoptcommit.specs.TwoCollectKeeps.{two_collect};
-ghost use Rattle.bus_adoptcommit.specs.TwoCollectLaws.{two_collect_legal, two_collect_exact, named_at, quick, narrow};
+ghost use Rattle.bus_adoptcommit.specs.TwoCollectLaws.{two_collect_legal, two_collect_exact, named_at, own_kinds, wordless, quick, narrow};
 
 use super::phases::Phase;
 use super::ratifiers::Ratifier;
@@ -178,6 +178,10 @@ impl Ratifier for TwoCollect {
     }
 
     ghost laws = { two_collect_legal };
+
+    ghost own_kinds = { own_kinds };
+
+    ghost wordless = { wordless };
 
     ghost quick = { quick };
 
