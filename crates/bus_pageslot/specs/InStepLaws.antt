@@ -24,7 +24,8 @@ use Rattle.bus_tenure.specs.Seen.{tenure_of}
 use Rattle.bus_tenure.specs.declared.turns.Turn.{Turn as Turned}
 use Rattle.bus_tenure.specs.declared.turns.Turn.TheVariants as turn
 use Rattle.bus_world.specs.Bus.{Fits}
-use Rattle.bus_world.specs.Playing.{Sitting, IsSitting, PutRefused, CloseRefused}
+use Rattle.bus_world.specs.Trails.{IsSitting}
+use Rattle.bus_world.specs.Playing.{Sitting, PutRefused, CloseRefused}
 use Rattle.bus_world.specs.declared.events.StepFault.{StepFault}
 use Rattle.bus_world.specs.Turning.{Side, found, turned, core_after, laid}
 use Rattle.bus_world.specs.World.{Bus, Put, Close, Turn, Happens, SenderDoes, with_sender, put_in, close_in, is_open, can_put, can_close}
@@ -49,7 +50,7 @@ fits_whole words frames c (phase.Holding t page stored false) f = f.0.busy
 fits_whole words frames c (phase.Holding t page stored true) f = f.0.busy
 fits_whole words frames c (phase.Giving t leaving) f = f
 
-pub whole_of : {E : Type 0} (P : Protocol E (Unit {0}) ℕ) (z : Sitting E) → IsSitting P z → (p : ℕ) (c : Core E) → slice_get z.bus.side.senders p ≡ Some c → Whole c.phase c.queue × (c.queue.phase ≡ Closing → c.queue.messages ≡ [])
+pub whole_of : {E : Type 0} {X : Election E} (P : Protocol E (Unit {0}) ℕ) (z : Sitting E) → IsSitting X P z → (p : ℕ) (c : Core E) → slice_get z.bus.side.senders p ≡ Some c → Whole c.phase c.queue × (c.queue.phase ≡ Closing → c.queue.messages ≡ [])
 whole_of P z h p c e = let part = h.lawful.side.sending.parts p c e in (fits_whole _ h.frames c c.phase part.fits, part.queue.alone)
 
 -- ---- batches
@@ -283,7 +284,7 @@ module _ {E : Type 0} (X : Election E) (P : Protocol E (Unit {0}) ℕ) (old mid 
             (ap (λ (z : Sitting E). slice_get z.bus.side.senders p) b.1 ∙ here ∙ ap (λ q. Some (record c { queue = q })) (sym same), ap (λ (z : Seat). z.fresh) b.0 ∙ none.0, ap (λ (z : Seat). z.closes) b.0 ∙ none.1)
       ]
 
-  pub answers : Happens X mid.bus (Turn p word) new.bus → answer ≡ answer_in X mid.bus.side.words (slice_get mid.bus.side.senders p) word → Answers P old new p s answer s'
+  pub answers : Happens X mid.bus (Turn p word) new.bus → answer ≡ answer_in X mid.bus.side.words (slice_get mid.bus.side.senders p) word → Answers X P old new p s answer s'
   answers does is = record {
     answered = λ c sitting here step.
         let d = record c { queue = s.queue } in

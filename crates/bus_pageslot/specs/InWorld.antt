@@ -1,12 +1,12 @@
 -- What a bus has of one of its senders, if there is one of this number.
-use Rattle.std.specs.Prelude.{ℕ, Bool, true, is_none, Option, Some, None, List, [], ◌∷◌, ◌++◌, map, if◌then◌else◌}
+use Rattle.std.specs.Prelude.{◌≡◌, ℕ, Bool, true, is_none, Option, Some, None, List, [], ◌∷◌, ◌++◌, map, if◌then◌else◌}
 use Rattle.bus_register.specs.declared.kinds.Kind.{Kind}
 use Rattle.bus_tenure.specs.Core.{Core, Election, situation_of, kind_at, op_at, answer_at}
 use Rattle.bus_tenure.specs.Seen.{tenure_of, wants_at, turns_of}
 use Rattle.bus_tenure.specs.declared.turns.Turn.{Turn}
 use Rattle.bus_tenure.specs.declared.turns.Turn.TheVariants as turn
 use Rattle.bus_world.specs.Turning.{found}
-use Rattle.bus_world.specs.World.{Event, Put, Close}
+use Rattle.bus_world.specs.World.{Bus, Event, Put, Close, IsEvent, Happens}
 use Rattle.bus_pageslot.specs.Seats.{Seat}
 
 -- it has begun no tenure
@@ -32,3 +32,8 @@ seen X (Some c) s = record s { kind = kind_at X (situation_of X c); wants_word =
 -- what a sender tells the bus: the messages and the close that it accepted
 abbrev pub tellings : ℕ → List (List ℕ) → Bool → List Event
 tellings p fresh closes = map (Put p) fresh ++ (if closes then Close p ∷ [] else [])
+
+-- these events happen to a bus, one after another
+abbrev pub Runs : {E : Type 0} → Election E → Bus E → List Event → Bus E → Type 0
+Runs X old [] new = new ≡ old
+Runs {E} X old (e ∷ events) new = (mid : Bus E) × IsEvent e × Happens X old e mid × Runs X mid events new

@@ -3,7 +3,8 @@ use Rattle.std.proofs.Common.{◌≡◌, ℕ, ◌+◌, Some, List, [], ◌∷◌
 use Rattle.std.proofs.lemmas.List.{take_more, map-append}
 use Rattle.std.proofs.lemmas.Option.{slice_get_within, get_or_from_slice_get}
 use Rattle.bus_tenure.specs.Core.{Election}
-use Rattle.bus_world.specs.World.{Bus, Event, Put, Close, IsEvent, Happens, Runs}
+use Rattle.bus_world.specs.World.{Bus, Event, Put, Close, IsEvent, Happens}
+use Rattle.bus_pageslot.specs.InWorld.{Runs}
 use Rattle.bus_pageslot.specs.InWorld.{tellings}
 
 pub no_event : {E : Type 0} (X : Election E) (b : Bus E) → Runs X b [] b

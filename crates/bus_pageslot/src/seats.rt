@@ -6,7 +6,7 @@ ghost use Rattle.bus_batch.specs.declared.batches.Phase.TheVariants as queue_pha
 ghost use Rattle.bus_register.specs.declared.kinds.Kind.TheVariants as kind;
 ghost use Rattle.bus_tenure.specs.Elections.{election_of, elections};
 ghost use Rattle.bus_world.specs.Playing.{log_of};
-ghost use Rattle.bus_world.specs.World.{Runs};
+ghost use Rattle.bus_pageslot.specs.InWorld.{Runs};
 ghost use Rattle.bus_tenure.specs.declared.turns.Turn.{Turn as Answered};
 ghost use Rattle.bus_pageslot.specs.InStep.{Owes, TakesTold, Answers, StaysInStep};
 ghost use Rattle.bus_pageslot.specs.InWorld.{is_resting, kind_in, seen, tellings};
@@ -189,7 +189,7 @@ impl Sender {
         ensures queue { self.new.queue ≡ queue_by result self.old.queue }
         ensures words { self.old.words ≤ self.new.words }
         ensures stored { let X = election_of Q.kind_of Q.op Q.fed Q.protocol in kind_in X (slice_get world.old.bus.side.senders self.old.queue.sender.0) ≡ Some kind.StoreLength → length (log_of world.new) ≤ self.new.words }
-        ensures in_step { StaysInStep (elections Q.protocol world.old.layout.rounds) world.old world.new self.old.queue.sender.0 self.old self.new }
+        ensures in_step { let X = election_of Q.kind_of Q.op Q.fed Q.protocol in StaysInStep X (elections Q.protocol world.old.layout.rounds) world.old world.new self.old.queue.sender.0 self.old self.new }
     {
         let stores_length = kind_of(world, self.batch.sender()) == Some(Kind::StoreLength);
         let turn = self.step_on(world, word);
@@ -205,7 +205,7 @@ impl Sender {
     fn step_on<Q: Ratifier + Drop>(&mut self, world: &mut World<Q>, word: u32) -> Turn
         ensures queue { self.new.queue ≡ self.old.queue }
         ensures words { self.new.words ≡ self.old.words }
-        ensures answers { Answers (elections Q.protocol world.old.layout.rounds) world.old world.new self.old.queue.sender.0 self.old result self.new }
+        ensures answers { let X = election_of Q.kind_of Q.op Q.fed Q.protocol in Answers X (elections Q.protocol world.old.layout.rounds) world.old world.new self.old.queue.sender.0 self.old result self.new }
     {
         if !self.tell_on(world) {
             return Turn::Closed;

@@ -8,7 +8,14 @@ use Rattle.bus_script.specs.declared.answers.Outcome.{Outcome}
 use Rattle.bus_script.specs.declared.answers.Outcome.TheVariants as outcome
 use Rattle.bus_script.specs.Grammar.{script_lines}
 use Rattle.bus_replay.specs.Lines.{shape_of}
-use Rattle.bus_replay.specs.Answers.{End, Left, Stopped, Prints, Closes, Ends, Begins, Replays, IsReplay}
+use Rattle.std.specs.Prelude.{OnOk}
+use Rattle.std.proofs.lemmas.List.{append_cancel_left}
+use Rattle.bus_register.specs.declared.registers.SenderNo.{SenderNo}
+use Rattle.bus_batch.specs.Frames.{Order, Spells}
+use Rattle.bus_world.specs.Playing.{log_of}
+use Rattle.bus_world.specs.Trails.{Trails, Reached, Takers}
+use Rattle.bus_replay.specs.Text.{owners_line, order_text, given_text}
+use Rattle.bus_replay.specs.Answers.{given_by, End, Left, Stopped, Prints, Closes, Ends, Begins, Replays, IsReplay}
 use Rattle.bus_replay.specs.Told.{IsObeyed, ArePlayed}
 
 -- ---- all lines
@@ -54,17 +61,41 @@ one_refused {E} X b lines left behind line old mid new now next o h is refused o
 
 -- ---- the whole text
 
+-- what follows where all went well
+pub on_done : {F : Type 0} (r : Result (Unit {0}) F) (P Q : Type 0) → OnOk r P → (P → Q) → OnOk r Q
+on_done (Ok a) P Q h f = f h
+on_done (Err e) P Q h f = tt
+
+-- the closing lines tell of any trails that lead to the bus
+pub closes : {E : Type 0} (X : Election E) (z : Sitting E) (old mid whole : List ℕ) (taken : List ℕ) (order : Order) (owners : List (ℕ × SenderNo)) → Spells z.layout.senders (log_of z) order owners → ((T : Trails) → Reached X z.layout z.bus T → Takers taken T.deeds)
+    → taken ≡ z.bus.side.owners → (some : Trails) → Reached X z.layout z.bus some → mid ≡ (old ++ owners_line taken) ++ order_text order → ((T : Trails) → Reached X z.layout z.bus T → whole ≡ mid ++ given_text (given_by T z.bus.receivers))
+    → (closing : List ℕ) × Closes X z closing × (whole ≡ old ++ closing)
+closes X z old mid whole taken order owners spelled took taken_are some reached mid_is whole_is = (
+  owners_line taken ++ order_text order ++ given_text (given_by some z.bus.receivers),
+  record {
+    order = order;
+    owners = owners;
+    spelled = spelled;
+    took = λ T r. subst (λ l. Takers l T.deeds) taken_are (took T r);
+    text_is = λ T r.
+        let same = append_cancel_left mid (given_text (given_by some z.bus.receivers)) (given_text (given_by T z.bus.receivers)) (sym (whole_is some reached) ∙ whole_is T r) in
+        ap (λ l. owners_line taken ++ order_text order ++ l) same ∙ ap (λ l. owners_line l ++ order_text order ++ given_text (given_by T z.bus.receivers)) taken_are;
+  },
+  whole_is some reached ∙ ap (λ l. l ++ given_text (given_by some z.bus.receivers)) mid_is ∙ ap (λ l. l ++ given_text (given_by some z.bus.receivers)) (append_assoc old (owners_line taken) (order_text order))
+  ∙ append_assoc old (owners_line taken ++ order_text order) (given_text (given_by some z.bus.receivers)),
+)
+
 -- lines were played to their end, and the closing lines are behind their answers
 pub closed : {E : Type 0} (X : Election E) (x : Layout) (b : Bus E) (z : Sitting E) (lines : List (ℕ × List ℕ)) (o : Outcome) (old mid whole : List ℕ) → o ≡ outcome.Done → old ≡ [] → z.layout ≡ x
-    → (added : List ℕ) × ArePlayed X b lines o added z.bus × (mid ≡ old ++ added) → (closing : List ℕ) × Closes z closing × (whole ≡ mid ++ closing)
-    → (text : List ℕ) × (end : End E) × Prints X b lines text end × Ends x end text outcome.Done whole
+    → (added : List ℕ) × ArePlayed X b lines o added z.bus × (mid ≡ old ++ added) → (closing : List ℕ) × Closes X z closing × (whole ≡ mid ++ closing)
+    → (text : List ℕ) × (end : End E) × Prints X b lines text end × Ends X x end text outcome.Done whole
 closed {E} X x b z lines o old mid whole done none layout played closes = (
   played.0,
   Left z.bus,
   subst (λ r. ArePlayed X b lines r played.0 z.bus) done played.1,
   (
     closes.0,
-    subst (λ y. Closes {E = E} (record { layout = y; bus = z.bus }) closes.0) layout closes.1,
+    subst (λ y. Closes {E = E} X (record { layout = y; bus = z.bus }) closes.0) layout closes.1,
     refl,
     closes.2 ∙ ap (λ (l : List ℕ). l ++ closes.0) (played.2 ∙ ap (λ (l : List ℕ). l ++ played.0) none),
   ),
@@ -72,14 +103,14 @@ closed {E} X x b z lines o old mid whole done none layout played closes = (
 
 -- a line was refused, and its refusal is behind the answers
 pub stopped : {E : Type 0} (X : Election E) (x : Layout) (b new : Bus E) (lines : List (ℕ × List ℕ)) (o : Outcome) (old whole : List ℕ) → o ≡ outcome.Refused → old ≡ []
-    → (added : List ℕ) × ArePlayed X b lines o added new × (whole ≡ old ++ added) → (text : List ℕ) × (end : End E) × Prints X b lines text end × Ends x end text outcome.Refused whole
+    → (added : List ℕ) × ArePlayed X b lines o added new × (whole ≡ old ++ added) → (text : List ℕ) × (end : End E) × Prints X b lines text end × Ends X x end text outcome.Refused whole
 stopped {E} X x b new lines o old whole refused none played =
     let ends : ArePlayed X b lines outcome.Refused played.0 new = subst (λ r. ArePlayed X b lines r played.0 new) refused played.1 in
     (ends.0, Stopped ends.1, ends.2, (refl, played.2 ∙ ap (λ (l : List ℕ). l ++ played.0) none ∙ ends.3))
 
 -- a new bus was made, and the lines behind its shape moved it
 pub opened : {E : Type 0} (of : Shape → Election E × Layout) (input : List ℕ) (line : ℕ × List ℕ) (lines : List (ℕ × List ℕ)) (shape : Shape) (z : Sitting E) (o : Outcome) (whole : List ℕ) → script_lines input ≡ line ∷ lines → shape_of line.1 ≡ Some shape
-    → IsMade (of shape).1 shape z → (text : List ℕ) × (end : End E) × Prints (of shape).0 z.bus lines text end × Ends z.layout end text o whole → IsReplay of input o whole
+    → IsMade (of shape).1 shape z → (text : List ℕ) × (end : End E) × Prints (of shape).0 z.bus lines text end × Ends (of shape).0 z.layout end text o whole → IsReplay of input o whole
 opened {E} of input line lines shape z o whole is shape_is made answered =
     let x = (of shape).1 in
     subst (λ l. Replays of l o whole) (sym is)
@@ -90,7 +121,7 @@ opened {E} of input line lines shape z o whole is shape_is made answered =
       answered.0,
       answered.1,
       answered.2,
-      subst (λ y. Ends y answered.1 answered.0 o whole) made.layout answered.3,
+      subst (λ y. Ends (of shape).0 y answered.1 answered.0 o whole) made.layout answered.3,
     )))
 
 -- what follows from a fact of a value

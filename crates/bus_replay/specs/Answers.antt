@@ -1,12 +1,16 @@
 -- What `replay` answers to an input: the bus is made and moved by the script's lines, and the text is what they print.
 use Rattle.std.specs.Prelude.{◌≡◌, ◌≢◌, ◌-◌, ℕ, zero, suc, Bool, true, false, ◌⊎◌, Option, Some, None, List, [], ◌∷◌, ◌++◌, map, codes}
-use Rattle.bus_batch.specs.Frames.{Frame, AreFrames, log_words, order_of}
+use Rattle.std.specs.List.{enumerate_from}
+use Rattle.bus_register.specs.declared.registers.SenderNo.{SenderNo}
+use Rattle.bus_batch.specs.Frames.{Order, Spells}
 use Rattle.bus_deliverylog.specs.declared.receiving.RecvTurn.{RecvTurn}
 use Rattle.bus_deliverylog.specs.declared.receiving.RecvTurn.TheVariants as recv
 use Rattle.bus_tenure.specs.Core.{Election, Layout}
 use Rattle.bus_tenure.specs.declared.turns.Turn.{Turn as Turned}
 use Rattle.bus_tenure.specs.declared.turns.Turn.TheVariants as turn
-use Rattle.bus_world.specs.World.{Bus, Event, Happens, given_at}
+use Rattle.bus_world.specs.Headline.{given}
+use Rattle.bus_world.specs.Trails.{Trails, Reached, Takers}
+use Rattle.bus_world.specs.World.{Bus, Event, Happens}
 use Rattle.bus_world.specs.Playing.{Sitting, Answers, Refused as IsRefused, MakeRefused, IsMade, log_of}
 use Rattle.bus_world.specs.declared.events.Answer.{Answer}
 use Rattle.bus_world.specs.declared.events.Answer.TheVariants as answer
@@ -71,22 +75,28 @@ abbrev pub Prints : {E : Type 0} → Election E → Bus E → List (ℕ × List 
 Prints X b [] text end = (text ≡ []) × (end ≡ Left b)
 Prints X b (line ∷ lines) text end = Asked X b line.0 (command_of line.1) (λ mid rest stop. Prints X mid lines rest stop) text end
 
--- the closing lines: the owners by tenure, the one order that the log spells, and how much of it each receiver was given
-pub record Closes {E : Type 0} (z : Sitting E) (text : List ℕ) : Type 0 where
-  pub frames : List Frame
-  pub lawful : AreFrames z.layout.senders frames
-  pub words_are : log_of z ≡ log_words frames
-  pub text_is : text ≡ owners_line z.bus.side.owners ++ order_text (order_of frames) ++ given_text (map (given_at frames) z.bus.receivers)
+-- what each receiver was given, by these trails
+abbrev pub given_by : {A : Type 0} → Trails → List A → List Order
+given_by T receivers = map (λ e. given (T.heard e.0)) (enumerate_from 0 receivers)
 
-abbrev pub Ends : {E : Type 0} → Layout → End E → List ℕ → Outcome → List ℕ → Type 0
-Ends x (Left b) text outcome whole = (closing : List ℕ) × Closes (record { layout = x; bus = b }) closing × (outcome ≡ Done) × (whole ≡ text ++ closing)
-Ends x (Stopped refusal) text outcome whole = (outcome ≡ Refused) × (whole ≡ text ++ refusal)
+-- The closing lines, whatever trails led to the bus: who took the pages, by tenure; the one order that the words below the length
+-- spell; and of each receiver what it was given.
+pub record Closes {E : Type 0} (X : Election E) (z : Sitting E) (text : List ℕ) : Type 0 where
+  pub order : Order
+  pub owners : List (ℕ × SenderNo)
+  pub spelled : Spells z.layout.senders (log_of z) order owners
+  pub took : (T : Trails) → Reached X z.layout z.bus T → Takers z.bus.side.owners T.deeds
+  pub text_is : (T : Trails) → Reached X z.layout z.bus T → text ≡ owners_line z.bus.side.owners ++ order_text order ++ given_text (given_by T z.bus.receivers)
+
+abbrev pub Ends : {E : Type 0} → Election E → Layout → End E → List ℕ → Outcome → List ℕ → Type 0
+Ends X x (Left b) text outcome whole = (closing : List ℕ) × Closes X (record { layout = x; bus = b }) closing × (outcome ≡ Done) × (whole ≡ text ++ closing)
+Ends X x (Stopped refusal) text outcome whole = (outcome ≡ Refused) × (whole ≡ text ++ refusal)
 
 -- the lines behind the shape, on a new bus of that shape
 abbrev pub Opened : {E : Type 0} → Election E → Layout → Shape → ℕ → List (ℕ × List ℕ) → Outcome → List ℕ → Type 0
 Opened {E} X x shape number lines outcome whole =
     ((why : MakeFault) × MakeRefused shape why × (why ≢ make.NoMemory) × (outcome ≡ Refused) × (whole ≡ refusal_line (AtLine number) (make_fault_name why)))
-    ⊎ ((b : Bus E) × IsMade x shape (record { layout = x; bus = b }) × (text : List ℕ) × (end : End E) × Prints X b lines text end × Ends x end text outcome whole)
+    ⊎ ((b : Bus E) × IsMade x shape (record { layout = x; bus = b }) × (text : List ℕ) × (end : End E) × Prints X b lines text end × Ends X x end text outcome whole)
 
 abbrev pub Begins : {E : Type 0} → (Shape → Election E × Layout) → ℕ → Option Shape → List (ℕ × List ℕ) → Outcome → List ℕ → Type 0
 Begins of number None lines outcome whole = (outcome ≡ Refused) × (whole ≡ refusal_line (AtLine number) (codes "BadLine"))

@@ -32,7 +32,7 @@ fn answer_from<Q: Ratifier + Drop>(
     mut world: World<Q>,
     lines: Lines<'_>,
 ) -> Result<Answer, NoMemory>
-    ensures { let X = election_of Q.kind_of Q.op Q.fed Q.protocol in IfOk result (λ answer. (text : List ℕ) × (end : End (Elector Q)) × Prints X world.bus lines.entry text end × Ends world.layout end text answer.outcome (string_bytes answer.text)) }
+    ensures { let X = election_of Q.kind_of Q.op Q.fed Q.protocol in IfOk result (λ answer. (text : List ℕ) × (end : End (Elector Q)) × Prints X world.bus lines.entry text end × Ends X world.layout end text answer.outcome (string_bytes answer.text)) }
 {
     let mut text = String::new(alloc);
     match play(alloc, &mut world, lines, &mut text)? {

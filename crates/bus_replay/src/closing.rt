@@ -1,12 +1,11 @@
 //! What `replay` prints behind the answers to a script.
 
 ghost use Rattle.std.specs.Prelude.{◌≡◌, ◌++◌, ℕ, List, map, OnOk, IfErr, string_bytes};
-ghost use Rattle.bus_batch.specs.Frames.{Frame, AreFrames, log_words};
 ghost use Rattle.bus_deliverylog.specs.Orders.{order_held};
-ghost use Rattle.bus_world.specs.World.{given_at};
-ghost use Rattle.bus_world.specs.Playing.{log_of};
+ghost use Rattle.bus_tenure.specs.Elections.{election_of};
+ghost use Rattle.bus_world.specs.Trails.{Trails, Reached};
 ghost use Rattle.bus_replay.specs.Text.{owners_line, order_text, given_line, given_text};
-ghost use Rattle.bus_replay.specs.Answers.{Closes};
+ghost use Rattle.bus_replay.specs.Answers.{Closes, given_by};
 
 use crate::text::push_item;
 use bus_adoptcommit::Ratifier;
@@ -58,7 +57,9 @@ fn push_all_given<Q: Ratifier + Drop>(
     world: &World<Q>,
     text: &mut String,
 ) -> Result<(), NoMemory>
-    ensures text { OnOk result ((frames : List Frame) → AreFrames world.now.layout.senders frames → log_of world.now ≡ log_words frames → string_bytes text.new ≡ string_bytes text.old ++ given_text (map (given_at frames) world.now.bus.receivers)) }
+    ensures text { let X = election_of Q.kind_of Q.op Q.fed Q.protocol in
+        OnOk result ((trails : Trails) → Reached X world.now.layout world.now.bus trails
+        → string_bytes text.new ≡ string_bytes text.old ++ given_text (given_by trails world.now.bus.receivers)) }
 {
     for receiver in 0..world.receivers() {
         let given = world.given(alloc, receiver)?;
@@ -73,7 +74,8 @@ pub fn push_closing<Q: Ratifier + Drop>(
     world: &World<Q>,
     text: &mut String,
 ) -> Result<(), NoMemory>
-    ensures text { OnOk result ((closing : List ℕ) × Closes world.now closing × (string_bytes text.new ≡ string_bytes text.old ++ closing)) }
+    ensures text { let X = election_of Q.kind_of Q.op Q.fed Q.protocol in
+        OnOk result ((closing : List ℕ) × Closes X world.now closing × (string_bytes text.new ≡ string_bytes text.old ++ closing)) }
 {
     world.promises();
     let order = world.order(alloc)?;

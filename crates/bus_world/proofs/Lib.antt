@@ -1,0 +1,13 @@
+pub mod Places
+pub mod Tying
+pub mod TableTrails
+pub mod TurnTrails
+pub mod HearTrails
+pub mod Closings
+pub mod Framing
+pub mod Growing
+pub mod Serving
+pub mod EventTrails
+pub mod Tellings
+pub mod Sittings
+pub mod Refused

@@ -1,20 +1,142 @@
--- What the bus promises, in the terms of total-order broadcast (Hadzilacos and Toueg 1994) and of consensus (Aspnes 2010).
-use Rattle.std.specs.Prelude.{◌≡◌, ℕ, Some, List, ◌++◌, map, slice_get}
+-- THE HEADLINE of the bus, said of what happened and of nothing else: of what each sender did and what each receiver was
+-- answered, of one order, and of one list of tenures with their owners. No words, no tables, no local states.
+-- Terms: total-order broadcast with FIFO order (Hadzilacos and Toueg 1994), consensus (Aspnes 2010).
+use Rattle.std.specs.Prelude.{◌≡◌, ℕ, ◌<◌, Bool, true, false, Option, Some, None, List, [], ◌∷◌, ◌++◌, length, map, take, flat_map, slice_get, All}
+use Rattle.std.specs.List.{list_any}
+use Rattle.bus_register.specs.declared.kinds.Kind.{Kind}
+use Rattle.bus_register.specs.declared.kinds.Kind.TheVariants as kind
+use Rattle.bus_register.specs.declared.registers.SenderNo.{SenderNo}
 use Rattle.bus_batch.specs.declared.messages.Item.{Item}
 use Rattle.bus_batch.specs.Frames.{Order}
 use Rattle.bus_deliverylog.specs.Orders.{of_sender, IsPrefixOfOrder}
+use Rattle.bus_deliverylog.specs.declared.receiving.RecvTurn.{RecvTurn}
+use Rattle.bus_deliverylog.specs.declared.receiving.RecvTurn.TheVariants as heard
+use Rattle.bus_tenure.specs.declared.turns.Turn.{Turn}
 
+-- ---- what a sender did: a list of deeds, the first first
+pub data Deed : Type 0 where
+  -- a put of these bytes was accepted, and this number was its answer
+  HasPut : (number : ℕ) → (bytes : List ℕ) → Deed
+  -- a close was accepted
+  HasClosed : Deed
+  -- A turn took a step on a word: in this tenure, if one was begun; what the step was for; the number that it found; the owner
+  -- with which it ended the election of its tenure, if it did; and what the turn answered. A turn without a step is no deed.
+  Stepped : (tenure : Option ℕ) → Kind → (found : ℕ) → (chose : Option ℕ) → (answer : Turn) → Deed
+
+abbrev pub put_of : Deed → List (List ℕ)
+put_of (HasPut number bytes) = bytes ∷ []
+put_of HasClosed = []
+put_of (Stepped tenure k found chose answer) = []
+
+-- the messages that it put, in its order
+abbrev pub puts : List Deed → List (List ℕ)
+puts trail = flat_map put_of trail
+
+-- it announced itself in tenure t
+pub record Announced (trail : List Deed) (t : ℕ) : Type 0 where
+  pub place : ℕ
+  pub found : ℕ
+  pub chose : Option ℕ
+  pub answer : Turn
+  pub at : slice_get trail place ≡ Some (Stepped (Some t) kind.Announce found chose answer)
+
+-- a step of it ended the election of tenure t with owner o
+pub record Elected (trail : List Deed) (t o : ℕ) : Type 0 where
+  pub place : ℕ
+  pub step : Kind
+  pub found : ℕ
+  pub answer : Turn
+  pub at : slice_get trail place ≡ Some (Stepped (Some t) step found (Some o) answer)
+
+-- by the step at this place of its trail it took the page of tenure t
+pub record Took (trail : List Deed) (t place : ℕ) : Type 0 where
+  pub found : ℕ
+  pub chose : Option ℕ
+  pub answer : Turn
+  pub at : slice_get trail place ≡ Some (Stepped (Some t) kind.TakePage found chose answer)
+
+-- it closed
+abbrev pub Closed : List Deed → Type 0
+Closed trail = (place : ℕ) × (slice_get trail place ≡ Some HasClosed)
+
+-- ---- what a receiver was answered: a list of answers, the first first
+abbrev pub item_heard : RecvTurn → List Item
+item_heard heard.Going = []
+item_heard heard.Empty = []
+item_heard (heard.Head tenure owner) = []
+item_heard (heard.Item item) = item ∷ []
+item_heard heard.End = []
+
+abbrev pub end_heard : RecvTurn → Bool
+end_heard heard.Going = false
+end_heard heard.Empty = false
+end_heard (heard.Head tenure owner) = false
+end_heard (heard.Item item) = false
+end_heard heard.End = true
+
+abbrev pub head_heard : RecvTurn → List (ℕ × SenderNo)
+head_heard heard.Going = []
+head_heard heard.Empty = []
+head_heard (heard.Head tenure owner) = (tenure, owner) ∷ []
+head_heard (heard.Item item) = []
+head_heard heard.End = []
+
+-- the order that it was given: the items that were answered, and whether the end was
+abbrev pub given : List RecvTurn → Order
+given trail = record { items = flat_map item_heard trail; ended = list_any end_heard trail }
+
+-- the tenures and owners that were answered
+abbrev pub heads : List RecvTurn → List (ℕ × SenderNo)
+heads trail = flat_map head_heard trail
+
+-- ---- orders
 -- one list begins another
 pub record IsPrefix {A : Type 0} (front whole : List A) : Type 0 where
   pub rest : List A
   pub together : front ++ rest ≡ whole
 
--- Each sender's messages in the order are those that it put, in its order, none skipped and none repeated: its items are
--- numbered from 0, and their messages are the beginning of what it put (FIFO order and integrity).
+-- Each sender's items are numbered from 0, none skipped and none repeated, and their messages are the first that it put, in its
+-- order (integrity, and FIFO order).
 pub record Faithful (order : Order) (put : ℕ → List (List ℕ)) : Type 0 where
   pub numbered : (s k : ℕ) (i : Item) → slice_get (of_sender s order) k ≡ Some i → i.number ≡ k
   pub messages : (s : ℕ) → IsPrefix (map (λ i. i.message) (of_sender s order)) (put s)
 
--- what each of the receivers was given is a prefix of the order (total order)
-abbrev pub PrefixDelivery : {V : Type 0} → Order → List V → (V → Order) → Type 0
-PrefixDelivery {V} order receivers given = (r : ℕ) (v : V) → slice_get receivers r ≡ Some v → IsPrefixOfOrder (given v) order
+-- Owners, items and an end that belong to each other: each owner's frame has items of that owner alone, one or more, and the
+-- items of all frames follow one another; the frame of the end has none, and is the last.
+pub data AreFramed : List (ℕ × SenderNo) → List Item → Bool → Type 0 where
+  Nothing : AreFramed [] [] false
+  TheEnd : (t : ℕ) (o : SenderNo) → AreFramed ((t, o) ∷ []) [] true
+  Batch : (t : ℕ) (o : SenderNo) (own : List Item) (owners : List (ℕ × SenderNo)) (items : List Item) (ended : Bool) → 0 < length own → All (λ i. i.sender ≡ o) own → AreFramed owners items ended
+      → AreFramed ((t, o) ∷ owners) (own ++ items) ended
+
+-- the sender whose frame is the last closed
+pub record IsClosedByLast (deeds : ℕ → List Deed) (owners : List (ℕ × SenderNo)) : Type 0 where
+  pub front : List (ℕ × SenderNo)
+  pub tenure : ℕ
+  pub owner : SenderNo
+  pub last : owners ≡ front ++ (tenure, owner) ∷ []
+  pub closed : Closed (deeds owner.0)
+
+-- ---- the promise, of the deeds of each sender and the answers of each receiver, by number
+pub record Promises (deeds : ℕ → List Deed) (heard : ℕ → List RecvTurn) (order : Order) (owners : List (ℕ × SenderNo)) : Type 0 where
+  -- 1. Each tenure has at most one owner: all who saw its election end, saw it end with the same sender, ..
+  pub one_owner : (t s s' o o' : ℕ) → Elected (deeds s) t o → Elected (deeds s') t o' → o ≡ o'
+  -- .. which had announced itself in that tenure.
+  pub announced : (t s o : ℕ) → Elected (deeds s) t o → Announced (deeds o) t
+  -- Whoever took the page of a tenure saw itself elected in it, and nobody else took it, nor it twice.
+  pub took_own : (t s place : ℕ) → Took (deeds s) t place → Elected (deeds s) t s
+  pub took_once : (t s s' place place' : ℕ) → Took (deeds s) t place → Took (deeds s') t place' → (s ≡ s') × (place ≡ place')
+  -- 2. The listed owners took the pages of their tenures, and the tenures rise along the list.
+  pub owned : (k t : ℕ) (o : SenderNo) → slice_get owners k ≡ Some (t, o) → (place : ℕ) × Took (deeds o.0) t place
+  pub rising : (j k t u : ℕ) (o p : SenderNo) → slice_get owners j ≡ Some (t, o) → slice_get owners k ≡ Some (u, p) → j < k → t < u
+  -- 3. What each receiver was given is a prefix of the one order, and the heads that it was told are a prefix of the one list.
+  pub delivered : (r : ℕ) → IsPrefixOfOrder (given (heard r)) order
+  pub told : (r : ℕ) → IsPrefix (heads (heard r)) owners
+  -- 4. Each sender's messages in the order are those that it put, in its order, none skipped and none repeated.
+  pub faithful : Faithful order (λ s. puts (deeds s))
+  -- The number that an accepted message was answered is how many its sender had put before it.
+  pub numbered : (s place number : ℕ) (bytes : List ℕ) → slice_get (deeds s) place ≡ Some (HasPut number bytes) → number ≡ length (puts (take place (deeds s)))
+  -- 5. Nothing follows the end, by the form of an order; and an order that has ended was closed by the owner of its last frame.
+  pub closed : order.ended ≡ true → IsClosedByLast deeds owners
+  -- 6. The order's items are those of the owners' frames, each frame's items its owner's.
+  pub framed : AreFramed owners order.items order.ended

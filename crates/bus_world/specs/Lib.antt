@@ -1,3 +1,4 @@
+pub mod Headline
 pub mod Tenures
 pub mod TenuresLaws
 pub mod Log
@@ -8,7 +9,6 @@ pub mod BusLaws
 pub mod Turning
 pub mod TurningLaws
 pub mod TurnSteps
-pub mod Headline
 pub mod Receiving
 pub mod ReceivingLaws
 pub mod World
@@ -18,8 +18,8 @@ pub mod Starting
 pub mod StartingLaws
 pub mod Playing
 pub mod Faults
+pub mod Trails
 pub mod Telling
-pub mod TellingLaws
 pub mod PlayingLaws
 pub mod ViewingLaws
-pub mod GrowingLaws
+pub mod Refusals

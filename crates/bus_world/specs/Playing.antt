@@ -1,18 +1,14 @@
 -- The bus as a program holds it, and what it answers to each event.
 use Rattle.std.specs.Prelude.{◌≡◌, ℕ, ◌<◌, ◌≤◌, ◌⊎◌, Option, Some, None, List, [], ◌∷◌, ◌++◌, length, take, slice_get, slice_index, slice_set}
-use Rattle.bus_register.specs.Protocol.{Protocol}
 use Rattle.bus_batch.specs.Batches.{next_of, CanPut, IsPutFault, CanClose, IsCloseFault}
 use Rattle.bus_batch.specs.declared.batches.PutFault.{PutFault}
 use Rattle.bus_batch.specs.declared.batches.CloseFault.{CloseFault}
-use Rattle.bus_batch.specs.Frames.{Frame}
-use Rattle.bus_deliverylog.specs.Orders.{IsPrefixOfOrder}
 use Rattle.bus_deliverylog.specs.Receiving.{Receiving}
 use Rattle.bus_deliverylog.specs.declared.receiving.RecvTurn.{RecvTurn}
 use Rattle.bus_tenure.specs.Core.{Core, Election, Layout, log_at, situation_of, op_at, answer_at}
-use Rattle.bus_world.specs.Headline.{IsPrefix}
 use Rattle.bus_world.specs.Log.{read}
 use Rattle.bus_world.specs.Turning.{found}
-use Rattle.bus_world.specs.World.{Bus, Event, Put, Close, Turn, Recv, Happens, LawfulBus, RecvDoes, IsNew, IsEvent, Runs, KeepsPromises, put_by, accepted_in, given_at}
+use Rattle.bus_world.specs.World.{Bus, Event, Put, Close, Turn, Recv, Happens, RecvDoes, IsNew, IsEvent}
 use Rattle.bus_world.specs.declared.events.Event.{Event as Told}
 use Rattle.bus_world.specs.declared.events.Event.TheVariants as told
 use Rattle.bus_world.specs.declared.events.Answer.{Answer}
@@ -27,15 +23,6 @@ use Rattle.bus_world.specs.declared.shapes.MakeFault.TheVariants as make
 pub record Sitting (E : Type 0) : Type 0 where
   pub layout : Layout
   pub bus : Bus E
-
--- what every bus that a program holds keeps
-pub record IsSitting {E : Type 0} (P : Protocol E (Unit {0}) ℕ) (z : Sitting E) : Type 0 where
-  pub senders_few : z.layout.senders ≤ 8
-  pub rows_few : z.layout.rows ≤ 256
-  pub capacity_few : z.layout.capacity ≤ 65536
-  pub senders : length z.bus.side.senders ≡ z.layout.senders
-  pub frames : List Frame
-  pub lawful : LawfulBus P z.layout z.bus frames
 
 -- the words of its log below the length
 abbrev pub log_of : {E : Type 0} → Sitting E → List ℕ
@@ -136,32 +123,3 @@ Refused b (Recv r) why = RecvRefused (slice_get b.receivers r) why
 abbrev pub AllAnswered : {E : Type 0} → Election E → Bus E → List Event → Bus E → Type 0
 AllAnswered X old [] new = new ≡ old
 AllAnswered {E} X old (e ∷ events) new = (mid : Bus E) × (a : Answer) × IsEvent e × Happens X old e mid × Answers X old e a mid × AllAnswered X mid events new
-
--- what each receiver was given goes on from what it was given before
-abbrev pub GivenGrows : {E : Type 0} → Bus E → List Frame → Bus E → List Frame → Type 0
-GivenGrows old frames new frames' = (r : ℕ) (v v' : Receiving) → slice_get old.receivers r ≡ Some v → slice_get new.receivers r ≡ Some v' → IsPrefixOfOrder (given_at frames v) (given_at frames' v')
-
--- The headline: events lead from one bus to another, which keeps its promises as the one before did. Frames, owners and what
--- each receiver was given are extended and never otherwise changed, and what each sender has put has grown by its accepted
--- puts, in their order.
-pub record Leads {E : Type 0} (X : Election E) (P : Protocol E (Unit {0}) ℕ) (x : Layout) (old : Bus E) (events : List Event) (new : Bus E) : Type 0 where
-  pub run : Runs X old events new
-  pub frames : List Frame
-  pub more : List Frame
-  pub before : KeepsPromises P x old frames
-  pub after : KeepsPromises P x new (frames ++ more)
-  pub puts : (s : ℕ) → put_by new (frames ++ more) s ≡ put_by old frames s ++ accepted_in X old events new run s
-  pub owners : IsPrefix old.side.owners new.side.owners
-  pub given : GivenGrows old frames new (frames ++ more)
-
--- all events were answered
-pub record Played {E : Type 0} (X : Election E) (P : Protocol E (Unit {0}) ℕ) (x : Layout) (old : Bus E) (events : List Event) (new : Bus E) : Type 0 where
-  pub answered : AllAnswered X old events new
-  pub leads : Leads X P x old events new
-
--- the event at a place is the first that is refused: those before it have happened, and no other
-pub record Stops {E : Type 0} (X : Election E) (P : Protocol E (Unit {0}) ℕ) (x : Layout) (old : Bus E) (events : List Event) (place : ℕ) (why : StepFault) (new : Bus E) : Type 0 where
-  pub played : Played X P x old (take place events) new
-  pub event : Event
-  pub at : slice_get events place ≡ Some event
-  pub refused : Refused new event why

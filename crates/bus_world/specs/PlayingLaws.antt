@@ -1,7 +1,7 @@
 -- What a program holds stays a bus.
 use Rattle.std.proofs.Common.{◌≡◌, ◌≢◌, ℕ, ◌+◌, ◌*◌, ◌-◌, ◌/◌, ◌<◌, ◌≤◌, ◌^◌, Bool, true, false, cond, ◌&&◌, ◌==◌, nat_lt, nat_le, Option, Some, None, is_some, ◌⊎◌, inl, inr, List, [], ◌∷◌, ◌++◌, length, map, get_or, slice_get, slice_index, slice_set, arith, refl, sym, ◌∙◌, ap, subst}
 use Rattle.std.specs.Prelude.{Result, Ok, Err, IfOk, IfErr, OnOk, OnErr, IfSome, All}
-use Rattle.std.proofs.lemmas.Bool.{true≢false}
+use Rattle.std.proofs.lemmas.Bool.{and_parts, leb-true, ltb-true, true≢false}
 use Rattle.std.proofs.lemmas.Bool.Decides.{nat_tests, eqb_tells}
 use Rattle.std.proofs.lemmas.Grind.{common_steps}
 use Rattle.std.proofs.lemmas.List.{length-map}
@@ -13,8 +13,9 @@ use Rattle.bus_register.specs.Words.{register, SumFits}
 use Rattle.bus_register.specs.declared.registers.Op.{Op}
 use Rattle.bus_register.specs.declared.registers.Op.TheVariants.{Load, Store}
 use Rattle.bus_register.specs.Tables.{of_some}
-use Rattle.bus_batch.specs.Batches.{Pending, next_of, IsPutFault, IsCloseFault}
-use Rattle.bus_batch.specs.declared.batches.Phase.TheVariants.{Closing}
+use Rattle.bus_batch.specs.Batches.{Pending, next_of, CanPut, CanClose, IsPutFault, IsCloseFault}
+use Rattle.bus_batch.specs.declared.batches.Phase.TheVariants.{Open, Closing, Closed}
+use Rattle.bus_batch.specs.declared.batches.Phase.{Phase as BatchPhase}
 use Rattle.bus_batch.specs.declared.batches.PutFault.{PutFault}
 use Rattle.bus_batch.specs.declared.batches.PutFault.TheVariants as put
 use Rattle.bus_batch.specs.declared.batches.CloseFault.{CloseFault}
@@ -36,11 +37,12 @@ use Rattle.bus_world.specs.Turning.{Side, turned, stepped, found, home_after, co
 use Rattle.bus_world.specs.TurningLaws.{turn_lawful}
 use Rattle.bus_world.specs.World.{Bus, Event, Put, Close, Turn, Recv, IsEvent, Happens, SenderDoes, ReceiverDoes, RecvDoes, with_sender, put_in, close_in, is_open, can_put, can_close, IsReceiver}
 use Rattle.bus_world.specs.WorldLaws.{event_left, numbers_fit}
-use Rattle.bus_world.specs.Playing.{Sitting, IsSitting, PutGives, PutRefused, CloseGives, CloseRefused, TurnAnswers, TurnRefused, RecvAnswers, RecvRefused}
-use Rattle.bus_world.specs.Telling.{Tells, SenderTells, TurnTells}
-use Rattle.bus_world.specs.TellingLaws.{turn_true}
+use Rattle.bus_world.specs.Trails.{IsSitting, extended}
+use Rattle.bus_world.specs.Trails.Reached.{Then}
+use Rattle.bus_world.specs.Playing.{Sitting, Answers, PutGives, PutRefused, CloseGives, CloseRefused, TurnAnswers, TurnRefused, RecvAnswers, RecvRefused}
 use Rattle.bus_world.specs.declared.events.StepFault.{StepFault}
 use Rattle.bus_world.specs.declared.events.StepFault.TheVariants as fault
+use Rattle.bus_world.specs.declared.events.Answer.{Answer}
 use Rattle.bus_world.specs.declared.events.Answer.TheVariants as answer
 
 -- a list with the same element in its place
@@ -60,21 +62,37 @@ event_length X b b' (Recv r) d = ap (λ (z : Side _). length z.senders) d.0
 
 module _ {E : Type 0} (X : Election E) (P : Protocol E (Unit {0}) ℕ) (x : Layout) (laws : Laws X.op X.fed P OneOwner) (width : x.width ≡ P.width x.senders)
     (starts : (n me at : ℕ) → X.started n me x.rounds at ≡ P.started n me tt at) (owner_is : (e : E) → X.owner e ≡ P.output e) where
-  pub layout_served : (b : Bus E) → IsSitting P record { layout = x; bus = b } → IsLayout x
+  pub layout_served : (b : Bus E) → IsSitting X P record { layout = x; bus = b } → IsLayout x
   layout_served b h = record { senders = h.senders_few; rows = (let z = h.rows_few in omega arith); capacity = (let z = h.capacity_few in omega arith) }
 
   -- whatever happens to it
-  pub sitting_after : (b b' : Bus E) (e : Event) → IsSitting P record { layout = x; bus = b } → IsEvent e → Happens X b e b' → IsSitting P record { layout = x; bus = b' }
-  sitting_after b b' e h is d =
-      let a = event_left X P laws x (layout_served b h) width starts owner_is b h.frames h.lawful b' e is d in
+  pub sitting_after : (b b' : Bus E) (e : Event) (a : Answer) → IsSitting X P record { layout = x; bus = b } → IsEvent e → Happens X b e b' → Answers X b e a b' → IsSitting X P record { layout = x; bus = b' }
+  sitting_after b b' e a h is d w =
+      let l = event_left X P laws x (layout_served b h) width starts owner_is b h.frames h.lawful b' e is d in
       record {
         senders_few = h.senders_few;
         rows_few = h.rows_few;
         capacity_few = h.capacity_few;
         senders = event_length X b b' e d ∙ h.senders;
-        frames = a.left.frames_now;
-        lawful = a.left.lawful;
+        frames = l.left.frames_now;
+        lawful = l.left.lawful;
+        trails = extended X b e a h.trails;
+        reached = Then b b' h.trails e a h.reached is d w;
       }
+
+-- ---- tests
+open_is : (ph : BatchPhase) → is_open ph ≡ true → ph ≡ Open
+open_is Open e = refl
+open_is Closing e = absurd (true≢false (sym e))
+open_is Closed e = absurd (true≢false (sym e))
+
+not_busy : (b : Bool) → cond b false true ≡ true → b ≡ false
+not_busy true e = absurd (true≢false (sym e))
+not_busy false e = refl
+
+empty_is : {A : Type 0} (xs : List A) → is_empty xs ≡ true → xs ≡ []
+empty_is [] e = refl
+empty_is (x ∷ xs) e = absurd (true≢false (sym e))
 
 -- ---- results
 refuses : {A F : Type 0} (r : Result A F) (Q : F → Type 0) (P : Type 0) → IfErr r Q → ((e : F) → Q e → P) → OnErr r P
@@ -196,7 +214,7 @@ small_bytes bytes f k d l = subst (λ z. z < 256) (same_Some _ _ (sym (slice_get
 
 module _ {E : Type 0} (X : Election E) (P : Protocol E (Unit {0}) ℕ) (x : Layout) (laws : Laws X.op X.fed P OneOwner) (width : x.width ≡ P.width x.senders)
     (starts : (n me at : ℕ) → X.started n me x.rounds at ≡ P.started n me tt at) (owner_is : (e : E) → X.owner e ≡ P.output e)
-    (b : Bus E) (h : IsSitting P record { layout = x; bus = b }) (now : Sitting E) (is : record { layout = x; bus = b } ≡ now) where
+    (b : Bus E) (h : IsSitting X P record { layout = x; bus = b }) (now : Sitting E) (is : record { layout = x; bus = b } ≡ now) where
   served : IsLayout x
   served = layout_served X P x laws width starts owner_is b h
 
@@ -253,8 +271,20 @@ module _ {E : Type 0} (X : Election E) (P : Protocol E (Unit {0}) ℕ) (x : Layo
       pub put_happens : Happens X now.bus (Put s bytes) (with_core s c')
       put_happens = subst (λ z. Happens X z.bus (Put s bytes) (with_core s c')) is put_does
 
-      pub put_sits : All (λ byte. byte < 256) bytes → IsSitting P record { layout = x; bus = with_core s c' }
-      put_sits small = sitting_after X P x laws width starts owner_is b (with_core s c') (Put s bytes) h small put_does
+      pub put_sits : All (λ byte. byte < 256) bytes → IsSitting X P record { layout = x; bus = with_core s c' }
+      put_sits small = by_test (can_put c.queue (length bytes)) refl
+        where
+          by_test : (t : Bool) → can_put c.queue (length bytes) ≡ t → IsSitting X P record { layout = x; bus = with_core s c' }
+          by_test true e =
+              let opened = and_parts (is_open c.queue.phase) (cond c.queue.busy false true && (nat_le (length bytes) 56 && nat_lt (length c.queue.messages) 16)) e in
+              let idled = and_parts (cond c.queue.busy false true) (nat_le (length bytes) 56 && nat_lt (length c.queue.messages) 16) opened.1 in
+              let sized = and_parts (nat_le (length bytes) 56) (nat_lt (length c.queue.messages) 16) idled.1 in
+              let can : CanPut c.queue (length bytes) = record { is_open = open_is c.queue.phase opened.0; idle = not_busy c.queue.busy idled.0; short = leb-true (length bytes) 56 sized.0; room = ltb-true (length c.queue.messages) 16 sized.1 } in
+              sitting_after X P x laws width starts owner_is b (with_core s c') (Put s bytes) (answer.Number (next_of c.queue)) h small put_does
+              (next_of c.queue, subst (λ o. PutGives o (length bytes) (next_of c.queue)) (sym old) (can, refl), refl)
+          by_test false e =
+              let same : c' ≡ c = put_is ∙ ap (λ t. cond t (record c { queue = record c.queue { messages = c.queue.messages ++ bytes ∷ [] } }) c) e in
+              subst (λ z. IsSitting X P record { layout = x; bus = z }) (sym (ap (with_core s) same ∙ same_core)) h
 
       pub put_keeps : (r : Result ℕ StepFault) → IfErr r (PutRefused (Some c) (length bytes)) → OnErr r (record { layout = x; bus = with_core s c' } ≡ now)
       put_keeps r w = refuses r (PutRefused (Some c) (length bytes)) _ w (λ why q.
@@ -275,8 +305,18 @@ module _ {E : Type 0} (X : Election E) (P : Protocol E (Unit {0}) ℕ) (x : Layo
       pub close_happens : Happens X now.bus (Close s) (with_core s c')
       close_happens = subst (λ z. Happens X z.bus (Close s) (with_core s c')) is close_does
 
-      pub close_sits : IsSitting P record { layout = x; bus = with_core s c' }
-      close_sits = sitting_after X P x laws width starts owner_is b (with_core s c') (Close s) h tt close_does
+      pub close_sits : IsSitting X P record { layout = x; bus = with_core s c' }
+      close_sits = by_test (can_close c.queue) refl
+        where
+          by_test : (t : Bool) → can_close c.queue ≡ t → IsSitting X P record { layout = x; bus = with_core s c' }
+          by_test true e =
+              let opened = and_parts (is_open c.queue.phase) (cond c.queue.busy false true && is_empty c.queue.messages) e in
+              let idled = and_parts (cond c.queue.busy false true) (is_empty c.queue.messages) opened.1 in
+              let can : CanClose c.queue = record { is_open = open_is c.queue.phase opened.0; idle = not_busy c.queue.busy idled.0; none = empty_is c.queue.messages idled.1 } in
+              sitting_after X P x laws width starts owner_is b (with_core s c') (Close s) answer.Closing h tt close_does (subst CloseGives (sym old) can, refl)
+          by_test false e =
+              let same : c' ≡ c = close_is ∙ ap (λ t. cond t (record c { queue = record c.queue { phase = Closing } }) c) e in
+              subst (λ z. IsSitting X P record { layout = x; bus = z }) (sym (ap (with_core s) same ∙ same_core)) h
 
       pub close_keeps : (r : Result (Unit {0}) StepFault) → IfErr r (CloseRefused (Some c)) → OnErr r (record { layout = x; bus = with_core s c' } ≡ now)
       close_keeps r w = refuses r (CloseRefused (Some c)) _ w (λ why q.
@@ -359,19 +399,8 @@ module _ {E : Type 0} (X : Election E) (P : Protocol E (Unit {0}) ℕ) (x : Layo
         pub turn_happens : Happens X now.bus (Turn s word) with_turn
         turn_happens = subst (λ z. Happens X z.bus (Turn s word) with_turn) is turn_does
 
-        pub turn_sits : IsSitting P record { layout = x; bus = with_turn }
-        turn_sits = sitting_after X P x laws width starts owner_is b with_turn (Turn s word) h tt turn_does
-
-        -- and its answer tells the truth
-        pub turn_tells : (t : Answered) → t ≡ answered → Tells P x b (Turn s word) (answer.Turn t) with_turn
-        turn_tells t e = (
-          h.frames,
-          h.lawful.side.sending.log.lawful,
-          h.lawful.side.sending.log.words_are,
-          subst (λ o. SenderTells P x (slice_index b.side.words) (slice_index words) h.frames s o t) (sym old)
-              (subst (λ a. TurnTells P x (slice_index b.side.words) (slice_index words) h.frames s c a) (sym e)
-              (subst (λ w. TurnTells P x (slice_index b.side.words) (slice_index w) h.frames s c answered) (sym words_are) (turn_true X P laws x served width starts owner_is b.side h.frames h.lawful.side s c old word))),
-        )
+        pub turn_sits : IsSitting X P record { layout = x; bus = with_turn }
+        turn_sits = sitting_after X P x laws width starts owner_is b with_turn (Turn s word) (answer.Turn answered) h tt turn_does (subst (λ o. TurnAnswers X b.side.words o word (answer.Turn answered)) (sym old) refl)
 
       pub turn_answers : (t : Answered) → t ≡ answered → TurnAnswers X now.bus.side.words (slice_get now.bus.side.senders s) word (answer.Turn t)
       turn_answers t e = subst (λ z. TurnAnswers X z.bus.side.words (slice_get z.bus.side.senders s) word (answer.Turn t)) is (subst (λ o. TurnAnswers X b.side.words o word (answer.Turn t)) (sym old) (ap answer.Turn e))
@@ -407,8 +436,8 @@ module _ {E : Type 0} (X : Election E) (P : Protocol E (Unit {0}) ℕ) (x : Layo
         pub recv_happens : Happens X now.bus (Recv r) (with_reader words)
         recv_happens = subst (λ z. Happens X z.bus (Recv r) (with_reader words)) is recv_does
 
-        pub recv_sits : IsSitting P record { layout = x; bus = with_reader words }
-        recv_sits = sitting_after X P x laws width starts owner_is b (with_reader words) (Recv r) h tt recv_does
+        pub recv_sits : IsSitting X P record { layout = x; bus = with_reader words }
+        recv_sits = sitting_after X P x laws width starts owner_is b (with_reader words) (Recv r) (answer.Recv turn) h tt recv_does (subst (λ o. RecvAnswers b.side.words b.receivers r o (answer.Recv turn) (slice_set b.receivers r next)) (sym old) (next, turn, does, refl, refl))
 
       pub recv_answers : RecvAnswers now.bus.side.words now.bus.receivers r (slice_get now.bus.receivers r) (answer.Recv turn) (slice_set b.receivers r next)
       recv_answers = subst (λ z. RecvAnswers z.bus.side.words z.bus.receivers r (slice_get z.bus.receivers r) (answer.Recv turn) (slice_set b.receivers r next)) is

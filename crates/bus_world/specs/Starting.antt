@@ -1,5 +1,5 @@
 -- Senders and receivers at their starts.
-use Rattle.std.specs.Prelude.{◌≡◌, ℕ, ◌<◌, Some, List, [], length, slice_get}
+use Rattle.std.specs.Prelude.{◌≡◌, ℕ, ◌<◌, false, Some, List, [], length, slice_get}
 use Rattle.bus_batch.specs.Reading.{HasRead}
 use Rattle.bus_deliverylog.specs.Receiving.{Receiving}
 use Rattle.bus_tenure.specs.Core.{Core, Layout}
@@ -18,6 +18,7 @@ pub record IsNewReader (senders log capacity : ℕ) (v : Receiving) : Type 0 whe
   pub words_are : v.log_words ≡ capacity
   pub known : v.known ≡ 0
   pub place : v.place ≡ 0
+  pub going : v.ended ≡ false
   pub read : HasRead senders [] [] v.frames
 
 -- so many receivers, each at its start

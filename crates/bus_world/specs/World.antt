@@ -1,10 +1,10 @@
 -- The bus as a machine that plays events, and what it always keeps.
 use Rattle.std.specs.Prelude.{◌≡◌, ◌≢◌, ℕ, ◌+◌, ◌<◌, Bool, true, false, ◌&&◌, Option, Some, None, List, [], ◌∷◌, ◌++◌, length, take, map, nat_lt, nat_le, slice_get, slice_index, slice_set, All, if◌then◌else◌, ◌==◌}
-use Rattle.bus_register.specs.Protocol.{Protocol, inputs, outputs}
+use Rattle.bus_register.specs.Protocol.{Protocol}
 use Rattle.bus_batch.specs.declared.batches.Phase.{Phase}
 use Rattle.bus_batch.specs.declared.batches.Phase.TheVariants.{Open, Closing, Closed}
 use Rattle.bus_batch.specs.Batches.{Pending}
-use Rattle.bus_batch.specs.Frames.{Frame, Order, order_of, order_in, log_words, log_pieces, AreFrames}
+use Rattle.bus_batch.specs.Frames.{Frame, Order, order_of, order_in, log_pieces}
 use Rattle.bus_deliverylog.specs.declared.receiving.RecvTurn.{RecvTurn}
 use Rattle.bus_deliverylog.specs.declared.receiving.RecvTurn.TheVariants.{End as RecvEnd}
 use Rattle.bus_deliverylog.specs.Receiving.{Receiving, HasReceived, TakesLength, TakesWord}
@@ -12,10 +12,7 @@ use Rattle.bus_tenure.specs.Core.{Core, Election, Layout, log_at, is_empty, situ
 use Rattle.bus_tenure.specs.declared.phases.Phase.{Phase as SenderPhase}
 use Rattle.bus_tenure.specs.declared.phases.Phase.TheVariants as phase
 use Rattle.bus_deliverylog.specs.Orders.{of_sender}
-use Rattle.bus_world.specs.Log.{read}
-use Rattle.bus_world.specs.Headline.{Faithful, PrefixDelivery}
 use Rattle.bus_world.specs.Receiving.{Receives}
-use Rattle.bus_ownerbits.specs.ElectionKeeps.{OneOwner}
 use Rattle.std.specs.Prelude.{replicate}
 use Rattle.bus_batch.specs.Reading.{HasRead}
 use Rattle.bus_tenure.specs.declared.pages.Page.{Page}
@@ -93,11 +90,6 @@ Happens X old (Close s) new = SenderDoes old.side (slice_get old.side.senders s)
 Happens X old (Turn s word) new = SenderDoes old.side (slice_get old.side.senders s) (λ c. turned X old.side s c (situation_of X c) word) new.side × (new.receivers ≡ old.receivers)
 Happens X old (Recv r) new = (new.side ≡ old.side) × ReceiverDoes old.side.words old.receivers r (slice_get old.receivers r) new.receivers
 
--- any list of events, one after another
-abbrev pub Runs : {E : Type 0} → Election E → Bus E → List Event → Bus E → Type 0
-Runs X old [] new = new ≡ old
-Runs {E} X old (e ∷ events) new = (mid : Bus E) × IsEvent e × Happens X old e mid × Runs X mid events new
-
 -- ---- what the bus always keeps
 pub record IsReceiver (x : Layout) (frames : List Frame) (len : ℕ) (v : Receiving) : Type 0 where
   pub senders : v.frames.senders ≡ x.senders
@@ -110,7 +102,7 @@ pub record LawfulBus {E : Type 0} (P : Protocol E (Unit {0}) ℕ) (x : Layout) (
   pub side : IsSide P x bus.side frames
   pub receivers : (r : ℕ) (v : Receiving) → slice_get bus.receivers r ≡ Some v → IsReceiver x frames (slice_index bus.side.words 0) v
 
--- ---- what it promises
+-- ---- what was put, and what was given
 -- messages of a sender that are not in the order yet
 abbrev pub waiting_at : {E : Type 0} → Core E → SenderPhase E → List (List ℕ)
 waiting_at c phase.Resting = c.queue.messages
@@ -132,20 +124,6 @@ put_by bus frames s = map (λ i. i.message) (of_sender s (order_of frames)) ++ w
 abbrev pub given_at : List Frame → Receiving → Order
 given_at frames v = order_in (take v.place (log_pieces frames))
 
--- the headline, of one moment
-pub record KeepsPromises {E : Type 0} (P : Protocol E (Unit {0}) ℕ) (x : Layout) (bus : Bus E) (frames : List Frame) : Type 0 where
-  -- the words below the length are frames, of which only the last may be an end
-  pub lawful : AreFrames x.senders frames
-  pub words_are : read (slice_index bus.side.words) (log_at x) (slice_index bus.side.words 0) ≡ log_words frames
-  -- each tenure has at most one owner, who announced for it, and whoever took its page is that owner
-  pub elections : ℕ → ℕ → Option E
-  pub one_owner : (t : ℕ) → t < x.rows → OneOwner (inputs P (elections t)) (outputs P (elections t))
-  pub owned : (t o : ℕ) → slice_get bus.side.owners t ≡ Some o → (t < x.rows) × (outputs P (elections t) o ≡ Some o)
-  -- each sender's messages are those it put, in its order, none skipped and none repeated
-  pub faithful : Faithful (order_of frames) (put_by bus frames)
-  -- what each receiver was given is a prefix of the one order
-  pub delivered : PrefixDelivery (order_of frames) bus.receivers (given_at frames)
-
 -- ---- a new bus
 abbrev pub new_page : Page
 new_page = record { next = replicate 8 0; ended = false; tenures = 0; words = 0 }
@@ -159,9 +137,9 @@ pub record IsNew {E : Type 0} (x : Layout) (bus : Bus E) : Type 0 where
   pub home : bus.side.home ≡ Some new_page
   pub senders : (p : ℕ) (c : Core E) → slice_get bus.side.senders p ≡ Some c → (p < x.senders) × (c ≡ new_core x p)
   pub owners : bus.side.owners ≡ []
-  pub receivers : (r : ℕ) (v : Receiving) → slice_get bus.receivers r ≡ Some v → (v.frames.senders ≡ x.senders) × (v.log_at ≡ log_at x) × (v.length_at ≡ 0) × (v.log_words ≡ x.capacity) × (v.known ≡ 0) × (v.place ≡ 0) × HasRead x.senders [] [] v.frames
+  pub receivers : (r : ℕ) (v : Receiving) → slice_get bus.receivers r ≡ Some v → (v.frames.senders ≡ x.senders) × (v.log_at ≡ log_at x) × (v.length_at ≡ 0) × (v.log_words ≡ x.capacity) × (v.known ≡ 0) × (v.place ≡ 0) × (v.ended ≡ false) × HasRead x.senders [] [] v.frames
 
--- ---- what a list of events puts
+-- ---- what an event puts
 abbrev pub frames_by : {E : Type 0} → Election E → Option (Core E) → List Frame → List Frame
 frames_by X None frames = frames
 frames_by X (Some c) frames = frames_after c (situation_of X c) frames
@@ -183,8 +161,3 @@ accepted b (Put s bytes) q = if q == s then accepted_by (slice_get b.side.sender
 accepted b (Close s) q = []
 accepted b (Turn s word) q = []
 accepted b (Recv r) q = []
-
--- the messages that a list of events puts for a sender, in their order
-abbrev pub accepted_in : {E : Type 0} (X : Election E) (b : Bus E) (events : List Event) (b' : Bus E) → Runs X b events b' → ℕ → List (List ℕ)
-accepted_in X b [] b' run q = []
-accepted_in X b (e ∷ events) b' run q = accepted b e q ++ accepted_in X run.0 events b' run.3 q

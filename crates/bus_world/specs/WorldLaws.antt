@@ -39,10 +39,10 @@ use Rattle.bus_world.specs.TurningLaws as turning
 use Rattle.bus_world.specs.PutLaws as puts
 use Rattle.bus_tenure.specs.declared.phases.Leaving.{Leaving}
 use Rattle.bus_register.specs.TableLaws.{get_set_same, get_set_other, some_of}
-use Rattle.bus_world.specs.World.{frames_by, event_frames, accepted_by, accepted, accepted_in, waiting_at, Event, Put, Close, Turn, Recv, IsEvent, Happens, Runs, SenderDoes, ReceiverDoes, recv_found, Bus, is_open, can_put, can_close, put_in, close_in, with_sender, LawfulBus, IsReceiver, RecvStep, IsNew, new_page, KeepsPromises, put_by, waiting_of}
+use Rattle.bus_world.specs.World.{frames_by, event_frames, accepted_by, accepted, waiting_at, Event, Put, Close, Turn, Recv, IsEvent, Happens, SenderDoes, ReceiverDoes, recv_found, Bus, is_open, can_put, can_close, put_in, close_in, with_sender, LawfulBus, IsReceiver, RecvStep, IsNew, new_page, put_by, waiting_of}
 
 -- ---- numbers
-counted_at : (first : ℕ) (items : List Item) (k : ℕ) (i : Item) → AreCounted first items → slice_get items k ≡ Some i → i.number ≡ first + k
+pub counted_at : (first : ℕ) (items : List Item) (k : ℕ) (i : Item) → AreCounted first items → slice_get items k ≡ Some i → i.number ≡ first + k
 counted_at first [] k i a e = absurd cc
 counted_at first (x ∷ items) zero i a e = ap (λ (z : Item). z.number) (sym (same_Some _ _ e)) ∙ a.0 ∙ (let z : first ≡ first + 0 = omega arith in z)
 counted_at first (x ∷ items) (suc k) i a e = counted_at (first + 1) items k i a.1 e ∙ (let z : first + 1 + k ≡ first + suc k = omega arith in z)
@@ -100,23 +100,6 @@ idle_rests words frames c (phase.Giving t leaving) f e = absurd f
 
 module _ {E : Type 0} (X : Election E) (P : Protocol E (Unit {0}) ℕ) (laws : Laws X.op X.fed P OneOwner) (x : Layout) (ok : IsLayout x) (width : x.width ≡ P.width x.senders)
     (starts : (n me at : ℕ) → X.started n me x.rounds at ≡ P.started n me tt at) (owner_is : (e : E) → X.owner e ≡ P.output e) where
-  -- ---- what a lawful bus promises
-  pub keeps_promises : (b : Bus E) (frames : List Frame) → LawfulBus P x b frames → KeepsPromises P x b frames
-  keeps_promises b frames h =
-      let sending = h.side.sending in
-      record {
-        lawful = sending.log.lawful;
-        words_are = sending.log.words_are;
-        elections = sending.tenures.elections;
-        one_owner = tenures.one_owner X.op X.fed P laws x.senders x.rows 2 (slice_index b.side.words) (slice_index b.side.words 1) _ _ _ b.side.owners sending.tenures;
-        owned = λ t o e. let w = sending.tenures.owned t o e in (w.0, ap (of_some P.output) w.1.1 ∙ w.1.2);
-        faithful = record {
-          numbered = λ s k i e. counted_at 0 (of_sender s (order_of frames)) k i (sending.log.counted s) e ∙ (let z : 0 + k ≡ k = omega arith in z);
-          messages = λ s. record { rest = waiting_of (slice_get b.side.senders s); together = refl };
-        };
-        delivered = λ r v e. given_is_prefix x.senders frames v.place sending.log.lawful;
-      }
-
   module _ (side : Side E) (frames : List Frame) (h : IsSide P x side frames) (p : ℕ) (c : Core E) (old : slice_get side.senders p ≡ Some c) where
     abbrev W : ℕ → ℕ
     W = slice_index side.words
@@ -449,38 +432,11 @@ module _ {E : Type 0} (X : Election E) (P : Protocol E (Unit {0}) ℕ) (laws : L
         ap (λ (z : Side E). map (λ (v : Item). v.message) (of_sender q (order_of (frames_after c (situation_of X c) frames))) ++ waiting_of (slice_get z.senders q)) d
         ∙ puts.turn_puts X b.side frames s c i part.queue part.sender word (λ t leaving g. never_giving c c.phase refl part.fits t leaving g) q ∙ sym (append-nil (put_by b frames q))
 
-    event_puts : (e : Event) → Happens X b e b' → (q : ℕ) → put_by b' (event_frames X b e frames) q ≡ put_by b frames q ++ accepted b e q
+    pub event_puts : (e : Event) → Happens X b e b' → (q : ℕ) → put_by b' (event_frames X b e frames) q ≡ put_by b frames q ++ accepted b e q
     event_puts (Put s bytes) d q = put_puts s bytes (slice_get b.side.senders s) refl d.0 q
     event_puts (Close s) d q = close_puts s (slice_get b.side.senders s) refl d.0 q
     event_puts (Turn s word) d q = turn_event_puts s word (slice_get b.side.senders s) refl d.0 q
     event_puts (Recv r) d q = bus_same d.0 frames q ∙ sym (append-nil (put_by b frames q))
-
-  -- ---- any list of events
-  -- what a list of events leaves: a lawful bus, whose log continues the one before, and what each sender has put by then
-  pub record Ran (b : Bus E) (frames : List Frame) (b' : Bus E) (put : ℕ → List (List ℕ)) : Type 0 where
-    pub frames_now : List Frame
-    pub lawful : LawfulBus P x b' frames_now
-    pub continues : Continues frames frames_now
-    pub puts : (s : ℕ) → put_by b' frames_now s ≡ put_by b frames s ++ put s
-
-  pub run_left : (events : List Event) (b b' : Bus E) (frames : List Frame) → LawfulBus P x b frames → (run : Runs X b events b') → Ran b frames b' (accepted_in X b events b' run)
-  run_left [] b b' frames h run = record {
-    frames_now = frames;
-    lawful = subst (λ z. LawfulBus P x z frames) (sym run) h;
-    continues = record { more = []; together = append-nil frames };
-    puts = λ s. ap (λ z. put_by z frames s) run ∙ sym (append-nil (put_by b frames s));
-  }
-  run_left (e ∷ events) b b' frames h run =
-      let a = event_left b frames h run.0 e run.1 run.2 in
-      let l = a.left in
-      let r = run_left events run.0 b' l.frames_now l.lawful run.3 in
-      record {
-        frames_now = r.frames_now;
-        lawful = r.lawful;
-        continues = record { more = l.continues.more ++ r.continues.more; together = sym (append_assoc frames l.continues.more r.continues.more) ∙ ap (λ z. z ++ r.continues.more) l.continues.together ∙ r.continues.together };
-        puts = λ s. r.puts s ∙ ap (λ z. put_by run.0 z s ++ accepted_in X run.0 events b' run.3 s) a.now_is ∙ ap (λ z. z ++ accepted_in X run.0 events b' run.3 s) (event_puts b frames h run.0 e run.2 s)
-            ∙ append_assoc (put_by b frames s) (accepted b e s) (accepted_in X run.0 events b' run.3 s);
-      }
 
   -- ---- a new bus is lawful
   module _ (b : Bus E) (new : IsNew x b) where
@@ -542,32 +498,7 @@ module _ {E : Type 0} (X : Election E) (P : Protocol E (Unit {0}) ℕ) (laws : L
             receives = record {
               place_below = (let a = n.4 in let d = n.5 in omega arith);
               known_below = (let a = n.4 in omega arith);
-              has_read = subst (λ z. HasRead x.senders (take z (log_words [])) (take z (log_pieces [])) v.frames) (sym n.5) n.6;
+              has_read = subst (λ z. HasRead x.senders (take z (log_words [])) (take z (log_pieces [])) v.frames) (sym n.5) n.7;
             };
           };
     }
-
-  new_puts : (b : Bus E) → IsNew x b → (s : ℕ) → put_by b [] s ≡ []
-  new_puts b new s = waiting_new (slice_get b.side.senders s) refl
-    where
-      waiting_new : (o : Option (Core E)) → slice_get b.side.senders s ≡ o → waiting_of o ≡ []
-      waiting_new None e = refl
-      waiting_new (Some c) e = ap (λ z. waiting_of (Some z)) (new.senders s c e).1
-
-  -- the headline: whatever happens to a new bus, in whatever order, it keeps its promises; and what a sender has put is what its
-  -- accepted puts were, in their order
-  pub headline : (events : List Event) (b b' : Bus E) → IsNew x b → (run : Runs X b events b') → (frames : List Frame) × KeepsPromises P x b' frames × ((s : ℕ) → put_by b' frames s ≡ accepted_in X b events b' run s)
-  headline events b b' new run =
-      let r = run_left events b b' [] (new_is_lawful b new) run in
-      (r.frames_now, keeps_promises X P laws x ok width starts owner_is b' r.frames_now r.lawful, λ s. r.puts s ∙ ap (λ z. z ++ accepted_in X b events b' run s) (new_puts b new s))
-
-  -- the log of a later moment begins with that of an earlier one
-  pub growing : (events more_events : List Event) (b mid later : Bus E) → IsNew x b → Runs X b events mid → Runs X mid more_events later → (frames : List Frame) × (more : List Frame) × KeepsPromises P x mid frames × KeepsPromises P x later (frames ++ more)
-  growing events more_events b mid later new run run' =
-      let r = run_left events b mid [] (new_is_lawful b new) run in
-      let q = run_left more_events mid later r.frames_now r.lawful run' in (
-        r.frames_now,
-        q.continues.more,
-        keeps_promises X P laws x ok width starts owner_is mid r.frames_now r.lawful,
-        subst (KeepsPromises P x later) (sym q.continues.together) (keeps_promises X P laws x ok width starts owner_is later q.frames_now q.lawful),
-      )

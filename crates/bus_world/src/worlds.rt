@@ -2,14 +2,17 @@
 
 ghost use Rattle.std.specs.Prelude.{◌≡◌, ℕ, ◌<◌, length, map, slice_get, List, Some, All, IfOk, IfErr, OnOk, OnErr};
 ghost use Rattle.std.specs.Option.{option_copied};
-ghost use Rattle.bus_batch.specs.Frames.{Frame, AreFrames, log_words, order_of};
+ghost use Rattle.bus_register.specs.declared.registers.SenderNo.{SenderNo as Number};
+ghost use Rattle.bus_batch.specs.Frames.{Frame, AreFrames, Spells, log_words, order_of};
 ghost use Rattle.bus_deliverylog.specs.Orders.{order_held};
 ghost use Rattle.bus_deliverylog.specs.Receiving.{Receiving};
 ghost use Rattle.bus_tenure.specs.Elections.{Elector, election_of, elections, layout_of};
 ghost use Rattle.bus_world.specs.declared.events.Answer.TheVariants as answer;
-ghost use Rattle.bus_world.specs.World.{Put, Close, Turn as SenderTurn, Recv, IsEvent, Happens, KeepsPromises, given_at};
+ghost use Rattle.bus_world.specs.Headline.{given};
+ghost use Rattle.bus_world.specs.World.{Put, Close, Turn as SenderTurn, Recv, IsEvent, Happens, given_at};
 ghost use Rattle.bus_world.specs.Telling.{Tells};
-ghost use Rattle.bus_world.specs.Playing.{event_told, Answers, PutGives, CloseGives, Refused, IsMade, MakeRefused, log_of, Played, Stops};
+ghost use Rattle.bus_world.specs.Trails.{Trails, no_trails, Reached, IsPromised, Takers, Follows, Played, Stops};
+ghost use Rattle.bus_world.specs.Playing.{event_told, Answers, PutGives, CloseGives, Refused, IsMade, MakeRefused, log_of};
 
 use crate::events::{Answer, Event, PlayFault, StepFault};
 use crate::shapes::{MakeFault, Shape};
@@ -39,20 +42,22 @@ pub struct World<Q: Ratifier> {
 
 impl<Q: Ratifier> Model for World<Q> {
     ghost use Rattle.std.specs.Prelude.{map};
-    ghost use Rattle.bus_tenure.specs.Elections.{Elector, elections, layout_of};
-    ghost use Rattle.bus_world.specs.Playing.{Sitting, IsSitting};
+    ghost use Rattle.bus_tenure.specs.Elections.{Elector, election_of, elections, layout_of};
+    ghost use Rattle.bus_world.specs.Playing.{Sitting};
+    ghost use Rattle.bus_world.specs.Trails.{IsSitting};
 
     ghost Value = { Sitting (Elector Q) };
 
     ghost view = { λ w. record { layout = layout_of Q.protocol w.shape.senders w.shape.rounds w.shape.rows w.shape.log_words; bus = record { side = record { words = w.cells; home = w.home; senders = w.senders.items; owners = map (λ s. s.0) w.owners.items }; receivers = w.receivers.items } } };
 
-    ghost invariant = { λ w. IsSitting (elections Q.protocol w.shape.rounds) (record { layout = layout_of Q.protocol w.shape.senders w.shape.rounds w.shape.rows w.shape.log_words; bus = record { side = record { words = w.cells; home = w.home; senders = w.senders.items; owners = map (λ s. s.0) w.owners.items }; receivers = w.receivers.items } }) };
+    ghost invariant = { λ w. IsSitting (election_of Q.kind_of Q.op Q.fed Q.protocol) (elections Q.protocol w.shape.rounds) (record { layout = layout_of Q.protocol w.shape.senders w.shape.rounds w.shape.rows w.shape.log_words; bus = record { side = record { words = w.cells; home = w.home; senders = w.senders.items; owners = map (λ s. s.0) w.owners.items }; receivers = w.receivers.items } }) };
 }
 
 impl<Q: Ratifier + Drop> World<Q> {
     /// A new bus, with its words at zero and its page at home.
     pub fn new(alloc: Global, shape: Shape) -> Result<World<Q>, MakeFault>
         ensures made { IfOk result (IsMade (layout_of Q.protocol shape.senders shape.rounds shape.rows shape.log_words) shape) }
+        ensures begins { let X = election_of Q.kind_of Q.op Q.fed Q.protocol in IfOk result (λ world. Reached X world.layout world.bus no_trails) }
         ensures fault { IfErr result (MakeRefused shape) }
     {
         if let Some(fault) = shape.fault() {
@@ -110,7 +115,6 @@ impl<Q: Ratifier + Drop> World<Q> {
         ensures layout { self.new.layout ≡ self.old.layout }
         ensures happens { let X = election_of Q.kind_of Q.op Q.fed Q.protocol in Happens X self.old.bus (SenderTurn sender word) self.new.bus }
         ensures answer { let X = election_of Q.kind_of Q.op Q.fed Q.protocol in IfOk result (λ a. Answers X self.old.bus (SenderTurn sender word) a self.new.bus) }
-        ensures tells { IfOk result (λ a. Tells (elections Q.protocol self.old.layout.rounds) self.old.layout self.old.bus (SenderTurn sender word) a self.new.bus) }
         ensures fault { IfErr result (Refused self.old.bus (SenderTurn sender word)) }
         ensures refused { OnErr result (self.new ≡ self.old) }
     {
@@ -144,10 +148,14 @@ impl<Q: Ratifier + Drop> World<Q> {
     pub fn put(&mut self, sender: SenderNo, bytes: &[u8]) -> Result<u64, StepFault>
         ensures layout { self.new.layout ≡ self.old.layout }
         ensures happens { let X = election_of Q.kind_of Q.op Q.fed Q.protocol in Happens X self.old.bus (Put sender.0 bytes.now) self.new.bus }
+        ensures follows { let X = election_of Q.kind_of Q.op Q.fed Q.protocol in
+            IfOk result (λ number. Follows X self.old.layout self.old.bus (Put sender.0 bytes.now) (answer.Number number) self.new.bus) }
         ensures number { IfOk result (PutGives (slice_get self.old.bus.side.senders sender.0) (length bytes.now)) }
         ensures fault { IfErr result (Refused self.old.bus (Put sender.0 bytes.now)) }
         ensures refused { OnErr result (self.new ≡ self.old) }
     {
+        election_is_lawful::<Q>();
+        let _ = &self.shape;
         self.put_at(u64::from(sender.0), bytes)
     }
 
@@ -155,20 +163,23 @@ impl<Q: Ratifier + Drop> World<Q> {
     pub fn close(&mut self, sender: SenderNo) -> Result<(), StepFault>
         ensures layout { self.new.layout ≡ self.old.layout }
         ensures happens { let X = election_of Q.kind_of Q.op Q.fed Q.protocol in Happens X self.old.bus (Close sender.0) self.new.bus }
+        ensures follows { let X = election_of Q.kind_of Q.op Q.fed Q.protocol in
+            OnOk result (Follows X self.old.layout self.old.bus (Close sender.0) answer.Closing self.new.bus) }
         ensures could { OnOk result (CloseGives (slice_get self.old.bus.side.senders sender.0)) }
         ensures fault { IfErr result (Refused self.old.bus (Close sender.0)) }
         ensures refused { OnErr result (self.new ≡ self.old) }
     {
+        election_is_lawful::<Q>();
+        let _ = &self.shape;
         self.close_at(u64::from(sender.0))
     }
 
-    /// What happens next, and its answer. A refused event changes nothing. Takes no memory.
-    pub fn step(&mut self, event: &Event) -> Result<Answer, StepFault>
+    /// What happens next, and its answer.
+    fn take_in(&mut self, event: &Event) -> Result<Answer, StepFault>
         ensures layout { self.new.layout ≡ self.old.layout }
         ensures is { IsEvent (event_told event.now) }
         ensures happens { let X = election_of Q.kind_of Q.op Q.fed Q.protocol in Happens X self.old.bus (event_told event.now) self.new.bus }
         ensures answer { let X = election_of Q.kind_of Q.op Q.fed Q.protocol in IfOk result (λ a. Answers X self.old.bus (event_told event.now) a self.new.bus) }
-        ensures tells { IfOk result (λ a. Tells (elections Q.protocol self.old.layout.rounds) self.old.layout self.old.bus (event_told event.now) a self.new.bus) }
         ensures fault { IfErr result (Refused self.old.bus (event_told event.now)) }
         ensures refused { OnErr result (self.new ≡ self.old) }
     {
@@ -183,11 +194,31 @@ impl<Q: Ratifier + Drop> World<Q> {
         }
     }
 
+    /// What happens next, and its answer. A refused event changes nothing. Takes no memory.
+    pub fn step(&mut self, event: &Event) -> Result<Answer, StepFault>
+        ensures layout { self.new.layout ≡ self.old.layout }
+        ensures is { IsEvent (event_told event.now) }
+        ensures happens { let X = election_of Q.kind_of Q.op Q.fed Q.protocol in Happens X self.old.bus (event_told event.now) self.new.bus }
+        ensures answer { let X = election_of Q.kind_of Q.op Q.fed Q.protocol in IfOk result (λ a. Answers X self.old.bus (event_told event.now) a self.new.bus) }
+        ensures follows { let X = election_of Q.kind_of Q.op Q.fed Q.protocol in
+            IfOk result (λ a. Follows X self.old.layout self.old.bus (event_told event.now) a self.new.bus) }
+        ensures tells { let X = election_of Q.kind_of Q.op Q.fed Q.protocol in
+            IfOk result (Tells X self.old.layout self.old.bus (event_told event.now)) }
+        ensures fault { IfErr result (Refused self.old.bus (event_told event.now)) }
+        ensures refused { OnErr result (self.new ≡ self.old) }
+    {
+        election_is_lawful::<Q>();
+        let _ = &self.shape;
+        self.take_in(event)
+    }
+
     /// Events, one after another, up to the first that is refused. Takes no memory.
     pub fn play(&mut self, events: &[Event]) -> Result<(), PlayFault>
         ensures layout { self.new.layout ≡ self.old.layout }
-        ensures played { let X = election_of Q.kind_of Q.op Q.fed Q.protocol in OnOk result (Played X (elections Q.protocol self.old.layout.rounds) self.old.layout self.old.bus (map event_told events.now) self.new.bus) }
-        ensures stopped { let X = election_of Q.kind_of Q.op Q.fed Q.protocol in IfErr result (λ fault. Stops X (elections Q.protocol self.old.layout.rounds) self.old.layout self.old.bus (map event_told events.now) fault.place fault.why self.new.bus) }
+        ensures played { let X = election_of Q.kind_of Q.op Q.fed Q.protocol in
+            OnOk result (Played X self.old.layout self.old.bus (map event_told events.now) self.new.bus) }
+        ensures stopped { let X = election_of Q.kind_of Q.op Q.fed Q.protocol in
+            IfErr result (λ fault. Stops X self.old.layout self.old.bus (map event_told events.now) fault.place fault.why self.new.bus) }
     {
         election_is_lawful::<Q>();
         let _ = &self.shape;
@@ -201,8 +232,12 @@ impl<Q: Ratifier + Drop> World<Q> {
 
     /// Who took the page, by tenure.
     pub fn owners(&self) -> &[SenderNo]
-        ensures { map (λ s. s.0) result.now ≡ self.now.bus.side.owners }
+        ensures state { map (λ s. s.0) result.now ≡ self.now.bus.side.owners }
+        ensures took { let X = election_of Q.kind_of Q.op Q.fed Q.protocol in
+            (trails : Trails) → Reached X self.now.layout self.now.bus trails → Takers (map (λ s. s.0) result.now) trails.deeds }
     {
+        election_is_lawful::<Q>();
+        let _ = &self.shape;
         self.owners.as_slice()
     }
 
@@ -241,9 +276,9 @@ impl<Q: Ratifier + Drop> World<Q> {
         &words[log..log + words[0] as usize]
     }
 
-    /// The order: what the frames below the length say. Memory is its only refusal.
+    /// The order: what the words below the length spell. Memory is its only refusal.
     pub fn order(&self, alloc: Global) -> Result<Order, NoMemory>
-        ensures { IfOk result (λ order. (frames : List Frame) → AreFrames self.now.layout.senders frames → log_of self.now ≡ log_words frames → order_held order ≡ order_of frames) }
+        ensures { IfOk result (λ order. (owners : List (ℕ × Number)) × Spells self.now.layout.senders (log_of self.now) (order_held order) owners) }
     {
         match read_log(alloc, self.log(), self.shape.senders) {
             Ok(read) => Ok(read.order),
@@ -251,8 +286,20 @@ impl<Q: Ratifier + Drop> World<Q> {
         }
     }
 
-    /// What a receiver was given, which there must be. Memory is its only refusal.
+    /// What a receiver was given, which there must be: the items and the end that it was answered.
+    /// Memory is its only refusal.
     pub fn given(&self, alloc: Global, receiver: u64) -> Result<Order, NoMemory>
+        requires { receiver < length self.now.bus.receivers }
+        ensures { let X = election_of Q.kind_of Q.op Q.fed Q.protocol in
+            IfOk result (λ order. (trails : Trails) → Reached X self.now.layout self.now.bus trails → order_held order ≡ given (trails.heard receiver)) }
+    {
+        election_is_lawful::<Q>();
+        let _ = &self.shape;
+        self.given_below(alloc, receiver)
+    }
+
+    /// The pieces of the log below a receiver's place, which there must be.
+    fn given_below(&self, alloc: Global, receiver: u64) -> Result<Order, NoMemory>
         requires { receiver < length self.now.bus.receivers }
         ensures { IfOk result (λ order. (frames : List Frame) (v : Receiving) → AreFrames self.now.layout.senders frames → log_of self.now ≡ log_words frames → slice_get self.now.bus.receivers receiver ≡ Some v → order_held order ≡ given_at frames v) }
     {
@@ -263,9 +310,10 @@ impl<Q: Ratifier + Drop> World<Q> {
         }
     }
 
-    /// What a bus promises.
+    /// What a bus promises: some trails lead to it, and of all trails that do the promise holds.
     pub fn promises(&self)
-        ensures { (frames : List Frame) × KeepsPromises (elections Q.protocol self.now.layout.rounds) self.now.layout self.now.bus frames }
+        ensures happened { let X = election_of Q.kind_of Q.op Q.fed Q.protocol in (trails : Trails) × Reached X self.now.layout self.now.bus trails }
+        ensures promised { let X = election_of Q.kind_of Q.op Q.fed Q.protocol in (trails : Trails) → Reached X self.now.layout self.now.bus trails → IsPromised self.now.layout self.now.bus trails }
     {
         election_is_lawful::<Q>();
         let _ = &self.shape;

@@ -2,7 +2,8 @@ use Rattle.std.proofs.Common.{◌≡◌, ◌∙◌, Some, refl, sym, ap, subst, 
 use Rattle.std.proofs.lemmas.Option.{slice_get_read}
 use Rattle.std.proofs.lemmas.List.{take_all}
 use Rattle.bus_tenure.specs.Elections.{election_of}
-use Rattle.bus_world.specs.World.{Put, Runs}
+use Rattle.bus_world.specs.World.{Put}
+use Rattle.bus_pageslot.specs.InWorld.{Runs}
 use Rattle.bus_pageslot.specs.InWorldLaws.{one_more_put}
 use Rattle.bus_pageslot.specs.InStepLaws.{one_more_told}
 use Rattle.std.specs.Prelude.{true, false, slice_get}

@@ -1,6 +1,7 @@
 use Rattle.std.proofs.Common.{◌≡◌, map, take, drop}
 use Rattle.bus_tenure.specs.Elections.{election_of}
-use Rattle.bus_world.specs.World.{Put, Runs}
+use Rattle.bus_world.specs.World.{Put}
+use Rattle.bus_pageslot.specs.InWorld.{Runs}
 use Rattle.bus_pageslot.specs.InStep.{TakesMessages}
 use Rattle.bus_pageslot.proofs.steps.tell_messages.Given as goal
 

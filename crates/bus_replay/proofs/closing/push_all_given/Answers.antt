@@ -1,10 +1,16 @@
-use Rattle.std.proofs.Common.{rules, string_bytes}
-use Rattle.bus_world.specs.World.{given_at}
+use Rattle.std.proofs.Common.{rules, arith, string_bytes}
 use Rattle.bus_deliverylog.specs.Orders.{order_held}
-use Rattle.bus_replay.proofs.GivenLemmas.{one_given}
+use Rattle.bus_world.specs.Headline.{given}
+use Rattle.bus_replay.proofs.GivenLemmas.{one_given, all_given}
 use Rattle.bus_replay.proofs.closing.push_all_given.Goals as goal
 
 pub loop-receiver-preserved : goal.loop-receiver-preserved
-loop-receiver-preserved g c frames lawful words_are =
-    one_given (given_at frames) c.args.world.now.bus.receivers c.loop-receiver.receiver (order_held c.in_ok-given.given) (string_bytes c.loop-receiver.text) (string_bytes c.push_given.new.text) _ (search rules)
-    (λ v here. c.in_ok-given.ensures frames v lawful words_are here) c.in_ok-push_given.ensures (c.loop-receiver.invariant frames lawful words_are)
+loop-receiver-preserved g c trails reached =
+    one_given (λ r. given (trails.heard r)) c.args.world.now.bus.receivers c.loop-receiver.receiver (order_held c.in_ok-given.given) (string_bytes c.loop-receiver.text) (string_bytes c.push_given.new.text) _ (search rules)
+    (c.in_ok-given.ensures trails reached) c.in_ok-push_given.ensures (c.loop-receiver.invariant trails reached)
+
+pub returns : goal.returns
+returns g c = record {
+  text = λ trails reached. all_given (λ r. given (trails.heard r)) c.args.world.now.bus.receivers c.loop-receiver.receiver (string_bytes c.loop-receiver.text) (string_bytes c.args.text.now)
+      (let past = c.loop-receiver-test.false in let many = c.receivers-receiver-end.ensures in omega arith) (c.loop-receiver.invariant trails reached);
+}

@@ -15,6 +15,7 @@ loop-preserved c = (
         words_are = c.new.ensures.at.2;
         known = c.new.ensures.start.0;
         place = c.new.ensures.start.1;
+        going = c.new.ensures.start.2;
         read = subst (λ z. HasRead z [] [] c.new.result.frames) c.new.ensures.senders c.new.ensures.received.read;
       }),
 )

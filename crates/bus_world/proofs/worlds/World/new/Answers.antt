@@ -1,6 +1,8 @@
 use Rattle.std.proofs.Common.{◌*◌, [], map, refl, arith, ap}
 use Rattle.bus_tenure.specs.Elections.{elections, election_of, layout_of}
 use Rattle.bus_world.specs.ViewingLaws.{few_words, made_new}
+use Rattle.bus_world.specs.Trails.{no_trails}
+use Rattle.bus_world.specs.Trails.Reached.{New}
 use Rattle.bus_world.specs.WorldLaws.{new_is_lawful}
 use Rattle.bus_world.proofs.worlds.World.new.Goals as goal
 
@@ -46,6 +48,8 @@ invariant_of-result g c =
       senders = c.in_ok-senders.ensures.many_are;
       frames = [];
       lawful = new_is_lawful X P laws x (record { senders = served.senders.1; rows = (let z = served.rows.1 in omega arith); capacity = (let z = served.log_words.1 in omega arith) }) refl (λ n me at. refl) (λ e. refl) _ new;
+      trails = no_trails;
+      reached = New _ new;
     }
 
 pub returns-clause-made : goal.returns-clause-made
@@ -57,3 +61,8 @@ returns-clause-made g c =
     let laws = c.election_is_lawful.ensures.lawful.laws c.args.shape.rounds in
     let new = made_new x c.width-width.result c.width-width.ensures.protocol c.in_ok-cells.cells c.in_ok-cells.ensures c.in_ok-senders.senders.items c.in_ok-senders.ensures _ (ap (map (λ s. s.0)) c.new-2.ensures) c.args.shape.receivers c.in_ok-receivers.receivers.items c.in_ok-receivers.ensures in
     record { served = served; layout = refl; new = new; senders = c.in_ok-senders.ensures.many_are; receivers = c.in_ok-receivers.ensures.many_are }
+
+pub returns-clause-begins : goal.returns-clause-begins
+returns-clause-begins g c =
+    let x = layout_of g.Q.Ratifier.protocol c.args.shape.senders c.args.shape.rounds c.args.shape.rows c.args.shape.log_words in
+    New _ (made_new x c.width-width.result c.width-width.ensures.protocol c.in_ok-cells.cells c.in_ok-cells.ensures c.in_ok-senders.senders.items c.in_ok-senders.ensures _ (ap (map (λ s. s.0)) c.new-2.ensures) c.args.shape.receivers c.in_ok-receivers.receivers.items c.in_ok-receivers.ensures)

@@ -1,9 +1,10 @@
-use Rattle.std.proofs.Common.{take, map, refl, sym, ◌∙◌, ap, subst, arith}
-use Rattle.std.proofs.lemmas.List.{take-map}
 use Rattle.bus_tenure.specs.Elections.{elections, election_of, layout_of}
-use Rattle.bus_world.specs.Playing.{event_told, AllAnswered, Played, Refused}
-use Rattle.bus_world.specs.PlayingLaws.{layout_served}
-use Rattle.bus_world.specs.GrowingLaws.{answered_more, told_more, told_at, all_told, played_so}
+use Rattle.bus_world.proofs.Serving.{serves}
+use Rattle.std.proofs.Common.{take, map, sym, ◌∙◌, ap, subst, arith}
+use Rattle.std.proofs.lemmas.List.{take-map}
+use Rattle.bus_world.proofs.Growing.{answered_more, told_more, told_at, all_told}
+use Rattle.bus_world.proofs.Sittings.{played}
+use Rattle.bus_world.specs.Playing.{event_told, AllAnswered, Refused}
 use Rattle.bus_world.proofs.worlds.World.play.Goals as goal
 
 pub loop-place-preserved : goal.loop-place-preserved
@@ -16,29 +17,26 @@ loop-place-preserved g c =
 
 pub returns-clause-played : goal.returns-clause-played
 returns-clause-played g c =
-    let X = election_of g.Q.Machine.kind_of g.Q.Machine.op g.Q.Machine.fed g.Q.Ratifier.protocol in
+    let P = g.Q.Ratifier.protocol in
+    let X = election_of g.Q.Machine.kind_of g.Q.Machine.op g.Q.Machine.fed P in
     let shape = c.self.inside.shape in
-    let P = elections g.Q.Ratifier.protocol shape.rounds in
-    let x = layout_of g.Q.Ratifier.protocol shape.senders shape.rounds shape.rows shape.log_words in
-    let laws = c.election_is_lawful.ensures.lawful.laws shape.rounds in
-    let served = layout_served X P x laws refl (λ n me at. refl) (λ e. refl) _ c.self.invariant in
+    let x = layout_of P shape.senders shape.rounds shape.rows shape.log_words in
+    let s = serves g.Q.Machine.kind_of g.Q.Machine.op g.Q.Machine.fed P g.met.Q.Machine.names_each_step g.met.Q.Ratifier.own_kinds shape.senders shape.rounds shape.rows shape.log_words (c.election_is_lawful.ensures.lawful.laws shape.rounds) in
     let all = all_told c.args.events.now c.loop-place.place (omega arith) in
-    subst (λ z. Played X (elections g.Q.Ratifier.protocol z.layout.rounds) z.layout z.bus (map event_told c.args.events.now) c.loop-place.self.bus) c.self.view_is
-    (played_so X P laws x served refl (λ n me at. refl) (λ e. refl) (map event_told c.args.events.now) _ c.loop-place.self.bus c.self.invariant.frames c.self.invariant.lawful (subst (λ z. AllAnswered X z.bus (map event_told c.args.events.now) c.loop-place.self.bus) (sym c.self.view_is) (subst (λ es. AllAnswered X c.args.self.now.bus es c.loop-place.self.bus) all c.loop-place.invariant.1)))
+    played X (elections P shape.rounds) x s _ c.self.invariant c.args.self.now c.self.view_is (map event_told c.args.events.now) c.loop-place.self.bus (subst (λ es. AllAnswered X c.args.self.now.bus es c.loop-place.self.bus) all c.loop-place.invariant.1)
 
 pub returns-in-Err-clause-stopped : goal.returns-in-Err-clause-stopped
 returns-in-Err-clause-stopped g c =
-    let X = election_of g.Q.Machine.kind_of g.Q.Machine.op g.Q.Machine.fed g.Q.Ratifier.protocol in
+    let P = g.Q.Ratifier.protocol in
+    let X = election_of g.Q.Machine.kind_of g.Q.Machine.op g.Q.Machine.fed P in
     let shape = c.self.inside.shape in
-    let P = elections g.Q.Ratifier.protocol shape.rounds in
-    let x = layout_of g.Q.Ratifier.protocol shape.senders shape.rounds shape.rows shape.log_words in
-    let laws = c.election_is_lawful.ensures.lawful.laws shape.rounds in
-    let served = layout_served X P x laws refl (λ n me at. refl) (λ e. refl) _ c.self.invariant in
+    let x = layout_of P shape.senders shape.rounds shape.rows shape.log_words in
+    let s = serves g.Q.Machine.kind_of g.Q.Machine.op g.Q.Machine.fed P g.met.Q.Machine.names_each_step g.met.Q.Ratifier.own_kinds shape.senders shape.rounds shape.rows shape.log_words (c.election_is_lawful.ensures.lawful.laws shape.rounds) in
     let same = ap (λ z. z.bus) c.in-Err.ensures.refused in
     let answered = subst (AllAnswered X c.args.self.now.bus (map event_told (take c.loop-place.place c.args.events.now))) (sym same) c.loop-place.invariant.1 in
     record {
-      played = subst (λ z. Played X (elections g.Q.Ratifier.protocol z.layout.rounds) z.layout z.bus (take c.loop-place.place (map event_told c.args.events.now)) c.step.new.self.bus) c.self.view_is
-          (played_so X P laws x served refl (λ n me at. refl) (λ e. refl) (take c.loop-place.place (map event_told c.args.events.now)) _ c.step.new.self.bus c.self.invariant.frames c.self.invariant.lawful (subst (λ z. AllAnswered X z.bus (take c.loop-place.place (map event_told c.args.events.now)) c.step.new.self.bus) (sym c.self.view_is) (subst (λ es. AllAnswered X c.args.self.now.bus es c.step.new.self.bus) (sym (take-map event_told c.loop-place.place c.args.events.now)) answered)));
+      played = played X (elections P shape.rounds) x s _ c.self.invariant c.args.self.now c.self.view_is (take c.loop-place.place (map event_told c.args.events.now)) c.step.new.self.bus
+          (subst (λ es. AllAnswered X c.args.self.now.bus es c.step.new.self.bus) (sym (take-map event_told c.loop-place.place c.args.events.now)) answered);
       event = event_told c.index-events-place.result;
       at = told_at c.args.events.now c.loop-place.place c.index-events-place.result c.loop-place-test.true c.index-events-place.is;
       refused = subst (λ b. Refused b (event_told c.index-events-place.result) c.in-Err.why) (sym same) c.in-Err.ensures.fault;

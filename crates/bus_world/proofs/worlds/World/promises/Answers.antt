@@ -1,18 +1,20 @@
-use Rattle.std.proofs.Common.{refl, subst}
-use Rattle.bus_batch.specs.Frames.{Frame}
 use Rattle.bus_tenure.specs.Elections.{elections, election_of, layout_of}
-use Rattle.bus_world.specs.World.{KeepsPromises}
-use Rattle.bus_world.specs.WorldLaws.{keeps_promises}
-use Rattle.bus_world.specs.PlayingLaws.{layout_served}
-use Rattle.std.specs.Prelude.{List}
+use Rattle.bus_world.proofs.Serving.{serves}
+use Rattle.std.proofs.Common.{subst}
+use Rattle.bus_world.proofs.Sittings.{promised}
+use Rattle.bus_world.specs.Trails.{Trails, Reached}
 use Rattle.bus_world.proofs.worlds.World.promises.Goals as goal
 
-pub returns : goal.returns
-returns g c =
+pub returns-clause-happened : goal.returns-clause-happened
+returns-clause-happened g c =
     let X = election_of g.Q.Machine.kind_of g.Q.Machine.op g.Q.Machine.fed g.Q.Ratifier.protocol in
+    subst (λ z. (trails : Trails) × Reached X z.layout z.bus trails) c.self.view_is (c.self.invariant.trails, c.self.invariant.reached)
+
+pub returns-clause-promised : goal.returns-clause-promised
+returns-clause-promised g c =
+    let P = g.Q.Ratifier.protocol in
+    let X = election_of g.Q.Machine.kind_of g.Q.Machine.op g.Q.Machine.fed P in
     let shape = c.self.inside.shape in
-    let P = elections g.Q.Ratifier.protocol shape.rounds in
-    let x = layout_of g.Q.Ratifier.protocol shape.senders shape.rounds shape.rows shape.log_words in
-    let laws = c.election_is_lawful.ensures.lawful.laws shape.rounds in
-    subst (λ z. (frames : List Frame) × KeepsPromises (elections g.Q.Ratifier.protocol z.layout.rounds) z.layout z.bus frames) c.self.view_is
-    (c.self.invariant.frames, keeps_promises X P laws x (layout_served X P x laws refl (λ n me at. refl) (λ e. refl) _ c.self.invariant) refl (λ n me at. refl) (λ e. refl) _ c.self.invariant.frames c.self.invariant.lawful)
+    let x = layout_of P shape.senders shape.rounds shape.rows shape.log_words in
+    let s = serves g.Q.Machine.kind_of g.Q.Machine.op g.Q.Machine.fed P g.met.Q.Machine.names_each_step g.met.Q.Ratifier.own_kinds shape.senders shape.rounds shape.rows shape.log_words (c.election_is_lawful.ensures.lawful.laws shape.rounds) in
+    promised X (elections P shape.rounds) x s _ c.self.invariant c.args.self.now c.self.view_is

@@ -1,9 +1,6 @@
 use Rattle.std.proofs.Common.{refl, subst, arith, ◌∙◌, sym, ap, map, slice_set}
 use Rattle.bus_tenure.specs.Elections.{Elector, elections, election_of, layout_of}
-use Rattle.bus_world.specs.PlayingLaws.{there, turn_unknown, turn_idle, words_enough, sums_fit, owner_fits, owners_by, turn_happens, turn_sits, turn_tells, turn_answers, numbers_many}
-use Rattle.bus_world.specs.Telling.{Tells}
-use Rattle.bus_world.specs.World.{Bus, Turn}
-use Rattle.bus_world.specs.declared.events.Answer.TheVariants as answer
+use Rattle.bus_world.specs.PlayingLaws.{there, turn_unknown, turn_idle, words_enough, sums_fit, owner_fits, owners_by, turn_happens, turn_sits, turn_answers, numbers_many}
 use Rattle.bus_world.proofs.worlds.World.turn_at.Goals as goal
 
 pub returns-then-sender-len-clause-happens : goal.returns-then-sender-len-clause-happens
@@ -75,22 +72,6 @@ returns-clause-happens g c =
     let old = there c.self.inside.senders.items c.args.sender c.index_mut-core.result.now (omega arith) c.index_mut-core.ensures.value in
     let owners_are = c.note_owner.ensures ∙ ap (λ a. owners_by a c.args.sender (map (λ s. s.0) c.self.inside.owners.items)) c.turn_sender-turn.ensures.answer in
     turn_happens X P x laws refl (λ n me at. refl) (λ e. refl) _ c.self.invariant c.args.self.now c.self.view_is c.args.sender c.index_mut-core.result.now old c.args.word c.turn_sender-turn.new.cells c.turn_sender-turn.new.home c.turn_sender-turn.new.core _ c.turn_sender-turn.ensures.words c.turn_sender-turn.ensures.home c.turn_sender-turn.ensures.core owners_are
-
-pub returns-clause-tells : goal.returns-clause-tells
-returns-clause-tells g c =
-    let X = election_of g.Q.Machine.kind_of g.Q.Machine.op g.Q.Machine.fed g.Q.Ratifier.protocol in
-    let shape = c.self.inside.shape in
-    let P = elections g.Q.Ratifier.protocol shape.rounds in
-    let x = layout_of g.Q.Ratifier.protocol shape.senders shape.rounds shape.rows shape.log_words in
-    let laws = c.election_is_lawful.ensures.lawful.laws shape.rounds in
-    let old = there c.self.inside.senders.items c.args.sender c.index_mut-core.result.now (omega arith) c.index_mut-core.ensures.value in
-    let owners_are = c.note_owner.ensures ∙ ap (λ a. owners_by a c.args.sender (map (λ s. s.0) c.self.inside.owners.items)) c.turn_sender-turn.ensures.answer in
-    let new : Bus (Elector g.row.Q.Denot) = record {
-      side = record { words = c.turn_sender-turn.new.cells; home = c.turn_sender-turn.new.home; senders = slice_set c.self.inside.senders.items c.args.sender c.turn_sender-turn.new.core; owners = map (λ s. s.0) c.note_owner.new.owners.items };
-      receivers = c.self.inside.receivers.items;
-    } in
-    subst (λ z. Tells (elections g.Q.Ratifier.protocol z.layout.rounds) z.layout z.bus (Turn c.args.sender c.args.word) (answer.Turn c.turn_sender-turn.result) new) c.self.view_is
-    (turn_tells X P x laws refl (λ n me at. refl) (λ e. refl) _ c.self.invariant c.args.self.now c.self.view_is c.args.sender c.index_mut-core.result.now old c.args.word c.turn_sender-turn.new.cells c.turn_sender-turn.new.home c.turn_sender-turn.new.core _ c.turn_sender-turn.ensures.words c.turn_sender-turn.ensures.home c.turn_sender-turn.ensures.core owners_are c.turn_sender-turn.result c.turn_sender-turn.ensures.answer)
 
 pub returns-clause-answer : goal.returns-clause-answer
 returns-clause-answer g c =

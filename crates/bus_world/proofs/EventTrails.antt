@@ -1,0 +1,567 @@
+-- Every event keeps what ties the trails to the bus, and the promise follows from it.
+use Rattle.std.proofs.Common.{◌≡◌, ◌≢◌, ℕ, zero, suc, ◌+◌, ◌*◌, ◌<◌, ◌≤◌, Bool, true, false, cond, ◌&&◌, ◌==◌, nat_lt, nat_le, Option, Some, None, is_some, inl, inr, List, [], ◌∷◌, ◌++◌, length, map, take, drop, flat_map, slice_get, slice_index, slice_set, arith, refl, sym, ◌∙◌, ap, subst, append_assoc, replicate}
+use mathlib.Core.Path.{fun_ext}
+use Rattle.std.proofs.lemmas.Bool.{and_parts, cases_eq, cases_lt}
+use Rattle.std.proofs.lemmas.Bool.Decides.{eqb_tells}
+use Rattle.std.proofs.lemmas.Grind.{flat_map-append}
+use Rattle.std.proofs.lemmas.List.{append-nil, length-append, length-map, take_at, take-append-le, length-replicate, take-append-drop, get_or_past, get_or-replicate}
+use Rattle.std.proofs.Math.Seq.{take-nil}
+use Rattle.std.proofs.lemmas.Option.{same_Some, slice_get_within}
+use Rattle.bus_register.specs.declared.kinds.Kind.{Kind}
+use Rattle.bus_register.specs.declared.kinds.Kind.TheVariants as kind
+use Rattle.bus_register.specs.declared.registers.SenderNo.{SenderNo}
+use Rattle.bus_register.specs.Protocol.{Protocol, Laws, inputs, outputs}
+use Rattle.bus_register.specs.Tables.{of_some}
+use Rattle.bus_register.specs.TableLaws.{get_set_same, get_set_other}
+use Rattle.bus_batch.specs.declared.messages.Item.{Item}
+use Rattle.bus_batch.specs.Batches.{next_of}
+use Rattle.bus_batch.specs.declared.batches.Phase.TheVariants.{Closing}
+use Rattle.bus_batch.specs.Frames.{Frame, Order, AreFrames, AreFramesFrom, log_words, log_pieces, order_of, owners_in, order_in, piece_owners, tenure_and_owner}
+use Rattle.bus_batch.specs.PieceLaws.{owners_in-log}
+use Rattle.bus_deliverylog.specs.Orders.{IsPrefixOfOrder, of_sender}
+use Rattle.bus_deliverylog.specs.Receiving.{Receiving}
+use Rattle.bus_deliverylog.specs.declared.receiving.RecvTurn.{RecvTurn}
+use Rattle.bus_tenure.specs.Core.{Core, Election, Layout, log_at, words_of, kind_at, situation_of}
+use Rattle.bus_tenure.specs.declared.turns.Turn.{Turn as Answered}
+use Rattle.bus_tenure.specs.declared.phases.Phase.TheVariants as phase
+use Rattle.bus_ownerbits.specs.ElectionKeeps.{OneOwner, begun_at}
+use Rattle.bus_ownerbits.specs.ElectionSteps.{row_within}
+use Rattle.bus_ownerbits.specs.declared.stages.Stage.{Stage}
+use Rattle.bus_ownerbits.specs.declared.stages.Stage.TheVariants as stage
+use Rattle.bus_ownerbits.specs.Election.{kind_at as election_kind_at}
+use Rattle.bus_tenure.specs.declared.phases.Phase.{Phase as SenderPhase}
+use Rattle.bus_batch.specs.Batches.{Pending, CanPut}
+use Rattle.bus_batch.specs.declared.batches.Phase.TheVariants.{Open}
+use Rattle.bus_batch.proofs.FrameLaws.{same_log}
+use Rattle.std.proofs.lemmas.List.{map-append}
+use Rattle.std.proofs.lemmas.List.Folds.{list_any-append}
+use Rattle.std.proofs.lemmas.Bool.Decides.{nat_tests}
+use Rattle.std.specs.Prelude.{◌||◌}
+use Rattle.std.specs.List.{list_any}
+use Rattle.bus_tenure.specs.Core.{op_at, answer_at}
+use Rattle.bus_world.specs.Bus.{IsLayout, AreOwned, Fits}
+use Rattle.bus_world.specs.BusLaws as bus
+use Rattle.bus_world.specs.Headline.{Deed, HasPut, HasClosed, Stepped, puts, Announced, Elected, Took, Closed, item_heard, end_heard, given, heads, IsPrefix, Faithful, Promises}
+use Rattle.bus_world.specs.Log.{read, sent, AreCounted}
+use Rattle.bus_world.specs.LogLaws.{length-read}
+use Rattle.bus_world.specs.ReceivingLaws.{given_is_prefix}
+use Rattle.bus_world.specs.Turning.{Side, turned, core_after, found, frames_after}
+use Rattle.bus_world.specs.World.{Bus, Event, Put, Close, Turn, Recv, IsEvent, Happens, SenderDoes, with_sender, can_put, can_close, put_in, close_in, LawfulBus, IsReceiver, IsNew, put_by, waiting_of, waiting_at, is_open, given_at, accepted, accepted_by, event_frames, frames_by}
+use Rattle.bus_world.specs.WorldLaws.{event_left, event_puts, counted_at, new_is_lawful}
+use Rattle.bus_world.specs.Playing.{AllAnswered, Answers, PutGives, CloseGives, TurnAnswers, RecvAnswers, log_of}
+use Rattle.bus_world.specs.declared.events.Answer.{Answer}
+use Rattle.bus_world.specs.declared.events.Answer.TheVariants as answer
+use Rattle.bus_world.specs.Trails.{Trails, no_trails, extended, trails_after, deeds_of, put_deeds, close_deeds, turning_deeds, step_deed, heard_of, answer_heard, IsPromisedBy, IsPromised, StaysPromised, Follows, Played, Reached}
+use Rattle.bus_world.specs.Trails.Reached.{New, Then}
+use Rattle.bus_world.proofs.Tying.{AreNumbered, Tables, PageTies, Hears, Tied}
+use Rattle.bus_world.proofs.Places.{got_split}
+use Rattle.bus_world.proofs.TableTrails.{plain_put, plain_close}
+use Rattle.bus_world.proofs.TurnTrails.{Ties, turn_ties, batch_ties}
+use Rattle.bus_world.proofs.HearTrails.{hears_later, hears_more}
+use Rattle.bus_world.proofs.Closings.{Closings, still_closed, closings_after, frames_later, own_closed, own_closes, turn_closing, turn_frames}
+use Rattle.bus_world.proofs.Framing.{framed, last_frame, order_grows, owners_grow}
+use Rattle.bus_world.proofs.Growing.{event_takers, same_prefix, prefix_after}
+
+open_apart : Open ≡ Closing → ⊥
+open_apart e = cc
+
+counted_from : (first : ℕ) (items : List Item) (k : ℕ) (i : Item) → AreCounted first items → first ≡ 0 → slice_get items k ≡ Some i → i.number ≡ k
+counted_from first items k i a z e = counted_at first items k i a e ∙ (let same : first + k ≡ k = omega arith in same)
+
+true_or : (a b : Bool) → a ≡ true → (a || b) ≡ true
+true_or true b e = refl
+true_or false b e = absurd (let z : false ≡ true = e in cc)
+
+-- what was given grows with the answers
+given_more : (trail trail' : List RecvTurn) → IsPrefix trail trail' → (q q' : Order) → IsPrefixOfOrder (given trail) q → IsPrefixOfOrder (given trail') q' → IsPrefixOfOrder q q' → IsPrefixOfOrder (given trail) (given trail')
+given_more trail trail' more q q' front front' grown = record {
+  later = flat_map item_heard more.rest;
+  items = ap (flat_map item_heard) (sym more.together) ∙ flat_map-append item_heard trail more.rest;
+  ended = λ e.
+      let q_is = front.ended e in
+      let q_ended : q.ended ≡ true = ap (λ (z : Order). z.ended) (sym q_is) ∙ e in
+      let also : (given trail').ended ≡ true = ap (list_any end_heard) (sym more.together) ∙ list_any-append end_heard trail more.rest ∙ true_or (list_any end_heard trail) (list_any end_heard more.rest) e in
+      q_is ∙ grown.ended q_ended ∙ sym (front'.ended also);
+}
+
+none_some : {A : Type 0} (v : A) → ◌≡◌ {A = Option A} None (Some v) → ⊥
+none_some v e = cc
+
+none_in : {A : Type 0} (i : ℕ) (x : A) → slice_get [] i ≡ Some x → ⊥
+none_in i x e = cc
+
+zeros : (n r : ℕ) → slice_index (replicate n 0) r ≡ 0
+zeros n r = elim (cases_lt r n) [ inl l ↦ get_or-replicate n r 0 0 l | inr g ↦ get_or_past (replicate n 0) r 0 (omega (arith, length-replicate {A = ℕ} n 0)) ]
+
+only_deed : (d : Deed) (i : ℕ) (x : Deed) → slice_get (d ∷ []) i ≡ Some x → (i ≡ 0) × (d ≡ x)
+only_deed d zero x e = (refl, same_Some _ _ e)
+only_deed d (suc i) x e = absurd (none_in i x e)
+
+same_number : (n m : ℕ) (xs ys : List ℕ) → HasPut n xs ≡ HasPut m ys → n ≡ m
+same_number n m xs ys e = cc
+
+closed_apart : (n : ℕ) (bytes : List ℕ) → HasClosed ≡ HasPut n bytes → ⊥
+closed_apart n bytes e = cc
+
+stepped_apart : (tn : Option ℕ) (k : Kind) (got : ℕ) (ch : Option ℕ) (t : Answered) (n : ℕ) (bytes : List ℕ) → Stepped tn k got ch t ≡ HasPut n bytes → ⊥
+stepped_apart tn k got ch t n bytes e = cc
+
+numbered_more : (xs ds : List Deed) → AreNumbered xs → ((j n : ℕ) (bytes : List ℕ) → slice_get ds j ≡ Some (HasPut n bytes) → (j ≡ 0) × (n ≡ length (puts xs))) → AreNumbered (xs ++ ds)
+numbered_more xs ds h more place number bytes e = elim (got_split xs ds place (HasPut number bytes) e) [
+  | inl l ↦ h place number bytes l ∙ ap (λ z. length (puts z)) (sym (take-append-le place xs ds (let w = slice_get_within xs place _ l in omega arith)))
+  | inr r ↦ (let m = more r.0 number bytes r.2 in m.1 ∙ ap (λ z. length (puts z)) (sym (take_at xs ds place (let a = r.1 in let d = m.0 in omega arith))))
+]
+
+-- ---- what an event puts
+step_puts : (k : Option Kind) (tn : Option ℕ) (got : ℕ) (ch : Option ℕ) (a : Answered) → puts (step_deed k tn got ch a) ≡ []
+step_puts None tn got ch a = refl
+step_puts (Some k) tn got ch a = refl
+
+within : (len most : ℕ) → len ≤ most → nat_le len most ≡ true
+within len most l = grind (arith, nat_tests)
+
+below_most : (len most : ℕ) → len < most → nat_lt len most ≡ true
+below_most len most l = grind (arith, nat_tests)
+
+pub put_taken : (q : Pending) (len : ℕ) → CanPut q len → can_put q len ≡ true
+put_taken q len can =
+    ap (λ z. is_open z && (cond q.busy false true && (nat_le len 56 && nat_lt (length q.messages) 16))) can.is_open ∙ ap (λ z. cond z false true && (nat_le len 56 && nat_lt (length q.messages) 16)) can.idle
+    ∙ ap (λ z. z && nat_lt (length q.messages) 16) (within len 56 can.short) ∙ below_most (length q.messages) 16 can.room
+
+arms : {A : Type 0} (t : Bool) (x : A) → cond t x x ≡ x
+arms true x = refl
+arms false x = refl
+
+module _ {E : Type 0} (X : Election E) where
+  put_puts_at : (t : Bool) (o : Option (Core E)) (bytes : List ℕ) (n : ℕ) → PutGives o (length bytes) n → puts (cond t (HasPut n bytes ∷ []) []) ≡ cond t (accepted_by o bytes) []
+  put_puts_at t None bytes n gives = absurd gives
+  put_puts_at false (Some c) bytes n gives = refl
+  put_puts_at true (Some c) bytes n gives = ap (λ b. cond b (bytes ∷ []) []) (sym (put_taken c.queue (length bytes) gives.0))
+
+  close_puts_at : (t : Bool) → puts (cond t (HasClosed ∷ []) []) ≡ []
+  close_puts_at true = refl
+  close_puts_at false = refl
+
+  turn_puts_at : (t : Bool) (words : List ℕ) (o : Option (Core E)) (word : ℕ) (a : Answer) → TurnAnswers X words o word a → puts (cond t (turning_deeds X words o word a) []) ≡ []
+  turn_puts_at t words None word a told = absurd told
+  turn_puts_at false words (Some c) word a told = refl
+  turn_puts_at true words (Some c) word a told = ap (λ z. puts (turning_deeds X words (Some c) word z)) told ∙ step_puts (kind_at X (situation_of X c)) _ _ _ _
+
+  deeds_put : (b : Bus E) (e : Event) (a : Answer) (b' : Bus E) (q : ℕ) → Answers X b e a b' → puts (deeds_of X b e a q) ≡ accepted b e q
+  deeds_put b (Put s bytes) a b' q w = ap (λ z. puts (cond (q == s) (put_deeds bytes z) [])) w.2 ∙ put_puts_at (q == s) (slice_get b.side.senders s) bytes w.0 w.1
+  deeds_put b (Close s) a b' q w = ap (λ z. puts (cond (q == s) (close_deeds z) [])) w.1 ∙ close_puts_at (q == s)
+  deeds_put b (Turn s word) a b' q w = turn_puts_at (q == s) b.side.words (slice_get b.side.senders s) word a w
+  deeds_put b (Recv r) a b' q w = refl
+
+module _ {E : Type 0} (X : Election E) (P : Protocol E (Unit {0}) ℕ) (laws : Laws X.op X.fed P OneOwner) (x : Layout) (ok : IsLayout x) (width : x.width ≡ P.width x.senders)
+    (starts : (n me at : ℕ) → X.started n me x.rounds at ≡ P.started n me tt at) (owner_is : (e : E) → X.owner e ≡ P.output e)
+    (named : (e : E) (word : ℕ) → is_some (X.kind_of e) ≡ is_some (X.op e word)) (announces : (e : E) → P.has_begun e ≡ false → X.kind_of e ≡ Some kind.Announce) (apart : (e : E) → X.kind_of e ≡ Some kind.TakePage → ⊥) where
+  -- ---- the senders' side
+  module _ (b b' : Bus E) (frames : List Frame) (h : LawfulBus P x b frames) (D : ℕ → List Deed) (T : Ties P x b.side D) where
+    put_ties : (s : ℕ) (bytes : List ℕ) (o : Option (Core E)) → slice_get b.side.senders s ≡ o → SenderDoes b.side o (λ c. with_sender b.side s (put_in c bytes)) b'.side → (n : ℕ) → PutGives o (length bytes) n → Ties P x b'.side (λ q. D q ++ cond (q == s) (HasPut n bytes ∷ []) [])
+    put_ties s bytes None i d n gives = absurd gives
+    put_ties s bytes (Some c) i d n gives = subst (λ z. Ties P x z (λ q. D q ++ cond (q == s) (HasPut n bytes ∷ []) [])) (sym d) (by_test (can_put c.queue (length bytes)))
+      where
+        by_test : (t : Bool) → Ties P x (with_sender b.side s (cond t (record c { queue = record c.queue { messages = c.queue.messages ++ bytes ∷ [] } }) c)) (λ q. D q ++ cond (q == s) (HasPut n bytes ∷ []) [])
+        by_test true = batch_ties X P laws x ok width starts owner_is named announces apart b.side frames h.side s c i 0 D T (record c { queue = record c.queue { messages = c.queue.messages ++ bytes ∷ [] } }) (HasPut n bytes ∷ []) refl refl (plain_put n bytes)
+        by_test false = batch_ties X P laws x ok width starts owner_is named announces apart b.side frames h.side s c i 0 D T c (HasPut n bytes ∷ []) refl refl (plain_put n bytes)
+
+    close_ties : (s : ℕ) (o : Option (Core E)) → slice_get b.side.senders s ≡ o → SenderDoes b.side o (λ c. with_sender b.side s (close_in c)) b'.side → CloseGives o → Ties P x b'.side (λ q. D q ++ cond (q == s) (HasClosed ∷ []) [])
+    close_ties s None i d gives = absurd gives
+    close_ties s (Some c) i d gives = subst (λ z. Ties P x z (λ q. D q ++ cond (q == s) (HasClosed ∷ []) [])) (sym d) (by_test (can_close c.queue))
+      where
+        by_test : (t : Bool) → Ties P x (with_sender b.side s (cond t (record c { queue = record c.queue { phase = Closing } }) c)) (λ q. D q ++ cond (q == s) (HasClosed ∷ []) [])
+        by_test true = batch_ties X P laws x ok width starts owner_is named announces apart b.side frames h.side s c i 0 D T (record c { queue = record c.queue { phase = Closing } }) (HasClosed ∷ []) refl refl plain_close
+        by_test false = batch_ties X P laws x ok width starts owner_is named announces apart b.side frames h.side s c i 0 D T c (HasClosed ∷ []) refl refl plain_close
+
+    turning_ties : (s word : ℕ) (o : Option (Core E)) → slice_get b.side.senders s ≡ o → SenderDoes b.side o (λ c. turned X b.side s c (situation_of X c) word) b'.side → (a : Answer) → TurnAnswers X b.side.words o word a → Ties P x b'.side (λ q. D q ++ cond (q == s) (turning_deeds X b.side.words o word a) [])
+    turning_ties s word None i d a told = absurd told
+    turning_ties s word (Some c) i d a told = subst (λ t. Ties P x b'.side (λ q. D q ++ cond (q == s) (turning_deeds X b.side.words (Some c) word t) [])) (sym told)
+        (subst (λ z. Ties P x z (λ q. D q ++ cond (q == s) (turning_deeds X b.side.words (Some c) word (answer.Turn (answer_at X c (situation_of X c) (found b.side.words (op_at X c (situation_of X c) word)) word))) [])) (sym d) (turn_ties X P laws x ok width starts owner_is named announces apart b.side frames h.side s c i word D T))
+
+    event_ties : (e : Event) (a : Answer) → Happens X b e b' → Answers X b e a b' → Ties P x b'.side (λ q. D q ++ deeds_of X b e a q)
+    event_ties (Put s bytes) a d w = subst (λ t. Ties P x b'.side (λ q. D q ++ cond (q == s) (put_deeds bytes t) [])) (sym w.2) (put_ties s bytes (slice_get b.side.senders s) refl d.0 w.0 w.1)
+    event_ties (Close s) a d w = subst (λ t. Ties P x b'.side (λ q. D q ++ cond (q == s) (close_deeds t) [])) (sym w.1) (close_ties s (slice_get b.side.senders s) refl d.0 w.0)
+    event_ties (Turn s word) a d w = turning_ties s word (slice_get b.side.senders s) refl d.0 a w
+    event_ties (Recv r) a d w = subst (λ z. Ties P x z (λ q. D q ++ [])) (sym d.0) (subst (Ties P x b.side) (sym (fun_ext (λ q. append-nil (D q)))) T)
+
+  -- ---- who closed
+  module _ (b b' : Bus E) (frames : List Frame) (h : LawfulBus P x b frames) (D : ℕ → List Deed) (C : Closings (slice_get b.side.senders) frames D) where
+    -- a sender goes on with another batch, and the frames stay
+    goes_on_closing : (s : ℕ) (c c' : Core E) (i : slice_get b.side.senders s ≡ Some c) (ds : List Deed) → (c'.queue.phase ≡ Closing → Closed (D s ++ cond (s == s) ds [])) → b'.side.senders ≡ slice_set b.side.senders s c' → Closings (slice_get b'.side.senders) frames (λ q. D q ++ cond (q == s) ds [])
+    goes_on_closing s c c' i ds own same = subst (λ z. Closings (slice_get z) frames (λ q. D q ++ cond (q == s) ds [])) (sym same)
+        (closings_after b.side.senders frames D C s c i ds c' frames own (frames_later b.side.senders frames D C s c i ds))
+
+    put_closings : (s : ℕ) (bytes : List ℕ) (o : Option (Core E)) → slice_get b.side.senders s ≡ o → SenderDoes b.side o (λ c. with_sender b.side s (put_in c bytes)) b'.side → (n : ℕ) → PutGives o (length bytes) n → Closings (slice_get b'.side.senders) frames (λ q. D q ++ cond (q == s) (HasPut n bytes ∷ []) [])
+    put_closings s bytes None i d n gives = absurd gives
+    put_closings s bytes (Some c) i d n gives = goes_on_closing s c (put_in c bytes) i (HasPut n bytes ∷ []) (λ e. own_closed b.side.senders frames D C s c i (HasPut n bytes ∷ []) (by_test (can_put c.queue (length bytes)) e)) (ap (λ (z : Side E). z.senders) d)
+      where
+        by_test : (t : Bool) → (cond t (record c { queue = record c.queue { messages = c.queue.messages ++ bytes ∷ [] } }) c).queue.phase ≡ Closing → c.queue.phase ≡ Closing
+        by_test true e = e
+        by_test false e = e
+
+    close_closings : (s : ℕ) (o : Option (Core E)) → slice_get b.side.senders s ≡ o → SenderDoes b.side o (λ c. with_sender b.side s (close_in c)) b'.side → CloseGives o → Closings (slice_get b'.side.senders) frames (λ q. D q ++ cond (q == s) (HasClosed ∷ []) [])
+    close_closings s None i d gives = absurd gives
+    close_closings s (Some c) i d gives = goes_on_closing s c (close_in c) i (HasClosed ∷ []) (λ e. own_closes b.side.senders frames D C s c i (HasClosed ∷ []) (0, refl)) (ap (λ (z : Side E). z.senders) d)
+
+    turn_closings : (s word : ℕ) (o : Option (Core E)) → slice_get b.side.senders s ≡ o → SenderDoes b.side o (λ c. turned X b.side s c (situation_of X c) word) b'.side → (ds : List Deed) → Closings (slice_get b'.side.senders) (frames_by X o frames) (λ q. D q ++ cond (q == s) ds [])
+    turn_closings s word None i d ds = record {
+      closing = λ q c at shut. still_closed (D q) (cond (q == s) ds []) (C.closing q c (ap (λ (z : Side E). slice_get z.senders q) (sym d) ∙ at) shut);
+      ended = λ j f at ends. still_closed (D f.owner.0) (cond (f.owner.0 == s) ds []) (C.ended j f at ends);
+    }
+    turn_closings s word (Some c) i d ds =
+        let part = h.side.sending.parts s c i in
+        let z = situation_of X c in
+        subst (λ l. Closings (slice_get l) (frames_after c z frames) (λ q. D q ++ cond (q == s) ds [])) (sym (ap (λ (l : Side E). l.senders) d))
+        (closings_after b.side.senders frames D C s c i ds (core_after X c z b.side.home (found b.side.words (op_at X c z word)) word) (frames_after c z frames)
+        (λ e. own_closed b.side.senders frames D C s c i ds (turn_closing X c z b.side.home (found b.side.words (op_at X c z word)) word e))
+        (turn_frames c z frames (λ f. Closed (D f.owner.0 ++ cond (f.owner.0 == s) ds [])) (frames_later b.side.senders frames D C s c i ds)
+        (λ t e. subst (λ q. Closed (D q ++ cond (q == s) ds [])) (sym part.sender) (own_closed b.side.senders frames D C s c i ds e))))
+
+    event_closings : (e : Event) (a : Answer) → Happens X b e b' → Answers X b e a b' → Closings (slice_get b'.side.senders) (event_frames X b e frames) (λ q. D q ++ deeds_of X b e a q)
+    event_closings (Put s bytes) a d w = subst (λ t. Closings (slice_get b'.side.senders) frames (λ q. D q ++ cond (q == s) (put_deeds bytes t) [])) (sym w.2) (put_closings s bytes (slice_get b.side.senders s) refl d.0 w.0 w.1)
+    event_closings (Close s) a d w = subst (λ t. Closings (slice_get b'.side.senders) frames (λ q. D q ++ cond (q == s) (close_deeds t) [])) (sym w.1) (close_closings s (slice_get b.side.senders s) refl d.0 w.0)
+    event_closings (Turn s word) a d w = turn_closings s word (slice_get b.side.senders s) refl d.0 (turning_deeds X b.side.words (slice_get b.side.senders s) word a)
+    event_closings (Recv r) a d w = subst (λ z. Closings (slice_get z.senders) frames (λ q. D q ++ [])) (sym d.0) (subst (Closings (slice_get b.side.senders) frames) (sym (fun_ext (λ q. append-nil (D q)))) C)
+
+  -- ---- the receivers
+  -- each has heard what stands below its place, and where there is none nothing is heard
+  record Heard (frames : List Frame) (receivers : List Receiving) (A : ℕ → List RecvTurn) : Type 0 where
+    each : (r : ℕ) (v : Receiving) → slice_get receivers r ≡ Some v → Hears frames v (A r)
+    silent : (r : ℕ) → slice_get receivers r ≡ None → A r ≡ []
+
+  module _ (b b' : Bus E) (frames more : List Frame) (h : LawfulBus P x b frames) (A : ℕ → List RecvTurn) (H : Heard frames b.receivers A) where
+    below : (r : ℕ) (v : Receiving) → slice_get b.receivers r ≡ Some v → v.place ≤ length (log_words frames)
+    below r v i =
+        let own = (h.receivers r v i).receives in
+        let log = h.side.sending.log in
+        let size : length (log_words frames) ≡ slice_index b.side.words 0 = sym (ap length log.words_are) ∙ length-read (slice_index b.side.words) (log_at x) (slice_index b.side.words 0) in
+        let a = own.place_below in let d = own.known_below in omega arith
+
+    nobody_hears : b'.receivers ≡ b.receivers → Heard (frames ++ more) b'.receivers (λ r. A r ++ [])
+    nobody_hears same = record {
+      each = λ r v i. let was = ap (λ z. slice_get z r) (sym same) ∙ i in subst (Hears (frames ++ more) v) (sym (append-nil (A r))) (hears_later frames more v (A r) (below r v was) (H.each r v was));
+      silent = λ r i. append-nil (A r) ∙ H.silent r (ap (λ z. slice_get z r) (sym same) ∙ i);
+    }
+
+    one_hears : b'.side ≡ b.side → (lawful : LawfulBus P x b' (frames ++ more)) → (q : ℕ) (o : Option Receiving) → slice_get b.receivers q ≡ o → (a : Answer) → RecvAnswers b.side.words b.receivers q o a b'.receivers → Heard (frames ++ more) b'.receivers (λ r. A r ++ cond (r == q) (answer_heard a) [])
+    one_hears side lawful q None i a w = absurd w
+    one_hears side lawful q (Some v) i a w = subst (λ z. Heard (frames ++ more) b'.receivers (λ r. A r ++ cond (r == q) (answer_heard z) [])) (sym w.4) record {
+      each = λ r u j. elim (eqb_tells r q) [
+        | inl y ↦
+            let u_is : w.0 ≡ u = same_Some _ _ (sym (get_set_same b.receivers q w.0 there) ∙ ap (λ z. slice_get z q) (sym w.3) ∙ ap (slice_get b'.receivers) (sym y.1) ∙ j) in
+            subst (λ t. Hears (frames ++ more) u (A r ++ cond t (w.1 ∷ []) [])) (sym y.0) (subst (λ z. Hears (frames ++ more) u (A z ++ w.1 ∷ [])) (sym y.1) (subst (λ z. Hears (frames ++ more) z (A q ++ w.1 ∷ [])) u_is
+            (hears_later frames more w.0 (A q ++ w.1 ∷ []) (next_below (subst (λ z. slice_get b'.receivers q ≡ Some z) refl (ap (λ z. slice_get z q) w.3 ∙ get_set_same b.receivers q w.0 there))) (hears_more x frames b.side.words h.side.sending.log v (h.receivers q v i) (A q) (H.each q v i) w.1 w.0 w.2))))
+        | inr y ↦
+            let was = sym (get_set_other b.receivers q w.0 r y.1) ∙ ap (λ z. slice_get z r) (sym w.3) ∙ j in
+            subst (λ t. Hears (frames ++ more) u (A r ++ cond t (w.1 ∷ []) [])) (sym y.0) (subst (Hears (frames ++ more) u) (sym (append-nil (A r))) (hears_later frames more u (A r) (below r u was) (H.each r u was)))
+      ];
+      silent = λ r j. elim (eqb_tells r q) [
+        | inl y ↦ absurd (none_some w.0 (sym j ∙ ap (slice_get b'.receivers) y.1 ∙ ap (λ z. slice_get z q) w.3 ∙ get_set_same b.receivers q w.0 there))
+        | inr y ↦ ap (λ t. A r ++ cond t (w.1 ∷ []) []) y.0 ∙ append-nil (A r) ∙ H.silent r (sym (get_set_other b.receivers q w.0 r y.1) ∙ ap (λ z. slice_get z r) (sym w.3) ∙ j)
+      ];
+    } where
+      there : q < length b.receivers
+      there = slice_get_within b.receivers q v i
+
+      -- a receiver takes no place past the length that it knew
+      next_below : slice_get b'.receivers q ≡ Some w.0 → w.0.place ≤ length (log_words frames)
+      next_below j =
+          let own = (lawful.receivers q w.0 j).receives in
+          let log = h.side.sending.log in
+          let size : length (log_words frames) ≡ slice_index b.side.words 0 = sym (ap length log.words_are) ∙ length-read (slice_index b.side.words) (log_at x) (slice_index b.side.words 0) in
+          let same : slice_index b'.side.words 0 ≡ slice_index b.side.words 0 = ap (λ (z : Side E). slice_index z.words 0) side in
+          let a = own.place_below in let d = own.known_below in omega arith
+
+    event_heard : LawfulBus P x b' (frames ++ more) → (e : Event) (a : Answer) → Happens X b e b' → Answers X b e a b' → Heard (frames ++ more) b'.receivers (λ r. A r ++ heard_of e a r)
+    event_heard lawful (Put s bytes) a d w = nobody_hears d.1
+    event_heard lawful (Close s) a d w = nobody_hears d.1
+    event_heard lawful (Turn s word) a d w = nobody_hears d.1
+    event_heard lawful (Recv r) a d w = one_hears d.0 lawful r (slice_get b.receivers r) refl a w
+
+  -- ---- the numbers of messages
+  module _ (b : Bus E) (frames : List Frame) (h : LawfulBus P x b frames) where
+    busy_apart : (busy : Bool) → busy ≡ true → cond busy false true ≡ true → ⊥
+    busy_apart true e f = let z : false ≡ true = f in cc
+    busy_apart false e f = let z : false ≡ true = e in cc
+
+    number_at : (s : ℕ) (c : Core E) → slice_get b.side.senders s ≡ Some c → (ph : SenderPhase E) → c.phase ≡ ph → Fits (slice_index b.side.words) frames c ph → cond c.queue.busy false true ≡ true → next_of c.queue ≡ length (put_by b frames s)
+    number_at s c i phase.Resting e fits idle =
+        let part = h.side.sending.parts s c i in
+        let sent_now = map (λ (v : Item). v.message) (of_sender s (order_of frames)) in
+        let waits : waiting_of (slice_get b.side.senders s) ≡ c.queue.messages = ap waiting_of i ∙ ap (waiting_at c) e in
+        let size : length (put_by b frames s) ≡ length sent_now + length c.queue.messages = ap (λ z. length (sent_now ++ z)) waits ∙ length-append sent_now c.queue.messages in
+        let many : length sent_now ≡ sent s frames = length-map (of_sender s (order_of frames)) (λ (v : Item). v.message) in
+        let first : c.queue.first ≡ sent s frames = fits.1 ∙ ap (λ z. sent z frames) part.me in
+        omega arith
+    number_at s c i (phase.Electing t u) e fits idle = absurd (busy_apart c.queue.busy fits.0.busy idle)
+    number_at s c i (phase.Taken t) e fits idle = absurd fits
+    number_at s c i (phase.Holding t page stored true) e fits idle = absurd (busy_apart c.queue.busy fits.0.busy idle)
+    number_at s c i (phase.Holding t page stored false) e fits idle = absurd (busy_apart c.queue.busy fits.0.busy idle)
+    number_at s c i (phase.Giving t leaving) e fits idle = absurd fits
+
+    put_number : (s : ℕ) (o : Option (Core E)) → slice_get b.side.senders s ≡ o → (len n : ℕ) → PutGives o len n → n ≡ length (put_by b frames s)
+    put_number s None i len n gives = absurd gives
+    put_number s (Some c) i len n gives = gives.1 ∙ number_at s c i c.phase refl (h.side.sending.parts s c i).fits (ap (λ z. cond z false true) gives.0.idle)
+
+    numbers : (b' : Bus E) (e : Event) (a : Answer) → Answers X b e a b' → (q j n : ℕ) (bytes : List ℕ) → slice_get (deeds_of X b e a q) j ≡ Some (HasPut n bytes) → (j ≡ 0) × (n ≡ length (put_by b frames q))
+    numbers b' (Put s bytes') a w q j n bytes e = elim (eqb_tells q s) [
+      | inl y ↦
+          let one = only_deed (HasPut w.0 bytes') j _ (ap (λ t. slice_get (put_deeds bytes' t) j) (sym w.2) ∙ ap (λ t. slice_get (cond t (put_deeds bytes' a) []) j) (sym y.0) ∙ e) in
+          (one.0, sym (same_number _ _ _ _ one.1) ∙ subst (λ z. w.0 ≡ length (put_by b frames z)) (sym y.1) (put_number s (slice_get b.side.senders s) refl (length bytes') w.0 w.1))
+      | inr y ↦ absurd (none_in j _ (ap (λ t. slice_get (cond t (put_deeds bytes' a) []) j) (sym y.0) ∙ e))
+    ]
+    numbers b' (Close s) a w q j n bytes e = absurd (by_test (q == s) (ap (λ t. slice_get (cond (q == s) (close_deeds t) []) j) (sym w.1) ∙ e))
+      where
+        by_test : (t : Bool) → slice_get (cond t (HasClosed ∷ []) []) j ≡ Some (HasPut n bytes) → ⊥
+        by_test true f = closed_apart n bytes (only_deed HasClosed j _ f).1
+        by_test false f = none_in j _ f
+    numbers b' (Turn s word) a w q j n bytes e = absurd (turning (q == s) (slice_get b.side.senders s) w e)
+      where
+        by_kind : (k : Option Kind) (tn : Option ℕ) (got : ℕ) (ch : Option ℕ) (t : Answered) → slice_get (step_deed k tn got ch t) j ≡ Some (HasPut n bytes) → ⊥
+        by_kind None tn got ch t f = none_in j _ f
+        by_kind (Some k) tn got ch t f = stepped_apart tn k got ch t n bytes (only_deed (Stepped tn k got ch t) j _ f).1
+
+        turning : (t : Bool) (o : Option (Core E)) → TurnAnswers X b.side.words o word a → slice_get (cond t (turning_deeds X b.side.words o word a) []) j ≡ Some (HasPut n bytes) → ⊥
+        turning t None told f = absurd told
+        turning false (Some c) told f = none_in j _ f
+        turning true (Some c) told f = by_kind (kind_at X (situation_of X c)) _ _ _ _ (ap (λ z. slice_get (turning_deeds X b.side.words (Some c) word z) j) (sym told) ∙ f)
+    numbers b' (Recv r) a w q j n bytes e = absurd (none_in j _ e)
+
+  -- ---- one event, and any list of them
+  pub record Kept (b : Bus E) (T : Trails) : Type 0 where
+    pub frames : List Frame
+    pub lawful : LawfulBus P x b frames
+    pub tied : Tied P x b frames T
+
+  -- with these frames and more
+  pub record KeptOn (frames : List Frame) (b : Bus E) (T : Trails) : Type 0 where
+    pub more : List Frame
+    pub lawful : LawfulBus P x b (frames ++ more)
+    pub tied : Tied P x b (frames ++ more) T
+
+  event_on : (b b' : Bus E) (e : Event) (a : Answer) (T : Trails) (k : Kept b T) → IsEvent e → Happens X b e b' → Answers X b e a b' → KeptOn k.frames b' (extended X b e a T)
+  event_on b b' e a T k is d w =
+      let after = event_left X P laws x ok width starts owner_is b k.frames k.lawful b' e is d in
+      let more = after.left.continues.more in
+      let frames_are : k.frames ++ more ≡ event_frames X b e k.frames = after.left.continues.together ∙ after.now_is in
+      let lawful = subst (LawfulBus P x b') (sym after.left.continues.together) after.left.lawful in
+      let t = event_ties b b' k.frames k.lawful T.deeds record { tables = k.tied.tables; takers = k.tied.takers } e a d w in
+      let heard = event_heard b b' k.frames more k.lawful T.heard record { each = k.tied.heard; silent = k.tied.silent } lawful e a d w in
+      record {
+        more = more;
+        lawful = lawful;
+        tied = record {
+          tables = t.tables;
+          takers = t.takers;
+          puts = λ s. flat_map-append _ (T.deeds s) (deeds_of X b e a s) ∙ ap (λ z. z ++ puts (deeds_of X b e a s)) (k.tied.puts s) ∙ ap (λ z. put_by b k.frames s ++ z) (deeds_put X b e a b' s w)
+              ∙ sym (event_puts X P laws x ok width starts owner_is b k.frames k.lawful b' e d s) ∙ ap (λ z. put_by b' z s) (sym frames_are);
+          counted = λ s. numbered_more (T.deeds s) (deeds_of X b e a s) (k.tied.counted s) (λ j n bytes i. let z = numbers b k.frames k.lawful b' e a w s j n bytes i in (z.0, z.1 ∙ ap length (sym (k.tied.puts s))));
+          heard = heard.each;
+          silent = heard.silent;
+          closings = subst (λ z. Closings (slice_get b'.side.senders) z (λ q. T.deeds q ++ deeds_of X b e a q)) (sym frames_are) (event_closings b b' k.frames k.lawful T.deeds k.tied.closings e a d w);
+        };
+      }
+
+  abbrev kept_of : (frames : List Frame) (b : Bus E) (T : Trails) → KeptOn frames b T → Kept b T
+  kept_of frames b T k = record { frames = frames ++ k.more; lawful = k.lawful; tied = k.tied }
+
+  kept_on : (frames more : List Frame) (b : Bus E) (T : Trails) → KeptOn (frames ++ more) b T → KeptOn frames b T
+  kept_on frames more b T k = record { more = more ++ k.more; lawful = subst (LawfulBus P x b) (append_assoc frames more k.more) k.lawful; tied = subst (λ z. Tied P x b z T) (append_assoc frames more k.more) k.tied }
+
+  event_kept : (b b' : Bus E) (e : Event) (a : Answer) (T : Trails) → Kept b T → IsEvent e → Happens X b e b' → Answers X b e a b' → Kept b' (extended X b e a T)
+  event_kept b b' e a T k is d w = kept_of k.frames b' (extended X b e a T) (event_on b b' e a T k is d w)
+
+  run_on : (events : List Event) (frames : List Frame) (b b' : Bus E) (T : Trails) → LawfulBus P x b frames → Tied P x b frames T → (run : AllAnswered X b events b') → KeptOn frames b' (trails_after X b events b' run T)
+  run_on [] frames b b' T h t run = subst (λ z. KeptOn frames z T) (sym run) record { more = []; lawful = subst (LawfulBus P x b) (sym (append-nil frames)) h; tied = subst (λ z. Tied P x b z T) (sym (append-nil frames)) t }
+  run_on (e ∷ events) frames b b' T h t run =
+      let m = event_on b run.0 e run.1 T (record { frames = frames; lawful = h; tied = t }) run.2 run.3 run.4 in
+      kept_on frames m.more b' (trails_after X run.0 events b' run.5 (extended X b e run.1 T)) (run_on events (frames ++ m.more) run.0 b' (extended X b e run.1 T) m.lawful m.tied run.5)
+
+  -- ---- a new bus
+  module _ (b : Bus E) (new : IsNew x b) where
+    zero_at : (r : ℕ) → slice_index b.side.words r ≡ 0
+    zero_at r = ap (λ z. slice_index z r) new.words ∙ zeros (words_of x) r
+
+    new_puts : (s : ℕ) → put_by b [] s ≡ []
+    new_puts s = waiting_new (slice_get b.side.senders s) refl
+      where
+        waiting_new : (o : Option (Core E)) → slice_get b.side.senders s ≡ o → waiting_of o ≡ []
+        waiting_new None e = refl
+        waiting_new (Some c) e = ap (λ z. waiting_of (Some z)) (new.senders s c e).1
+
+    start_kept : Kept b no_trails
+    start_kept = record {
+      frames = [];
+      lawful = new_is_lawful X P laws x ok width starts owner_is b new;
+      tied = record {
+        tables = record {
+          elections = λ t p. None;
+          kept = λ t l. let apart = row_within t x.rows (P.width x.senders) l in laws.fresh x.senders (2 + t * P.width x.senders) (slice_index b.side.words) (λ r u v. zero_at r);
+          ahead = λ p c t e l. refl;
+          electing = λ p c t e i j. absurd (bus.resting_apart t e (sym (ap (λ (z : Core E). z.phase) (new.senders p c i).1) ∙ j));
+          announced = λ t s e. absurd (none_some tt e);
+          elected = λ t s o e. absurd (none_some o e);
+          only_elected = λ t s o a. absurd (none_in a.place _ a.at);
+        };
+        takers = record {
+          took = λ t s e. absurd (none_in t s (ap (λ z. slice_get z t) (sym new.owners) ∙ e));
+          elected = λ t s e. absurd (none_in t s (ap (λ z. slice_get z t) (sym new.owners) ∙ e));
+          only = λ t s i a. absurd (none_in i _ a.at);
+          once = λ t s i j a c. absurd (none_in i _ a.at);
+        };
+        puts = λ s. sym (new_puts s);
+        counted = λ s place number bytes e. absurd (none_in place _ e);
+        heard = λ r v i.
+            let n = new.receivers r v i in
+            let nothing : take v.place (log_pieces []) ≡ [] = take-nil v.place in
+            record { given_is = ap order_in (sym nothing); heads_are = ap owners_in (sym nothing); ended = λ e. absurd (let z = sym n.6 ∙ e in cc) };
+        silent = λ r i. refl;
+        closings = record { closing = λ q c i shut. absurd (open_apart (ap (λ (z : Core E). z.queue.phase) (sym (new.senders q c i).1) ∙ shut)); ended = λ j f at ends. absurd (none_in j f at) };
+      };
+    }
+
+  -- ---- the promise
+  module _ (b : Bus E) (T : Trails) (k : Kept b T) where
+    abbrev frames : List Frame
+    frames = k.frames
+
+    one : (t : ℕ) → t < x.rows → OneOwner (inputs P (k.tied.tables.elections t)) (outputs P (k.tied.tables.elections t))
+    one t l = laws.outcome x.senders (2 + t * P.width x.senders) (slice_index b.side.words) (k.tied.tables.elections t) (k.tied.tables.kept t l)
+
+    owner_took : (owners : List ℕ) (fs : List Frame) → AreOwned owners fs → (j t : ℕ) (o : SenderNo) → slice_get (map tenure_and_owner fs) j ≡ Some (t, o) → slice_get owners t ≡ Some o.0
+    owner_took owners [] a j t o e = absurd (none_in j (t, o) e)
+    owner_took owners (f ∷ fs) a zero t o e = let s = same_Some _ _ e in subst (λ z. slice_get owners z.0 ≡ Some z.1.0) s a.0
+    owner_took owners (f ∷ fs) a (suc j) t o e = owner_took owners fs a.1 j t o e
+
+    above : (n least : ℕ) (fs : List Frame) → AreFramesFrom n least fs → (j t : ℕ) (o : SenderNo) → slice_get (map tenure_and_owner fs) j ≡ Some (t, o) → least ≤ t
+    above n least [] a j t o e = absurd (none_in j (t, o) e)
+    above n least (f ∷ fs) a zero t o e = let s = ap (λ (z : ℕ × SenderNo). z.0) (same_Some _ _ e) in let l = a.1 in omega arith
+    above n least (f ∷ fs) a (suc j) t o e = let l = above n (f.tenure + 1) fs a.3 j t o e in let m = a.1 in omega arith
+
+    rise : (n least : ℕ) (fs : List Frame) → AreFramesFrom n least fs → (i j t u : ℕ) (o p : SenderNo) → slice_get (map tenure_and_owner fs) i ≡ Some (t, o) → slice_get (map tenure_and_owner fs) j ≡ Some (u, p) → i < j → t < u
+    rise n least [] a i j t u o p e g l = absurd (none_in i (t, o) e)
+    rise n least (f ∷ fs) a zero zero t u o p e g l = absurd (omega arith)
+    rise n least (f ∷ fs) a zero (suc j) t u o p e g l = let s = ap (λ (z : ℕ × SenderNo). z.0) (same_Some _ _ e) in let m = above n (f.tenure + 1) fs a.3 j u p g in omega arith
+    rise n least (f ∷ fs) a (suc i) zero t u o p e g l = absurd (omega arith)
+    rise n least (f ∷ fs) a (suc i) (suc j) t u o p e g l = rise n (f.tenure + 1) fs a.3 i j t u o p e g (omega arith)
+
+    heads_prefix : (n : ℕ) → IsPrefix (owners_in (take n (log_pieces frames))) (map tenure_and_owner frames)
+    heads_prefix n = record {
+      rest = owners_in (drop n (log_pieces frames));
+      together = sym (flat_map-append piece_owners (take n (log_pieces frames)) (drop n (log_pieces frames))) ∙ ap owners_in (take-append-drop n (log_pieces frames)) ∙ owners_in-log frames;
+    }
+
+    delivered_at : (r : ℕ) (o : Option Receiving) → slice_get b.receivers r ≡ o → IsPrefixOfOrder (given (T.heard r)) (order_of frames)
+    delivered_at r (Some v) i = subst (λ z. IsPrefixOfOrder z (order_of frames)) (sym (k.tied.heard r v i).given_is) (given_is_prefix x.senders frames v.place k.lawful.side.sending.log.lawful)
+    delivered_at r None i = subst (λ z. IsPrefixOfOrder (given z) (order_of frames)) (sym (k.tied.silent r i)) (given_is_prefix x.senders frames 0 k.lawful.side.sending.log.lawful)
+
+    told_at : (r : ℕ) (o : Option Receiving) → slice_get b.receivers r ≡ o → IsPrefix (heads (T.heard r)) (map tenure_and_owner frames)
+    told_at r (Some v) i = subst (λ z. IsPrefix z (map tenure_and_owner frames)) (sym (k.tied.heard r v i).heads_are) (heads_prefix v.place)
+    told_at r None i = subst (λ z. IsPrefix (heads z) (map tenure_and_owner frames)) (sym (k.tied.silent r i)) (heads_prefix 0)
+
+    pub page : Promises T.deeds T.heard (order_of frames) (map tenure_and_owner frames)
+    page = record {
+      one_owner = λ t s s' o o' e f. let a = k.tied.tables.only_elected t s o e in let d = k.tied.tables.only_elected t s' o' f in (one t a.0).equal s s' o o' a.1 d.1;
+      announced = λ t s o e. let a = k.tied.tables.only_elected t s o e in k.tied.tables.announced t o ((one t a.0).announcer s o a.1);
+      took_own = λ t s i a. k.tied.takers.elected t s (k.tied.takers.only t s i a);
+      took_once = λ t s s' i i' a d.
+          let same : s ≡ s' = same_Some _ _ (sym (k.tied.takers.only t s i a) ∙ k.tied.takers.only t s' i' d) in
+          (same, k.tied.takers.once t s i i' a (subst (λ z. Took (T.deeds z) t i') (sym same) d));
+      owned = λ j t o e. k.tied.takers.took t o.0 (owner_took b.side.owners frames k.lawful.side.sending.owned j t o e);
+      rising = λ i j t u o p e g l. rise x.senders 0 frames k.lawful.side.sending.log.lawful i j t u o p e g l;
+      delivered = λ r. delivered_at r (slice_get b.receivers r) refl;
+      told = λ r. told_at r (slice_get b.receivers r) refl;
+      faithful = record {
+        numbered = λ s q i e. counted_from 0 (of_sender s (order_of frames)) q i (k.lawful.side.sending.log.counted s) refl e;
+        messages = λ s. subst (IsPrefix (map (λ i. i.message) (of_sender s (order_of frames)))) (sym (k.tied.puts s)) (record { rest = waiting_of (slice_get b.side.senders s); together = refl });
+      };
+      numbered = k.tied.counted;
+      closed = λ e.
+          let l = last_frame x.senders 0 frames k.lawful.side.sending.log.lawful e in
+          record {
+            front = map tenure_and_owner l.front;
+            tenure = l.frame.tenure;
+            owner = l.frame.owner;
+            last = ap (map tenure_and_owner) l.frames_are ∙ map-append tenure_and_owner l.front (l.frame ∷ []);
+            closed = k.tied.closings.ended l.place l.frame l.at l.ends;
+          };
+      framed = framed x.senders 0 frames k.lawful.side.sending.log.lawful;
+    }
+
+    pub by_frames : IsPromisedBy x b T (order_of frames) (map tenure_and_owner frames)
+    by_frames = record {
+      spelled = record { frames = frames; lawful = k.lawful.side.sending.log.lawful; words_are = sym k.lawful.side.sending.log.words_are; order_is = refl; owners_are = refl };
+      takers = record { took = k.tied.takers.took; only = k.tied.takers.only };
+      promises = page;
+    }
+
+  -- whatever trails lead to a bus, the promise holds of them
+  pub reached_kept : (b : Bus E) (T : Trails) → Reached X x b T → Kept b T
+  reached_kept b T (New start new) = start_kept start new
+  reached_kept b T (Then old new T' e a r is d w) = event_kept old new e a T' (reached_kept old T' r) is d w
+
+  pub promised : (b : Bus E) (T : Trails) → Reached X x b T → IsPromised x b T
+  promised b T r = let k = reached_kept b T r in record { order = order_of k.frames; owners = map tenure_and_owner k.frames; by = by_frames b T k }
+
+  -- the promise stays, where trails and frames have grown
+  module _ (old new : Bus E) (T T' : Trails) (k : Kept old T) (m : KeptOn k.frames new T') (more : (r : ℕ) → IsPrefix (T.heard r) (T'.heard r)) (takers : IsPrefix old.side.owners new.side.owners) where
+    abbrev later : Kept new T'
+    later = kept_of k.frames new T' m
+
+    grown : IsPrefixOfOrder (order_of k.frames) (order_of (k.frames ++ m.more))
+    grown = order_grows x.senders k.frames m.more m.lawful.side.sending.log.lawful
+
+    heard_grows : (r : ℕ) → IsPrefixOfOrder (given (T.heard r)) (given (T'.heard r))
+    heard_grows r = given_more (T.heard r) (T'.heard r) (more r) (order_of k.frames) (order_of (k.frames ++ m.more)) ((page old T k).delivered r) ((page new T' later).delivered r) grown
+
+    pub stays : StaysPromised x old T new T'
+    stays = record {
+      before = record { order = order_of k.frames; owners = map tenure_and_owner k.frames; by = by_frames old T k };
+      after = record { order = order_of (k.frames ++ m.more); owners = map tenure_and_owner (k.frames ++ m.more); by = by_frames new T' later };
+      order = grown;
+      owners = owners_grow k.frames m.more;
+      takers = takers;
+      given = heard_grows;
+    }
+
+  pub follows : (old new : Bus E) (e : Event) (a : Answer) → IsEvent e → Happens X old e new → Answers X old e a new → Follows X x old e a new
+  follows old new e a is d w = record {
+    reached = λ T r. Then old new T e a r is d w;
+    promised = λ T r. let k = reached_kept old T r in stays old new T (extended X old e a T) k (event_on old new e a T k is d w) (λ q. record { rest = heard_of e a q; together = refl }) (event_takers X old new e d);
+  }
+
+  reached_more : (events : List Event) (old new : Bus E) (T : Trails) → Reached X x old T → (run : AllAnswered X old events new) → Reached X x new (trails_after X old events new run T)
+  reached_more [] old new T r run = subst (λ z. Reached X x z T) (sym run) r
+  reached_more (e ∷ events) old new T r run = reached_more events run.0 new (extended X old e run.1 T) (Then old run.0 T e run.1 r run.2 run.3 run.4) run.5
+
+  heard_more : (events : List Event) (old new : Bus E) (T : Trails) (run : AllAnswered X old events new) (q : ℕ) → IsPrefix (T.heard q) ((trails_after X old events new run T).heard q)
+  heard_more [] old new T run q = record { rest = []; together = append-nil (T.heard q) }
+  heard_more (e ∷ events) old new T run q =
+      let later = heard_more events run.0 new (extended X old e run.1 T) run.5 q in
+      record { rest = heard_of e run.1 q ++ later.rest; together = sym (append_assoc (T.heard q) (heard_of e run.1 q) later.rest) ∙ later.together }
+
+  takers_grow : (events : List Event) (old new : Bus E) → AllAnswered X old events new → IsPrefix old.side.owners new.side.owners
+  takers_grow [] old new run = same_prefix old.side.owners new.side.owners (ap (λ (z : Bus E). z.side.owners) run)
+  takers_grow (e ∷ events) old new run = prefix_after old.side.owners run.0.side.owners new.side.owners (event_takers X old run.0 e run.3) (takers_grow events run.0 new run.5)
+
+  pub played : (events : List Event) (old new : Bus E) → AllAnswered X old events new → Played X x old events new
+  played events old new run = record {
+    answered = run;
+    reached = λ T r. reached_more events old new T r run;
+    promised = λ T r.
+        let k = reached_kept old T r in
+        stays old new T (trails_after X old events new run T) k (run_on events k.frames old new T k.lawful k.tied run) (λ q. heard_more events old new T run q) (takers_grow events old new run);
+  }
+
+  -- what each receiver was given is what stands below its place
+  pub given_below : (b : Bus E) (T : Trails) (r : Reached X x b T) (frames : List Frame) → AreFrames x.senders frames → log_of (record { layout = x; bus = b }) ≡ log_words frames → (q : ℕ) (v : Receiving) → slice_get b.receivers q ≡ Some v → given (T.heard q) ≡ given_at frames v
+  given_below b T r frames lawful words q v i = let k = reached_kept b T r in let log = k.lawful.side.sending.log in
+      (k.tied.heard q v i).given_is ∙ ap (λ z. given_at z v) (same_log x.senders 0 0 k.frames frames log.lawful lawful (sym log.words_are ∙ words))
+
+-- the first step of an election is the announcement
+pub announce_first : {S : Type 0} (kind_of : S → Option Kind) (stage : Stage S) → begun_at stage ≡ false → election_kind_at kind_of stage ≡ Some kind.Announce
+announce_first kind_of stage.Announce e = refl
+announce_first kind_of (stage.Propose d) e = absurd (let z : true ≡ false = e in cc)
+announce_first kind_of (stage.Search i) e = absurd (let z : true ≡ false = e in cc)
+announce_first kind_of stage.Alone e = absurd (let z : true ≡ false = e in cc)

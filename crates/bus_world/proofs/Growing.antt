@@ -1,0 +1,68 @@
+-- Events one after another: who took the pages only grows, and each event is answered.
+use Rattle.std.proofs.Common.{◌≡◌, ℕ, ◌+◌, ◌<◌, ◌≤◌, Option, Some, None, List, [], ◌∷◌, ◌++◌, length, map, take, get_or, slice_get, arith, refl, sym, ◌∙◌, ap, subst, append_assoc}
+use Rattle.std.proofs.lemmas.Grind.{common_steps}
+use Rattle.std.proofs.lemmas.List.{take_all, map_more}
+use Rattle.std.proofs.lemmas.Option.{slice_get-get_or, slice_get-map}
+use Rattle.std.specs.Option.{option_map}
+use Rattle.bus_tenure.specs.Core.{Core, Election, Situation, IsClosed, IsIdle, IsSpent, LooksAtStage, Elects, TakesPage, AwaitsPage, StoresWord, StoresLength, GivesBack, HasHanded, situation_of}
+use Rattle.bus_world.specs.Headline.{IsPrefix}
+use Rattle.bus_world.specs.Turning.{Side, turned, owners_after}
+use Rattle.bus_world.specs.World.{Bus, Event, Put, Close, Turn, Recv, IsEvent, Happens, SenderDoes, with_sender, put_in, close_in}
+use Rattle.bus_world.specs.declared.events.Event.{Event as Told}
+use Rattle.bus_world.specs.Playing.{event_told, Answers, AllAnswered}
+use Rattle.bus_world.specs.declared.events.Answer.{Answer}
+
+-- ---- owners
+nothing_more : {A : Type 0} (xs : List A) → IsPrefix xs xs
+nothing_more xs = record { rest = []; together = no_rest xs }
+  where
+    no_rest : {A : Type 0} (xs : List A) → xs ++ [] ≡ xs
+    no_rest xs = grind (arith, common_steps)
+
+pub same_prefix : {A : Type 0} (xs ys : List A) → ys ≡ xs → IsPrefix xs ys
+same_prefix xs ys e = subst (IsPrefix xs) (sym e) (nothing_more xs)
+
+pub prefix_after : {A : Type 0} (xs ys zs : List A) → IsPrefix xs ys → IsPrefix ys zs → IsPrefix xs zs
+prefix_after xs ys zs h k = record { rest = h.rest ++ k.rest; together = sym (append_assoc xs h.rest k.rest) ∙ ap (λ z. z ++ k.rest) h.together ∙ k.together }
+
+owners_grow : {E : Type 0} (z : Situation E) (p : ℕ) (owners : List ℕ) → IsPrefix owners (owners_after z p owners)
+owners_grow IsClosed p owners = nothing_more owners
+owners_grow IsIdle p owners = nothing_more owners
+owners_grow IsSpent p owners = nothing_more owners
+owners_grow LooksAtStage p owners = nothing_more owners
+owners_grow (Elects t e) p owners = nothing_more owners
+owners_grow (TakesPage t) p owners = record { rest = p ∷ []; together = refl }
+owners_grow (AwaitsPage t) p owners = nothing_more owners
+owners_grow (StoresWord t page stored) p owners = nothing_more owners
+owners_grow (StoresLength t page stored) p owners = nothing_more owners
+owners_grow (GivesBack t page leaving) p owners = nothing_more owners
+owners_grow (HasHanded t leaving) p owners = nothing_more owners
+
+turn_owners : {E : Type 0} (X : Election E) (side side' : Side E) (s word : ℕ) (o : Option (Core E)) → SenderDoes side o (λ c. turned X side s c (situation_of X c) word) side' → IsPrefix side.owners side'.owners
+turn_owners X side side' s word None d = same_prefix side.owners side'.owners (ap (λ (z : Side _). z.owners) d)
+turn_owners X side side' s word (Some c) d = subst (IsPrefix side.owners) (sym (ap (λ (z : Side _). z.owners) d)) (owners_grow (situation_of X c) s side.owners)
+
+same_owners : {E : Type 0} (side side' : Side E) (o : Option (Core E)) (f : Core E → Side E) → ((c : Core E) → (f c).owners ≡ side.owners) → SenderDoes side o f side' → IsPrefix side.owners side'.owners
+same_owners side side' None f same d = same_prefix side.owners side'.owners (ap (λ (z : Side _). z.owners) d)
+same_owners side side' (Some c) f same d = same_prefix side.owners side'.owners (ap (λ (z : Side _). z.owners) d ∙ same c)
+
+pub event_takers : {E : Type 0} (X : Election E) (b b' : Bus E) (e : Event) → Happens X b e b' → IsPrefix b.side.owners b'.side.owners
+event_takers X b b' (Put s bytes) d = same_owners b.side b'.side (slice_get b.side.senders s) (λ c. with_sender b.side s (put_in c bytes)) (λ c. refl) d.0
+event_takers X b b' (Close s) d = same_owners b.side b'.side (slice_get b.side.senders s) (λ c. with_sender b.side s (close_in c)) (λ c. refl) d.0
+event_takers X b b' (Turn s word) d = turn_owners X b.side b'.side s word (slice_get b.side.senders s) d.0
+event_takers X b b' (Recv r) d = same_prefix b.side.owners b'.side.owners (ap (λ (z : Side _). z.owners) d.0)
+
+-- ---- all events
+pub answered_more : {E : Type 0} (X : Election E) (events : List Event) (old mid new : Bus E) (e : Event) (a : Answer) → AllAnswered X old events mid → IsEvent e → Happens X mid e new → Answers X mid e a new → AllAnswered X old (events ++ e ∷ []) new
+answered_more X [] old mid new e a h is d w = (new, a, is, subst (λ z. Happens X z e new) h d, subst (λ z. Answers X z e a new) h w, refl)
+answered_more X (f ∷ events) old mid new e a h is d w = (h.0, h.1, h.2, h.3, h.4, answered_more X events h.0 mid new e a h.5 is d w)
+
+-- ---- the events that a program tells
+pub told_more : (events : List Told) (k : ℕ) (e : Told) → k < length events → e ≡ get_or events k e → map event_told (take k events) ++ event_told e ∷ [] ≡ map event_told (take (k + 1) events)
+told_more events k e l is = ap (λ z. map event_told (take k events) ++ event_told z ∷ []) is ∙ sym (map_more event_told events k e l)
+
+pub told_at : (events : List Told) (k : ℕ) (e : Told) → k < length events → e ≡ get_or events k e → slice_get (map event_told events) k ≡ Some (event_told e)
+told_at events k e l is = slice_get-map event_told events k ∙ ap (option_map event_told) (slice_get-get_or events k e l ∙ ap Some (sym is))
+
+pub all_told : (events : List Told) (k : ℕ) → length events ≤ k → map event_told (take k events) ≡ map event_told events
+all_told events k l = ap (map event_told) (take_all k events l)

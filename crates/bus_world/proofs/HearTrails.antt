@@ -1,0 +1,190 @@
+-- A turn of a receiver keeps what ties its trail to its place.
+use Rattle.std.proofs.Common.{◌≡◌, ◌≢◌, ℕ, zero, suc, ◌+◌, ◌<◌, ◌≤◌, Bool, true, false, cond, ◌==◌, ◌||◌, Option, Some, None, inl, inr, List, [], ◌∷◌, ◌++◌, length, flat_map, take, drop, get_or, slice_get, slice_index, arith, refl, sym, ◌∙◌, ap, subst, append_assoc}
+use Rattle.std.specs.List.{list_any}
+use Rattle.std.proofs.Math.Bool.{or-false}
+use Rattle.std.proofs.lemmas.Bool.{cases_eq, cases_lt}
+use Rattle.std.proofs.lemmas.Bool.Decides.{eqb_tells}
+use Rattle.std.proofs.lemmas.Grind.{common_steps, flat_map-append}
+use Rattle.std.proofs.lemmas.List.{append-nil, length-append, take-append-le, take_more, get_or_append_left}
+use Rattle.std.proofs.lemmas.List.Folds.{list_any-append}
+use Rattle.std.proofs.lemmas.Option.{slice_get_within, get_or_from_slice_get}
+use Rattle.bus_register.specs.declared.registers.SenderNo.{SenderNo}
+use Rattle.bus_batch.specs.declared.messages.Item.{Item}
+use Rattle.bus_batch.specs.declared.messages.Piece.{Piece}
+use Rattle.bus_batch.specs.declared.messages.Piece.TheVariants as piece
+use Rattle.bus_batch.specs.Frames.{Frame, Order, AreFrames, log_words, log_pieces, frame_pieces, order_in, owners_in, piece_items, piece_owners, is_end}
+use Rattle.bus_deliverylog.specs.Receiving.{Receiving, HasReceived, turn_of}
+use Rattle.bus_deliverylog.specs.declared.receiving.RecvTurn.{RecvTurn}
+use Rattle.bus_deliverylog.specs.declared.receiving.RecvTurn.TheVariants as heard
+use Rattle.bus_tenure.specs.Core.{Layout, log_at}
+use Rattle.bus_world.specs.Log.{read, Logged}
+use Rattle.bus_world.specs.LogLaws.{length-read}
+use Rattle.bus_world.specs.ReceivingLaws.{length-log_pieces}
+use Rattle.bus_world.specs.Headline.{item_heard, end_heard, head_heard, given, heads}
+use Rattle.bus_world.proofs.Tying.{Hears}
+use Rattle.bus_world.specs.World.{RecvDoes, RecvStep, recv_found, IsReceiver, given_at}
+use Rattle.bus_world.specs.WorldLaws.{received}
+
+-- ---- what one answer adds
+abbrev pub more_order : Order → List Item → Bool → Order
+more_order o items ended = record { items = o.items ++ items; ended = o.ended || ended }
+
+order_so : (items items' : List Item) (a b : Bool) → items ≡ items' → a ≡ b → ◌≡◌ {A = Order} (record { items = items; ended = a }) (record { items = items'; ended = b })
+order_so items items' a b e f = ap (λ z. record { items = z; ended = a }) e ∙ ap (λ z. record { items = items'; ended = z }) f
+
+given_more : (trail : List RecvTurn) (a : RecvTurn) → given (trail ++ a ∷ []) ≡ more_order (given trail) (item_heard a) (end_heard a)
+given_more trail a = order_so _ _ _ _ (flat_map-append item_heard trail (a ∷ []) ∙ ap (λ z. flat_map item_heard trail ++ z) (append-nil (item_heard a)))
+    (list_any-append end_heard trail (a ∷ []) ∙ ap (λ z. list_any end_heard trail || z) (or-false (end_heard a)))
+
+heads_more : (trail : List RecvTurn) (a : RecvTurn) → heads (trail ++ a ∷ []) ≡ heads trail ++ head_heard a
+heads_more trail a = flat_map-append head_heard trail (a ∷ []) ∙ ap (λ z. flat_map head_heard trail ++ z) (append-nil (head_heard a))
+
+order_more : (pieces : List (Option Piece)) (p : Option Piece) → order_in (pieces ++ p ∷ []) ≡ more_order (order_in pieces) (piece_items p) (is_end p)
+order_more pieces p = order_so _ _ _ _ (flat_map-append piece_items pieces (p ∷ []) ∙ ap (λ z. flat_map piece_items pieces ++ z) (append-nil (piece_items p)))
+    (list_any-append is_end pieces (p ∷ []) ∙ ap (λ z. list_any is_end pieces || z) (or-false (is_end p)))
+
+owners_more : (pieces : List (Option Piece)) (p : Option Piece) → owners_in (pieces ++ p ∷ []) ≡ owners_in pieces ++ piece_owners p
+owners_more pieces p = flat_map-append piece_owners pieces (p ∷ []) ∙ ap (λ z. flat_map piece_owners pieces ++ z) (append-nil (piece_owners p))
+
+-- an answer tells its piece
+item_told : (p : Option Piece) → item_heard (turn_of p) ≡ piece_items p
+item_told None = refl
+item_told (Some (piece.Head t o)) = refl
+item_told (Some (piece.Item i)) = refl
+item_told (Some piece.End) = refl
+
+end_told : (p : Option Piece) → end_heard (turn_of p) ≡ is_end p
+end_told None = refl
+end_told (Some (piece.Head t o)) = refl
+end_told (Some (piece.Item i)) = refl
+end_told (Some piece.End) = refl
+
+head_told : (p : Option Piece) → head_heard (turn_of p) ≡ piece_owners p
+head_told None = refl
+head_told (Some (piece.Head t o)) = refl
+head_told (Some (piece.Item i)) = refl
+head_told (Some piece.End) = refl
+
+nothing_more : (o : Order) → more_order o [] false ≡ o
+nothing_more o = order_so _ _ _ _ (append-nil o.items) (or-false o.ended)
+
+or_true : (a b : Bool) → b ≡ true → (a || b) ≡ true
+or_true true b e = refl
+or_true false b e = e
+
+or_left : (a b : Bool) → a ≡ true → (a || b) ≡ a
+or_left true b e = refl
+or_left false b e = absurd cc
+
+-- ---- words of the log
+index-read : (words : ℕ → ℕ) (at k i : ℕ) → i < k → slice_index (read words at k) i ≡ words (at + i)
+index-read words at zero i l = absurd (omega arith)
+index-read words at (suc k) i l = elim (cases_lt i k) [
+  | inl below ↦ get_or_append_left (read words at k) (words (at + k) ∷ []) 0 i (let z = length-read words at k in omega arith) ∙ index-read words at k i below
+  | inr past ↦
+      let size = length-read words at k in
+      let e : i ≡ length (read words at k) = omega arith in
+      ap (slice_index (read words at k ++ words (at + k) ∷ [])) e ∙ last (read words at k) (words (at + k)) ∙ ap words (omega arith)
+] where
+  last : (xs : List ℕ) (w : ℕ) → slice_index (xs ++ w ∷ []) (length xs) ≡ w
+  last xs w = grind (arith, common_steps)
+
+next_word : (xs : List ℕ) (k w : ℕ) → k < length xs → slice_index xs k ≡ w → xs ≡ take k xs ++ w ∷ drop (suc k) xs
+next_word [] k w l e = absurd (omega arith)
+next_word (x ∷ xs) zero w l e = ap (λ z. z ∷ xs) e
+next_word (x ∷ xs) (suc k) w l e = ap (λ z. x ∷ z) (next_word xs k w (omega arith) e)
+
+-- ---- a log that has grown
+pub hears_later : (frames more : List Frame) (v : Receiving) (trail : List RecvTurn) → v.place ≤ length (log_words frames) → Hears frames v trail → Hears (frames ++ more) v trail
+hears_later frames more v trail l h =
+    let size = length-log_pieces frames in
+    let front : take v.place (log_pieces (frames ++ more)) ≡ take v.place (log_pieces frames) = ap (take v.place) (flat_map-append frame_pieces frames more) ∙ take-append-le v.place (log_pieces frames) (log_pieces more) (omega arith) in
+    record { given_is = h.given_is ∙ ap order_in (sym front); heads_are = h.heads_are ∙ ap owners_in (sym front); ended = h.ended }
+
+-- an answer that tells nothing, of a receiver that stays where it is
+record Tells_nothing (v next : Receiving) (answer : RecvTurn) : Type 0 where
+  items : item_heard answer ≡ []
+  ends : end_heard answer ≡ false
+  head : head_heard answer ≡ []
+  place : next.place ≡ v.place
+  ended : next.ended ≡ v.ended
+
+module _ (frames : List Frame) (v : Receiving) (trail : List RecvTurn) (h : Hears frames v trail) (answer : RecvTurn) (next : Receiving) where
+  quiet : Tells_nothing v next answer → Hears frames next (trail ++ answer ∷ [])
+  quiet q =
+      let same : given (trail ++ answer ∷ []) ≡ given trail = given_more trail answer ∙ ap (λ z. more_order (given trail) z (end_heard answer)) q.items ∙ ap (more_order (given trail) []) q.ends ∙ nothing_more (given trail) in
+      record {
+        given_is = same ∙ h.given_is ∙ ap (λ z. order_in (take z (log_pieces frames))) (sym q.place);
+        heads_are = heads_more trail answer ∙ ap (λ z. heads trail ++ z) q.head ∙ append-nil (heads trail) ∙ h.heads_are ∙ ap (λ z. owners_in (take z (log_pieces frames))) (sym q.place);
+        ended = λ e. ap (λ (z : Order). z.ended) same ∙ h.ended (sym q.ended ∙ e);
+      }
+
+  -- it has the next piece
+  good : (found : Option Piece) → slice_get (log_pieces frames) v.place ≡ Some found → answer ≡ turn_of found → next.place ≡ v.place + 1 → next.ended ≡ is_end found → Hears frames next (trail ++ answer ∷ [])
+  good found at told place_is ended_is =
+      let pieces : take next.place (log_pieces frames) ≡ take v.place (log_pieces frames) ++ found ∷ [] =
+      ap (λ z. take z (log_pieces frames)) place_is ∙ take_more (log_pieces frames) v.place found (slice_get_within (log_pieces frames) v.place found at) ∙ ap (λ z. take v.place (log_pieces frames) ++ z ∷ []) (get_or_from_slice_get (log_pieces frames) v.place found found at) in
+      let items : item_heard answer ≡ piece_items found = ap item_heard told ∙ item_told found in
+      let ends : end_heard answer ≡ is_end found = ap end_heard told ∙ end_told found in
+      record {
+        given_is = given_more trail answer ∙ ap (λ z. more_order z (item_heard answer) (end_heard answer)) h.given_is ∙ ap (λ z. more_order (given_at frames v) z (end_heard answer)) items ∙ ap (more_order (given_at frames v) (piece_items found)) ends
+            ∙ sym (order_more (take v.place (log_pieces frames)) found) ∙ ap order_in (sym pieces);
+        heads_are = heads_more trail answer ∙ ap (λ z. z ++ head_heard answer) h.heads_are ∙ ap (λ z. owners_in (take v.place (log_pieces frames)) ++ z) (ap head_heard told ∙ head_told found) ∙ sym (owners_more (take v.place (log_pieces frames)) found) ∙ ap owners_in (sym pieces);
+        ended = λ e. ap (λ (z : Order). z.ended) (given_more trail answer) ∙ or_true (given trail).ended (end_heard answer) (ends ∙ sym ended_is ∙ e);
+      }
+
+  -- after the end it hears of it again
+  again : v.ended ≡ true → answer ≡ heard.End → next ≡ v → Hears frames next (trail ++ answer ∷ [])
+  again e told same =
+      let still : given (trail ++ answer ∷ []) ≡ given trail =
+      given_more trail answer ∙ ap (λ z. more_order (given trail) (item_heard z) (end_heard z)) told ∙ order_so _ _ _ _ (append-nil (given trail).items) (or_left (given trail).ended true (h.ended e)) in
+      record {
+        given_is = still ∙ h.given_is ∙ ap (λ (z : Receiving). given_at frames z) (sym same);
+        heads_are = heads_more trail answer ∙ ap (λ z. heads trail ++ head_heard z) told ∙ append-nil (heads trail) ∙ h.heads_are ∙ ap (λ (z : Receiving). owners_in (take z.place (log_pieces frames))) (sym same);
+        ended = λ i. ap (λ (z : Order). z.ended) still ∙ h.ended e;
+      }
+
+module _ (x : Layout) (frames : List Frame) (words : List ℕ) (log : Logged x.senders x.capacity (log_at x) (slice_index words) (slice_index words 0) frames) (v : Receiving) (own : IsReceiver x frames (slice_index words 0) v) (trail : List RecvTurn) (h : Hears frames v trail) (answer : RecvTurn) (next : Receiving) where
+  size_is : length (log_words frames) ≡ slice_index words 0
+  size_is = sym (ap length log.words_are) ∙ length-read (slice_index words) (log_at x) (slice_index words 0)
+
+  hears_step : RecvStep v (recv_found words v) answer next → Hears frames next (trail ++ answer ∷ [])
+  hears_step step = elim (cases_eq v.place v.known) [
+    | inl e ↦
+        let t = step.at_length e in
+        let got = recv_found words v in
+        let goes : answer ≡ heard.Going → next.place ≡ v.place → next.ended ≡ v.ended → Hears frames next (trail ++ answer ∷ []) = λ a b d. quiet frames v trail h answer next record { items = ap item_heard a; ends = ap end_heard a; head = ap head_heard a; place = b; ended = d } in
+        elim (cases_lt v.known got) [
+          | inl l ↦ elim (cases_lt v.log_words got) [
+            | inl beyond ↦ (let a = t.beyond l beyond in goes a.0 (ap (λ (z : Receiving). z.place) a.1) (ap (λ (z : Receiving). z.ended) a.1))
+            | inr within ↦ (let a = t.more l within in goes a.0 (ap (λ (z : Receiving). z.place) a.1) (ap (λ (z : Receiving). z.ended) a.1))
+          ]
+          | inr g ↦ elim (cases_eq got v.known) [
+            | inl i ↦ (let a = t.same i in quiet frames v trail h answer next record { items = ap item_heard a.0; ends = ap end_heard a.0; head = ap head_heard a.0; place = ap (λ (z : Receiving). z.place) a.1; ended = ap (λ (z : Receiving). z.ended) a.1 })
+            | inr ne ↦ (let a = t.less (omega arith) in goes a.0 (ap (λ (z : Receiving). z.place) a.1) (ap (λ (z : Receiving). z.ended) a.1))
+          ]
+        ]
+    | inr ne ↦
+        let had = received x frames (slice_index words) log v own in
+        elim (step.at_word ne (take v.place (log_words frames)) (take v.place (log_pieces frames)) had) [
+          | inl bad ↦ quiet frames v trail h answer next record { items = ap item_heard bad.1; ends = ap end_heard bad.1; head = ap head_heard bad.1; place = ap (λ (z : Receiving). z.place) bad.2; ended = ap (λ (z : Receiving). z.ended) bad.2 }
+          | inr ok ↦
+              let more : v.place < slice_index words 0 = let a = own.receives.place_below in let b = own.receives.known_below in omega arith in
+              let got_is : recv_found words v ≡ slice_index words (log_at x + v.place) = elim (eqb_tells v.place v.known) [
+                | inl y ↦ absurd (ne y.1)
+                | inr y ↦ ap (λ q. cond q (slice_index words v.length_at) (slice_index words (v.log_at + v.place))) y.0 ∙ ap (λ q. slice_index words (q + v.place)) own.log
+              ] in
+              let word_is : slice_index (log_words frames) v.place ≡ recv_found words v = ap (λ z. slice_index z v.place) (sym log.words_are) ∙ index-read (slice_index words) (log_at x) (slice_index words 0) v.place more ∙ sym got_is in
+              let size = size_is in
+              let split = next_word (log_words frames) v.place (recv_found words v) (omega arith) word_is in
+              let at = ok.gives frames (drop (suc v.place) (log_words frames)) (subst (λ z. AreFrames z frames) (sym own.senders) log.lawful) split in
+              good frames v trail h answer next ok.found (ap (slice_get (log_pieces frames)) had.place ∙ at) ok.answer_is (ap (λ (z : Receiving). z.place) ok.new_is) (ap (λ (z : Receiving). z.ended) ok.new_is)
+        ]
+  ]
+
+  pub hears_more : RecvDoes words v answer next → Hears frames next (trail ++ answer ∷ [])
+  hears_more does = by_end v.ended refl
+    where
+      by_end : (q : Bool) → v.ended ≡ q → Hears frames next (trail ++ answer ∷ [])
+      by_end true e = let d = does.ended e in again frames v trail h answer next e d.0 d.1
+      by_end false e = hears_step (does.going e)

@@ -1,0 +1,79 @@
+-- What the promise refuses: of each named wrong behaviour one instance, of which it is false whatever else happened.
+use Rattle.std.specs.Prelude.{ℕ, zero, suc, Option, Some, None, List, [], ◌∷◌, false}
+use Rattle.bus_register.specs.declared.kinds.Kind.TheVariants as kind
+use Rattle.bus_register.specs.declared.registers.SenderNo.{SenderNo}
+use Rattle.bus_batch.specs.declared.messages.Item.{Item}
+use Rattle.bus_batch.specs.Frames.{Order}
+use Rattle.bus_deliverylog.specs.declared.receiving.RecvTurn.{RecvTurn}
+use Rattle.bus_deliverylog.specs.declared.receiving.RecvTurn.TheVariants as heard
+use Rattle.bus_tenure.specs.declared.turns.Turn.TheVariants as turn
+use Rattle.bus_world.specs.Headline.{Deed, HasPut, HasClosed, Stepped, Promises}
+
+-- two lists, of number 0 and of all others
+abbrev pub each_of : {A : Type 0} → List A → List A → ℕ → List A
+each_of a b zero = a
+each_of a b (suc n) = b
+
+-- a step that ended the election of tenure 0 with this owner
+abbrev pub elects : ℕ → Deed
+elects o = Stepped (Some 0) kind.Fallback 0 (Some o) turn.Going
+
+abbrev pub announces : Deed
+announces = Stepped (Some 0) kind.Announce 0 None turn.Going
+
+abbrev pub takes : Deed
+takes = Stepped (Some 0) kind.TakePage 0 None (turn.Own 0)
+
+-- message n of sender 0
+abbrev pub item : ℕ → Item
+item n = record { sender = record { 0 = 0 }; number = n; message = [] }
+
+abbrev pub sender : ℕ → SenderNo
+sender n = record { 0 = n }
+
+-- the promise is false of these deeds and answers, for any order and owners
+abbrev pub No : (ℕ → List Deed) → (ℕ → List RecvTurn) → Type 0
+No deeds heard = (order : Order) (owners : List (ℕ × SenderNo)) → ¬ Promises deeds heard order owners
+
+-- whatever receivers were answered, or senders did
+abbrev pub NoDeeds : (ℕ → List Deed) → Type 0
+NoDeeds deeds = (heard : ℕ → List RecvTurn) → No deeds heard
+
+abbrev pub NoAnswers : (ℕ → List RecvTurn) → Type 0
+NoAnswers heard = (deeds : ℕ → List Deed) → No deeds heard
+
+-- whatever happened, with this order and these owners
+abbrev pub NoOrder : Order → List (ℕ × SenderNo) → Type 0
+NoOrder order owners = (deeds : ℕ → List Deed) (heard : ℕ → List RecvTurn) → ¬ Promises deeds heard order owners
+
+pub record PromiseRefuses : Type 0 where
+  -- two senders saw one election end with two owners
+  pub two_owners : NoDeeds (each_of (elects 0 ∷ []) (elects 1 ∷ []))
+  -- the owner never announced itself
+  pub unannounced : NoDeeds (each_of (announces ∷ elects 1 ∷ []) [])
+  -- one page was taken by two senders
+  pub two_takers : NoDeeds (each_of (takes ∷ []) (takes ∷ []))
+  -- or twice by one
+  pub taken_twice : NoDeeds (each_of (takes ∷ takes ∷ []) [])
+  -- a page was taken by a sender that was not elected
+  pub unelected : NoDeeds (each_of (takes ∷ []) [])
+  -- a first put was answered the number 1
+  pub wrong_number : NoDeeds (each_of (HasPut 1 [] ∷ []) [])
+  -- two receivers were given other items first
+  pub two_orders : NoAnswers (each_of (heard.Item (item 0) ∷ []) (heard.Item (item 1) ∷ []))
+  -- an item was given twice
+  pub repeated : NoAnswers (each_of (heard.Item (item 0) ∷ heard.Item (item 0) ∷ []) [])
+  -- one was skipped
+  pub skipped : NoAnswers (each_of (heard.Item (item 1) ∷ []) [])
+  -- two came out of order
+  pub reversed : NoAnswers (each_of (heard.Item (item 1) ∷ heard.Item (item 0) ∷ []) [])
+  -- an item that nobody put was given
+  pub invented : No (λ _. []) (each_of (heard.Item (item 0) ∷ []) [])
+  -- an item was given to one receiver, and only the end to another
+  pub after_the_end : NoAnswers (each_of (heard.End ∷ []) (heard.Item (item 0) ∷ []))
+  -- the end was given, and nobody had closed
+  pub unclosed : No (λ _. []) (each_of (heard.End ∷ []) [])
+  -- a frame's item is another sender's
+  pub foreign_item : NoOrder record { items = item 0 ∷ []; ended = false } ((0, sender 1) ∷ [])
+  -- two frames of one tenure
+  pub one_tenure_twice : (order : Order) → NoOrder order ((0, sender 0) ∷ (0, sender 0) ∷ [])

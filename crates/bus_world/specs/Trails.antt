@@ -1,0 +1,173 @@
+-- How events extend the trails, which trails lead to a bus, and what is promised of it then.
+use Rattle.std.specs.Prelude.{◌≡◌, ℕ, ◌≤◌, Option, Some, None, List, [], ◌∷◌, ◌++◌, length, take, slice_get, if◌then◌else◌, ◌==◌}
+use Rattle.bus_register.specs.declared.kinds.Kind.{Kind}
+use Rattle.bus_register.specs.declared.registers.SenderNo.{SenderNo}
+use Rattle.bus_register.specs.Protocol.{Protocol}
+use Rattle.bus_batch.specs.Frames.{Frame, Order, Spells}
+use Rattle.bus_deliverylog.specs.declared.receiving.RecvTurn.{RecvTurn}
+use Rattle.bus_deliverylog.specs.Orders.{IsPrefixOfOrder}
+use Rattle.bus_tenure.specs.Core.{Core, Election, Layout, Situation, IsClosed, IsIdle, IsSpent, LooksAtStage, Elects, TakesPage, AwaitsPage, StoresWord, StoresLength, GivesBack, HasHanded, situation_of, kind_at, op_at}
+use Rattle.bus_tenure.specs.declared.turns.Turn.{Turn as Answered}
+use Rattle.bus_world.specs.Headline.{Deed, HasPut, HasClosed, Stepped, Took, given, IsPrefix, Promises}
+use Rattle.bus_world.specs.Turning.{found}
+use Rattle.bus_world.specs.World.{Bus, Event, Put, Close, Turn, Recv, IsEvent, Happens, IsNew, LawfulBus}
+use Rattle.bus_world.specs.Playing.{Sitting, AllAnswered, Answers, Refused, log_of}
+use Rattle.bus_world.specs.declared.events.Answer.{Answer}
+use Rattle.bus_world.specs.declared.events.Answer.TheVariants as answer
+use Rattle.bus_world.specs.declared.events.StepFault.{StepFault}
+
+-- the tenure of a step
+abbrev pub tenure_at : {E : Type 0} → Situation E → Option ℕ
+tenure_at IsClosed = None
+tenure_at IsIdle = None
+tenure_at IsSpent = None
+tenure_at LooksAtStage = None
+tenure_at (Elects t e) = Some t
+tenure_at (TakesPage t) = Some t
+tenure_at (AwaitsPage t) = Some t
+tenure_at (StoresWord t page stored) = Some t
+tenure_at (StoresLength t page stored) = Some t
+tenure_at (GivesBack t page leaving) = Some t
+tenure_at (HasHanded t leaving) = Some t
+
+-- the owner with which a step ended an election
+abbrev pub chosen_at : {E : Type 0} → Election E → Situation E → ℕ → ℕ → Option ℕ
+chosen_at X IsClosed got word = None
+chosen_at X IsIdle got word = None
+chosen_at X IsSpent got word = None
+chosen_at X LooksAtStage got word = None
+chosen_at X (Elects t e) got word = X.owner (X.fed e got word)
+chosen_at X (TakesPage t) got word = None
+chosen_at X (AwaitsPage t) got word = None
+chosen_at X (StoresWord t page stored) got word = None
+chosen_at X (StoresLength t page stored) got word = None
+chosen_at X (GivesBack t page leaving) got word = None
+chosen_at X (HasHanded t leaving) got word = None
+
+abbrev pub step_deed : Option Kind → Option ℕ → ℕ → Option ℕ → Answered → List Deed
+step_deed None tenure got chose turn = []
+step_deed (Some k) tenure got chose turn = Stepped tenure k got chose turn ∷ []
+
+-- what a turn of a sender in this situation adds to its trail, where its step found this number and this is its answer
+abbrev pub turn_deeds : {E : Type 0} → Election E → Situation E → ℕ → ℕ → Answer → List Deed
+turn_deeds X z got word (answer.Number n) = []
+turn_deeds X z got word answer.Closing = []
+turn_deeds X z got word (answer.Turn t) = step_deed (kind_at X z) (tenure_at z) got (chosen_at X z got word) t
+turn_deeds X z got word (answer.Recv t) = []
+
+-- of the sender that there is
+abbrev pub turning_deeds : {E : Type 0} → Election E → List ℕ → Option (Core E) → ℕ → Answer → List Deed
+turning_deeds X words None word a = []
+turning_deeds X words (Some c) word a = turn_deeds X (situation_of X c) (found words (op_at X c (situation_of X c) word)) word a
+
+-- what a put of these bytes adds, by its answer
+abbrev pub put_deeds : List ℕ → Answer → List Deed
+put_deeds bytes (answer.Number n) = HasPut n bytes ∷ []
+put_deeds bytes answer.Closing = []
+put_deeds bytes (answer.Turn t) = []
+put_deeds bytes (answer.Recv t) = []
+
+-- what a close adds, by its answer
+abbrev pub close_deeds : Answer → List Deed
+close_deeds (answer.Number n) = []
+close_deeds answer.Closing = HasClosed ∷ []
+close_deeds (answer.Turn t) = []
+close_deeds (answer.Recv t) = []
+
+-- what an event with this answer adds to the trail of sender q
+abbrev pub deeds_of : {E : Type 0} → Election E → Bus E → Event → Answer → ℕ → List Deed
+deeds_of X b (Put s bytes) a q = if q == s then put_deeds bytes a else []
+deeds_of X b (Close s) a q = if q == s then close_deeds a else []
+deeds_of X b (Turn s word) a q = if q == s then turning_deeds X b.side.words (slice_get b.side.senders s) word a else []
+deeds_of X b (Recv r) a q = []
+
+abbrev pub answer_heard : Answer → List RecvTurn
+answer_heard (answer.Number n) = []
+answer_heard answer.Closing = []
+answer_heard (answer.Turn t) = []
+answer_heard (answer.Recv t) = t ∷ []
+
+-- what an event and its answer add to the trail of a receiver
+abbrev pub heard_of : Event → Answer → ℕ → List RecvTurn
+heard_of (Put s bytes) a q = []
+heard_of (Close s) a q = []
+heard_of (Turn s word) a q = []
+heard_of (Recv r) a q = if q == r then answer_heard a else []
+
+-- ---- the trails of all
+pub record Trails : Type 0 where
+  pub deeds : ℕ → List Deed
+  pub heard : ℕ → List RecvTurn
+
+abbrev pub no_trails : Trails
+no_trails = record { deeds = λ s. []; heard = λ r. [] }
+
+abbrev pub extended : {E : Type 0} → Election E → Bus E → Event → Answer → Trails → Trails
+extended X b e a T = record { deeds = λ s. T.deeds s ++ deeds_of X b e a s; heard = λ r. T.heard r ++ heard_of e a r }
+
+-- these trails lead to this bus: from a new one, of which nothing has happened, by one event after another
+pub data Reached {E : Type 0} (X : Election E) (x : Layout) : Bus E → Trails → Type 0 where
+  New : (b : Bus E) → IsNew x b → Reached X x b no_trails
+  Then : (b b' : Bus E) (T : Trails) (e : Event) (a : Answer) → Reached X x b T → IsEvent e → Happens X b e b' → Answers X b e a b' → Reached X x b' (extended X b e a T)
+
+-- ---- what is promised of a bus
+-- who took the pages, by tenure
+pub record Takers (owners : List ℕ) (deeds : ℕ → List Deed) : Type 0 where
+  pub took : (t s : ℕ) → slice_get owners t ≡ Some s → (place : ℕ) × Took (deeds s) t place
+  pub only : (t s place : ℕ) → Took (deeds s) t place → slice_get owners t ≡ Some s
+
+-- the promise holds of these trails, with the order and the owners that the words below the length spell
+pub record IsPromisedBy {E : Type 0} (x : Layout) (b : Bus E) (T : Trails) (order : Order) (owners : List (ℕ × SenderNo)) : Type 0 where
+  pub spelled : Spells x.senders (log_of record { layout = x; bus = b }) order owners
+  pub takers : Takers b.side.owners T.deeds
+  pub promises : Promises T.deeds T.heard order owners
+
+pub record IsPromised {E : Type 0} (x : Layout) (b : Bus E) (T : Trails) : Type 0 where
+  pub order : Order
+  pub owners : List (ℕ × SenderNo)
+  pub by : IsPromisedBy x b T order owners
+
+-- As it held before, so it holds after, of more trails: the order, the owners of frames and of pages, and what each receiver was
+-- given are extended, and never otherwise changed.
+pub record StaysPromised {E : Type 0} (x : Layout) (old : Bus E) (T : Trails) (new : Bus E) (T' : Trails) : Type 0 where
+  pub before : IsPromised x old T
+  pub after : IsPromised x new T'
+  pub order : IsPrefixOfOrder before.order after.order
+  pub owners : IsPrefix before.owners after.owners
+  pub takers : IsPrefix old.side.owners new.side.owners
+  pub given : (r : ℕ) → IsPrefixOfOrder (given (T.heard r)) (given (T'.heard r))
+
+-- Whatever trails led to the old bus, with what this event and its answer add they lead to the new one, and the promise stays.
+pub record Follows {E : Type 0} (X : Election E) (x : Layout) (old : Bus E) (e : Event) (a : Answer) (new : Bus E) : Type 0 where
+  pub reached : (T : Trails) → Reached X x old T → Reached X x new (extended X old e a T)
+  pub promised : (T : Trails) → Reached X x old T → StaysPromised x old T new (extended X old e a T)
+
+-- the trails after a list of events with their answers
+abbrev pub trails_after : {E : Type 0} (X : Election E) (old : Bus E) (events : List Event) (new : Bus E) → AllAnswered X old events new → Trails → Trails
+trails_after X old [] new run T = T
+trails_after X old (e ∷ events) new run T = trails_after X run.0 events new run.5 (extended X old e run.1 T)
+
+-- All events were answered, one after another. Whatever trails led to the old bus, with what the events and their answers add
+-- they lead to the new one, and the promise stays.
+pub record Played {E : Type 0} (X : Election E) (x : Layout) (old : Bus E) (events : List Event) (new : Bus E) : Type 0 where
+  pub answered : AllAnswered X old events new
+  pub reached : (T : Trails) → Reached X x old T → Reached X x new (trails_after X old events new answered T)
+  pub promised : (T : Trails) → Reached X x old T → StaysPromised x old T new (trails_after X old events new answered T)
+
+-- the event at a place is the first that is refused: those before it have happened, and no other
+pub record Stops {E : Type 0} (X : Election E) (x : Layout) (old : Bus E) (events : List Event) (place : ℕ) (why : StepFault) (new : Bus E) : Type 0 where
+  pub played : Played X x old (take place events) new
+  pub event : Event
+  pub at : slice_get events place ≡ Some event
+  pub refused : Refused new event why
+
+-- what every bus that a program holds keeps: some trails lead to it
+pub record IsSitting {E : Type 0} (X : Election E) (P : Protocol E (Unit {0}) ℕ) (z : Sitting E) : Type 0 where
+  pub senders_few : z.layout.senders ≤ 8
+  pub rows_few : z.layout.rows ≤ 256
+  pub capacity_few : z.layout.capacity ≤ 65536
+  pub senders : length z.bus.side.senders ≡ z.layout.senders
+  pub frames : List Frame
+  pub lawful : LawfulBus P z.layout z.bus frames
+  pub trails : Trails
+  pub reached : Reached X z.layout z.bus trails
