@@ -15,7 +15,8 @@ use Rattle.bus_register.specs.TableLaws.{some_or_none, here_not}
 use Rattle.bus_adoptcommit.specs.declared.verdicts.Verdict.{Verdict}
 use Rattle.bus_adoptcommit.specs.Agreement.{Legal}
 use Rattle.bus_adoptcommit.specs.AgreementLaws.{Legal-fewer}
-use Rattle.bus_adoptcommit.specs.Plays.{AtStarts, Turn, IsExact, Verdicts}
+use Rattle.bus_adoptcommit.specs.Plays.{AtStarts, IsExact, IsPlay, Verdicts}
+use Rattle.bus_adoptcommit.proofs.Moves.{Turn}
 use Rattle.bus_adoptcommit.specs.Schedule.{table_of, entries, entered, finished, LegalThroughout}
 
 -- ── lists ──
@@ -234,7 +235,7 @@ module _ {S : Type 0} (op : S → ℕ → Option Op) (fed : S → ℕ → ℕ �
 
   -- ── the verdicts at the end ──
   module _ (given : List Bool) (schedule : List ℕ) (processes : List S) (outs : List (Option Verdict)) (i : ℕ) (ws : ℕ → ℕ) (l : length schedule ≤ i)
-      (h : Playing op fed P (length given) given schedule i processes) (k : P.Keeps (length given) 0 ws (slice_get processes)) (e : outs ≡ map P.output processes) where
+      (h : Playing op fed P (length given) given schedule i processes) (k : P.Keeps (length given) 0 ws (slice_get processes)) (e : outs ≡ map P.output processes) (play : IsPlay op fed P given schedule outs) where
     -- the list of outputs is the table of outputs
     verdicts_are : table_of outs ≡ outputs P (slice_get processes)
     verdicts_are = ap table_of e ∙ fun_ext (λ p. ap (of_some (λ o. o)) (slice_get-map P.output processes p) ∙ mapped P.output (slice_get processes p))
@@ -267,6 +268,7 @@ module _ {S : Type 0} (op : S → ℕ → Option Op) (fed : S → ℕ → ℕ �
     -- all that is promised
     pub verdicts_after : Verdicts op fed P given schedule outs
     verdicts_after = record {
+      play = play;
       one_each = ap length e ∙ length-map processes P.output ∙ h.size;
       throughout = subst (LegalThroughout (P.steps (length given)) given schedule) (sym verdicts_are) legal_after;
       at_end = subst (Legal (entered given schedule)) (sym verdicts_are) (legal_now (length given) given schedule processes ws h.size all_follow k);

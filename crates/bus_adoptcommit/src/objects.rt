@@ -2,7 +2,7 @@
 
 ghost use Rattle.std.specs.Prelude.{◌≡◌, ℕ, ◌<◌, ◌≤◌, ◌^◌, length, slice_get, slice_index, All, IfOk, map};
 ghost use Rattle.bus_register.specs.Protocol.{Protocol, Laws};
-ghost use Rattle.bus_adoptcommit.specs.Plays.{Turn, AtStarts, Verdicts, IsExact};
+ghost use Rattle.bus_adoptcommit.specs.Plays.{AtStarts, IsMove, Verdicts, moment};
 
 use super::ratifiers::Ratifier;
 use super::verdicts::Verdict;
@@ -16,7 +16,7 @@ pub fn step<Q: Ratifier>(cells: &mut Cells, processes: &mut [Q], p: usize)
     requires keeps { Q.protocol.Keeps (length processes.old) 0 (slice_index cells.old) (slice_get processes.old) }
     ensures cells { length cells.new ≡ length cells.old }
     ensures keeps { Q.protocol.Keeps (length processes.new) 0 (slice_index cells.new) (slice_get processes.new) }
-    ensures turn { Turn Q.op Q.fed p (slice_get processes.old) (slice_get processes.new) }
+    ensures moves { IsMove Q.op Q.fed p (moment cells.old processes.old) (moment cells.new processes.new) }
 {
     if let Some(op) = processes[p].next(0) {
         let got = cells.apply(op);
