@@ -3,3 +3,4 @@ pub mod Steps
 pub mod Starts
 pub mod Schedules
 pub mod Tables
+pub mod Two

@@ -14,3 +14,4 @@ pub mod TwoCollectStartLaws
 pub mod TwoCollectOutcomeLaws
 pub mod TwoCollectLaws
 pub mod Checks
+pub mod Refused

@@ -20,10 +20,6 @@ entered given schedule p = if nat_lt 0 (entries schedule p) then slice_get given
 abbrev pub finished : ℕ → (ℕ → Option Verdict) → List ℕ → ℕ → Option Verdict
 finished steps verdicts schedule p = if nat_lt (entries schedule p) steps then None else verdicts p
 
--- after each prefix of the schedule the inputs that count and the outputs that stand have this outcome
-abbrev pub Throughout : ((ℕ → Option Bool) → (ℕ → Option Verdict) → Type 0) → ℕ → List Bool → List ℕ → (ℕ → Option Verdict) → Type 0
-Throughout Outcome steps given schedule verdicts = (k : ℕ) → Outcome (entered given (take k schedule)) (finished steps verdicts (take k schedule))
-
--- after each prefix of the schedule the outputs that stand are legal, but for coherence
+-- after each prefix of the schedule, the outputs that stand are legal for the inputs that count
 abbrev pub LegalThroughout : ℕ → List Bool → List ℕ → (ℕ → Option Verdict) → Type 0
-LegalThroughout = Throughout Legal
+LegalThroughout steps given schedule verdicts = (k : ℕ) → Legal (entered given (take k schedule)) (finished steps verdicts (take k schedule))

@@ -2,6 +2,7 @@
 #![tactic(auto)]
 
 pub mod checkers;
+pub mod laws;
 pub mod objects;
 pub mod phases;
 pub mod ratifiers;

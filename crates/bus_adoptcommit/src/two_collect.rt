@@ -1,8 +1,7 @@
 //! Gafni's adopt-commit object of two words per process, each read by all in turn.
 
 ghost use Rattle.std.specs.Prelude.{◌≡◌, ℕ, ◌+◌, ◌*◌, ◌<◌, ◌≤◌, ◌^◌};
-ghost use Rattle.bus_register.specs.Protocol.{Protocol, Laws};
-ghost use Rattle.bus_adoptcommit.specs.Agreement.{Legal};
+ghost use Rattle.bus_register.specs.Protocol.{Protocol};
 ghost use Rattle.bus_adoptcommit.specs.Plays.{IsExact};
 ghost use Rattle.bus_adoptcommit.specs.TwoCollect.{Local, Sized, proposal_code, verdict_code, verdict_in, kind_at, op_of, fed_of};
 ghost use Rattle.bus_adoptcommit.specs.TwoCollectKeeps.{two_collect};
@@ -187,11 +186,6 @@ impl Ratifier for TwoCollect {
 
     ghost narrow = { narrow };
 }
-
-/// Two collects keep coherence too (Gafni 1998).
-pub fn two_collect_is_coherent()
-    ensures { Laws ⟦<TwoCollect as Machine>⟧.op ⟦<TwoCollect as Machine>⟧.fed ⟦<TwoCollect as Ratifier>⟧.protocol Legal }
-{}
 
 /// A process of two collects takes all its steps, and has no output before.
 pub fn two_collect_is_exact()
