@@ -1,4 +1,5 @@
 pub mod StepLemmas
 pub mod PlayLemmas
+pub mod AnswerLemmas
 pub mod LineLemmas
 pub mod ScriptLemmas

@@ -4,11 +4,12 @@ use Rattle.std.specs.Prelude.{IsSome}
 use Rattle.std.specs.List.{All, list_all}
 use Rattle.std.proofs.lemmas.Bool.{and_parts, cases_lt, ltb-true}
 use Rattle.std.proofs.lemmas.List.Folds.{list_all-append}
-use Rattle.bus_register.specs.declared.registers.Op.{Op}
-use Rattle.bus_register.specs.Protocol.{Protocol}
 use Rattle.bus_adoptcommit.specs.declared.verdicts.Verdict.{Verdict}
-use Rattle.bus_adoptcommit.specs.Plays.{IsExact, Verdicts}
-use Rattle.bus_adoptcommit.specs.Schedule.{table_of, entries, LegalThroughout}
+use Rattle.bus_adoptcommit.specs.Plays.{Verdicts}
+use Rattle.bus_adoptcommit.specs.Schedule.{table_of, entries}
+use Rattle.bus_adoptcommit.specs.TwoCollect.{op_of, fed_of}
+use Rattle.bus_adoptcommit.specs.TwoCollectKeeps.{two_collect}
+use Rattle.bus_adoptcommit.specs.TwoCollectLaws.{two_collect_exact}
 use Rattle.bus_ratify.specs.declared.refusals.Refusal.{Refusal}
 use Rattle.bus_script.specs.Grammar.{script_lines}
 use Rattle.bus_ratify.specs.Scripts.{RatifyScript, steps_among, then_steps, schedule_of, with_schedule, script_behind, script_of, ratify_script, inputs_of, steps_of}
@@ -72,19 +73,21 @@ none_is_open : (o : Option Verdict) → IsSome o → o ≡ None → ⊥
 none_is_open None some e = absurd cc
 none_is_open (Some d) some e = absurd cc
 
-pub played : {S : Type 0} (op : S → ℕ → Option Op) (fed : S → ℕ → ℕ → S) (P : Protocol S Bool Verdict) (script : RatifyScript) (given : List Bool) (schedule : List ℕ) (verdicts : List (Option Verdict))
-    → IsExact op fed P → ((n : ℕ) → P.steps n ≡ steps_of_each n) → given ≡ script.inputs → schedule ≡ script.schedule → Verdicts op fed P given schedule verdicts → IsPlayed script verdicts
-played op fed P script given schedule verdicts exact steps is_given is_schedule told =
-    let h : Verdicts op fed P script.inputs script.schedule verdicts = subst (λ (l : List ℕ). Verdicts op fed P script.inputs l verdicts) is_schedule (subst (λ (l : List Bool). Verdicts op fed P l schedule verdicts) is_given told) in
+pub played : (script : RatifyScript) (given : List Bool) (schedule : List ℕ) (verdicts : List (Option Verdict)) → given ≡ script.inputs → schedule ≡ script.schedule
+    → Verdicts (λ s word. op_of s) (λ s got word. fed_of s got) two_collect given schedule verdicts → IsPlayed script verdicts
+played script given schedule verdicts is_given is_schedule told =
+    let at_schedule = subst (λ (l : List ℕ). Verdicts (λ s word. op_of s) (λ s got word. fed_of s got) two_collect given l verdicts) is_schedule told in
+    let h = subst (λ (l : List Bool). Verdicts (λ s word. op_of s) (λ s got word. fed_of s got) two_collect l script.schedule verdicts) is_given at_schedule in
     let n = length script.inputs in
     record {
+      play = h.play;
       one_each = h.one_each;
       left_open = λ p lt. (
         (λ e. elim (cases_lt (entries script.schedule p) (steps_of_each n)) [
           | inl few ↦ few
-          | inr all ↦ absurd (none_is_open (table_of verdicts p) (h.stands p lt (subst (λ k. k ≤ entries script.schedule p) (sym (steps n)) all)) e)
+          | inr all ↦ absurd (none_is_open (table_of verdicts p) (h.stands p lt all) e)
         ]),
-        (λ few. h.stays_open exact p (subst (λ k. entries script.schedule p < k) (sym (steps n)) few)),
+        (λ few. h.stays_open two_collect_exact p few),
       );
-      throughout = subst (λ k. LegalThroughout k script.inputs script.schedule (table_of verdicts)) (steps n) h.throughout;
+      throughout = h.throughout;
     }

@@ -1,7 +1,10 @@
 -- What `ratify` answers to an input.
 use Rattle.std.specs.Prelude.{◌≡◌, ℕ, ◌+◌, ◌*◌, ◌<◌, ◌↔◌, List, length, Option, None, MatchResult}
 use Rattle.bus_adoptcommit.specs.declared.verdicts.Verdict.{Verdict}
+use Rattle.bus_adoptcommit.specs.Plays.{IsPlay}
 use Rattle.bus_adoptcommit.specs.Schedule.{table_of, entries, LegalThroughout}
+use Rattle.bus_adoptcommit.specs.TwoCollect.{op_of, fed_of}
+use Rattle.bus_adoptcommit.specs.TwoCollectKeeps.{two_collect}
 use Rattle.bus_script.specs.declared.answers.Outcome.{Outcome}
 use Rattle.bus_script.specs.declared.answers.Outcome.TheVariants.{Done, Refused}
 use Rattle.bus_ratify.specs.Scripts.{RatifyScript, ratify_script}
@@ -13,6 +16,8 @@ steps_of_each n = 2 * n + 2
 
 -- the verdicts after the steps of a script
 pub record IsPlayed (script : RatifyScript) (verdicts : List (Option Verdict)) : Type 0 where
+  -- they are what two collects give out, played by the script's steps
+  pub play : IsPlay (λ s word. op_of s) (λ s got word. fed_of s got) two_collect script.inputs script.schedule verdicts
   -- one for each process, open or not
   pub one_each : length verdicts ≡ length script.inputs
   -- just the processes that have too few steps are open

@@ -8,7 +8,6 @@ use crate::scripts::read_script;
 use crate::text::{refusal_text, verdict_text};
 use bus_adoptcommit::TwoCollect;
 use bus_adoptcommit::objects::verdicts;
-use bus_adoptcommit::two_collect::two_collect_is_exact;
 use bus_register::NoMemory;
 use bus_script::{Answer, Outcome};
 use std::alloc::Global;
@@ -19,7 +18,6 @@ pub fn answer_to(alloc: Global, input: &[u8]) -> Result<Answer, NoMemory>
 {
     match read_script(alloc, input) {
         Ok(script) => {
-            two_collect_is_exact();
             let verdicts = verdicts::<TwoCollect>(alloc, &script.inputs, &script.schedule)?;
             Ok(Answer {
                 outcome: Outcome::Done,

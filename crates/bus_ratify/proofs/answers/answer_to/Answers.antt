@@ -11,6 +11,6 @@ returns-in_ok-verdict_text-in-Ok c =
     rw c.in-Ok.ensures (
       refl,
       c.in_ok-verdicts-in-Ok.verdicts.items,
-      played _ _ _ _ c.deref.result.now c.deref-in-Ok.result.now c.in_ok-verdicts-in-Ok.verdicts.items c.two_collect_is_exact.ensures.exact c.two_collect_is_exact.ensures.steps c.deref.ensures.value c.deref-in-Ok.ensures.value c.in_ok-verdicts-in-Ok.ensures,
+      played _ c.deref.result.now c.deref-in-Ok.result.now c.in_ok-verdicts-in-Ok.verdicts.items c.deref.ensures.value c.deref-in-Ok.ensures.value c.in_ok-verdicts-in-Ok.ensures,
       c.in_ok-verdict_text-in-Ok.ensures ∙ ap verdict_text c.deref-in-Ok-2.ensures.value,
     )
