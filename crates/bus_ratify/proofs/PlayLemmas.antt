@@ -73,17 +73,14 @@ none_is_open : (o : Option Verdict) → IsSome o → o ≡ None → ⊥
 none_is_open None some e = absurd cc
 none_is_open (Some d) some e = absurd cc
 
-pub played : (script : RatifyScript) (given : List Bool) (schedule : List ℕ) (verdicts : List (Option Verdict)) → given ≡ script.inputs → schedule ≡ script.schedule
-    → Verdicts (λ s word. op_of s) (λ s got word. fed_of s got) two_collect given schedule verdicts → IsPlayed script verdicts
-played script given schedule verdicts is_given is_schedule told =
-    let at_schedule = subst (λ (l : List ℕ). Verdicts (λ s word. op_of s) (λ s got word. fed_of s got) two_collect given l verdicts) is_schedule told in
-    let h = subst (λ (l : List Bool). Verdicts (λ s word. op_of s) (λ s got word. fed_of s got) two_collect l script.schedule verdicts) is_given at_schedule in
-    let n = length script.inputs in
+pub played : (inputs : List Bool) (schedule : List ℕ) (verdicts : List (Option Verdict)) → Verdicts (λ s word. op_of s) (λ s got word. fed_of s got) two_collect inputs schedule verdicts → IsPlayed (record { inputs = inputs; schedule = schedule }) verdicts
+played inputs schedule verdicts h =
+    let n = length inputs in
     record {
       play = h.play;
       one_each = h.one_each;
       left_open = λ p lt. (
-        (λ e. elim (cases_lt (entries script.schedule p) (steps_of_each n)) [
+        (λ e. elim (cases_lt (entries schedule p) (steps_of_each n)) [
           | inl few ↦ few
           | inr all ↦ absurd (none_is_open (table_of verdicts p) (h.stands p lt all) e)
         ]),

@@ -1,16 +1,25 @@
 //! What a script of `ratify` is answered with.
 
-ghost use Rattle.std.specs.Prelude.{IfOk, string_bytes};
-ghost use Rattle.bus_ratify.specs.Answers.{IsAnswer};
+ghost use Rattle.std.specs.Prelude.{ℕ, ◌<◌, ◌≤◌, All, IfOk, length, string_bytes};
+ghost use Rattle.bus_ratify.specs.Answers.{IsAnswer, IsPlayed};
 
 use crate::refusals::ReadingFault;
-use crate::scripts::read_script;
+use crate::scripts::{Script, read_script};
 use crate::text::{refusal_text, verdict_text};
-use bus_adoptcommit::TwoCollect;
 use bus_adoptcommit::objects::verdicts;
+use bus_adoptcommit::{TwoCollect, Verdict};
 use bus_register::NoMemory;
 use bus_script::{Answer, Outcome};
 use std::alloc::Global;
+
+/// The verdicts after the steps of a script, of two collects.
+fn play(alloc: Global, script: &Script) -> Result<Vec<Option<Verdict>>, NoMemory>
+    requires few { length script.now.inputs.items ≤ 8 }
+    requires known { All (λ p. p < length script.now.inputs.items) script.now.schedule.items }
+    ensures { IfOk result (λ verdicts. IsPlayed (record { inputs = script.now.inputs.items; schedule = script.now.schedule.items }) verdicts.items) }
+{
+    verdicts::<TwoCollect>(alloc, &script.inputs, &script.schedule)
+}
 
 /// What is written for an input: verdicts, or the first refusal.
 pub fn answer_to(alloc: Global, input: &[u8]) -> Result<Answer, NoMemory>
@@ -18,7 +27,7 @@ pub fn answer_to(alloc: Global, input: &[u8]) -> Result<Answer, NoMemory>
 {
     match read_script(alloc, input) {
         Ok(script) => {
-            let verdicts = verdicts::<TwoCollect>(alloc, &script.inputs, &script.schedule)?;
+            let verdicts = play(alloc, &script)?;
             Ok(Answer {
                 outcome: Outcome::Done,
                 text: verdict_text(alloc, &verdicts)?,
