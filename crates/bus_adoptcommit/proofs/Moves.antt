@@ -19,7 +19,7 @@ pub record Turn {S : Type 0} (op : S → ℕ → Option Op) (fed : S → ℕ →
   pub own : (s : S) → old p ≡ Some s → ((op s 0 ≡ None) × (new p ≡ Some s)) ⊎ ((o : Op) × (got : ℕ) × (op s 0 ≡ Some o) × (new p ≡ Some (fed s got 0)))
 
 -- moments with the same words and local states
-pub same_moment : {S : Type 0} (x y : Moment S) → ((r : ℕ) → x.words r ≡ y.words r) → ((p : ℕ) → x.locals p ≡ y.locals p) → x ≡ y
+same_moment : {S : Type 0} (x y : Moment S) → ((r : ℕ) → x.words r ≡ y.words r) → ((p : ℕ) → x.locals p ≡ y.locals p) → x ≡ y
 same_moment {S} x y words locals =
     let first : x ≡ (let m : Moment S = record { words = y.words; locals = x.locals } in m) = ap (λ w. let m : Moment S = record { words = w; locals = x.locals } in m) (fun_ext words) in
     first ∙ ap (λ l. let m : Moment S = record { words = y.words; locals = l } in m) (fun_ext locals)
@@ -78,7 +78,7 @@ module _ {S : Type 0} (op : S → ℕ → Option Op) (fed : S → ℕ → ℕ �
         | inr o ↦ step_is p h.from o.0 old new (h.moves o.0 o.1) ∙ sym (is ∙ ap (λ z. stepped p h.from z old) o.1)
       ]
 
-  pub plays_is : (old new : Moment S) (schedule : List ℕ) → Plays op fed old schedule new → new ≡ played old schedule
+  plays_is : (old new : Moment S) (schedule : List ℕ) → Plays op fed old schedule new → new ≡ played old schedule
   plays_is old new [] h = h
   plays_is old new (p ∷ schedule) h = plays_is h.0 new schedule h.2 ∙ ap (λ z. played z schedule) (move_is p old h.0 h.1)
 

@@ -13,7 +13,7 @@ use Rattle.bus_ratify.specs.Scripts.{RatifyScript}
 use Rattle.bus_ratify.specs.Text.{verdict_text, refusal_text}
 
 -- a schedule has one play of two collects
-abbrev pub OnePlay : Type 0
+abbrev OnePlay : Type 0
 OnePlay = (given : List Bool) (schedule : List ℕ) (outs others : List (Option Verdict)) → IsPlay (λ s word. op_of s) (λ s got word. fed_of s got) two_collect given schedule outs
     → IsPlay (λ s word. op_of s) (λ s got word. fed_of s got) two_collect given schedule others → outs ≡ others
 
