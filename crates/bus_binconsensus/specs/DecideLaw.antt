@@ -1,11 +1,11 @@
 -- What holds of a binary decision, in one record.
-use Rattle.std.specs.Prelude.{◌≡◌, ℕ, ◌+◌, ◌*◌, ◌-◌, ◌≤◌, Bool, false, Option, Some}
+use Rattle.std.specs.Prelude.{◌≡◌, ℕ, ◌+◌, ◌*◌, ◌-◌, ◌≤◌, Bool, Option, Some, None}
 use Rattle.bus_register.specs.declared.registers.Op.{Op}
 use Rattle.bus_register.specs.Protocol.{Protocol, Laws}
 use Rattle.bus_adoptcommit.specs.declared.verdicts.Verdict.{Verdict}
 use Rattle.bus_binconsensus.specs.declared.objects.Object.{Object}
 use Rattle.bus_binconsensus.specs.Deciding.{Decides}
-use Rattle.bus_binconsensus.specs.Chain.{Walk}
+use Rattle.bus_binconsensus.specs.Chain.{Walk, span}
 use Rattle.bus_binconsensus.specs.Objects.{part_at, first_of, objects_of, object_calls, Decider, decide_op, decide_fed, decide_protocol}
 use Rattle.bus_binconsensus.specs.Objects.Part.{Ratifier, Conciliator, FallbackWord}
 
@@ -18,18 +18,23 @@ pub record Rounds : Type 0 where
 
 -- each process went through the objects in turn: its own input came to the first, and each further one was given what the one
 -- before adopted
-pub record InTurn {S T : Type 0} (P : Protocol S Bool Verdict) (C : Protocol T Bool Bool) (rounds n at : ℕ) (locals : ℕ → Option (Decider S T)) : Type 0 where
+pub record InTurn {S T : Type 0} (P : Protocol S Bool Verdict) (C : Protocol T Bool Bool) (rounds n at : ℕ) (words : ℕ → ℕ) (locals : ℕ → Option (Decider S T)) : Type 0 where
+  -- of each object, the last local states that processes had there
   pub visits : ℕ → ℕ → Option (Object S T)
+  -- they are those that the object keeps with its own words: its words and those of the objects after it end where the decision ends
+  pub kept : (k place : ℕ) → k ≤ first_of rounds → place + span (objects_of P C) n k ≡ at + span (objects_of P C) n (first_of rounds) → (objects_of P C k).Keeps n place words (visits k)
   pub walks : (p : ℕ) (d : Decider S T) → locals p ≡ Some d → Walk (objects_of P C) (first_of rounds) n at visits p d
+  -- who has not entered the decision was in no object
+  pub absent : (p k : ℕ) → locals p ≡ None → visits k p ≡ None
 
 pub record DecideLaw {S T : Type 0} (op : S → ℕ → Option Op) (fed : S → ℕ → ℕ → S) (P : Protocol S Bool Verdict) (opC : T → ℕ → Option Op) (fedC : T → ℕ → ℕ → T) (C : Protocol T Bool Bool) : Type 0 where
   -- decisions agree, and are inputs of processes that have begun
   pub laws : (rounds : ℕ) → Laws (decide_op op opC) (decide_fed P C fed fedC) (decide_protocol P C rounds) Decides
   -- each round from the second on runs its conciliator and then its ratifier, and each object is given what the one before adopted
   pub rounds : Rounds
-  pub in_turn : (rounds n at : ℕ) (words : ℕ → ℕ) (locals : ℕ → Option (Decider S T)) → (decide_protocol P C rounds).Keeps n at words locals → InTurn P C rounds n at locals
+  pub in_turn : (rounds n at : ℕ) (words : ℕ → ℕ) (locals : ℕ → Option (Decider S T)) → (decide_protocol P C rounds).Keeps n at words locals → InTurn P C rounds n at words locals
   -- the steps to a decision, at most
   pub steps : (rounds n : ℕ) → (decide_protocol P C rounds).steps n ≡ rounds * P.steps n + (rounds - 1) * (2 + 64 * (n + 1)) + 1
   pub quick : (rounds n : ℕ) → (decide_protocol P C rounds).steps n ≤ rounds * (2 * n + 2) + (rounds - 1) * (2 + 64 * (n + 1)) + 1
-  -- a random word is asked for only in a conciliator, where ratifiers ask for none
-  pub asks : ((s : S) → P.wants_word s ≡ false) → (rounds : ℕ) (d : Decider S T) → (decide_protocol P C rounds).wants_word d ≡ object_calls C d.object
+  -- a random word is asked for only in a conciliator
+  pub asks : (rounds : ℕ) (d : Decider S T) → (decide_protocol P C rounds).wants_word d ≡ object_calls C d.object

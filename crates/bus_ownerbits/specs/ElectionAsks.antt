@@ -1,4 +1,4 @@
--- Where an election asks for a random word: in a conciliator alone, where ratifiers ask for none.
+-- Where an election asks for a random word: in a conciliator alone.
 use Rattle.std.specs.Prelude.{◌≡◌, ℕ, Bool, false, refl}
 use Rattle.bus_register.specs.Protocol.{Protocol}
 use Rattle.bus_adoptcommit.specs.declared.verdicts.Verdict.{Verdict}
@@ -12,9 +12,9 @@ use Rattle.bus_ownerbits.specs.Election.{Electing}
 use Rattle.bus_ownerbits.specs.ElectionKeeps.{election_protocol, wants_at}
 use Rattle.bus_ownerbits.specs.ElectionNames.{calls_at, calls_of}
 
--- where ratifiers ask for no random word, an election asks where its machine says so
+-- an election asks where its machine says so
 abbrev pub AsksAsTold : {S T : Type 0} → Protocol S Bool Verdict → Protocol T Bool Bool → Type 0
-AsksAsTold {S = S} {T = T} P C = ((q : S) → P.wants_word q ≡ false) → (rounds : ℕ) (s : Electing (Decider S T)) → (election_protocol (decide_protocol P C) decision_cost rounds).wants_word s ≡ calls_of C s
+AsksAsTold {S = S} {T = T} P C = (rounds : ℕ) (s : Electing (Decider S T)) → (election_protocol (decide_protocol P C) decision_cost rounds).wants_word s ≡ calls_of C s
 
 object_asks : {S T : Type 0} (P : Protocol S Bool Verdict) (C : Protocol T Bool Bool) → ((q : S) → P.wants_word q ≡ false) → (x : Object S T) → object_wants P C x ≡ object_calls C x
 object_asks P C never (Ratify q) = never q
@@ -27,5 +27,5 @@ stage_asks P C never (Propose d) s = object_asks P C never d.object
 stage_asks P C never (Search i) s = refl
 stage_asks P C never Alone s = refl
 
-pub asks_as_told : {S T : Type 0} (P : Protocol S Bool Verdict) (C : Protocol T Bool Bool) → AsksAsTold P C
+pub asks_as_told : {S T : Type 0} (P : Protocol S Bool Verdict) (C : Protocol T Bool Bool) → ((q : S) → P.wants_word q ≡ false) → AsksAsTold P C
 asks_as_told P C never rounds s = stage_asks P C never s.stage s

@@ -17,7 +17,7 @@ pub returns-clause-lawful : goal.returns-clause-lawful
 returns-clause-lawful g c =
     let P = g.Q.Ratifier.protocol in
     let law : DecideLaw g.Q.Machine.op g.Q.Machine.fed P conciliator_op conciliator_fed conciliator_protocol =
-    decide_law g.Q.Machine.op g.Q.Machine.fed P g.met.Q.Ratifier.laws g.met.Q.Ratifier.quick conciliator_op conciliator_fed conciliator_protocol Conciles conciliator_laws (λ ins outs o. o.valid) (λ n. refl) in
+    decide_law g.Q.Machine.op g.Q.Machine.fed P g.met.Q.Ratifier.laws g.met.Q.Ratifier.quick g.met.Q.Ratifier.wordless conciliator_op conciliator_fed conciliator_protocol Conciles conciliator_laws (λ ins outs o. o.valid) (λ n. refl) in
     let op = decide_op g.Q.Machine.op conciliator_op in
     let fed = decide_fed P conciliator_protocol g.Q.Machine.fed conciliator_fed in
     let D = decide_protocol P conciliator_protocol in
@@ -32,4 +32,4 @@ returns-clause-lawful g c =
     }
 
 pub returns-clause-asks : goal.returns-clause-asks
-returns-clause-asks g c = asks_as_told g.Q.Ratifier.protocol conciliator_protocol
+returns-clause-asks g c = asks_as_told g.Q.Ratifier.protocol conciliator_protocol g.met.Q.Ratifier.wordless
