@@ -14,3 +14,4 @@ pub mod ObjectNames
 pub mod DecideLaw
 pub mod RoundLaws
 pub mod DecideLaws
+pub mod DecideRefuses

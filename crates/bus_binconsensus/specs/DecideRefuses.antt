@@ -1,0 +1,48 @@
+-- Ways through a binary decision that its rounds do not allow, for two rounds: 3 is the first ratifier, 2 the conciliator, 1 the
+-- second ratifier, and 0 the fallback word.
+use Rattle.std.specs.Prelude.{◌≡◌, ◌≢◌, ℕ, Bool, Option, Some, None}
+use Rattle.std.proofs.Common.{arith, sym, ◌∙◌, ap}
+use Rattle.std.proofs.lemmas.Option.{same_Some}
+use Rattle.bus_register.specs.Protocol.{Protocol}
+use Rattle.bus_adoptcommit.specs.declared.verdicts.Verdict.{Verdict}
+use Rattle.bus_adoptcommit.specs.declared.verdicts.Verdict.TheVariants.{Commit, Adopt}
+use Rattle.bus_binconsensus.specs.declared.objects.Object.{Object}
+use Rattle.bus_binconsensus.specs.Chain.{Walk}
+use Rattle.bus_binconsensus.specs.Objects.{first_of, objects_of, object_output, object_input, Decider}
+
+-- no process goes so through a decision of two rounds
+pub record RefusesShortcuts {S T : Type 0} (P : Protocol S Bool Verdict) (C : Protocol T Bool Bool) : Type 0 where
+  -- it stands at the fallback word, and was not in the second ratifier
+  pub early_fallback : (n at p : ℕ) (visits : ℕ → ℕ → Option (Object S T)) (d : Decider S T)
+      → d.after ≡ 0 → visits 1 p ≡ None → ¬ Walk (objects_of P C) (first_of 2) n at visits p d
+  -- it stands in the second ratifier, and was not in the conciliator
+  pub no_conciliator : (n at p : ℕ) (visits : ℕ → ℕ → Option (Object S T)) (d : Decider S T)
+      → d.after ≡ 1 → visits 2 p ≡ None → ¬ Walk (objects_of P C) (first_of 2) n at visits p d
+  -- it stands in the conciliator, and the first ratifier gave it a commit
+  pub past_a_commit : (n at p : ℕ) (visits : ℕ → ℕ → Option (Object S T)) (d : Decider S T) (x : Object S T) (v : Bool)
+      → d.after ≡ 2 → visits 3 p ≡ Some x → object_output P C x ≡ Some (Commit v) → ¬ Walk (objects_of P C) (first_of 2) n at visits p d
+  -- it stands in the conciliator with a value that the first ratifier did not give it
+  pub other_value : (n at p : ℕ) (visits : ℕ → ℕ → Option (Object S T)) (d : Decider S T) (x : Object S T) (v : Bool)
+      → d.after ≡ 2 → visits 3 p ≡ Some x → object_output P C x ≡ Some (Adopt v) → object_input P C d.object ≢ v → ¬ Walk (objects_of P C) (first_of 2) n at visits p d
+  -- it stands in the first ratifier with a value that is not its own input
+  pub other_input : (n at p : ℕ) (visits : ℕ → ℕ → Option (Object S T)) (d : Decider S T)
+      → d.after ≡ 3 → object_input P C d.object ≢ d.input → ¬ Walk (objects_of P C) (first_of 2) n at visits p d
+
+module _ {S T : Type 0} (P : Protocol S Bool Verdict) (C : Protocol T Bool Bool) where
+  pub refuses_shortcuts : RefusesShortcuts P C
+  refuses_shortcuts = record {
+    early_fallback = λ n at p visits d last none w. let a = w.passed 1 (omega arith) (omega arith) in let e = sym none ∙ a.before_is in absurd cc;
+    no_conciliator = λ n at p visits d here none w. let a = w.passed 2 (omega arith) (omega arith) in let e = sym none ∙ a.before_is in absurd cc;
+    past_a_commit = λ n at p visits d x v here was committed w.
+        let a = w.passed 3 (omega arith) (omega arith) in
+        let same : a.before ≡ x = same_Some _ _ (sym a.before_is ∙ was) in
+        let e = sym a.handed ∙ ap (object_output P C) same ∙ committed in
+        absurd cc;
+    other_value = λ n at p visits d x v here was adopted other w.
+        let a = w.passed 3 (omega arith) (omega arith) in
+        let same : a.before ≡ x = same_Some _ _ (sym a.before_is ∙ was) in
+        let next : a.next ≡ d.object = same_Some _ _ (sym a.next_is ∙ ap (λ z. visits z p) (sym here) ∙ w.here) in
+        let e : Some (Adopt (object_input P C a.next)) ≡ Some (Adopt v) = sym a.handed ∙ ap (object_output P C) same ∙ adopted in
+        other (ap (object_input P C) (sym next) ∙ (let f : object_input P C a.next ≡ v = cc in f));
+    other_input = λ n at p visits d here other w. other (w.first d.object (ap (λ z. visits z p) (sym here) ∙ w.here));
+  }
