@@ -3,10 +3,12 @@ use Rattle.std.specs.Prelude.{◌≡◌, ℕ, ◌+◌, ◌*◌, ◌-◌, ◌≤�
 use Rattle.bus_register.specs.declared.registers.Op.{Op}
 use Rattle.bus_register.specs.Protocol.{Protocol, Laws}
 use Rattle.bus_adoptcommit.specs.declared.verdicts.Verdict.{Verdict}
+use Rattle.bus_binconsensus.specs.declared.fallbacks.Fallback.{Fallback}
 use Rattle.bus_binconsensus.specs.declared.objects.Object.{Object}
+use Rattle.bus_binconsensus.specs.declared.objects.Object.TheVariants.{Fall}
 use Rattle.bus_binconsensus.specs.Deciding.{Decides}
 use Rattle.bus_binconsensus.specs.Chain.{Walk, span}
-use Rattle.bus_binconsensus.specs.Objects.{part_at, first_of, objects_of, object_calls, Decider, decide_op, decide_fed, decide_protocol}
+use Rattle.bus_binconsensus.specs.Objects.{part_at, part_of, first_of, objects_of, object_calls, Decider, decide_op, decide_fed, decide_protocol}
 use Rattle.bus_binconsensus.specs.Objects.Part.{Ratifier, Conciliator, FallbackWord}
 
 -- which objects the rounds have: after each conciliator comes a ratifier, and after the last ratifier the fallback word
@@ -33,6 +35,9 @@ pub record DecideLaw {S T : Type 0} (op : S → ℕ → Option Op) (fed : S → 
   -- each round from the second on runs its conciliator and then its ratifier, and each object is given what the one before adopted
   pub rounds : Rounds
   pub in_turn : (rounds n at : ℕ) (words : ℕ → ℕ) (locals : ℕ → Option (Decider S T)) → (decide_protocol P C rounds).Keeps n at words locals → InTurn P C rounds n at words locals
+  -- a process stands in the object of its number, and so at the fallback word only past all others
+  pub in_its_part : (rounds n me at : ℕ) (d : Decider S T) → (decide_protocol P C rounds).Belongs n me at d → part_of d.object ≡ part_at d.after
+  pub falls_last : (rounds n me at : ℕ) (d : Decider S T) (f : Fallback) → (decide_protocol P C rounds).Belongs n me at d → d.object ≡ Fall f → d.after ≡ 0
   -- the steps to a decision, at most
   pub steps : (rounds n : ℕ) → (decide_protocol P C rounds).steps n ≡ rounds * P.steps n + (rounds - 1) * (2 + 64 * (n + 1)) + 1
   pub quick : (rounds n : ℕ) → (decide_protocol P C rounds).steps n ≤ rounds * (2 * n + 2) + (rounds - 1) * (2 + 64 * (n + 1)) + 1

@@ -10,6 +10,7 @@ use Rattle.bus_binconsensus.specs.declared.objects.Object.TheVariants.{Ratify, C
 use Rattle.bus_binconsensus.specs.Deciding.{IsChosen}
 use Rattle.bus_binconsensus.specs.DecideLaw.{DecideLaw}
 use Rattle.bus_binconsensus.specs.ObjectLaws.{decide_laws}
+use Rattle.bus_binconsensus.specs.ObjectPlaces.{in_its_part, falls_last}
 use Rattle.bus_binconsensus.specs.Objects.{object_wants, object_calls}
 use Rattle.bus_binconsensus.specs.RoundLaws.{the_rounds, steps_of_rounds}
 
@@ -26,6 +27,8 @@ module _ {S T : Type 0} (op : S → ℕ → Option Op) (fed : S → ℕ → ℕ 
     laws = decide_laws op fed P laws opC fedC C OutC lawsC chosen;
     rounds = the_rounds;
     in_turn = λ rounds n at words locals k. record { visits = k.visits; kept = k.kept; walks = k.walks; absent = k.absent };
+    in_its_part = in_its_part P C;
+    falls_last = falls_last P C;
     steps = λ rounds n. steps_of_rounds P C n rounds ∙ ap (λ z. rounds * P.steps n + (rounds - 1) * z + 1) (quickC n);
     quick = λ rounds n.
         let a = steps_of_rounds P C n rounds ∙ ap (λ z. rounds * P.steps n + (rounds - 1) * z + 1) (quickC n) in

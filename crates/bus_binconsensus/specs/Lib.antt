@@ -11,6 +11,7 @@ pub mod LiftLaws
 pub mod Objects
 pub mod ObjectLaws
 pub mod ObjectNames
+pub mod ObjectPlaces
 pub mod DecideLaw
 pub mod RoundLaws
 pub mod DecideLaws

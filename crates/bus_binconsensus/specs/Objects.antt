@@ -22,6 +22,12 @@ pub data Part : Type 0 where
 abbrev pub part_at : ℕ → Part
 part_at k = if k == 0 then FallbackWord else (if k % 2 == 1 then Ratifier else Conciliator)
 
+-- which of the three this object is
+abbrev pub part_of : {S T : Type 0} → Object S T → Part
+part_of (Ratify q) = Ratifier
+part_of (Concile c) = Conciliator
+part_of (Fall f) = FallbackWord
+
 -- the number of the first of these rounds
 abbrev pub first_of : ℕ → ℕ
 first_of rounds = 2 * rounds - 1

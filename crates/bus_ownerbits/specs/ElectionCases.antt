@@ -1,5 +1,5 @@
 -- The branches of an election's steps, each with what it knows.
-use Rattle.std.proofs.Common.{◌≡◌, ◌≢◌, ℕ, ◌+◌, ◌*◌, ◌/◌, ◌<◌, ◌≤◌, ◌^◌, nat_lt, Bool, cond, Option, Some, None, inl, inr, ◌⊎◌, refl, sym, subst}
+use Rattle.std.proofs.Common.{◌≡◌, ◌≢◌, ℕ, ◌+◌, ◌*◌, ◌/◌, ◌<◌, ◌≤◌, ◌^◌, nat_lt, Bool, false, cond, Option, Some, None, inl, inr, ◌⊎◌, refl, sym, subst}
 use Rattle.std.proofs.lemmas.Bool.Decides.{eqb_tells}
 use Rattle.bus_ownerbits.specs.declared.stages.Stage.TheVariants.{Search, Alone}
 use Rattle.bus_ownerbits.specs.Election.{Decisions, Electing, proposing, going, fits_bits, seeking, with_bit, decided_by, searched}
@@ -12,13 +12,13 @@ module _ {S : Type 0} (D : Decisions S) (P : Electing S → Type 0) where
     | inr h ↦ subst (λ z. P (cond z (record s { stage = Alone }) (proposing D s))) (sym h.0) (some h.1)
   ]
 
-  pub seeking_case : (s : Electing S) → (s.candidate / 2 ^ s.left ≡ s.spelled → P (going D s)) → (s.spelled * 2 ^ s.left < s.n → P (record s { stage = Search (s.spelled * 2 ^ s.left) })) → (s.n ≤ s.spelled * 2 ^ s.left → P (going D s)) → P (seeking D s)
+  pub seeking_case : (s : Electing S) → (s.candidate / 2 ^ s.left ≡ s.spelled → P (going D s)) → (fits_bits s s.candidate ≡ false → s.spelled * 2 ^ s.left < s.n → P (record s { stage = Search (s.spelled * 2 ^ s.left) })) → (s.n ≤ s.spelled * 2 ^ s.left → P (going D s)) → P (seeking D s)
   seeking_case s fits searches over =
       let low : ℕ = s.spelled * 2 ^ s.left in
       elim (eqb_tells (s.candidate / 2 ^ s.left) s.spelled) [
         | inl h ↦ subst (λ z. P (cond z (going D s) (cond (nat_lt low s.n) (record s { stage = Search low }) (going D s)))) (sym h.0) (fits h.1)
         | inr h ↦ subst (λ z. P (cond z (going D s) (cond (nat_lt low s.n) (record s { stage = Search low }) (going D s)))) (sym h.0) (elim (tested low s.n) [
-          | inl t ↦ subst (λ z. P (cond z (record s { stage = Search low }) (going D s))) (sym t.0) (searches t.1)
+          | inl t ↦ subst (λ z. P (cond z (record s { stage = Search low }) (going D s))) (sym t.0) (searches h.0 t.1)
           | inr t ↦ subst (λ z. P (cond z (record s { stage = Search low }) (going D s))) (sym t.0) (over t.1)
         ])
       ]

@@ -5,7 +5,7 @@ use Rattle.bus_register.specs.Protocol.{Protocol}
 use Rattle.bus_ownerbits.specs.declared.stages.Stage.{Stage}
 use Rattle.bus_ownerbits.specs.declared.stages.Stage.TheVariants.{Announce, Propose, Search, Alone}
 use Rattle.bus_ownerbits.specs.Sizes.{bits_of, digit, bit_at}
-use Rattle.bus_ownerbits.specs.Election.{Decisions, Electing, owner_of}
+use Rattle.bus_ownerbits.specs.Election.{Decisions, Electing, fits_bits, owner_of}
 
 -- all owners are equal, and the owner is a process that has announced itself
 pub record OneOwner (announced : ℕ → Option (Unit {0})) (owners : ℕ → Option ℕ) : Type 0 where
@@ -23,11 +23,13 @@ work_at D cost (Propose d) s = (D s.rounds).left d + s.n + (s.left - 1) * each_b
 work_at D cost (Search i) s = (s.n - i) + s.left * each_bit cost s.rounds s.n
 work_at D cost Alone s = 0
 
+-- only after the last bit a decision's output stands; a process searches after a bit, not the last, that does not fit its
+-- candidate; where there is no bit it is alone
 abbrev pub StageBelongs : {S : Type 0} → Decisions S → ℕ → ℕ → ℕ → ℕ → Stage S → Electing S → Type 0
 StageBelongs D rounds n me at Announce s = Unit {0}
-StageBelongs D rounds n me at (Propose d) s = (1 ≤ s.left) × (D rounds).Belongs n me (at + n + (s.left - 1) * (D rounds).width n) d
-StageBelongs D rounds n me at (Search i) s = i < n
-StageBelongs D rounds n me at Alone s = Unit {0}
+StageBelongs D rounds n me at (Propose d) s = (1 ≤ s.left) × (D rounds).Belongs n me (at + n + (s.left - 1) * (D rounds).width n) d × ((bit : Bool) → (D rounds).output d ≡ Some bit → s.left ≡ 1)
+StageBelongs D rounds n me at (Search i) s = (i < n) × (fits_bits s s.candidate ≡ false) × (1 ≤ s.left) × (s.left < bits_of n)
+StageBelongs D rounds n me at Alone s = s.left ≡ 0
 
 -- s is a local state of process me of n, over words from at on
 pub record ElectionBelongs {S : Type 0} (D : Decisions S) (cost : ℕ → ℕ → ℕ) (rounds n me at : ℕ) (s : Electing S) : Type 0 where

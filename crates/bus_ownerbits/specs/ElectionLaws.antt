@@ -11,8 +11,8 @@ use Rattle.bus_binconsensus.specs.Deciding.{Decides}
 use Rattle.bus_ownerbits.specs.declared.stages.Stage.{Stage}
 use Rattle.bus_ownerbits.specs.declared.stages.Stage.TheVariants.{Announce, Propose, Search, Alone}
 use Rattle.bus_ownerbits.specs.Sizes.{bits_of, digit}
-use Rattle.bus_ownerbits.specs.Election.{Decisions, Electing, decided_by, fed_at, election_op, election_fed, op_at, bit_told, owner_at, owner_of}
-use Rattle.bus_ownerbits.specs.ElectionKeeps.{OneOwner, Spelled, Standing, StageStands, ElectionKeeps, announcement, begun_at, wants_at, spelled_of, StageBelongs, election_started, election_protocol}
+use Rattle.bus_ownerbits.specs.Election.{Decisions, Electing, fits_bits, decided_by, fed_at, election_op, election_fed, op_at, bit_told, owner_at, owner_of}
+use Rattle.bus_ownerbits.specs.ElectionKeeps.{OneOwner, Spelled, Standing, StageStands, ElectionKeeps, announcement, begun_at, wants_at, spelled_of, StageBelongs, ElectionBelongs, election_started, election_protocol}
 use Rattle.bus_ownerbits.specs.ElectionGrows.{Grows, proposed_stays, standing_stays}
 use Rattle.bus_ownerbits.specs.ElectionMoves.{Board, one_number, fitted, spelled_more, election_moves}
 use Rattle.bus_ownerbits.specs.ElectionSteps.{row_within, election_goes}
@@ -21,6 +21,25 @@ use Rattle.bus_ownerbits.specs.NumberLaws.{all_bits, bits_enough}
 bit_told_is : (o : Option Bool) (spelled v : ℕ) → bit_told o spelled ≡ Some v → (bit : Bool) × (o ≡ Some bit) × (v ≡ 2 * spelled + digit bit)
 bit_told_is None spelled v e = absurd cc
 bit_told_is (Some bit) spelled v e = (bit, refl, sym (same_Some _ _ e))
+
+-- an owner stands only at the last bit, or where there is none
+last_at : {S : Type 0} (D : Decisions S) (rounds n me at v : ℕ) (s : Electing S) → s.rounds ≡ rounds → (stage : Stage S) → StageBelongs D rounds n me at stage s → owner_at D stage s ≡ Some v → s.left ≤ 1
+last_at D rounds n me at v s r Announce b e = absurd cc
+last_at D rounds n me at v s r (Propose d) b e =
+    let told = bit_told_is ((D s.rounds).output d) s.spelled v e in
+    let last = b.2 told.0 (ap (λ z. (D z).output d) (sym r) ∙ told.1) in
+    omega arith
+last_at D rounds n me at v s r (Search i) b e = absurd cc
+last_at D rounds n me at v s r Alone b e = let none : s.left ≡ 0 = b in omega arith
+
+pub last_bit : {S : Type 0} (D : Decisions S) (cost : ℕ → ℕ → ℕ) (rounds n me at v : ℕ) (s : Electing S) → ElectionBelongs D cost rounds n me at s → owner_of D s ≡ Some v → s.left ≤ 1
+last_bit D cost rounds n me at v s b e = last_at D rounds n me at v s b.rounds_is s.stage b.stage e
+
+-- a process searches only after a bit, not the last, that does not fit its candidate
+pub searches : {S : Type 0} (D : Decisions S) (cost : ℕ → ℕ → ℕ) (rounds n me at i : ℕ) (s : Electing S) → ElectionBelongs D cost rounds n me at s → s.stage ≡ Search i → (fits_bits s s.candidate ≡ false) × (1 ≤ s.left) × (s.left < bits_of n)
+searches D cost rounds n me at i s b e =
+    let own : StageBelongs D rounds n me at (Search i) s = subst (λ z. StageBelongs D rounds n me at z s) e b.stage in
+    (own.1, own.2, own.3)
 
 bit_told_some : (o : Option Bool) (spelled : ℕ) → IsSome o → IsSome (bit_told o spelled)
 bit_told_some None spelled s = absurd cc
@@ -118,7 +137,7 @@ module _ {S : Type 0} (op : S → ℕ → Option Op) (fed : S → ℕ → ℕ �
   fits_at n at words locals p s word o k here (Propose d) e q =
       let w = k.stands p s here in
       let st = subst (λ z. StageStands (D rounds) k.visits n at words p z s) e w.stage in
-      let b : (1 ≤ s.left) × (D rounds).Belongs n p (at + n + (s.left - 1) * (D rounds).width n) d = subst (λ z. StageBelongs D rounds n p at z s) e w.belongs.stage in
+      let b : StageBelongs D rounds n p at (Propose d) s = subst (λ z. StageBelongs D rounds n p at z s) e w.belongs.stage in
       (laws rounds).fits n (at + n + (s.left - 1) * (D rounds).width n) words (k.visits (s.left - 1)) p d word o (k.kept (s.left - 1) (let x = w.belongs.within in let y = b.0 in omega arith)) st.0 q
   fits_at n at words locals p s word o k here (Search i) e q = subst (λ z. SumFits z (words (register o))) (same_Some _ _ q) tt
   fits_at n at words locals p s word o k here Alone e q = absurd cc

@@ -16,7 +16,7 @@ use Rattle.bus_ownerbits.specs.declared.stages.Stage.TheVariants.{Announce, Prop
 use Rattle.bus_ownerbits.specs.Sizes.{bits_of, digit, bit_at}
 use Rattle.bus_ownerbits.specs.Election.{Decisions, Electing, place, proposing, going, seeking, with_bit, decided_by, searched, fed_at, election_fed, op_at, election_op}
 use Rattle.bus_ownerbits.specs.ElectionCases.{going_case, seeking_case, decided_case, searched_case}
-use Rattle.bus_ownerbits.specs.ElectionKeeps.{Fitting, Proposed, Saw, Spelled, Standing, StageStands, ElectionKeeps, announcement, begun_at, spelled_of}
+use Rattle.bus_ownerbits.specs.ElectionKeeps.{Fitting, Proposed, Saw, Spelled, Standing, StageStands, ElectionKeeps, StageBelongs, announcement, begun_at, spelled_of}
 use Rattle.bus_ownerbits.specs.ElectionGrows.{Grows, grows_on, seen_is, spelled_agree, spelled_stays, fitting_stays, proposed_stays, standing_stays}
 use Rattle.bus_ownerbits.specs.ElectionSteps.{Ready, entered_is, proposing_belongs, searching_belongs, row_within, ready, enough_is, stage_is, propose_stays, propose_ready, search_ready, search_takes, going_begun, fed_begun}
 use Rattle.bus_ownerbits.specs.NumberLaws.{next_bit, none_above, bits_enough, between, at_least}
@@ -149,7 +149,7 @@ module _ {S : Type 0} (op : S → ℕ → Option Op) (fed : S → ℕ → ℕ �
         grows = nothing_grows words visits;
         others = λ k q ne. refl;
         standing = record {
-          belongs = let r = a.ready in record { n_is = r.n_is; me_is = r.me_is; rounds_is = r.rounds_is; at_is = r.at_is; below = r.below; few = r.few; within = r.within; stage = tt; enough = let e = r.enough in omega arith };
+          belongs = let r = a.ready in record { n_is = r.n_is; me_is = r.me_is; rounds_is = r.rounds_is; at_is = r.at_is; below = r.below; few = r.few; within = r.within; stage = none; enough = let e = r.enough in omega arith };
           spelled = a.spelled;
           stage = (none, a.lone none);
         };
@@ -197,9 +197,9 @@ module _ {S : Type 0} (op : S → ℕ → Option Op) (fed : S → ℕ → ℕ �
         }
 
     -- a process that has seen a bit goes on or searches
-    seeking_went : (p : ℕ) (s : Electing S) → Ready op fed D cost laws cheap rounds n p at n s → 1 ≤ s.left → Spelled (D rounds) visits (bits_of n) p s.left s.spelled → ((k : ℕ) → k < s.left → visits k p ≡ None)
+    seeking_went : (p : ℕ) (s : Electing S) → Ready op fed D cost laws cheap rounds n p at n s → 1 ≤ s.left → s.left < bits_of n → Spelled (D rounds) visits (bits_of n) p s.left s.spelled → ((k : ℕ) → k < s.left → visits k p ≡ None)
         → s.candidate < n → words (at + s.candidate) ≡ 1 → (c : ℕ) → Fitting n at words s.left s.spelled c → Went words visits p (seeking D s)
-    seeking_went p s r some spelled ahead below announced c f =
+    seeking_went p s r some less spelled ahead below announced c f =
         let low_is = at_least s.spelled s.left c f.fits in
         seeking_case D (Went words visits p) s
         (λ fits. going_went words visits board p s record {
@@ -209,13 +209,13 @@ module _ {S : Type 0} (op : S → ℕ → Option Op) (fed : S → ℕ → ℕ �
           ahead = ahead;
           fitting = record { below = below; announced = announced; fits = fits };
         })
-        (λ low. record {
+        (λ unfit low. record {
           later = visits;
           board = board;
           grows = nothing_grows words visits;
           others = λ k q ne. refl;
           standing = record {
-            belongs = searching_belongs op fed D cost laws cheap rounds n p at n s r (s.spelled * 2 ^ s.left) (let x = r.n_is in omega arith) (omega arith);
+            belongs = searching_belongs op fed D cost laws cheap rounds n p at n s r (s.spelled * 2 ^ s.left) (let x = r.n_is in omega arith) (omega arith) unfit some less;
             spelled = spelled;
             stage = ((c, low_is, f), omega arith, some, ahead);
           };
@@ -307,7 +307,7 @@ module _ {S : Type 0} (op : S → ℕ → Option Op) (fed : S → ℕ → ℕ �
       st : StageStands (D rounds) k.visits n at words p (Propose d) s
       st = stage_stands (Propose d) e
 
-      own : (1 ≤ s.left) × (D rounds).Belongs n p (row k0) d
+      own : StageBelongs D rounds n p at (Propose d) s
       own = stage_is op fed D cost laws cheap rounds n p at s stand.belongs (Propose d) e
 
       g : Goes (D rounds) n p (row k0) o d d'
@@ -389,7 +389,7 @@ module _ {S : Type 0} (op : S → ℕ → Option Op) (fed : S → ℕ → ℕ �
         grows = nothing_grows words' visits1;
         others = λ j q ne. refl;
         standing = record {
-          belongs = propose_stays op fed D cost laws cheap rounds n p at s stand.belongs d (words (register o)) word o e next;
+          belongs = propose_stays op fed D cost laws cheap rounds n p at s stand.belongs d (words (register o)) word o e next last;
           spelled = spelled1;
           stage = (put_at_here k0 p _ k.visits, ahead1, last, fitting1);
         };
@@ -406,6 +406,7 @@ module _ {S : Type 0} (op : S → ℕ → Option Op) (fed : S → ℕ → ℕ �
           seeking_went words' visits1 board1 p (with_bit (record tick { stage = Propose d' }) bit)
           (propose_ready op fed D cost laws cheap rounds n p at s stand.belongs d (words (register o)) word o e next bit)
           (omega arith)
+          k0_within
           (spelled_more words' visits1 board1 p k0 s.spelled bit d' k0_within below (put_at_here k0 p _ k.visits) told)
           ahead1 fitting1.below fitting1.announced c.0 c.1)
 
@@ -423,7 +424,8 @@ module _ {S : Type 0} (op : S → ℕ → Option Op) (fed : S → ℕ → ℕ �
         let is : Load record { 0 = s.at + i } ≡ o = same_Some _ _ next in
         let at' = b.at_is in
         let n' = b.n_is in
-        let within : i < n = stage_is op fed D cost laws cheap rounds n p at s b (Search i) e in
+        let own = stage_is op fed D cost laws cheap rounds n p at s b (Search i) e in
+        let within : i < n = own.0 in
         let place : register o ≡ at + i = sym (ap register is) ∙ (let h : s.at + i ≡ at + i = omega arith in h) in
         let same : (r : ℕ) → at ≤ r → r < at + (n + bits_of n * (D rounds).width n) → words' r ≡ words r = λ r l u. elim (cases_eq r (register o)) [
           | inl j ↦ ap words' j ∙ step.here ∙ ap (λ z. after z (words (register o))) (sym is) ∙ ap words (sym j)
@@ -450,7 +452,7 @@ module _ {S : Type 0} (op : S → ℕ → Option Op) (fed : S → ℕ → ℕ �
           grows = nothing_grows words' k.visits;
           others = λ j q ne. refl;
           standing = record {
-            belongs = searching_belongs op fed D cost laws cheap rounds n p at (n - (i + 1)) tick (search_ready op fed D cost laws cheap rounds n p at s b i e (n - (i + 1)) (omega arith)) (i + 1) (omega arith) (omega arith);
+            belongs = searching_belongs op fed D cost laws cheap rounds n p at (n - (i + 1)) tick (search_ready op fed D cost laws cheap rounds n p at s b i e (n - (i + 1)) (omega arith)) (i + 1) (omega arith) (omega arith) own.1 own.2 own.3;
             spelled = spelled;
             stage = ((c, omega arith, f'), omega arith, some, st.3);
           };

@@ -1,5 +1,5 @@
 -- Each single step of an election, whatever it found.
-use Rattle.std.proofs.Common.{◌≡◌, ◌≢◌, ℕ, zero, suc, ◌+◌, ◌*◌, ◌-◌, ◌<◌, ◌≤◌, ◌^◌, Bool, true, Option, Some, arith, refl, sym, ◌∙◌, ap, subst}
+use Rattle.std.proofs.Common.{◌≡◌, ◌≢◌, ℕ, zero, suc, ◌+◌, ◌*◌, ◌-◌, ◌<◌, ◌≤◌, ◌^◌, Bool, true, false, Option, Some, None, arith, refl, sym, ◌∙◌, ap, subst}
 use Rattle.std.proofs.Math.Nat.{mul-le-mul_right}
 use Rattle.std.proofs.lemmas.Option.{same_Some}
 use Rattle.bus_register.specs.declared.registers.Op.{Op}
@@ -9,7 +9,7 @@ use Rattle.bus_binconsensus.specs.Deciding.{Decides}
 use Rattle.bus_ownerbits.specs.declared.stages.Stage.{Stage}
 use Rattle.bus_ownerbits.specs.declared.stages.Stage.TheVariants.{Announce, Propose, Search, Alone}
 use Rattle.bus_ownerbits.specs.Sizes.{bits_of, bit_at}
-use Rattle.bus_ownerbits.specs.Election.{Decisions, Electing, place, proposing, going, seeking, with_bit, searched, fed_at, election_fed, op_at, election_op}
+use Rattle.bus_ownerbits.specs.Election.{Decisions, Electing, place, proposing, going, fits_bits, seeking, with_bit, searched, fed_at, election_fed, op_at, election_op}
 use Rattle.bus_ownerbits.specs.ElectionCases.{going_case, seeking_case, decided_case, searched_case}
 use Rattle.bus_ownerbits.specs.ElectionKeeps.{each_bit, work_at, StageBelongs, ElectionBelongs, begun_at, election_protocol}
 
@@ -45,6 +45,18 @@ module _ {S : Type 0} (op : S → ℕ → Option Op) (fed : S → ℕ → ℕ �
         ∙ ap (λ z. (D rounds).started n z b (s.at + n + k * (D rounds).width n)) r.me_is
         ∙ ap (λ z. (D rounds).started n me b (z + n + k * (D rounds).width n)) r.at_is
 
+    -- a process that enters a decision has no output there
+    pub entered_open : (bit : Bool) → (D rounds).output ((D s.rounds).started s.n s.me (bit_at (s.left - 1) s.candidate) (place D s (s.left - 1))) ≡ Some bit → ⊥
+    entered_open bit e =
+        let x : S = (D rounds).started n me (bit_at (s.left - 1) s.candidate) (at + n + (s.left - 1) * (D rounds).width n) in
+        let f = ((laws rounds).starts n me (at + n + (s.left - 1) * (D rounds).width n) (bit_at (s.left - 1) s.candidate) r.below r.few).fresh in
+        let told : (D rounds).output x ≡ Some bit = ap (D rounds).output (sym entered_is) ∙ e in
+        let by : (y : Option Op) → op x 0 ≡ y → ⊥ = λ y. elim y as (λ z. op x 0 ≡ z → ⊥) [
+          | None ↦ λ g. let h = ((laws rounds).ends x 0 g).1 in absurd cc
+          | Some o ↦ λ g. let h = (laws rounds).unended x 0 o g in absurd cc
+        ] in
+        by (op x 0) refl
+
     pub proposing_belongs : s.left ≢ 0 → ElectionBelongs D cost rounds n me at (proposing D s)
     proposing_belongs some = record {
       n_is = r.n_is;
@@ -54,7 +66,7 @@ module _ {S : Type 0} (op : S → ℕ → Option Op) (fed : S → ℕ → ℕ �
       below = r.below;
       few = r.few;
       within = r.within;
-      stage = (omega arith, subst ((D rounds).Belongs n me (at + n + (s.left - 1) * (D rounds).width n)) (sym entered_is) ((laws rounds).starts n me _ _ r.below r.few).belongs);
+      stage = (omega arith, subst ((D rounds).Belongs n me (at + n + (s.left - 1) * (D rounds).width n)) (sym entered_is) ((laws rounds).starts n me _ _ r.below r.few).belongs, λ bit e. absurd (entered_open bit e));
       enough =
           let a = ((laws s.rounds).starts s.n s.me (place D s (s.left - 1)) (bit_at (s.left - 1) s.candidate) (let x = r.n_is in let y = r.me_is in let z = r.below in omega arith) (let x = r.n_is in let z = r.few in omega arith)).bounded in
           let b = cheap s.rounds s.n in
@@ -65,23 +77,23 @@ module _ {S : Type 0} (op : S → ℕ → Option Op) (fed : S → ℕ → ℕ �
 
     pub going_belongs : ElectionBelongs D cost rounds n me at (going D s)
     going_belongs = going_case D (ElectionBelongs D cost rounds n me at) s
-        (λ none. record { n_is = r.n_is; me_is = r.me_is; rounds_is = r.rounds_is; at_is = r.at_is; below = r.below; few = r.few; within = r.within; stage = tt; enough = let d = r.enough in omega arith })
+        (λ none. record { n_is = r.n_is; me_is = r.me_is; rounds_is = r.rounds_is; at_is = r.at_is; below = r.below; few = r.few; within = r.within; stage = none; enough = let d = r.enough in omega arith })
         proposing_belongs
 
-    pub searching_belongs : (i : ℕ) → i < n → n - i ≤ slack → ElectionBelongs D cost rounds n me at (record s { stage = Search i })
-    searching_belongs i h g = record { n_is = r.n_is; me_is = r.me_is; rounds_is = r.rounds_is; at_is = r.at_is; below = r.below; few = r.few; within = r.within; stage = h; enough = let d = r.enough in let x = r.n_is in omega arith }
+    pub searching_belongs : (i : ℕ) → i < n → n - i ≤ slack → fits_bits s s.candidate ≡ false → 1 ≤ s.left → s.left < bits_of n → ElectionBelongs D cost rounds n me at (record s { stage = Search i })
+    searching_belongs i h g unfit some less = record { n_is = r.n_is; me_is = r.me_is; rounds_is = r.rounds_is; at_is = r.at_is; below = r.below; few = r.few; within = r.within; stage = (h, unfit, some, less); enough = let d = r.enough in let x = r.n_is in omega arith }
 
-    pub seeking_belongs : n ≤ slack → ElectionBelongs D cost rounds n me at (seeking D s)
-    seeking_belongs h = seeking_case D (ElectionBelongs D cost rounds n me at) s
+    pub seeking_belongs : n ≤ slack → 1 ≤ s.left → s.left < bits_of n → ElectionBelongs D cost rounds n me at (seeking D s)
+    seeking_belongs h some less = seeking_case D (ElectionBelongs D cost rounds n me at) s
         (λ fits. going_belongs)
-        (λ low. searching_belongs (s.spelled * 2 ^ s.left) (let x = r.n_is in omega arith) (omega arith))
+        (λ unfit low. searching_belongs (s.spelled * 2 ^ s.left) (let x = r.n_is in omega arith) (omega arith) unfit some less)
         (λ over. going_belongs)
 
   pub going_begun : (s : Electing S) → begun_at (going D s).stage ≡ true
   going_begun s = going_case D (λ z. begun_at z.stage ≡ true) s (λ none. refl) (λ some. refl)
 
   seeking_begun : (s : Electing S) → begun_at (seeking D s).stage ≡ true
-  seeking_begun s = seeking_case D (λ z. begun_at z.stage ≡ true) s (λ f. going_begun s) (λ l. refl) (λ o. going_begun s)
+  seeking_begun s = seeking_case D (λ z. begun_at z.stage ≡ true) s (λ f. going_begun s) (λ u l. refl) (λ o. going_begun s)
 
   pub fed_begun : (stage : Stage S) (s : Electing S) (got word : ℕ) → s.stage ≡ stage → begun_at (fed_at D fed stage s got word).stage ≡ true
   fed_begun Announce s got word e = going_begun s
@@ -93,7 +105,7 @@ module _ {S : Type 0} (op : S → ℕ → Option Op) (fed : S → ℕ → ℕ �
   going_turns s = going_case D (λ z. z.turns ≡ s.turns) s (λ none. refl) (λ some. refl)
 
   seeking_turns : (s : Electing S) → (seeking D s).turns ≡ s.turns
-  seeking_turns s = seeking_case D (λ z. z.turns ≡ s.turns) s (λ f. going_turns s) (λ l. refl) (λ o. going_turns s)
+  seeking_turns s = seeking_case D (λ z. z.turns ≡ s.turns) s (λ f. going_turns s) (λ u l. refl) (λ o. going_turns s)
 
   fed_turns : (stage : Stage S) (s : Electing S) (got word : ℕ) → (fed_at D fed stage s got word).turns ≡ s.turns
   fed_turns Announce s got word = going_turns s
@@ -136,7 +148,7 @@ module _ {S : Type 0} (op : S → ℕ → Option Op) (fed : S → ℕ → ℕ �
 
     -- in a decision, after one more step of it
     module _ (d : S) (got word : ℕ) (o : Op) (e : s.stage ≡ Propose d) (q : op d word ≡ Some o) where
-      own : (1 ≤ s.left) × (D rounds).Belongs n me (at + n + (s.left - 1) * (D rounds).width n) d
+      own : StageBelongs D rounds n me at (Propose d) s
       own = stage_is (Propose d) e
 
       g : Goes (D rounds) n me (at + n + (s.left - 1) * (D rounds).width n) o d (fed d got word)
@@ -145,8 +157,8 @@ module _ {S : Type 0} (op : S → ℕ → Option Op) (fed : S → ℕ → ℕ �
       fewer : (D s.rounds).left (fed d got word) < (D s.rounds).left d
       fewer = subst (λ z. (D z).left (fed d got word) < (D z).left d) (sym b.rounds_is) g.falls
 
-      pub propose_stays : ElectionBelongs D cost rounds n me at (record ticked { stage = Propose (fed d got word) })
-      propose_stays = record {
+      pub propose_stays : ((bit : Bool) → (D rounds).output (fed d got word) ≡ Some bit → s.left ≡ 1) → ElectionBelongs D cost rounds n me at (record ticked { stage = Propose (fed d got word) })
+      propose_stays last = record {
         n_is = b.n_is;
         me_is = b.me_is;
         rounds_is = b.rounds_is;
@@ -154,32 +166,36 @@ module _ {S : Type 0} (op : S → ℕ → Option Op) (fed : S → ℕ → ℕ �
         below = b.below;
         few = b.few;
         within = b.within;
-        stage = (own.0, g.belongs);
+        stage = (own.0, g.belongs, last);
         enough = let w = enough_is (Propose d) e in let f = fewer in omega arith;
       }
 
       pub propose_ready : (bit : Bool) → Ready n me at n (with_bit (record ticked { stage = Propose (fed d got word) }) bit)
       propose_ready bit = ready n (with_bit (record ticked { stage = Propose (fed d got word) }) bit) refl refl refl refl (omega arith) (let w = enough_is (Propose d) e in let f = fewer in let n' = b.n_is in omega arith)
 
+      rounds_same : (D s.rounds).output (fed d got word) ≡ (D rounds).output (fed d got word)
+      rounds_same = ap (λ z. (D z).output (fed d got word)) b.rounds_is
+
       propose_belongs : ElectionBelongs D cost rounds n me at (fed_at D fed (Propose d) ticked got word)
       propose_belongs = decided_case D (ElectionBelongs D cost rounds n me at) (record ticked { stage = Propose (fed d got word) }) ((D s.rounds).output (fed d got word))
-          (λ x. propose_stays)
-          (λ bit x last. propose_stays)
-          (λ bit x more. seeking_belongs n me at n (with_bit (record ticked { stage = Propose (fed d got word) }) bit) (propose_ready bit) (omega arith))
+          (λ x. propose_stays (λ bit f. absurd (let y = sym x ∙ rounds_same ∙ f in cc y)))
+          (λ bit x last. propose_stays (λ b f. let y = own.0 in omega arith))
+          (λ bit x more. seeking_belongs n me at n (with_bit (record ticked { stage = Propose (fed d got word) }) bit) (propose_ready bit) (omega arith) (omega arith) (let y = b.within in omega arith))
 
     -- in a search, after one more load
     pub search_ready : (i : ℕ) → s.stage ≡ Search i → (slack : ℕ) → slack + 1 ≤ n - i → Ready n me at slack ticked
     search_ready i e slack h = ready slack ticked refl refl refl refl (omega arith) (let w = enough_is (Search i) e in let n' = b.n_is in omega arith)
 
     pub search_takes : (i : ℕ) → s.stage ≡ Search i → Ready n me at 0 (record ticked { candidate = i })
-    search_takes i e = ready 0 (record ticked { candidate = i }) refl refl refl refl (omega arith) (let w = enough_is (Search i) e in let n' = b.n_is in let h = stage_is (Search i) e in omega arith)
+    search_takes i e = ready 0 (record ticked { candidate = i }) refl refl refl refl (omega arith) (let w = enough_is (Search i) e in let n' = b.n_is in let h = (stage_is (Search i) e).0 in omega arith)
 
     search_belongs : (i got : ℕ) → s.stage ≡ Search i → ElectionBelongs D cost rounds n me at (searched D ticked i got)
     search_belongs i got e =
         let own = stage_is (Search i) e in
+        let within = own.0 in
         let n' = b.n_is in
         searched_case D (ElectionBelongs D cost rounds n me at) ticked i got
-        (λ zero' less fits. searching_belongs n me at (n - (i + 1)) ticked (search_ready i e (n - (i + 1)) (omega arith)) (i + 1) (omega arith) (omega arith))
+        (λ zero' less fits. searching_belongs n me at (n - (i + 1)) ticked (search_ready i e (n - (i + 1)) (omega arith)) (i + 1) (omega arith) (omega arith) own.1 own.2 own.3)
         (λ other. going_belongs n me at 0 (record ticked { candidate = i }) (search_takes i e))
 
     pub fed_belongs : (stage : Stage S) (got word : ℕ) (o : Op) → s.stage ≡ stage → op_at op stage s word ≡ Some o → ElectionBelongs D cost rounds n me at (fed_at D fed stage ticked got word)
@@ -197,7 +213,7 @@ module _ {S : Type 0} (op : S → ℕ → Option Op) (fed : S → ℕ → ℕ �
         let g = (laws rounds).goes n me (at + n + (s.left - 1) * (D rounds).width n) d 0 word o own.1 q in
         let f : (D s.rounds).left (fed d 0 word) < (D s.rounds).left d = subst (λ z. (D z).left (fed d 0 word) < (D z).left d) (sym b.rounds_is) g.falls in
         omega arith
-    busy (Search i) word o e q = let w = enough_is (Search i) e in let own = stage_is (Search i) e in let n' = b.n_is in omega arith
+    busy (Search i) word o e q = let w = enough_is (Search i) e in let own = (stage_is (Search i) e).0 in let n' = b.n_is in omega arith
     busy Alone word o e q = absurd cc
 
     in_range : (stage : Stage S) (word : ℕ) (o : Op) → s.stage ≡ stage → op_at op stage s word ≡ Some o → (at ≤ register o) × (register o < at + (n + bits_of n * (D rounds).width n))
@@ -216,7 +232,7 @@ module _ {S : Type 0} (op : S → ℕ → Option Op) (fed : S → ℕ → ℕ �
         (omega arith, omega arith)
     in_range (Search i) word o e q =
         let r : s.at + i ≡ register o = ap register (same_Some _ _ q) in
-        let x = b.at_is in let z = stage_is (Search i) e in
+        let x = b.at_is in let z = (stage_is (Search i) e).0 in
         (omega arith, omega arith)
     in_range Alone word o e q = absurd cc
 

@@ -7,7 +7,7 @@ use Rattle.bus_coinconc.specs.Conciliator.{conciliator_op, conciliator_fed}
 use Rattle.bus_coinconc.specs.ConciliatorLaws.{conciliator_laws}
 use Rattle.bus_coinconc.specs.ConciliatorProtocol.{conciliator_protocol}
 use Rattle.bus_ownerbits.specs.ElectionKeeps.{StageStands}
-use Rattle.bus_ownerbits.specs.ElectionLaws.{election_laws, owner_below}
+use Rattle.bus_ownerbits.specs.ElectionLaws.{election_laws, owner_below, searches, last_bit}
 use Rattle.bus_ownerbits.specs.ElectionSteps.{turns_after, busy}
 use Rattle.bus_ownerbits.specs.ElectionAsks.{asks_as_told}
 use Rattle.bus_ownerbits.specs.Sizes.{decision_cost}
@@ -25,6 +25,8 @@ returns-clause-lawful g c =
       laws = election_laws op fed D decision_cost law.laws law.quick;
       below = owner_below op fed D decision_cost law.laws law.quick;
       found = λ rounds n at words locals k p i s here e. (subst (λ z. StageStands (D rounds) k.visits n at words p z s) e (k.stands p s here).stage).0;
+      searches = searches D decision_cost;
+      last_bit = last_bit D decision_cost;
       turns_start = λ rounds n me at. refl;
       turns_fall = λ s got word. turns_after op fed D decision_cost law.laws law.quick 1 s got word;
       turns_last = λ rounds n me at s b. let e = b.enough in omega arith;
