@@ -1,5 +1,5 @@
 -- The law of the elections that a sender takes part in, over any ratifier.
-use Rattle.std.proofs.Common.{◌≡◌, ℕ, ◌+◌, ◌*◌, ◌-◌, ◌<◌, ◌≤◌, Bool, true, false, Option, Some, None, IsSome, IfSome, refl, sym, subst, arith}
+use Rattle.std.proofs.Common.{◌≡◌, ℕ, ◌+◌, ◌*◌, ◌-◌, ◌<◌, ◌≤◌, Bool, true, false, Option, Some, None, IsSome, IfSome, refl, sym, ◌∙◌, subst, arith}
 use Rattle.bus_register.specs.Words.{register}
 use Rattle.bus_register.specs.declared.registers.Op.{Op}
 use Rattle.bus_register.specs.Protocol.{Protocol, Laws}
@@ -19,7 +19,7 @@ use Rattle.bus_ownerbits.specs.ElectionSteps.{row_within, turns_after}
 use Rattle.bus_ownerbits.specs.Sizes.{decision_cost}
 use Rattle.bus_tenure.specs.declared.phases.Phase.TheVariants.{Electing}
 use Rattle.bus_tenure.specs.Core.{Core, row_at, words_of}
-use Rattle.bus_tenure.specs.Elections.{Elector, elections}
+use Rattle.bus_tenure.specs.Elections.{Elector, ElectorKeeps, elections}
 use Rattle.bus_tenure.specs.Keeping.{CoreKeeps, PhaseKeeps, IsElecting}
 
 some_of : (x : Option Op) → IsSome x → (o : Op) × (x ≡ Some o)
@@ -40,20 +40,22 @@ module _ {S : Type 0} (op : S → ℕ → Option Op) (fed : S → ℕ → ℕ �
   pub elections_law : (rounds : ℕ) → Laws (election_op (decide_op op conciliator_op)) (election_fed (decide_protocol P conciliator_protocol) (decide_fed P conciliator_protocol fed conciliator_fed)) (elections P rounds) OneOwner
   elections_law rounds = election_laws (decide_op op conciliator_op) (decide_fed P conciliator_protocol fed conciliator_fed) (decide_protocol P conciliator_protocol) decision_cost law.laws law.quick rounds
 
-  -- a step stays in the row
-  pub belongs_after : (rounds n me at : ℕ) (e : Elector S) (got word : ℕ) → (elections P rounds).Belongs n me at e → IsSome (election_op (decide_op op conciliator_op) e word) → (elections P rounds).Belongs n me at (election_fed (decide_protocol P conciliator_protocol) (decide_fed P conciliator_protocol fed conciliator_fed) e got word)
-  belongs_after rounds n me at e got word b h =
+  -- a step stays in the row, and after it the election has begun
+  pub keeps_after : (rounds n me at : ℕ) (e : Elector S) (got word : ℕ) → ElectorKeeps P rounds n me at e → IsSome (election_op (decide_op op conciliator_op) e word)
+      → ((o : ℕ) → (elections P rounds).output (election_fed (decide_protocol P conciliator_protocol) (decide_fed P conciliator_protocol fed conciliator_fed) e got word) ≡ Some o → o ≡ me)
+      → ElectorKeeps P rounds n me at (election_fed (decide_protocol P conciliator_protocol) (decide_fed P conciliator_protocol fed conciliator_fed) e got word)
+  keeps_after rounds n me at e got word b h unlost =
       let o = some_of (election_op (decide_op op conciliator_op) e word) h in
-      let goes = (elections_law rounds).goes n me at e got word o.0 b o.1 in
-      goes.belongs
+      let goes = (elections_law rounds).goes n me at e got word o.0 b.belongs o.1 in
+      record { belongs = goes.belongs; unbegun = λ f. absurd (let g = sym goes.begun ∙ f in cc g); unlost = unlost }
 
   -- its words are words of the bus
-  pub place_below : (rounds n me : ℕ) (c s : Core (Elector S)) → c ≡ s → CoreKeeps ((elections P rounds).width n) ((elections P rounds).Belongs n me) c → (t : ℕ) (e : Elector S) → c.phase ≡ Electing t e → (word : ℕ) (x : Option Op) → x ≡ election_op (decide_op op conciliator_op) e word → IfSome x (λ o. register o < words_of s.layout)
+  pub place_below : (rounds n me : ℕ) (c s : Core (Elector S)) → c ≡ s → CoreKeeps ((elections P rounds).width n) (ElectorKeeps P rounds n me) c → (t : ℕ) (e : Elector S) → c.phase ≡ Electing t e → (word : ℕ) (x : Option Op) → x ≡ election_op (decide_op op conciliator_op) e word → IfSome x (λ o. register o < words_of s.layout)
   place_below rounds n me c s same k t e at word x told =
-      let h : IsElecting ((elections P rounds).Belongs n me) c t e = subst (PhaseKeeps ((elections P rounds).Belongs n me) c) at k.phase in
+      let h : IsElecting (ElectorKeeps P rounds n me) c t e = subst (PhaseKeeps (ElectorKeeps P rounds n me) c) at k.phase in
       subst (λ z. IfSome x (λ o. register o < words_of z.layout)) same
       (for_some x (election_op (decide_op op conciliator_op) e word) (words_of c.layout) told (λ o q.
-      let goes = (elections_law rounds).goes n me (row_at c.layout t) e 0 word o h.belongs q in
+      let goes = (elections_law rounds).goes n me (row_at c.layout t) e 0 word o h.belongs.belongs q in
       row_place (register o) t c.layout.rows c.layout.width ((elections P rounds).width n) c.layout.capacity goes.below k.sizes.width_is h.in_tenure.below))
 
   -- a step takes one turn

@@ -1,2 +1,3 @@
 mod Lawful
 mod Turning
+mod Caused

@@ -1,5 +1,6 @@
 -- What an election's sender is after a step of it, from what its calls gave.
 use Rattle.std.proofs.Common.{◌≡◌, ℕ, ◌+◌, ◌==◌, false, cond, Option, Some, None, is_some, refl, sym, ◌∙◌, ap, subst}
+use Rattle.std.proofs.lemmas.Option.{same_Some}
 use Rattle.bus_register.specs.declared.registers.SenderNo.{SenderNo}
 use Rattle.bus_batch.specs.Batches.{Pending}
 use Rattle.bus_ownerbits.specs.ElectionNames.{sender}
@@ -11,6 +12,15 @@ use Rattle.bus_tenure.specs.Keeping.{CoreKeeps, PhaseKeeps, IsElecting}
 pub sender_some : (x : Option ℕ) (v : SenderNo) → sender x ≡ Some v → x ≡ Some v.0
 sender_some None v e = cc
 sender_some (Some k) v e = let same : record { 0 = k } ≡ v = cc in ap (λ z. Some z.0) same
+
+-- no owner yet
+pub no_owner : (x y : Option ℕ) → sender x ≡ None → x ≡ y → (me o : ℕ) → y ≡ Some o → o ≡ me
+no_owner None y e same me o f = absurd (let g = same ∙ f in cc g)
+no_owner (Some k) y e same me o f = absurd cc
+
+-- the owner is the sender itself
+pub own_owner : (x y : Option ℕ) (v : SenderNo) → sender x ≡ Some v → x ≡ y → (me : ℕ) → v.0 ≡ me → (o : ℕ) → y ≡ Some o → o ≡ me
+own_owner x y v e same me own o f = let g : Some o ≡ Some v.0 = sym f ∙ sym same ∙ sender_some x v e in same_Some _ _ g ∙ own
 
 pub sender_tells : (x : Option ℕ) → is_some (sender x) ≡ is_some x
 sender_tells None = refl

@@ -1,6 +1,6 @@
 -- The election that a sender goes by, made of any ratifier's members: with binary decisions out of that ratifier, the
 -- conciliator and the fallback word.
-use Rattle.std.specs.Prelude.{ℕ, Bool, Option}
+use Rattle.std.specs.Prelude.{◌≡◌, ℕ, Bool, false, Option, Some}
 use Rattle.bus_register.specs.declared.kinds.Kind.{Kind}
 use Rattle.bus_register.specs.declared.registers.Op.{Op}
 use Rattle.bus_register.specs.Protocol.{Protocol}
@@ -21,6 +21,12 @@ Elector S = Electing (Decider S ConciliatorState)
 -- the protocol of such an election, of so many rounds for each bit
 abbrev pub elections : {S : Type 0} → Protocol S Bool Verdict → ℕ → Protocol (Elector S) (Unit {0}) ℕ
 elections P rounds = election_protocol (decide_protocol P conciliator_protocol) decision_cost rounds
+
+-- what a sender's part in an election keeps: it is of its row, stands as it started until its first step, and has chosen no other
+pub record ElectorKeeps {S : Type 0} (P : Protocol S Bool Verdict) (rounds n me at : ℕ) (e : Elector S) : Type 0 where
+  pub belongs : (elections P rounds).Belongs n me at e
+  pub unbegun : (elections P rounds).has_begun e ≡ false → e ≡ (elections P rounds).started n me tt at
+  pub unlost : (o : ℕ) → (elections P rounds).output e ≡ Some o → o ≡ me
 
 -- what a sender goes by
 abbrev pub election_of : {S : Type 0} → (S → Option Kind) → (S → ℕ → Option Op) → (S → ℕ → ℕ → S) → Protocol S Bool Verdict → Election (Elector S)

@@ -1,5 +1,6 @@
 pub mod Core
 pub mod Elections
+pub mod Causes
 pub mod Keeping
 pub mod Seen
 pub mod Bounds

@@ -5,6 +5,7 @@ ghost use Rattle.bus_register.specs.Words.{register};
 ghost use Rattle.bus_batch.specs.Batches.{next_of, frame_of, HasSomething, CanPut, IsPutFault, CanClose, IsCloseFault};
 ghost use Rattle.bus_batch.specs.Frames.{frame_words};
 ghost use Rattle.bus_batch.specs.declared.batches.Phase.TheVariants as queue_phase;
+ghost use Rattle.bus_tenure.specs.Causes.{HasCause};
 ghost use Rattle.bus_tenure.specs.Core.{Core, row_at, words_of, is_closing, is_closed, is_empty, frame_len, has_room, Situation, LooksAtStage, GivesBack, resting, electing, holding, situation_at, situation_of, kind_at, op_at, rested, saw_stage, elected, fed_at, answer_of_stage, answer_of_election, answer_of_leaving, rest_at, answer_at, page_after};
 ghost use Rattle.bus_tenure.specs.declared.phases.Phase.TheVariants as phase;
 ghost use Rattle.bus_tenure.specs.Elections.{election_of, elections, layout_of};
@@ -52,14 +53,14 @@ pub struct SenderCore<Q: Ratifier> {
 
 impl<Q: Ratifier> Model for SenderCore<Q> {
     ghost use Rattle.bus_tenure.specs.Core.{Core};
-    ghost use Rattle.bus_tenure.specs.Elections.{Elector, elections};
+    ghost use Rattle.bus_tenure.specs.Elections.{Elector, ElectorKeeps, elections};
     ghost use Rattle.bus_tenure.specs.Keeping.{CoreKeeps};
 
     ghost Value = { Core (Elector Q) };
 
     ghost view = { λ c. record { layout = record { senders = c.sizes.senders; rounds = c.sizes.rounds; rows = c.sizes.rows; width = c.sizes.width; capacity = c.sizes.capacity }; me = c.me.0; queue = c.batch; least = c.least; phase = c.phase } };
 
-    ghost invariant = { λ c. CoreKeeps ((elections Q.protocol c.sizes.rounds).width c.sizes.senders) ((elections Q.protocol c.sizes.rounds).Belongs c.sizes.senders c.me.0) (record { layout = record { senders = c.sizes.senders; rounds = c.sizes.rounds; rows = c.sizes.rows; width = c.sizes.width; capacity = c.sizes.capacity }; me = c.me.0; queue = c.batch; least = c.least; phase = c.phase }) };
+    ghost invariant = { λ c. CoreKeeps ((elections Q.protocol c.sizes.rounds).width c.sizes.senders) (ElectorKeeps Q.protocol c.sizes.rounds c.sizes.senders c.me.0) (record { layout = record { senders = c.sizes.senders; rounds = c.sizes.rounds; rows = c.sizes.rows; width = c.sizes.width; capacity = c.sizes.capacity }; me = c.me.0; queue = c.batch; least = c.least; phase = c.phase }) };
 }
 
 impl<Q: Ratifier + Drop> SenderCore<Q> {
@@ -223,7 +224,8 @@ impl<Q: Ratifier + Drop> SenderCore<Q> {
 
     /// What the next step is for; none where none is due.
     pub fn kind(&self) -> Option<Kind>
-        ensures { let X = election_of Q.kind_of Q.op Q.fed Q.protocol in result ≡ kind_at X (situation_of X self.now) }
+        ensures kind { let X = election_of Q.kind_of Q.op Q.fed Q.protocol in result ≡ kind_at X (situation_of X self.now) }
+        ensures cause { IfSome result (λ k. HasCause Q.protocol self.now k) }
     {
         match &self.phase {
             Phase::Resting => match self.turn_at_rest() {

@@ -1,0 +1,166 @@
+-- Each kind of step has its cause.
+use Rattle.std.proofs.Common.{◌≡◌, ◌≢◌, ℕ, ◌+◌, ◌*◌, ◌-◌, ◌<◌, ◌≤◌, ◌⊎◌, inl, inr, Bool, true, false, not, cond, ◌&&◌, Option, Some, None, IfSome, is_some, List, [], ◌∷◌, length, nat_lt, nat_le, arith, refl, sym, ◌∙◌, ap, subst}
+use Rattle.std.proofs.lemmas.Bool.{leb-true, leb-false, ltb-true, ltb-false}
+use Rattle.bus_register.specs.declared.kinds.Kind.{Kind}
+use Rattle.bus_register.specs.declared.kinds.Kind.TheVariants as kind
+use Rattle.bus_register.specs.declared.registers.Op.{Op}
+use Rattle.bus_register.specs.Protocol.{Protocol}
+use Rattle.bus_adoptcommit.specs.declared.verdicts.Verdict.{Verdict}
+use Rattle.bus_adoptcommit.specs.Kinds.{IsOfRatifier}
+use Rattle.bus_batch.specs.Batches.{HasSomething}
+use Rattle.bus_batch.specs.declared.batches.Phase.{Phase as BatchPhase}
+use Rattle.bus_batch.specs.declared.batches.Phase.TheVariants.{Open, Closing, Closed}
+use Rattle.bus_binconsensus.specs.declared.fallbacks.Fallback.{Fallback}
+use Rattle.bus_binconsensus.specs.declared.objects.Object.{Object}
+use Rattle.bus_binconsensus.specs.declared.objects.Object.TheVariants.{Ratify, Concile, Fall}
+use Rattle.bus_binconsensus.specs.Fallback.{kind_from}
+use Rattle.bus_binconsensus.specs.ObjectPlaces.{falls_last}
+use Rattle.bus_binconsensus.specs.Objects.{Decider, object_kind, decide_protocol}
+use Rattle.bus_coinconc.specs.Conciliator.{ConciliatorState, conciliator_kind}
+use Rattle.bus_coinconc.specs.ConciliatorKinds.{IsOfConciliator, conciliator_own_kinds}
+use Rattle.bus_coinconc.specs.ConciliatorProtocol.{conciliator_protocol}
+use Rattle.bus_ownerbits.specs.declared.stages.Stage.{Stage}
+use Rattle.bus_ownerbits.specs.declared.stages.Stage.TheVariants.{Announce, Propose, Search, Alone}
+use Rattle.bus_ownerbits.specs.Election.{owner_of, election_kind, kind_at as election_kind_at}
+use Rattle.bus_ownerbits.specs.ElectionKeeps.{StageBelongs, begun_at}
+use Rattle.bus_ownerbits.specs.ElectionLaws.{last_bit, searches}
+use Rattle.bus_ownerbits.specs.Sizes.{decision_cost}
+use Rattle.bus_tenure.specs.declared.pages.Page.{Page}
+use Rattle.bus_tenure.specs.declared.phases.Leaving.{Leaving}
+use Rattle.bus_tenure.specs.declared.phases.Leaving.TheVariants.{Sent, FoundEnd, NoRoom}
+use Rattle.bus_tenure.specs.declared.phases.Phase.TheVariants.{Resting, Electing, Taken, Holding, Giving}
+use Rattle.bus_tenure.specs.Core.{Core, Situation, GivesBack, StoresWord, StoresLength, row_at, frame_len, has_room, holding}
+use Rattle.bus_tenure.specs.Causes.{HasCause, LooksForTenure, BeginsElection, IsDeciding, IsInRatifier, IsInConciliator, IsAtFallback, SearchesCandidate, IsElected, HoldsFitting, HasWordLeft, HasStoredAll, LeavesPage}
+use Rattle.bus_tenure.specs.Elections.{Elector, ElectorKeeps, elections}
+use Rattle.bus_tenure.specs.Keeping.{CoreKeeps, PhaseKeeps, IsElecting, IsHolding}
+
+-- ---- a holder of the page
+module _ {E : Type 0} (t : ℕ) (page : Page) (stored : ℕ) where
+  abbrev told : Bool → Bool → Bool → Bool → Situation E
+  told p e r l = cond p (GivesBack t page Sent) (cond e (GivesBack t page FoundEnd) (cond r (cond l (StoresWord t page stored) (StoresLength t page stored)) (GivesBack t page NoRoom)))
+
+  told_word : (p e r l : Bool) → told p e r l ≡ StoresWord t page stored → (p ≡ false) × (e ≡ false) × (r ≡ true) × (l ≡ true)
+  told_word true e r l h = absurd cc
+  told_word false true r l h = absurd cc
+  told_word false false false l h = absurd cc
+  told_word false false true false h = absurd cc
+  told_word false false true true h = (refl, refl, refl, refl)
+
+  told_length : (p e r l : Bool) → told p e r l ≡ StoresLength t page stored → (p ≡ false) × (e ≡ false) × (r ≡ true) × (l ≡ false)
+  told_length true e r l h = absurd cc
+  told_length false true r l h = absurd cc
+  told_length false false false l h = absurd cc
+  told_length false false true true h = absurd cc
+  told_length false false true false h = (refl, refl, refl, refl)
+
+  told_back : (p e r l : Bool) (leaving : Leaving) → told p e r l ≡ GivesBack t page leaving → (p ≡ true) ⊎ ((e ≡ true) ⊎ (r ≡ false))
+  told_back true e r l leaving h = inl refl
+  told_back false true r l leaving h = inr (inl refl)
+  told_back false false false l leaving h = inr (inr refl)
+  told_back false false true true leaving h = absurd cc
+  told_back false false true false leaving h = absurd cc
+
+module _ {E : Type 0} (c : Core E) (t : ℕ) (page : Page) (stored : ℕ) (published : Bool) (at : c.phase ≡ Holding t page stored published) where
+  pub word_cause : holding c t page stored published ≡ StoresWord t page stored → HasWordLeft c
+  word_cause h =
+      let q = told_word {E = E} t page stored published page.ended (has_room c page) (nat_lt stored (frame_len c)) h in
+      record {
+        stored = stored;
+        holds = record { tenure = t; page = page; holds = at ∙ ap (Holding t page stored) q.0; not_ended = q.1; room = leb-true _ _ q.2 };
+        word_left = ltb-true _ _ q.3;
+      }
+
+  pub length_cause : (Belongs : ℕ → E → Type 0) (width : ℕ) → CoreKeeps width Belongs c → holding c t page stored published ≡ StoresLength t page stored → HasStoredAll c
+  length_cause Belongs width k h =
+      let q = told_length {E = E} t page stored published page.ended (has_room c page) (nat_lt stored (frame_len c)) h in
+      let i : IsHolding c t page.words stored published = subst (PhaseKeeps Belongs c) at k.phase in
+      let over : frame_len c ≤ stored = ltb-false _ _ q.3 in
+      let within = i.within in
+      let all : stored ≡ frame_len c = omega arith in
+      record {
+        holds = record { tenure = t; page = page; holds = at ∙ ap (Holding t page stored) q.0 ∙ ap (λ z. Holding t page z false) all; not_ended = q.1; room = leb-true _ _ q.2 };
+      }
+
+  pub back_cause : (leaving : Leaving) → holding c t page stored published ≡ GivesBack t page leaving → LeavesPage c
+  back_cause leaving h = record {
+    tenure = t;
+    page = page;
+    stored = stored;
+    published = published;
+    holds = at;
+    why = elim (told_back {E = E} t page stored published page.ended (has_room c page) (nat_lt stored (frame_len c)) leaving h) [
+      | inl x ↦ inl x
+      | inr y ↦ elim y [ inl x ↦ inr (inl x) | inr x ↦ inr (inr (leb-false _ _ x)) ]
+    ];
+  }
+
+-- ---- an election
+module _ {S : Type 0} (P : Protocol S Bool Verdict) (c : Core (Elector S)) (t : ℕ) (e : Elector S) (at : c.phase ≡ Electing t e)
+    (k : CoreKeeps ((elections P c.layout.rounds).width c.layout.senders) (ElectorKeeps P c.layout.rounds c.layout.senders c.me) c) where
+  keeps : ElectorKeeps P c.layout.rounds c.layout.senders c.me (row_at c.layout t) e
+  keeps = let h : IsElecting (ElectorKeeps P c.layout.rounds c.layout.senders c.me) c t e = subst (PhaseKeeps (ElectorKeeps P c.layout.rounds c.layout.senders c.me) c) at k.phase in h.belongs
+
+  stage_is : (stage : Stage (Decider S ConciliatorState)) → e.stage ≡ stage → StageBelongs (decide_protocol P conciliator_protocol) c.layout.rounds c.layout.senders c.me (row_at c.layout t) stage e
+  stage_is stage q = subst (λ z. StageBelongs (decide_protocol P conciliator_protocol) c.layout.rounds c.layout.senders c.me (row_at c.layout t) z e) q keeps.belongs.stage
+
+  module _ (d : Decider S ConciliatorState) (proposes : e.stage ≡ Propose d) where
+    deciding : IsDeciding c d
+    deciding = record { tenure = t; election = e; elects = at; proposes = proposes }
+
+    ratifier_cause : (q : S) → d.object ≡ Ratify q → (k : Kind) → IsOfRatifier k → HasCause P c k
+    ratifier_cause q here k own =
+        let is : IsInRatifier c = record { decision = d; deciding = deciding; ratifier = q; here = here } in
+        elim own [
+          | inl x ↦ subst (HasCause P c) (sym x) is
+          | inr y ↦ elim y [
+            | inl x ↦ subst (HasCause P c) (sym x) is
+            | inr z ↦ elim z [ inl x ↦ subst (HasCause P c) (sym x) is | inr x ↦ subst (HasCause P c) (sym x) is ]
+          ]
+        ]
+
+    by_named : (q : S) → d.object ≡ Ratify q → (x : Option Kind) → ((k : Kind) → x ≡ Some k → IsOfRatifier k) → IfSome x (HasCause P c)
+    by_named q here None own = tt
+    by_named q here (Some k) own = ratifier_cause q here k (own k refl)
+
+    conciliator_cause : IsInConciliator c → (k : Kind) → IsOfConciliator k → HasCause P c k
+    conciliator_cause is k own = elim own [
+      | inl x ↦ subst (HasCause P c) (sym x) is
+      | inr y ↦ elim y [
+        | inl x ↦ subst (HasCause P c) (sym x) is
+        | inr z ↦ elim z [ inl x ↦ subst (HasCause P c) (sym x) is | inr x ↦ subst (HasCause P c) (sym x) is ]
+      ]
+    ]
+
+    by_mark : IsInConciliator c → (x : Option Kind) → ((k : Kind) → x ≡ Some k → IsOfConciliator k) → IfSome x (HasCause P c)
+    by_mark is None own = tt
+    by_mark is (Some k) own = conciliator_cause is k (own k refl)
+
+    by_fallback : IsAtFallback c → (x : Option Bool) → IfSome (kind_from x) (HasCause P c)
+    by_fallback is None = is
+    by_fallback is (Some v) = tt
+
+    by_object : (kind : S → Option Kind) → ((s : S) (k : Kind) → kind s ≡ Some k → IsOfRatifier k) → (x : Object S ConciliatorState) → d.object ≡ x → IfSome (object_kind kind conciliator_kind x) (HasCause P c)
+    by_object kind own (Ratify q) here = by_named q here (kind q) (own q)
+    by_object kind own (Concile s) here = by_mark record { decision = d; deciding = deciding; conciliator = s; here = here } (conciliator_kind s) (conciliator_own_kinds s)
+    by_object kind own (Fall f) here = by_fallback
+        record {
+          decision = d;
+          deciding = deciding;
+          fallback = f;
+          here = here;
+          last = falls_last P conciliator_protocol c.layout.rounds c.layout.senders c.me _ d f (stage_is (Propose d) proposes).1 here;
+        }
+        f.decided
+
+  by_stage : (kind : S → Option Kind) → ((s : S) (k : Kind) → kind s ≡ Some k → IsOfRatifier k) → (stage : Stage (Decider S ConciliatorState)) → e.stage ≡ stage
+      → IfSome (election_kind_at (λ d. object_kind kind conciliator_kind d.object) stage) (HasCause P c)
+  by_stage kind own Announce q = record { tenure = t; starts = at ∙ ap (Electing t) (keeps.unbegun (ap begun_at q)) }
+  by_stage kind own (Propose d) q = by_object d q kind own d.object refl
+  by_stage kind own (Search i) q =
+      let w = searches (decide_protocol P conciliator_protocol) decision_cost c.layout.rounds c.layout.senders c.me (row_at c.layout t) i e keeps.belongs q in
+      record { tenure = t; election = e; number = i; elects = at; searches = q; some_decided = w.2; some_left = w.1; unfit = w.0 }
+  by_stage kind own Alone q = tt
+
+  pub election_cause : (kind : S → Option Kind) → ((s : S) (k : Kind) → kind s ≡ Some k → IsOfRatifier k) → (x : Option Kind) → x ≡ election_kind (λ d. object_kind kind conciliator_kind d.object) e → IfSome x (HasCause P c)
+  election_cause kind own x is = subst (λ z. IfSome z (HasCause P c)) (sym is) (by_stage kind own e.stage refl)
+

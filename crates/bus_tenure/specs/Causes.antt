@@ -1,0 +1,134 @@
+-- Why a sender takes a step of each kind: what holds of it before the step, read off what it holds.
+use Rattle.std.specs.Prelude.{◌≡◌, ◌≢◌, ℕ, ◌+◌, ◌<◌, ◌≤◌, ◌⊎◌, Bool, true, false, Option, Some}
+use Rattle.bus_register.specs.declared.kinds.Kind.{Kind}
+use Rattle.bus_register.specs.declared.kinds.Kind.TheVariants as kind
+use Rattle.bus_register.specs.Protocol.{Protocol}
+use Rattle.bus_adoptcommit.specs.declared.verdicts.Verdict.{Verdict}
+use Rattle.bus_batch.specs.Batches.{HasSomething}
+use Rattle.bus_batch.specs.declared.batches.Phase.TheVariants.{Closed}
+use Rattle.bus_binconsensus.specs.declared.objects.Object.TheVariants.{Ratify, Concile, Fall}
+use Rattle.bus_binconsensus.specs.declared.fallbacks.Fallback.{Fallback}
+use Rattle.bus_binconsensus.specs.Objects.{Decider}
+use Rattle.bus_coinconc.specs.Conciliator.{ConciliatorState}
+use Rattle.bus_ownerbits.specs.declared.stages.Stage.TheVariants.{Propose, Search}
+use Rattle.bus_ownerbits.specs.Election.{fits_bits}
+use Rattle.bus_ownerbits.specs.Sizes.{bits_of}
+use Rattle.bus_tenure.specs.declared.pages.Page.{Page}
+use Rattle.bus_tenure.specs.declared.phases.Leaving.{Leaving}
+use Rattle.bus_tenure.specs.declared.phases.Phase.TheVariants.{Resting, Electing, Holding, Giving}
+use Rattle.bus_tenure.specs.Core.{Core, row_at, frame_len}
+use Rattle.bus_tenure.specs.Elections.{Elector, elections}
+
+-- it has begun no tenure, has something to send, and has a tenure left to enter
+pub record LooksForTenure {E : Type 0} (c : Core E) : Type 0 where
+  pub rests : c.phase ≡ Resting
+  pub not_closed : c.queue.phase ≢ Closed
+  pub something : HasSomething c.queue
+  pub tenure_left : c.least < c.layout.rows
+
+-- its election is as it started
+pub record BeginsElection {S : Type 0} (P : Protocol S Bool Verdict) (c : Core (Elector S)) : Type 0 where
+  pub tenure : ℕ
+  pub starts : c.phase ≡ Electing tenure ((elections P c.layout.rounds).started c.layout.senders c.me tt (row_at c.layout tenure))
+
+-- its election is at the decision of a bit, where it stands thus
+pub record IsDeciding {S : Type 0} (c : Core (Elector S)) (decision : Decider S ConciliatorState) : Type 0 where
+  pub tenure : ℕ
+  pub election : Elector S
+  pub elects : c.phase ≡ Electing tenure election
+  pub proposes : election.stage ≡ Propose decision
+
+-- it is in a ratifier of a bit's decision
+pub record IsInRatifier {S : Type 0} (c : Core (Elector S)) : Type 0 where
+  pub decision : Decider S ConciliatorState
+  pub deciding : IsDeciding c decision
+  pub ratifier : S
+  pub here : decision.object ≡ Ratify ratifier
+
+-- it is in a conciliator of a bit's decision
+pub record IsInConciliator {S : Type 0} (c : Core (Elector S)) : Type 0 where
+  pub decision : Decider S ConciliatorState
+  pub deciding : IsDeciding c decision
+  pub conciliator : ConciliatorState
+  pub here : decision.object ≡ Concile conciliator
+
+-- it is at the fallback word of a bit's decision, past all rounds
+pub record IsAtFallback {S : Type 0} (c : Core (Elector S)) : Type 0 where
+  pub decision : Decider S ConciliatorState
+  pub deciding : IsDeciding c decision
+  pub fallback : Fallback
+  pub here : decision.object ≡ Fall fallback
+  pub last : decision.after ≡ 0
+
+-- it has seen a bit decided, not the last, and the bits so far do not fit its candidate
+pub record SearchesCandidate {S : Type 0} (c : Core (Elector S)) : Type 0 where
+  pub tenure : ℕ
+  pub election : Elector S
+  pub number : ℕ
+  pub elects : c.phase ≡ Electing tenure election
+  pub searches : election.stage ≡ Search number
+  pub some_decided : election.left < bits_of c.layout.senders
+  pub some_left : 1 ≤ election.left
+  pub unfit : fits_bits election election.candidate ≡ false
+
+-- its election has ended, at the last bit, and the bits spell the sender itself
+pub record IsElected {S : Type 0} (P : Protocol S Bool Verdict) (c : Core (Elector S)) : Type 0 where
+  pub tenure : ℕ
+  pub election : Elector S
+  pub elects : c.phase ≡ Electing tenure election
+  pub last_bit : election.left ≤ 1
+  pub spells : (elections P c.layout.rounds).output election ≡ Some c.me
+
+-- the page lies before it, the order has not ended, its frame fits the log, and so many words of it are stored
+pub record HoldsFitting {E : Type 0} (c : Core E) (stored : ℕ) : Type 0 where
+  pub tenure : ℕ
+  pub page : Page
+  pub holds : c.phase ≡ Holding tenure page stored false
+  pub not_ended : page.ended ≡ false
+  pub room : page.words + frame_len c ≤ c.layout.capacity
+
+-- a word of its frame is not stored yet
+pub record HasWordLeft {E : Type 0} (c : Core E) : Type 0 where
+  pub stored : ℕ
+  pub holds : HoldsFitting c stored
+  pub word_left : stored < frame_len c
+
+-- all words of its frame are stored
+pub record HasStoredAll {E : Type 0} (c : Core E) : Type 0 where
+  pub holds : HoldsFitting c (frame_len c)
+
+-- the page lies before it, and the length is stored, or the order has ended, or its frame does not fit the log
+pub record LeavesPage {E : Type 0} (c : Core E) : Type 0 where
+  pub tenure : ℕ
+  pub page : Page
+  pub stored : ℕ
+  pub published : Bool
+  pub holds : c.phase ≡ Holding tenure page stored published
+  pub why : (published ≡ true) ⊎ ((page.ended ≡ true) ⊎ (c.layout.capacity < page.words + frame_len c))
+
+-- it has handed the page on
+pub record HasHandedOn {E : Type 0} (c : Core E) : Type 0 where
+  pub tenure : ℕ
+  pub leaving : Leaving
+  pub gives : c.phase ≡ Giving tenure leaving
+
+-- the sender has a cause for a step of this kind; the last two kinds are a receiver's
+abbrev pub HasCause : {S : Type 0} → Protocol S Bool Verdict → Core (Elector S) → Kind → Type 0
+HasCause P c kind.LoadStage = LooksForTenure c
+HasCause P c kind.Announce = BeginsElection P c
+HasCause P c kind.StoreProposal = IsInRatifier c
+HasCause P c kind.ReadProposal = IsInRatifier c
+HasCause P c kind.StoreVerdict = IsInRatifier c
+HasCause P c kind.ReadVerdict = IsInRatifier c
+HasCause P c kind.SetMark = IsInConciliator c
+HasCause P c kind.ReadOtherMark = IsInConciliator c
+HasCause P c kind.Vote = IsInConciliator c
+HasCause P c kind.ReadVotes = IsInConciliator c
+HasCause P c kind.Fallback = IsAtFallback c
+HasCause P c kind.ReadAnnouncement = SearchesCandidate c
+HasCause P c kind.TakePage = IsElected P c
+HasCause P c kind.StoreLogWord = HasWordLeft c
+HasCause P c kind.StoreLength = HasStoredAll c
+HasCause P c kind.GivePageBack = LeavesPage c ⊎ HasHandedOn c
+HasCause P c kind.LoadLength = ⊥
+HasCause P c kind.LoadLogWord = ⊥
