@@ -1,16 +1,10 @@
 -- Each kind of step has its cause.
-use Rattle.std.proofs.Common.{◌≡◌, ◌≢◌, ℕ, ◌+◌, ◌*◌, ◌-◌, ◌<◌, ◌≤◌, ◌⊎◌, inl, inr, Bool, true, false, not, cond, ◌&&◌, Option, Some, None, IfSome, is_some, List, [], ◌∷◌, length, nat_lt, nat_le, arith, refl, sym, ◌∙◌, ap, subst}
+use Rattle.std.proofs.Common.{◌≡◌, ℕ, ◌≤◌, ◌⊎◌, inl, inr, Bool, true, false, cond, Option, Some, None, IfSome, nat_lt, arith, refl, sym, ◌∙◌, ap, subst}
 use Rattle.std.proofs.lemmas.Bool.{leb-true, leb-false, ltb-true, ltb-false}
 use Rattle.bus_register.specs.declared.kinds.Kind.{Kind}
-use Rattle.bus_register.specs.declared.kinds.Kind.TheVariants as kind
-use Rattle.bus_register.specs.declared.registers.Op.{Op}
 use Rattle.bus_register.specs.Protocol.{Protocol}
 use Rattle.bus_adoptcommit.specs.declared.verdicts.Verdict.{Verdict}
 use Rattle.bus_adoptcommit.specs.Kinds.{IsOfRatifier}
-use Rattle.bus_batch.specs.Batches.{HasSomething}
-use Rattle.bus_batch.specs.declared.batches.Phase.{Phase as BatchPhase}
-use Rattle.bus_batch.specs.declared.batches.Phase.TheVariants.{Open, Closing, Closed}
-use Rattle.bus_binconsensus.specs.declared.fallbacks.Fallback.{Fallback}
 use Rattle.bus_binconsensus.specs.declared.objects.Object.{Object}
 use Rattle.bus_binconsensus.specs.declared.objects.Object.TheVariants.{Ratify, Concile, Fall}
 use Rattle.bus_binconsensus.specs.Fallback.{kind_from}
@@ -21,16 +15,16 @@ use Rattle.bus_coinconc.specs.ConciliatorKinds.{IsOfConciliator, conciliator_own
 use Rattle.bus_coinconc.specs.ConciliatorProtocol.{conciliator_protocol}
 use Rattle.bus_ownerbits.specs.declared.stages.Stage.{Stage}
 use Rattle.bus_ownerbits.specs.declared.stages.Stage.TheVariants.{Announce, Propose, Search, Alone}
-use Rattle.bus_ownerbits.specs.Election.{owner_of, election_kind, kind_at as election_kind_at}
+use Rattle.bus_ownerbits.specs.Election.{election_kind, kind_at as election_kind_at}
 use Rattle.bus_ownerbits.specs.ElectionKeeps.{StageBelongs, begun_at}
-use Rattle.bus_ownerbits.specs.ElectionLaws.{last_bit, searches}
+use Rattle.bus_ownerbits.specs.ElectionLaws.{searches}
 use Rattle.bus_ownerbits.specs.Sizes.{decision_cost}
 use Rattle.bus_tenure.specs.declared.pages.Page.{Page}
 use Rattle.bus_tenure.specs.declared.phases.Leaving.{Leaving}
 use Rattle.bus_tenure.specs.declared.phases.Leaving.TheVariants.{Sent, FoundEnd, NoRoom}
-use Rattle.bus_tenure.specs.declared.phases.Phase.TheVariants.{Resting, Electing, Taken, Holding, Giving}
+use Rattle.bus_tenure.specs.declared.phases.Phase.TheVariants.{Electing, Holding}
 use Rattle.bus_tenure.specs.Core.{Core, Situation, GivesBack, StoresWord, StoresLength, row_at, frame_len, has_room, holding}
-use Rattle.bus_tenure.specs.Causes.{HasCause, LooksForTenure, BeginsElection, IsDeciding, IsInRatifier, IsInConciliator, IsAtFallback, SearchesCandidate, IsElected, HoldsFitting, HasWordLeft, HasStoredAll, LeavesPage}
+use Rattle.bus_tenure.specs.Causes.{HasCause, IsDeciding, IsInRatifier, IsInConciliator, IsAtFallback, HasWordLeft, HasStoredAll, LeavesPage}
 use Rattle.bus_tenure.specs.Elections.{Elector, ElectorKeeps, elections}
 use Rattle.bus_tenure.specs.Keeping.{CoreKeeps, PhaseKeeps, IsElecting, IsHolding}
 
@@ -163,4 +157,3 @@ module _ {S : Type 0} (P : Protocol S Bool Verdict) (c : Core (Elector S)) (t : 
 
   pub election_cause : (kind : S → Option Kind) → ((s : S) (k : Kind) → kind s ≡ Some k → IsOfRatifier k) → (x : Option Kind) → x ≡ election_kind (λ d. object_kind kind conciliator_kind d.object) e → IfSome x (HasCause P c)
   election_cause kind own x is = subst (λ z. IfSome z (HasCause P c)) (sym is) (by_stage kind own e.stage refl)
-
