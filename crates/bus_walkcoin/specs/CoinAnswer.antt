@@ -1,20 +1,29 @@
 -- What the local state of a process has to do with the steps that it took.
-use Rattle.std.specs.Prelude.{◌≡◌, ℕ, Option, None, IsSome, List, [], ◌∷◌, ◌++◌}
+use Rattle.std.specs.Prelude.{◌≡◌, ◌↔◌, ℕ, ◌*◌, ◌<◌, int_le, Bool, true, false, Option, Some, None, IsSome, List, [], ◌∷◌, ◌++◌, length, pos, neg_ℤ}
 use Rattle.bus_register.specs.declared.registers.Op.{Op}
-use Rattle.bus_walkcoin.specs.Coin.{CoinState, answer_of, wants_of}
-use Rattle.bus_walkcoin.specs.CoinRule.{Entry, votes, counted, coin_answer, coin_votes}
+use Rattle.bus_walkcoin.specs.Coin.{CoinState, coin_op, answer_of, wants_of}
+use Rattle.bus_walkcoin.specs.CoinRule.{Entry, is_store, are_loads, votes, counted, total_seen, coin_answer, coin_votes}
 
--- a process that stood at s took these steps, each where there was a next one, and stands at t
+-- a process that stood at s took these steps, each of which was its next one, and stands at t
 abbrev pub Took : {S : Type 0} → (S → ℕ → Option Op) → (S → ℕ → ℕ → S) → S → List Entry → S → Type 0
 Took op fed s [] t = s ≡ t
-Took op fed s (e ∷ trail) t = IsSome (op s e.word) × Took op fed (fed s e.got e.word) trail t
+Took op fed s (e ∷ trail) t = (op s e.word ≡ Some e.op) × Took op fed (fed s e.got e.word) trail t
 
--- a process of n that took these steps: its own votes, its answer, and whether it votes next
-pub record CoinAnswer (n : ℕ) (trail : List Entry) (s : CoinState) : Type 0 where
-  pub votes : s.own ≡ counted (votes n trail)
-  pub answer : answer_of s ≡ coin_answer n trail
-  pub wants : wants_of s ≡ coin_votes n trail
+-- a process of n, whose counters begin at this word, that took these steps: its own votes, its answer, whether it votes next, and
+-- whether it goes on
+pub record CoinAnswer (n at : ℕ) (trail : List Entry) (s : CoinState) : Type 0 where
+  pub votes : s.own ≡ counted (votes trail)
+  pub answer : answer_of s ≡ coin_answer n at trail
+  pub wants : wants_of s ≡ coin_votes n at trail
+  pub goes_on : (word : ℕ) → IsSome (coin_op s word) ↔ (coin_answer n at trail ≡ None)
 
--- there is no answer before the last of these steps
-abbrev pub Unanswered : ℕ → List Entry → Type 0
-Unanswered n trail = (before after : List Entry) (e : Entry) → trail ≡ before ++ e ∷ after → coin_answer n before ≡ None
+-- no process answers so
+pub record RefusesEarlyAnswers : Type 0 where
+  -- it has not voted
+  pub without_a_vote : (n at : ℕ) (trail : List Entry) (answer : Bool) → votes trail ≡ [] → ¬ (coin_answer n at trail ≡ Some answer)
+  -- fewer than n steps follow a vote
+  pub before_all_loads : (n at : ℕ) (before loads : List Entry) (vote : Entry) (answer : Bool) → is_store vote.op ≡ true → length loads < n → ¬ (coin_answer n at (before ++ vote ∷ loads) ≡ Some answer)
+  -- the steps after its vote do not load the counters in rising order
+  pub out_of_order : (n at : ℕ) (before loads : List Entry) (vote : Entry) (answer : Bool) → length loads ≡ n → ¬ (are_loads at loads ≡ true) → ¬ (coin_answer n at (before ++ vote ∷ loads) ≡ Some answer)
+  -- the total that it saw is below the barrier on both sides, and it has not used up its votes
+  pub below_the_barrier : (n at : ℕ) (trail : List Entry) (answer : Bool) → length (votes trail) < 64 → int_le (pos (2 * n)) (total_seen n trail) ≡ false → int_le (total_seen n trail) (neg_ℤ (pos (2 * n))) ≡ false → ¬ (coin_answer n at trail ≡ Some answer)

@@ -1,10 +1,10 @@
 //! What a coin keeps, as contracts of functions without a body.
 
-ghost use Rattle.std.specs.Prelude.{ℕ, ◌<◌, ◌↔◌, List};
+ghost use Rattle.std.specs.Prelude.{ℕ, ◌<◌, List};
 ghost use Rattle.bus_register.specs.Protocol.{Laws};
 ghost use Rattle.bus_walkcoin.specs.Coin.{CoinState, coin_started, coin_op, coin_fed};
 ghost use Rattle.bus_walkcoin.specs.CoinRule.{Entry};
-ghost use Rattle.bus_walkcoin.specs.CoinAnswer.{Took, CoinAnswer, Unanswered};
+ghost use Rattle.bus_walkcoin.specs.CoinAnswer.{Took, CoinAnswer, RefusesEarlyAnswers};
 ghost use Rattle.bus_walkcoin.specs.CoinProtocol.{coin_protocol, AnyAnswers};
 
 /// Any processes that step through a coin keep the laws of a protocol: each counter holds exactly
@@ -15,15 +15,14 @@ pub fn coin_is_lawful()
 {}
 
 /// Whatever numbers a process is fed and whatever random words, its own votes and its answer are
-/// those that the definition reads off its steps.
+/// those that the definition reads off its steps, and it goes on exactly as long as that gives none.
 pub fn coin_answers_by_its_trail()
     ensures { (n me at : ℕ) (trail : List Entry) (s : CoinState)
-        → me < n → Took coin_op coin_fed (coin_started n me at) trail s → CoinAnswer n trail s }
+        → me < n → Took coin_op coin_fed (coin_started n me at) trail s → CoinAnswer n at trail s }
 {}
 
-/// A process has a next step exactly as long as the definition gives no answer: the steps that it
-/// can take, whatever they find, are those before which there was none.
-pub fn coin_goes_on_until_answered()
-    ensures { (n me at : ℕ) (trail : List Entry)
-        → me < n → Unanswered n trail ↔ ((s : CoinState) × Took coin_op coin_fed (coin_started n me at) trail s) }
+/// No process answers before it has voted, before it has then loaded all counters in rising order,
+/// or below the barrier while votes are left.
+pub fn coin_refuses()
+    ensures { RefusesEarlyAnswers }
 {}
