@@ -13,14 +13,7 @@ use Rattle.bus_batch.specs.declared.messages.Piece.{Piece}
 use Rattle.bus_batch.specs.Frames.{Order, Spells, BeginsLog, piece_items, piece_owners, is_end, order_in, owners_in}
 use Rattle.bus_batch.specs.Reading.{Reading, HasRead}
 use Rattle.bus_batch.specs.PieceLaws.{order_made}
-
--- a reader has read these words, and what was noted is what their pieces say
-pub record Reads (senders : ℕ) (words : List ℕ) (reader : Reading) (order : Order) (owners : List (ℕ × SenderNo)) : Type 0 where
-  pub pieces : List (Option Piece)
-  pub senders_are : reader.senders ≡ senders
-  pub had : HasRead reader.senders words pieces reader
-  pub order_is : order ≡ order_in pieces
-  pub owners_are : owners ≡ owners_in pieces
+use Rattle.bus_deliverylog.specs.Logs.{Reads}
 
 -- one word more
 pub reads_more : (senders word : ℕ) (words words' : List ℕ) (old new : Reading) (order order' : Order) (owners owners' : List (ℕ × SenderNo)) (found : Option Piece)

@@ -29,3 +29,11 @@ pub record HasGiven (senders : ℕ) (words : List ℕ) (order : Order) (owners :
   pub read : HasRead senders words pieces reader
   pub order_is : order ≡ order_in pieces
   pub owners_are : owners ≡ owners_in pieces
+
+-- a reader has read these words, and what was noted is what their pieces say
+pub record Reads (senders : ℕ) (words : List ℕ) (reader : Reading) (order : Order) (owners : List (ℕ × SenderNo)) : Type 0 where
+  pub pieces : List (Option Piece)
+  pub senders_are : reader.senders ≡ senders
+  pub had : HasRead reader.senders words pieces reader
+  pub order_is : order ≡ order_in pieces
+  pub owners_are : owners ≡ owners_in pieces

@@ -1,9 +1,9 @@
 //! A whole log, read.
 
-ghost use Rattle.std.specs.Prelude.{◌≡◌, ℕ, List, ◌++◌, ◌||◌, IfOk, IfErr, OnOk, MatchResult, Err};
-ghost use Rattle.bus_batch.specs.Frames.{Spells, piece_items, piece_owners, is_end};
+ghost use Rattle.std.specs.Prelude.{◌≡◌, ◌≢◌, ℕ, List, ◌++◌, ◌||◌, IfOk, IfErr, OnOk, MatchResult, Err};
+ghost use Rattle.bus_batch.specs.Frames.{Spells, BeginsLog, piece_items, piece_owners, is_end};
 ghost use Rattle.bus_deliverylog.specs.Orders.{order_held};
-ghost use Rattle.bus_deliverylog.specs.Logs.{IsFirstBad, IsTorn, StopsAtGood};
+ghost use Rattle.bus_deliverylog.specs.Logs.{Reads, IsFirstBad, IsTorn, StopsAtGood};
 
 use crate::orders::{LogFault, LogRead, Order};
 use bus_batch::{BadWord, FrameReader, Piece};
@@ -18,6 +18,25 @@ pub fn read_log(alloc: Global, words: &[u64], senders: u64) -> Result<LogRead, L
 
     ensures bad { (place : _) → result ≡ Err (LogFault.BadWord place) → IsFirstBad senders words.now place }
     ensures torn { result ≡ Err LogFault.Torn → IsTorn senders words.now }
+    ensures no_memory { result ≡ Err LogFault.NoMemory → StopsAtGood senders words.now }
+{
+    let (read, reader) = read_words(alloc, words, senders)?;
+    if reader.inside() {
+        return Err(LogFault::Torn);
+    }
+    Ok(read)
+}
+
+/// Reads words up to the first bad one, and gives their reader too. Torn is none of its faults.
+pub(crate) fn read_words(
+    alloc: Global,
+    words: &[u64],
+    senders: u64,
+) -> Result<(LogRead, FrameReader), LogFault>
+    ensures read { IfOk result (λ done. Reads senders words.now done.1 (order_held done.0.order) done.0.owners.items) }
+    ensures begins { BeginsLog senders words.now → IfErr result (λ fault. fault ≡ LogFault.NoMemory) }
+    ensures bad { (place : _) → result ≡ Err (LogFault.BadWord place) → IsFirstBad senders words.now place }
+    ensures torn { result ≢ Err LogFault.Torn }
     ensures no_memory { result ≡ Err LogFault.NoMemory → StopsAtGood senders words.now }
 {
     let mut reader = FrameReader::new(senders);
@@ -36,14 +55,11 @@ pub fn read_log(alloc: Global, words: &[u64], senders: u64) -> Result<LogRead, L
             }),
         }
     }
-    if reader.inside() {
-        return Err(LogFault::Torn);
-    }
-    Ok(read)
+    Ok((read, reader))
 }
 
 /// Notes what a word gave.
-pub(crate) fn note(read: &mut LogRead, found: Option<Piece>) -> Result<(), LogFault>
+fn note(read: &mut LogRead, found: Option<Piece>) -> Result<(), LogFault>
     ensures items { OnOk result (read.new.order.items.items ≡ read.old.order.items.items ++ piece_items found) }
     ensures ended { OnOk result (read.new.order.ended ≡ (read.old.order.ended || is_end found)) }
     ensures owners { OnOk result (read.new.owners.items ≡ read.old.owners.items ++ piece_owners found) }

@@ -1,60 +1,22 @@
-use Rattle.std.proofs.Common.{◌≡◌, ◌+◌, get_or, take, [], ◌∷◌, ◌++◌, refl, ◌∙◌, sym, subst, arith}
-use Rattle.std.proofs.lemmas.List.{take_all, take_more}
-use Rattle.bus_batch.specs.Frames.{BeginsLog, IsBadWord, Spells, order_in, owners_in}
+use Rattle.std.proofs.Common.{◌≡◌, refl, ◌∙◌, subst}
+use Rattle.bus_batch.specs.Frames.{Spells, order_in, owners_in}
 use Rattle.bus_batch.proofs.FrameLaws.{spells_one}
-use Rattle.bus_deliverylog.specs.Orders.{order_held}
-use Rattle.bus_deliverylog.specs.Logs.{IsFirstBad, IsTorn}
-use Rattle.bus_deliverylog.proofs.ReadLaws.{reads_more, begins, spells_begin}
+use Rattle.bus_deliverylog.specs.Logs.{IsTorn}
+use Rattle.bus_deliverylog.proofs.ReadLaws.{begins}
 use Rattle.bus_deliverylog.proofs.reading.read_log.Goals as goal
-
-pub loop-place-preserved : goal.loop-place-preserved
-loop-place-preserved c =
-    reads_more c.args.senders (get_or c.args.words.now c.loop-place.place 0) (take c.loop-place.place c.args.words.now) (take (c.loop-place.place + 1) c.args.words.now)
-    c.loop-place.reader c.feed.new.self (order_held c.loop-place.read.order) (order_held c.note.new.read.order) c.loop-place.read.owners.items c.note.new.read.owners.items c.in-Ok.found
-    c.loop-place.invariant c.in-Ok.ensures.senders (take_more c.args.words.now c.loop-place.place 0 c.loop-place-test.true)
-    (c.in-Ok.ensures.read (take c.loop-place.place c.args.words.now) c.loop-place.invariant.pieces c.loop-place.invariant.had)
-    c.in_ok-note-in-Ok.ensures.items c.in_ok-note-in-Ok.ensures.ended c.in_ok-note-in-Ok.ensures.owners
-
-pub returns-in_err-note-in-Ok-clause-no_memory : goal.returns-in_err-note-in-Ok-clause-no_memory
-returns-in_err-note-in-Ok-clause-no_memory c _ = record {
-  place = c.loop-place.place;
-  below = c.loop-place-test.true;
-  good = subst (λ z. BeginsLog c.args.senders z) (sym (take_more c.args.words.now c.loop-place.place 0 c.loop-place-test.true))
-      (subst (λ z. BeginsLog z (take c.loop-place.place c.args.words.now ++ get_or c.args.words.now c.loop-place.place 0 ∷ [])) c.loop-place.invariant.senders_are
-      (begins c.loop-place.reader.senders (take c.loop-place.place c.args.words.now ++ get_or c.args.words.now c.loop-place.place 0 ∷ []) (c.loop-place.invariant.pieces ++ c.in-Ok.found ∷ []) c.feed.new.self
-      (c.in-Ok.ensures.read (take c.loop-place.place c.args.words.now) c.loop-place.invariant.pieces c.loop-place.invariant.had)));
-}
-
-pub returns-in-Err-clause-exact : goal.returns-in-Err-clause-exact
-returns-in-Err-clause-exact c order owners spelt =
-    absurd ((subst (λ z. IsBadWord z (take c.loop-place.place c.args.words.now) (get_or c.args.words.now c.loop-place.place 0)) c.loop-place.invariant.senders_are
-    ((c.in-Err.ensures.bad (take c.loop-place.place c.args.words.now) c.loop-place.invariant.pieces c.loop-place.invariant.had).0 refl))
-    (spells_begin c.args.senders c.loop-place.place c.args.words.now order owners c.loop-place-test.true spelt))
-
-pub returns-in-Err-clause-bad : goal.returns-in-Err-clause-bad
-returns-in-Err-clause-bad c place e =
-    let same : c.loop-place.place ≡ place = cc in
-    subst (λ z. IsFirstBad c.args.senders c.args.words.now z) same (record {
-      below = c.loop-place-test.true;
-      good = subst (λ z. BeginsLog z (take c.loop-place.place c.args.words.now)) c.loop-place.invariant.senders_are (begins c.loop-place.reader.senders (take c.loop-place.place c.args.words.now) c.loop-place.invariant.pieces c.loop-place.reader c.loop-place.invariant.had);
-      bad = (subst (λ z. IsBadWord z (take c.loop-place.place c.args.words.now) (get_or c.args.words.now c.loop-place.place 0)) c.loop-place.invariant.senders_are
-          ((c.in-Err.ensures.bad (take c.loop-place.place c.args.words.now) c.loop-place.invariant.pieces c.loop-place.invariant.had).0 refl));
-    })
 
 pub returns-then-inside-clause-torn : goal.returns-then-inside-clause-torn
 returns-then-inside-clause-torn c _ =
-    let all : take c.loop-place.place c.args.words.now ≡ c.args.words.now = take_all c.loop-place.place c.args.words.now (omega arith) in
-    subst (λ z. IsTorn c.args.senders z) all (subst (λ z. IsTorn z (take c.loop-place.place c.args.words.now)) c.loop-place.invariant.senders_are (record {
-      good = begins c.loop-place.reader.senders (take c.loop-place.place c.args.words.now) c.loop-place.invariant.pieces c.loop-place.reader c.loop-place.invariant.had;
-      unfinished = c.if-inside.ensures.torn (take c.loop-place.place c.args.words.now) c.loop-place.invariant.pieces c.loop-place.invariant.had refl;
-    }))
+    let r = c.in_ok-read.ensures.read in
+    subst (λ z. IsTorn z c.args.words.now) r.senders_are (record {
+      good = begins c.in_ok-read.reader.senders c.args.words.now r.pieces c.in_ok-read.reader r.had;
+      unfinished = c.if-inside.ensures.torn c.args.words.now r.pieces r.had refl;
+    })
 
 pub returns-clause-exact : goal.returns-clause-exact
 returns-clause-exact c order owners spelt =
-    let all : take c.loop-place.place c.args.words.now ≡ c.args.words.now = take_all c.loop-place.place c.args.words.now (omega arith) in
-    let whole : Spells c.args.senders c.args.words.now (order_in c.loop-place.invariant.pieces) (owners_in c.loop-place.invariant.pieces) =
-    subst (λ z. Spells c.args.senders z (order_in c.loop-place.invariant.pieces) (owners_in c.loop-place.invariant.pieces)) all
-    (subst (λ z. Spells z (take c.loop-place.place c.args.words.now) (order_in c.loop-place.invariant.pieces) (owners_in c.loop-place.invariant.pieces)) c.loop-place.invariant.senders_are
-    (c.inside.ensures.whole (take c.loop-place.place c.args.words.now) c.loop-place.invariant.pieces c.loop-place.invariant.had c.if-inside.false)) in
-    let same = spells_one c.args.senders c.args.words.now (order_in c.loop-place.invariant.pieces) order (owners_in c.loop-place.invariant.pieces) owners whole spelt in
-    (c.loop-place.invariant.order_is ∙ same.0, c.loop-place.invariant.owners_are ∙ same.1)
+    let r = c.in_ok-read.ensures.read in
+    let whole : Spells c.args.senders c.args.words.now (order_in r.pieces) (owners_in r.pieces) =
+    subst (λ z. Spells z c.args.words.now (order_in r.pieces) (owners_in r.pieces)) r.senders_are (c.inside.ensures.whole c.args.words.now r.pieces r.had c.if-inside.false) in
+    let same = spells_one c.args.senders c.args.words.now (order_in r.pieces) order (owners_in r.pieces) owners whole spelt in
+    (r.order_is ∙ same.0, r.owners_are ∙ same.1)

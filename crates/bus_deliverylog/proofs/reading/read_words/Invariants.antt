@@ -1,7 +1,7 @@
 use Rattle.std.proofs.Common.{take}
 use Rattle.bus_deliverylog.specs.Orders.{order_held}
-use Rattle.bus_deliverylog.proofs.ReadLaws.{Reads}
-use Rattle.bus_deliverylog.proofs.reading.read_log.Given as goal
+use Rattle.bus_deliverylog.specs.Logs.{Reads}
+use Rattle.bus_deliverylog.proofs.reading.read_words.Given as goal
 
 abbrev pub invariant-loop-place : goal.invariant-loop-place
 invariant-loop-place l = Reads l.senders (take l.place l.words) l.reader (order_held l.read.order) l.read.owners.items

@@ -1,11 +1,10 @@
-use Rattle.std.proofs.Common.{◌≡◌, ◌+◌, get_or, take, refl, subst, arith}
+use Rattle.std.proofs.Common.{◌≡◌, ◌+◌, get_or, take, [], ◌∷◌, ◌++◌, refl, sym, subst, arith}
 use Rattle.std.proofs.lemmas.List.{take_all, take_more}
 use Rattle.bus_batch.specs.Frames.{BeginsLog, IsBadWord}
-use Rattle.bus_batch.specs.Reading.{HasRead}
 use Rattle.bus_deliverylog.specs.Orders.{order_held}
-use Rattle.bus_deliverylog.specs.Logs.{IsFirstBad}
+use Rattle.bus_deliverylog.specs.Logs.{Reads, IsFirstBad}
 use Rattle.bus_deliverylog.proofs.ReadLaws.{reads_more, begins, front_begins}
-use Rattle.bus_deliverylog.proofs.fronts.read_front.Goals as goal
+use Rattle.bus_deliverylog.proofs.reading.read_words.Goals as goal
 
 pub loop-place-preserved : goal.loop-place-preserved
 loop-place-preserved c =
@@ -31,13 +30,17 @@ returns-in-Err-clause-bad c place e =
           ((c.in-Err.ensures.bad (take c.loop-place.place c.args.words.now) c.loop-place.invariant.pieces c.loop-place.invariant.had).0 refl));
     })
 
+pub returns-in_err-note-in-Ok-clause-no_memory : goal.returns-in_err-note-in-Ok-clause-no_memory
+returns-in_err-note-in-Ok-clause-no_memory c _ = record {
+  place = c.loop-place.place;
+  below = c.loop-place-test.true;
+  good = subst (λ z. BeginsLog c.args.senders z) (sym (take_more c.args.words.now c.loop-place.place 0 c.loop-place-test.true))
+      (subst (λ z. BeginsLog z (take c.loop-place.place c.args.words.now ++ get_or c.args.words.now c.loop-place.place 0 ∷ [])) c.loop-place.invariant.senders_are
+      (begins c.loop-place.reader.senders (take c.loop-place.place c.args.words.now ++ get_or c.args.words.now c.loop-place.place 0 ∷ []) (c.loop-place.invariant.pieces ++ c.in-Ok.found ∷ []) c.feed.new.self
+      (c.in-Ok.ensures.read (take c.loop-place.place c.args.words.now) c.loop-place.invariant.pieces c.loop-place.invariant.had)));
+}
+
 pub returns-clause-read : goal.returns-clause-read
 returns-clause-read c =
     let all : take c.loop-place.place c.args.words.now ≡ c.args.words.now = take_all c.loop-place.place c.args.words.now (omega arith) in
-    record {
-      pieces = c.loop-place.invariant.pieces;
-      reader = c.loop-place.reader;
-      read = subst (λ z. HasRead c.args.senders z c.loop-place.invariant.pieces c.loop-place.reader) all (subst (λ z. HasRead z (take c.loop-place.place c.args.words.now) c.loop-place.invariant.pieces c.loop-place.reader) c.loop-place.invariant.senders_are c.loop-place.invariant.had);
-      order_is = c.loop-place.invariant.order_is;
-      owners_are = c.loop-place.invariant.owners_are;
-    }
+    subst (λ z. Reads c.args.senders z c.loop-place.reader (order_held c.loop-place.read.order) c.loop-place.read.owners.items) all c.loop-place.invariant
