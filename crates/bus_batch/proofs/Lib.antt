@@ -6,3 +6,4 @@ pub mod Taking
 pub mod Feeding
 pub mod Batching
 pub mod FrameLaws
+pub mod RefusalLaws
