@@ -2,3 +2,4 @@ pub mod ReadLaws
 pub mod ReceiveLaws
 pub mod WriteLaws
 pub mod WritingSteps
+pub mod FaultLaws

@@ -10,7 +10,7 @@ use Rattle.std.proofs.Math.Seq.{drop-cons}
 use Rattle.bus_register.specs.declared.registers.SenderNo.{SenderNo}
 use Rattle.bus_batch.specs.declared.messages.Item.{Item}
 use Rattle.bus_batch.specs.declared.messages.Piece.{Piece}
-use Rattle.bus_batch.specs.Frames.{Order, Spells, BeginsLog, piece_items, piece_owners, is_end, order_in, owners_in}
+use Rattle.bus_batch.specs.Frames.{Order, Spells, BeginsLog, piece_items, piece_owners, is_end}
 use Rattle.bus_batch.specs.Reading.{Reading, HasRead}
 use Rattle.bus_batch.specs.PieceLaws.{order_made}
 use Rattle.bus_deliverylog.specs.Logs.{Reads}

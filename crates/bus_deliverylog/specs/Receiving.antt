@@ -1,5 +1,6 @@
 -- A receiver's end of the log: what it knows, and what one load does to it.
 use Rattle.std.specs.Prelude.{◌≡◌, ℕ, ◌+◌, ◌<◌, ◌≤◌, List, [], ◌∷◌, ◌++◌, length, ◌⊎◌, Bool, Option, Some, None, if◌then◌else◌, ◌==◌}
+use Rattle.std.specs.List.{list_any}
 use Rattle.bus_register.specs.declared.kinds.Kind.{Kind}
 use Rattle.bus_register.specs.declared.kinds.Kind.TheVariants.{LoadLength, LoadLogWord}
 use Rattle.bus_register.specs.declared.registers.Op.{Op}
@@ -40,6 +41,13 @@ turn_of (Some piece.End) = turn.End
 pub record HasReceived (words : List ℕ) (pieces : List (Option Piece)) (r : Receiving) : Type 0 where
   pub read : HasRead r.frames.senders words pieces r.frames
   pub place : r.place ≡ length words
+
+-- it has read some words with which a log begins, and has ended exactly where the end was among what they gave
+pub record HasSeen (r : Receiving) : Type 0 where
+  pub words : List ℕ
+  pub pieces : List (Option Piece)
+  pub received : HasReceived words pieces r
+  pub ended : r.ended ≡ list_any is_end pieces
 
 -- a load of the length: the known one gives Empty, a larger one is known from then on, and any other changes nothing
 pub record TakesLength (old : Receiving) (got : ℕ) (answer : RecvTurn) (new : Receiving) : Type 0 where

@@ -1,13 +1,15 @@
-//! Laws of the two ends of the log: each function does nothing, and its contract is the law.
+//! Laws of the log and of its two ends: each function does nothing, and its contract is the law.
 
-ghost use Rattle.std.specs.Prelude.{◌≡◌, ℕ, ◌+◌, ◌<◌, List, [], ◌∷◌, ◌++◌, length, All, Some, false};
+ghost use Rattle.std.specs.Prelude.{◌≡◌, ◌≢◌, ℕ, ◌+◌, ◌<◌, List, [], ◌∷◌, ◌++◌, length, All, Some, false, true};
 ghost use Rattle.bus_register.specs.Words.{register, after};
 ghost use Rattle.bus_register.specs.Tables.{Beside};
 ghost use Rattle.bus_register.specs.declared.kinds.Kind.TheVariants as kind;
 ghost use Rattle.bus_register.specs.declared.registers.Op.TheVariants as op;
 ghost use Rattle.bus_batch.specs.Frames.{Frame, IsFrame, frame_words, Spells, items_of, ends, tenure_and_owner, order_in, owners_in};
 ghost use Rattle.bus_batch.specs.Reading.{HasRead};
+ghost use Rattle.bus_batch.specs.declared.messages.Item.{Item};
 ghost use Rattle.bus_deliverylog.specs.Orders.{IsPrefixOfOrder};
+ghost use Rattle.bus_deliverylog.specs.Logs.{IsFirstBad, IsTorn};
 ghost use Rattle.bus_deliverylog.specs.Writing.{Writing, writing_kind, writing_op, writing_fed, words_at, HasStored, IsApart};
 
 /// What a writer has stored stands in the log: of none before the first step, of one word more after
@@ -24,4 +26,19 @@ pub fn writer_is_lawful()
 /// once the end was read, nothing is left.
 pub fn reads_a_prefix()
     ensures { (senders : ℕ) (words : List ℕ) (rest : List ℕ) (pieces : _) (reader : _) (order : _) (owners : _) → HasRead senders words pieces reader → Spells senders (words ++ rest) order owners → IsPrefixOfOrder (order_in pieces) order × ((later : _) × (owners ≡ owners_in pieces ++ later)) }
+{}
+
+/// What is no prefix of an order: what skips an item, what repeats one, and what has ended before it.
+pub fn no_prefix_is()
+    ensures skips { (a : Item) (b : Item) → a ≢ b → ¬ IsPrefixOfOrder (record { items = b ∷ []; ended = false }) (record { items = a ∷ b ∷ []; ended = false }) }
+    ensures repeats { (a : Item) (b : Item) → a ≢ b → ¬ IsPrefixOfOrder (record { items = a ∷ a ∷ []; ended = false }) (record { items = a ∷ b ∷ []; ended = false }) }
+    ensures ended { (a : Item) → ¬ IsPrefixOfOrder (record { items = []; ended = true }) (record { items = a ∷ []; ended = false }) }
+{}
+
+/// Words that are a log have no fault, and words that are none have one alone.
+pub fn readings_are_exact()
+    ensures whole { (senders : ℕ) (words : List ℕ) (order : _) (owners : _) → Spells senders words order owners → ¬ IsTorn senders words }
+    ensures good { (senders : ℕ) (words : List ℕ) (order : _) (owners : _) (place : ℕ) → Spells senders words order owners → ¬ IsFirstBad senders words place }
+    ensures torn { (senders : ℕ) (words : List ℕ) (place : ℕ) → IsTorn senders words → ¬ IsFirstBad senders words place }
+    ensures first { (senders : ℕ) (words : List ℕ) (place : ℕ) (other : ℕ) → IsFirstBad senders words place → IsFirstBad senders words other → place ≡ other }
 {}

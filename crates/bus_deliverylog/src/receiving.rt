@@ -37,13 +37,13 @@ pub struct Reader {
 
 impl Model for Reader {
     ghost use Rattle.std.specs.Prelude.{◌+◌, ◌<◌, ◌≤◌, ◌^◌};
-    ghost use Rattle.bus_deliverylog.specs.Receiving.{Receiving};
+    ghost use Rattle.bus_deliverylog.specs.Receiving.{Receiving, HasSeen};
 
     ghost Value = { Receiving };
 
     ghost view = { λ r. record { log_at = r.log.0; length_at = r.length.0; log_words = r.words; known = r.known; place = r.place; frames = r.frames; ended = r.ended } };
 
-    ghost invariant = { λ r. (r.log.0 + r.words < 2 ^ 64) × (r.known ≤ r.words) × (r.place ≤ r.known) };
+    ghost invariant = { λ r. (r.log.0 + r.words < 2 ^ 64) × (r.known ≤ r.words) × (r.place ≤ r.known) × HasSeen (record { log_at = r.log.0; length_at = r.length.0; log_words = r.words; known = r.known; place = r.place; frames = r.frames; ended = r.ended }) };
 }
 
 impl Reader {

@@ -1,4 +1,4 @@
-use Rattle.std.proofs.Common.{◌≡◌, refl, ◌∙◌, subst}
+use Rattle.std.proofs.Common.{refl, ◌∙◌, subst}
 use Rattle.bus_batch.specs.Frames.{Spells, order_in, owners_in}
 use Rattle.bus_batch.proofs.FrameLaws.{spells_one}
 use Rattle.bus_deliverylog.specs.Logs.{IsTorn}
