@@ -1,6 +1,9 @@
 //! `bench_reader` prints how long a plain sum, `read_log` and a receiver take for each word of a log
 //! of 65,505 words, the best of 50 rounds. With an argument it takes one round and prints nothing.
+//! Where a reader does not find all messages it says so, times nothing and fails.
 #![tactic(auto)]
+
+ghost use Rattle.std.specs.Prelude.{◌≡◌, ◌*◌, IsTrue, ◌↔◌};
 
 use bus_deliverylog::{Reader, RecvTurn, read_log};
 use bus_register::{Op, Reg};
@@ -12,6 +15,9 @@ use std::{env, io};
 
 /// 16 messages of 8 bytes in each frame, which makes 33 words.
 const FRAMES: u64 = 1985;
+
+/// How many messages the log has.
+const MESSAGES: u64 = 16 * FRAMES;
 
 /// The head of a frame of sender 0 and 32 words, before its tenure is added.
 const HEAD: u64 = 0x4000_2000_0000_0000;
@@ -82,6 +88,13 @@ fn receive(words: &[u64]) -> u64 {
     items
 }
 
+/// Both readers found all messages of the log.
+fn found_all(read: u64, received: u64) -> bool
+    ensures { IsTrue result ↔ ((read ≡ 16 * 1985) × (received ≡ 16 * 1985)) }
+{
+    read == MESSAGES && received == MESSAGES
+}
+
 /// The least nanoseconds that each way took.
 #[derive(Clone, Copy)]
 struct Best {
@@ -119,7 +132,10 @@ fn main(rt: HostRuntime) -> io::Result<ExitCode> {
     let quiet = env::args(&rt)?.nth(1).is_some();
     let words = log_words(alloc)?;
     let mut summed = log_words(alloc)?;
-    if read_whole(alloc, &words) as u64 != receive(&words) {
+    let read = read_whole(alloc, &words) as u64;
+    let received = receive(&words);
+    if !found_all(read, received) {
+        println!(rt; "of {MESSAGES} messages read_log found {read}, a receiver {received}")?;
         return Ok(ExitCode::FAILURE);
     }
     let mut best = Best {
