@@ -1,0 +1,4 @@
+pub mod InStepLaws
+pub mod InWorldLaws
+pub mod OutcomeLaws
+pub mod SeatLaws

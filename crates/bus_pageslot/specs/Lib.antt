@@ -1,9 +1,5 @@
 pub mod Seats
 pub mod Taps
 pub mod InWorld
-pub mod InWorldLaws
 pub mod InStep
-pub mod InStepLaws
-pub mod SeatLaws
 pub mod Outcomes
-pub mod OutcomeLaws

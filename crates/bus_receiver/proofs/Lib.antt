@@ -1,0 +1,2 @@
+pub mod HearingLaws
+pub mod ReceivingLaws

@@ -40,14 +40,14 @@ use Rattle.std.specs.Prelude.{◌||◌}
 use Rattle.std.specs.List.{list_any}
 use Rattle.bus_tenure.specs.Core.{op_at, answer_at}
 use Rattle.bus_world.specs.Bus.{IsLayout, AreOwned, Fits}
-use Rattle.bus_world.specs.BusLaws as bus
+use Rattle.bus_world.proofs.BusLaws as bus
 use Rattle.bus_world.specs.Headline.{Deed, HasPut, HasClosed, Stepped, puts, Announced, Elected, Took, Closed, item_heard, end_heard, given, heads, IsPrefix, Faithful, Promises}
 use Rattle.bus_world.specs.Log.{read, sent, AreCounted}
-use Rattle.bus_world.specs.LogLaws.{length-read}
-use Rattle.bus_world.specs.ReceivingLaws.{given_is_prefix}
+use Rattle.bus_world.proofs.LogLaws.{length-read}
+use Rattle.bus_world.proofs.ReceivingLaws.{given_is_prefix}
 use Rattle.bus_world.specs.Turning.{Side, turned, core_after, found, frames_after}
 use Rattle.bus_world.specs.World.{Bus, Event, Put, Close, Turn, Recv, IsEvent, Happens, SenderDoes, with_sender, can_put, can_close, put_in, close_in, LawfulBus, IsReceiver, IsNew, put_by, waiting_of, waiting_at, is_open, given_at, accepted, accepted_by, event_frames, frames_by}
-use Rattle.bus_world.specs.WorldLaws.{event_left, event_puts, counted_at, new_is_lawful}
+use Rattle.bus_world.proofs.WorldLaws.{event_left, event_puts, counted_at, new_is_lawful}
 use Rattle.bus_world.specs.Playing.{AllAnswered, Answers, PutGives, CloseGives, TurnAnswers, RecvAnswers, log_of}
 use Rattle.bus_world.specs.declared.events.Answer.{Answer}
 use Rattle.bus_world.specs.declared.events.Answer.TheVariants as answer

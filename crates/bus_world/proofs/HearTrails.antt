@@ -18,12 +18,12 @@ use Rattle.bus_deliverylog.specs.declared.receiving.RecvTurn.{RecvTurn}
 use Rattle.bus_deliverylog.specs.declared.receiving.RecvTurn.TheVariants as heard
 use Rattle.bus_tenure.specs.Core.{Layout, log_at}
 use Rattle.bus_world.specs.Log.{read, Logged}
-use Rattle.bus_world.specs.LogLaws.{length-read}
-use Rattle.bus_world.specs.ReceivingLaws.{length-log_pieces}
+use Rattle.bus_world.proofs.LogLaws.{length-read}
+use Rattle.bus_world.proofs.ReceivingLaws.{length-log_pieces}
 use Rattle.bus_world.specs.Headline.{item_heard, end_heard, head_heard, given, heads}
 use Rattle.bus_world.proofs.Tying.{Hears}
 use Rattle.bus_world.specs.World.{RecvDoes, RecvStep, recv_found, IsReceiver, given_at}
-use Rattle.bus_world.specs.WorldLaws.{received}
+use Rattle.bus_world.proofs.WorldLaws.{received}
 
 -- ---- what one answer adds
 abbrev pub more_order : Order → List Item → Bool → Order

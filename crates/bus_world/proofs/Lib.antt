@@ -1,3 +1,15 @@
+pub mod TenuresLaws
+pub mod LogLaws
+pub mod QueueLaws
+pub mod BusLaws
+pub mod TurningLaws
+pub mod TurnSteps
+pub mod ReceivingLaws
+pub mod PutLaws
+pub mod WorldLaws
+pub mod StartingLaws
+pub mod PlayingLaws
+pub mod ViewingLaws
 pub mod Places
 pub mod Tying
 pub mod TableTrails

@@ -8,7 +8,7 @@ use Rattle.bus_tenure.specs.Core.{Election, Layout}
 use Rattle.bus_world.specs.Bus.{IsLayout}
 use Rattle.bus_world.specs.Headline.{given}
 use Rattle.bus_world.specs.Playing.{Sitting, AllAnswered, Answers, log_of}
-use Rattle.bus_world.specs.PlayingLaws.{layout_served}
+use Rattle.bus_world.proofs.PlayingLaws.{layout_served}
 use Rattle.bus_world.specs.Telling.{Tells}
 use Rattle.bus_world.specs.Trails.{Trails, Reached, IsPromised, Takers, Follows, Played, IsSitting}
 use Rattle.bus_world.specs.World.{Bus, Event, IsEvent, Happens, given_at}

@@ -24,9 +24,9 @@ use Rattle.bus_world.specs.declared.events.Answer.TheVariants as answer
 use Rattle.bus_world.specs.Bus.{IsLayout, Part, Fits}
 use Rattle.bus_world.specs.Headline.{Deed, Stepped, Elected, Took}
 use Rattle.bus_world.specs.Log.{read}
-use Rattle.bus_world.specs.LogLaws.{length-read, items-append}
+use Rattle.bus_world.proofs.LogLaws.{length-read, items-append}
 use Rattle.bus_world.specs.Playing.{Answers, TurnAnswers, log_of}
-use Rattle.bus_world.specs.QueueLaws.{counted_frame, length-items}
+use Rattle.bus_world.proofs.QueueLaws.{counted_frame, length-items}
 use Rattle.bus_world.specs.Telling.{HasDelivered, TurnTells, SenderTells, EventTells, Tells}
 use Rattle.bus_world.specs.Trails.{Trails, Reached, extended, turn_deeds, turning_deeds, step_deed}
 use Rattle.bus_world.specs.Turning.{Side, found, IsSide}

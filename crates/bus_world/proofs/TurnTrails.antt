@@ -24,7 +24,7 @@ use Rattle.bus_batch.specs.Frames.{Frame}
 use Rattle.bus_ownerbits.specs.ElectionKeeps.{OneOwner}
 use Rattle.bus_ownerbits.specs.ElectionSteps.{row_within}
 use Rattle.bus_world.specs.Tenures.Standing.{Runs}
-use Rattle.bus_world.specs.TenuresLaws as tenures
+use Rattle.bus_world.proofs.TenuresLaws as tenures
 use Rattle.bus_world.specs.Bus.{IsLayout, least_of, Part, Fits, stands_at}
 use Rattle.bus_world.specs.Turning.{Side, stepped, found, laid, turned, IsSide}
 use Rattle.bus_world.specs.declared.events.Answer.TheVariants as answer

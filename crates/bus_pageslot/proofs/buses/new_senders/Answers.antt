@@ -1,6 +1,6 @@
 use Rattle.std.proofs.Common.{◌≡◌, ◌+◌, arith, subst, sym}
 use Rattle.bus_pageslot.specs.Seats.{AreNewSeats}
-use Rattle.bus_pageslot.specs.SeatLaws.{one_more_seat}
+use Rattle.bus_pageslot.proofs.SeatLaws.{one_more_seat}
 use Rattle.bus_pageslot.proofs.buses.new_senders.Goals as goal
 
 pub loop-number-preserved : goal.loop-number-preserved

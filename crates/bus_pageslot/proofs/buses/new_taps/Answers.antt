@@ -1,6 +1,6 @@
 use Rattle.std.proofs.Common.{◌≡◌, ◌+◌, arith, subst, sym}
 use Rattle.bus_pageslot.specs.Taps.{AreNewPasses}
-use Rattle.bus_pageslot.specs.SeatLaws.{one_more_pass}
+use Rattle.bus_pageslot.proofs.SeatLaws.{one_more_pass}
 use Rattle.bus_pageslot.proofs.buses.new_taps.Goals as goal
 
 pub loop-preserved : goal.loop-preserved

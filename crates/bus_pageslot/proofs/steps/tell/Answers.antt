@@ -1,10 +1,10 @@
 use Rattle.std.proofs.Common.{subst, sym}
 use Rattle.bus_pageslot.specs.InStep.{TakesTold}
-use Rattle.bus_pageslot.specs.InStepLaws.{told_with_close}
+use Rattle.bus_pageslot.proofs.InStepLaws.{told_with_close}
 use Rattle.bus_tenure.specs.Elections.{election_of}
 use Rattle.bus_pageslot.specs.InWorld.{Runs}
 use Rattle.bus_pageslot.specs.InWorld.{tellings}
-use Rattle.bus_pageslot.specs.InWorldLaws.{told_close}
+use Rattle.bus_pageslot.proofs.InWorldLaws.{told_close}
 use Rattle.bus_pageslot.proofs.steps.tell.Goals as goal
 
 pub returns-then-tell_close-clause-runs : goal.returns-then-tell_close-clause-runs

@@ -4,8 +4,8 @@ use Rattle.std.proofs.lemmas.List.{take_all}
 use Rattle.bus_tenure.specs.Elections.{election_of}
 use Rattle.bus_world.specs.World.{Put}
 use Rattle.bus_pageslot.specs.InWorld.{Runs}
-use Rattle.bus_pageslot.specs.InWorldLaws.{one_more_put}
-use Rattle.bus_pageslot.specs.InStepLaws.{one_more_told}
+use Rattle.bus_pageslot.proofs.InWorldLaws.{one_more_put}
+use Rattle.bus_pageslot.proofs.InStepLaws.{one_more_told}
 use Rattle.std.specs.Prelude.{true, false, slice_get}
 use Rattle.std.proofs.lemmas.List.{drop_all}
 use Rattle.bus_pageslot.specs.InStep.{TakesMessages}

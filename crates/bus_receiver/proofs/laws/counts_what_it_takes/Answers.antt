@@ -1,4 +1,4 @@
-use Rattle.bus_receiver.specs.HearingLaws.{counts_each, counts_items}
+use Rattle.bus_receiver.proofs.HearingLaws.{counts_each, counts_items}
 use Rattle.bus_receiver.proofs.laws.counts_what_it_takes.Goals as goal
 
 pub returns-clause-each : goal.returns-clause-each

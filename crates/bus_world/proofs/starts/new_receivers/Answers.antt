@@ -1,7 +1,7 @@
 use Rattle.std.proofs.Common.{◌+◌, [], arith, subst, sym}
 use Rattle.bus_batch.specs.Reading.{HasRead}
 use Rattle.bus_world.specs.Starting.{AreNewReaders}
-use Rattle.bus_world.specs.StartingLaws.{one_more_reader}
+use Rattle.bus_world.proofs.StartingLaws.{one_more_reader}
 use Rattle.bus_world.proofs.starts.new_receivers.Goals as goal
 
 pub loop-preserved : goal.loop-preserved

@@ -1,7 +1,7 @@
 use Rattle.std.proofs.Common.{◌≡◌, ◌+◌, arith, subst, sym}
 use Rattle.bus_tenure.specs.Elections.{layout_of}
 use Rattle.bus_world.specs.Starting.{AreNewCores}
-use Rattle.bus_world.specs.StartingLaws.{one_more_core}
+use Rattle.bus_world.proofs.StartingLaws.{one_more_core}
 use Rattle.bus_world.proofs.starts.new_senders.Goals as goal
 
 pub loop-me-preserved : goal.loop-me-preserved

@@ -1,6 +1,6 @@
 use Rattle.std.proofs.Common.{◌∙◌}
 use Rattle.bus_tenure.specs.Elections.{election_of}
-use Rattle.bus_world.specs.TurnSteps.{words_so, answer_so, turn_lays}
+use Rattle.bus_world.proofs.TurnSteps.{words_so, answer_so, turn_lays}
 use Rattle.bus_world.proofs.turns.turn_sender.Goals as goal
 
 pub returns-clause-words : goal.returns-clause-words

@@ -1,7 +1,7 @@
 use Rattle.std.proofs.Common.{◌≡◌, ◌∙◌, [], ◌∷◌, ◌++◌, sym, ap, subst}
 use Rattle.bus_pageslot.specs.Seats.{Seat}
 use Rattle.bus_pageslot.specs.InStep.{Owes}
-use Rattle.bus_pageslot.specs.InStepLaws.{owes_after_put}
+use Rattle.bus_pageslot.proofs.InStepLaws.{owes_after_put}
 use Rattle.bus_pageslot.proofs.seats.Sender.put.Goals as goal
 
 pub returns-in-Some-clause-owed : goal.returns-in-Some-clause-owed

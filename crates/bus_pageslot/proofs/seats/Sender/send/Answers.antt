@@ -1,5 +1,5 @@
 use Rattle.std.proofs.Common.{arith, sym, ◌∙◌}
-use Rattle.bus_pageslot.specs.SeatLaws.{no_turn, one_more_turn}
+use Rattle.bus_pageslot.proofs.SeatLaws.{no_turn, one_more_turn}
 use Rattle.bus_pageslot.proofs.seats.Sender.send.Goals as goal
 
 pub loop-init : goal.loop-init

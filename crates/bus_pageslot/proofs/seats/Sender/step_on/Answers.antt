@@ -4,7 +4,7 @@ use Rattle.bus_batch.specs.Batches.{Pending}
 use Rattle.bus_tenure.specs.Elections.{election_of, elections}
 use Rattle.bus_world.specs.World.{Turn, Happens}
 use Rattle.bus_pageslot.specs.InWorld.{answer_in}
-use Rattle.bus_pageslot.specs.InStepLaws.{answers}
+use Rattle.bus_pageslot.proofs.InStepLaws.{answers}
 use Rattle.bus_pageslot.specs.Seats.{Seat}
 use Rattle.bus_pageslot.proofs.seats.Sender.step_on.Goals as goal
 

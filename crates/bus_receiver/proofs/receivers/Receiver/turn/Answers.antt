@@ -2,7 +2,7 @@ use Rattle.std.proofs.Common.{◌≡◌, ◌≢◌, false, sym, ◌∙◌, ap, s
 use Rattle.bus_deliverylog.specs.Receiving.{Receiving}
 use Rattle.bus_pageslot.specs.Taps.{Pass}
 use Rattle.bus_receiver.specs.Receiving.{knows, IsFit, Hears}
-use Rattle.bus_receiver.specs.ReceivingLaws.{caught_up, word_heard}
+use Rattle.bus_receiver.proofs.ReceivingLaws.{caught_up, word_heard}
 use Rattle.bus_receiver.proofs.receivers.Receiver.turn.Goals as goal
 
 pub invariant_of-self-else-place-known : goal.invariant_of-self-else-place-known

@@ -1,6 +1,6 @@
 use Rattle.std.proofs.Common.{refl, arith}
 use Rattle.bus_tenure.specs.Elections.{elections, election_of, layout_of}
-use Rattle.bus_world.specs.PlayingLaws.{there, close_unknown, close_idle, close_happens, close_sits, close_keeps, close_gives, close_refused}
+use Rattle.bus_world.proofs.PlayingLaws.{there, close_unknown, close_idle, close_happens, close_sits, close_keeps, close_gives, close_refused}
 use Rattle.bus_world.proofs.worlds.World.close_at.Goals as goal
 
 pub returns-then-sender-len-clause-happens : goal.returns-then-sender-len-clause-happens

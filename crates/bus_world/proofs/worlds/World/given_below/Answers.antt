@@ -4,8 +4,8 @@ use Rattle.std.proofs.lemmas.Option.{same_Some}
 use Rattle.bus_batch.specs.Frames.{AreFrames, log_pieces, order_in}
 use Rattle.bus_tenure.specs.Elections.{elections}
 use Rattle.bus_world.specs.Playing.{log_of}
-use Rattle.bus_world.specs.PlayingLaws.{there}
-use Rattle.bus_world.specs.ViewingLaws.{front_given, place_within}
+use Rattle.bus_world.proofs.PlayingLaws.{there}
+use Rattle.bus_world.proofs.ViewingLaws.{front_given, place_within}
 use Rattle.bus_world.proofs.worlds.World.given_below.Goals as goal
 
 pub slice_bounds-read_front-end : goal.slice_bounds-read_front-end

@@ -1,7 +1,7 @@
 use Rattle.std.proofs.Common.{◌≡◌, ◌+◌, ◌-◌, length, take, drop, slice_index, refl, subst}
 use Rattle.bus_tenure.specs.Elections.{elections}
 use Rattle.bus_world.specs.Playing.{log_of}
-use Rattle.bus_world.specs.ViewingLaws.{log_is}
+use Rattle.bus_world.proofs.ViewingLaws.{log_is}
 use Rattle.bus_world.proofs.worlds.World.log.Goals as goal
 
 pub returns : goal.returns

@@ -1,9 +1,9 @@
 use Rattle.std.proofs.Common.{◌*◌, [], map, refl, arith, ap}
 use Rattle.bus_tenure.specs.Elections.{elections, election_of, layout_of}
-use Rattle.bus_world.specs.ViewingLaws.{few_words, made_new}
+use Rattle.bus_world.proofs.ViewingLaws.{few_words, made_new}
 use Rattle.bus_world.specs.Trails.{no_trails}
 use Rattle.bus_world.specs.Trails.Reached.{New}
-use Rattle.bus_world.specs.WorldLaws.{new_is_lawful}
+use Rattle.bus_world.proofs.WorldLaws.{new_is_lawful}
 use Rattle.bus_world.proofs.worlds.World.new.Goals as goal
 
 pub overflow_mul-log : goal.overflow_mul-log

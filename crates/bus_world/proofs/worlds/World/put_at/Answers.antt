@@ -1,6 +1,6 @@
 use Rattle.std.proofs.Common.{refl, arith, length}
 use Rattle.bus_tenure.specs.Elections.{elections, election_of, layout_of}
-use Rattle.bus_world.specs.PlayingLaws.{there, small_bytes, put_unknown, put_idle, put_fits, put_happens, put_sits, put_keeps, put_gives, put_refused}
+use Rattle.bus_world.proofs.PlayingLaws.{there, small_bytes, put_unknown, put_idle, put_fits, put_happens, put_sits, put_keeps, put_gives, put_refused}
 use Rattle.bus_world.proofs.worlds.World.put_at.Goals as goal
 
 pub returns-then-sender-len-clause-fault : goal.returns-then-sender-len-clause-fault

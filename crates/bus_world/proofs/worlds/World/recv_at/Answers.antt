@@ -1,6 +1,6 @@
 use Rattle.std.proofs.Common.{refl, arith}
 use Rattle.bus_tenure.specs.Elections.{elections, election_of, layout_of}
-use Rattle.bus_world.specs.PlayingLaws.{there, recv_unknown, recv_idle, loads_within, recv_happens, recv_sits, recv_answers}
+use Rattle.bus_world.proofs.PlayingLaws.{there, recv_unknown, recv_idle, loads_within, recv_happens, recv_sits, recv_answers}
 use Rattle.bus_world.proofs.worlds.World.recv_at.Goals as goal
 
 pub returns-then-receiver-len-clause-happens : goal.returns-then-receiver-len-clause-happens

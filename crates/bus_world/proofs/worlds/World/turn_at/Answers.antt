@@ -1,6 +1,7 @@
 use Rattle.std.proofs.Common.{refl, subst, arith, ◌∙◌, sym, ap, map, slice_set}
 use Rattle.bus_tenure.specs.Elections.{Elector, elections, election_of, layout_of}
-use Rattle.bus_world.specs.PlayingLaws.{there, turn_unknown, turn_idle, words_enough, sums_fit, owner_fits, owners_by, turn_happens, turn_sits, turn_answers, numbers_many}
+use Rattle.bus_world.specs.TurnParts.{owners_by}
+use Rattle.bus_world.proofs.PlayingLaws.{there, turn_unknown, turn_idle, words_enough, sums_fit, owner_fits, turn_happens, turn_sits, turn_answers, numbers_many}
 use Rattle.bus_world.proofs.worlds.World.turn_at.Goals as goal
 
 pub returns-then-sender-len-clause-happens : goal.returns-then-sender-len-clause-happens

@@ -22,8 +22,8 @@ use Rattle.bus_tenure.specs.declared.phases.Phase.{Phase as SenderPhase}
 use Rattle.bus_tenure.specs.declared.phases.Phase.TheVariants as phase
 use Rattle.bus_deliverylog.specs.Orders.{of_sender}
 use Rattle.bus_world.specs.Log.{sent, read, AreCounted, Logged, Knows}
-use Rattle.bus_world.specs.LogLaws.{length-read, log_words-append}
-use Rattle.bus_world.specs.ReceivingLaws.{given_is_prefix, goes_on, Receives-known, Receives-word, Receives-append}
+use Rattle.bus_world.proofs.LogLaws.{length-read, log_words-append}
+use Rattle.bus_world.proofs.ReceivingLaws.{given_is_prefix, goes_on, Receives-known, Receives-word, Receives-append}
 use Rattle.bus_world.specs.Receiving.{Receives}
 use Rattle.bus_batch.specs.Reading.{HasRead}
 use Rattle.bus_deliverylog.specs.declared.receiving.RecvTurn.{RecvTurn}
@@ -31,12 +31,12 @@ use Rattle.bus_deliverylog.specs.Receiving.{Receiving, HasReceived}
 use Rattle.bus_ownerbits.specs.ElectionKeeps.{OneOwner}
 use Rattle.bus_world.specs.Tenures.{Standing}
 use Rattle.bus_world.specs.Tenures.Standing.{Rests}
-use Rattle.bus_world.specs.TenuresLaws as tenures
+use Rattle.bus_world.proofs.TenuresLaws as tenures
 use Rattle.bus_world.specs.Bus.{IsLayout, Part, Fits, Sending, least_of, stands_at, standing_of}
-use Rattle.bus_world.specs.BusLaws as bus
+use Rattle.bus_world.proofs.BusLaws as bus
 use Rattle.bus_world.specs.Turning.{Side, turned, IsSide, frames_after}
-use Rattle.bus_world.specs.TurningLaws as turning
-use Rattle.bus_world.specs.PutLaws as puts
+use Rattle.bus_world.proofs.TurningLaws as turning
+use Rattle.bus_world.proofs.PutLaws as puts
 use Rattle.bus_tenure.specs.declared.phases.Leaving.{Leaving}
 use Rattle.bus_register.specs.TableLaws.{get_set_same, get_set_other, some_of}
 use Rattle.bus_world.specs.World.{frames_by, event_frames, accepted_by, accepted, waiting_at, Event, Put, Close, Turn, Recv, IsEvent, Happens, SenderDoes, ReceiverDoes, recv_found, Bus, is_open, can_put, can_close, put_in, close_in, with_sender, LawfulBus, IsReceiver, RecvStep, IsNew, new_page, put_by, waiting_of}

@@ -11,7 +11,7 @@ use Rattle.bus_deliverylog.specs.Receiving.{Receiving}
 use Rattle.bus_ownerbits.specs.Sizes.{bits_of}
 use Rattle.bus_tenure.specs.Core.{Election, Core, Layout, log_at, words_of}
 use Rattle.bus_world.specs.Log.{read}
-use Rattle.bus_world.specs.LogLaws.{length-read}
+use Rattle.bus_world.proofs.LogLaws.{length-read}
 use Rattle.bus_world.specs.World.{IsNew, new_page}
 use Rattle.bus_world.specs.Playing.{Sitting, log_of}
 use Rattle.bus_world.specs.Trails.{IsSitting}

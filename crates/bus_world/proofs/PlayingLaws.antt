@@ -33,10 +33,11 @@ use Rattle.bus_tenure.specs.declared.turns.Turn.{Turn as Answered}
 use Rattle.bus_tenure.specs.declared.turns.Turn.TheVariants as turn
 use Rattle.bus_world.specs.Bus.{IsLayout, Part, stands_at, standing_of}
 use Rattle.bus_register.specs.TableLaws.{push_here}
+use Rattle.bus_world.specs.TurnParts.{owners_by}
 use Rattle.bus_world.specs.Turning.{Side, turned, stepped, found, home_after, core_after, owners_after, frames_after, IsSide}
-use Rattle.bus_world.specs.TurningLaws.{turn_lawful}
+use Rattle.bus_world.proofs.TurningLaws.{turn_lawful}
 use Rattle.bus_world.specs.World.{Bus, Event, Put, Close, Turn, Recv, IsEvent, Happens, SenderDoes, ReceiverDoes, RecvDoes, with_sender, put_in, close_in, is_open, can_put, can_close, IsReceiver}
-use Rattle.bus_world.specs.WorldLaws.{event_left, numbers_fit}
+use Rattle.bus_world.proofs.WorldLaws.{event_left, numbers_fit}
 use Rattle.bus_world.specs.Trails.{IsSitting, extended}
 use Rattle.bus_world.specs.Trails.Reached.{Then}
 use Rattle.bus_world.specs.Playing.{Sitting, Answers, PutGives, PutRefused, CloseGives, CloseRefused, TurnAnswers, TurnRefused, RecvAnswers, RecvRefused}
@@ -127,18 +128,7 @@ close_allowed q close.Closed (inr e) = ap (λ z. is_open z && (cond q.busy false
 close_allowed q close.Busy e = ap (λ z. is_open z && (cond q.busy false true && is_empty q.messages)) e.0 ∙ ap (λ z. cond z false true && is_empty q.messages) e.1
 close_allowed q close.Pending e = ap (λ z. is_open z && (cond q.busy false true && is_empty q.messages)) e.0 ∙ ap (λ z. cond z false true && is_empty q.messages) e.1 ∙ some_left q.messages e.2
 
--- ---- who took the page, as the answer of a turn tells it
-abbrev pub owners_by : Answered → ℕ → List ℕ → List ℕ
-owners_by turn.Idle p owners = owners
-owners_by turn.Waiting p owners = owners
-owners_by turn.Going p owners = owners
-owners_by (turn.Lost t o) p owners = owners
-owners_by (turn.Own t) p owners = owners ++ p ∷ []
-owners_by (turn.Delivered t first last) p owners = owners
-owners_by turn.Full p owners = owners
-owners_by turn.Closed p owners = owners
-owners_by turn.Spent p owners = owners
-
+-- ---- who took the page
 module _ {E : Type 0} (X : Election E) (c : Core E) (p : ℕ) (owners : List ℕ) where
   stage_told : (a b : Bool) → owners ≡ owners_by (cond a turn.Waiting (cond b turn.Spent turn.Going)) p owners
   stage_told true b = refl

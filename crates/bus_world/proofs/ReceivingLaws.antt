@@ -12,7 +12,7 @@ use Rattle.bus_batch.specs.WordLaws.{length-words_of_bytes}
 use Rattle.bus_deliverylog.specs.Orders.{IsPrefixOfOrder}
 use Rattle.bus_deliverylog.specs.PrefixLaws.{order_in-prefix}
 use Rattle.bus_batch.specs.Frames.{order_in}
-use Rattle.bus_world.specs.LogLaws.{log_words-append}
+use Rattle.bus_world.proofs.LogLaws.{log_words-append}
 use Rattle.bus_world.specs.Receiving.{Receives}
 
 length-item_pieces : (n : ℕ) (item : Item) → length (item_pieces n item) ≡ suc n

@@ -25,9 +25,9 @@ use Rattle.bus_tenure.specs.declared.phases.Phase.TheVariants as phase
 use Rattle.bus_ownerbits.specs.ElectionKeeps.{OneOwner}
 use Rattle.bus_ownerbits.specs.ElectionSteps.{row_within}
 use Rattle.bus_world.specs.Tenures.Standing.{Runs}
-use Rattle.bus_world.specs.TenuresLaws as tenures
+use Rattle.bus_world.proofs.TenuresLaws as tenures
 use Rattle.bus_world.specs.Bus.{IsLayout, least_of, Part, Fits, HasBegun, Sending, stands_at}
-use Rattle.bus_world.specs.BusLaws as bus
+use Rattle.bus_world.proofs.BusLaws as bus
 use Rattle.bus_world.specs.Log.{sent}
 use Rattle.bus_world.specs.Turning.{Side, stepped, found, frames_after, laid, turned, IsSide}
 

@@ -24,14 +24,14 @@ use Rattle.bus_tenure.specs.declared.phases.Phase.TheVariants as phase
 use Rattle.bus_world.specs.Log.{read, sent, AreCounted, AreEarlier, Logged, Knows}
 use Rattle.bus_register.specs.Tables.{put}
 use Rattle.bus_register.specs.TableLaws.{put_here, put_beside, some_or_none, push_beside}
-use Rattle.bus_world.specs.LogLaws.{read-agree, Logged-agree, Logged-publish, sent-append_other, sent-append_owner, has_end-append, AreEarlier-append, AreEarlier-later}
+use Rattle.bus_world.proofs.LogLaws.{read-agree, Logged-agree, Logged-publish, sent-append_other, sent-append_owner, has_end-append, AreEarlier-append, AreEarlier-later}
 use Rattle.bus_batch.specs.BatchLaws.{is_frame}
-use Rattle.bus_world.specs.QueueLaws.{counted_frame, length-items, ends-body}
+use Rattle.bus_world.proofs.QueueLaws.{counted_frame, length-items, ends-body}
 use Rattle.bus_ownerbits.specs.ElectionKeeps.{OneOwner}
 use Rattle.bus_ownerbits.specs.ElectionSteps.{row_within}
 use Rattle.bus_world.specs.Tenures.{Standing}
 use Rattle.bus_world.specs.Tenures.Standing.{Runs, Holds}
-use Rattle.bus_world.specs.TenuresLaws as tenures
+use Rattle.bus_world.proofs.TenuresLaws as tenures
 use Rattle.bus_world.specs.Bus.{IsLayout, stands_at, standing_of, least_of, IsWriting, HasBegun, Fits, Part, AreOwned, Sending}
 
 -- one step on the words: the step's own word has changed and no other

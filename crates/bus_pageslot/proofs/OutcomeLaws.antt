@@ -5,11 +5,11 @@ use Rattle.bus_register.specs.Protocol.{Protocol}
 use Rattle.bus_batch.specs.Frames.{order_of, tenure_and_owner}
 use Rattle.bus_tenure.specs.declared.pages.Page.{Page}
 use Rattle.bus_tenure.specs.Core.{Election, log_at}
-use Rattle.bus_world.specs.LogLaws.{length-read}
+use Rattle.bus_world.proofs.LogLaws.{length-read}
 use Rattle.bus_world.specs.Playing.{Sitting, log_of}
 use Rattle.bus_world.specs.Trails.{IsSitting}
 use Rattle.bus_world.specs.Tenures.Stage.{Open, Held}
-use Rattle.bus_world.specs.ViewingLaws.{frames_spell}
+use Rattle.bus_world.proofs.ViewingLaws.{frames_spell}
 use Rattle.bus_pageslot.specs.Outcomes.{IsOutcome}
 
 -- the page is at home only while a tenure is open, and then it knows the frames

@@ -18,7 +18,7 @@ use Rattle.bus_tenure.specs.declared.phases.Leaving.TheVariants.{Sent, FoundEnd,
 use Rattle.bus_tenure.specs.declared.phases.Phase.{Phase}
 use Rattle.bus_tenure.specs.declared.phases.Phase.TheVariants as phase
 use Rattle.bus_deliverylog.specs.Orders.{of_sender}
-use Rattle.bus_world.specs.LogLaws.{of_sender-append, owned_items, others_items}
+use Rattle.bus_world.proofs.LogLaws.{of_sender-append, owned_items, others_items}
 use Rattle.bus_world.specs.Turning.{Side, found, frames_after, laid, turned}
 use Rattle.bus_world.specs.World.{waiting_at, waiting_of}
 
