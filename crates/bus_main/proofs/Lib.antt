@@ -1,4 +1,2 @@
 pub mod StreamLemmas
-pub mod AuditLemmas
-pub mod RunTextLemmas
-pub mod StopLemmas
+pub mod PrintLemmas

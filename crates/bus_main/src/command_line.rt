@@ -1,6 +1,6 @@
 //! The command line of `bus`.
 
-use crate::run::printing::Request;
+use crate::printing::Request;
 use clap::builder::ValueParser;
 use clap::{Arg, ArgAction, ArgMatches, Command, Error, value_parser};
 use std::alloc::Global;

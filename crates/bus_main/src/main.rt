@@ -5,22 +5,20 @@
 //! its work, which standard error then says; 2 where the command line was refused or asked for help.
 #![tactic(auto)]
 
-pub mod audit;
 mod command_line;
-mod outcomes;
+mod printing;
 mod ratify;
 mod replay;
-pub mod run;
 mod streams;
 #[cfg(test)]
 mod tests;
 
 use self::command_line::{Task, parse};
-use self::outcomes::RunFault;
+use self::printing::print_run;
 use self::ratify::ratify;
 use self::replay::replay;
-use self::run::printing::print_run;
 use bus_adoptcommit::TwoCollect;
+use bus_run::RunFault;
 use bus_script::Outcome;
 use clap::error::ErrorKind;
 use std::process::ExitCode;

@@ -1,14 +1,14 @@
 //! `bus ratify`: one adopt-commit object, played by the schedule of a script.
 
-ghost use Rattle.std.specs.Prelude.{◌+◌, ◌<◌, ℕ, List, length, IfOk, OnOk, IfSome, IsErrOf};
-ghost use Rattle.std.specs.Io.KnownBytes.{Appends, Keeps, IsAtEnd};
+ghost use Rattle.std.specs.Prelude.{◌+◌, ℕ, List, IfOk, OnOk, IfErr};
+ghost use Rattle.std.specs.Io.KnownBytes.{Appends, IsAtEnd};
 ghost use Rattle.bus_script.specs.declared.answers.Outcome.{Outcome};
 ghost use Rattle.bus_ratify.specs.Answers.{IsAnswer};
-ghost use Rattle.bus_main.specs.Streams.{input_limit, ReadsWhole, ReadsAtMost, WritesPart};
+ghost use Rattle.bus_main.specs.Streams.{input_limit, ReadsWhole, ReadsAtMost, IsScriptFault};
 
-use crate::outcomes::RunFault;
 use crate::streams::{read_whole, write_whole};
 use bus_ratify::answer_to;
+use bus_run::RunFault;
 use bus_script::Outcome;
 use std::alloc::Global;
 use std::io::{Read, Write};
@@ -23,17 +23,9 @@ pub fn ratify<R: Read, W: Write>(
     ensures ok { IfOk result (λ outcome. (input text : List ℕ) × ReadsWhole (R.remaining reader.old) input × IsAnswer input outcome text
         × Appends (W.contents writer.old) (W.contents writer.new) text) }
 
-    // The input was read whole, and a part of its answer was written.
-    ensures write { IsErrOf result RunFault.Write → (input : List ℕ) × (outcome : Outcome) × (text : List ℕ) × ReadsWhole (R.remaining reader.old) input × IsAnswer input outcome text
-        × WritesPart (W.contents writer.old) (W.contents writer.new) text }
-
-    // The input is too long, and nothing was written.
-    ensures too_much { IsErrOf result RunFault.TooMuch → IfSome (R.remaining reader.old) (λ input. input_limit < length input) }
-    ensures too_much_unwritten { IsErrOf result RunFault.TooMuch → Keeps (W.contents writer.old) (W.contents writer.new) }
-
-    // Nothing was written.
-    ensures read_unwritten { IsErrOf result RunFault.Read → Keeps (W.contents writer.old) (W.contents writer.new) }
-    ensures no_memory_unwritten { IsErrOf result RunFault.NoMemory → Keeps (W.contents writer.old) (W.contents writer.new) }
+    // Which faults there are. But for a front of the answer, where a write failed, nothing was written.
+    ensures fault { IfErr result (IsScriptFault (λ input text. (outcome : Outcome) × IsAnswer input outcome text)
+        (R.remaining reader.old) (R.remaining reader.new) (W.contents writer.old) (W.contents writer.new)) }
 
     // The reader is at its end, or it gave no more than shows that the input is too long.
     ensures end { OnOk result (IsAtEnd (R.remaining reader.new)) }

@@ -1,16 +1,16 @@
 //! `bus replay`: a bus, moved line by line by a script.
 
-ghost use Rattle.std.specs.Prelude.{ℕ, ◌+◌, ◌<◌, List, length, IfOk, OnOk, IfSome, IsErrOf};
-ghost use Rattle.std.specs.Io.KnownBytes.{Appends, Keeps, IsAtEnd};
+ghost use Rattle.std.specs.Prelude.{ℕ, ◌+◌, List, IfOk, OnOk, IfErr};
+ghost use Rattle.std.specs.Io.KnownBytes.{Appends, IsAtEnd};
 ghost use Rattle.bus_tenure.specs.Elections.{election_of, layout_of};
 ghost use Rattle.bus_script.specs.declared.answers.Outcome.{Outcome};
 ghost use Rattle.bus_replay.specs.Answers.{IsReplay};
-ghost use Rattle.bus_main.specs.Streams.{input_limit, ReadsWhole, ReadsAtMost, WritesPart};
+ghost use Rattle.bus_main.specs.Streams.{input_limit, ReadsWhole, ReadsAtMost, IsScriptFault};
 
-use crate::outcomes::RunFault;
 use crate::streams::{read_whole, write_whole};
 use bus_adoptcommit::Ratifier;
 use bus_replay::answer_to;
+use bus_run::RunFault;
 use bus_script::Outcome;
 use std::alloc::Global;
 use std::io::{Read, Write};
@@ -27,19 +27,11 @@ pub fn replay<Q: Ratifier + Drop, R: Read, W: Write>(
         × IsReplay (λ shape. (X, layout_of Q.protocol shape.senders shape.rounds shape.rows shape.log_words)) input outcome text
         × Appends (W.contents writer.old) (W.contents writer.new) text) }
 
-    // The input was read whole, and a part of its answer was written.
-    ensures write { let X = election_of Q.kind_of Q.op Q.fed Q.protocol in
-        IsErrOf result RunFault.Write → (input : List ℕ) × (outcome : Outcome) × (text : List ℕ) × ReadsWhole (R.remaining reader.old) input
-        × IsReplay (λ shape. (X, layout_of Q.protocol shape.senders shape.rounds shape.rows shape.log_words)) input outcome text
-        × WritesPart (W.contents writer.old) (W.contents writer.new) text }
-
-    // The input is too long, and nothing was written.
-    ensures too_much { IsErrOf result RunFault.TooMuch → IfSome (R.remaining reader.old) (λ input. input_limit < length input) }
-    ensures too_much_unwritten { IsErrOf result RunFault.TooMuch → Keeps (W.contents writer.old) (W.contents writer.new) }
-
-    // Nothing was written.
-    ensures read_unwritten { IsErrOf result RunFault.Read → Keeps (W.contents writer.old) (W.contents writer.new) }
-    ensures no_memory_unwritten { IsErrOf result RunFault.NoMemory → Keeps (W.contents writer.old) (W.contents writer.new) }
+    // Which faults there are. But for a front of the answer, where a write failed, nothing was written.
+    ensures fault { let X = election_of Q.kind_of Q.op Q.fed Q.protocol in
+        IfErr result (IsScriptFault (λ input text. (outcome : Outcome)
+        × IsReplay (λ shape. (X, layout_of Q.protocol shape.senders shape.rounds shape.rows shape.log_words)) input outcome text)
+        (R.remaining reader.old) (R.remaining reader.new) (W.contents writer.old) (W.contents writer.new)) }
 
     // The reader is at its end, or it gave no more than shows that the input is too long.
     ensures end { OnOk result (IsAtEnd (R.remaining reader.new)) }

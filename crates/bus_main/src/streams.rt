@@ -1,10 +1,10 @@
 //! An input that is read whole, and a text that is written whole.
 
-ghost use Rattle.std.specs.Prelude.{◌≡◌, ◌+◌, ◌<◌, ◌⊎◌, ℕ, List, length, IfOk, OnOk, IfErr, IsErrOf};
-ghost use Rattle.std.specs.Io.KnownBytes.{Appends, Consumes, IsAtEnd};
-ghost use Rattle.bus_main.specs.Streams.{input_limit, ReadsWhole, ReadsAtMost, WritesPart};
+ghost use Rattle.std.specs.Prelude.{◌≡◌, ◌+◌, IfOk, OnOk, IfErr};
+ghost use Rattle.std.specs.Io.KnownBytes.{Appends, IsAtEnd};
+ghost use Rattle.bus_main.specs.Streams.{input_limit, ReadsWhole, ReadsAtMost, WritesPart, IsReadFault};
 
-use crate::outcomes::RunFault;
+use bus_run::RunFault;
 use std::alloc::Global;
 use std::io::{Read, Write};
 
@@ -19,8 +19,7 @@ const CHUNK: usize = 16_384;
 pub fn read_whole<R: Read>(alloc: Global, reader: &mut R) -> Result<Vec<u8>, RunFault>
     ensures ok { IfOk result (λ input. ReadsWhole (R.remaining reader.old) input.items) }
     ensures end { OnOk result (IsAtEnd (R.remaining reader.new)) }
-    ensures too_much { IsErrOf result RunFault.TooMuch → (bytes : List ℕ) × (length bytes ≡ input_limit + 1) × Consumes (R.remaining reader.old) (R.remaining reader.new) bytes }
-    ensures kinds { IfErr result (λ fault. (fault ≡ RunFault.Read) ⊎ ((fault ≡ RunFault.TooMuch) ⊎ (fault ≡ RunFault.NoMemory))) }
+    ensures fault { IfErr result (IsReadFault (R.remaining reader.old) (R.remaining reader.new)) }
     ensures taken { ReadsAtMost (R.remaining reader.old) (R.remaining reader.new) (input_limit + 1) }
 {
     let mut input = Vec::new(alloc);

@@ -7,8 +7,8 @@ mod tour;
 
 use self::streams::{FailingReader, FullWriter, StuckWriter};
 use super::command_line::parse;
-use super::outcomes::RunFault;
 use super::ratify::ratify;
+use bus_run::RunFault;
 use bus_script::Outcome;
 use clap::error::ErrorKind;
 use std::io;

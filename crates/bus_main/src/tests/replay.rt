@@ -1,9 +1,9 @@
 //! Streams that fail under a script of `replay`.
 
 use super::streams::{FailingReader, FullWriter, StuckWriter};
-use crate::outcomes::RunFault;
 use crate::replay::replay;
 use bus_adoptcommit::TwoCollect;
+use bus_run::RunFault;
 use bus_script::Outcome;
 use std::io;
 

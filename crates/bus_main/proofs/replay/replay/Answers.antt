@@ -1,24 +1,31 @@
-use Rattle.std.proofs.Common.{string_bytes, subst}
+use Rattle.std.proofs.Common.{ℕ, List, string_bytes, sym, subst}
 use Rattle.std.specs.Io.KnownBytes.{Appends}
 use Rattle.bus_tenure.specs.Core.{Election, Layout}
 use Rattle.bus_tenure.specs.Elections.{Elector, election_of, layout_of}
 use Rattle.bus_world.specs.declared.shapes.Shape.{Shape}
-use Rattle.bus_main.specs.Streams.{WritesPart}
+use Rattle.bus_script.specs.declared.answers.Outcome.{Outcome}
+use Rattle.bus_run.specs.declared.faults.RunFault.{RunFault}
+use Rattle.bus_main.specs.Streams.{WritesPart, IsScriptFault}
+use Rattle.bus_main.proofs.StreamLemmas.{passed_up}
 use Rattle.bus_replay.specs.Answers.{IsReplay}
 use Rattle.bus_main.proofs.replay.replay.Goals as goal
 
-pub returns-in_err-write_whole-clause-write : goal.returns-in_err-write_whole-clause-write
-returns-in_err-write_whole-clause-write g c is =
+pub returns-in_err-write_whole-clause-fault : goal.returns-in_err-write_whole-clause-fault
+returns-in_err-write_whole-clause-fault g c =
     let of : Shape → Election (Elector g.row.Q.Denot) × Layout =
     λ shape. (election_of g.Q.Machine.kind_of g.Q.Machine.op g.Q.Machine.fed g.Q.Ratifier.protocol, layout_of g.Q.Ratifier.protocol shape.senders shape.rounds shape.rows shape.log_words) in
-    let answer = c.in_ok-answer.answer in (
+    let IsAnswered : List ℕ → List ℕ → Type 0 = λ input text. (outcome : Outcome) × IsReplay of input outcome text in
+    let Fails : RunFault → Type 0 =
+    IsScriptFault IsAnswered (g.R.Read.remaining c.args.reader.now) (g.R.Read.remaining c.read_whole.new.reader) (g.W.Write.contents c.args.writer.now) (g.W.Write.contents c.write_whole.new.writer) in
+    let answer = c.in_ok-answer.answer in
+    passed_up _ _ Fails c.from_residual-in_err-write_whole.ensures (subst Fails (sym c.in_err-write_whole.ensures.err) (
       c.in_ok-input.input.items,
-      answer.outcome,
       string_bytes answer.text,
       c.in_ok-input.ensures.ok,
-      subst (λ i. IsReplay of i answer.outcome (string_bytes answer.text)) c.as_slice.ensures.value c.in_ok-answer.ensures,
+      c.in_ok-input.ensures.end,
+      (answer.outcome, subst (λ i. IsReplay of i answer.outcome (string_bytes answer.text)) c.as_slice.ensures.value c.in_ok-answer.ensures),
       subst (λ t. WritesPart (g.W.Write.contents c.args.writer.now) (g.W.Write.contents c.write_whole.new.writer) t) c.as_bytes.ensures.value c.in_err-write_whole.ensures.part,
-    )
+    ))
 
 pub returns-clause-ok : goal.returns-clause-ok
 returns-clause-ok g c =

@@ -1,6 +1,0 @@
-use Rattle.std.proofs.Common.{All, take}
-use Rattle.bus_main.specs.Audit.{OfOrder, IsFair}
-use Rattle.bus_main.proofs.audit.audit.Given as goal
-
-abbrev pub invariant-loop-place : goal.invariant-loop-place
-invariant-loop-place l = OfOrder l.ended (λ order. All (IsFair order) (take l.place l.heards))

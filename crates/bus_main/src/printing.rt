@@ -1,0 +1,57 @@
+//! What `bus run` prints of a run.
+
+ghost use Rattle.std.specs.Prelude.{◌≡◌, ◌⊎◌, ℕ, List, IfOk, IfErr, IsErrOf, min};
+ghost use Rattle.std.specs.Io.KnownBytes.{Appends, Keeps};
+ghost use Rattle.bus_run.specs.RunText.{IsRunText};
+ghost use Rattle.bus_run.specs.Stops.{IsRunFault};
+ghost use Rattle.bus_main.specs.Streams.{WritesPart};
+
+use crate::streams::write_whole;
+use bus_run::{OpenGate, RunFault, report_text, run};
+use bus_script::Outcome;
+use std::alloc::Global;
+use std::io::Write;
+use std::sync::Wait;
+use std::thread::Threads;
+
+/// A run that is asked for.
+#[derive(Clone, Copy, Debug, PartialEq, Eq)]
+pub struct Request {
+    pub senders: u64,
+    pub receivers: u64,
+    /// Of each sender. More than 400 count as 400.
+    pub messages: u64,
+    pub seed: u64,
+}
+
+/// Runs a bus and writes what came of it.
+pub fn print_run<R: Threads + Wait + Sync, W: Write>(
+    rt: &R,
+    alloc: Global,
+    request: Request,
+    writer: &mut W,
+) -> Result<Outcome, RunFault>
+    // The run ended well, and all of its text was written.
+    ensures ok { IfOk result (λ outcome. (outcome ≡ Outcome.Done) × (text : List ℕ) × IsRunText request.senders request.receivers (min request.messages 400) text × Appends (W.contents writer.old) (W.contents writer.new) text) }
+
+    // The run ended well, and a part of its text was written.
+    ensures write { IsErrOf result RunFault.Write → (text : List ℕ) × IsRunText request.senders request.receivers (min request.messages 400) text × WritesPart (W.contents writer.old) (W.contents writer.new) text }
+
+    // Else the run did not end well, and nothing was written.
+    ensures fault { IfErr result (λ fault. (fault ≡ RunFault.Write) ⊎ IsRunFault request.senders request.receivers fault) }
+    ensures unwritten { IfErr result (λ fault. (fault ≡ RunFault.Write → ⊥) → Keeps (W.contents writer.old) (W.contents writer.new)) }
+{
+    let messages = request.messages.min(400);
+    let report = run(
+        rt,
+        alloc,
+        request.senders,
+        request.receivers,
+        messages,
+        request.seed,
+        &OpenGate,
+    )?;
+    let text = report_text(alloc, &report, request.senders)?;
+    write_whole(writer, text.as_bytes())?;
+    Ok(Outcome::Done)
+}

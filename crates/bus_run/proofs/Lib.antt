@@ -1,0 +1,3 @@
+pub mod AuditLemmas
+pub mod RunTextLemmas
+pub mod StopLemmas

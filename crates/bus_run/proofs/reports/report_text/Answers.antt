@@ -1,0 +1,21 @@
+use Rattle.std.proofs.Common.{All, ◌++◌, string_bytes, ap, sym, ◌∙◌, subst}
+use Rattle.bus_tenure.specs.declared.pages.Page.{Page}
+use Rattle.bus_run.specs.Audit.{IsFair}
+use Rattle.bus_run.specs.RunText.{sender_lines, receiver_lines, page_lines}
+use Rattle.bus_run.proofs.RunTextLemmas.{three_parts}
+use Rattle.bus_run.proofs.reports.report_text.Goals as goal
+
+pub returns-clause-fair : goal.returns-clause-fair
+returns-clause-fair c = λ order owners spells. subst (All (IsFair order)) c.as_slice-heards.ensures.value (c.in_ok-audit.ensures.ok order owners spells)
+
+pub returns-clause-text : goal.returns-clause-text
+returns-clause-text c = λ order owners spells.
+    three_parts (string_bytes c.new-text.result) (string_bytes c.push_senders.new.text) (string_bytes c.push_receivers.new.text) (string_bytes c.push_page.new.text)
+    (sender_lines order c.args.senders) (receiver_lines 0 c.args.report.now.heards.items) (page_lines c.args.report.now.ended.page)
+    c.new-text.ensures.bytes
+    (c.in_ok-push_senders.ensures order owners spells)
+    (c.in_ok-push_receivers.ensures ∙ ap (λ hs. string_bytes c.push_senders.new.text ++ receiver_lines 0 hs) c.as_slice-heards.ensures.value)
+    (c.in_ok-push_page.ensures ∙ ap (λ g. string_bytes c.push_receivers.new.text ++ page_lines g) c.page.ensures.page)
+
+pub returns-clause-words : goal.returns-clause-words
+returns-clause-words c = ap (λ (g : Page). g.words) (sym c.page.ensures.page) ∙ c.page.ensures.words

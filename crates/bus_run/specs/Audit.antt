@@ -1,0 +1,47 @@
+-- What receivers noted, against the order of items that a bus left behind.
+use Rattle.std.specs.Prelude.{◌≡◌, ◌≢◌, ℕ, ◌<◌, true, false, List, length, take, All, slice_index, slice_get, Some}
+use Rattle.bus_register.specs.declared.registers.SenderNo.{SenderNo}
+use Rattle.bus_batch.specs.Frames.{Order, Spells}
+use Rattle.bus_deliverylog.specs.Orders.{of_sender}
+use Rattle.bus_world.specs.declared.shapes.Shape.{Shape}
+use Rattle.bus_pageslot.specs.Outcomes.{Outcome}
+use Rattle.bus_receiver.specs.Hearing.{Hearing}
+use Rattle.bus_run.specs.declared.audits.AuditFault.{AuditFault}
+use Rattle.bus_run.specs.declared.audits.AuditFault.TheVariants.{Count, NotEnded}
+
+-- The words that were left spell an order. They spell one alone.
+abbrev pub IsSpelled : Outcome → Type 0
+IsSpelled z = (order : Order) × (owners : List (ℕ × SenderNo)) × Spells z.senders z.log order owners
+
+-- it is true of the order that the words spell
+abbrev pub OfOrder : Outcome → (Order → Type 0) → Type 0
+OfOrder z P = (order : Order) (owners : List (ℕ × SenderNo)) → Spells z.senders z.log order owners → P order
+
+-- all items of each sender below this one were counted, and none but those
+abbrev pub CountsBelow : ℕ → Order → Hearing → Type 0
+CountsBelow many order h = (s : ℕ) → s < many → slice_index h.counts s ≡ length (of_sender s order)
+
+-- of all senders whose items were not counted this is the lowest
+abbrev pub Miscounts : Order → Hearing → ℕ → Type 0
+Miscounts order h sender = CountsBelow sender order h × (slice_index h.counts sender ≢ length (of_sender sender order))
+
+-- all items were counted, and the end was given
+abbrev pub IsFair : Order → Hearing → Type 0
+IsFair order h = CountsBelow 8 order h × (h.ended ≡ true)
+
+-- the receivers before the one that is named are fair, and it is not
+abbrev pub IsFirstFault : Order → List Hearing → AuditFault → Type 0
+IsFirstFault order heards (Count receiver sender) = All (IsFair order) (take receiver heards) × (h : Hearing) × (slice_get heards receiver ≡ Some h) × (sender < 8) × Miscounts order h sender
+IsFirstFault order heards (NotEnded receiver) = All (IsFair order) (take receiver heards) × (h : Hearing) × (slice_get heards receiver ≡ Some h) × CountsBelow 8 order h × (h.ended ≡ false)
+
+-- so many items of each of so many senders
+abbrev pub SendsEach : ℕ → ℕ → Order → Type 0
+SendsEach senders messages order = (s : ℕ) → s < senders → length (of_sender s order) ≡ messages
+
+-- the order has ended
+abbrev pub IsClosed : Order → Type 0
+IsClosed order = order.ended ≡ true
+
+-- the shape of a run's bus
+abbrev pub shape_of_run : ℕ → ℕ → Shape
+shape_of_run senders receivers = record { senders = senders; receivers = receivers; rounds = 4; rows = 256; log_words = 65536 }

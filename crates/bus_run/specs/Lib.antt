@@ -1,0 +1,4 @@
+pub mod Printed
+pub mod Audit
+pub mod RunText
+pub mod Stops

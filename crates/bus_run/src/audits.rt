@@ -1,0 +1,51 @@
+//! What receivers were given, held against what the bus left behind.
+
+ghost use Rattle.std.specs.Prelude.{◌≡◌, ℕ, ◌<◌, List, All, None, IfSome, OnOk, IfErr};
+ghost use Rattle.bus_run.specs.Audit.{OfOrder, IsSpelled, CountsBelow, Miscounts, IsFair, IsFirstFault};
+
+use bus_pageslot::Ended;
+use bus_receiver::Heard;
+use bus_register::SenderNo;
+
+/// The first receiver that was given something else than all, and what; of a receiver's own faults
+/// the count comes first.
+#[derive(Clone, Copy, Debug, PartialEq, Eq)]
+pub enum AuditFault {
+    /// It took more or fewer items of the sender, the lowest of those.
+    Count { receiver: u64, sender: u64 },
+    /// It was not given the end.
+    NotEnded { receiver: u64 },
+}
+
+/// Holds what each receiver noted against what the bus left behind.
+pub fn audit(ended: &Ended, heards: &[Heard]) -> Result<(), AuditFault>
+    ensures ok { OnOk result (OfOrder ended.now (λ order. All (IsFair order) heards.now)) }
+    ensures fault { IfErr result (λ fault. OfOrder ended.now (λ order. IsFirstFault order heards.now fault)) }
+    ensures spelled { IsSpelled ended.now }
+{
+    let _any = ended.count(SenderNo(0));
+    for (place, heard) in heards.iter().enumerate() {
+        let receiver = place as u64;
+        if let Some(sender) = first_miscount(ended, heard) {
+            return Err(AuditFault::Count { receiver, sender });
+        }
+        if !heard.ended() {
+            return Err(AuditFault::NotEnded { receiver });
+        }
+    }
+    Ok(())
+}
+
+/// The lowest sender below 8 whose items the listener did not count.
+fn first_miscount(ended: &Ended, heard: &Heard) -> Option<u64>
+    ensures none { result ≡ None → OfOrder ended.now (λ order. CountsBelow 8 order heard.now) }
+    ensures some { IfSome result (λ sender. (sender < 8) × OfOrder ended.now (λ order. Miscounts order heard.now sender)) }
+{
+    for number in 0..8u8 {
+        let sender = SenderNo(number);
+        if heard.count(sender) != ended.count(sender) {
+            return Some(u64::from(number));
+        }
+    }
+    None
+}

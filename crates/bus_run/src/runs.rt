@@ -1,0 +1,53 @@
+//! A run: a bus that a worker of each sender and of each receiver takes its steps on.
+
+ghost use Rattle.std.specs.Prelude.{◌≡◌, ◌≤◌, All, length, IfOk, OnOk, IfErr};
+ghost use Rattle.bus_world.specs.Playing.{IsServed};
+ghost use Rattle.bus_run.specs.Audit.{OfOrder, IsSpelled, IsFair, SendsEach, IsClosed, shape_of_run};
+ghost use Rattle.bus_run.specs.Stops.{IsRunFault};
+
+use crate::closing::end_and_audit;
+use crate::crews::{Crew, man};
+use crate::faults::RunFault;
+use crate::gates::Gate;
+use crate::reports::Report;
+use crate::workers::Load;
+use bus_pageslot::Bus;
+use bus_world::Shape;
+use std::alloc::Global;
+use std::sync::Wait;
+use std::thread::Threads;
+
+/// Runs a bus of its own to its end: each sender puts the numbers below `messages`, and each
+/// receiver takes until the end.
+pub fn run<R: Threads + Wait + Sync, G: Gate + Sync>(
+    rt: &R,
+    alloc: Global,
+    senders: u64,
+    receivers: u64,
+    messages: u64,
+    seed: u64,
+    gate: &G,
+) -> Result<Report, RunFault>
+    requires { messages ≤ 400 }
+    ensures served { OnOk result (IsServed (shape_of_run senders receivers)) }
+    ensures sent { IfOk result (λ report. OfOrder report.ended (SendsEach senders messages)) }
+    ensures closed { IfOk result (λ report. OfOrder report.ended IsClosed) }
+    ensures heard { IfOk result (λ report. OfOrder report.ended (λ order. All (IsFair order) report.heards.items)) }
+    ensures each { IfOk result (λ report. length report.heards.items ≡ receivers) }
+    ensures spelled { IfOk result (λ report. IsSpelled report.ended) }
+    ensures fault { IfErr result (IsRunFault senders receivers) }
+{
+    let shape = Shape {
+        senders,
+        receivers,
+        rounds: 4,
+        rows: 256,
+        log_words: 65_536,
+    };
+    let (bus, seats, taps) = Bus::new(alloc, shape)?;
+    let heards = Vec::with_capacity(alloc, taps.len())?;
+    let load = Load { messages, seed };
+    let crew = Crew::new(alloc, seats, taps, load)?;
+    let crew = man(rt, &bus, gate, load, crew);
+    end_and_audit(rt, bus, crew, heards, shape, messages)
+}
