@@ -2,7 +2,7 @@ use Rattle.std.proofs.Common.{◌≡◌, Some, ◌∙◌, sym, ap, subst}
 use Rattle.std.specs.Option.{option_copied}
 use Rattle.bus_world.specs.Playing.{log_of}
 use Rattle.bus_pageslot.specs.Outcomes.{IsOutcome}
-use Rattle.bus_pageslot.specs.OutcomeLaws.{is_outcome}
+use Rattle.bus_pageslot.proofs.OutcomeLaws.{is_outcome}
 use Rattle.bus_pageslot.proofs.outcomes.Ended.of.Goals as goal
 
 pub invariant_of-result : goal.invariant_of-result
