@@ -5,7 +5,7 @@ ghost use Rattle.bus_register.specs.Words.{register};
 ghost use Rattle.bus_batch.specs.Batches.{next_of, frame_of, HasSomething, CanPut, IsPutFault, CanClose, IsCloseFault};
 ghost use Rattle.bus_batch.specs.Frames.{frame_words};
 ghost use Rattle.bus_batch.specs.declared.batches.Phase.TheVariants as queue_phase;
-ghost use Rattle.bus_tenure.specs.Causes.{HasCause};
+ghost use Rattle.bus_tenure.specs.Causes.{HasCause, IsCaused};
 ghost use Rattle.bus_tenure.specs.Core.{Core, row_at, words_of, is_closing, is_closed, is_empty, frame_len, has_room, Situation, LooksAtStage, GivesBack, resting, electing, holding, situation_at, situation_of, kind_at, op_at, rested, saw_stage, elected, fed_at, answer_of_stage, answer_of_election, answer_of_leaving, rest_at, answer_at, page_after};
 ghost use Rattle.bus_tenure.specs.declared.phases.Phase.TheVariants as phase;
 ghost use Rattle.bus_tenure.specs.Elections.{election_of, elections, layout_of};
@@ -249,6 +249,13 @@ impl<Q: Ratifier + Drop> SenderCore<Q> {
             },
             Phase::Giving { .. } => Some(Kind::GivePageBack),
         }
+    }
+
+    /// Each kind of step has its cause in what the sender holds before it.
+    pub fn has_causes(&self)
+        ensures { let X = election_of Q.kind_of Q.op Q.fed Q.protocol in IsCaused X Q.protocol self.now }
+    {
+        let _kind = self.kind();
     }
 
     /// The next step asks for a random word.

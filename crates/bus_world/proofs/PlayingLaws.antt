@@ -212,7 +212,7 @@ module _ {E : Type 0} (X : Election E) (P : Protocol E (Unit {0}) ℕ) (x : Layo
   with_core s c = record { side = with_sender b.side s c; receivers = b.receivers }
 
   -- ---- where there is none
-  no_sender : (s : ℕ) → length b.side.senders ≤ s → slice_get now.bus.side.senders s ≡ None
+  pub no_sender : (s : ℕ) → length b.side.senders ≤ s → slice_get now.bus.side.senders s ≡ None
   no_sender s l = subst (λ z. slice_get z.bus.side.senders s ≡ None) is (slice_get_past b.side.senders s l)
 
   no_receiver : (r : ℕ) → length b.receivers ≤ r → slice_get now.bus.receivers r ≡ None
@@ -247,7 +247,7 @@ module _ {E : Type 0} (X : Election E) (P : Protocol E (Unit {0}) ℕ) (x : Layo
     same_core : with_core s c ≡ b
     same_core = ap (λ z. record { side = record b.side { senders = z }; receivers = b.receivers }) (set_same b.side.senders s c old)
 
-    now_has : Some c ≡ slice_get now.bus.side.senders s
+    pub now_has : Some c ≡ slice_get now.bus.side.senders s
     now_has = sym (subst (λ z. slice_get z.bus.side.senders s ≡ Some c) is old)
 
     -- ---- a put

@@ -10,7 +10,7 @@ ghost use Rattle.bus_tenure.specs.Elections.{Elector, election_of, elections, la
 ghost use Rattle.bus_world.specs.declared.events.Answer.TheVariants as answer;
 ghost use Rattle.bus_world.specs.Headline.{given};
 ghost use Rattle.bus_world.specs.World.{Put, Close, Turn as SenderTurn, Recv, IsEvent, Happens, given_at};
-ghost use Rattle.bus_world.specs.Telling.{Tells};
+ghost use Rattle.bus_world.specs.Telling.{Tells, SenderCauses, EventCauses};
 ghost use Rattle.bus_world.specs.Trails.{Trails, no_trails, Reached, IsPromised, Takers, Follows, Played, Stops};
 ghost use Rattle.bus_world.specs.Playing.{event_told, Answers, PutGives, CloseGives, Refused, IsMade, MakeRefused, log_of};
 
@@ -115,6 +115,7 @@ impl<Q: Ratifier + Drop> World<Q> {
         ensures layout { self.new.layout ≡ self.old.layout }
         ensures happens { let X = election_of Q.kind_of Q.op Q.fed Q.protocol in Happens X self.old.bus (SenderTurn sender word) self.new.bus }
         ensures answer { let X = election_of Q.kind_of Q.op Q.fed Q.protocol in IfOk result (λ a. Answers X self.old.bus (SenderTurn sender word) a self.new.bus) }
+        ensures causes { let X = election_of Q.kind_of Q.op Q.fed Q.protocol in SenderCauses X Q.protocol (slice_get self.old.bus.side.senders sender) }
         ensures fault { IfErr result (Refused self.old.bus (SenderTurn sender word)) }
         ensures refused { OnErr result (self.new ≡ self.old) }
     {
@@ -123,6 +124,7 @@ impl<Q: Ratifier + Drop> World<Q> {
             return Err(StepFault::NoSuchSender);
         }
         let core = &mut self.senders[sender as usize];
+        core.has_causes();
         let turn = turn_sender(&mut self.cells, &mut self.home, core, word);
         note_owner(&mut self.owners, SenderNo(sender as u8), turn);
         Ok(Answer::Turn(turn))
@@ -180,6 +182,7 @@ impl<Q: Ratifier + Drop> World<Q> {
         ensures is { IsEvent (event_told event.now) }
         ensures happens { let X = election_of Q.kind_of Q.op Q.fed Q.protocol in Happens X self.old.bus (event_told event.now) self.new.bus }
         ensures answer { let X = election_of Q.kind_of Q.op Q.fed Q.protocol in IfOk result (λ a. Answers X self.old.bus (event_told event.now) a self.new.bus) }
+        ensures causes { let X = election_of Q.kind_of Q.op Q.fed Q.protocol in EventCauses X Q.protocol self.old.bus (event_told event.now) }
         ensures fault { IfErr result (Refused self.old.bus (event_told event.now)) }
         ensures refused { OnErr result (self.new ≡ self.old) }
     {
@@ -200,6 +203,7 @@ impl<Q: Ratifier + Drop> World<Q> {
         ensures is { IsEvent (event_told event.now) }
         ensures happens { let X = election_of Q.kind_of Q.op Q.fed Q.protocol in Happens X self.old.bus (event_told event.now) self.new.bus }
         ensures answer { let X = election_of Q.kind_of Q.op Q.fed Q.protocol in IfOk result (λ a. Answers X self.old.bus (event_told event.now) a self.new.bus) }
+        ensures causes { let X = election_of Q.kind_of Q.op Q.fed Q.protocol in EventCauses X Q.protocol self.old.bus (event_told event.now) }
         ensures follows { let X = election_of Q.kind_of Q.op Q.fed Q.protocol in
             IfOk result (λ a. Follows X self.old.layout self.old.bus (event_told event.now) a self.new.bus) }
         ensures tells { let X = election_of Q.kind_of Q.op Q.fed Q.protocol in

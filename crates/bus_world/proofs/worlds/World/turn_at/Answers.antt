@@ -1,7 +1,8 @@
 use Rattle.std.proofs.Common.{refl, subst, arith, ◌∙◌, sym, ap, map, slice_set}
 use Rattle.bus_tenure.specs.Elections.{Elector, elections, election_of, layout_of}
 use Rattle.bus_world.specs.TurnParts.{owners_by}
-use Rattle.bus_world.proofs.PlayingLaws.{there, turn_unknown, turn_idle, words_enough, sums_fit, owner_fits, turn_happens, turn_sits, turn_answers, numbers_many}
+use Rattle.bus_world.proofs.PlayingLaws.{there, no_sender, now_has, turn_unknown, turn_idle, words_enough, sums_fit, owner_fits, turn_happens, turn_sits, turn_answers, numbers_many}
+use Rattle.bus_world.specs.Telling.{SenderCauses}
 use Rattle.bus_world.proofs.worlds.World.turn_at.Goals as goal
 
 pub returns-then-sender-len-clause-happens : goal.returns-then-sender-len-clause-happens
@@ -83,3 +84,22 @@ returns-clause-answer g c =
     let laws = c.election_is_lawful.ensures.lawful.laws shape.rounds in
     let old = there c.self.inside.senders.items c.args.sender c.index_mut-core.result.now (omega arith) c.index_mut-core.ensures.value in
     turn_answers X P x laws refl (λ n me at. refl) (λ e. refl) _ c.self.invariant c.args.self.now c.self.view_is c.args.sender c.index_mut-core.result.now old c.args.word c.turn_sender-turn.result c.turn_sender-turn.ensures.answer
+
+pub returns-then-sender-len-clause-causes : goal.returns-then-sender-len-clause-causes
+returns-then-sender-len-clause-causes g c =
+    let X = election_of g.Q.Machine.kind_of g.Q.Machine.op g.Q.Machine.fed g.Q.Ratifier.protocol in
+    let shape = c.self.inside.shape in
+    let P = elections g.Q.Ratifier.protocol shape.rounds in
+    let x = layout_of g.Q.Ratifier.protocol shape.senders shape.rounds shape.rows shape.log_words in
+    let laws = c.election_is_lawful.ensures.lawful.laws shape.rounds in
+    subst (SenderCauses X g.Q.Ratifier.protocol) (sym (no_sender X P x laws refl (λ n me at. refl) (λ e. refl) _ c.self.invariant c.args.self.now c.self.view_is c.args.sender (omega arith))) tt
+
+pub returns-clause-causes : goal.returns-clause-causes
+returns-clause-causes g c =
+    let X = election_of g.Q.Machine.kind_of g.Q.Machine.op g.Q.Machine.fed g.Q.Ratifier.protocol in
+    let shape = c.self.inside.shape in
+    let P = elections g.Q.Ratifier.protocol shape.rounds in
+    let x = layout_of g.Q.Ratifier.protocol shape.senders shape.rounds shape.rows shape.log_words in
+    let laws = c.election_is_lawful.ensures.lawful.laws shape.rounds in
+    let old = there c.self.inside.senders.items c.args.sender c.index_mut-core.result.now (omega arith) c.index_mut-core.ensures.value in
+    subst (SenderCauses X g.Q.Ratifier.protocol) (now_has X P x laws refl (λ n me at. refl) (λ e. refl) _ c.self.invariant c.args.self.now c.self.view_is c.args.sender c.index_mut-core.result.now old) c.has_causes.ensures
