@@ -1,7 +1,7 @@
 -- What the local state of a process has to do with the steps that it took.
-use Rattle.std.specs.Prelude.{◌≡◌, ◌↔◌, ℕ, ◌*◌, ◌<◌, int_le, Bool, true, false, Option, Some, None, IsSome, List, [], ◌∷◌, ◌++◌, length, pos, neg_ℤ}
+use Rattle.std.specs.Prelude.{◌≡◌, ℕ, ◌*◌, ◌<◌, int_le, Bool, true, false, Option, Some, List, [], ◌∷◌, ◌++◌, length, pos, neg_ℤ}
 use Rattle.bus_register.specs.declared.registers.Op.{Op}
-use Rattle.bus_walkcoin.specs.Coin.{CoinState, coin_op, answer_of, wants_of}
+use Rattle.bus_walkcoin.specs.Coin.{CoinState, answer_of, wants_of}
 use Rattle.bus_walkcoin.specs.CoinRule.{Entry, is_store, are_loads, votes, counted, total_seen, coin_answer, coin_votes}
 
 -- a process that stood at s took these steps, each of which was its next one, and stands at t
@@ -9,13 +9,11 @@ abbrev pub Took : {S : Type 0} → (S → ℕ → Option Op) → (S → ℕ → 
 Took op fed s [] t = s ≡ t
 Took op fed s (e ∷ trail) t = (op s e.word ≡ Some e.op) × Took op fed (fed s e.got e.word) trail t
 
--- a process of n, whose counters begin at this word, that took these steps: its own votes, its answer, whether it votes next, and
--- whether it goes on
+-- a process of n, whose counters begin at this word, that took these steps: its own votes, its answer, and whether it votes next
 pub record CoinAnswer (n at : ℕ) (trail : List Entry) (s : CoinState) : Type 0 where
   pub votes : s.own ≡ counted (votes trail)
   pub answer : answer_of s ≡ coin_answer n at trail
   pub wants : wants_of s ≡ coin_votes n at trail
-  pub goes_on : (word : ℕ) → IsSome (coin_op s word) ↔ (coin_answer n at trail ≡ None)
 
 -- no process answers so
 pub record RefusesEarlyAnswers : Type 0 where

@@ -108,9 +108,9 @@ seen_steps n before loads vote many = ap (last_steps n) (sym (append_assoc befor
 loads_push : (word : ℕ) (loads : List Entry) (e : Entry) → are_loads word loads ≡ true → is_load (word + length loads) e.op ≡ true → are_loads word (loads ++ e ∷ []) ≡ true
 loads_push word [] e all next = let z : word + 0 ≡ word = omega arith in ap (λ z. z && true) (ap (λ z. is_load z e.op) (sym z) ∙ next)
 loads_push word (x ∷ loads) e all next =
+    let place : word + suc (length loads) ≡ word + 1 + length loads = omega arith in
     let first : is_load word x.op ≡ true = and_left _ _ all in
     let rest : are_loads (word + 1) loads ≡ true = and_right _ _ all in
-    let place : word + suc (length loads) ≡ word + 1 + length loads = omega arith in
     ap (λ z. z && are_loads (word + 1) (loads ++ e ∷ [])) first ∙ loads_push (word + 1) loads e rest (ap (λ z. is_load z e.op) (sym place) ∙ next)
 
 -- ---- where a process stands that took these steps
@@ -232,7 +232,10 @@ pub coin_answers : (n me at : ℕ) (trail : List Entry) (s : CoinState) → me <
 coin_answers n me at trail s below took =
     let h = took_stands n at trail [] (coin_started n me at) s (omega arith) (starts_stand n me at) took in
     let a = answer_stands s.phase n at trail h.phase in
-    record { votes = h.own; answer = a.0; wants = a.1; goes_on = λ word. goes_at s.phase n at trail s word h.phase }
+    record { votes = h.own; answer = a.0; wants = a.1 }
+
+pub coin_goes_on : (n me at word : ℕ) (trail : List Entry) (s : CoinState) → me < n → Took coin_op coin_fed (coin_started n me at) trail s → IsSome (coin_op s word) ↔ (coin_answer n at trail ≡ None)
+coin_goes_on n me at word trail s below took = goes_at s.phase n at trail s word (took_stands n at trail [] (coin_started n me at) s (omega arith) (starts_stand n me at) took).phase
 
 -- ---- answers that the rule does not allow
 

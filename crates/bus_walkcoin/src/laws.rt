@@ -1,9 +1,9 @@
 //! What a coin keeps, as contracts of functions without a body.
 
-ghost use Rattle.std.specs.Prelude.{ℕ, ◌<◌, List};
+ghost use Rattle.std.specs.Prelude.{◌≡◌, ◌↔◌, ℕ, ◌<◌, IsSome, None, List};
 ghost use Rattle.bus_register.specs.Protocol.{Laws};
 ghost use Rattle.bus_walkcoin.specs.Coin.{CoinState, coin_started, coin_op, coin_fed};
-ghost use Rattle.bus_walkcoin.specs.CoinRule.{Entry};
+ghost use Rattle.bus_walkcoin.specs.CoinRule.{Entry, coin_answer};
 ghost use Rattle.bus_walkcoin.specs.CoinAnswer.{Took, CoinAnswer, RefusesEarlyAnswers};
 ghost use Rattle.bus_walkcoin.specs.CoinProtocol.{coin_protocol, AnyAnswers};
 
@@ -15,10 +15,17 @@ pub fn coin_is_lawful()
 {}
 
 /// Whatever numbers a process is fed and whatever random words, its own votes and its answer are
-/// those that the definition reads off its steps, and it goes on exactly as long as that gives none.
+/// those that the definition reads off its steps.
 pub fn coin_answers_by_its_trail()
     ensures { (n me at : ℕ) (trail : List Entry) (s : CoinState)
         → me < n → Took coin_op coin_fed (coin_started n me at) trail s → CoinAnswer n at trail s }
+{}
+
+/// A process has a next step exactly as long as the definition gives no answer.
+pub fn coin_goes_on_until_answered()
+    ensures { (n me at word : ℕ) (trail : List Entry) (s : CoinState)
+        → me < n → Took coin_op coin_fed (coin_started n me at) trail s
+        → IsSome (coin_op s word) ↔ (coin_answer n at trail ≡ None) }
 {}
 
 /// No process answers before it has voted, before it has then loaded all counters in rising order,
