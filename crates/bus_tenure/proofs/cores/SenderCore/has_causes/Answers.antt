@@ -3,4 +3,4 @@ use Rattle.bus_tenure.specs.Causes.{HasCause}
 use Rattle.bus_tenure.proofs.cores.SenderCore.has_causes.Goals as goal
 
 pub returns : goal.returns
-returns g c k is = subst (λ o. IfSome o (λ z. HasCause g.Q.Ratifier.protocol c.args.self.now z)) (c.kind-_kind.ensures.kind ∙ is) c.kind-_kind.ensures.cause
+returns g c k is = subst (λ o. IfSome o (λ z. HasCause g.Q.Ratifier.protocol c.args.self.now z)) (c.kind-kind.ensures.kind ∙ is) c.kind-kind.ensures.cause
