@@ -1,8 +1,22 @@
 -- The kinds of step that a ratifier may take.
-use Rattle.std.specs.Prelude.{◌≡◌, ◌⊎◌}
+use Rattle.std.specs.Prelude.{◌≡◌, ◌⊎◌, Bool, false}
 use Rattle.bus_register.specs.declared.kinds.Kind.{Kind}
+use Rattle.bus_register.specs.declared.registers.Op.{Op}
+use Rattle.bus_register.specs.Protocol.{IsStore}
 use Rattle.bus_register.specs.declared.kinds.Kind.TheVariants.{StoreProposal, ReadProposal, StoreVerdict, ReadVerdict}
 
 -- one of the four
 abbrev pub IsOfRatifier : Kind → Type 0
 IsOfRatifier k = (k ≡ StoreProposal) ⊎ ((k ≡ ReadProposal) ⊎ ((k ≡ StoreVerdict) ⊎ (k ≡ ReadVerdict)))
+
+-- the two that store
+abbrev pub IsStoring : Kind → Type 0
+IsStoring k = (k ≡ StoreProposal) ⊎ (k ≡ StoreVerdict)
+
+-- a step is named for what it does: it stores exactly where its kind stores, and the first step of a process is the one that stores a
+-- proposal
+pub record IsNamedFor (k : Kind) (o : Op) (begun : Bool) : Type 0 where
+  pub stores : IsStore o → IsStoring k
+  pub storing : IsStoring k → IsStore o
+  pub proposes : k ≡ StoreProposal → begun ≡ false
+  pub first : begun ≡ false → k ≡ StoreProposal

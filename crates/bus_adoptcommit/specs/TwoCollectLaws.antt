@@ -1,17 +1,21 @@
 -- Two collects are an adopt-commit object, with coherence.
-use Rattle.std.proofs.Common.{◌≡◌, ℕ, ◌+◌, ◌*◌, ◌≤◌, false, Some, is_some, inl, inr, arith, refl, sym, ◌∙◌, subst}
+use Rattle.std.proofs.Common.{◌≡◌, ℕ, ◌+◌, ◌*◌, ◌<◌, ◌≤◌, Bool, true, false, nat_lt, ◌⊎◌, Some, is_some, inl, inr, arith, refl, sym, ◌∙◌, subst}
 use mathlib.Core.Path.{fun_ext}
 use Rattle.std.proofs.lemmas.Option.{same_Some}
 use Rattle.bus_register.specs.declared.kinds.Kind.{Kind}
+use Rattle.bus_register.specs.declared.kinds.Kind.TheVariants as kind
+use Rattle.bus_register.specs.declared.registers.Op.TheVariants.{Load}
+use Rattle.std.proofs.lemmas.Bool.{true≢false}
+use Rattle.std.proofs.lemmas.Bool.Decides.{nat_tests}
 use Rattle.bus_register.specs.declared.registers.Op.{Op}
 use Rattle.bus_register.specs.Words.{SumFits}
 use Rattle.bus_register.specs.Protocol.{Laws, IsStore}
 use Rattle.bus_adoptcommit.specs.declared.phases.Phase.{Phase}
 use Rattle.bus_adoptcommit.specs.declared.phases.Phase.TheVariants.{StoreProposal, ReadProposal, StoreVerdict, ReadVerdict, Ended}
 use Rattle.bus_adoptcommit.specs.Agreement.{Legal}
-use Rattle.bus_adoptcommit.specs.Kinds.{IsOfRatifier}
+use Rattle.bus_adoptcommit.specs.Kinds.{IsOfRatifier, IsStoring, IsNamedFor}
 use Rattle.bus_adoptcommit.specs.Plays.{IsExact}
-use Rattle.bus_adoptcommit.specs.TwoCollect.{Local, kind_at, op_at, op_of, fed_at, fed_of}
+use Rattle.bus_adoptcommit.specs.TwoCollect.{Local, kind_at, op_at, op_of, fed_at, fed_of, taken_at}
 use Rattle.bus_adoptcommit.specs.TwoCollectKeeps.{Keeps, two_collect}
 use Rattle.bus_adoptcommit.specs.TwoCollectStepLaws.{goes_of, falls_of, ends_at, unended_at, none_left_at}
 use Rattle.bus_adoptcommit.specs.TwoCollectMoveLaws.{moves_keep}
@@ -36,6 +40,40 @@ own_kinds_at Ended k e = absurd cc
 
 pub own_kinds : (s : Local) (k : Kind) → kind_at s.phase ≡ Some k → IsOfRatifier k
 own_kinds s k e = own_kinds_at s.phase k e
+
+-- a step is named for what it does
+no_store : (r x : ℕ) (o : Op) → Load record { 0 = r } ≡ o → IsStore o → ⊥
+no_store r x o e w = let z = e ∙ w.2 in cc
+
+not_storing : (k : Kind) → (k ≡ kind.ReadProposal) ⊎ (k ≡ kind.ReadVerdict) → IsStoring k → ⊥
+not_storing k (inl e) (inl w) = let z = sym e ∙ w in cc
+not_storing k (inl e) (inr w) = let z = sym e ∙ w in cc
+not_storing k (inr e) (inl w) = let z = sym e ∙ w in cc
+not_storing k (inr e) (inr w) = let z = sym e ∙ w in cc
+
+begun_one : (m : ℕ) → 0 < m → nat_lt 0 m ≡ true
+begun_one m l = grind (arith, nat_tests)
+
+true_apart : {A : Type 0} (b : Bool) → b ≡ true → b ≡ false → A
+true_apart b e f = absurd (true≢false (sym e ∙ f))
+
+named_for_at : (ph : Phase) (n : ℕ) (s : Local) (k : Kind) (o : Op) → kind_at ph ≡ Some k → op_at ph s ≡ Some o → IsNamedFor k o (nat_lt 0 (taken_at n ph))
+named_for_at StoreProposal n s k o e q =
+    let is = same_Some _ _ e in
+    record { stores = λ w. inl (sym is); storing = λ w. (_, _, sym (same_Some _ _ q)); proposes = λ w. refl; first = λ w. sym is }
+named_for_at (ReadProposal of) n s k o e q =
+    let is = same_Some _ _ e in let begun = begun_one (taken_at n (ReadProposal of)) (omega arith) in
+    record { stores = λ w. absurd (no_store _ 0 o (same_Some _ _ q) w); storing = λ w. absurd (not_storing k (inl (sym is)) w); proposes = λ w. absurd (let z = is ∙ w in cc); first = true_apart _ begun }
+named_for_at StoreVerdict n s k o e q =
+    let is = same_Some _ _ e in let begun = begun_one (taken_at n StoreVerdict) (omega arith) in
+    record { stores = λ w. inr (sym is); storing = λ w. (_, _, sym (same_Some _ _ q)); proposes = λ w. absurd (let z = is ∙ w in cc); first = true_apart _ begun }
+named_for_at (ReadVerdict of) n s k o e q =
+    let is = same_Some _ _ e in let begun = begun_one (taken_at n (ReadVerdict of)) (omega arith) in
+    record { stores = λ w. absurd (no_store _ 0 o (same_Some _ _ q) w); storing = λ w. absurd (not_storing k (inr (sym is)) w); proposes = λ w. absurd (let z = is ∙ w in cc); first = true_apart _ begun }
+named_for_at Ended n s k o e q = absurd cc
+
+pub named_for : (s : Local) (k : Kind) (word : ℕ) (o : Op) → kind_at s.phase ≡ Some k → op_of s ≡ Some o → IsNamedFor k o (two_collect.has_begun s)
+named_for s k word o e q = named_for_at s.phase s.n s k o e q
 
 -- it asks for no random word
 pub wordless : (s : Local) → two_collect.wants_word s ≡ false

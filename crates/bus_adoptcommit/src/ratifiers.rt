@@ -2,10 +2,11 @@
 
 ghost use Rattle.std.specs.Prelude.{◌≡◌, ℕ, ◌+◌, ◌*◌, ◌<◌, ◌≤◌, ◌^◌, Bool, false, Some};
 ghost use Rattle.bus_register.specs.declared.kinds.Kind.{Kind};
+ghost use Rattle.bus_register.specs.declared.registers.Op.{Op};
 ghost use Rattle.bus_register.specs.Protocol.{Protocol, Laws};
 ghost use Rattle.bus_adoptcommit.specs.declared.verdicts.Verdict.{Verdict};
 ghost use Rattle.bus_adoptcommit.specs.Agreement.{Legal};
-ghost use Rattle.bus_adoptcommit.specs.Kinds.{IsOfRatifier};
+ghost use Rattle.bus_adoptcommit.specs.Kinds.{IsOfRatifier, IsNamedFor};
 
 use super::verdicts::Verdict;
 use bus_register::{Machine, Reg, SenderNo};
@@ -38,6 +39,10 @@ pub trait Ratifier: Machine {
 
     /// Its steps are of a ratifier's four kinds.
     ghost own_kinds: { (s : Self) (k : Kind) → Self.kind_of s ≡ Some k → IsOfRatifier k };
+
+    /// A kind names what the step does: it stores exactly where its kind stores, and the first step
+    /// of a process is the one that stores its proposal.
+    ghost named_for: { (s : Self) (k : Kind) (word : ℕ) (o : Op) → Self.kind_of s ≡ Some k → Self.op s word ≡ Some o → IsNamedFor k o (protocol.has_begun s) };
 
     /// It asks for no random word.
     ghost wordless: { (s : Self) → protocol.wants_word s ≡ false };

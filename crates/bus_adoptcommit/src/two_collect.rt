@@ -5,7 +5,7 @@ ghost use Rattle.bus_register.specs.Protocol.{Protocol};
 ghost use Rattle.bus_adoptcommit.specs.Plays.{IsExact};
 ghost use Rattle.bus_adoptcommit.specs.TwoCollect.{Local, Sized, proposal_code, verdict_code, verdict_in, kind_at, op_of, fed_of};
 ghost use Rattle.bus_adoptcommit.specs.TwoCollectKeeps.{two_collect};
-ghost use Rattle.bus_adoptcommit.specs.TwoCollectLaws.{two_collect_legal, two_collect_exact, named_at, own_kinds, wordless, quick, narrow};
+ghost use Rattle.bus_adoptcommit.specs.TwoCollectLaws.{two_collect_legal, two_collect_exact, named_at, own_kinds, named_for, wordless, quick, narrow};
 
 use super::phases::Phase;
 use super::ratifiers::Ratifier;
@@ -179,6 +179,8 @@ impl Ratifier for TwoCollect {
     ghost laws = { two_collect_legal };
 
     ghost own_kinds = { own_kinds };
+
+    ghost named_for = { named_for };
 
     ghost wordless = { wordless };
 

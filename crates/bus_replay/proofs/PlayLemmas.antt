@@ -76,6 +76,7 @@ closes X z old mid whole taken order owners spelled took taken_are some reached 
     order = order;
     owners = owners;
     spelled = spelled;
+    happened = (some, reached);
     took = λ T r. subst (λ l. Takers l T.deeds) taken_are (took T r);
     text_is = λ T r.
         let same = append_cancel_left mid (given_text (given_by some z.bus.receivers)) (given_text (given_by T z.bus.receivers)) (sym (whole_is some reached) ∙ whole_is T r) in

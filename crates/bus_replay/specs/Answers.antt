@@ -79,12 +79,13 @@ Prints X b (line ∷ lines) text end = Asked X b line.0 (command_of line.1) (λ 
 abbrev pub given_by : {A : Type 0} → Trails → List A → List Order
 given_by T receivers = map (λ e. given (T.heard e.0)) (enumerate_from 0 receivers)
 
--- The closing lines, whatever trails led to the bus: who took the pages, by tenure; the one order that the words below the length
+-- The closing lines, whatever trails led to the bus, as some have: who took the pages, by tenure; the one order that the words below the length
 -- spell; and of each receiver what it was given.
 pub record Closes {E : Type 0} (X : Election E) (z : Sitting E) (text : List ℕ) : Type 0 where
   pub order : Order
   pub owners : List (ℕ × SenderNo)
   pub spelled : Spells z.layout.senders (log_of z) order owners
+  pub happened : (T : Trails) × Reached X z.layout z.bus T
   pub took : (T : Trails) → Reached X z.layout z.bus T → Takers z.bus.side.owners T.deeds
   pub text_is : (T : Trails) → Reached X z.layout z.bus T → text ≡ owners_line z.bus.side.owners ++ order_text order ++ given_text (given_by T z.bus.receivers)
 

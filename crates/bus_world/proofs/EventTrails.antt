@@ -53,7 +53,7 @@ use Rattle.bus_world.specs.declared.events.Answer.{Answer}
 use Rattle.bus_world.specs.declared.events.Answer.TheVariants as answer
 use Rattle.bus_world.specs.Trails.{Trails, no_trails, extended, trails_after, deeds_of, put_deeds, close_deeds, turning_deeds, step_deed, heard_of, answer_heard, IsPromisedBy, IsPromised, StaysPromised, Follows, Played, Reached}
 use Rattle.bus_world.specs.Trails.Reached.{New, Then}
-use Rattle.bus_world.proofs.Tying.{AreNumbered, Tables, PageTies, Hears, Tied}
+use Rattle.bus_world.proofs.Tying.{AreNumbered, IsSilent, Tables, PageTies, Hears, Tied}
 use Rattle.bus_world.proofs.Places.{got_split}
 use Rattle.bus_world.proofs.TableTrails.{plain_put, plain_close}
 use Rattle.bus_world.proofs.TurnTrails.{Ties, turn_ties, batch_ties}
@@ -415,7 +415,7 @@ module _ {E : Type 0} (X : Election E) (P : Protocol E (Unit {0}) ℕ) (laws : L
         heard = λ r v i.
             let n = new.receivers r v i in
             let nothing : take v.place (log_pieces []) ≡ [] = take-nil v.place in
-            record { given_is = ap order_in (sym nothing); heads_are = ap owners_in (sym nothing); ended = λ e. absurd (let z = sym n.6 ∙ e in cc) };
+            record { given_is = ap order_in (sym nothing); heads_are = ap owners_in (sym nothing); ended = λ e. absurd (let z = sym n.6 ∙ e in cc); going = λ e. refl; silent = λ j k a e l f. absurd (none_in j _ e) };
         silent = λ r i. refl;
         closings = record { closing = λ q c i shut. absurd (open_apart (ap (λ (z : Core E). z.queue.phase) (sym (new.senders q c i).1) ∙ shut)); ended = λ j f at ends. absurd (none_in j f at) };
       };
@@ -460,6 +460,10 @@ module _ {E : Type 0} (X : Election E) (P : Protocol E (Unit {0}) ℕ) (laws : L
     told_at r (Some v) i = subst (λ z. IsPrefix z (map tenure_and_owner frames)) (sym (k.tied.heard r v i).heads_are) (heads_prefix v.place)
     told_at r None i = subst (λ z. IsPrefix (heads z) (map tenure_and_owner frames)) (sym (k.tied.silent r i)) (heads_prefix 0)
 
+    silent_at : (r : ℕ) (o : Option Receiving) → slice_get b.receivers r ≡ o → IsSilent (T.heard r)
+    silent_at r (Some v) i = (k.tied.heard r v i).silent
+    silent_at r None i = subst IsSilent (sym (k.tied.silent r i)) (λ j m a e l f. absurd (none_in j _ e))
+
     pub page : Promises T.deeds T.heard (order_of frames) (map tenure_and_owner frames)
     page = record {
       one_owner = λ t s s' o o' e f. let a = k.tied.tables.only_elected t s o e in let d = k.tied.tables.only_elected t s' o' f in (one t a.0).equal s s' o o' a.1 d.1;
@@ -477,6 +481,7 @@ module _ {E : Type 0} (X : Election E) (P : Protocol E (Unit {0}) ℕ) (laws : L
         messages = λ s. subst (IsPrefix (map (λ i. i.message) (of_sender s (order_of frames)))) (sym (k.tied.puts s)) (record { rest = waiting_of (slice_get b.side.senders s); together = refl });
       };
       numbered = k.tied.counted;
+      silent = λ r. silent_at r (slice_get b.receivers r) refl;
       closed = λ e.
           let l = last_frame x.senders 0 frames k.lawful.side.sending.log.lawful e in
           record {

@@ -50,6 +50,21 @@ pub last_frame : (senders least : ℕ) (fs : List Frame) → AreFramesFrom sende
 last_frame senders least [] lawful e = absurd (false≢true e)
 last_frame senders least (f ∷ fs) lawful e = last_by f fs f.body refl lawful.2 e (last_frame senders (f.tenure + 1) fs lawful.3)
 
+-- ---- the frames before the last one
+not_nil : (front : List Frame) (f : Frame) → front ++ f ∷ [] ≡ [] → ⊥
+not_nil [] f e = cc
+not_nil (g ∷ front) f e = cc
+
+no_end : (front : List Frame) (f : Frame) (b : Body) → (b ≡ EndMark → front ++ f ∷ [] ≡ []) → ends b ≡ false
+no_end front f (Messages ms) last = refl
+no_end front f EndMark last = absurd (not_nil front f (last refl))
+
+pub front_lawful : (senders least : ℕ) (front : List Frame) (f : Frame) → AreFramesFrom senders least (front ++ f ∷ []) → AreFramesFrom senders least front × (has_end front ≡ false)
+front_lawful senders least [] f lawful = (tt, refl)
+front_lawful senders least (g ∷ front) f lawful =
+    let rest = front_lawful senders (g.tenure + 1) front f lawful.3 in
+    ((lawful.0, lawful.1, λ e. absurd (not_nil front f (lawful.2 e)), rest.0), ap (λ b. b || has_end front) (no_end front f g.body lawful.2) ∙ rest.1)
+
 -- ---- a log that has grown
 pub order_grows : (senders : ℕ) (frames more : List Frame) → AreFrames senders (frames ++ more) → IsPrefixOfOrder (order_of frames) (order_of (frames ++ more))
 order_grows senders frames more lawful = subst (λ z. IsPrefixOfOrder z (order_of (frames ++ more))) (order_in-log frames) (order_in-prefix senders (frames ++ more) (log_pieces frames) (log_pieces more) lawful (flat_map-append frame_pieces frames more))

@@ -1,5 +1,5 @@
 -- A turn of a receiver keeps what ties its trail to its place.
-use Rattle.std.proofs.Common.{◌≡◌, ◌≢◌, ℕ, zero, suc, ◌+◌, ◌<◌, ◌≤◌, Bool, true, false, cond, ◌==◌, ◌||◌, Option, Some, None, inl, inr, List, [], ◌∷◌, ◌++◌, length, flat_map, take, drop, get_or, slice_get, slice_index, arith, refl, sym, ◌∙◌, ap, subst, append_assoc}
+use Rattle.std.proofs.Common.{◌≡◌, ◌≢◌, ℕ, zero, suc, ◌+◌, ◌<◌, ◌≤◌, Bool, true, false, cond, ◌==◌, ◌||◌, Option, Some, None, ◌⊎◌, inl, inr, List, [], ◌∷◌, ◌++◌, length, flat_map, take, drop, get_or, slice_get, slice_index, arith, refl, sym, ◌∙◌, ap, subst, append_assoc}
 use Rattle.std.specs.List.{list_any}
 use Rattle.std.proofs.Math.Bool.{or-false}
 use Rattle.std.proofs.lemmas.Bool.{cases_eq, cases_lt}
@@ -7,7 +7,7 @@ use Rattle.std.proofs.lemmas.Bool.Decides.{eqb_tells}
 use Rattle.std.proofs.lemmas.Grind.{common_steps, flat_map-append}
 use Rattle.std.proofs.lemmas.List.{append-nil, length-append, take-append-le, take_more, get_or_append_left}
 use Rattle.std.proofs.lemmas.List.Folds.{list_any-append}
-use Rattle.std.proofs.lemmas.Option.{slice_get_within, get_or_from_slice_get}
+use Rattle.std.proofs.lemmas.Option.{same_Some, slice_get_within, get_or_from_slice_get}
 use Rattle.bus_register.specs.declared.registers.SenderNo.{SenderNo}
 use Rattle.bus_batch.specs.declared.messages.Item.{Item}
 use Rattle.bus_batch.specs.declared.messages.Piece.{Piece}
@@ -21,7 +21,8 @@ use Rattle.bus_world.specs.Log.{read, Logged}
 use Rattle.bus_world.proofs.LogLaws.{length-read}
 use Rattle.bus_world.proofs.ReceivingLaws.{length-log_pieces}
 use Rattle.bus_world.specs.Headline.{item_heard, end_heard, head_heard, given, heads}
-use Rattle.bus_world.proofs.Tying.{Hears}
+use Rattle.bus_world.proofs.Places.{got_split}
+use Rattle.bus_world.proofs.Tying.{Hears, IsSilent}
 use Rattle.bus_world.specs.World.{RecvDoes, RecvStep, recv_found, IsReceiver, given_at}
 use Rattle.bus_world.proofs.WorldLaws.{received}
 
@@ -99,7 +100,34 @@ pub hears_later : (frames more : List Frame) (v : Receiving) (trail : List RecvT
 hears_later frames more v trail l h =
     let size = length-log_pieces frames in
     let front : take v.place (log_pieces (frames ++ more)) ≡ take v.place (log_pieces frames) = ap (take v.place) (flat_map-append frame_pieces frames more) ∙ take-append-le v.place (log_pieces frames) (log_pieces more) (omega arith) in
-    record { given_is = h.given_is ∙ ap order_in (sym front); heads_are = h.heads_are ∙ ap owners_in (sym front); ended = h.ended }
+    record { given_is = h.given_is ∙ ap order_in (sym front); heads_are = h.heads_are ∙ ap owners_in (sym front); ended = h.ended; going = h.going; silent = h.silent }
+
+-- ---- after the end
+end_given : (trail : List RecvTurn) (j : ℕ) → slice_get trail j ≡ Some heard.End → (given trail).ended ≡ true
+end_given [] j e = absurd cc
+end_given (x ∷ trail) zero e = ap (λ z. end_heard z || list_any end_heard trail) (same_Some _ _ e)
+end_given (x ∷ trail) (suc j) e = or_true (end_heard x) (list_any end_heard trail) (end_given trail j e)
+
+only_one : (answer : RecvTurn) (i : ℕ) (a : RecvTurn) → slice_get (answer ∷ []) i ≡ Some a → (i ≡ 0) × (a ≡ answer)
+only_one answer zero a e = (refl, sym (same_Some _ _ e))
+only_one answer (suc i) a e = absurd (none_there i a e)
+  where
+    none_there : (i : ℕ) (a : RecvTurn) → slice_get [] i ≡ Some a → ⊥
+    none_there i a e = cc
+
+silent_more : (trail : List RecvTurn) (answer : RecvTurn) → IsSilent trail → (answer ≡ heard.End) ⊎ ((given trail).ended ≡ false) → IsSilent (trail ++ answer ∷ [])
+silent_more trail answer h how j k a at l here = elim (got_split trail (answer ∷ []) k a here) [
+  | inl old ↦ elim (got_split trail (answer ∷ []) j heard.End at) [
+    | inl first ↦ h j k a first l old
+    | inr r ↦ absurd (let within = slice_get_within trail k a old in let past = r.1 in omega arith)
+  ]
+  | inr new ↦
+      let one = only_one answer new.0 a new.2 in
+      elim (got_split trail (answer ∷ []) j heard.End at) [
+        | inl first ↦ elim how [ inl ends ↦ one.1 ∙ ends | inr goes ↦ absurd (let z = sym (end_given trail j first) ∙ goes in cc) ]
+        | inr r ↦ absurd (let a' = (only_one answer r.0 heard.End r.2).0 in let b = one.0 in let p = r.1 in let q = new.1 in omega arith)
+      ]
+]
 
 -- an answer that tells nothing, of a receiver that stays where it is
 record Tells_nothing (v next : Receiving) (answer : RecvTurn) : Type 0 where
@@ -110,18 +138,20 @@ record Tells_nothing (v next : Receiving) (answer : RecvTurn) : Type 0 where
   ended : next.ended ≡ v.ended
 
 module _ (frames : List Frame) (v : Receiving) (trail : List RecvTurn) (h : Hears frames v trail) (answer : RecvTurn) (next : Receiving) where
-  quiet : Tells_nothing v next answer → Hears frames next (trail ++ answer ∷ [])
-  quiet q =
+  quiet : v.ended ≡ false → Tells_nothing v next answer → Hears frames next (trail ++ answer ∷ [])
+  quiet on q =
       let same : given (trail ++ answer ∷ []) ≡ given trail = given_more trail answer ∙ ap (λ z. more_order (given trail) z (end_heard answer)) q.items ∙ ap (more_order (given trail) []) q.ends ∙ nothing_more (given trail) in
       record {
         given_is = same ∙ h.given_is ∙ ap (λ z. order_in (take z (log_pieces frames))) (sym q.place);
         heads_are = heads_more trail answer ∙ ap (λ z. heads trail ++ z) q.head ∙ append-nil (heads trail) ∙ h.heads_are ∙ ap (λ z. owners_in (take z (log_pieces frames))) (sym q.place);
         ended = λ e. ap (λ (z : Order). z.ended) same ∙ h.ended (sym q.ended ∙ e);
+        going = λ e. ap (λ (z : Order). z.ended) same ∙ h.going (sym q.ended ∙ e);
+        silent = silent_more trail answer h.silent (inr (h.going on));
       }
 
   -- it has the next piece
-  good : (found : Option Piece) → slice_get (log_pieces frames) v.place ≡ Some found → answer ≡ turn_of found → next.place ≡ v.place + 1 → next.ended ≡ is_end found → Hears frames next (trail ++ answer ∷ [])
-  good found at told place_is ended_is =
+  good : v.ended ≡ false → (found : Option Piece) → slice_get (log_pieces frames) v.place ≡ Some found → answer ≡ turn_of found → next.place ≡ v.place + 1 → next.ended ≡ is_end found → Hears frames next (trail ++ answer ∷ [])
+  good on found at told place_is ended_is =
       let pieces : take next.place (log_pieces frames) ≡ take v.place (log_pieces frames) ++ found ∷ [] =
       ap (λ z. take z (log_pieces frames)) place_is ∙ take_more (log_pieces frames) v.place found (slice_get_within (log_pieces frames) v.place found at) ∙ ap (λ z. take v.place (log_pieces frames) ++ z ∷ []) (get_or_from_slice_get (log_pieces frames) v.place found found at) in
       let items : item_heard answer ≡ piece_items found = ap item_heard told ∙ item_told found in
@@ -131,6 +161,8 @@ module _ (frames : List Frame) (v : Receiving) (trail : List RecvTurn) (h : Hear
             ∙ sym (order_more (take v.place (log_pieces frames)) found) ∙ ap order_in (sym pieces);
         heads_are = heads_more trail answer ∙ ap (λ z. z ++ head_heard answer) h.heads_are ∙ ap (λ z. owners_in (take v.place (log_pieces frames)) ++ z) (ap head_heard told ∙ head_told found) ∙ sym (owners_more (take v.place (log_pieces frames)) found) ∙ ap owners_in (sym pieces);
         ended = λ e. ap (λ (z : Order). z.ended) (given_more trail answer) ∙ or_true (given trail).ended (end_heard answer) (ends ∙ sym ended_is ∙ e);
+        going = λ e. ap (λ (z : Order). z.ended) (given_more trail answer) ∙ ap (λ z. z || end_heard answer) (h.going on) ∙ ends ∙ sym ended_is ∙ e;
+        silent = silent_more trail answer h.silent (inr (h.going on));
       }
 
   -- after the end it hears of it again
@@ -142,32 +174,34 @@ module _ (frames : List Frame) (v : Receiving) (trail : List RecvTurn) (h : Hear
         given_is = still ∙ h.given_is ∙ ap (λ (z : Receiving). given_at frames z) (sym same);
         heads_are = heads_more trail answer ∙ ap (λ z. heads trail ++ head_heard z) told ∙ append-nil (heads trail) ∙ h.heads_are ∙ ap (λ (z : Receiving). owners_in (take z.place (log_pieces frames))) (sym same);
         ended = λ i. ap (λ (z : Order). z.ended) still ∙ h.ended e;
+        going = λ i. absurd (let z = sym e ∙ sym (ap (λ (w : Receiving). w.ended) same) ∙ i in cc);
+        silent = silent_more trail answer h.silent (inl told);
       }
 
 module _ (x : Layout) (frames : List Frame) (words : List ℕ) (log : Logged x.senders x.capacity (log_at x) (slice_index words) (slice_index words 0) frames) (v : Receiving) (own : IsReceiver x frames (slice_index words 0) v) (trail : List RecvTurn) (h : Hears frames v trail) (answer : RecvTurn) (next : Receiving) where
   size_is : length (log_words frames) ≡ slice_index words 0
   size_is = sym (ap length log.words_are) ∙ length-read (slice_index words) (log_at x) (slice_index words 0)
 
-  hears_step : RecvStep v (recv_found words v) answer next → Hears frames next (trail ++ answer ∷ [])
-  hears_step step = elim (cases_eq v.place v.known) [
+  hears_step : v.ended ≡ false → RecvStep v (recv_found words v) answer next → Hears frames next (trail ++ answer ∷ [])
+  hears_step on step = elim (cases_eq v.place v.known) [
     | inl e ↦
         let t = step.at_length e in
         let got = recv_found words v in
-        let goes : answer ≡ heard.Going → next.place ≡ v.place → next.ended ≡ v.ended → Hears frames next (trail ++ answer ∷ []) = λ a b d. quiet frames v trail h answer next record { items = ap item_heard a; ends = ap end_heard a; head = ap head_heard a; place = b; ended = d } in
+        let goes : answer ≡ heard.Going → next.place ≡ v.place → next.ended ≡ v.ended → Hears frames next (trail ++ answer ∷ []) = λ a b d. quiet frames v trail h answer next on record { items = ap item_heard a; ends = ap end_heard a; head = ap head_heard a; place = b; ended = d } in
         elim (cases_lt v.known got) [
           | inl l ↦ elim (cases_lt v.log_words got) [
             | inl beyond ↦ (let a = t.beyond l beyond in goes a.0 (ap (λ (z : Receiving). z.place) a.1) (ap (λ (z : Receiving). z.ended) a.1))
             | inr within ↦ (let a = t.more l within in goes a.0 (ap (λ (z : Receiving). z.place) a.1) (ap (λ (z : Receiving). z.ended) a.1))
           ]
           | inr g ↦ elim (cases_eq got v.known) [
-            | inl i ↦ (let a = t.same i in quiet frames v trail h answer next record { items = ap item_heard a.0; ends = ap end_heard a.0; head = ap head_heard a.0; place = ap (λ (z : Receiving). z.place) a.1; ended = ap (λ (z : Receiving). z.ended) a.1 })
+            | inl i ↦ (let a = t.same i in quiet frames v trail h answer next on record { items = ap item_heard a.0; ends = ap end_heard a.0; head = ap head_heard a.0; place = ap (λ (z : Receiving). z.place) a.1; ended = ap (λ (z : Receiving). z.ended) a.1 })
             | inr ne ↦ (let a = t.less (omega arith) in goes a.0 (ap (λ (z : Receiving). z.place) a.1) (ap (λ (z : Receiving). z.ended) a.1))
           ]
         ]
     | inr ne ↦
         let had = received x frames (slice_index words) log v own in
         elim (step.at_word ne (take v.place (log_words frames)) (take v.place (log_pieces frames)) had) [
-          | inl bad ↦ quiet frames v trail h answer next record { items = ap item_heard bad.1; ends = ap end_heard bad.1; head = ap head_heard bad.1; place = ap (λ (z : Receiving). z.place) bad.2; ended = ap (λ (z : Receiving). z.ended) bad.2 }
+          | inl bad ↦ quiet frames v trail h answer next on record { items = ap item_heard bad.1; ends = ap end_heard bad.1; head = ap head_heard bad.1; place = ap (λ (z : Receiving). z.place) bad.2; ended = ap (λ (z : Receiving). z.ended) bad.2 }
           | inr ok ↦
               let more : v.place < slice_index words 0 = let a = own.receives.place_below in let b = own.receives.known_below in omega arith in
               let got_is : recv_found words v ≡ slice_index words (log_at x + v.place) = elim (eqb_tells v.place v.known) [
@@ -178,7 +212,7 @@ module _ (x : Layout) (frames : List Frame) (words : List ℕ) (log : Logged x.s
               let size = size_is in
               let split = next_word (log_words frames) v.place (recv_found words v) (omega arith) word_is in
               let at = ok.gives frames (drop (suc v.place) (log_words frames)) (subst (λ z. AreFrames z frames) (sym own.senders) log.lawful) split in
-              good frames v trail h answer next ok.found (ap (slice_get (log_pieces frames)) had.place ∙ at) ok.answer_is (ap (λ (z : Receiving). z.place) ok.new_is) (ap (λ (z : Receiving). z.ended) ok.new_is)
+              good frames v trail h answer next on ok.found (ap (slice_get (log_pieces frames)) had.place ∙ at) ok.answer_is (ap (λ (z : Receiving). z.place) ok.new_is) (ap (λ (z : Receiving). z.ended) ok.new_is)
         ]
   ]
 
@@ -187,4 +221,4 @@ module _ (x : Layout) (frames : List Frame) (words : List ℕ) (log : Logged x.s
     where
       by_end : (q : Bool) → v.ended ≡ q → Hears frames next (trail ++ answer ∷ [])
       by_end true e = let d = does.ended e in again frames v trail h answer next e d.0 d.1
-      by_end false e = hears_step (does.going e)
+      by_end false e = hears_step e (does.going e)

@@ -9,7 +9,8 @@ use Rattle.bus_deliverylog.specs.Orders.{of_sender, IsPrefixOfOrder}
 use Rattle.bus_deliverylog.specs.declared.receiving.RecvTurn.{RecvTurn}
 use Rattle.bus_tenure.specs.declared.turns.Turn.TheVariants as turn
 use Rattle.bus_world.specs.Headline.{Deed, HasPut, HasClosed, Stepped, Announced, Elected, Took, Closed, IsPrefix, AreFramed, Nothing, TheEnd, Batch, Promises}
-use Rattle.bus_world.specs.Refusals.{each_of, elects, announces, takes, item, sender, PromiseRefuses}
+use Rattle.bus_world.specs.Refusals.{each_of, elects, announces, takes, owns, item, sender, PromiseRefuses}
+use Rattle.bus_deliverylog.specs.declared.receiving.RecvTurn.TheVariants as recv
 
 no_some : {A : Type 0} (v : A) → ◌≡◌ {A = Option A} None (Some v) → ⊥
 no_some v e = cc
@@ -17,8 +18,8 @@ no_some v e = cc
 none_at : {A : Type 0} (i : ℕ) (x : A) → slice_get [] i ≡ Some x → ⊥
 none_at i x e = cc
 
-elected_at : (s : ℕ) (d : ℕ → List Deed) (o : ℕ) → slice_get (d s) 0 ≡ Some (elects o) → Elected (d s) 0 o
-elected_at s d o e = record { place = 0; step = kind.Fallback; found = 0; answer = turn.Going; at = e }
+elected_second : (s : ℕ) (d : ℕ → List Deed) (o : ℕ) → slice_get (d s) 1 ≡ Some (elects o) → Elected (d s) 0 o
+elected_second s d o e = record { place = 1; step = kind.Fallback; found = 0; answer = turn.Going; at = e }
 
 took_at : (s place : ℕ) (d : ℕ → List Deed) → slice_get (d s) place ≡ Some takes → Took (d s) 0 place
 took_at s place d e = record { found = 0; chose = None; answer = turn.Own 0; at = e }
@@ -39,11 +40,11 @@ items_given : (items : List Item) (order : Order) → IsPrefixOfOrder (record { 
 items_given items order h = (h.later, h.items)
 
 -- items of sender 0 at the head of an order are numbered from 0
-head_number : (order : Order) (n : ℕ) (later : List Item) → ((s k : ℕ) (i : Item) → slice_get (of_sender s order) k ≡ Some i → i.number ≡ k) → order.items ≡ item n ∷ later → n ≡ 0
-head_number order n later numbered e = numbered 0 0 (item n) (ap (λ z. slice_get (filter (λ (i : Item). i.sender.0 == 0) z) 0) e)
+head_number : (order : Order) (n : ℕ) (later : List Item) → ((s k : ℕ) (i : Item) → slice_get (of_sender s order) k ≡ Some i → i.number ≡ k) → order.items ≡ item 0 n ∷ later → n ≡ 0
+head_number order n later numbered e = numbered 0 0 (item 0 n) (ap (λ z. slice_get (filter (λ (i : Item). i.sender.0 == 0) z) 0) e)
 
-next_number : (order : Order) (n m : ℕ) (later : List Item) → ((s k : ℕ) (i : Item) → slice_get (of_sender s order) k ≡ Some i → i.number ≡ k) → order.items ≡ item n ∷ item m ∷ later → m ≡ 1
-next_number order n m later numbered e = numbered 0 1 (item m) (ap (λ z. slice_get (filter (λ (i : Item). i.sender.0 == 0) z) 1) e)
+next_number : (order : Order) (n m : ℕ) (later : List Item) → ((s k : ℕ) (i : Item) → slice_get (of_sender s order) k ≡ Some i → i.number ≡ k) → order.items ≡ item 0 n ∷ item 0 m ∷ later → m ≡ 1
+next_number order n m later numbered e = numbered 0 1 (item 0 m) (ap (λ z. slice_get (filter (λ (i : Item). i.sender.0 == 0) z) 1) e)
 
 prefix_nil : (front : List (List ℕ)) → IsPrefix front [] → front ≡ []
 prefix_nil [] h = refl
@@ -51,6 +52,30 @@ prefix_nil (x ∷ xs) h = absurd (let e = h.together in cc)
 
 not_one : {A : Type 0} (x : A) (xs : List A) → x ∷ xs ≡ [] → ⊥
 not_one x xs e = cc
+
+-- its messages begin with that of an item of sender 0 at the head of the order
+messages_of : (order : Order) (i : Item) (later : List Item) → order.items ≡ i ∷ later → map (λ (z : Item). z.message) (of_sender 0 order) ≡ map (λ (z : Item). z.message) (filter (λ (z : Item). z.sender.0 == 0) (i ∷ later))
+messages_of order i later e = ap (λ z. map (λ (v : Item). v.message) (filter (λ (v : Item). v.sender.0 == 0) z)) e
+
+first_message : (x y : List ℕ) (xs ys rest : List (List ℕ)) → (x ∷ xs) ++ ys ≡ y ∷ rest → x ≡ y
+first_message x y xs ys rest e = cc
+
+item_end : {i : Item} → recv.Item i ≡ recv.End → ⊥
+item_end e = cc
+
+two_three : ◌≡◌ {A = ℕ} 2 3 → ⊥
+two_three e = omega arith
+
+first_pair : (x y : ℕ × SenderNo) (xs ys : List (ℕ × SenderNo)) → x ∷ xs ≡ y ∷ ys → x ≡ y
+first_pair x y xs ys e = cc
+
+-- an owner that has not closed
+never_closed : (s i : ℕ) → slice_get (each_of owns [] s) i ≡ Some HasClosed → ⊥
+never_closed zero zero e = cc
+never_closed zero (suc zero) e = cc
+never_closed zero (suc (suc zero)) e = cc
+never_closed zero (suc (suc (suc i))) e = none_at i _ e
+never_closed (suc s) i e = none_at i _ e
 
 -- ---- frames
 zero_one : ◌≡◌ {A = ℕ} 0 1 → ⊥
@@ -62,24 +87,28 @@ second e = ap (λ (z : ℕ × SenderNo). z.1) e
 same_head : (t u : ℕ) (o p : SenderNo) (xs ys : List (ℕ × SenderNo)) → (t, o) ∷ xs ≡ (u, p) ∷ ys → ◌≡◌ {A = ℕ × SenderNo} (t, o) (u, p)
 same_head t u o p xs ys e = cc
 
-foreign : (owners : List (ℕ × SenderNo)) (items : List Item) (ended : Bool) → AreFramed owners items ended → owners ≡ (0, sender 1) ∷ [] → items ≡ item 0 ∷ [] → ended ≡ false → ⊥
+foreign : (owners : List (ℕ × SenderNo)) (items : List Item) (ended : Bool) → AreFramed owners items ended → owners ≡ (0, sender 1) ∷ [] → items ≡ item 0 0 ∷ [] → ended ≡ false → ⊥
 foreign owners items ended Nothing e f g = absurd (let z : [] ≡ (0, sender 1) ∷ [] = e in cc)
 foreign owners items ended (TheEnd t o) e f g = absurd (let z : true ≡ false = g in cc)
 foreign owners items ended (Batch t o [] rest later over some all framed) e f g = absurd (let none : 0 < 0 = some in omega arith)
 foreign owners items ended (Batch t o (i ∷ own) rest later over some all framed) e f g =
     let owner_is : o ≡ sender 1 = second (same_head t 0 o (sender 1) rest [] e) in
-    let first : i ≡ item 0 = first_of i (item 0) (own ++ later) [] f in
+    let first : i ≡ item 0 0 = first_of i (item 0 0) (own ++ later) [] f in
     let sent : i.sender ≡ o = all 0 i some in
     zero_one (ap (λ (z : SenderNo). z.0) (sym (ap (λ (z : Item). z.sender) first) ∙ sent ∙ owner_is))
 
 pub refuses : PromiseRefuses
 refuses = record {
-  two_owners = λ heard order owners p. let e : 0 ≡ 1 = p.one_owner 0 0 1 0 1 (elected_at 0 (each_of (elects 0 ∷ []) (elects 1 ∷ [])) 0 refl) (elected_at 1 (each_of (elects 0 ∷ []) (elects 1 ∷ [])) 1 refl) in omega arith;
-  unannounced = λ heard order owners p.
-      let a = p.announced 0 0 1 (record { place = 1; step = kind.Fallback; found = 0; answer = turn.Going; at = refl }) in
-      none_at a.place _ a.at;
-  two_takers = λ heard order owners p. let e : 0 ≡ 1 = (p.took_once 0 0 1 0 0 (took_at 0 0 (each_of (takes ∷ []) (takes ∷ [])) refl) (took_at 1 0 (each_of (takes ∷ []) (takes ∷ [])) refl)).0 in omega arith;
-  taken_twice = λ heard order owners p. let e : 0 ≡ 1 = (p.took_once 0 0 0 0 1 (took_at 0 0 (each_of (takes ∷ takes ∷ []) []) refl) (took_at 0 1 (each_of (takes ∷ takes ∷ []) []) refl)).1 in omega arith;
+  two_owners = λ heard order owners p.
+      let d = each_of (announces ∷ elects 0 ∷ []) (announces ∷ elects 1 ∷ []) in
+      zero_one (p.one_owner 0 0 1 0 1 (elected_second 0 d 0 refl) (elected_second 1 d 1 refl));
+  unannounced = λ heard order owners p. let a = p.announced 0 0 1 (elected_second 0 (each_of (announces ∷ elects 1 ∷ []) []) 1 refl) in none_at a.place _ a.at;
+  two_takers = λ heard order owners p.
+      let d = each_of (announces ∷ elects 0 ∷ takes ∷ []) (announces ∷ elects 1 ∷ takes ∷ []) in
+      zero_one (p.took_once 0 0 1 2 2 (took_at 0 2 d refl) (took_at 1 2 d refl)).0;
+  taken_twice = λ heard order owners p.
+      let d = each_of (announces ∷ elects 0 ∷ takes ∷ takes ∷ []) [] in
+      two_three (p.took_once 0 0 0 2 3 (took_at 0 2 d refl) (took_at 0 3 d refl)).1;
   unelected = λ heard order owners p.
       let a = p.took_own 0 0 0 (took_at 0 0 (each_of (takes ∷ []) []) refl) in
       not_elected a.place a.step a.found 0 a.answer a.at;
@@ -87,22 +116,31 @@ refuses = record {
   two_orders = λ deeds order owners p.
       let a = p.delivered 0 in
       let b = p.delivered 1 in
-      let e : 0 ≡ 1 = ap (λ (z : Item). z.number) (first_of (item 0) (item 1) a.later b.later (sym a.items ∙ b.items)) in omega arith;
-  repeated = λ deeds order owners p. let a = p.delivered 0 in let e : 0 ≡ 1 = next_number order 0 0 a.later p.faithful.numbered a.items in omega arith;
+      zero_one (ap (λ (z : Item). z.sender.0) (first_of (item 0 0) (item 1 0) a.later b.later (sym a.items ∙ b.items)));
+  two_heads = λ deeds order owners p.
+      let a = p.told 0 in
+      let b = p.told 1 in
+      zero_one (ap (λ (z : ℕ × SenderNo). z.1.0) (first_pair (0, sender 0) (0, sender 1) a.rest b.rest (a.together ∙ sym b.together)));
+  repeated = λ deeds order owners p. let a = p.delivered 0 in zero_one (next_number order 0 0 a.later p.faithful.numbered a.items);
   skipped = λ deeds order owners p. let a = p.delivered 0 in let e : 1 ≡ 0 = head_number order 1 a.later p.faithful.numbered a.items in omega arith;
-  reversed = λ deeds order owners p. let a = p.delivered 0 in let e : 1 ≡ 0 = head_number order 1 (item 0 ∷ a.later) p.faithful.numbered a.items in omega arith;
+  reversed = λ deeds order owners p. let a = p.delivered 0 in let e : 1 ≡ 0 = head_number order 1 (item 0 0 ∷ a.later) p.faithful.numbered a.items in omega arith;
+  after_the_end = λ deeds order owners p. item_end (p.silent 0 0 1 (recv.Item (item 0 0)) refl (omega arith) refl);
+  short_of_the_end = λ deeds order owners p.
+      let a = p.delivered 0 in
+      let b = p.delivered 1 in
+      not_one (item 0 0) b.later (sym b.items ∙ ap (λ (z : Order). z.items) (sym (a.ended refl)));
   invented = λ order owners p.
       let a = p.delivered 0 in
       let none = prefix_nil (map (λ (i : Item). i.message) (of_sender 0 order)) (p.faithful.messages 0) in
-      not_one _ _ (sym (ap (λ z. map (λ (i : Item). i.message) (filter (λ (i : Item). i.sender.0 == 0) z)) a.items) ∙ none);
-  after_the_end = λ deeds order owners p.
+      not_one _ _ (sym (messages_of order (item 0 0) a.later a.items) ∙ none);
+  altered = λ order owners p.
       let a = p.delivered 0 in
-      let b = p.delivered 1 in
-      not_one (item 0) b.later (sym b.items ∙ ap (λ (z : Order). z.items) (sym (a.ended refl)));
+      let m = p.faithful.messages 0 in
+      not_one 1 [] (sym (first_message [] (1 ∷ []) _ (m.rest) [] (ap (λ z. z ++ m.rest) (sym (messages_of order (item 0 0) a.later a.items)) ∙ m.together)));
   unclosed = λ order owners p.
       let a = p.delivered 0 in
       let c = p.closed (ap (λ (z : Order). z.ended) (sym (a.ended refl))) in
-      none_at c.closed.0 _ c.closed.1;
+      never_closed c.owner.0 c.closed.0 c.closed.1;
   foreign_item = λ deeds heard p. foreign _ _ _ p.framed refl refl refl;
   one_tenure_twice = λ order deeds heard p. let l = p.rising 0 1 0 0 (sender 0) (sender 0) refl refl (omega arith) in omega arith;
 }

@@ -10,7 +10,7 @@ use Rattle.bus_register.specs.TableLaws.{some_or_none}
 use Rattle.bus_batch.specs.Batches.{next_of, frame_of, HasSomething}
 use Rattle.bus_batch.specs.declared.batches.Phase.{Phase as BatchPhase}
 use Rattle.bus_batch.specs.declared.batches.Phase.TheVariants.{Closing}
-use Rattle.bus_batch.specs.Frames.{Frame, order_of, items_of, tenure_and_owner}
+use Rattle.bus_batch.specs.Frames.{Frame, AreFrames, order_of, items_of, tenure_and_owner}
 use Rattle.bus_ownerbits.specs.ElectionKeeps.{OneOwner}
 use Rattle.bus_tenure.specs.Core.{Core, Election, Layout, log_at, is_empty, is_closing, is_closed, has_room, frame_len, Situation, IsClosed, IsIdle, IsSpent, LooksAtStage, Elects, TakesPage, StoresWord, StoresLength, GivesBack, situation_at, situation_of, resting, electing, holding, waits, op_at, answer_at, answer_of_election, kind_at}
 use Rattle.bus_tenure.specs.declared.pages.Page.{Page}
@@ -22,7 +22,7 @@ use Rattle.bus_tenure.specs.declared.turns.Turn.TheVariants as turn
 use Rattle.bus_world.specs.declared.events.Answer.{Answer}
 use Rattle.bus_world.specs.declared.events.Answer.TheVariants as answer
 use Rattle.bus_world.specs.Bus.{IsLayout, Part, Fits}
-use Rattle.bus_world.specs.Headline.{Deed, Stepped, Elected, Took}
+use Rattle.bus_world.specs.Headline.{Deed, Stepped, Elected, Took, AreFramed}
 use Rattle.bus_world.specs.Log.{read}
 use Rattle.bus_world.proofs.LogLaws.{length-read, items-append}
 use Rattle.bus_world.specs.Playing.{Answers, TurnAnswers, log_of}
@@ -32,7 +32,7 @@ use Rattle.bus_world.specs.Trails.{Trails, Reached, extended, turn_deeds, turnin
 use Rattle.bus_world.specs.Turning.{Side, found, IsSide}
 use Rattle.bus_world.specs.World.{Bus, Event, Put, Close, Turn, Recv, IsEvent, Happens}
 use Rattle.bus_world.proofs.EventTrails.{Kept, reached_kept, follows}
-use Rattle.bus_world.proofs.Framing.{items_owned}
+use Rattle.bus_world.proofs.Framing.{items_owned, framed, front_lawful}
 use Rattle.bus_world.proofs.Places.{got_after}
 
 some_messages : (ph : BatchPhase) (n : ℕ) → (0 < n) ⊎ (ph ≡ Closing) → is_closing ph ≡ false → 0 < n
@@ -85,11 +85,12 @@ module _ {E : Type 0} (X : Election E) (P : Protocol E (Unit {0}) ℕ) (laws : L
 
     lost_or : (got : ℕ) (k : Kind) (owner : Option ℕ) → TurnTells x log p c (before ++ step_deed (Some k) (Some t) got owner (answer_of_election c t owner)) (answer_of_election c t owner)
     lost_or got k None = tt
-    lost_or got k (Some u) = by_test (u == c.me)
+    lost_or got k (Some u) = by_test (u == c.me) (eqb_tells u c.me)
       where
-        by_test : (b : Bool) → TurnTells x log p c (before ++ Stepped (Some t) k got (Some u) (cond b turn.Going (turn.Lost t record { 0 = u })) ∷ []) (cond b turn.Going (turn.Lost t record { 0 = u }))
-        by_test true = tt
-        by_test false = record { place = length before + 0; step = k; found = got; answer = turn.Lost t record { 0 = u }; at = got_after before _ 0 _ refl (length before + 0) refl }
+        by_test : (b : Bool) → ((b ≡ true) × (u ≡ c.me)) ⊎ ((b ≡ false) × (u ≡ c.me → ⊥)) → TurnTells x log p c (before ++ Stepped (Some t) k got (Some u) (cond b turn.Going (turn.Lost t record { 0 = u })) ∷ []) (cond b turn.Going (turn.Lost t record { 0 = u }))
+        by_test true how = tt
+        by_test false (inl how) = absurd (true≢false (sym how.0))
+        by_test false (inr how) = (record { place = length before + 0; step = k; found = got; answer = turn.Lost t record { 0 = u }; at = got_after before _ 0 _ refl (length before + 0) refl }, λ e. how.1 (e ∙ sym part.me))
 
     has_kind : is_some (X.owner e) ≡ false → (k : Kind) × (X.kind_of e ≡ Some k)
     has_kind none = elim (some_or_none (X.kind_of e)) [
@@ -132,6 +133,8 @@ module _ {E : Type 0} (X : Election E) (P : Protocol E (Unit {0}) ℕ) (laws : L
             earlier = (order_of front).items;
             own = items_of (frame_of c.queue t);
             items_are = ap (λ fs. (order_of fs).items) e ∙ items-append front (frame_of c.queue t);
+            before = (let l = front_lawful x.senders 0 front (frame_of c.queue t) (subst (AreFrames x.senders) e h.sending.log.lawful) in subst (AreFramed (map tenure_and_owner front) (order_of front).items) l.1 (framed x.senders 0 front l.0));
+            some = (let l = length-items c.queue t part.queue in let m = some i in omega arith);
             senders = items_owned c.queue.sender (frame_of c.queue t).body;
             numbers = counted_frame c.queue t;
             many = (let l = length-items c.queue t part.queue in let m = some i in omega arith);

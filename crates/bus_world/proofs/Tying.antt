@@ -1,9 +1,10 @@
 -- What ties the trails to the state of the bus.
-use Rattle.std.specs.Prelude.{◌≡◌, ℕ, ◌+◌, ◌*◌, ◌<◌, ◌≤◌, true, Option, Some, None, List, [], length, take, slice_get, slice_index}
+use Rattle.std.specs.Prelude.{◌≡◌, ℕ, ◌+◌, ◌*◌, ◌<◌, ◌≤◌, true, false, Option, Some, None, List, [], length, take, slice_get, slice_index}
 use Rattle.bus_register.specs.Protocol.{Protocol, inputs, outputs}
 use Rattle.bus_register.specs.declared.registers.SenderNo.{SenderNo}
 use Rattle.bus_batch.specs.Frames.{Frame, log_pieces, owners_in}
 use Rattle.bus_deliverylog.specs.declared.receiving.RecvTurn.{RecvTurn}
+use Rattle.bus_deliverylog.specs.declared.receiving.RecvTurn.TheVariants as recv
 use Rattle.bus_deliverylog.specs.Receiving.{Receiving}
 use Rattle.bus_tenure.specs.Core.{Core, Layout}
 use Rattle.bus_tenure.specs.declared.phases.Phase.{Phase}
@@ -42,11 +43,17 @@ pub record PageTies (owners : List ℕ) (deeds : ℕ → List Deed) : Type 0 whe
   pub only : (t s place : ℕ) → Took (deeds s) t place → slice_get owners t ≡ Some s
   pub once : (t s place place' : ℕ) → Took (deeds s) t place → Took (deeds s) t place' → place ≡ place'
 
+-- after the end there is the end alone
+abbrev pub IsSilent : List RecvTurn → Type 0
+IsSilent trail = (j k : ℕ) (answer : RecvTurn) → slice_get trail j ≡ Some recv.End → j < k → slice_get trail k ≡ Some answer → answer ≡ recv.End
+
 -- a receiver has been told what stands below its place
 pub record Hears (frames : List Frame) (v : Receiving) (trail : List RecvTurn) : Type 0 where
   pub given_is : given trail ≡ given_at frames v
   pub heads_are : heads trail ≡ owners_in (take v.place (log_pieces frames))
   pub ended : v.ended ≡ true → (given trail).ended ≡ true
+  pub going : v.ended ≡ false → (given trail).ended ≡ false
+  pub silent : IsSilent trail
 
 -- each accepted message was answered how many were put before it
 abbrev pub AreNumbered : List Deed → Type 0

@@ -10,7 +10,7 @@ use Rattle.bus_batch.specs.declared.messages.Item.{Item}
 use Rattle.bus_batch.specs.Frames.{Order}
 use Rattle.bus_deliverylog.specs.Orders.{of_sender, IsPrefixOfOrder}
 use Rattle.bus_deliverylog.specs.declared.receiving.RecvTurn.{RecvTurn}
-use Rattle.bus_deliverylog.specs.declared.receiving.RecvTurn.TheVariants as heard
+use Rattle.bus_deliverylog.specs.declared.receiving.RecvTurn.TheVariants as recv
 use Rattle.bus_tenure.specs.declared.turns.Turn.{Turn}
 
 -- ---- what a sender did: a list of deeds, the first first
@@ -61,25 +61,25 @@ Closed trail = (place : ℕ) × (slice_get trail place ≡ Some HasClosed)
 
 -- ---- what a receiver was answered: a list of answers, the first first
 abbrev pub item_heard : RecvTurn → List Item
-item_heard heard.Going = []
-item_heard heard.Empty = []
-item_heard (heard.Head tenure owner) = []
-item_heard (heard.Item item) = item ∷ []
-item_heard heard.End = []
+item_heard recv.Going = []
+item_heard recv.Empty = []
+item_heard (recv.Head tenure owner) = []
+item_heard (recv.Item item) = item ∷ []
+item_heard recv.End = []
 
 abbrev pub end_heard : RecvTurn → Bool
-end_heard heard.Going = false
-end_heard heard.Empty = false
-end_heard (heard.Head tenure owner) = false
-end_heard (heard.Item item) = false
-end_heard heard.End = true
+end_heard recv.Going = false
+end_heard recv.Empty = false
+end_heard (recv.Head tenure owner) = false
+end_heard (recv.Item item) = false
+end_heard recv.End = true
 
 abbrev pub head_heard : RecvTurn → List (ℕ × SenderNo)
-head_heard heard.Going = []
-head_heard heard.Empty = []
-head_heard (heard.Head tenure owner) = (tenure, owner) ∷ []
-head_heard (heard.Item item) = []
-head_heard heard.End = []
+head_heard recv.Going = []
+head_heard recv.Empty = []
+head_heard (recv.Head tenure owner) = (tenure, owner) ∷ []
+head_heard (recv.Item item) = []
+head_heard recv.End = []
 
 -- the order that it was given: the items that were answered, and whether the end was
 abbrev pub given : List RecvTurn → Order
@@ -136,7 +136,9 @@ pub record Promises (deeds : ℕ → List Deed) (heard : ℕ → List RecvTurn) 
   pub faithful : Faithful order (λ s. puts (deeds s))
   -- The number that an accepted message was answered is how many its sender had put before it.
   pub numbered : (s place number : ℕ) (bytes : List ℕ) → slice_get (deeds s) place ≡ Some (HasPut number bytes) → number ≡ length (puts (take place (deeds s)))
-  -- 5. Nothing follows the end, by the form of an order; and an order that has ended was closed by the owner of its last frame.
+  -- 5. Nothing follows the end: an order is its items and whether it has ended, after the end a receiver is answered the end alone, ..
+  pub silent : (r j k : ℕ) (answer : RecvTurn) → slice_get (heard r) j ≡ Some recv.End → j < k → slice_get (heard r) k ≡ Some answer → answer ≡ recv.End
+  -- .. and an order that has ended was closed by the owner of its last frame.
   pub closed : order.ended ≡ true → IsClosedByLast deeds owners
   -- 6. The order's items are those of the owners' frames, each frame's items its owner's.
   pub framed : AreFramed owners order.items order.ended

@@ -1,4 +1,4 @@
--- What the promise refuses: of each named wrong behaviour one instance, of which it is false whatever else happened.
+-- What the promise refuses: of each named wrong behaviour one instance, of which it is false.
 use Rattle.std.specs.Prelude.{ℕ, zero, suc, Option, Some, None, List, [], ◌∷◌, false}
 use Rattle.bus_register.specs.declared.kinds.Kind.TheVariants as kind
 use Rattle.bus_register.specs.declared.registers.SenderNo.{SenderNo}
@@ -24,21 +24,29 @@ announces = Stepped (Some 0) kind.Announce 0 None turn.Going
 abbrev pub takes : Deed
 takes = Stepped (Some 0) kind.TakePage 0 None (turn.Own 0)
 
--- message n of sender 0
-abbrev pub item : ℕ → Item
-item n = record { sender = record { 0 = 0 }; number = n; message = [] }
+-- a sender 0 that is the owner of tenure 0, and has put nothing; and one that has put a message of one byte before
+abbrev pub owns : List Deed
+owns = announces ∷ elects 0 ∷ takes ∷ []
+
+abbrev pub puts_and_owns : List Deed
+puts_and_owns = HasPut 0 (1 ∷ []) ∷ announces ∷ elects 0 ∷ takes ∷ []
 
 abbrev pub sender : ℕ → SenderNo
 sender n = record { 0 = n }
+
+-- the empty message of sender s with number n
+abbrev pub item : ℕ → ℕ → Item
+item s n = record { sender = sender s; number = n; message = [] }
 
 -- the promise is false of these deeds and answers, for any order and owners
 abbrev pub No : (ℕ → List Deed) → (ℕ → List RecvTurn) → Type 0
 No deeds heard = (order : Order) (owners : List (ℕ × SenderNo)) → ¬ Promises deeds heard order owners
 
--- whatever receivers were answered, or senders did
+-- whatever receivers were answered
 abbrev pub NoDeeds : (ℕ → List Deed) → Type 0
 NoDeeds deeds = (heard : ℕ → List RecvTurn) → No deeds heard
 
+-- whatever senders did
 abbrev pub NoAnswers : (ℕ → List RecvTurn) → Type 0
 NoAnswers heard = (deeds : ℕ → List Deed) → No deeds heard
 
@@ -47,33 +55,39 @@ abbrev pub NoOrder : Order → List (ℕ × SenderNo) → Type 0
 NoOrder order owners = (deeds : ℕ → List Deed) (heard : ℕ → List RecvTurn) → ¬ Promises deeds heard order owners
 
 pub record PromiseRefuses : Type 0 where
-  -- two senders saw one election end with two owners
-  pub two_owners : NoDeeds (each_of (elects 0 ∷ []) (elects 1 ∷ []))
+  -- two senders that both announced saw one election end with two owners
+  pub two_owners : NoDeeds (each_of (announces ∷ elects 0 ∷ []) (announces ∷ elects 1 ∷ []))
   -- the owner never announced itself
   pub unannounced : NoDeeds (each_of (announces ∷ elects 1 ∷ []) [])
-  -- one page was taken by two senders
-  pub two_takers : NoDeeds (each_of (takes ∷ []) (takes ∷ []))
-  -- or twice by one
-  pub taken_twice : NoDeeds (each_of (takes ∷ takes ∷ []) [])
+  -- one page was taken by two senders, each of which saw itself elected
+  pub two_takers : NoDeeds (each_of (announces ∷ elects 0 ∷ takes ∷ []) (announces ∷ elects 1 ∷ takes ∷ []))
+  -- or twice by its owner
+  pub taken_twice : NoDeeds (each_of (announces ∷ elects 0 ∷ takes ∷ takes ∷ []) [])
   -- a page was taken by a sender that was not elected
   pub unelected : NoDeeds (each_of (takes ∷ []) [])
   -- a first put was answered the number 1
   pub wrong_number : NoDeeds (each_of (HasPut 1 [] ∷ []) [])
-  -- two receivers were given other items first
-  pub two_orders : NoAnswers (each_of (heard.Item (item 0) ∷ []) (heard.Item (item 1) ∷ []))
+  -- two receivers were given the first items of two senders first
+  pub two_orders : NoAnswers (each_of (heard.Item (item 0 0) ∷ []) (heard.Item (item 1 0) ∷ []))
+  -- two receivers were told other owners first
+  pub two_heads : NoAnswers (each_of (heard.Head 0 (sender 0) ∷ []) (heard.Head 0 (sender 1) ∷ []))
   -- an item was given twice
-  pub repeated : NoAnswers (each_of (heard.Item (item 0) ∷ heard.Item (item 0) ∷ []) [])
+  pub repeated : NoAnswers (each_of (heard.Item (item 0 0) ∷ heard.Item (item 0 0) ∷ []) [])
   -- one was skipped
-  pub skipped : NoAnswers (each_of (heard.Item (item 1) ∷ []) [])
+  pub skipped : NoAnswers (each_of (heard.Item (item 0 1) ∷ []) [])
   -- two came out of order
-  pub reversed : NoAnswers (each_of (heard.Item (item 1) ∷ heard.Item (item 0) ∷ []) [])
-  -- an item that nobody put was given
-  pub invented : No (λ _. []) (each_of (heard.Item (item 0) ∷ []) [])
-  -- an item was given to one receiver, and only the end to another
-  pub after_the_end : NoAnswers (each_of (heard.End ∷ []) (heard.Item (item 0) ∷ []))
-  -- the end was given, and nobody had closed
-  pub unclosed : No (λ _. []) (each_of (heard.End ∷ []) [])
+  pub reversed : NoAnswers (each_of (heard.Item (item 0 1) ∷ heard.Item (item 0 0) ∷ []) [])
+  -- an item was given to a receiver after the end
+  pub after_the_end : NoAnswers (each_of (heard.End ∷ heard.Item (item 0 0) ∷ []) [])
+  -- an item was given to one receiver, and the end and no item to another
+  pub short_of_the_end : NoAnswers (each_of (heard.End ∷ []) (heard.Item (item 0 0) ∷ []))
+  -- an owner's item was given that it had not put
+  pub invented : No (each_of owns []) (each_of (heard.Item (item 0 0) ∷ []) [])
+  -- or another message than it had put
+  pub altered : No (each_of puts_and_owns []) (each_of (heard.Item (item 0 0) ∷ []) [])
+  -- the end was given, and its owner had not closed
+  pub unclosed : No (each_of owns []) (each_of (heard.End ∷ []) [])
   -- a frame's item is another sender's
-  pub foreign_item : NoOrder record { items = item 0 ∷ []; ended = false } ((0, sender 1) ∷ [])
+  pub foreign_item : NoOrder record { items = item 0 0 ∷ []; ended = false } ((0, sender 1) ∷ [])
   -- two frames of one tenure
   pub one_tenure_twice : (order : Order) → NoOrder order ((0, sender 0) ∷ (0, sender 0) ∷ [])

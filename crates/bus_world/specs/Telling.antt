@@ -1,5 +1,5 @@
 -- What the answer to a turn tells of what happened.
-use Rattle.std.specs.Prelude.{◌≡◌, ℕ, Bool, ◌+◌, ◌<◌, Option, Some, None, List, [], ◌∷◌, ◌++◌, length, slice_get, All}
+use Rattle.std.specs.Prelude.{◌≡◌, ◌≢◌, ℕ, Bool, false, ◌+◌, ◌<◌, Option, Some, None, List, [], ◌∷◌, ◌++◌, length, slice_get, All}
 use Rattle.bus_register.specs.declared.registers.SenderNo.{SenderNo}
 use Rattle.bus_batch.specs.declared.messages.Item.{Item}
 use Rattle.bus_batch.specs.Frames.{Order, Spells}
@@ -10,7 +10,7 @@ use Rattle.bus_tenure.specs.Elections.{Elector}
 use Rattle.bus_tenure.specs.Core.{Core, Election, Layout, frame_len}
 use Rattle.bus_tenure.specs.declared.turns.Turn.{Turn as Answered}
 use Rattle.bus_tenure.specs.declared.turns.Turn.TheVariants as turn
-use Rattle.bus_world.specs.Headline.{Deed, Elected, Took}
+use Rattle.bus_world.specs.Headline.{Deed, Elected, Took, AreFramed}
 use Rattle.bus_world.specs.Log.{AreCounted}
 use Rattle.bus_world.specs.Playing.{log_of}
 use Rattle.bus_world.specs.Trails.{Trails, Reached, extended}
@@ -18,7 +18,8 @@ use Rattle.bus_world.specs.World.{Bus, Event, Put, Close, Turn, Recv}
 use Rattle.bus_world.specs.declared.events.Answer.{Answer}
 use Rattle.bus_world.specs.declared.events.Answer.TheVariants as answer
 
--- the last frame is that of this tenure and sender, and its items, the last of the order, have the numbers from first to last
+-- the last frame is that of this tenure and sender: the items of the frames before it come first, and its own have the numbers from first
+-- to last
 pub record HasDelivered (order : Order) (owners : List (ℕ × SenderNo)) (s t first last : ℕ) : Type 0 where
   pub front : List (ℕ × SenderNo)
   pub owner : SenderNo
@@ -27,17 +28,19 @@ pub record HasDelivered (order : Order) (owners : List (ℕ × SenderNo)) (s t f
   pub earlier : List Item
   pub own : List Item
   pub items_are : order.items ≡ earlier ++ own
+  pub before : AreFramed front earlier false
+  pub some : 0 < length own
   pub senders : All (λ i. i.sender ≡ owner) own
   pub numbers : AreCounted first own
   pub many : first + length own ≡ last + 1
 
--- A tenure is lost to the owner with which its election ended, and taken by it. Messages are delivered where the frame of that
+-- A tenure is lost to the owner with which its election ended, which is another sender, and taken by it. Messages are delivered where the frame of that
 -- tenure holds them. The log is full where the sender's frame does not fit behind it.
 abbrev pub TurnTells : {E : Type 0} → Layout → List ℕ → ℕ → Core E → List Deed → Answered → Type 0
 TurnTells x log s c deeds turn.Idle = Unit {0}
 TurnTells x log s c deeds turn.Waiting = Unit {0}
 TurnTells x log s c deeds turn.Going = Unit {0}
-TurnTells x log s c deeds (turn.Lost t o) = Elected deeds t o.0
+TurnTells x log s c deeds (turn.Lost t o) = Elected deeds t o.0 × (o.0 ≢ s)
 TurnTells x log s c deeds (turn.Own t) = Elected deeds t s × ((place : ℕ) × Took deeds t place)
 TurnTells x log s c deeds (turn.Delivered t first last) = (order : Order) × (owners : List (ℕ × SenderNo)) × Spells x.senders log order owners × HasDelivered order owners s t first last
 TurnTells x log s c deeds turn.Full = x.capacity < length log + frame_len c
