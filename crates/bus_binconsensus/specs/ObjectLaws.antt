@@ -103,7 +103,7 @@ module _ {S T : Type 0} (op : S → ℕ → Option Op) (fed : S → ℕ → ℕ 
   part_laws FallbackWord = lift_laws (λ s word. op_of s) (λ s got word. fed_of s got) fallback_protocol Decides fallback_laws (object_op op opC) (object_fed fed fedC) (reads_of P C) Fall Commit
       record { op_is = λ s word. refl; fed_is = λ s got word. refl; input_is = λ s. refl; begun_is = λ s. refl; output_is = λ s. refl; left_is = λ s. refl } objects_end commits_tell
 
-  objects_law : (k : ℕ) → Laws (object_op op opC) (object_fed fed fedC) (objects_of P C k) HandsOn
+  pub objects_law : (k : ℕ) → Laws (object_op op opC) (object_fed fed fedC) (objects_of P C k) HandsOn
   objects_law k =
       let by : (part : Part) → Laws (object_op op opC) (object_fed fed fedC) (record (part_protocol P C part) { input = (reads_of P C).input; has_begun = (reads_of P C).has_begun; output = (reads_of P C).output; wants_word = (reads_of P C).wants_word; left = (reads_of P C).left }) HandsOn =
       λ part. elim part as (λ z. Laws (object_op op opC) (object_fed fed fedC) (record (part_protocol P C z) { input = (reads_of P C).input; has_begun = (reads_of P C).has_begun; output = (reads_of P C).output; wants_word = (reads_of P C).wants_word; left = (reads_of P C).left }) HandsOn) [

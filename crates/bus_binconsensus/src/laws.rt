@@ -13,8 +13,10 @@ pub fn decide_is_lawful<Q: Ratifier>()
     ensures { DecideLaw Q.op Q.fed Q.protocol conciliator_op conciliator_fed conciliator_protocol }
 {}
 
-/// No process comes to the fallback word or to a ratifier past an object that it was not in, nor past
-/// a commit, nor with another value than it was given.
+/// In any number of rounds, no process stands past an object that adopted no value for it. In two
+/// rounds, none stands at the fallback word that was not in the second ratifier, nor there that was
+/// not in the conciliator, nor in the conciliator past a commit of the first ratifier or with a
+/// value other than that gave it, nor in the first ratifier with a value other than its own input.
 pub fn decision_refuses<Q: Ratifier>()
     ensures { RefusesShortcuts Q.protocol conciliator_protocol }
 {}
