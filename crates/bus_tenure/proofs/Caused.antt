@@ -10,8 +10,13 @@ use Rattle.bus_binconsensus.specs.declared.objects.Object.TheVariants.{Ratify, C
 use Rattle.bus_binconsensus.specs.Fallback.{kind_from}
 use Rattle.bus_binconsensus.specs.ObjectPlaces.{falls_last}
 use Rattle.bus_binconsensus.specs.Objects.{Decider, object_kind, decide_protocol}
-use Rattle.bus_coinconc.specs.Conciliator.{ConciliatorState, conciliator_kind}
-use Rattle.bus_coinconc.specs.ConciliatorKinds.{IsOfConciliator, conciliator_own_kinds}
+use Rattle.bus_walkcoin.specs.declared.coins.Phase.{Phase}
+use Rattle.bus_walkcoin.specs.declared.coins.Phase.TheVariants.{Vote, ReadVotes, Answered}
+use Rattle.bus_walkcoin.specs.Coin.{CoinState, kind_at as coin_kind_at}
+use Rattle.bus_coinconc.specs.declared.conciliators.Stage.{Stage as ConciliatorStage}
+use Rattle.bus_coinconc.specs.declared.conciliators.Stage.TheVariants.{SetMark, ReadOtherMark, AskCoin}
+use Rattle.bus_coinconc.specs.declared.conciliators.Stage.TheVariants as conciliator_stage
+use Rattle.bus_coinconc.specs.Conciliator.{ConciliatorState, conciliator_kind, kind_at as conciliator_kind_at}
 use Rattle.bus_coinconc.specs.ConciliatorProtocol.{conciliator_protocol}
 use Rattle.bus_ownerbits.specs.declared.stages.Stage.{Stage}
 use Rattle.bus_ownerbits.specs.declared.stages.Stage.TheVariants.{Announce, Propose, Search, Alone}
@@ -116,18 +121,16 @@ module _ {S : Type 0} (P : Protocol S Bool Verdict) (c : Core (Elector S)) (t : 
     by_named q here None own = tt
     by_named q here (Some k) own = ratifier_cause q here k (own k refl)
 
-    conciliator_cause : IsInConciliator c → (k : Kind) → IsOfConciliator k → HasCause P c k
-    conciliator_cause is k own = elim own [
-      | inl x ↦ subst (HasCause P c) (sym x) is
-      | inr y ↦ elim y [
-        | inl x ↦ subst (HasCause P c) (sym x) is
-        | inr z ↦ elim z [ inl x ↦ subst (HasCause P c) (sym x) is | inr x ↦ subst (HasCause P c) (sym x) is ]
-      ]
-    ]
+    by_coin : (coin : CoinState) → IsInConciliator c (AskCoin coin) → (phase : Phase) → coin.phase ≡ phase → IfSome (coin_kind_at phase) (HasCause P c)
+    by_coin coin asks Vote stands = record { coin = coin; asks = asks; stands = stands }
+    by_coin coin asks (ReadVotes of lead) stands = record { of = of; lead = lead; asks = record { coin = coin; asks = asks; stands = stands } }
+    by_coin coin asks (Answered answer) stands = tt
 
-    by_mark : IsInConciliator c → (x : Option Kind) → ((k : Kind) → x ≡ Some k → IsOfConciliator k) → IfSome x (HasCause P c)
-    by_mark is None own = tt
-    by_mark is (Some k) own = conciliator_cause is k (own k refl)
+    by_mark : (s : ConciliatorState) → d.object ≡ Concile s → (at_stage : ConciliatorStage) → s.stage ≡ at_stage → IfSome (conciliator_kind_at at_stage) (HasCause P c)
+    by_mark s here SetMark stands = record { decision = d; deciding = deciding; conciliator = s; here = here; stands = stands }
+    by_mark s here ReadOtherMark stands = record { decision = d; deciding = deciding; conciliator = s; here = here; stands = stands }
+    by_mark s here conciliator_stage.Alone stands = tt
+    by_mark s here (AskCoin coin) stands = by_coin coin record { decision = d; deciding = deciding; conciliator = s; here = here; stands = stands } coin.phase refl
 
     by_fallback : IsAtFallback c → (x : Option Bool) → IfSome (kind_from x) (HasCause P c)
     by_fallback is None = is
@@ -135,7 +138,7 @@ module _ {S : Type 0} (P : Protocol S Bool Verdict) (c : Core (Elector S)) (t : 
 
     by_object : (kind : S → Option Kind) → ((s : S) (k : Kind) → kind s ≡ Some k → IsOfRatifier k) → (x : Object S ConciliatorState) → d.object ≡ x → IfSome (object_kind kind conciliator_kind x) (HasCause P c)
     by_object kind own (Ratify q) here = by_named q here (kind q) (own q)
-    by_object kind own (Concile s) here = by_mark record { decision = d; deciding = deciding; conciliator = s; here = here } (conciliator_kind s) (conciliator_own_kinds s)
+    by_object kind own (Concile s) here = by_mark s here s.stage refl
     by_object kind own (Fall f) here = by_fallback
         record {
           decision = d;

@@ -1,5 +1,5 @@
 -- Why a sender takes a step of each kind: what holds of it before the step, read off what it holds.
-use Rattle.std.specs.Prelude.{◌≡◌, ◌≢◌, ℕ, ◌+◌, ◌<◌, ◌≤◌, ◌⊎◌, Bool, true, false, Some}
+use Rattle.std.specs.Prelude.{◌≡◌, ◌≢◌, ℕ, ◌+◌, ◌<◌, ◌≤◌, ◌⊎◌, Bool, true, false, Some, ℤ}
 use Rattle.bus_register.specs.declared.kinds.Kind.{Kind}
 use Rattle.bus_register.specs.declared.kinds.Kind.TheVariants as kind
 use Rattle.bus_register.specs.Protocol.{Protocol}
@@ -9,6 +9,11 @@ use Rattle.bus_batch.specs.declared.batches.Phase.TheVariants.{Closed}
 use Rattle.bus_binconsensus.specs.declared.objects.Object.TheVariants.{Ratify, Concile, Fall}
 use Rattle.bus_binconsensus.specs.declared.fallbacks.Fallback.{Fallback}
 use Rattle.bus_binconsensus.specs.Objects.{Decider}
+use Rattle.bus_walkcoin.specs.declared.coins.Phase.{Phase}
+use Rattle.bus_walkcoin.specs.declared.coins.Phase.TheVariants.{Vote, ReadVotes}
+use Rattle.bus_walkcoin.specs.Coin.{CoinState}
+use Rattle.bus_coinconc.specs.declared.conciliators.Stage.{Stage}
+use Rattle.bus_coinconc.specs.declared.conciliators.Stage.TheVariants.{SetMark, ReadOtherMark, AskCoin}
 use Rattle.bus_coinconc.specs.Conciliator.{ConciliatorState}
 use Rattle.bus_ownerbits.specs.declared.stages.Stage.TheVariants.{Propose, Search}
 use Rattle.bus_ownerbits.specs.Election.{fits_bits}
@@ -45,12 +50,25 @@ pub record IsInRatifier {S : Type 0} (c : Core (Elector S)) : Type 0 where
   pub ratifier : S
   pub here : decision.object ≡ Ratify ratifier
 
--- it is in a conciliator of a bit's decision
-pub record IsInConciliator {S : Type 0} (c : Core (Elector S)) : Type 0 where
+-- it is in a conciliator of a bit's decision, at this stage of it
+pub record IsInConciliator {S : Type 0} (c : Core (Elector S)) (stage : Stage) : Type 0 where
   pub decision : Decider S ConciliatorState
   pub deciding : IsDeciding c decision
   pub conciliator : ConciliatorState
   pub here : decision.object ≡ Concile conciliator
+  pub stands : conciliator.stage ≡ stage
+
+-- it has seen the other mark of a conciliator set, and asks the coin, which is at this phase
+pub record AsksCoin {S : Type 0} (c : Core (Elector S)) (phase : Phase) : Type 0 where
+  pub coin : CoinState
+  pub asks : IsInConciliator c (AskCoin coin)
+  pub stands : coin.phase ≡ phase
+
+-- it has voted, and is at the load of somebody's votes
+pub record CountsVotes {S : Type 0} (c : Core (Elector S)) : Type 0 where
+  pub of : ℕ
+  pub lead : ℤ
+  pub asks : AsksCoin c (ReadVotes of lead)
 
 -- it is at the fallback word of a bit's decision, past all rounds
 pub record IsAtFallback {S : Type 0} (c : Core (Elector S)) : Type 0 where
@@ -120,10 +138,10 @@ HasCause P c kind.StoreProposal = IsInRatifier c
 HasCause P c kind.ReadProposal = IsInRatifier c
 HasCause P c kind.StoreVerdict = IsInRatifier c
 HasCause P c kind.ReadVerdict = IsInRatifier c
-HasCause P c kind.SetMark = IsInConciliator c
-HasCause P c kind.ReadOtherMark = IsInConciliator c
-HasCause P c kind.Vote = IsInConciliator c
-HasCause P c kind.ReadVotes = IsInConciliator c
+HasCause P c kind.SetMark = IsInConciliator c SetMark
+HasCause P c kind.ReadOtherMark = IsInConciliator c ReadOtherMark
+HasCause P c kind.Vote = AsksCoin c Vote
+HasCause P c kind.ReadVotes = CountsVotes c
 HasCause P c kind.Fallback = IsAtFallback c
 HasCause P c kind.ReadAnnouncement = SearchesCandidate c
 HasCause P c kind.TakePage = IsElected P c

@@ -1,4 +1,4 @@
-use Rattle.std.proofs.Common.{IfSome, sym, ◌∙◌, subst}
+use Rattle.std.proofs.Common.{IfSome, ◌∙◌, subst}
 use Rattle.bus_tenure.specs.Causes.{HasCause}
 use Rattle.bus_tenure.proofs.cores.SenderCore.has_causes.Goals as goal
 
