@@ -1,6 +1,7 @@
 pub mod Core
 pub mod Elections
 pub mod Causes
+pub mod CausesRefuse
 pub mod Keeping
 pub mod Seen
 pub mod Bounds

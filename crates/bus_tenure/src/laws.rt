@@ -1,7 +1,9 @@
-//! What holds of every election that a sender takes part in, over any ratifier.
+//! What holds of every election that a sender takes part in, and of the causes of its steps, over
+//! any ratifier.
 
 ghost use Rattle.bus_ownerbits.specs.Sizes.{election_bound};
 ghost use Rattle.bus_tenure.specs.Bounds.{IsBounded};
+ghost use Rattle.bus_tenure.specs.CausesRefuse.{RefusesCauses};
 ghost use Rattle.bus_tenure.specs.Elections.{election_of};
 
 use bus_adoptcommit::Ratifier;
@@ -9,4 +11,10 @@ use bus_adoptcommit::Ratifier;
 /// At the turn that begins a tenure the bound of an election is left, and each step takes one turn.
 pub fn elections_are_bounded<Q: Ratifier>()
     ensures { IsBounded (election_of Q.kind_of Q.op Q.fed Q.protocol) election_bound }
+{}
+
+/// No sender that rests takes a page, stores a word of a log or falls back; none stores a length
+/// past the end of the order, loads a mark before it has set its own, or votes out of turn.
+pub fn causes_refuse<Q: Ratifier>()
+    ensures { RefusesCauses Q.protocol }
 {}
