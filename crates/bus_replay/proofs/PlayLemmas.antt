@@ -83,7 +83,7 @@ closes X z old mid whole taken order owners spelled took taken_are some reached 
         ap (λ l. owners_line taken ++ order_text order ++ l) same ∙ ap (λ l. owners_line l ++ order_text order ++ given_text (given_by T z.bus.receivers)) taken_are;
   },
   whole_is some reached ∙ ap (λ l. l ++ given_text (given_by some z.bus.receivers)) mid_is ∙ ap (λ l. l ++ given_text (given_by some z.bus.receivers)) (append_assoc old (owners_line taken) (order_text order))
-  ∙ append_assoc old (owners_line taken ++ order_text order) (given_text (given_by some z.bus.receivers)),
+      ∙ append_assoc old (owners_line taken ++ order_text order) (given_text (given_by some z.bus.receivers)),
 )
 
 -- lines were played to their end, and the closing lines are behind their answers

@@ -182,7 +182,7 @@ module _ {E : Type 0} (X : Election E) (P : Protocol E (Unit {0}) ℕ) (laws : L
       let k = reached_kept X P laws x ok width starts owner_is named announces apart old T r in
       let is = same_turn t _ told in
       subst (λ z. ((u place : ℕ) → Took (T.deeds s ++ turning_deeds X old.side.words (Some c) word (answer.Turn z)) u place → Elected (T.deeds s ++ turning_deeds X old.side.words (Some c) word (answer.Turn z)) u s)
-          → TurnTells x (log_of record { layout = x; bus = old }) s c (T.deeds s ++ turning_deeds X old.side.words (Some c) word (answer.Turn z)) z) (sym is)
+      → TurnTells x (log_of record { layout = x; bus = old }) s c (T.deeds s ++ turning_deeds X old.side.words (Some c) word (answer.Turn z)) z) (sym is)
       (turn_true X P laws x owner_is named old.side k.frames k.lawful.side s c i word (T.deeds s)) own
 
   turn_tells : (s word : ℕ) (t : Answered) → Happens X old (Turn s word) new → Answers X old (Turn s word) (answer.Turn t) new → EventTells x old (Turn s word) (answer.Turn t) (extended X old (Turn s word) (answer.Turn t) T)

@@ -321,9 +321,9 @@ module _ {E : Type 0} (X : Election E) (P : Protocol E (Unit {0}) ℕ) (laws : L
             by_step o next =
                 let k = has_kind o next in
                 subst (λ z. Ties P x record { words = stepped side.words z; home = side.home; senders = slice_set side.senders p (elected c t (X.fed e (found side.words z) word) (X.owner (X.fed e (found side.words z) word))); owners = side.owners }
-                    (λ q. D q ++ cond (q == p) (step_deed (X.kind_of e) (Some t) (found side.words z) (X.owner (X.fed e (found side.words z) word)) (answer_of_election c t (X.owner (X.fed e (found side.words z) word)))) [])) (sym next)
+                (λ q. D q ++ cond (q == p) (step_deed (X.kind_of e) (Some t) (found side.words z) (X.owner (X.fed e (found side.words z) word)) (answer_of_election c t (X.owner (X.fed e (found side.words z) word)))) [])) (sym next)
                 (subst (λ z. Ties P x record { words = words_now o next k.0 k.1; home = side.home; senders = slice_set side.senders p (elected c t (later o next k.0 k.1) (X.owner (later o next k.0 k.1))); owners = side.owners }
-                    (λ q. D q ++ cond (q == p) (step_deed z (Some t) (slice_index side.words (register o)) (X.owner (later o next k.0 k.1)) (answer_of_election c t (X.owner (later o next k.0 k.1)))) [])) (sym k.1)
+                (λ q. D q ++ cond (q == p) (step_deed z (Some t) (slice_index side.words (register o)) (X.owner (later o next k.0 k.1)) (answer_of_election c t (X.owner (later o next k.0 k.1)))) [])) (sym k.1)
                 (step_kept o next k.0 k.1))
 
   -- ---- a holder of the page

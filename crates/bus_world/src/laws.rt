@@ -34,5 +34,4 @@ pub fn promises_only_grow<Q: Ratifier>()
 /// The promise is false of each of these wrong behaviours, whatever else happened.
 pub fn promise_refuses()
     ensures { PromiseRefuses }
-{
-}
+{}

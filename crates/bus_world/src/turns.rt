@@ -9,7 +9,6 @@ ghost use Rattle.bus_world.specs.Turning.{stepped, found, home_after, core_after
 ghost use Rattle.bus_deliverylog.specs.Receiving.{receiving_op};
 ghost use Rattle.bus_batch.specs.Batches.{next_of};
 ghost use Rattle.bus_world.specs.World.{RecvDoes, put_in, close_in};
-
 ghost use Rattle.bus_world.specs.Playing.{PutGives, PutRefused, CloseGives, CloseRefused};
 ghost use Rattle.bus_world.specs.TurnParts.{handed, home_handed, laid_at, home_laid, owners_by};
 
