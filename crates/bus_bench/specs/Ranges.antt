@@ -1,5 +1,5 @@
 -- Which numbers a measurement can have.
-use Rattle.std.specs.Prelude.{◌≡◌, ◌≢◌, ◌<◌, ◌⊎◌, ℕ}
+use Rattle.std.specs.Prelude.{◌≢◌, ◌<◌, ◌⊎◌, ℕ}
 use Rattle.bus_bench.specs.declared.request.Field.{Field}
 use Rattle.bus_bench.specs.declared.request.Field.TheVariants as field
 use Rattle.bus_bench.specs.declared.request.Refusal.{Refusal}

@@ -1,14 +1,13 @@
 -- Who closed: a batch that is closing, and an end in the log, come of a close.
-use Rattle.std.proofs.Common.{◌≡◌, ◌≢◌, ℕ, zero, suc, ◌+◌, ◌/◌, Bool, true, false, cond, ◌==◌, nat_le, Option, Some, None, inl, inr, List, [], ◌∷◌, ◌++◌, length, slice_get, slice_set, refl, sym, ◌∙◌, ap, subst}
+use Rattle.std.proofs.Common.{◌≡◌, ℕ, zero, suc, ◌+◌, ◌/◌, Bool, true, false, cond, ◌==◌, nat_le, Option, Some, None, inl, inr, List, [], ◌∷◌, ◌++◌, length, slice_get, slice_set, refl, sym, ◌∙◌, ap, subst}
 use Rattle.std.proofs.lemmas.Bool.{cases_eq}
 use Rattle.std.proofs.lemmas.Bool.Decides.{eqb_tells}
-use Rattle.std.proofs.lemmas.List.{append-nil}
 use Rattle.std.proofs.lemmas.Option.{same_Some, slice_get_within}
 use Rattle.bus_register.specs.TableLaws.{get_set_same, get_set_other}
 use Rattle.bus_batch.specs.Batches.{Pending, body_of, frame_of, sent}
 use Rattle.bus_batch.specs.declared.batches.Phase.{Phase as BatchPhase}
 use Rattle.bus_batch.specs.declared.batches.Phase.TheVariants.{Open, Closing, Closed as Shut}
-use Rattle.bus_batch.specs.Frames.{Frame, Messages, EndMark}
+use Rattle.bus_batch.specs.Frames.{Frame, EndMark}
 use Rattle.bus_tenure.specs.Core.{Core, Election, Situation, IsClosed, IsIdle, IsSpent, LooksAtStage, Elects, TakesPage, AwaitsPage, StoresWord, StoresLength, GivesBack, HasHanded, begun, elected, waits, queue_after}
 use Rattle.bus_tenure.specs.declared.pages.Page.{Page}
 use Rattle.bus_tenure.specs.declared.phases.Leaving.{Leaving}

@@ -1,7 +1,7 @@
 -- Every event keeps what ties the trails to the bus, and the promise follows from it.
-use Rattle.std.proofs.Common.{◌≡◌, ◌≢◌, ℕ, zero, suc, ◌+◌, ◌*◌, ◌<◌, ◌≤◌, Bool, true, false, cond, ◌&&◌, ◌==◌, nat_lt, nat_le, Option, Some, None, is_some, inl, inr, List, [], ◌∷◌, ◌++◌, length, map, take, drop, flat_map, slice_get, slice_index, slice_set, arith, refl, sym, ◌∙◌, ap, subst, append_assoc, replicate}
+use Rattle.std.proofs.Common.{◌≡◌, ℕ, zero, suc, ◌+◌, ◌*◌, ◌<◌, ◌≤◌, Bool, true, false, cond, ◌&&◌, ◌==◌, nat_lt, nat_le, Option, Some, None, is_some, inl, inr, List, [], ◌∷◌, ◌++◌, length, map, take, drop, flat_map, slice_get, slice_index, slice_set, arith, refl, sym, ◌∙◌, ap, subst, append_assoc, replicate}
 use mathlib.Core.Path.{fun_ext}
-use Rattle.std.proofs.lemmas.Bool.{and_parts, cases_eq, cases_lt}
+use Rattle.std.proofs.lemmas.Bool.{cases_lt}
 use Rattle.std.proofs.lemmas.Bool.Decides.{eqb_tells}
 use Rattle.std.proofs.lemmas.Grind.{flat_map-append}
 use Rattle.std.proofs.lemmas.List.{append-nil, length-append, length-map, take_at, take-append-le, length-replicate, take-append-drop, get_or_past, get_or-replicate}
@@ -11,7 +11,6 @@ use Rattle.bus_register.specs.declared.kinds.Kind.{Kind}
 use Rattle.bus_register.specs.declared.kinds.Kind.TheVariants as kind
 use Rattle.bus_register.specs.declared.registers.SenderNo.{SenderNo}
 use Rattle.bus_register.specs.Protocol.{Protocol, Laws, inputs, outputs}
-use Rattle.bus_register.specs.Tables.{of_some}
 use Rattle.bus_register.specs.TableLaws.{get_set_same, get_set_other}
 use Rattle.bus_batch.specs.declared.messages.Item.{Item}
 use Rattle.bus_batch.specs.Batches.{next_of}
@@ -41,19 +40,19 @@ use Rattle.std.specs.List.{list_any}
 use Rattle.bus_tenure.specs.Core.{op_at, answer_at}
 use Rattle.bus_world.specs.Bus.{IsLayout, AreOwned, Fits}
 use Rattle.bus_world.proofs.BusLaws as bus
-use Rattle.bus_world.specs.Headline.{Deed, HasPut, HasClosed, Stepped, puts, Announced, Elected, Took, Closed, item_heard, end_heard, given, heads, IsPrefix, Faithful, Promises}
-use Rattle.bus_world.specs.Log.{read, sent, AreCounted}
+use Rattle.bus_world.specs.Headline.{Deed, HasPut, HasClosed, Stepped, puts, Took, Closed, item_heard, end_heard, given, heads, IsPrefix, Promises}
+use Rattle.bus_world.specs.Log.{sent, AreCounted}
 use Rattle.bus_world.proofs.LogLaws.{length-read}
 use Rattle.bus_world.proofs.ReceivingLaws.{given_is_prefix}
 use Rattle.bus_world.specs.Turning.{Side, turned, core_after, found, frames_after}
-use Rattle.bus_world.specs.World.{Bus, Event, Put, Close, Turn, Recv, IsEvent, Happens, SenderDoes, with_sender, can_put, can_close, put_in, close_in, LawfulBus, IsReceiver, IsNew, put_by, waiting_of, waiting_at, is_open, given_at, accepted, accepted_by, event_frames, frames_by}
+use Rattle.bus_world.specs.World.{Bus, Event, Put, Close, Turn, Recv, IsEvent, Happens, SenderDoes, with_sender, can_put, can_close, put_in, close_in, LawfulBus, IsNew, put_by, waiting_of, waiting_at, is_open, given_at, accepted, accepted_by, event_frames, frames_by}
 use Rattle.bus_world.proofs.WorldLaws.{event_left, event_puts, counted_at, new_is_lawful}
 use Rattle.bus_world.specs.Playing.{AllAnswered, Answers, PutGives, CloseGives, TurnAnswers, RecvAnswers, log_of}
 use Rattle.bus_world.specs.declared.events.Answer.{Answer}
 use Rattle.bus_world.specs.declared.events.Answer.TheVariants as answer
 use Rattle.bus_world.specs.Trails.{Trails, no_trails, extended, trails_after, deeds_of, put_deeds, close_deeds, turning_deeds, step_deed, heard_of, answer_heard, IsPromisedBy, IsPromised, StaysPromised, Follows, Played, Reached}
 use Rattle.bus_world.specs.Trails.Reached.{New, Then}
-use Rattle.bus_world.proofs.Tying.{AreNumbered, IsSilent, Tables, PageTies, Hears, Tied}
+use Rattle.bus_world.proofs.Tying.{AreNumbered, IsSilent, Hears, Tied}
 use Rattle.bus_world.proofs.Places.{got_split}
 use Rattle.bus_world.proofs.TableTrails.{plain_put, plain_close}
 use Rattle.bus_world.proofs.TurnTrails.{Ties, turn_ties, batch_ties}

@@ -1,14 +1,13 @@
 -- The frames of a log, as owners and items that belong to each other.
-use Rattle.std.proofs.Common.{◌≡◌, ℕ, zero, suc, ◌+◌, ◌<◌, Bool, true, false, inl, inr, List, [], ◌∷◌, ◌++◌, length, map, Option, Some, None, slice_get, arith, refl, sym, ◌∙◌, ap, subst}
+use Rattle.std.proofs.Common.{◌≡◌, ℕ, suc, ◌+◌, true, false, List, [], ◌∷◌, ◌++◌, map, Some, slice_get, arith, refl, sym, ◌∙◌, ap, subst}
 use Rattle.std.specs.Prelude.{All, ◌||◌}
 use Rattle.std.proofs.lemmas.Bool.{false≢true}
 use Rattle.std.proofs.lemmas.Grind.{flat_map-append}
 use Rattle.std.proofs.lemmas.List.{length-map, map-append}
 use Rattle.std.proofs.lemmas.List.Elements.{All-map}
 use Rattle.bus_register.specs.declared.registers.SenderNo.{SenderNo}
-use Rattle.bus_batch.specs.declared.messages.Item.{Item}
 use Rattle.bus_batch.specs.Messages.{Numbered}
-use Rattle.bus_batch.specs.Frames.{Frame, Body, Messages, EndMark, IsBody, AreFrames, AreFramesFrom, Order, order_of, has_end, ends, items_of, body_items, item_of, tenure_and_owner, log_pieces, frame_pieces}
+use Rattle.bus_batch.specs.Frames.{Frame, Body, Messages, EndMark, IsBody, AreFrames, AreFramesFrom, order_of, has_end, ends, body_items, item_of, tenure_and_owner, log_pieces, frame_pieces}
 use Rattle.bus_batch.specs.PieceLaws.{order_in-log}
 use Rattle.bus_deliverylog.specs.Orders.{IsPrefixOfOrder}
 use Rattle.bus_deliverylog.specs.PrefixLaws.{order_in-prefix}

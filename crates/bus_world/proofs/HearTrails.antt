@@ -1,19 +1,18 @@
 -- A turn of a receiver keeps what ties its trail to its place.
-use Rattle.std.proofs.Common.{◌≡◌, ◌≢◌, ℕ, zero, suc, ◌+◌, ◌<◌, ◌≤◌, Bool, true, false, cond, ◌==◌, ◌||◌, Option, Some, None, ◌⊎◌, inl, inr, List, [], ◌∷◌, ◌++◌, length, flat_map, take, drop, get_or, slice_get, slice_index, arith, refl, sym, ◌∙◌, ap, subst, append_assoc}
+use Rattle.std.proofs.Common.{◌≡◌, ℕ, zero, suc, ◌+◌, ◌<◌, ◌≤◌, Bool, true, false, cond, ◌||◌, Option, Some, None, ◌⊎◌, inl, inr, List, [], ◌∷◌, ◌++◌, length, flat_map, take, drop, slice_get, slice_index, arith, refl, sym, ◌∙◌, ap, subst}
 use Rattle.std.specs.List.{list_any}
 use Rattle.std.proofs.Math.Bool.{or-false}
 use Rattle.std.proofs.lemmas.Bool.{cases_eq, cases_lt}
 use Rattle.std.proofs.lemmas.Bool.Decides.{eqb_tells}
 use Rattle.std.proofs.lemmas.Grind.{common_steps, flat_map-append}
-use Rattle.std.proofs.lemmas.List.{append-nil, length-append, take-append-le, take_more, get_or_append_left}
+use Rattle.std.proofs.lemmas.List.{append-nil, take-append-le, take_more, get_or_append_left}
 use Rattle.std.proofs.lemmas.List.Folds.{list_any-append}
 use Rattle.std.proofs.lemmas.Option.{same_Some, slice_get_within, get_or_from_slice_get}
-use Rattle.bus_register.specs.declared.registers.SenderNo.{SenderNo}
 use Rattle.bus_batch.specs.declared.messages.Item.{Item}
 use Rattle.bus_batch.specs.declared.messages.Piece.{Piece}
 use Rattle.bus_batch.specs.declared.messages.Piece.TheVariants as piece
 use Rattle.bus_batch.specs.Frames.{Frame, Order, AreFrames, log_words, log_pieces, frame_pieces, order_in, owners_in, piece_items, piece_owners, is_end}
-use Rattle.bus_deliverylog.specs.Receiving.{Receiving, HasReceived, turn_of}
+use Rattle.bus_deliverylog.specs.Receiving.{Receiving, turn_of}
 use Rattle.bus_deliverylog.specs.declared.receiving.RecvTurn.{RecvTurn}
 use Rattle.bus_deliverylog.specs.declared.receiving.RecvTurn.TheVariants as heard
 use Rattle.bus_tenure.specs.Core.{Layout, log_at}

@@ -1,5 +1,5 @@
 -- What stands at a place of a list that another follows.
-use Rattle.std.proofs.Common.{◌≡◌, ℕ, zero, suc, ◌+◌, Some, ◌⊎◌, inl, inr, List, [], ◌∷◌, ◌++◌, length, slice_get, arith, refl, sym, ◌∙◌, ap}
+use Rattle.std.proofs.Common.{◌≡◌, ℕ, zero, suc, ◌+◌, Some, ◌⊎◌, inl, inr, List, [], ◌∷◌, ◌++◌, length, slice_get, arith, ◌∙◌, ap}
 
 pub got_before : {A : Type 0} (xs ys : List A) (i : ℕ) (x : A) → slice_get xs i ≡ Some x → slice_get (xs ++ ys) i ≡ Some x
 got_before [] ys i x e = absurd cc

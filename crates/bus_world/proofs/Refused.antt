@@ -1,14 +1,12 @@
 -- Each of the wrong behaviours is refused.
-use Rattle.std.proofs.Common.{◌≡◌, ℕ, zero, suc, ◌+◌, ◌<◌, Bool, true, false, Option, Some, None, List, [], ◌∷◌, ◌++◌, cond, ◌==◌, length, map, filter, slice_get, arith, refl, sym, ◌∙◌, ap, subst}
-use Rattle.std.specs.Prelude.{All}
+use Rattle.std.proofs.Common.{◌≡◌, ℕ, zero, suc, ◌<◌, Bool, true, false, Option, Some, None, List, [], ◌∷◌, ◌++◌, ◌==◌, map, filter, slice_get, arith, refl, sym, ◌∙◌, ap}
 use Rattle.bus_register.specs.declared.kinds.Kind.TheVariants as kind
 use Rattle.bus_register.specs.declared.registers.SenderNo.{SenderNo}
 use Rattle.bus_batch.specs.declared.messages.Item.{Item}
 use Rattle.bus_batch.specs.Frames.{Order}
 use Rattle.bus_deliverylog.specs.Orders.{of_sender, IsPrefixOfOrder}
-use Rattle.bus_deliverylog.specs.declared.receiving.RecvTurn.{RecvTurn}
 use Rattle.bus_tenure.specs.declared.turns.Turn.TheVariants as turn
-use Rattle.bus_world.specs.Headline.{Deed, HasPut, HasClosed, Stepped, Announced, Elected, Took, Closed, IsPrefix, AreFramed, Nothing, TheEnd, Batch, Promises}
+use Rattle.bus_world.specs.Headline.{Deed, HasClosed, Stepped, Elected, Took, IsPrefix, AreFramed, Nothing, TheEnd, Batch}
 use Rattle.bus_world.specs.Refusals.{each_of, elects, announces, takes, owns, item, sender, PromiseRefuses}
 use Rattle.bus_deliverylog.specs.declared.receiving.RecvTurn.TheVariants as recv
 

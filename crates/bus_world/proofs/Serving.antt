@@ -1,5 +1,5 @@
 -- What the election of any ratifier has, so that a bus goes by it.
-use Rattle.std.proofs.Common.{◌≡◌, ℕ, Bool, true, false, Option, Some, None, is_some, ◌⊎◌, inl, inr, refl, sym, ◌∙◌, ap}
+use Rattle.std.proofs.Common.{◌≡◌, ℕ, Bool, false, Option, Some, None, is_some, inl, inr, refl}
 use Rattle.bus_register.specs.declared.kinds.Kind.{Kind}
 use Rattle.bus_register.specs.declared.kinds.Kind.TheVariants as kind
 use Rattle.bus_register.specs.declared.registers.Op.{Op}
@@ -24,7 +24,7 @@ use Rattle.bus_ownerbits.specs.ElectionNames.{election_named}
 use Rattle.bus_ownerbits.specs.declared.stages.Stage.{Stage}
 use Rattle.bus_ownerbits.specs.declared.stages.Stage.TheVariants as stage
 use Rattle.bus_tenure.specs.Core.{Election, Layout}
-use Rattle.bus_tenure.specs.Elections.{Elector, election_of, elections, layout_of}
+use Rattle.bus_tenure.specs.Elections.{election_of, elections, layout_of}
 use Rattle.bus_world.proofs.EventTrails.{announce_first}
 
 pub record Serves {E : Type 0} (X : Election E) (P : Protocol E (Unit {0}) ℕ) (x : Layout) : Type 0 where

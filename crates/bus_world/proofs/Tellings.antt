@@ -1,5 +1,5 @@
 -- The answers of turns tell what happened.
-use Rattle.std.proofs.Common.{◌≡◌, ℕ, ◌+◌, ◌*◌, ◌-◌, ◌/◌, ◌<◌, ◌≤◌, ◌==◌, ◌&&◌, Bool, true, false, cond, nat_lt, nat_le, Option, Some, None, ◌⊎◌, inl, inr, is_some, List, [], ◌∷◌, ◌++◌, length, map, slice_get, slice_index, arith, refl, sym, ◌∙◌, ap, subst}
+use Rattle.std.proofs.Common.{◌≡◌, ℕ, ◌+◌, ◌-◌, ◌/◌, ◌<◌, ◌==◌, ◌&&◌, Bool, true, false, cond, nat_lt, nat_le, Option, Some, None, ◌⊎◌, inl, inr, is_some, List, [], ◌∷◌, ◌++◌, length, map, slice_get, slice_index, arith, refl, sym, ◌∙◌, ap, subst}
 use Rattle.std.proofs.lemmas.Bool.{leb-false, true≢false}
 use Rattle.std.proofs.lemmas.Bool.Decides.{eqb_tells}
 use Rattle.std.proofs.lemmas.List.{map-append}
@@ -7,12 +7,12 @@ use Rattle.bus_register.specs.declared.kinds.Kind.{Kind}
 use Rattle.bus_register.specs.declared.kinds.Kind.TheVariants as kind
 use Rattle.bus_register.specs.Protocol.{Protocol, Laws}
 use Rattle.bus_register.specs.TableLaws.{some_or_none}
-use Rattle.bus_batch.specs.Batches.{next_of, frame_of, HasSomething}
+use Rattle.bus_batch.specs.Batches.{next_of, frame_of}
 use Rattle.bus_batch.specs.declared.batches.Phase.{Phase as BatchPhase}
 use Rattle.bus_batch.specs.declared.batches.Phase.TheVariants.{Closing}
 use Rattle.bus_batch.specs.Frames.{Frame, AreFrames, order_of, items_of, tenure_and_owner}
 use Rattle.bus_ownerbits.specs.ElectionKeeps.{OneOwner}
-use Rattle.bus_tenure.specs.Core.{Core, Election, Layout, log_at, is_empty, is_closing, is_closed, has_room, frame_len, Situation, IsClosed, IsIdle, IsSpent, LooksAtStage, Elects, TakesPage, StoresWord, StoresLength, GivesBack, situation_at, situation_of, resting, electing, holding, waits, op_at, answer_at, answer_of_election, kind_at}
+use Rattle.bus_tenure.specs.Core.{Core, Election, Layout, log_at, is_empty, is_closing, is_closed, has_room, frame_len, Situation, IsClosed, IsIdle, IsSpent, LooksAtStage, Elects, TakesPage, StoresWord, StoresLength, GivesBack, situation_at, situation_of, resting, electing, holding, waits, op_at, answer_at, answer_of_election}
 use Rattle.bus_tenure.specs.declared.pages.Page.{Page}
 use Rattle.bus_tenure.specs.declared.phases.Leaving.TheVariants.{Sent, FoundEnd, NoRoom}
 use Rattle.bus_tenure.specs.declared.phases.Phase.{Phase}
@@ -27,11 +27,11 @@ use Rattle.bus_world.specs.Log.{read}
 use Rattle.bus_world.proofs.LogLaws.{length-read, items-append}
 use Rattle.bus_world.specs.Playing.{Answers, TurnAnswers, log_of}
 use Rattle.bus_world.proofs.QueueLaws.{counted_frame, length-items}
-use Rattle.bus_world.specs.Telling.{HasDelivered, TurnTells, SenderTells, EventTells, Tells}
+use Rattle.bus_world.specs.Telling.{TurnTells, SenderTells, EventTells}
 use Rattle.bus_world.specs.Trails.{Trails, Reached, extended, turn_deeds, turning_deeds, step_deed}
 use Rattle.bus_world.specs.Turning.{Side, found, IsSide}
-use Rattle.bus_world.specs.World.{Bus, Event, Put, Close, Turn, Recv, IsEvent, Happens}
-use Rattle.bus_world.proofs.EventTrails.{Kept, reached_kept, follows}
+use Rattle.bus_world.specs.World.{Bus, Event, Put, Close, Turn, Recv, Happens}
+use Rattle.bus_world.proofs.EventTrails.{reached_kept, follows}
 use Rattle.bus_world.proofs.Framing.{items_owned, framed, front_lawful}
 use Rattle.bus_world.proofs.Places.{got_after}
 

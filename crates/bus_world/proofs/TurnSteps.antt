@@ -1,6 +1,6 @@
 -- A turn in its three parts: the page comes home, the step is taken, the page is laid.
 use Rattle.std.proofs.Common.{◌≡◌, ℕ, ◌+◌, ◌/◌, ◌==◌, Bool, true, false, cond, ◌&&◌, nat_lt, nat_le, Option, Some, None, List, is_some, refl, sym, ◌∙◌, ap, subst}
-use Rattle.bus_tenure.specs.Core.{Core, Election, is_empty, is_closing, is_closed, frame_len, has_room, Situation, IsClosed, IsIdle, IsSpent, LooksAtStage, Elects, TakesPage, AwaitsPage, StoresWord, StoresLength, GivesBack, HasHanded, situation_at, situation_of, waits, begun, saw_stage, elected, rested, op_at, fed_at, answer_at, page_after}
+use Rattle.bus_tenure.specs.Core.{Core, Election, is_empty, is_closing, is_closed, frame_len, has_room, Situation, IsClosed, IsIdle, IsSpent, LooksAtStage, Elects, TakesPage, AwaitsPage, StoresWord, StoresLength, GivesBack, HasHanded, situation_at, situation_of, waits, begun, saw_stage, elected, rested, op_at, fed_at, answer_at}
 use Rattle.bus_tenure.specs.declared.pages.Page.{Page}
 use Rattle.bus_tenure.specs.declared.phases.Leaving.TheVariants.{Sent, FoundEnd, NoRoom}
 use Rattle.bus_tenure.specs.declared.phases.Phase.{Phase}

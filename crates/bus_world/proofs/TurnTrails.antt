@@ -1,24 +1,22 @@
 -- A turn of a sender keeps what ties the trails to the senders' side.
-use Rattle.std.proofs.Common.{◌≡◌, ◌≢◌, ℕ, suc, ◌+◌, ◌*◌, ◌/◌, ◌%◌, ◌<◌, ◌≤◌, Bool, true, false, cond, ◌&&◌, ◌==◌, nat_lt, nat_le, Option, Some, None, is_some, ◌⊎◌, inl, inr, List, [], ◌∷◌, ◌++◌, length, slice_get, slice_index, slice_set, arith, refl, sym, ◌∙◌, ap, subst}
-use Rattle.std.proofs.lemmas.Bool.{cases_eq, cases_lt, leb-false, ltb-false, true≢false}
+use Rattle.std.proofs.Common.{◌≡◌, ◌≢◌, ℕ, ◌+◌, ◌*◌, ◌/◌, ◌%◌, ◌<◌, ◌≤◌, Bool, true, false, cond, ◌&&◌, ◌==◌, nat_lt, nat_le, Option, Some, None, is_some, ◌⊎◌, inl, inr, List, [], ◌∷◌, ◌++◌, length, slice_get, slice_index, slice_set, arith, refl, sym, ◌∙◌, ap, subst}
+use Rattle.std.proofs.lemmas.Bool.{cases_lt, leb-false, ltb-false, true≢false}
 use Rattle.std.proofs.lemmas.Bool.Decides.{eqb_tells}
 use Rattle.std.proofs.lemmas.List.{append-nil, get_or-set_same, get_or-set_other}
 use Rattle.std.proofs.lemmas.Option.{same_Some, slice_get_within}
 use Rattle.bus_register.specs.declared.kinds.Kind.{Kind}
 use Rattle.bus_register.specs.declared.kinds.Kind.TheVariants as kind
 use Rattle.bus_register.specs.declared.registers.Op.{Op}
-use Rattle.bus_register.specs.declared.registers.Op.TheVariants.{Load, Store}
 use Rattle.bus_register.specs.Words.{register, after}
-use Rattle.bus_register.specs.Tables.{of_some, Beside, put, Agree, Stepped as SteppedWords}
+use Rattle.bus_register.specs.Tables.{of_some, put, Agree}
 use Rattle.bus_register.specs.TableLaws.{put_here, put_beside, some_or_none, get_set_same, get_set_other}
-use Rattle.bus_register.specs.Protocol.{Protocol, Laws, Starts, inputs, outputs, counted}
-use Rattle.bus_tenure.specs.Core.{Core, Election, Layout, log_at, row_at, frame_len, has_room, is_empty, is_closing, is_closed, Situation, IsClosed, IsIdle, IsSpent, LooksAtStage, Elects, TakesPage, StoresWord, StoresLength, GivesBack, situation_at, situation_of, resting, electing, holding, begun, saw_stage, waits, elected, rested, answer_of_stage, answer_of_election, answer_at, op_at}
+use Rattle.bus_register.specs.Protocol.{Protocol, Laws, Starts, counted}
+use Rattle.bus_tenure.specs.Core.{Core, Election, Layout, log_at, row_at, frame_len, has_room, is_empty, is_closing, is_closed, Situation, IsClosed, IsIdle, IsSpent, LooksAtStage, Elects, TakesPage, StoresWord, StoresLength, GivesBack, situation_at, situation_of, resting, electing, holding, begun, waits, elected, rested, answer_of_stage, answer_of_election, answer_at, op_at}
 use Rattle.bus_tenure.specs.declared.pages.Page.{Page}
 use Rattle.bus_tenure.specs.declared.phases.Leaving.{Leaving}
 use Rattle.bus_tenure.specs.declared.phases.Leaving.TheVariants.{Sent, FoundEnd, NoRoom}
 use Rattle.bus_tenure.specs.declared.phases.Phase.{Phase}
 use Rattle.bus_tenure.specs.declared.phases.Phase.TheVariants as phase
-use Rattle.bus_tenure.specs.declared.turns.Turn.{Turn as Answered}
 use Rattle.bus_tenure.specs.declared.turns.Turn.TheVariants as turn
 use Rattle.bus_batch.specs.Frames.{Frame}
 use Rattle.bus_ownerbits.specs.ElectionKeeps.{OneOwner}
@@ -28,7 +26,7 @@ use Rattle.bus_world.proofs.TenuresLaws as tenures
 use Rattle.bus_world.specs.Bus.{IsLayout, least_of, Part, Fits, stands_at}
 use Rattle.bus_world.specs.Turning.{Side, stepped, found, laid, turned, IsSide}
 use Rattle.bus_world.specs.declared.events.Answer.TheVariants as answer
-use Rattle.bus_world.specs.Headline.{Deed, Stepped, Announced, Elected, Took}
+use Rattle.bus_world.specs.Headline.{Deed, Stepped, Announced, Elected}
 use Rattle.bus_world.specs.Trails.{step_deed, turn_deeds}
 use Rattle.bus_world.proofs.Tying.{next_at, next_tenure, Tables, PageTies}
 use Rattle.bus_world.proofs.Places.{got_after}

@@ -23,7 +23,7 @@ use Rattle.bus_tenure.specs.declared.phases.Phase.TheVariants as phase
 use Rattle.bus_deliverylog.specs.Orders.{of_sender}
 use Rattle.bus_world.specs.Log.{sent, read, AreCounted, Logged, Knows}
 use Rattle.bus_world.proofs.LogLaws.{length-read, log_words-append}
-use Rattle.bus_world.proofs.ReceivingLaws.{given_is_prefix, goes_on, Receives-known, Receives-word, Receives-append}
+use Rattle.bus_world.proofs.ReceivingLaws.{goes_on, Receives-known, Receives-word, Receives-append}
 use Rattle.bus_world.specs.Receiving.{Receives}
 use Rattle.bus_batch.specs.Reading.{HasRead}
 use Rattle.bus_deliverylog.specs.declared.receiving.RecvTurn.{RecvTurn}

@@ -1,7 +1,7 @@
 -- THE HEADLINE of the bus, said of what happened and of nothing else: of what each sender did and what each receiver was
 -- answered, of one order, and of one list of tenures with their owners. No words, no tables, no local states.
 -- Terms: total-order broadcast with FIFO order (Hadzilacos and Toueg 1994), consensus (Aspnes 2010).
-use Rattle.std.specs.Prelude.{◌≡◌, ℕ, ◌<◌, Bool, true, false, Option, Some, None, List, [], ◌∷◌, ◌++◌, length, map, take, flat_map, slice_get, All}
+use Rattle.std.specs.Prelude.{◌≡◌, ℕ, ◌<◌, Bool, true, false, Option, Some, List, [], ◌∷◌, ◌++◌, length, map, take, flat_map, slice_get, All}
 use Rattle.std.specs.List.{list_any}
 use Rattle.bus_register.specs.declared.kinds.Kind.{Kind}
 use Rattle.bus_register.specs.declared.kinds.Kind.TheVariants as kind

@@ -1,5 +1,5 @@
 -- What the promise refuses: of each named wrong behaviour one instance, of which it is false.
-use Rattle.std.specs.Prelude.{ℕ, zero, suc, Option, Some, None, List, [], ◌∷◌, false}
+use Rattle.std.specs.Prelude.{ℕ, zero, suc, Some, None, List, [], ◌∷◌, false}
 use Rattle.bus_register.specs.declared.kinds.Kind.TheVariants as kind
 use Rattle.bus_register.specs.declared.registers.SenderNo.{SenderNo}
 use Rattle.bus_batch.specs.declared.messages.Item.{Item}
@@ -7,7 +7,7 @@ use Rattle.bus_batch.specs.Frames.{Order}
 use Rattle.bus_deliverylog.specs.declared.receiving.RecvTurn.{RecvTurn}
 use Rattle.bus_deliverylog.specs.declared.receiving.RecvTurn.TheVariants as heard
 use Rattle.bus_tenure.specs.declared.turns.Turn.TheVariants as turn
-use Rattle.bus_world.specs.Headline.{Deed, HasPut, HasClosed, Stepped, Promises}
+use Rattle.bus_world.specs.Headline.{Deed, HasPut, Stepped, Promises}
 
 -- two lists, of number 0 and of all others
 abbrev pub each_of : {A : Type 0} → List A → List A → ℕ → List A

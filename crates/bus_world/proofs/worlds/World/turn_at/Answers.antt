@@ -1,5 +1,5 @@
-use Rattle.std.proofs.Common.{refl, subst, arith, ◌∙◌, sym, ap, map, slice_set}
-use Rattle.bus_tenure.specs.Elections.{Elector, elections, election_of, layout_of}
+use Rattle.std.proofs.Common.{refl, subst, arith, ◌∙◌, sym, ap, map}
+use Rattle.bus_tenure.specs.Elections.{elections, election_of, layout_of}
 use Rattle.bus_world.specs.TurnParts.{owners_by}
 use Rattle.bus_world.proofs.PlayingLaws.{there, no_sender, now_has, turn_unknown, turn_idle, words_enough, sums_fit, owner_fits, turn_happens, turn_sits, turn_answers, numbers_many}
 use Rattle.bus_world.specs.Telling.{SenderCauses}
