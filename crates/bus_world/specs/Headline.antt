@@ -132,7 +132,7 @@ pub record Promises (deeds : ℕ → List Deed) (heard : ℕ → List RecvTurn) 
   -- 3. What each receiver was given is a prefix of the one order, and the heads that it was told are a prefix of the one list.
   pub delivered : (r : ℕ) → IsPrefixOfOrder (given (heard r)) order
   pub told : (r : ℕ) → IsPrefix (heads (heard r)) owners
-  -- 4. Each sender's messages in the order are those that it put, in its order, none skipped and none repeated.
+  -- 4. Each sender's messages in the order are the first that it put, in its order, none skipped and none repeated.
   pub faithful : Faithful order (λ s. puts (deeds s))
   -- The number that an accepted message was answered is how many its sender had put before it.
   pub numbered : (s place number : ℕ) (bytes : List ℕ) → slice_get (deeds s) place ≡ Some (HasPut number bytes) → number ≡ length (puts (take place (deeds s)))

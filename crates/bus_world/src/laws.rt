@@ -11,8 +11,8 @@ ghost use Rattle.bus_world.specs.World.{Bus, Event};
 use bus_adoptcommit::Ratifier;
 use bus_ownerbits::laws::election_is_lawful;
 
-/// Whatever trails lead to a bus of up to 2^40 tenures and log words, the promise holds of them,
-/// with the order and the owners that the words of its log below the length spell.
+/// Whatever trails lead to a bus of at most 8 senders, up to 2^40 tenures and fewer than 2^40 log
+/// words, the promise holds of them, with the order and the owners that its log spells.
 pub fn trails_keep_promises<Q: Ratifier>()
     ensures { (senders rounds rows capacity : ℕ) → IsLayout (layout_of Q.protocol senders rounds rows capacity)
         → (bus : Bus (Elector Q)) (trails : Trails) → Reached (election_of Q.kind_of Q.op Q.fed Q.protocol) (layout_of Q.protocol senders rounds rows capacity) bus trails
