@@ -4,3 +4,4 @@ pub mod Starts
 pub mod Schedules
 pub mod Tables
 pub mod Two
+pub mod AgreementLaws

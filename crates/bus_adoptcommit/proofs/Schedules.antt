@@ -14,7 +14,7 @@ use Rattle.bus_register.specs.Tables.{of_some}
 use Rattle.bus_register.specs.TableLaws.{some_or_none, here_not}
 use Rattle.bus_adoptcommit.specs.declared.verdicts.Verdict.{Verdict}
 use Rattle.bus_adoptcommit.specs.Agreement.{Legal}
-use Rattle.bus_adoptcommit.specs.AgreementLaws.{Legal-fewer}
+use Rattle.bus_adoptcommit.proofs.AgreementLaws.{Legal-fewer}
 use Rattle.bus_adoptcommit.specs.Plays.{AtStarts, IsExact, IsPlay, Verdicts}
 use Rattle.bus_adoptcommit.proofs.Moves.{Turn}
 use Rattle.bus_adoptcommit.specs.Schedule.{table_of, entries, entered, finished, LegalThroughout}

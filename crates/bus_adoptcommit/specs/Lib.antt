@@ -1,5 +1,4 @@
 pub mod Agreement
-pub mod AgreementLaws
 pub mod Kinds
 pub mod Schedule
 pub mod Plays

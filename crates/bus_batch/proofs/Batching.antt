@@ -12,8 +12,8 @@ use Rattle.bus_batch.specs.declared.batches.Phase.TheVariants as phase
 use Rattle.bus_batch.specs.Messages.{numbered}
 use Rattle.bus_batch.specs.Frames.{body_words, data_word, data_len, words_of_bytes, message_words}
 use Rattle.bus_batch.specs.Batches.{body_of}
-use Rattle.bus_batch.specs.WordLaws.{length-message_words, words_least}
-use Rattle.bus_batch.specs.BatchLaws.{length-numbered}
+use Rattle.bus_batch.proofs.WordLaws.{length-message_words, words_least}
+use Rattle.bus_batch.proofs.BatchLaws.{length-numbered}
 use Rattle.bus_batch.proofs.Bytes.{padded_len}
 
 pub body_least : (p : Phase) (first : ℕ) (ms : List (List ℕ)) → (0 < length ms) ⊎ (p ≡ phase.Closing) → 1 ≤ length (body_words (body_of p first ms))

@@ -16,7 +16,7 @@ use Rattle.bus_batch.specs.Messages.{Numbered, IsNumbered}
 use Rattle.bus_batch.specs.Frames.{end_word, data_len, item_of, item_pieces, words_of_bytes, message_word, message_words, message_pieces, log_words, log_pieces}
 use Rattle.bus_batch.specs.Reading.{Awaits, Fills, Completes}
 use Rattle.bus_batch.specs.Steps.{IsMessageWord, IsAfter, Takes, Refuses}
-use Rattle.bus_batch.specs.WordLaws.{message_parts, not_end, words_most, words_least}
+use Rattle.bus_batch.proofs.WordLaws.{message_parts, not_end, words_most, words_least}
 use Rattle.bus_batch.proofs.Fillings.{First, first, fills_some, fills_more}
 
 -- ---- the place after a message

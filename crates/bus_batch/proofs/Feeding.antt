@@ -11,7 +11,7 @@ use Rattle.bus_batch.specs.declared.readers.Place.{Place}
 use Rattle.bus_batch.specs.declared.readers.Place.TheVariants as place
 use Rattle.bus_batch.specs.Frames.{IsLog, BeginsLog, IsBadWord, GivesPiece, end_word, log_words, log_pieces, message_words, words_of_bytes}
 use Rattle.bus_batch.specs.Frames.{Spells, order_in, owners_in}
-use Rattle.bus_batch.specs.PieceLaws.{order_in-log, owners_in-log}
+use Rattle.bus_batch.proofs.PieceLaws.{order_in-log, owners_in-log}
 use Rattle.bus_batch.specs.Reading.{Reading, Awaits, HasRead, IsSound}
 use Rattle.bus_batch.specs.Steps.{Steps, Takes, Refuses}
 use Rattle.bus_batch.proofs.Taking.{reading}

@@ -11,7 +11,7 @@ use Rattle.bus_batch.specs.declared.messages.Piece.{Piece}
 use Rattle.bus_batch.specs.Messages.{Numbered, IsNumbered}
 use Rattle.bus_batch.specs.Frames.{Frame, AreFramesFrom, message_word, data_len, words_of_bytes, message_words, message_pieces, log_words, log_pieces}
 use Rattle.bus_batch.specs.Reading.{Fills}
-use Rattle.bus_batch.specs.WordLaws.{length-message_words}
+use Rattle.bus_batch.proofs.WordLaws.{length-message_words}
 
 -- a message of so many zero bytes
 zeros : ℕ → Numbered

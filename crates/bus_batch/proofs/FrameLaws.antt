@@ -4,7 +4,7 @@ use Rattle.std.specs.Prelude.{All, map, ◌||◌}
 use Rattle.std.proofs.Math.Bool.{or-false, or_assoc}
 use Rattle.std.proofs.lemmas.Bool.{false≢true, or_parts}
 use Rattle.bus_batch.specs.declared.messages.Item.{Item}
-use Rattle.bus_batch.specs.PieceLaws.{order_made}
+use Rattle.bus_batch.proofs.PieceLaws.{order_made}
 use Rattle.std.specs.List.{flat_map}
 use Rattle.std.proofs.lemmas.List.{length-drop, map-append, nil_from_length, take-append-drop}
 use Rattle.std.proofs.lemmas.List.Concat.{flat_map-append}
@@ -12,7 +12,7 @@ use Rattle.std.proofs.lemmas.List.Elements.{All-head, All-tail, All-drop}
 use Rattle.bus_register.specs.declared.registers.SenderNo.{SenderNo}
 use Rattle.bus_batch.specs.Messages.{Numbered, IsNumbered}
 use Rattle.bus_batch.specs.Frames.{Frame, Body, Messages, EndMark, IsBody, IsFrame, AreFramesFrom, Spells, Order, order_of, has_end, ends, items_of, tenure_and_owner, head_word, message_word, data_word, data_len, words_of_bytes, message_words, body_words, frame_words, log_words}
-use Rattle.bus_batch.specs.WordLaws.{head_parts, message_parts, not_end, length-words_of_bytes}
+use Rattle.bus_batch.proofs.WordLaws.{head_parts, message_parts, not_end, length-words_of_bytes}
 use Rattle.bus_batch.proofs.Bytes.{data_bytes, taken}
 use Rattle.bus_batch.proofs.Heads.{body_most}
 

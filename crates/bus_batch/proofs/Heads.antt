@@ -11,7 +11,7 @@ use Rattle.bus_batch.specs.Messages.{Numbered}
 use Rattle.bus_batch.specs.Frames.{end_word, Frame, Body, Messages, EndMark, IsFrame, IsBody, AreFramesFrom, head_word, message_words, body_words, body_pieces, log_words, log_pieces}
 use Rattle.bus_batch.specs.Reading.{Awaits}
 use Rattle.bus_batch.specs.Steps.{IsHead, Takes, Refuses}
-use Rattle.bus_batch.specs.WordLaws.{head_parts, words_most, words_least}
+use Rattle.bus_batch.proofs.WordLaws.{head_parts, words_most, words_least}
 use Rattle.bus_batch.proofs.Fillings.{fills_some}
 
 -- a frame has 1 to 128 words after its head

@@ -7,3 +7,6 @@ pub mod Feeding
 pub mod Batching
 pub mod FrameLaws
 pub mod RefusalLaws
+pub mod BatchLaws
+pub mod PieceLaws
+pub mod WordLaws

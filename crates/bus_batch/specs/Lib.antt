@@ -4,6 +4,3 @@ pub mod Reading
 pub mod Steps
 pub mod Batches
 pub mod Faults
-pub mod WordLaws
-pub mod PieceLaws
-pub mod BatchLaws

@@ -1,0 +1,10 @@
+pub mod ChainLaws
+pub mod ChainMoves
+pub mod ChainOutcome
+pub mod ChainSteps
+pub mod DecideLaws
+pub mod FallbackLaws
+pub mod LiftLaws
+pub mod ObjectLaws
+pub mod ObjectPlaces
+pub mod RoundLaws

@@ -3,3 +3,4 @@ pub mod ReceiveLaws
 pub mod WriteLaws
 pub mod WritingSteps
 pub mod FaultLaws
+pub mod PrefixLaws

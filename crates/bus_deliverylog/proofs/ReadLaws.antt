@@ -12,7 +12,7 @@ use Rattle.bus_batch.specs.declared.messages.Item.{Item}
 use Rattle.bus_batch.specs.declared.messages.Piece.{Piece}
 use Rattle.bus_batch.specs.Frames.{Order, Spells, BeginsLog, piece_items, piece_owners, is_end}
 use Rattle.bus_batch.specs.Reading.{Reading, HasRead}
-use Rattle.bus_batch.specs.PieceLaws.{order_made}
+use Rattle.bus_batch.proofs.PieceLaws.{order_made}
 use Rattle.bus_deliverylog.specs.Logs.{Reads}
 
 -- one word more

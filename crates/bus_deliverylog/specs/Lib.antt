@@ -3,5 +3,4 @@ pub mod Logs
 pub mod Writing
 pub mod WritingLaws
 pub mod Receiving
-pub mod PrefixLaws
 pub mod Faults

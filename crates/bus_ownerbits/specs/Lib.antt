@@ -1,13 +1,7 @@
 pub mod Sizes
-pub mod NumberLaws
 pub mod Election
 pub mod ElectionSized
 pub mod ElectionNames
 pub mod ElectionAsks
 pub mod ElectionKeeps
-pub mod ElectionCases
-pub mod ElectionSteps
-pub mod ElectionGrows
-pub mod ElectionMoves
-pub mod ElectionLaws
 pub mod ElectionLaw

@@ -11,7 +11,7 @@ use Rattle.bus_script.specs.Grammar.{number_of, each_of, arguments_of}
 use Rattle.bus_ratify.specs.Scripts.{bit_of, if_between, if_any, inputs_of, steps_of}
 use Rattle.bus_ratify.specs.Text.{bit}
 use Rattle.bus_ratify.specs.Lines.{IsInputsLine, IsStepsLine}
-use Rattle.bus_script.specs.SpelledLaws.{NoSpace, chained, number_plain, number_spelled, number_read, line_spelled, line_read}
+use Rattle.bus_script.proofs.SpelledLaws.{NoSpace, chained, number_plain, number_spelled, number_read, line_spelled, line_read}
 
 -- ---- the line of inputs
 

@@ -6,7 +6,7 @@ use Rattle.std.proofs.lemmas.List.{length-append}
 use Rattle.std.proofs.lemmas.List.Folds.{list_all-append}
 use Rattle.std.proofs.Math.Bool.{and-false, and-true}
 use Rattle.bus_script.specs.Grammar.{number_of, each_of, and_before}
-use Rattle.bus_script.specs.EachLaws.{behind, behind_one_more}
+use Rattle.bus_script.proofs.EachLaws.{behind, behind_one_more}
 
 -- The steps of a line, as far as its words were looked at: all of them, those that are left, whether there was none yet,
 -- whether all have a process, and the schedule before the line and now.

@@ -8,7 +8,7 @@ use Rattle.bus_script.specs.Grammar.{and_before}
 use Rattle.bus_replay.specs.Lines.{digit_of, byte_from, pairs_of}
 use Rattle.bus_replay.specs.Text.{hex_digit}
 use Rattle.std.proofs.lemmas.List.{take_all}
-use Rattle.bus_script.specs.EachLaws.{behind, behind_one_more}
+use Rattle.bus_script.proofs.EachLaws.{behind, behind_one_more}
 
 -- one more pair of digits was read
 pub pair_read : (bytes rest more : List ℕ) (b : ℕ) (all : Option (List ℕ)) → 2 ≤ length rest → more ≡ take (length rest - 2) (drop 2 rest) → byte_from (digit_of (get_or rest 0 0)) (digit_of (get_or rest 1 0)) ≡ Some b

@@ -8,7 +8,7 @@ use Rattle.bus_adoptcommit.specs.Kinds.{IsOfRatifier}
 use Rattle.bus_binconsensus.specs.declared.objects.Object.{Object}
 use Rattle.bus_binconsensus.specs.declared.objects.Object.TheVariants.{Ratify, Concile, Fall}
 use Rattle.bus_binconsensus.specs.Fallback.{kind_from}
-use Rattle.bus_binconsensus.specs.ObjectPlaces.{falls_last}
+use Rattle.bus_binconsensus.proofs.ObjectPlaces.{falls_last}
 use Rattle.bus_binconsensus.specs.Objects.{Decider, object_kind, decide_protocol}
 use Rattle.bus_walkcoin.specs.declared.coins.Phase.{Phase}
 use Rattle.bus_walkcoin.specs.declared.coins.Phase.TheVariants.{Vote, ReadVotes, Answered}
@@ -22,7 +22,7 @@ use Rattle.bus_ownerbits.specs.declared.stages.Stage.{Stage}
 use Rattle.bus_ownerbits.specs.declared.stages.Stage.TheVariants.{Announce, Propose, Search, Alone}
 use Rattle.bus_ownerbits.specs.Election.{election_kind, kind_at as election_kind_at}
 use Rattle.bus_ownerbits.specs.ElectionKeeps.{StageBelongs, begun_at}
-use Rattle.bus_ownerbits.specs.ElectionLaws.{searches}
+use Rattle.bus_ownerbits.proofs.ElectionLaws.{searches}
 use Rattle.bus_ownerbits.specs.Sizes.{decision_cost}
 use Rattle.bus_tenure.specs.declared.pages.Page.{Page}
 use Rattle.bus_tenure.specs.declared.phases.Leaving.{Leaving}

@@ -2,6 +2,4 @@ pub mod CoinRule
 pub mod Coin
 pub mod CoinLaws
 pub mod CoinProtocol
-pub mod CoinProtocolLaws
 pub mod CoinAnswer
-pub mod CoinAnswerLaws

@@ -25,10 +25,10 @@ use Rattle.bus_world.specs.Log.{read, sent, AreCounted, AreEarlier, Logged, Know
 use Rattle.bus_register.specs.Tables.{put}
 use Rattle.bus_register.specs.TableLaws.{put_here, put_beside, some_or_none, push_beside}
 use Rattle.bus_world.proofs.LogLaws.{read-agree, Logged-agree, Logged-publish, sent-append_other, sent-append_owner, has_end-append, AreEarlier-append, AreEarlier-later}
-use Rattle.bus_batch.specs.BatchLaws.{is_frame}
+use Rattle.bus_batch.proofs.BatchLaws.{is_frame}
 use Rattle.bus_world.proofs.QueueLaws.{counted_frame, length-items, ends-body}
 use Rattle.bus_ownerbits.specs.ElectionKeeps.{OneOwner}
-use Rattle.bus_ownerbits.specs.ElectionSteps.{row_within}
+use Rattle.bus_ownerbits.proofs.ElectionSteps.{row_within}
 use Rattle.bus_world.specs.Tenures.{Standing}
 use Rattle.bus_world.specs.Tenures.Standing.{Runs, Holds}
 use Rattle.bus_world.proofs.TenuresLaws as tenures

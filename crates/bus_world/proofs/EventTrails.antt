@@ -16,7 +16,7 @@ use Rattle.bus_batch.specs.declared.messages.Item.{Item}
 use Rattle.bus_batch.specs.Batches.{next_of}
 use Rattle.bus_batch.specs.declared.batches.Phase.TheVariants.{Closing}
 use Rattle.bus_batch.specs.Frames.{Frame, Order, AreFrames, AreFramesFrom, log_words, log_pieces, order_of, owners_in, order_in, piece_owners, tenure_and_owner}
-use Rattle.bus_batch.specs.PieceLaws.{owners_in-log}
+use Rattle.bus_batch.proofs.PieceLaws.{owners_in-log}
 use Rattle.bus_deliverylog.specs.Orders.{IsPrefixOfOrder, of_sender}
 use Rattle.bus_deliverylog.specs.Receiving.{Receiving}
 use Rattle.bus_deliverylog.specs.declared.receiving.RecvTurn.{RecvTurn}
@@ -24,7 +24,7 @@ use Rattle.bus_tenure.specs.Core.{Core, Election, Layout, log_at, words_of, kind
 use Rattle.bus_tenure.specs.declared.turns.Turn.{Turn as Answered}
 use Rattle.bus_tenure.specs.declared.phases.Phase.TheVariants as phase
 use Rattle.bus_ownerbits.specs.ElectionKeeps.{OneOwner, begun_at}
-use Rattle.bus_ownerbits.specs.ElectionSteps.{row_within}
+use Rattle.bus_ownerbits.proofs.ElectionSteps.{row_within}
 use Rattle.bus_ownerbits.specs.declared.stages.Stage.{Stage}
 use Rattle.bus_ownerbits.specs.declared.stages.Stage.TheVariants as stage
 use Rattle.bus_ownerbits.specs.Election.{kind_at as election_kind_at}

@@ -8,9 +8,9 @@ use Rattle.std.proofs.lemmas.List.Elements.{All-map}
 use Rattle.bus_register.specs.declared.registers.SenderNo.{SenderNo}
 use Rattle.bus_batch.specs.Messages.{Numbered}
 use Rattle.bus_batch.specs.Frames.{Frame, Body, Messages, EndMark, IsBody, AreFrames, AreFramesFrom, order_of, has_end, ends, body_items, item_of, tenure_and_owner, log_pieces, frame_pieces}
-use Rattle.bus_batch.specs.PieceLaws.{order_in-log}
+use Rattle.bus_batch.proofs.PieceLaws.{order_in-log}
 use Rattle.bus_deliverylog.specs.Orders.{IsPrefixOfOrder}
-use Rattle.bus_deliverylog.specs.PrefixLaws.{order_in-prefix}
+use Rattle.bus_deliverylog.proofs.PrefixLaws.{order_in-prefix}
 use Rattle.bus_world.specs.Headline.{AreFramed, Nothing, TheEnd, Batch, IsPrefix}
 
 own_items : (o : SenderNo) (ms : List Numbered) → All (λ i. i.sender ≡ o) (map (item_of o) ms)

@@ -4,7 +4,7 @@ use Rattle.std.proofs.lemmas.List.{length-map}
 use Rattle.bus_register.specs.declared.registers.SenderNo.{SenderNo}
 use Rattle.bus_batch.specs.Messages.{numbered}
 use Rattle.bus_batch.specs.Frames.{body_items, items_of, item_of, ends}
-use Rattle.bus_batch.specs.BatchLaws.{length-numbered}
+use Rattle.bus_batch.proofs.BatchLaws.{length-numbered}
 use Rattle.bus_batch.specs.Batches.{Pending, IsKept, body_of, frame_of}
 use Rattle.bus_batch.specs.declared.batches.Phase.{Phase}
 use Rattle.bus_batch.specs.declared.batches.Phase.TheVariants.{Open, Closing, Closed}

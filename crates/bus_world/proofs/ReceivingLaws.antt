@@ -8,9 +8,9 @@ use Rattle.bus_batch.specs.declared.messages.Piece.{Piece}
 use Rattle.bus_batch.specs.Messages.{Numbered}
 use Rattle.bus_batch.specs.Frames.{BeginsLog, Frame, Body, Messages, EndMark, order_of, item_of, AreFrames, log_words, frame_words, log_pieces, frame_pieces, body_pieces, message_pieces, item_pieces, message_words, body_words, data_len}
 use Rattle.bus_batch.specs.Reading.{Reading, HasRead}
-use Rattle.bus_batch.specs.WordLaws.{length-words_of_bytes}
+use Rattle.bus_batch.proofs.WordLaws.{length-words_of_bytes}
 use Rattle.bus_deliverylog.specs.Orders.{IsPrefixOfOrder}
-use Rattle.bus_deliverylog.specs.PrefixLaws.{order_in-prefix}
+use Rattle.bus_deliverylog.proofs.PrefixLaws.{order_in-prefix}
 use Rattle.bus_batch.specs.Frames.{order_in}
 use Rattle.bus_world.proofs.LogLaws.{log_words-append}
 use Rattle.bus_world.specs.Receiving.{Receives}

@@ -12,7 +12,7 @@ use Rattle.bus_tenure.specs.declared.phases.Phase.TheVariants as phase
 use Rattle.bus_tenure.specs.declared.turns.Turn.{Turn as Answered}
 use Rattle.bus_tenure.specs.declared.turns.Turn.TheVariants as turn
 use Rattle.bus_ownerbits.specs.ElectionKeeps.{OneOwner}
-use Rattle.bus_ownerbits.specs.ElectionSteps.{row_within}
+use Rattle.bus_ownerbits.proofs.ElectionSteps.{row_within}
 use Rattle.bus_world.proofs.Places.{got_before, got_after, got_split}
 use Rattle.bus_world.specs.Headline.{Deed, HasPut, HasClosed, Stepped, Announced, Elected, Took}
 use Rattle.bus_world.proofs.Tying.{next_tenure, Tables, PageTies}

@@ -1,4 +1,4 @@
-use Rattle.bus_coinconc.specs.ConciliatorLaws.{conciliator_laws}
+use Rattle.bus_coinconc.proofs.ConciliatorLaws.{conciliator_laws}
 use Rattle.bus_coinconc.proofs.laws.conciliator_is_lawful.Goals as goal
 
 pub returns : goal.returns

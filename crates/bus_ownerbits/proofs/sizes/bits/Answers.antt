@@ -1,5 +1,5 @@
 use Rattle.std.proofs.Common.{arith, inl, inr, ◌<◌}
-use Rattle.bus_ownerbits.specs.NumberLaws.{bits_are, same_bits, tested}
+use Rattle.bus_ownerbits.proofs.NumberLaws.{bits_are, same_bits, tested}
 use Rattle.bus_ownerbits.proofs.sizes.bits.Goals as goal
 
 pub overflow_add-bits : goal.overflow_add-bits

@@ -1,7 +1,7 @@
 use Rattle.std.proofs.Common.{◌≡◌, length}
 use Rattle.bus_script.specs.Grammar.{each_of}
 use Rattle.bus_ratify.specs.Scripts.{bit_of}
-use Rattle.bus_script.specs.EachLaws.{behind}
+use Rattle.bus_script.proofs.EachLaws.{behind}
 use Rattle.bus_ratify.proofs.scripts.inputs_of.Given as goal
 
 abbrev pub invariant-loop-word : goal.invariant-loop-word

@@ -1,6 +1,6 @@
 use Rattle.std.proofs.Common.{◌-◌, List, ℕ, length, take, drop, refl, sym, ap, ◌∙◌}
 use Rattle.bus_replay.specs.Lines.{pairs_of}
-use Rattle.bus_script.specs.EachLaws.{behind}
+use Rattle.bus_script.proofs.EachLaws.{behind}
 use Rattle.bus_replay.proofs.HexLemmas.{pair_read}
 use Rattle.bus_replay.proofs.hex.pairs_of.Goals as goal
 

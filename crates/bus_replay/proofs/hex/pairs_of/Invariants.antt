@@ -1,6 +1,6 @@
 use Rattle.std.proofs.Common.{◌≡◌, length}
 use Rattle.bus_replay.specs.Lines.{pairs_of}
-use Rattle.bus_script.specs.EachLaws.{behind}
+use Rattle.bus_script.proofs.EachLaws.{behind}
 use Rattle.bus_replay.proofs.hex.pairs_of.Given as goal
 
 abbrev pub invariant-loop-rest : goal.invariant-loop-rest

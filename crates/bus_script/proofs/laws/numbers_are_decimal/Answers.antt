@@ -1,6 +1,6 @@
 use Rattle.std.proofs.Common.{◌∙◌, ap}
 use Rattle.bus_script.specs.Grammar.{number_of}
-use Rattle.bus_script.specs.SpelledLaws.{number_spelled, number_read}
+use Rattle.bus_script.proofs.SpelledLaws.{number_spelled, number_read}
 use Rattle.bus_script.proofs.laws.numbers_are_decimal.Goals as goal
 
 pub returns : goal.returns

@@ -1,7 +1,7 @@
 use Rattle.std.proofs.Common.{◌≡◌, ◌≢◌, ◌+◌, ◌-◌, ◌*◌, ◌<◌, ◌≤◌, ◌^◌, true, false, eqb, length, get_or, rules, arith, sym, ◌∙◌}
 use Rattle.std.specs.Char.{is_ascii_digit}
 use Rattle.std.proofs.lemmas.Bool.{eq-eqb}
-use Rattle.bus_script.specs.NumberLaws.{not_below, too_large_is_none, all_digits_are_some}
+use Rattle.bus_script.proofs.NumberLaws.{not_below, too_large_is_none, all_digits_are_some}
 use Rattle.bus_script.proofs.numbers.number_of.Goals as goal
 use Rattle.bus_script.proofs.numbers.number_of.Goals.{then-word-gt1, else-word-gt1}
 

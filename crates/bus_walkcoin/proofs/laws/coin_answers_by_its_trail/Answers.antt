@@ -1,4 +1,4 @@
-use Rattle.bus_walkcoin.specs.CoinAnswerLaws.{coin_answers}
+use Rattle.bus_walkcoin.proofs.CoinAnswerLaws.{coin_answers}
 use Rattle.bus_walkcoin.proofs.laws.coin_answers_by_its_trail.Goals as goal
 
 pub returns : goal.returns

@@ -1,6 +1,6 @@
 use Rattle.std.proofs.Common.{arith, subst}
 use Rattle.bus_batch.specs.Batches.{IsKept}
-use Rattle.bus_batch.specs.BatchLaws.{is_frame}
+use Rattle.bus_batch.proofs.BatchLaws.{is_frame}
 use Rattle.bus_batch.proofs.Batching.{body_least}
 use Rattle.bus_batch.proofs.batches.Batch.frame_len.Goals as goal
 

@@ -1,6 +1,6 @@
 use Rattle.std.proofs.Common.{◌≢◌, ◌-◌, arith, ap, sym, ◌∙◌}
 use Rattle.bus_coinconc.specs.ConciliatorProtocol.{conciliator_protocol}
-use Rattle.bus_binconsensus.specs.ChainSteps.{span_own, span_next, span_within}
+use Rattle.bus_binconsensus.proofs.ChainSteps.{span_own, span_next, span_within}
 use Rattle.bus_binconsensus.specs.Objects.{objects_of}
 use Rattle.bus_binconsensus.proofs.decisions.Decide.enter_next.Goals as goal
 

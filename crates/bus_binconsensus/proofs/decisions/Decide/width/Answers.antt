@@ -1,6 +1,6 @@
 use Rattle.std.proofs.Common.{ap, sym, ◌∙◌, ◌+◌, ◌*◌, ◌-◌}
 use Rattle.bus_coinconc.specs.ConciliatorProtocol.{conciliator_protocol}
-use Rattle.bus_binconsensus.specs.RoundLaws.{width_of_rounds}
+use Rattle.bus_binconsensus.proofs.RoundLaws.{width_of_rounds}
 use Rattle.bus_binconsensus.proofs.decisions.Decide.width.Goals as goal
 
 pub returns-clause-protocol : goal.returns-clause-protocol

@@ -3,7 +3,7 @@ use Rattle.std.proofs.Common.{◌≡◌, ◌≢◌, ℕ, ◌+◌, ◌*◌, ◌/�
 use Rattle.std.proofs.lemmas.Bool.Decides.{eqb_tells}
 use Rattle.bus_ownerbits.specs.declared.stages.Stage.TheVariants.{Search, Alone}
 use Rattle.bus_ownerbits.specs.Election.{Decisions, Electing, proposing, going, fits_bits, seeking, with_bit, decided_by, searched}
-use Rattle.bus_ownerbits.specs.NumberLaws.{tested}
+use Rattle.bus_ownerbits.proofs.NumberLaws.{tested}
 
 module _ {S : Type 0} (D : Decisions S) (P : Electing S → Type 0) where
   pub going_case : (s : Electing S) → (s.left ≡ 0 → P (record s { stage = Alone })) → (s.left ≢ 0 → P (proposing D s)) → P (going D s)

@@ -13,7 +13,7 @@ use Rattle.std.proofs.lemmas.List.Elements.{All-from_recursion}
 use Rattle.std.proofs.lemmas.List.Splits.{slice_split_none, slice_split_at, join_with_byte-slice_split}
 use Rattle.std.proofs.lemmas.Str.Parse.{IsNumeralModel, numerals_by_value, tells_all_ascii_digits}
 use Rattle.bus_script.specs.Grammar.{number_of, is_number, each_of, and_before, words_of, behind_first, arguments_of}
-use Rattle.bus_script.specs.NumberLaws.{all_pass, some_byte, no_leading_zero, fits}
+use Rattle.bus_script.proofs.NumberLaws.{all_pass, some_byte, no_leading_zero, fits}
 
 -- ---- numbers
 

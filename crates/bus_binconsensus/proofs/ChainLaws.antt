@@ -6,9 +6,9 @@ use Rattle.bus_adoptcommit.specs.declared.verdicts.Verdict.{Verdict}
 use Rattle.bus_adoptcommit.specs.declared.verdicts.Verdict.TheVariants.{Adopt}
 use Rattle.bus_binconsensus.specs.Deciding.{Decides}
 use Rattle.bus_binconsensus.specs.Chain.{Objects, HandsOn, handed, value_told, chain_op, chain_fed, chain_protocol}
-use Rattle.bus_binconsensus.specs.ChainSteps.{span_own, span_within, begun_in, chain_starts, chain_goes}
-use Rattle.bus_binconsensus.specs.ChainMoves.{chain_moves, chain_enters}
-use Rattle.bus_binconsensus.specs.ChainOutcome.{chain_decides}
+use Rattle.bus_binconsensus.proofs.ChainSteps.{span_own, span_within, begun_in, chain_starts, chain_goes}
+use Rattle.bus_binconsensus.proofs.ChainMoves.{chain_moves, chain_enters}
+use Rattle.bus_binconsensus.proofs.ChainOutcome.{chain_decides}
 
 told_some : (x : Option Verdict) → IsSome x → IsSome (value_told x)
 told_some None s = absurd cc

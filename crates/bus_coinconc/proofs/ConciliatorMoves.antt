@@ -8,13 +8,13 @@ use Rattle.bus_register.specs.Words.{register, after}
 use Rattle.bus_register.specs.Tables.{of_some, Beside, Agree, Stepped}
 use Rattle.bus_walkcoin.specs.Coin.{coin_started, coin_fed}
 use Rattle.bus_walkcoin.specs.CoinProtocol.{coin_protocol}
-use Rattle.bus_walkcoin.specs.CoinProtocolLaws.{coin_laws}
+use Rattle.bus_walkcoin.proofs.CoinProtocolLaws.{coin_laws}
 use Rattle.bus_coinconc.specs.declared.conciliators.Stage.{Stage}
 use Rattle.bus_coinconc.specs.declared.conciliators.Stage.TheVariants.{SetMark, ReadOtherMark, Alone, AskCoin}
 use Rattle.bus_coinconc.specs.Conciliation.{IsInput}
 use Rattle.bus_coinconc.specs.Conciliator.{ConciliatorState, bit, conciliator_op, conciliator_fed, op_at, stage_after}
 use Rattle.bus_coinconc.specs.ConciliatorProtocol.{begun_at, Belongs, coin_at, coins, counted, marked, StageSaw, Keeps}
-use Rattle.bus_coinconc.specs.ConciliatorGoes.{bit_le, bit_same, goes_of}
+use Rattle.bus_coinconc.proofs.ConciliatorGoes.{bit_le, bit_same, goes_of}
 
 cases_bool : (v w : Bool) → (v ≡ w) ⊎ (v ≢ w)
 cases_bool true true = inl refl

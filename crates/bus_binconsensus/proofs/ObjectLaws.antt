@@ -10,11 +10,11 @@ use Rattle.bus_binconsensus.specs.declared.objects.Object.{Object}
 use Rattle.bus_binconsensus.specs.declared.objects.Object.TheVariants.{Ratify, Concile, Fall}
 use Rattle.bus_binconsensus.specs.Deciding.{Decides, IsChosen}
 use Rattle.bus_binconsensus.specs.Fallback.{op_of, fed_of, fallback_protocol}
-use Rattle.bus_binconsensus.specs.FallbackLaws.{fallback_laws}
+use Rattle.bus_binconsensus.proofs.FallbackLaws.{fallback_laws}
 use Rattle.bus_binconsensus.specs.Chain.{HandsOn}
-use Rattle.bus_binconsensus.specs.ChainLaws.{chain_laws}
+use Rattle.bus_binconsensus.proofs.ChainLaws.{chain_laws}
 use Rattle.bus_binconsensus.specs.Lift.{lifted}
-use Rattle.bus_binconsensus.specs.LiftLaws.{Ends, lift_laws}
+use Rattle.bus_binconsensus.proofs.LiftLaws.{Ends, lift_laws}
 use Rattle.bus_binconsensus.specs.Objects.{Part, part_at, first_of, object_op, object_fed, object_output, object_begun, object_wants, reads_of, part_protocol, objects_of, decide_op, decide_fed, decide_protocol}
 use Rattle.bus_binconsensus.specs.Objects.Part.{Ratifier, Conciliator, FallbackWord}
 

@@ -9,17 +9,17 @@ use Rattle.bus_register.specs.Tables.{of_some, Beside, Stepped}
 use Rattle.bus_register.specs.TableLaws.{some_of}
 use Rattle.bus_register.specs.Protocol.{Laws, Goes, counted, inputs, outputs}
 use Rattle.bus_binconsensus.specs.Deciding.{Decides}
-use Rattle.bus_binconsensus.specs.ChainMoves.{put_at, put_at_here, put_at_object, put_at_process}
-use Rattle.bus_binconsensus.specs.ChainOutcome.{counted_is}
+use Rattle.bus_binconsensus.proofs.ChainMoves.{put_at, put_at_here, put_at_object, put_at_process}
+use Rattle.bus_binconsensus.proofs.ChainOutcome.{counted_is}
 use Rattle.bus_ownerbits.specs.declared.stages.Stage.{Stage}
 use Rattle.bus_ownerbits.specs.declared.stages.Stage.TheVariants.{Announce, Propose, Search, Alone}
 use Rattle.bus_ownerbits.specs.Sizes.{bits_of, digit, bit_at}
 use Rattle.bus_ownerbits.specs.Election.{Decisions, Electing, place, proposing, going, seeking, with_bit, decided_by, searched, fed_at, election_fed, op_at, election_op}
-use Rattle.bus_ownerbits.specs.ElectionCases.{going_case, seeking_case, decided_case, searched_case}
+use Rattle.bus_ownerbits.proofs.ElectionCases.{going_case, seeking_case, decided_case, searched_case}
 use Rattle.bus_ownerbits.specs.ElectionKeeps.{Fitting, Proposed, Saw, Spelled, Standing, StageStands, ElectionKeeps, StageBelongs, announcement, begun_at, spelled_of}
-use Rattle.bus_ownerbits.specs.ElectionGrows.{Grows, grows_on, seen_is, spelled_agree, spelled_stays, fitting_stays, proposed_stays, standing_stays}
-use Rattle.bus_ownerbits.specs.ElectionSteps.{Ready, entered_is, proposing_belongs, searching_belongs, row_within, ready, enough_is, stage_is, propose_stays, propose_ready, search_ready, search_takes, going_begun, fed_begun}
-use Rattle.bus_ownerbits.specs.NumberLaws.{next_bit, none_above, bits_enough, between, at_least}
+use Rattle.bus_ownerbits.proofs.ElectionGrows.{Grows, grows_on, seen_is, spelled_agree, spelled_stays, fitting_stays, proposed_stays, standing_stays}
+use Rattle.bus_ownerbits.proofs.ElectionSteps.{Ready, entered_is, proposing_belongs, searching_belongs, row_within, ready, enough_is, stage_is, propose_stays, propose_ready, search_ready, search_takes, going_begun, fed_begun}
+use Rattle.bus_ownerbits.proofs.NumberLaws.{next_bit, none_above, bits_enough, between, at_least}
 
 -- an announcement is 0 or 1
 announced_or : {S : Type 0} (o : Option (Electing S)) → (announcement o ≡ 0) ⊎ (announcement o ≡ 1)

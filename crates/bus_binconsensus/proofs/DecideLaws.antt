@@ -12,10 +12,10 @@ use Rattle.bus_binconsensus.specs.declared.objects.Object.TheVariants.{Ratify, C
 use Rattle.bus_binconsensus.specs.Chain.{entered, handed_by}
 use Rattle.bus_binconsensus.specs.Deciding.{IsChosen}
 use Rattle.bus_binconsensus.specs.DecideLaw.{Onward, DecideLaw}
-use Rattle.bus_binconsensus.specs.ObjectLaws.{objects_law, decide_laws}
-use Rattle.bus_binconsensus.specs.ObjectPlaces.{in_its_part, falls_last}
+use Rattle.bus_binconsensus.proofs.ObjectLaws.{objects_law, decide_laws}
+use Rattle.bus_binconsensus.proofs.ObjectPlaces.{in_its_part, falls_last}
 use Rattle.bus_binconsensus.specs.Objects.{objects_of, object_fed, object_output, object_wants, object_calls, Decider}
-use Rattle.bus_binconsensus.specs.RoundLaws.{the_rounds, steps_of_rounds}
+use Rattle.bus_binconsensus.proofs.RoundLaws.{the_rounds, steps_of_rounds}
 
 module _ {S T : Type 0} (op : S → ℕ → Option Op) (fed : S → ℕ → ℕ → S) (P : Protocol S Bool Verdict) (laws : Laws op fed P Legal) (quick : (n : ℕ) → P.steps n ≤ 2 * n + 2) (wordless : (s : S) → P.wants_word s ≡ false)
     (opC : T → ℕ → Option Op) (fedC : T → ℕ → ℕ → T) (C : Protocol T Bool Bool) (OutC : (ℕ → Option Bool) → (ℕ → Option Bool) → Type 0) (lawsC : Laws opC fedC C OutC)

@@ -7,7 +7,7 @@ use Rattle.bus_register.specs.Tables.{of_some}
 use Rattle.bus_register.specs.TableLaws.{some_of}
 use Rattle.bus_register.specs.Protocol.{Goes, IsStore}
 use Rattle.bus_walkcoin.specs.Coin.{CoinState, coin_started, coin_op, coin_fed}
-use Rattle.bus_walkcoin.specs.CoinProtocolLaws.{coin_laws}
+use Rattle.bus_walkcoin.proofs.CoinProtocolLaws.{coin_laws}
 use Rattle.bus_coinconc.specs.declared.conciliators.Stage.{Stage}
 use Rattle.bus_coinconc.specs.declared.conciliators.Stage.TheVariants.{SetMark, ReadOtherMark, Alone, AskCoin}
 use Rattle.bus_coinconc.specs.Conciliation.{IsInput, Conciles}

@@ -10,7 +10,7 @@ use Rattle.bus_batch.specs.declared.messages.Piece.{Piece}
 use Rattle.bus_batch.specs.declared.messages.Piece.TheVariants as piece
 use Rattle.bus_batch.specs.Frames.{Frame, Body, Messages, EndMark, AreFrames, AreFramesFrom, Order, order_of, Spells, order_in, owners_in, piece_items, piece_owners, is_end, body_pieces, log_pieces}
 use Rattle.bus_batch.specs.Reading.{Reading, HasRead}
-use Rattle.bus_batch.specs.PieceLaws.{body_end, order_in-log, owners_in-log}
+use Rattle.bus_batch.proofs.PieceLaws.{body_end, order_in-log, owners_in-log}
 use Rattle.bus_deliverylog.specs.Orders.{IsPrefixOfOrder}
 
 -- two ways to part a list

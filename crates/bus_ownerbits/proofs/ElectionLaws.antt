@@ -13,10 +13,10 @@ use Rattle.bus_ownerbits.specs.declared.stages.Stage.TheVariants.{Announce, Prop
 use Rattle.bus_ownerbits.specs.Sizes.{bits_of, digit}
 use Rattle.bus_ownerbits.specs.Election.{Decisions, Electing, fits_bits, decided_by, fed_at, election_op, election_fed, op_at, bit_told, owner_at, owner_of}
 use Rattle.bus_ownerbits.specs.ElectionKeeps.{OneOwner, Spelled, Standing, StageStands, ElectionKeeps, announcement, begun_at, wants_at, spelled_of, StageBelongs, ElectionBelongs, election_started, election_protocol}
-use Rattle.bus_ownerbits.specs.ElectionGrows.{Grows, proposed_stays, standing_stays}
-use Rattle.bus_ownerbits.specs.ElectionMoves.{Board, one_number, fitted, spelled_more, election_moves}
-use Rattle.bus_ownerbits.specs.ElectionSteps.{row_within, election_goes}
-use Rattle.bus_ownerbits.specs.NumberLaws.{all_bits, bits_enough}
+use Rattle.bus_ownerbits.proofs.ElectionGrows.{Grows, proposed_stays, standing_stays}
+use Rattle.bus_ownerbits.proofs.ElectionMoves.{Board, one_number, fitted, spelled_more, election_moves}
+use Rattle.bus_ownerbits.proofs.ElectionSteps.{row_within, election_goes}
+use Rattle.bus_ownerbits.proofs.NumberLaws.{all_bits, bits_enough}
 
 bit_told_is : (o : Option Bool) (spelled v : ℕ) → bit_told o spelled ≡ Some v → (bit : Bool) × (o ≡ Some bit) × (v ≡ 2 * spelled + digit bit)
 bit_told_is None spelled v e = absurd cc

@@ -10,7 +10,7 @@ use Rattle.bus_ownerbits.specs.declared.stages.Stage.{Stage}
 use Rattle.bus_ownerbits.specs.declared.stages.Stage.TheVariants.{Announce, Propose, Search, Alone}
 use Rattle.bus_ownerbits.specs.Sizes.{bits_of, bit_at}
 use Rattle.bus_ownerbits.specs.Election.{Decisions, Electing, place, proposing, going, fits_bits, seeking, with_bit, searched, fed_at, election_fed, op_at, election_op}
-use Rattle.bus_ownerbits.specs.ElectionCases.{going_case, seeking_case, decided_case, searched_case}
+use Rattle.bus_ownerbits.proofs.ElectionCases.{going_case, seeking_case, decided_case, searched_case}
 use Rattle.bus_ownerbits.specs.ElectionKeeps.{each_bit, work_at, StageBelongs, ElectionBelongs, begun_at, election_protocol}
 
 -- one factor less

@@ -11,7 +11,7 @@ use Rattle.bus_register.specs.Protocol.{Laws, Goes}
 use Rattle.bus_adoptcommit.specs.declared.verdicts.Verdict.{Verdict}
 use Rattle.bus_adoptcommit.specs.declared.verdicts.Verdict.TheVariants.{Commit, Adopt}
 use Rattle.bus_binconsensus.specs.Chain.{Objects, HandsOn, Link, span, entered, handed_by, chain_fed, chain_started, Passed, Walk, Rests, ChainKeeps}
-use Rattle.bus_binconsensus.specs.ChainSteps.{span_own, span_next, span_below, span_within}
+use Rattle.bus_binconsensus.proofs.ChainSteps.{span_own, span_next, span_below, span_within}
 
 -- a table of tables with another value at one place
 abbrev pub put_at : {A : Type 0} → ℕ → ℕ → A → (ℕ → ℕ → A) → ℕ → ℕ → A

@@ -5,12 +5,12 @@ use Rattle.std.proofs.lemmas.Option.{same_Some}
 use Rattle.bus_register.specs.Words.{register}
 use Rattle.bus_register.specs.Tables.{of_some, Beside, Agree}
 use Rattle.bus_register.specs.Protocol.{Laws}
-use Rattle.bus_walkcoin.specs.CoinProtocolLaws.{coin_laws}
+use Rattle.bus_walkcoin.proofs.CoinProtocolLaws.{coin_laws}
 use Rattle.bus_coinconc.specs.Conciliation.{Conciles}
 use Rattle.bus_coinconc.specs.Conciliator.{ConciliatorState, bit, conciliator_started, conciliator_op, conciliator_fed}
 use Rattle.bus_coinconc.specs.ConciliatorProtocol.{Belongs, coin_at, coins, counted, marked, StageSaw, Keeps, conciliator_protocol}
-use Rattle.bus_coinconc.specs.ConciliatorGoes.{bit_le, ends_at, unended_at, unmoved_at, blind_at, fits_at, goes_of, keeps_conciles}
-use Rattle.bus_coinconc.specs.ConciliatorMoves.{saw_stays, moves_keep}
+use Rattle.bus_coinconc.proofs.ConciliatorGoes.{bit_le, ends_at, unended_at, unmoved_at, blind_at, fits_at, goes_of, keeps_conciles}
+use Rattle.bus_coinconc.proofs.ConciliatorMoves.{saw_stays, moves_keep}
 
 started_belongs : (n me at : ℕ) (v : Bool) → me < n → n ≤ 64 → Belongs n me at (conciliator_started n me v at)
 started_belongs n me at v below few = record { n_is = refl; me_is = refl; at_is = refl; below = below; few = few; stage = tt }

@@ -1,0 +1,3 @@
+pub mod ConciliatorGoes
+pub mod ConciliatorLaws
+pub mod ConciliatorMoves

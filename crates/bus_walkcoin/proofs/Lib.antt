@@ -1,0 +1,2 @@
+pub mod CoinAnswerLaws
+pub mod CoinProtocolLaws
