@@ -2,7 +2,8 @@
 
 ghost use Rattle.std.specs.Prelude.{ℕ, ◌+◌, List, IfOk, OnOk, IfErr};
 ghost use Rattle.std.specs.Io.KnownBytes.{Appends, IsAtEnd};
-ghost use Rattle.bus_tenure.specs.Elections.{election_of, layout_of};
+ghost use Rattle.bus_tenure.specs.Elections.{election_of};
+ghost use Rattle.bus_world.specs.Playing.{layout_of};
 ghost use Rattle.bus_script.specs.declared.answers.Outcome.{Outcome};
 ghost use Rattle.bus_replay.specs.Answers.{IsReplay};
 ghost use Rattle.bus_main.specs.Streams.{input_limit, ReadsWhole, ReadsAtMost, IsScriptFault};
@@ -22,15 +23,15 @@ pub fn replay<Q: Ratifier + Drop, R: Read, W: Write>(
     writer: &mut W,
 ) -> Result<Outcome, RunFault>
     // All of the input was read, and all of its answer was written.
-    ensures ok { let X = election_of Q.kind_of Q.op Q.fed Q.protocol in
+    ensures ok { let X = election_of Q.Ratifier in
         IfOk result (λ outcome. (input text : List ℕ) × ReadsWhole (R.remaining reader.old) input
-        × IsReplay (λ shape. (X, layout_of Q.protocol shape.senders shape.rounds shape.rows shape.log_words)) input outcome text
+        × IsReplay (λ shape. (X, layout_of Q.protocol shape)) input outcome text
         × Appends (W.contents writer.old) (W.contents writer.new) text) }
 
     // Which faults there are. But for a front of the answer, where a write failed, nothing was written.
-    ensures fault { let X = election_of Q.kind_of Q.op Q.fed Q.protocol in
+    ensures fault { let X = election_of Q.Ratifier in
         IfErr result (IsScriptFault (λ input text. (outcome : Outcome)
-        × IsReplay (λ shape. (X, layout_of Q.protocol shape.senders shape.rounds shape.rows shape.log_words)) input outcome text)
+        × IsReplay (λ shape. (X, layout_of Q.protocol shape)) input outcome text)
         (R.remaining reader.old) (R.remaining reader.new) (W.contents writer.old) (W.contents writer.new)) }
 
     // The reader is at its end, or it gave no more than shows that the input is too long.

@@ -188,8 +188,8 @@ impl Sender {
     fn turn_on<Q: Ratifier + Drop>(&mut self, world: &mut World<Q>, word: u32) -> Turn
         ensures queue { self.new.queue ≡ queue_by result self.old.queue }
         ensures words { self.old.words ≤ self.new.words }
-        ensures stored { let X = election_of Q.kind_of Q.op Q.fed Q.protocol in kind_in X (slice_get world.old.bus.side.senders self.old.queue.sender.0) ≡ Some kind.StoreLength → length (log_of world.new) ≤ self.new.words }
-        ensures in_step { let X = election_of Q.kind_of Q.op Q.fed Q.protocol in StaysInStep X (elections Q.protocol world.old.layout.rounds) world.old world.new self.old.queue.sender.0 self.old self.new }
+        ensures stored { let X = election_of Q.Ratifier in kind_in X (slice_get world.old.bus.side.senders self.old.queue.sender.0) ≡ Some kind.StoreLength → length (log_of world.new) ≤ self.new.words }
+        ensures in_step { let X = election_of Q.Ratifier in StaysInStep X (elections Q.protocol world.old.layout.rounds) world.old world.new self.old.queue.sender.0 self.old self.new }
     {
         let stores_length = kind_of(world, self.batch.sender()) == Some(Kind::StoreLength);
         let turn = self.step_on(world, word);
@@ -205,7 +205,7 @@ impl Sender {
     fn step_on<Q: Ratifier + Drop>(&mut self, world: &mut World<Q>, word: u32) -> Turn
         ensures queue { self.new.queue ≡ self.old.queue }
         ensures words { self.new.words ≡ self.old.words }
-        ensures answers { let X = election_of Q.kind_of Q.op Q.fed Q.protocol in Answers X (elections Q.protocol world.old.layout.rounds) world.old world.new self.old.queue.sender.0 self.old result self.new }
+        ensures answers { let X = election_of Q.Ratifier in Answers X (elections Q.protocol world.old.layout.rounds) world.old world.new self.old.queue.sender.0 self.old result self.new }
     {
         if !self.tell_on(world) {
             return Turn::Closed;
@@ -216,7 +216,7 @@ impl Sender {
     /// Where no tenure is begun, the world is told of what was accepted. Says whether it took all.
     fn tell_on<Q: Ratifier + Drop>(&mut self, world: &mut World<Q>) -> bool
         ensures rests { is_resting (slice_get world.old.bus.side.senders self.old.queue.sender.0) ≡ true → self.new ≡ record self.old { fresh = []; closes = false } }
-        ensures told { let X = election_of Q.kind_of Q.op Q.fed Q.protocol in is_resting (slice_get world.old.bus.side.senders self.old.queue.sender.0) ≡ true → Runs X world.old.bus (tellings self.old.queue.sender.0 self.old.fresh self.old.closes) world.new.bus }
+        ensures told { let X = election_of Q.Ratifier in is_resting (slice_get world.old.bus.side.senders self.old.queue.sender.0) ≡ true → Runs X world.old.bus (tellings self.old.queue.sender.0 self.old.fresh self.old.closes) world.new.bus }
         ensures takes { is_resting (slice_get world.old.bus.side.senders self.old.queue.sender.0) ≡ true → TakesTold world.old.bus.side.senders world.new.bus.side.senders self.old.queue.sender.0 self.old.fresh self.old.closes result }
         ensures busy { is_resting (slice_get world.old.bus.side.senders self.old.queue.sender.0) ≡ false → (self.new ≡ self.old) × (world.new ≡ world.old) × (result ≡ true) }
         ensures queue { self.new.queue ≡ self.old.queue }
@@ -234,7 +234,7 @@ impl Sender {
 
     /// Keeps what its next step is.
     fn look<Q: Ratifier + Drop>(&mut self, world: &World<Q>)
-        ensures { let X = election_of Q.kind_of Q.op Q.fed Q.protocol in self.new ≡ seen X (slice_get world.now.bus.side.senders self.old.queue.sender.0) self.old }
+        ensures { let X = election_of Q.Ratifier in self.new ≡ seen X (slice_get world.now.bus.side.senders self.old.queue.sender.0) self.old }
     {
         if let Some(core) = world.core(self.batch.sender()) {
             self.kind = core.kind();

@@ -1,7 +1,8 @@
 //! What a script of `replay` is answered with.
 
 ghost use Rattle.std.specs.Prelude.{◌≡◌, ℕ, List, IfOk, string_bytes};
-ghost use Rattle.bus_tenure.specs.Elections.{Elector, election_of, layout_of};
+ghost use Rattle.bus_tenure.specs.Elections.{Elector, election_of};
+ghost use Rattle.bus_world.specs.Playing.{layout_of};
 ghost use Rattle.bus_script.specs.Places.{refusal_line};
 ghost use Rattle.bus_replay.specs.Answers.{End, Prints, Ends, IsReplay};
 
@@ -32,7 +33,7 @@ fn answer_from<Q: Ratifier + Drop>(
     mut world: World<Q>,
     lines: Lines<'_>,
 ) -> Result<Answer, NoMemory>
-    ensures { let X = election_of Q.kind_of Q.op Q.fed Q.protocol in IfOk result (λ answer. (text : List ℕ) × (end : End (Elector Q)) × Prints X world.bus lines.entry text end × Ends X world.layout end text answer.outcome (string_bytes answer.text)) }
+    ensures { let X = election_of Q.Ratifier in IfOk result (λ answer. (text : List ℕ) × (end : End (Elector Q)) × Prints X world.bus lines.entry text end × Ends X world.layout end text answer.outcome (string_bytes answer.text)) }
 {
     let mut text = String::new(alloc);
     match play(alloc, &mut world, lines, &mut text)? {
@@ -53,8 +54,8 @@ fn answer_from<Q: Ratifier + Drop>(
 /// What is written for an input: the answers and the closing lines of a new bus of the shape that
 /// the script gives, with ratifiers of this kind; or the answers up to the first refusal.
 pub fn answer_to<Q: Ratifier + Drop>(alloc: Global, input: &[u8]) -> Result<Answer, NoMemory>
-    ensures { let X = election_of Q.kind_of Q.op Q.fed Q.protocol in
-        IfOk result (λ answer. IsReplay (λ shape. (X, layout_of Q.protocol shape.senders shape.rounds shape.rows shape.log_words)) input.now answer.outcome (string_bytes answer.text)) }
+    ensures { let X = election_of Q.Ratifier in
+        IfOk result (λ answer. IsReplay (λ shape. (X, layout_of Q.protocol shape)) input.now answer.outcome (string_bytes answer.text)) }
 {
     let mut lines = Lines::new(input);
     let Some(first) = lines.next_line() else {

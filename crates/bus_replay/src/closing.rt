@@ -57,7 +57,7 @@ fn push_all_given<Q: Ratifier + Drop>(
     world: &World<Q>,
     text: &mut String,
 ) -> Result<(), NoMemory>
-    ensures text { let X = election_of Q.kind_of Q.op Q.fed Q.protocol in
+    ensures text { let X = election_of Q.Ratifier in
         OnOk result ((trails : Trails) → Reached X world.now.layout world.now.bus trails
         → string_bytes text.new ≡ string_bytes text.old ++ given_text (given_by trails world.now.bus.receivers)) }
 {
@@ -74,7 +74,7 @@ pub fn push_closing<Q: Ratifier + Drop>(
     world: &World<Q>,
     text: &mut String,
 ) -> Result<(), NoMemory>
-    ensures text { let X = election_of Q.kind_of Q.op Q.fed Q.protocol in
+    ensures text { let X = election_of Q.Ratifier in
         OnOk result ((closing : List ℕ) × Closes X world.now closing × (string_bytes text.new ≡ string_bytes text.old ++ closing)) }
 {
     world.promises();

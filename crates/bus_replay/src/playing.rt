@@ -53,7 +53,7 @@ fn repeat<Q: Ratifier + Drop>(
 ) -> Result<Answer, StepFault>
     requires { 0 < times }
     ensures layout { world.new.layout ≡ world.old.layout }
-    ensures last { let X = election_of Q.kind_of Q.op Q.fed Q.protocol in IfOk result (λ last. Repeats X world.old.bus (event_told event.now) (times - 1) last world.new.bus) }
+    ensures last { let X = election_of Q.Ratifier in IfOk result (λ last. Repeats X world.old.bus (event_told event.now) (times - 1) last world.new.bus) }
     ensures fault { IfErr result (Refused world.old.bus (event_told event.now)) }
 {
     let mut last = world.step(event)?;
@@ -81,7 +81,7 @@ fn obey<Q: Ratifier + Drop>(
     text: &mut String,
 ) -> Result<Outcome, NoMemory>
     ensures layout { world.new.layout ≡ world.old.layout }
-    ensures obeyed { let X = election_of Q.kind_of Q.op Q.fed Q.protocol in IfOk result (λ outcome. (added : List ℕ) × IsObeyed X world.old.bus (line.entry.number, line.entry.bytes.now) outcome added world.new.bus × (string_bytes text.new ≡ string_bytes text.old ++ added)) }
+    ensures obeyed { let X = election_of Q.Ratifier in IfOk result (λ outcome. (added : List ℕ) × IsObeyed X world.old.bus (line.entry.number, line.entry.bytes.now) outcome added world.new.bus × (string_bytes text.new ≡ string_bytes text.old ++ added)) }
 {
     let Some(command) = command_of(alloc, line.bytes)? else {
         push_refusal(alloc, line.number, "BadLine", text)?;
@@ -107,7 +107,7 @@ pub fn play<Q: Ratifier + Drop>(
     text: &mut String,
 ) -> Result<Outcome, NoMemory>
     ensures layout { world.new.layout ≡ world.old.layout }
-    ensures played { let X = election_of Q.kind_of Q.op Q.fed Q.protocol in IfOk result (λ outcome. (added : List ℕ) × ArePlayed X world.old.bus lines.entry outcome added world.new.bus × (string_bytes text.new ≡ string_bytes text.old ++ added)) }
+    ensures played { let X = election_of Q.Ratifier in IfOk result (λ outcome. (added : List ℕ) × ArePlayed X world.old.bus lines.entry outcome added world.new.bus × (string_bytes text.new ≡ string_bytes text.old ++ added)) }
 {
     while let Some(line) = lines.next_line() {
         match obey(alloc, world, line, text)? {

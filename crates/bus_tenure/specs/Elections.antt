@@ -28,9 +28,13 @@ pub record ElectorKeeps {S : Type 0} (P : Protocol S Bool Verdict) (rounds n me 
   pub unbegun : (elections P rounds).has_begun e ≡ false → e ≡ (elections P rounds).started n me tt at
   pub unlost : (o : ℕ) → (elections P rounds).output e ≡ Some o → o ≡ me
 
--- what a sender goes by
-abbrev pub election_of : {S : Type 0} → (S → Option Kind) → (S → ℕ → Option Op) → (S → ℕ → ℕ → S) → Protocol S Bool Verdict → Election (Elector S)
-election_of kind op fed P = record {
+-- the members of a ratifier, as a bound names them together
+abbrev pub Ratifying : Type 0 → Type 1
+Ratifying S = record { kind_of : S → Option Kind; op : S → ℕ → Option Op; fed : S → ℕ → ℕ → S; protocol : Protocol S Bool Verdict }
+
+-- what a sender goes by, made of a ratifier's members one by one
+abbrev pub election_with : {S : Type 0} → (S → Option Kind) → (S → ℕ → Option Op) → (S → ℕ → ℕ → S) → Protocol S Bool Verdict → Election (Elector S)
+election_with kind op fed P = record {
   kind_of = election_kind (λ d. object_kind kind conciliator_kind d.object);
   op = election_op (decide_op op conciliator_op);
   fed = election_fed (decide_protocol P conciliator_protocol) (decide_fed P conciliator_protocol fed conciliator_fed);
@@ -40,6 +44,10 @@ election_of kind op fed P = record {
   started = λ n me rounds at. (elections P rounds).started n me tt at;
 }
 
+-- of all of them
+abbrev pub election_of : {S : Type 0} → Ratifying S → Election (Elector S)
+election_of q = election_with q.kind_of q.op q.fed q.protocol
+
 -- the sizes of a bus of so many senders, rounds, rows and log words
-abbrev pub layout_of : {S : Type 0} → Protocol S Bool Verdict → ℕ → ℕ → ℕ → ℕ → Layout
-layout_of P senders rounds rows capacity = record { senders = senders; rounds = rounds; rows = rows; width = (elections P rounds).width senders; capacity = capacity }
+abbrev pub layout_with : {S : Type 0} → Protocol S Bool Verdict → ℕ → ℕ → ℕ → ℕ → Layout
+layout_with P senders rounds rows capacity = record { senders = senders; rounds = rounds; rows = rows; width = (elections P rounds).width senders; capacity = capacity }

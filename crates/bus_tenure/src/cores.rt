@@ -8,7 +8,7 @@ ghost use Rattle.bus_batch.specs.declared.batches.Phase.TheVariants as queue_pha
 ghost use Rattle.bus_tenure.specs.Causes.{HasCause, IsCaused};
 ghost use Rattle.bus_tenure.specs.Core.{Core, row_at, words_of, is_closing, is_closed, is_empty, frame_len, has_room, Situation, LooksAtStage, GivesBack, resting, electing, holding, situation_at, situation_of, kind_at, op_at, rested, saw_stage, elected, fed_at, answer_of_stage, answer_of_election, answer_of_leaving, rest_at, answer_at, page_after};
 ghost use Rattle.bus_tenure.specs.declared.phases.Phase.TheVariants as phase;
-ghost use Rattle.bus_tenure.specs.Elections.{election_of, elections, layout_of};
+ghost use Rattle.bus_tenure.specs.Elections.{election_of, elections, layout_with};
 ghost use Rattle.bus_tenure.specs.Keeping.{IsUnderWay, IsInTenure, IsHolding, AreSizes};
 ghost use Rattle.bus_tenure.specs.Seen.{wants_at, turns_of, tenure_of, HasElection, AwaitsItsPage, GivesItBack, turn_without_step, held_by};
 
@@ -73,8 +73,8 @@ impl<Q: Ratifier + Drop> SenderCore<Q> {
         requires rounds_few { rounds ≤ 8 }
         requires rows_few { rows ≤ 2 ^ 16 }
         requires log_few { log_words ≤ 2 ^ 20 }
-        requires room { words_of (layout_of Q.protocol senders rounds rows log_words) ≤ 2 ^ 63 }
-        ensures { result ≡ record { layout = layout_of Q.protocol senders rounds rows log_words; me = me.0; queue = record { sender = me; first = 0; messages = []; phase = queue_phase.Open; busy = false }; least = 0; phase = phase.Resting } }
+        requires room { words_of (layout_with Q.protocol senders rounds rows log_words) ≤ 2 ^ 63 }
+        ensures { result ≡ record { layout = layout_with Q.protocol senders rounds rows log_words; me = me.0; queue = record { sender = me; first = 0; messages = []; phase = queue_phase.Open; busy = false }; least = 0; phase = phase.Resting } }
     {
         SenderCore {
             sizes: Sizes {
@@ -224,7 +224,7 @@ impl<Q: Ratifier + Drop> SenderCore<Q> {
 
     /// What the next step is for; none where none is due.
     pub fn kind(&self) -> Option<Kind>
-        ensures kind { let X = election_of Q.kind_of Q.op Q.fed Q.protocol in result ≡ kind_at X (situation_of X self.now) }
+        ensures kind { let X = election_of Q.Ratifier in result ≡ kind_at X (situation_of X self.now) }
         ensures cause { IfSome result (λ k. HasCause Q.protocol self.now k) }
     {
         match &self.phase {
@@ -253,14 +253,14 @@ impl<Q: Ratifier + Drop> SenderCore<Q> {
 
     /// Each kind of step has its cause in what the sender holds before it.
     pub fn has_causes(&self)
-        ensures { let X = election_of Q.kind_of Q.op Q.fed Q.protocol in IsCaused X Q.protocol self.now }
+        ensures { let X = election_of Q.Ratifier in IsCaused X Q.protocol self.now }
     {
         let _kind = self.kind();
     }
 
     /// The next step asks for a random word.
     pub fn wants_word(&self) -> bool
-        ensures { let X = election_of Q.kind_of Q.op Q.fed Q.protocol in result ≡ wants_at X (situation_of X self.now) }
+        ensures { let X = election_of Q.Ratifier in result ≡ wants_at X (situation_of X self.now) }
     {
         match &self.phase {
             Phase::Electing { election, .. } => match election.owner() {
@@ -274,7 +274,7 @@ impl<Q: Ratifier + Drop> SenderCore<Q> {
     /// How many turns the election takes at most, with the one that takes the page; 0 where none is
     /// begun.
     pub fn turns_left(&self) -> u64
-        ensures turns { let X = election_of Q.kind_of Q.op Q.fed Q.protocol in result ≡ turns_of X self.now.phase }
+        ensures turns { let X = election_of Q.Ratifier in result ≡ turns_of X self.now.phase }
         ensures running { HasElection self.now.phase → 1 ≤ result }
     {
         match &self.phase {
@@ -297,7 +297,7 @@ impl<Q: Ratifier + Drop> SenderCore<Q> {
     fn holder_step(&self, tenure: u64, page: Page, stored: u64, published: bool) -> Op
         requires { IsHolding self.now tenure page.words stored published }
         ensures below { register result < words_of self.now.layout }
-        ensures step { let X = election_of Q.kind_of Q.op Q.fed Q.protocol in (word : ℕ) → Some result ≡ op_at X self.now (holding self.now tenure page stored published) word }
+        ensures step { let X = election_of Q.Ratifier in (word : ℕ) → Some result ≡ op_at X self.now (holding self.now tenure page stored published) word }
     {
         match self.hold(page, stored, published) {
             Hold::Word => {
@@ -312,7 +312,7 @@ impl<Q: Ratifier + Drop> SenderCore<Q> {
 
     /// The next step; none where none is due. Takes nothing and changes nothing.
     pub fn next(&self, word: u32) -> Option<Op>
-        ensures step { let X = election_of Q.kind_of Q.op Q.fed Q.protocol in result ≡ op_at X self.now (situation_of X self.now) word }
+        ensures step { let X = election_of Q.Ratifier in result ≡ op_at X self.now (situation_of X self.now) word }
         ensures below { IfSome result (λ o. register o < words_of self.now.layout) }
     {
         match &self.phase {
@@ -337,7 +337,7 @@ impl<Q: Ratifier + Drop> SenderCore<Q> {
 
     /// The answer where no step is due; Going where one is, or a page is to be laid.
     pub fn rest(&self) -> Turn
-        ensures { let X = election_of Q.kind_of Q.op Q.fed Q.protocol in result ≡ rest_at (situation_of X self.now) }
+        ensures { let X = election_of Q.Ratifier in result ≡ rest_at (situation_of X self.now) }
     {
         match &self.phase {
             Phase::Resting => match self.turn_at_rest() {
@@ -352,7 +352,7 @@ impl<Q: Ratifier + Drop> SenderCore<Q> {
     fn see_stage(&mut self, got: u64) -> Turn
         requires rests { self.old.phase ≡ phase.Resting }
         requires looks { resting self.old ≡ LooksAtStage }
-        ensures state { let X = election_of Q.kind_of Q.op Q.fed Q.protocol in self.new ≡ saw_stage X self.old got }
+        ensures state { let X = election_of Q.Ratifier in self.new ≡ saw_stage X self.old got }
         ensures answer { result ≡ answer_of_stage self.old got }
     {
         let tenure = got / 2;
@@ -376,9 +376,9 @@ impl<Q: Ratifier + Drop> SenderCore<Q> {
     /// Takes the next step of its election, or, elected, takes the page.
     fn elect(&mut self, got: u64, word: u32) -> Turn
         requires elects { HasElection self.old.phase }
-        requires steps { let X = election_of Q.kind_of Q.op Q.fed Q.protocol in IsSome (op_at X self.old (situation_of X self.old) word) }
-        ensures state { let X = election_of Q.kind_of Q.op Q.fed Q.protocol in self.new ≡ fed_at X self.old (situation_of X self.old) got word }
-        ensures answer { let X = election_of Q.kind_of Q.op Q.fed Q.protocol in result ≡ answer_at X self.old (situation_of X self.old) got word }
+        requires steps { let X = election_of Q.Ratifier in IsSome (op_at X self.old (situation_of X self.old) word) }
+        ensures state { let X = election_of Q.Ratifier in self.new ≡ fed_at X self.old (situation_of X self.old) got word }
+        ensures answer { let X = election_of Q.Ratifier in result ≡ answer_at X self.old (situation_of X self.old) got word }
     {
         let Phase::Electing { tenure, election } = &mut self.phase else {
             unreachable!()
@@ -439,8 +439,8 @@ impl<Q: Ratifier + Drop> SenderCore<Q> {
     /// Goes on after a step of a holder of the page.
     fn hold_on(&mut self, tenure: u64, page: Page, stored: u64, published: bool) -> Turn
         requires { self.old.phase ≡ phase.Holding tenure page stored published }
-        ensures state { let X = election_of Q.kind_of Q.op Q.fed Q.protocol in (got : ℕ) (word : ℕ) → self.new ≡ fed_at X self.old (holding self.old tenure page stored published) got word }
-        ensures answer { let X = election_of Q.kind_of Q.op Q.fed Q.protocol in (got : ℕ) (word : ℕ) → result ≡ answer_at X self.old (holding self.old tenure page stored published) got word }
+        ensures state { let X = election_of Q.Ratifier in (got : ℕ) (word : ℕ) → self.new ≡ fed_at X self.old (holding self.old tenure page stored published) got word }
+        ensures answer { let X = election_of Q.Ratifier in (got : ℕ) (word : ℕ) → result ≡ answer_at X self.old (holding self.old tenure page stored published) got word }
     {
         match self.hold(page, stored, published) {
             Hold::Word => {
@@ -467,9 +467,9 @@ impl<Q: Ratifier + Drop> SenderCore<Q> {
 
     /// The step that `next` told for the same random word was taken, and found `got`.
     pub fn feed(&mut self, got: u64, word: u32) -> Turn
-        requires { let X = election_of Q.kind_of Q.op Q.fed Q.protocol in IsSome (op_at X self.old (situation_of X self.old) word) }
-        ensures state { let X = election_of Q.kind_of Q.op Q.fed Q.protocol in self.new ≡ fed_at X self.old (situation_of X self.old) got word }
-        ensures answer { let X = election_of Q.kind_of Q.op Q.fed Q.protocol in result ≡ answer_at X self.old (situation_of X self.old) got word }
+        requires { let X = election_of Q.Ratifier in IsSome (op_at X self.old (situation_of X self.old) word) }
+        ensures state { let X = election_of Q.Ratifier in self.new ≡ fed_at X self.old (situation_of X self.old) got word }
+        ensures answer { let X = election_of Q.Ratifier in result ≡ answer_at X self.old (situation_of X self.old) got word }
     {
         match self.phase {
             Phase::Resting => self.see_stage(got),
@@ -512,7 +512,7 @@ impl<Q: Ratifier + Drop> SenderCore<Q> {
 
     /// The page is to be given back, and stands before it yet.
     pub fn gives_back(&self) -> bool
-        ensures { let X = election_of Q.kind_of Q.op Q.fed Q.protocol in IsTrue result ↔ GivesItBack (situation_of X self.now) }
+        ensures { let X = election_of Q.Ratifier in IsTrue result ↔ GivesItBack (situation_of X self.now) }
     {
         match self.phase {
             Phase::Holding {
@@ -554,9 +554,9 @@ impl<Q: Ratifier + Drop> SenderCore<Q> {
 
     /// Takes the page from it, to be given back.
     pub fn hand(&mut self) -> Page
-        requires { let X = election_of Q.kind_of Q.op Q.fed Q.protocol in GivesItBack (situation_of X self.old) }
-        ensures page { let X = election_of Q.kind_of Q.op Q.fed Q.protocol in (t : ℕ) (page : Page) (leaving : Leaving) → situation_of X self.old ≡ GivesBack t page leaving → result ≡ page_after self.old t page leaving }
-        ensures state { let X = election_of Q.kind_of Q.op Q.fed Q.protocol in (t : ℕ) (page : Page) (leaving : Leaving) → situation_of X self.old ≡ GivesBack t page leaving → self.new ≡ record self.old { phase = phase.Giving t leaving } }
+        requires { let X = election_of Q.Ratifier in GivesItBack (situation_of X self.old) }
+        ensures page { let X = election_of Q.Ratifier in (t : ℕ) (page : Page) (leaving : Leaving) → situation_of X self.old ≡ GivesBack t page leaving → result ≡ page_after self.old t page leaving }
+        ensures state { let X = election_of Q.Ratifier in (t : ℕ) (page : Page) (leaving : Leaving) → situation_of X self.old ≡ GivesBack t page leaving → self.new ≡ record self.old { phase = phase.Giving t leaving } }
     {
         if let Phase::Holding {
             tenure,

@@ -10,7 +10,7 @@ use bus_adoptcommit::Ratifier;
 
 /// At the turn that begins a tenure the bound of an election is left, and each step takes one turn.
 pub fn elections_are_bounded<Q: Ratifier>()
-    ensures { IsBounded (election_of Q.kind_of Q.op Q.fed Q.protocol) election_bound }
+    ensures { IsBounded (election_of Q.Ratifier) election_bound }
 {}
 
 /// No sender that rests takes a page, stores a word of a log or falls back; none stores a length

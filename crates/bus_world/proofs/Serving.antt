@@ -24,7 +24,7 @@ use Rattle.bus_ownerbits.specs.ElectionNames.{election_named}
 use Rattle.bus_ownerbits.specs.declared.stages.Stage.{Stage}
 use Rattle.bus_ownerbits.specs.declared.stages.Stage.TheVariants as stage
 use Rattle.bus_tenure.specs.Core.{Election, Layout}
-use Rattle.bus_tenure.specs.Elections.{election_of, elections, layout_of}
+use Rattle.bus_tenure.specs.Elections.{election_with, elections, layout_with}
 use Rattle.bus_world.proofs.EventTrails.{announce_first}
 
 pub record Serves {E : Type 0} (X : Election E) (P : Protocol E (Unit {0}) ℕ) (x : Layout) : Type 0 where
@@ -72,8 +72,8 @@ module _ {S : Type 0} (kind_of : S → Option Kind) (own_kinds : (s : S) (k : Ki
 
 -- the election of any ratifier, of any sizes
 module _ {S : Type 0} (kind_of : S → Option Kind) (op : S → ℕ → Option Op) (fed : S → ℕ → ℕ → S) (P : Protocol S Bool Verdict) (named : (s : S) (word : ℕ) → is_some (kind_of s) ≡ is_some (op s word)) (own_kinds : (s : S) (k : Kind) → kind_of s ≡ Some k → IsOfRatifier k)
-    (senders rounds rows capacity : ℕ) (laws : Laws (election_of kind_of op fed P).op (election_of kind_of op fed P).fed (elections P rounds) OneOwner) where
-  pub serves : Serves (election_of kind_of op fed P) (elections P rounds) (layout_of P senders rounds rows capacity)
+    (senders rounds rows capacity : ℕ) (laws : Laws (election_with kind_of op fed P).op (election_with kind_of op fed P).fed (elections P rounds) OneOwner) where
+  pub serves : Serves (election_with kind_of op fed P) (elections P rounds) (layout_with P senders rounds rows capacity)
   serves = record {
     laws = laws;
     width = refl;

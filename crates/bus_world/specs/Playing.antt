@@ -1,11 +1,15 @@
 -- The bus as a program holds it, and what it answers to each event.
-use Rattle.std.specs.Prelude.{◌≡◌, ℕ, ◌<◌, ◌≤◌, ◌⊎◌, Option, Some, None, List, [], ◌∷◌, length, slice_get, slice_index, slice_set}
+use Rattle.std.specs.Prelude.{◌≡◌, ℕ, ◌<◌, ◌≤◌, ◌⊎◌, Bool, Option, Some, None, List, [], ◌∷◌, length, slice_get, slice_index, slice_set}
 use Rattle.bus_batch.specs.Batches.{next_of, CanPut, IsPutFault, CanClose, IsCloseFault}
 use Rattle.bus_batch.specs.declared.batches.PutFault.{PutFault}
 use Rattle.bus_batch.specs.declared.batches.CloseFault.{CloseFault}
 use Rattle.bus_deliverylog.specs.Receiving.{Receiving}
 use Rattle.bus_deliverylog.specs.declared.receiving.RecvTurn.{RecvTurn}
 use Rattle.bus_tenure.specs.Core.{Core, Election, Layout, log_at, situation_of, op_at, answer_at}
+use Rattle.bus_tenure.specs.Elections.{layout_with}
+use Rattle.bus_tenure.specs.declared.pages.Page.{Page}
+use Rattle.bus_register.specs.Protocol.{Protocol}
+use Rattle.bus_adoptcommit.specs.declared.verdicts.Verdict.{Verdict}
 use Rattle.bus_world.specs.Log.{read}
 use Rattle.bus_world.specs.Turning.{found}
 use Rattle.bus_world.specs.World.{Bus, Event, Put, Close, Turn, Recv, Happens, RecvDoes, IsNew, IsEvent}
@@ -24,11 +28,19 @@ pub record Sitting (E : Type 0) : Type 0 where
   pub layout : Layout
   pub bus : Bus E
 
+-- the bus of these parts
+abbrev pub sitting_of : {E : Type 0} → Layout → List ℕ → Option Page → List (Core E) → List ℕ → List Receiving → Sitting E
+sitting_of x words home senders owners receivers = record { layout = x; bus = record { side = record { words = words; home = home; senders = senders; owners = owners }; receivers = receivers } }
+
 -- the words of its log below the length
 abbrev pub log_of : {E : Type 0} → Sitting E → List ℕ
 log_of z = read (slice_index z.bus.side.words) (log_at z.layout) (slice_index z.bus.side.words 0)
 
 -- ---- shapes
+-- the words of a bus of this shape, over such ratifiers
+abbrev pub layout_of : {S : Type 0} → Protocol S Bool Verdict → Shape → Layout
+layout_of P shape = layout_with P shape.senders shape.rounds shape.rows shape.log_words
+
 abbrev pub Within : ℕ → ℕ → ℕ → Type 0
 Within low high n = (low ≤ n) × (n ≤ high)
 

@@ -1,7 +1,7 @@
 //! What holds of the bus, whatever happens to it.
 
 ghost use Rattle.std.specs.Prelude.{◌≡◌, ℕ, List};
-ghost use Rattle.bus_tenure.specs.Elections.{Elector, election_of, layout_of};
+ghost use Rattle.bus_tenure.specs.Elections.{Elector, election_of, layout_with};
 ghost use Rattle.bus_world.specs.Bus.{IsLayout};
 ghost use Rattle.bus_world.specs.Playing.{AllAnswered};
 ghost use Rattle.bus_world.specs.Trails.{Trails, Reached, IsPromised, Played};
@@ -14,9 +14,9 @@ use bus_ownerbits::laws::election_is_lawful;
 /// Whatever trails lead to a bus of at most 8 senders, up to 2^40 tenures and fewer than 2^40 log
 /// words, the promise holds of them, with the order and the owners that its log spells.
 pub fn trails_keep_promises<Q: Ratifier>()
-    ensures { (senders rounds rows capacity : ℕ) → IsLayout (layout_of Q.protocol senders rounds rows capacity)
-        → (bus : Bus (Elector Q)) (trails : Trails) → Reached (election_of Q.kind_of Q.op Q.fed Q.protocol) (layout_of Q.protocol senders rounds rows capacity) bus trails
-        → IsPromised (layout_of Q.protocol senders rounds rows capacity) bus trails }
+    ensures { (senders rounds rows capacity : ℕ) → IsLayout (layout_with Q.protocol senders rounds rows capacity)
+        → (bus : Bus (Elector Q)) (trails : Trails) → Reached (election_of Q.Ratifier) (layout_with Q.protocol senders rounds rows capacity) bus trails
+        → IsPromised (layout_with Q.protocol senders rounds rows capacity) bus trails }
 {
     election_is_lawful::<Q>();
 }
@@ -24,9 +24,9 @@ pub fn trails_keep_promises<Q: Ratifier>()
 /// And whatever happens to such a bus next, the promise stays: its order, its owners and what each
 /// receiver was given are extended, and never otherwise changed.
 pub fn promises_only_grow<Q: Ratifier>()
-    ensures { (senders rounds rows capacity : ℕ) → IsLayout (layout_of Q.protocol senders rounds rows capacity)
-        → (old : Bus (Elector Q)) (events : List Event) (new : Bus (Elector Q)) → AllAnswered (election_of Q.kind_of Q.op Q.fed Q.protocol) old events new
-        → Played (election_of Q.kind_of Q.op Q.fed Q.protocol) (layout_of Q.protocol senders rounds rows capacity) old events new }
+    ensures { (senders rounds rows capacity : ℕ) → IsLayout (layout_with Q.protocol senders rounds rows capacity)
+        → (old : Bus (Elector Q)) (events : List Event) (new : Bus (Elector Q)) → AllAnswered (election_of Q.Ratifier) old events new
+        → Played (election_of Q.Ratifier) (layout_with Q.protocol senders rounds rows capacity) old events new }
 {
     election_is_lawful::<Q>();
 }

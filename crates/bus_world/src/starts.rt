@@ -3,7 +3,7 @@
 ghost use Rattle.std.specs.Prelude.{◌≡◌, ℕ, ◌+◌, ◌*◌, ◌<◌, ◌≤◌, ◌^◌, [], length, slice_get, Some, IfOk};
 ghost use Rattle.bus_batch.specs.Reading.{HasRead};
 ghost use Rattle.bus_tenure.specs.Core.{words_of};
-ghost use Rattle.bus_tenure.specs.Elections.{layout_of};
+ghost use Rattle.bus_world.specs.Playing.{layout_of};
 ghost use Rattle.bus_world.specs.Playing.{IsServed};
 ghost use Rattle.bus_world.specs.Starting.{AreNewCores, AreNewReaders};
 
@@ -20,8 +20,8 @@ pub fn new_senders<Q: Ratifier + Drop>(
     shape: Shape,
 ) -> Result<Vec<SenderCore<Q>>, NoMemory>
     requires served { IsServed shape }
-    requires room { words_of (layout_of Q.protocol shape.senders shape.rounds shape.rows shape.log_words) ≤ 2 ^ 63 }
-    ensures { IfOk result (λ senders. AreNewCores (layout_of Q.protocol shape.senders shape.rounds shape.rows shape.log_words) shape.senders senders.items) }
+    requires room { words_of (layout_of Q.protocol shape) ≤ 2 ^ 63 }
+    ensures { IfOk result (λ senders. AreNewCores (layout_of Q.protocol shape) shape.senders senders.items) }
 {
     let mut senders = Vec::new(alloc);
     for me in 0..shape.senders {

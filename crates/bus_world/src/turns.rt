@@ -21,8 +21,8 @@ use bus_tenure::{Page, SenderCore, Turn};
 
 /// The page comes home from a sender that is to give it back.
 fn hand_home<Q: Ratifier + Drop>(home: &mut Option<Page>, core: &mut SenderCore<Q>)
-    ensures home { let X = election_of Q.kind_of Q.op Q.fed Q.protocol in home.new ≡ home_handed core.old (situation_of X core.old) home.old }
-    ensures core { let X = election_of Q.kind_of Q.op Q.fed Q.protocol in core.new ≡ handed core.old (situation_of X core.old) }
+    ensures home { let X = election_of Q.Ratifier in home.new ≡ home_handed core.old (situation_of X core.old) home.old }
+    ensures core { let X = election_of Q.Ratifier in core.new ≡ handed core.old (situation_of X core.old) }
 {
     if core.gives_back() {
         *home = Some(core.hand());
@@ -32,11 +32,11 @@ fn hand_home<Q: Ratifier + Drop>(home: &mut Option<Page>, core: &mut SenderCore<
 /// The step that is due, where one is, and the sender's answer.
 fn take_step<Q: Ratifier + Drop>(cells: &mut Cells, core: &mut SenderCore<Q>, word: u32) -> Turn
     requires room { length cells.old ≡ words_of core.old.layout }
-    requires sums { let X = election_of Q.kind_of Q.op Q.fed Q.protocol in (o : Op) → op_at X core.old (situation_of X core.old) word ≡ Some o → SumFits o (slice_index cells.old (register o)) }
-    requires goes { let X = election_of Q.kind_of Q.op Q.fed Q.protocol in (t : ℕ) (e : Elector Q) → situation_of X core.old ≡ Elects t e → IsSome (X.op e word) }
-    ensures words { let X = election_of Q.kind_of Q.op Q.fed Q.protocol in cells.new ≡ stepped cells.old (op_at X core.old (situation_of X core.old) word) }
-    ensures core { let X = election_of Q.kind_of Q.op Q.fed Q.protocol in core.new ≡ fed_at X core.old (situation_of X core.old) (found cells.old (op_at X core.old (situation_of X core.old) word)) word }
-    ensures answer { let X = election_of Q.kind_of Q.op Q.fed Q.protocol in result ≡ answer_at X core.old (situation_of X core.old) (found cells.old (op_at X core.old (situation_of X core.old) word)) word }
+    requires sums { let X = election_of Q.Ratifier in (o : Op) → op_at X core.old (situation_of X core.old) word ≡ Some o → SumFits o (slice_index cells.old (register o)) }
+    requires goes { let X = election_of Q.Ratifier in (t : ℕ) (e : Elector Q) → situation_of X core.old ≡ Elects t e → IsSome (X.op e word) }
+    ensures words { let X = election_of Q.Ratifier in cells.new ≡ stepped cells.old (op_at X core.old (situation_of X core.old) word) }
+    ensures core { let X = election_of Q.Ratifier in core.new ≡ fed_at X core.old (situation_of X core.old) (found cells.old (op_at X core.old (situation_of X core.old) word)) word }
+    ensures answer { let X = election_of Q.Ratifier in result ≡ answer_at X core.old (situation_of X core.old) (found cells.old (op_at X core.old (situation_of X core.old) word)) word }
 {
     let Some(op) = core.next(word) else {
         return core.rest();
@@ -65,12 +65,12 @@ pub fn turn_sender<Q: Ratifier + Drop>(
     word: u32,
 ) -> Turn
     requires room { length cells.old ≡ words_of core.old.layout }
-    requires sums { let X = election_of Q.kind_of Q.op Q.fed Q.protocol in (o : Op) → op_at X core.old (situation_of X core.old) word ≡ Some o → SumFits o (slice_index cells.old (register o)) }
-    requires goes { let X = election_of Q.kind_of Q.op Q.fed Q.protocol in (t : ℕ) (e : Elector Q) → situation_of X core.old ≡ Elects t e → IsSome (X.op e word) }
-    ensures words { let X = election_of Q.kind_of Q.op Q.fed Q.protocol in cells.new ≡ stepped cells.old (op_at X core.old (situation_of X core.old) word) }
-    ensures home { let X = election_of Q.kind_of Q.op Q.fed Q.protocol in home.new ≡ home_after core.old (situation_of X core.old) home.old }
-    ensures core { let X = election_of Q.kind_of Q.op Q.fed Q.protocol in core.new ≡ core_after X core.old (situation_of X core.old) home.old (found cells.old (op_at X core.old (situation_of X core.old) word)) word }
-    ensures answer { let X = election_of Q.kind_of Q.op Q.fed Q.protocol in result ≡ answer_at X core.old (situation_of X core.old) (found cells.old (op_at X core.old (situation_of X core.old) word)) word }
+    requires sums { let X = election_of Q.Ratifier in (o : Op) → op_at X core.old (situation_of X core.old) word ≡ Some o → SumFits o (slice_index cells.old (register o)) }
+    requires goes { let X = election_of Q.Ratifier in (t : ℕ) (e : Elector Q) → situation_of X core.old ≡ Elects t e → IsSome (X.op e word) }
+    ensures words { let X = election_of Q.Ratifier in cells.new ≡ stepped cells.old (op_at X core.old (situation_of X core.old) word) }
+    ensures home { let X = election_of Q.Ratifier in home.new ≡ home_after core.old (situation_of X core.old) home.old }
+    ensures core { let X = election_of Q.Ratifier in core.new ≡ core_after X core.old (situation_of X core.old) home.old (found cells.old (op_at X core.old (situation_of X core.old) word)) word }
+    ensures answer { let X = election_of Q.Ratifier in result ≡ answer_at X core.old (situation_of X core.old) (found cells.old (op_at X core.old (situation_of X core.old) word)) word }
 {
     hand_home(home, core);
     let turn = take_step(cells, core, word);

@@ -6,13 +6,13 @@ ghost use Rattle.bus_register.specs.declared.registers.SenderNo.{SenderNo as Num
 ghost use Rattle.bus_batch.specs.Frames.{Frame, AreFrames, Spells, log_words, order_of};
 ghost use Rattle.bus_deliverylog.specs.Orders.{order_held};
 ghost use Rattle.bus_deliverylog.specs.Receiving.{Receiving};
-ghost use Rattle.bus_tenure.specs.Elections.{Elector, election_of, elections, layout_of};
+ghost use Rattle.bus_tenure.specs.Elections.{Elector, election_of, elections};
 ghost use Rattle.bus_world.specs.declared.events.Answer.TheVariants as answer;
 ghost use Rattle.bus_world.specs.Headline.{given};
 ghost use Rattle.bus_world.specs.World.{Put, Close, Turn as SenderTurn, Recv, IsEvent, Happens, given_at};
 ghost use Rattle.bus_world.specs.Telling.{Tells, SenderCauses, EventCauses};
 ghost use Rattle.bus_world.specs.Trails.{Trails, no_trails, Reached, IsPromised, Takers, Follows, Played, Stops};
-ghost use Rattle.bus_world.specs.Playing.{event_told, Answers, PutGives, CloseGives, Refused, IsMade, MakeRefused, log_of};
+ghost use Rattle.bus_world.specs.Playing.{event_told, layout_of, Answers, PutGives, CloseGives, Refused, IsMade, MakeRefused, log_of};
 
 use crate::events::{Answer, Event, PlayFault, StepFault};
 use crate::shapes::{MakeFault, Shape};
@@ -42,22 +42,22 @@ pub struct World<Q: Ratifier> {
 
 impl<Q: Ratifier> Model for World<Q> {
     ghost use Rattle.std.specs.Prelude.{map};
-    ghost use Rattle.bus_tenure.specs.Elections.{Elector, election_of, elections, layout_of};
-    ghost use Rattle.bus_world.specs.Playing.{Sitting};
+    ghost use Rattle.bus_tenure.specs.Elections.{Elector, election_with, elections};
+    ghost use Rattle.bus_world.specs.Playing.{Sitting, layout_of, sitting_of};
     ghost use Rattle.bus_world.specs.Trails.{IsSitting};
 
     ghost Value = { Sitting (Elector Q) };
 
-    ghost view = { λ w. record { layout = layout_of Q.protocol w.shape.senders w.shape.rounds w.shape.rows w.shape.log_words; bus = record { side = record { words = w.cells; home = w.home; senders = w.senders.items; owners = map (λ s. s.0) w.owners.items }; receivers = w.receivers.items } } };
+    ghost view = { λ w. sitting_of (layout_of Q.protocol w.shape) w.cells w.home w.senders.items (map (λ s. s.0) w.owners.items) w.receivers.items };
 
-    ghost invariant = { λ w. IsSitting (election_of Q.kind_of Q.op Q.fed Q.protocol) (elections Q.protocol w.shape.rounds) (record { layout = layout_of Q.protocol w.shape.senders w.shape.rounds w.shape.rows w.shape.log_words; bus = record { side = record { words = w.cells; home = w.home; senders = w.senders.items; owners = map (λ s. s.0) w.owners.items }; receivers = w.receivers.items } }) };
+    ghost invariant = { λ w. IsSitting (election_with Q.kind_of Q.op Q.fed Q.protocol) (elections Q.protocol w.shape.rounds) (sitting_of (layout_of Q.protocol w.shape) w.cells w.home w.senders.items (map (λ s. s.0) w.owners.items) w.receivers.items) };
 }
 
 impl<Q: Ratifier + Drop> World<Q> {
     /// A new bus, with its words at zero and its page at home.
     pub fn new(alloc: Global, shape: Shape) -> Result<World<Q>, MakeFault>
-        ensures made { IfOk result (IsMade (layout_of Q.protocol shape.senders shape.rounds shape.rows shape.log_words) shape) }
-        ensures begins { let X = election_of Q.kind_of Q.op Q.fed Q.protocol in IfOk result (λ world. Reached X world.layout world.bus no_trails) }
+        ensures made { IfOk result (IsMade (layout_of Q.protocol shape) shape) }
+        ensures begins { let X = election_of Q.Ratifier in IfOk result (λ world. Reached X world.layout world.bus no_trails) }
         ensures fault { IfErr result (MakeRefused shape) }
     {
         if let Some(fault) = shape.fault() {
@@ -83,7 +83,7 @@ impl<Q: Ratifier + Drop> World<Q> {
     fn put_at(&mut self, sender: u64, bytes: &[u8]) -> Result<u64, StepFault>
         ensures bytes { All (λ byte. byte < 256) bytes.now }
         ensures layout { self.new.layout ≡ self.old.layout }
-        ensures happens { let X = election_of Q.kind_of Q.op Q.fed Q.protocol in Happens X self.old.bus (Put sender bytes.now) self.new.bus }
+        ensures happens { let X = election_of Q.Ratifier in Happens X self.old.bus (Put sender bytes.now) self.new.bus }
         ensures number { IfOk result (PutGives (slice_get self.old.bus.side.senders sender) (length bytes.now)) }
         ensures fault { IfErr result (Refused self.old.bus (Put sender bytes.now)) }
         ensures refused { OnErr result (self.new ≡ self.old) }
@@ -98,7 +98,7 @@ impl<Q: Ratifier + Drop> World<Q> {
     /// An end mark waits at a sender.
     fn close_at(&mut self, sender: u64) -> Result<(), StepFault>
         ensures layout { self.new.layout ≡ self.old.layout }
-        ensures happens { let X = election_of Q.kind_of Q.op Q.fed Q.protocol in Happens X self.old.bus (Close sender) self.new.bus }
+        ensures happens { let X = election_of Q.Ratifier in Happens X self.old.bus (Close sender) self.new.bus }
         ensures could { OnOk result (CloseGives (slice_get self.old.bus.side.senders sender)) }
         ensures fault { IfErr result (Refused self.old.bus (Close sender)) }
         ensures refused { OnErr result (self.new ≡ self.old) }
@@ -113,9 +113,9 @@ impl<Q: Ratifier + Drop> World<Q> {
     /// A sender takes a turn.
     fn turn_at(&mut self, sender: u64, word: u32) -> Result<Answer, StepFault>
         ensures layout { self.new.layout ≡ self.old.layout }
-        ensures happens { let X = election_of Q.kind_of Q.op Q.fed Q.protocol in Happens X self.old.bus (SenderTurn sender word) self.new.bus }
-        ensures answer { let X = election_of Q.kind_of Q.op Q.fed Q.protocol in IfOk result (λ a. Answers X self.old.bus (SenderTurn sender word) a self.new.bus) }
-        ensures causes { let X = election_of Q.kind_of Q.op Q.fed Q.protocol in SenderCauses X Q.protocol (slice_get self.old.bus.side.senders sender) }
+        ensures happens { let X = election_of Q.Ratifier in Happens X self.old.bus (SenderTurn sender word) self.new.bus }
+        ensures answer { let X = election_of Q.Ratifier in IfOk result (λ a. Answers X self.old.bus (SenderTurn sender word) a self.new.bus) }
+        ensures causes { let X = election_of Q.Ratifier in SenderCauses X Q.protocol (slice_get self.old.bus.side.senders sender) }
         ensures fault { IfErr result (Refused self.old.bus (SenderTurn sender word)) }
         ensures refused { OnErr result (self.new ≡ self.old) }
     {
@@ -133,8 +133,8 @@ impl<Q: Ratifier + Drop> World<Q> {
     /// A receiver takes a turn.
     fn recv_at(&mut self, receiver: u64) -> Result<Answer, StepFault>
         ensures layout { self.new.layout ≡ self.old.layout }
-        ensures happens { let X = election_of Q.kind_of Q.op Q.fed Q.protocol in Happens X self.old.bus (Recv receiver) self.new.bus }
-        ensures answer { let X = election_of Q.kind_of Q.op Q.fed Q.protocol in IfOk result (λ a. Answers X self.old.bus (Recv receiver) a self.new.bus) }
+        ensures happens { let X = election_of Q.Ratifier in Happens X self.old.bus (Recv receiver) self.new.bus }
+        ensures answer { let X = election_of Q.Ratifier in IfOk result (λ a. Answers X self.old.bus (Recv receiver) a self.new.bus) }
         ensures fault { IfErr result (Refused self.old.bus (Recv receiver)) }
         ensures refused { OnErr result (self.new ≡ self.old) }
     {
@@ -149,8 +149,8 @@ impl<Q: Ratifier + Drop> World<Q> {
     /// A message is put into the batch of a sender, and gets this number. Takes no memory.
     pub fn put(&mut self, sender: SenderNo, bytes: &[u8]) -> Result<u64, StepFault>
         ensures layout { self.new.layout ≡ self.old.layout }
-        ensures happens { let X = election_of Q.kind_of Q.op Q.fed Q.protocol in Happens X self.old.bus (Put sender.0 bytes.now) self.new.bus }
-        ensures follows { let X = election_of Q.kind_of Q.op Q.fed Q.protocol in
+        ensures happens { let X = election_of Q.Ratifier in Happens X self.old.bus (Put sender.0 bytes.now) self.new.bus }
+        ensures follows { let X = election_of Q.Ratifier in
             IfOk result (λ number. Follows X self.old.layout self.old.bus (Put sender.0 bytes.now) (answer.Number number) self.new.bus) }
         ensures number { IfOk result (PutGives (slice_get self.old.bus.side.senders sender.0) (length bytes.now)) }
         ensures fault { IfErr result (Refused self.old.bus (Put sender.0 bytes.now)) }
@@ -164,8 +164,8 @@ impl<Q: Ratifier + Drop> World<Q> {
     /// A sender is to close the order. Takes no memory.
     pub fn close(&mut self, sender: SenderNo) -> Result<(), StepFault>
         ensures layout { self.new.layout ≡ self.old.layout }
-        ensures happens { let X = election_of Q.kind_of Q.op Q.fed Q.protocol in Happens X self.old.bus (Close sender.0) self.new.bus }
-        ensures follows { let X = election_of Q.kind_of Q.op Q.fed Q.protocol in
+        ensures happens { let X = election_of Q.Ratifier in Happens X self.old.bus (Close sender.0) self.new.bus }
+        ensures follows { let X = election_of Q.Ratifier in
             OnOk result (Follows X self.old.layout self.old.bus (Close sender.0) answer.Closing self.new.bus) }
         ensures could { OnOk result (CloseGives (slice_get self.old.bus.side.senders sender.0)) }
         ensures fault { IfErr result (Refused self.old.bus (Close sender.0)) }
@@ -180,9 +180,9 @@ impl<Q: Ratifier + Drop> World<Q> {
     fn take_in(&mut self, event: &Event) -> Result<Answer, StepFault>
         ensures layout { self.new.layout ≡ self.old.layout }
         ensures is { IsEvent (event_told event.now) }
-        ensures happens { let X = election_of Q.kind_of Q.op Q.fed Q.protocol in Happens X self.old.bus (event_told event.now) self.new.bus }
-        ensures answer { let X = election_of Q.kind_of Q.op Q.fed Q.protocol in IfOk result (λ a. Answers X self.old.bus (event_told event.now) a self.new.bus) }
-        ensures causes { let X = election_of Q.kind_of Q.op Q.fed Q.protocol in EventCauses X Q.protocol self.old.bus (event_told event.now) }
+        ensures happens { let X = election_of Q.Ratifier in Happens X self.old.bus (event_told event.now) self.new.bus }
+        ensures answer { let X = election_of Q.Ratifier in IfOk result (λ a. Answers X self.old.bus (event_told event.now) a self.new.bus) }
+        ensures causes { let X = election_of Q.Ratifier in EventCauses X Q.protocol self.old.bus (event_told event.now) }
         ensures fault { IfErr result (Refused self.old.bus (event_told event.now)) }
         ensures refused { OnErr result (self.new ≡ self.old) }
     {
@@ -201,12 +201,12 @@ impl<Q: Ratifier + Drop> World<Q> {
     pub fn step(&mut self, event: &Event) -> Result<Answer, StepFault>
         ensures layout { self.new.layout ≡ self.old.layout }
         ensures is { IsEvent (event_told event.now) }
-        ensures happens { let X = election_of Q.kind_of Q.op Q.fed Q.protocol in Happens X self.old.bus (event_told event.now) self.new.bus }
-        ensures answer { let X = election_of Q.kind_of Q.op Q.fed Q.protocol in IfOk result (λ a. Answers X self.old.bus (event_told event.now) a self.new.bus) }
-        ensures causes { let X = election_of Q.kind_of Q.op Q.fed Q.protocol in EventCauses X Q.protocol self.old.bus (event_told event.now) }
-        ensures follows { let X = election_of Q.kind_of Q.op Q.fed Q.protocol in
+        ensures happens { let X = election_of Q.Ratifier in Happens X self.old.bus (event_told event.now) self.new.bus }
+        ensures answer { let X = election_of Q.Ratifier in IfOk result (λ a. Answers X self.old.bus (event_told event.now) a self.new.bus) }
+        ensures causes { let X = election_of Q.Ratifier in EventCauses X Q.protocol self.old.bus (event_told event.now) }
+        ensures follows { let X = election_of Q.Ratifier in
             IfOk result (λ a. Follows X self.old.layout self.old.bus (event_told event.now) a self.new.bus) }
-        ensures tells { let X = election_of Q.kind_of Q.op Q.fed Q.protocol in
+        ensures tells { let X = election_of Q.Ratifier in
             IfOk result (Tells X self.old.layout self.old.bus (event_told event.now)) }
         ensures fault { IfErr result (Refused self.old.bus (event_told event.now)) }
         ensures refused { OnErr result (self.new ≡ self.old) }
@@ -219,9 +219,9 @@ impl<Q: Ratifier + Drop> World<Q> {
     /// Events, one after another, up to the first that is refused. Takes no memory.
     pub fn play(&mut self, events: &[Event]) -> Result<(), PlayFault>
         ensures layout { self.new.layout ≡ self.old.layout }
-        ensures played { let X = election_of Q.kind_of Q.op Q.fed Q.protocol in
+        ensures played { let X = election_of Q.Ratifier in
             OnOk result (Played X self.old.layout self.old.bus (map event_told events.now) self.new.bus) }
-        ensures stopped { let X = election_of Q.kind_of Q.op Q.fed Q.protocol in
+        ensures stopped { let X = election_of Q.Ratifier in
             IfErr result (λ fault. Stops X self.old.layout self.old.bus (map event_told events.now) fault.place fault.why self.new.bus) }
     {
         election_is_lawful::<Q>();
@@ -237,7 +237,7 @@ impl<Q: Ratifier + Drop> World<Q> {
     /// Who took the page, by tenure.
     pub fn owners(&self) -> &[SenderNo]
         ensures state { map (λ s. s.0) result.now ≡ self.now.bus.side.owners }
-        ensures took { let X = election_of Q.kind_of Q.op Q.fed Q.protocol in
+        ensures took { let X = election_of Q.Ratifier in
             (trails : Trails) → Reached X self.now.layout self.now.bus trails → Takers (map (λ s. s.0) result.now) trails.deeds }
     {
         election_is_lawful::<Q>();
@@ -294,7 +294,7 @@ impl<Q: Ratifier + Drop> World<Q> {
     /// Memory is its only refusal.
     pub fn given(&self, alloc: Global, receiver: u64) -> Result<Order, NoMemory>
         requires { receiver < length self.now.bus.receivers }
-        ensures { let X = election_of Q.kind_of Q.op Q.fed Q.protocol in
+        ensures { let X = election_of Q.Ratifier in
             IfOk result (λ order. (trails : Trails) → Reached X self.now.layout self.now.bus trails → order_held order ≡ given (trails.heard receiver)) }
     {
         election_is_lawful::<Q>();
@@ -316,8 +316,8 @@ impl<Q: Ratifier + Drop> World<Q> {
 
     /// What a bus promises: some trails lead to it, and of all trails that do the promise holds.
     pub fn promises(&self)
-        ensures happened { let X = election_of Q.kind_of Q.op Q.fed Q.protocol in (trails : Trails) × Reached X self.now.layout self.now.bus trails }
-        ensures promised { let X = election_of Q.kind_of Q.op Q.fed Q.protocol in (trails : Trails) → Reached X self.now.layout self.now.bus trails → IsPromised self.now.layout self.now.bus trails }
+        ensures happened { let X = election_of Q.Ratifier in (trails : Trails) × Reached X self.now.layout self.now.bus trails }
+        ensures promised { let X = election_of Q.Ratifier in (trails : Trails) → Reached X self.now.layout self.now.bus trails → IsPromised self.now.layout self.now.bus trails }
     {
         election_is_lawful::<Q>();
         let _ = &self.shape;

@@ -1,7 +1,7 @@
 use Rattle.std.proofs.Common.{ℕ, List, string_bytes, sym, subst}
 use Rattle.std.specs.Io.KnownBytes.{Appends}
 use Rattle.bus_tenure.specs.Core.{Election, Layout}
-use Rattle.bus_tenure.specs.Elections.{Elector, election_of, layout_of}
+use Rattle.bus_tenure.specs.Elections.{Elector, election_with, layout_with}
 use Rattle.bus_world.specs.declared.shapes.Shape.{Shape}
 use Rattle.bus_script.specs.declared.answers.Outcome.{Outcome}
 use Rattle.bus_run.specs.declared.faults.RunFault.{RunFault}
@@ -13,7 +13,7 @@ use Rattle.bus_main.proofs.replay.replay.Goals as goal
 pub returns-in_err-write_whole-clause-fault : goal.returns-in_err-write_whole-clause-fault
 returns-in_err-write_whole-clause-fault g c =
     let of : Shape → Election (Elector g.row.Q.Denot) × Layout =
-    λ shape. (election_of g.Q.Machine.kind_of g.Q.Machine.op g.Q.Machine.fed g.Q.Ratifier.protocol, layout_of g.Q.Ratifier.protocol shape.senders shape.rounds shape.rows shape.log_words) in
+    λ shape. (election_with g.Q.Machine.kind_of g.Q.Machine.op g.Q.Machine.fed g.Q.Ratifier.protocol, layout_with g.Q.Ratifier.protocol shape.senders shape.rounds shape.rows shape.log_words) in
     let IsAnswered : List ℕ → List ℕ → Type 0 = λ input text. (outcome : Outcome) × IsReplay of input outcome text in
     let Fails : RunFault → Type 0 =
     IsScriptFault IsAnswered (g.R.Read.remaining c.args.reader.now) (g.R.Read.remaining c.read_whole.new.reader) (g.W.Write.contents c.args.writer.now) (g.W.Write.contents c.write_whole.new.writer) in
@@ -30,7 +30,7 @@ returns-in_err-write_whole-clause-fault g c =
 pub returns-clause-ok : goal.returns-clause-ok
 returns-clause-ok g c =
     let of : Shape → Election (Elector g.row.Q.Denot) × Layout =
-    λ shape. (election_of g.Q.Machine.kind_of g.Q.Machine.op g.Q.Machine.fed g.Q.Ratifier.protocol, layout_of g.Q.Ratifier.protocol shape.senders shape.rounds shape.rows shape.log_words) in
+    λ shape. (election_with g.Q.Machine.kind_of g.Q.Machine.op g.Q.Machine.fed g.Q.Ratifier.protocol, layout_with g.Q.Ratifier.protocol shape.senders shape.rounds shape.rows shape.log_words) in
     let answer = c.in_ok-answer.answer in (
       c.in_ok-input.input.items,
       string_bytes answer.text,

@@ -1,7 +1,7 @@
 use Rattle.std.proofs.Common.{◌≡◌, ◌∙◌, Some, refl, sym, ap, subst, length, map}
 use Rattle.std.proofs.lemmas.Option.{slice_get_read}
 use Rattle.std.proofs.lemmas.List.{take_all}
-use Rattle.bus_tenure.specs.Elections.{election_of}
+use Rattle.bus_tenure.specs.Elections.{election_with}
 use Rattle.bus_world.specs.World.{Put}
 use Rattle.bus_pageslot.specs.InWorld.{Runs}
 use Rattle.bus_pageslot.proofs.InWorldLaws.{one_more_put}
@@ -14,7 +14,7 @@ use Rattle.bus_pageslot.proofs.steps.tell_messages.Goals as goal
 
 pub loop-message-preserved : goal.loop-message-preserved
 loop-message-preserved g c =
-    let X = election_of g.Q.Machine.kind_of g.Q.Machine.op g.Q.Machine.fed g.Q.Ratifier.protocol in
+    let X = election_with g.Q.Machine.kind_of g.Q.Machine.op g.Q.Machine.fed g.Q.Ratifier.protocol in
     let same : c.as_slice.result.now ≡ c.message-item.result = c.as_slice.ensures.same in
     let at : slice_get c.args.fresh.now c.loop-message.message-index ≡ Some c.as_slice.result.now = slice_get_read c.args.fresh.now (length c.args.fresh.now) c.loop-message.message-index c.message-item.result refl c.loop-message-test.true c.message-item.is ∙ ap Some (sym same) in
     let joined : c.tell_message-takes.result ≡ true → c.if-takes.takes_all ≡ c.loop-message.takes_all = λ yes. elim c.if-takes.branch [ then-takes w ↦ w.takes_all-is | else-takes w ↦ absurd (let no : true ≡ false = sym yes ∙ w.if-takes.false in cc) ] in
@@ -22,7 +22,7 @@ loop-message-preserved g c =
 
 pub returns-clause-runs : goal.returns-clause-runs
 returns-clause-runs g c =
-    let X = election_of g.Q.Machine.kind_of g.Q.Machine.op g.Q.Machine.fed g.Q.Ratifier.protocol in
+    let X = election_with g.Q.Machine.kind_of g.Q.Machine.op g.Q.Machine.fed g.Q.Ratifier.protocol in
     subst (λ z. Runs X c.args.world.now.bus (map (Put c.args.me.0) z) c.loop-message.world.bus) (take_all c.loop-message.message-index c.args.fresh.now c.loop-message-test.false) c.loop-message.invariant.1
 
 pub returns-clause-takes : goal.returns-clause-takes

@@ -1,13 +1,13 @@
 use Rattle.std.proofs.Common.{◌++◌, ◌∙◌, ap, map, string_bytes}
 use Rattle.bus_deliverylog.specs.Orders.{order_held}
-use Rattle.bus_tenure.specs.Elections.{election_of}
+use Rattle.bus_tenure.specs.Elections.{election_with}
 use Rattle.bus_replay.specs.Text.{order_text}
 use Rattle.bus_replay.proofs.PlayLemmas.{closes, on_done}
 use Rattle.bus_replay.proofs.closing.push_closing.Goals as goal
 
 pub returns : goal.returns
 returns g c =
-    let X = election_of g.Q.Machine.kind_of g.Q.Machine.op g.Q.Machine.fed g.Q.Ratifier.protocol in
+    let X = election_with g.Q.Machine.kind_of g.Q.Machine.op g.Q.Machine.fed g.Q.Ratifier.protocol in
     let happened = c.promises.ensures.happened in
     let read = c.in_ok-order.ensures in
     record {

@@ -1,5 +1,5 @@
 use Rattle.std.proofs.Common.{◌-◌, sym, ◌∙◌, inl, inr, arith}
-use Rattle.bus_tenure.specs.Elections.{election_of}
+use Rattle.bus_tenure.specs.Elections.{election_with}
 use Rattle.bus_world.specs.Playing.{event_told}
 use Rattle.bus_replay.proofs.RepeatLemmas.{once_more, at_last, not_refused}
 use Rattle.bus_replay.proofs.playing.repeat.Goals as goal
@@ -7,13 +7,13 @@ use Rattle.bus_replay.proofs.playing.repeat.Goals.{then-loop-more-test+else-goes
 
 pub returns-in_err-last-2-clause-fault : goal.returns-in_err-last-2-clause-fault
 returns-in_err-last-2-clause-fault g c =
-    let X = election_of g.Q.Machine.kind_of g.Q.Machine.op g.Q.Machine.fed g.Q.Ratifier.protocol in
+    let X = election_with g.Q.Machine.kind_of g.Q.Machine.op g.Q.Machine.fed g.Q.Ratifier.protocol in
     let so_far = c.loop-more.invariant.repeated in
     absurd (not_refused X so_far.before c.loop-more.world.bus (event_told c.args.event.now) c.loop-more.last c.in_err-last-2.field-0.0 so_far.happened so_far.answered (sym c.goes_on.ensures ∙ c.if-goes_on.true) c.in_err-last-2.ensures.fault)
 
 pub loop-more-preserved : goal.loop-more-preserved
 loop-more-preserved g c =
-    let X = election_of g.Q.Machine.kind_of g.Q.Machine.op g.Q.Machine.fed g.Q.Ratifier.protocol in
+    let X = election_with g.Q.Machine.kind_of g.Q.Machine.op g.Q.Machine.fed g.Q.Ratifier.protocol in
     record {
       layout = c.in_ok-last-2.ensures.layout ∙ c.loop-more.invariant.layout;
       repeated = once_more X (event_told c.args.event.now) c.args.world.now.bus (c.args.times - 1) c.loop-more.more c.loop-more.last c.in_ok-last-2.last c.loop-more.world.bus c.step-in-loop-more.new.self.bus
@@ -22,7 +22,7 @@ loop-more-preserved g c =
 
 pub returns-clause-last : goal.returns-clause-last
 returns-clause-last g c =
-    let X = election_of g.Q.Machine.kind_of g.Q.Machine.op g.Q.Machine.fed g.Q.Ratifier.protocol in
+    let X = election_with g.Q.Machine.kind_of g.Q.Machine.op g.Q.Machine.fed g.Q.Ratifier.protocol in
     at_last X (event_told c.args.event.now) c.args.world.now.bus (c.args.times - 1) c.loop-more.more c.loop-more.last c.loop-more.world.bus c.loop-more.invariant.repeated
     (elim c.loop-more-test.branch [
       | then-loop-more-test+else-goes_on w ↦ inr (sym w.goes_on.ensures ∙ w.if-goes_on.false)

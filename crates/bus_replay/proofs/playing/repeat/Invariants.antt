@@ -1,5 +1,5 @@
 use Rattle.std.proofs.Common.{◌≡◌, ◌-◌}
-use Rattle.bus_tenure.specs.Elections.{election_of}
+use Rattle.bus_tenure.specs.Elections.{election_with}
 use Rattle.bus_world.specs.Playing.{event_told}
 use Rattle.bus_replay.proofs.RepeatLemmas.{Repeated}
 use Rattle.bus_replay.proofs.playing.repeat.Given as goal
@@ -7,7 +7,7 @@ use Rattle.bus_replay.proofs.playing.repeat.Given as goal
 abbrev pub invariant-loop-more : goal.invariant-loop-more
 invariant-loop-more g l = record {
   layout : l.world.layout ≡ l.fn.world.layout;
-  repeated : Repeated (election_of g.Q.Machine.kind_of g.Q.Machine.op g.Q.Machine.fed g.Q.Ratifier.protocol) (event_told l.event) l.fn.world.bus (l.fn.times - 1) l.more l.last l.world.bus;
+  repeated : Repeated (election_with g.Q.Machine.kind_of g.Q.Machine.op g.Q.Machine.fed g.Q.Ratifier.protocol) (event_told l.event) l.fn.world.bus (l.fn.times - 1) l.more l.last l.world.bus;
 }
 
 abbrev pub decreases-loop-more : goal.decreases-loop-more

@@ -1,4 +1,4 @@
-use Rattle.bus_tenure.specs.Elections.{elections, election_of, layout_of}
+use Rattle.bus_tenure.specs.Elections.{elections, election_with, layout_with}
 use Rattle.bus_world.proofs.EventTrails.{promised}
 use Rattle.bus_world.proofs.Serving.{serves}
 use Rattle.bus_world.proofs.laws.trails_keep_promises.Goals as goal
@@ -7,4 +7,4 @@ pub returns : goal.returns
 returns g c senders rounds rows capacity ok bus trails reached =
     let P = g.Q.Ratifier.protocol in
     let s = serves g.Q.Machine.kind_of g.Q.Machine.op g.Q.Machine.fed P g.met.Q.Machine.names_each_step g.met.Q.Ratifier.own_kinds senders rounds rows capacity (c.election_is_lawful.ensures.lawful.laws rounds) in
-    promised (election_of g.Q.Machine.kind_of g.Q.Machine.op g.Q.Machine.fed P) (elections P rounds) s.laws (layout_of P senders rounds rows capacity) ok s.width s.starts s.owner_is s.named s.announces s.apart bus trails reached
+    promised (election_with g.Q.Machine.kind_of g.Q.Machine.op g.Q.Machine.fed P) (elections P rounds) s.laws (layout_with P senders rounds rows capacity) ok s.width s.starts s.owner_is s.named s.announces s.apart bus trails reached

@@ -1,7 +1,7 @@
 use Rattle.std.proofs.Common.{◌≡◌, ◌∙◌, ap, subst}
 use Rattle.std.specs.Prelude.{slice_get}
 use Rattle.bus_batch.specs.Batches.{Pending}
-use Rattle.bus_tenure.specs.Elections.{election_of, elections}
+use Rattle.bus_tenure.specs.Elections.{election_with, elections}
 use Rattle.bus_world.specs.World.{Turn, Happens}
 use Rattle.bus_pageslot.specs.InWorld.{answer_in}
 use Rattle.bus_pageslot.proofs.InStepLaws.{answers}
@@ -10,7 +10,7 @@ use Rattle.bus_pageslot.proofs.seats.Sender.step_on.Goals as goal
 
 pub returns-clause-answers : goal.returns-clause-answers
 returns-clause-answers g c =
-    let X = election_of g.Q.Machine.kind_of g.Q.Machine.op g.Q.Machine.fed g.Q.Ratifier.protocol in
+    let X = election_with g.Q.Machine.kind_of g.Q.Machine.op g.Q.Machine.fed g.Q.Ratifier.protocol in
     let P = elections g.Q.Ratifier.protocol c.args.world.now.layout.rounds in
     let mid = c.tell_on.new.world in
     let p = c.args.self.now.queue.sender.0 in

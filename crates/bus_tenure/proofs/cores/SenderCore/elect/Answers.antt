@@ -3,14 +3,14 @@ use Rattle.std.proofs.lemmas.Bool.{ne_eqb}
 use Rattle.bus_binconsensus.specs.Objects.{decide_protocol}
 use Rattle.bus_coinconc.specs.ConciliatorProtocol.{conciliator_protocol}
 use Rattle.bus_ownerbits.specs.Election.{owner_of}
-use Rattle.bus_tenure.specs.Elections.{election_of}
+use Rattle.bus_tenure.specs.Elections.{election_with}
 use Rattle.bus_tenure.proofs.Lawful.{keeps_after}
 use Rattle.bus_tenure.proofs.Turning.{sender_some, no_owner, own_owner, sender_tells, its_op, lost_state, lost_answer, keeps_electing}
 use Rattle.bus_tenure.proofs.cores.SenderCore.elect.Goals as goal
 
 pub invariant_of-self-in_default-owner : goal.invariant_of-self-in_default-owner
 invariant_of-self-in_default-owner g c =
-    let X = election_of g.Q.Machine.kind_of g.Q.Machine.op g.Q.Machine.fed g.Q.Ratifier.protocol in
+    let X = election_with g.Q.Machine.kind_of g.Q.Machine.op g.Q.Machine.fed g.Q.Ratifier.protocol in
     let unowned : is_some (owner_of (decide_protocol g.Q.Ratifier.protocol conciliator_protocol) c.in-Electing.election) ≡ false =
     sym (sender_tells _) ∙ ap is_some (sym c.owner.ensures) ∙ sym c.is_some.ensures ∙ c.if-is_some.false in
     keeps_electing _ _ _ c.in-Electing.tenure c.in-Electing.election c.feed.new.self _ c.self.invariant c.in-Electing.is c.feed.ensures
@@ -20,7 +20,7 @@ invariant_of-self-in_default-owner g c =
 
 pub invariant_of-self-then-owner-self : goal.invariant_of-self-then-owner-self
 invariant_of-self-then-owner-self g c =
-    let X = election_of g.Q.Machine.kind_of g.Q.Machine.op g.Q.Machine.fed g.Q.Ratifier.protocol in
+    let X = election_with g.Q.Machine.kind_of g.Q.Machine.op g.Q.Machine.fed g.Q.Ratifier.protocol in
     let unowned : is_some (owner_of (decide_protocol g.Q.Ratifier.protocol conciliator_protocol) c.in-Electing.election) ≡ false =
     sym (sender_tells _) ∙ ap is_some (sym c.owner.ensures) ∙ sym c.is_some.ensures ∙ c.if-is_some.false in
     keeps_electing _ _ _ c.in-Electing.tenure c.in-Electing.election c.feed.new.self _ c.self.invariant c.in-Electing.is c.feed.ensures
@@ -30,7 +30,7 @@ invariant_of-self-then-owner-self g c =
 
 pub returns-clause-state : goal.returns-clause-state
 returns-clause-state g c =
-    let X = election_of g.Q.Machine.kind_of g.Q.Machine.op g.Q.Machine.fed g.Q.Ratifier.protocol in
+    let X = election_with g.Q.Machine.kind_of g.Q.Machine.op g.Q.Machine.fed g.Q.Ratifier.protocol in
     let unowned : is_some (owner_of (decide_protocol g.Q.Ratifier.protocol conciliator_protocol) c.in-Electing.election) ≡ false =
     sym (sender_tells _) ∙ ap is_some (sym c.owner.ensures) ∙ sym c.is_some.ensures ∙ c.if-is_some.false in
     lost_state X _ _ c.self.view_is c.in-Electing.tenure c.in-Electing.election c.in-Electing.is unowned c.args.got c.args.word c.feed.new.self c.feed.ensures c.in-Some.owner.0
@@ -38,7 +38,7 @@ returns-clause-state g c =
 
 pub returns-clause-answer : goal.returns-clause-answer
 returns-clause-answer g c =
-    let X = election_of g.Q.Machine.kind_of g.Q.Machine.op g.Q.Machine.fed g.Q.Ratifier.protocol in
+    let X = election_with g.Q.Machine.kind_of g.Q.Machine.op g.Q.Machine.fed g.Q.Ratifier.protocol in
     let unowned : is_some (owner_of (decide_protocol g.Q.Ratifier.protocol conciliator_protocol) c.in-Electing.election) ≡ false =
     sym (sender_tells _) ∙ ap is_some (sym c.owner.ensures) ∙ sym c.is_some.ensures ∙ c.if-is_some.false in
     lost_answer X _ _ c.self.view_is c.in-Electing.tenure c.in-Electing.election c.in-Electing.is unowned c.args.got c.args.word c.feed.new.self c.feed.ensures c.in-Some.owner.0

@@ -1,4 +1,4 @@
-use Rattle.bus_tenure.specs.Elections.{elections, election_of, layout_of}
+use Rattle.bus_tenure.specs.Elections.{elections, election_with, layout_with}
 use Rattle.bus_world.proofs.Serving.{serves}
 use Rattle.std.proofs.Common.{refl, subst}
 use Rattle.std.specs.Prelude.{IfOk}
@@ -11,9 +11,9 @@ use Rattle.bus_world.proofs.worlds.World.put.Goals as goal
 pub returns-clause-follows : goal.returns-clause-follows
 returns-clause-follows g c =
     let P = g.Q.Ratifier.protocol in
-    let X = election_of g.Q.Machine.kind_of g.Q.Machine.op g.Q.Machine.fed P in
+    let X = election_with g.Q.Machine.kind_of g.Q.Machine.op g.Q.Machine.fed P in
     let shape = c.self.inside.shape in
-    let x = layout_of P shape.senders shape.rounds shape.rows shape.log_words in
+    let x = layout_with P shape.senders shape.rounds shape.rows shape.log_words in
     let s = serves g.Q.Machine.kind_of g.Q.Machine.op g.Q.Machine.fed P g.met.Q.Machine.names_each_step g.met.Q.Ratifier.own_kinds shape.senders shape.rounds shape.rows shape.log_words (c.election_is_lawful.ensures.lawful.laws shape.rounds) in
     subst (λ n. IfOk c.put_at.result (λ number. Follows X c.args.self.now.layout c.args.self.now.bus (Put n c.args.bytes.now) (answer.Number number) c.put_at.new.self.bus)) c.from.ensures
     (on_ok c.put_at.result _ _ c.put_at.ensures.number (λ n w. follows X (elections P shape.rounds) x s _ c.self.invariant c.args.self.now c.self.view_is _ (Put c.from.result c.args.bytes.now) (answer.Number n) c.put_at.ensures.bytes c.put_at.ensures.happens (n, w, refl)))
