@@ -1,6 +1,6 @@
-//! `bench_reader` prints how long a plain sum, `read_log` and a receiver take for each word of a log
-//! of 65,505 words, the best of 50 rounds. With an argument it takes one round and prints nothing.
-//! Where a reader does not find all messages it says so, times nothing and fails.
+//! `bench_reader` prints how long a plain sum, `read_log` and a receiver take for each word of a
+//! log of 65,505 words, the best of 50 rounds. With an argument it takes one round and prints
+//! nothing. Where a reader does not find all messages it says so, times nothing and fails.
 #![tactic(auto)]
 
 ghost use Rattle.std.specs.Prelude.{◌≡◌, ◌*◌, IsTrue, ◌↔◌};

@@ -43,7 +43,8 @@ fn converges_on(inputs: &[Option<bool>], outputs: &[Option<Verdict>], value: boo
 
 /// If all inputs are one value, every output is a commit of it.
 fn is_convergent(inputs: &[Option<bool>], outputs: &[Option<Verdict>]) -> bool
-    ensures { IsTrue result ↔ (ConvergesOn inputs.now outputs.now false × ConvergesOn inputs.now outputs.now true) }
+    ensures { IsTrue result
+        ↔ (ConvergesOn inputs.now outputs.now false × ConvergesOn inputs.now outputs.now true) }
 {
     converges_on(inputs, outputs, false) && converges_on(inputs, outputs, true)
 }

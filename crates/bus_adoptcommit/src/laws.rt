@@ -1,6 +1,7 @@
 //! What adopt-commit and a play do not allow.
 
-ghost use Rattle.std.specs.Prelude.{◌≡◌, ℕ, Bool, true, false, Option, List, [], ◌∷◌, Some};
+ghost use Rattle.std.specs.Prelude.{◌≡◌, ℕ, Bool, true, false, Option, List, [], ◌∷◌};
+ghost use Rattle.std.specs.Prelude.{Some};
 ghost use Rattle.bus_adoptcommit.specs.declared.verdicts.Verdict.{Verdict};
 ghost use Rattle.bus_adoptcommit.specs.declared.verdicts.Verdict.TheVariants.{Commit, Adopt};
 ghost use Rattle.bus_adoptcommit.specs.Agreement.{IsValid, IsConvergent, IsCoherent, Legal};
@@ -21,12 +22,15 @@ pub fn adopt_commit_refuses()
 
 /// A schedule has one play, from the same inputs.
 pub fn plays_are_one<Q: Ratifier>()
-    ensures { (given : List Bool) (schedule : List ℕ) (outs others : List (Option Verdict)) → IsPlay Q.op Q.fed Q.protocol given schedule outs → IsPlay Q.op Q.fed Q.protocol given schedule others → outs ≡ others }
+    ensures { (given : List Bool) (schedule : List ℕ) (outs others : List (Option Verdict))
+        → IsPlay Q.op Q.fed Q.protocol given schedule outs
+        → IsPlay Q.op Q.fed Q.protocol given schedule others → outs ≡ others }
 {}
 
 /// Two processes of different inputs that take turns adopt their own: a commit of the first one's
 /// by both is legal, and not what the words give.
 pub fn plays_are_more_than_legal()
     ensures legal { Legal (of_two false true) (of_two (Commit false) (Commit false)) }
-    ensures refused { ¬ IsPlay (λ s word. op_of s) (λ s got word. fed_of s got) two_collect (false ∷ true ∷ []) taking_turns (Some (Commit false) ∷ Some (Commit false) ∷ []) }
+    ensures refused { ¬ IsPlay (λ s word. op_of s) (λ s got word. fed_of s got) two_collect
+        (false ∷ true ∷ []) taking_turns (Some (Commit false) ∷ Some (Commit false) ∷ []) }
 {}

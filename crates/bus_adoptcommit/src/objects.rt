@@ -1,6 +1,7 @@
 //! One object, played by a schedule: each entry is the next step of that process.
 
-ghost use Rattle.std.specs.Prelude.{◌≡◌, ℕ, ◌<◌, ◌≤◌, ◌^◌, length, slice_get, slice_index, All, IfOk, map};
+ghost use Rattle.std.specs.Prelude.{◌≡◌, ℕ, ◌<◌, ◌≤◌, ◌^◌, length, slice_get};
+ghost use Rattle.std.specs.Prelude.{slice_index, All, IfOk, map};
 ghost use Rattle.bus_register.specs.Protocol.{Protocol, Laws};
 ghost use Rattle.bus_adoptcommit.specs.Plays.{AtStarts, IsMove, Verdicts, moment};
 
@@ -13,10 +14,13 @@ use std::alloc::Global;
 pub fn step<Q: Ratifier>(cells: &mut Cells, processes: &mut [Q], p: usize)
     requires known { p < length processes.old }
     requires room { Q.protocol.width (length processes.old) ≤ length cells.old }
-    requires keeps { Q.protocol.Keeps (length processes.old) 0 (slice_index cells.old) (slice_get processes.old) }
+    requires keeps { Q.protocol.Keeps (length processes.old) 0 (slice_index cells.old)
+        (slice_get processes.old) }
     ensures cells { length cells.new ≡ length cells.old }
-    ensures keeps { Q.protocol.Keeps (length processes.new) 0 (slice_index cells.new) (slice_get processes.new) }
-    ensures moves { IsMove Q.op Q.fed p (moment cells.old processes.old) (moment cells.new processes.new) }
+    ensures keeps { Q.protocol.Keeps (length processes.new) 0 (slice_index cells.new)
+        (slice_get processes.new) }
+    ensures moves { IsMove Q.op Q.fed p (moment cells.old processes.old)
+        (moment cells.new processes.new) }
 {
     if let Some(op) = processes[p].next(0) {
         let got = cells.apply(op);
@@ -28,7 +32,9 @@ pub fn step<Q: Ratifier>(cells: &mut Cells, processes: &mut [Q], p: usize)
 fn start_all<Q: Ratifier + Drop>(alloc: Global, inputs: &[bool]) -> Result<Vec<Q>, NoMemory>
     requires few { length inputs.now ≤ 64 }
     requires room { Q.protocol.width (length inputs.now) ≤ 2 ^ 64 }
-    ensures { IfOk result (λ processes. AtStarts Q.protocol (length inputs.now) (length inputs.now) inputs.now processes.items) }
+    ensures { IfOk result
+        (λ processes. AtStarts Q.protocol
+        (length inputs.now) (length inputs.now) inputs.now processes.items) }
 {
     let mut processes = Vec::new(alloc);
     for (i, input) in inputs.iter().enumerate() {
@@ -56,7 +62,8 @@ pub fn verdicts<Q: Ratifier + Drop>(
 ) -> Result<Vec<Option<Verdict>>, NoMemory>
     requires few { length inputs.now ≤ 64 }
     requires known { All (λ p. p < length inputs.now) schedule.now }
-    ensures { IfOk result (λ outs. Verdicts Q.op Q.fed Q.protocol inputs.now schedule.now outs.items) }
+    ensures { IfOk result
+        (λ outs. Verdicts Q.op Q.fed Q.protocol inputs.now schedule.now outs.items) }
 {
     let mut cells = Cells::new(alloc, Q::width(inputs.len() as u64))?;
     let mut processes = start_all::<Q>(alloc, inputs)?;

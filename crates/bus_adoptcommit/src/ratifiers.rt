@@ -1,6 +1,7 @@
 //! Adopt-commit objects that machines make out of words.
 
-ghost use Rattle.std.specs.Prelude.{◌≡◌, ℕ, ◌+◌, ◌*◌, ◌<◌, ◌≤◌, ◌^◌, Bool, false, Some};
+ghost use Rattle.std.specs.Prelude.{◌≡◌, ℕ, ◌+◌, ◌*◌, ◌<◌, ◌≤◌, ◌^◌};
+ghost use Rattle.std.specs.Prelude.{Bool, false, Some};
 ghost use Rattle.bus_register.specs.declared.kinds.Kind.{Kind};
 ghost use Rattle.bus_register.specs.declared.registers.Op.{Op};
 ghost use Rattle.bus_register.specs.Protocol.{Protocol, Laws};
@@ -33,8 +34,8 @@ pub trait Ratifier: Machine {
     fn output(&self) -> Option<Verdict>
         ensures { result ≡ protocol.output self.now };
 
-    /// What words and local states keep, that each start has it and each step keeps it, and that the
-    /// outputs are valid, convergent and coherent.
+    /// What words and local states keep, that each start has it and each step keeps it, and that
+    /// the outputs are valid, convergent and coherent.
     ghost laws: { Laws Self.op Self.fed protocol Legal };
 
     /// Its steps are of a ratifier's four kinds.
@@ -42,7 +43,8 @@ pub trait Ratifier: Machine {
 
     /// A kind names what the step does: it stores exactly where its kind stores, and the first step
     /// of a process is the one that stores its proposal.
-    ghost named_for: { (s : Self) (k : Kind) (word : ℕ) (o : Op) → Self.kind_of s ≡ Some k → Self.op s word ≡ Some o → IsNamedFor k o (protocol.has_begun s) };
+    ghost named_for: { (s : Self) (k : Kind) (word : ℕ) (o : Op) → Self.kind_of s ≡ Some k
+        → Self.op s word ≡ Some o → IsNamedFor k o (protocol.has_begun s) };
 
     /// It asks for no random word.
     ghost wordless: { (s : Self) → protocol.wants_word s ≡ false };

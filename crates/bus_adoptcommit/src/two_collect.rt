@@ -3,9 +3,12 @@
 ghost use Rattle.std.specs.Prelude.{◌≡◌, ℕ, ◌+◌, ◌*◌, ◌<◌, ◌≤◌, ◌^◌};
 ghost use Rattle.bus_register.specs.Protocol.{Protocol};
 ghost use Rattle.bus_adoptcommit.specs.Plays.{IsExact};
-ghost use Rattle.bus_adoptcommit.specs.TwoCollect.{Local, Sized, proposal_code, verdict_code, verdict_in, kind_at, op_of, fed_of};
+ghost use Rattle.bus_adoptcommit.specs.TwoCollect.{Local, Sized, proposal_code, verdict_code};
+ghost use Rattle.bus_adoptcommit.specs.TwoCollect.{verdict_in, kind_at, op_of, fed_of};
 ghost use Rattle.bus_adoptcommit.specs.TwoCollectKeeps.{two_collect};
-ghost use Rattle.bus_adoptcommit.specs.TwoCollectLaws.{two_collect_legal, two_collect_exact, named_at, own_kinds, named_for, wordless, quick, narrow};
+ghost use Rattle.bus_adoptcommit.specs.TwoCollectLaws.{two_collect_legal, two_collect_exact};
+ghost use Rattle.bus_adoptcommit.specs.TwoCollectLaws.{named_at, own_kinds, named_for, wordless};
+ghost use Rattle.bus_adoptcommit.specs.TwoCollectLaws.{quick, narrow};
 
 use super::phases::Phase;
 use super::ratifiers::Ratifier;
@@ -34,7 +37,16 @@ pub struct TwoCollect {
 impl Model for TwoCollect {
     ghost Value = { Local };
 
-    ghost view = { λ s. record { n = s.n; me = s.me.0; at = s.at.0; input = s.input; agreed = s.agreed; commit = s.commit; only_commits = s.only_commits; phase = s.phase } };
+    ghost view = { λ s. record {
+      n = s.n;
+      me = s.me.0;
+      at = s.at.0;
+      input = s.input;
+      agreed = s.agreed;
+      commit = s.commit;
+      only_commits = s.only_commits;
+      phase = s.phase;
+    } };
 
     ghost invariant = { λ s. Sized s.n s.me.0 s.at.0 s.phase };
 }
@@ -192,5 +204,6 @@ impl Ratifier for TwoCollect {
 /// A process of two collects takes all its steps, and has no output before.
 pub fn two_collect_is_exact()
     ensures exact { IsExact ⟦<TwoCollect as Machine>⟧.op ⟦<TwoCollect as Machine>⟧.fed ⟦<TwoCollect as Ratifier>⟧.protocol }
-    ensures steps { (n : ℕ) → Protocol.steps ⟦<TwoCollect as Ratifier>⟧.protocol n ≡ 2 * n + 2 }
+    ensures steps { (n : ℕ)
+        → Protocol.steps ⟦<TwoCollect as Ratifier>⟧.protocol n ≡ 2 * n + 2 }
 {}

@@ -1,8 +1,12 @@
 //! The batch that a sender fills, and the words of the frame that it makes.
 
-ghost use Rattle.std.specs.Prelude.{◌≡◌, ◌≢◌, ℕ, ◌+◌, ◌*◌, ◌-◌, ◌<◌, ◌≤◌, ◌^◌, List, [], ◌∷◌, ◌++◌, length, drop, IfOk, IfErr, OnOk, OnErr, IsTrue, ◌↔◌, false, true, Some, slice_get};
+ghost use Rattle.std.specs.Prelude.{◌≡◌, ◌≢◌, ℕ, ◌+◌, ◌*◌, ◌-◌, ◌<◌};
+ghost use Rattle.std.specs.Prelude.{◌≤◌, ◌^◌, List, [], ◌∷◌, ◌++◌, length};
+ghost use Rattle.std.specs.Prelude.{drop, IfOk, IfErr, OnOk, OnErr, IsTrue, ◌↔◌, false, true};
+ghost use Rattle.std.specs.Prelude.{Some, slice_get};
 ghost use Rattle.bus_batch.specs.Messages.{Numbered, IsMessage};
-ghost use Rattle.bus_batch.specs.Frames.{data_word, message_words, data_len, frame_words, IsFrame, body_words};
+ghost use Rattle.bus_batch.specs.Frames.{data_word, message_words, data_len, frame_words, IsFrame};
+ghost use Rattle.bus_batch.specs.Frames.{body_words};
 ghost use Rattle.std.specs.Prelude.{flat_map};
 ghost use Rattle.bus_batch.specs.Messages.{numbered};
 
@@ -61,19 +65,38 @@ impl Model for Batch {
 
     ghost Value = { Pending };
 
-    ghost view = { λ b. record { sender = b.sender; first = b.first; messages = b.messages.items; phase = b.phase; busy = b.busy } };
+    ghost view = { λ b. record {
+      sender = b.sender;
+      first = b.first;
+      messages = b.messages.items;
+      phase = b.phase;
+      busy = b.busy;
+    } };
 
-    ghost invariant = { λ b. IsKept (record { sender = b.sender; first = b.first; messages = b.messages.items; phase = b.phase; busy = b.busy }) };
+    ghost invariant = { λ b. IsKept (record {
+      sender = b.sender;
+      first = b.first;
+      messages = b.messages.items;
+      phase = b.phase;
+      busy = b.busy;
+    }) };
 }
 
 impl Batch {
     ghost use Rattle.bus_batch.specs.declared.batches.Phase.TheVariants as phase;
-    ghost use Rattle.bus_batch.specs.Batches.{Pending, next_of, HasSomething, frame_of, body_of, CanPut, IsPutFault, CanClose, IsCloseFault, sent};
+    ghost use Rattle.bus_batch.specs.Batches.{Pending, next_of, HasSomething, frame_of, body_of};
+    ghost use Rattle.bus_batch.specs.Batches.{CanPut, IsPutFault, CanClose, IsCloseFault, sent};
 
     /// An empty batch of a sender whose next message has the number `next`.
     pub fn new(sender: SenderNo, next: u64) -> Batch
         requires { next ≤ 2 ^ 48 }
-        ensures { result ≡ record { sender = sender; first = next; messages = []; phase = phase.Open; busy = false } }
+        ensures { result ≡ record {
+          sender = sender;
+          first = next;
+          messages = [];
+          phase = phase.Open;
+          busy = false;
+        } }
     {
         Batch {
             sender,
@@ -138,7 +161,8 @@ impl Batch {
     pub fn put(&mut self, bytes: &[u8]) -> Result<u64, PutFault>
         requires { next_of self.old < 2 ^ 48 }
         ensures number { IfOk result (λ number. number ≡ next_of self.old) }
-        ensures taken { OnOk result (self.new ≡ record self.old { messages = self.old.messages ++ bytes.now ∷ [] }) }
+        ensures taken { OnOk result
+            (self.new ≡ record self.old { messages = self.old.messages ++ bytes.now ∷ [] }) }
         ensures could { OnOk result (CanPut self.old (length bytes.now)) }
         ensures fault { IfErr result (IsPutFault self.old (length bytes.now)) }
         ensures refused { OnErr result (self.new ≡ self.old) }
@@ -201,7 +225,13 @@ impl Batch {
     /// The contents were sent.
     pub fn done(&mut self)
         requires { self.old.busy ≡ true }
-        ensures { self.new ≡ record { sender = self.old.sender; first = next_of self.old; messages = []; phase = sent self.old.phase; busy = false } }
+        ensures { self.new ≡ record {
+          sender = self.old.sender;
+          first = next_of self.old;
+          messages = [];
+          phase = sent self.old.phase;
+          busy = false;
+        } }
     {
         self.first += self.messages.len() as u64;
         self.messages.clear();
@@ -223,12 +253,14 @@ impl Batch {
     /// How many words the frame has, its head included: 2 to 129.
     pub fn frame_len(&self) -> u64
         requires { HasSomething self.now }
-        ensures len { (tenure : ℕ) → result ≡ length (frame_words (frame_of self.now tenure)) }
+        ensures len { (tenure : ℕ)
+            → result ≡ length (frame_words (frame_of self.now tenure)) }
         ensures least { 2 ≤ result }
         ensures most { result ≤ 129 }
 
         // In each tenure the frame is one that a log may have.
-        ensures lawful { (senders : ℕ) (tenure : ℕ) → self.now.sender.0 < senders → tenure < 2 ^ 40 → IsFrame senders (frame_of self.now tenure) }
+        ensures lawful { (senders : ℕ) (tenure : ℕ) → self.now.sender.0 < senders
+            → tenure < 2 ^ 40 → IsFrame senders (frame_of self.now tenure) }
     {
         let _kept = &self.first;
         1 + self.body_len()
@@ -252,7 +284,8 @@ impl Batch {
 
     /// How many words the frame has after its head.
     fn body_len(&self) -> u64
-        ensures len { result ≡ length (body_words (body_of self.now.phase self.now.first self.now.messages)) }
+        ensures len { result ≡ length
+            (body_words (body_of self.now.phase self.now.first self.now.messages)) }
         ensures most { result ≤ 128 }
     {
         if self.phase == Phase::Closing {
@@ -268,7 +301,8 @@ impl Batch {
     /// The word at `i` of those of the messages.
     fn body_word(&self, i: u64) -> u64
         requires { i < length (flat_map message_words (numbered self.now.first self.now.messages)) }
-        ensures { slice_get (flat_map message_words (numbered self.now.first self.now.messages)) i ≡ Some result }
+        ensures { slice_get (flat_map message_words (numbered self.now.first self.now.messages)) i
+            ≡ Some result }
     {
         let mut place = i;
         let mut number = self.first;
@@ -296,7 +330,10 @@ fn words_of(message: &Message) -> u64
 fn word_of(message: &Message, number: u64, place: u64) -> u64
     requires number { number < 2 ^ 48 }
     requires place { place < 1 + data_len (length message.now) }
-    ensures { slice_get (message_words (record { number = number; message = message.now })) place ≡ Some result }
+    ensures { slice_get (message_words (record {
+      number = number;
+      message = message.now;
+    })) place ≡ Some result }
 {
     if place == 0 {
         2 * TAG + message.len() as u64 * HIGH + number

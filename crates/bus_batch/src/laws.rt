@@ -1,46 +1,66 @@
 //! Laws of the definitions alone: each function does nothing, and its contract is the law.
 
-ghost use Rattle.std.specs.Prelude.{◌≡◌, ℕ, ◌<◌, ◌≤◌, List, [], ◌∷◌, ◌++◌, All, false};
-ghost use Rattle.bus_batch.specs.Frames.{Frame, Messages, EndMark, IsFrame, AreFrames, frame_words, Spells, order_of, items_of, ends, tenure_and_owner};
+ghost use Rattle.std.specs.Prelude.{◌≡◌, ℕ, ◌<◌, ◌≤◌, List, [], ◌∷◌};
+ghost use Rattle.std.specs.Prelude.{◌++◌, All, false};
+ghost use Rattle.bus_batch.specs.Frames.{Frame, Messages, EndMark, IsFrame, AreFrames, frame_words};
+ghost use Rattle.bus_batch.specs.Frames.{Spells, order_of, items_of, ends, tenure_and_owner};
 ghost use Rattle.bus_batch.specs.Batches.{Pending, CanPut, IsPutFault, CanClose, IsCloseFault};
 ghost use Rattle.bus_batch.specs.declared.batches.PutFault.{PutFault};
 ghost use Rattle.bus_batch.specs.declared.batches.CloseFault.{CloseFault};
 
 /// No words spell two logs: one order at most, and one list of tenures and owners.
 pub fn spells_one()
-    ensures { (senders : ℕ) (words : _) (order : _) (order' : _) (owners : _) (owners' : _) → Spells senders words order owners → Spells senders words order' owners' → (order ≡ order') × (owners ≡ owners') }
+    ensures { (senders : ℕ) (words : _) (order : _) (order' : _) (owners : _) (owners' : _)
+        → Spells senders words order owners → Spells senders words order' owners'
+        → (order ≡ order') × (owners ≡ owners') }
 {}
 
 /// No frame's words begin another frame's.
 pub fn no_frame_begins_another()
-    ensures { (senders : ℕ) (f : Frame) (g : Frame) (rest : List ℕ) → IsFrame senders f → IsFrame senders g → frame_words g ≡ frame_words f ++ rest → (f ≡ g) × (rest ≡ []) }
+    ensures { (senders : ℕ) (f : Frame) (g : Frame) (rest : List ℕ) → IsFrame senders f
+        → IsFrame senders g → frame_words g ≡ frame_words f ++ rest → (f ≡ g)
+        × (rest ≡ []) }
 {}
 
 /// One frame's words alone are a log of its items.
 pub fn frame_spells()
-    ensures { (senders : ℕ) (f : Frame) → IsFrame senders f → Spells senders (frame_words f) (order_of (f ∷ [])) (tenure_and_owner f ∷ []) }
+    ensures { (senders : ℕ) (f : Frame) → IsFrame senders f
+        → Spells senders (frame_words f) (order_of (f ∷ [])) (tenure_and_owner f ∷ []) }
 {}
 
 /// No words spell the empty order. Words of an order that has not ended, followed by a frame of a
 /// tenure above those before it, spell that order with the frame's items and its end mark.
 pub fn spells_grow()
     ensures none { (senders : ℕ) → Spells senders [] (record { items = []; ended = false }) [] }
-    ensures more { (senders : ℕ) (words : _) (order : _) (owners : _) (f : Frame) → Spells senders words order owners → order.ended ≡ false → IsFrame senders f → All (λ p. p.0 < f.tenure) owners → Spells senders (words ++ frame_words f) (record { items = order.items ++ items_of f; ended = ends f.body }) (owners ++ tenure_and_owner f ∷ []) }
+    ensures more { (senders : ℕ) (words : _) (order : _) (owners : _) (f : Frame)
+        → Spells senders words order owners → order.ended ≡ false → IsFrame senders f
+        → All (λ p. p.0 < f.tenure) owners
+        → Spells senders (words ++ frame_words f) (record {
+          items = order.items ++ items_of f;
+          ended = ends f.body;
+        }) (owners ++ tenure_and_owner f ∷ []) }
 {}
 
 /// What no log has: a frame after an end mark, a tenure that does not rise, an owner that is no
 /// sender, a frame of nothing.
 pub fn no_log_has()
-    ensures after_end { (senders : ℕ) (f : Frame) (g : Frame) (rest : List Frame) → f.body ≡ EndMark → ¬ AreFrames senders (f ∷ g ∷ rest) }
-    ensures same_tenure { (senders : ℕ) (f : Frame) (g : Frame) (rest : List Frame) → g.tenure ≤ f.tenure → ¬ AreFrames senders (f ∷ g ∷ rest) }
-    ensures stranger { (senders : ℕ) (f : Frame) (rest : List Frame) → senders ≤ f.owner.0 → ¬ AreFrames senders (f ∷ rest) }
-    ensures nothing { (senders : ℕ) (f : Frame) (rest : List Frame) → f.body ≡ Messages [] → ¬ AreFrames senders (f ∷ rest) }
+    ensures after_end { (senders : ℕ) (f : Frame) (g : Frame) (rest : List Frame)
+        → f.body ≡ EndMark → ¬ AreFrames senders (f ∷ g ∷ rest) }
+    ensures same_tenure { (senders : ℕ) (f : Frame) (g : Frame) (rest : List Frame)
+        → g.tenure ≤ f.tenure → ¬ AreFrames senders (f ∷ g ∷ rest) }
+    ensures stranger { (senders : ℕ) (f : Frame) (rest : List Frame) → senders ≤ f.owner.0
+        → ¬ AreFrames senders (f ∷ rest) }
+    ensures nothing { (senders : ℕ) (f : Frame) (rest : List Frame) → f.body ≡ Messages []
+        → ¬ AreFrames senders (f ∷ rest) }
 {}
 
 /// A message that is taken has no fault, and one that is refused has one alone; a close likewise.
 pub fn faults_are_exact()
-    ensures taken { (b : Pending) (len : ℕ) (fault : PutFault) → CanPut b len → ¬ IsPutFault b len fault }
-    ensures refused { (b : Pending) (len : ℕ) (fault : PutFault) (other : PutFault) → IsPutFault b len fault → IsPutFault b len other → fault ≡ other }
+    ensures taken { (b : Pending) (len : ℕ) (fault : PutFault) → CanPut b len
+        → ¬ IsPutFault b len fault }
+    ensures refused { (b : Pending) (len : ℕ) (fault : PutFault) (other : PutFault)
+        → IsPutFault b len fault → IsPutFault b len other → fault ≡ other }
     ensures closed { (b : Pending) (fault : CloseFault) → CanClose b → ¬ IsCloseFault b fault }
-    ensures kept { (b : Pending) (fault : CloseFault) (other : CloseFault) → IsCloseFault b fault → IsCloseFault b other → fault ≡ other }
+    ensures kept { (b : Pending) (fault : CloseFault) (other : CloseFault) → IsCloseFault b fault
+        → IsCloseFault b other → fault ≡ other }
 {}

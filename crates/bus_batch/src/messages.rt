@@ -1,6 +1,8 @@
 //! Messages, items of the order, and what words of the log say.
 
-ghost use Rattle.std.specs.Prelude.{◌≡◌, ℕ, ◌+◌, ◌<◌, ◌≤◌, List, [], ◌++◌, length, All, IsSome, IfSome, ◌↔◌, take, IsTrue, Bool, min};
+ghost use Rattle.std.specs.Prelude.{◌≡◌, ℕ, ◌+◌, ◌<◌, ◌≤◌, List, []};
+ghost use Rattle.std.specs.Prelude.{◌++◌, length, All, IsSome, IfSome, ◌↔◌, take, IsTrue};
+ghost use Rattle.std.specs.Prelude.{Bool, min};
 
 use arrayvec::ArrayVec;
 use bus_register::SenderNo;

@@ -1,6 +1,8 @@
 //! A reader of the log's words, one at a time.
 
-ghost use Rattle.std.specs.Prelude.{◌≡◌, ℕ, ◌+◌, ◌*◌, ◌-◌, ◌<◌, ◌≤◌, ◌^◌, List, [], ◌∷◌, ◌++◌, length, All, IfSome, IfNone, IfOk, OnErr, IsErr, IsTrue, ◌↔◌, false};
+ghost use Rattle.std.specs.Prelude.{◌≡◌, ℕ, ◌+◌, ◌*◌, ◌-◌, ◌<◌, ◌≤◌};
+ghost use Rattle.std.specs.Prelude.{◌^◌, List, [], ◌∷◌, ◌++◌, length, All, IfSome};
+ghost use Rattle.std.specs.Prelude.{IfNone, IfOk, OnErr, IsErr, IsTrue, ◌↔◌, false};
 ghost use Rattle.bus_batch.specs.Frames.{data_len};
 
 use crate::messages::{Item, Message, Piece};
@@ -110,14 +112,20 @@ impl Model for FrameReader {
 
     ghost Value = { Reading };
 
-    ghost view = { λ r. record { senders = r.senders; least = r.least; place = r.place; bytes = r.bytes } };
+    ghost view = { λ r. record {
+      senders = r.senders;
+      least = r.least;
+      place = r.place;
+      bytes = r.bytes;
+    } };
 
     ghost invariant = { λ r. IsSound r.place r.bytes };
 }
 
 impl FrameReader {
     ghost use Rattle.bus_batch.specs.declared.readers.Place.TheVariants as place;
-    ghost use Rattle.bus_batch.specs.Frames.{IsBadWord, GivesPiece, IsLog, Spells, order_in, owners_in, end_word};
+    ghost use Rattle.bus_batch.specs.Frames.{IsBadWord, GivesPiece, IsLog, Spells, order_in};
+    ghost use Rattle.bus_batch.specs.Frames.{owners_in, end_word};
     ghost use Rattle.bus_batch.specs.Reading.{HasRead, HasMetBadWord};
     ghost use Rattle.bus_batch.specs.Steps.{Steps};
 
@@ -136,9 +144,12 @@ impl FrameReader {
 
     /// The words so far end within a frame: they begin a log and are none.
     pub fn inside(&self) -> bool
-        ensures torn { (words : _) (pieces : _) → HasRead self.now.senders words pieces self.now → IsTrue result → ¬ IsLog self.now.senders words }
+        ensures torn { (words : _) (pieces : _) → HasRead self.now.senders words pieces self.now
+            → IsTrue result → ¬ IsLog self.now.senders words }
         // Outside the words are a log, and the pieces say its order and owners.
-        ensures whole { (words : _) (pieces : _) → HasRead self.now.senders words pieces self.now → result ≡ false → Spells self.now.senders words (order_in pieces) (owners_in pieces) }
+        ensures whole { (words : _) (pieces : _) → HasRead self.now.senders words pieces self.now
+            → result ≡ false
+            → Spells self.now.senders words (order_in pieces) (owners_in pieces) }
     {
         matches!(self.place, Place::Body { .. } | Place::Data { .. })
     }
@@ -310,9 +321,14 @@ impl FrameReader {
         ensures senders { self.new.senders ≡ self.old.senders }
 
         // It refuses exactly the words that no log goes on with.
-        ensures bad { (words : _) (pieces : _) → HasRead self.old.senders words pieces self.old → (IsErr result ↔ IsBadWord self.old.senders words word) }
-        ensures gives { (words : _) (pieces : _) → HasRead self.old.senders words pieces self.old → IfOk result (GivesPiece self.old.senders words word) }
-        ensures read { (words : _) (pieces : _) → HasRead self.old.senders words pieces self.old → IfOk result (λ found. HasRead self.old.senders (words ++ word ∷ []) (pieces ++ found ∷ []) self.new) }
+        ensures bad { (words : _) (pieces : _) → HasRead self.old.senders words pieces self.old
+            → (IsErr result ↔ IsBadWord self.old.senders words word) }
+        ensures gives { (words : _) (pieces : _) → HasRead self.old.senders words pieces self.old
+            → IfOk result (GivesPiece self.old.senders words word) }
+        ensures read { (words : _) (pieces : _) → HasRead self.old.senders words pieces self.old
+            → IfOk result
+            (λ found. HasRead self.old.senders
+            (words ++ word ∷ []) (pieces ++ found ∷ []) self.new) }
 
         ensures met { OnErr result (HasMetBadWord self.new) }
         ensures for_good { HasMetBadWord self.old → IsErr result }

@@ -16,8 +16,10 @@ use std::sync::Wait;
 
 /// Sees that each receiver has all items of each sender, and all the same order.
 pub fn check(ears: &[Ear], load: Load) -> Result<(), Fault>
-    ensures counts { OnOk result (All (λ ear. HasEach load.senders load.messages ear.heard) ears.now) }
-    ensures order { OnOk result ((order : List Item) × All (λ ear. ear.order.items ≡ order) ears.now) }
+    ensures counts { OnOk result
+        (All (λ ear. HasEach load.senders load.messages ear.heard) ears.now) }
+    ensures order { OnOk result ((order : List Item)
+        × All (λ ear. ear.order.items ≡ order) ears.now) }
 {
     check_counts(ears, load)?;
     match ears.first() {
@@ -72,7 +74,8 @@ fn is_same(order: &[Got], other: &[Got]) -> bool
     order == other
 }
 
-/// The first sender closes the bus, and the bus is ended. Sees that it has all items of each sender.
+/// The first sender closes the bus, and the bus is ended. Sees that it has all items of each
+/// sender.
 pub fn close_and_end<W: Wait>(wait: &W, bus: Bus, crew: Crew, load: Load) -> Result<(), Fault> {
     let Crew {
         mut desks,

@@ -38,8 +38,9 @@ impl Gate {
         unreachable!()
     }
 
-    /// Waits until so many workers have arrived, opens the gate, and gives the instant before. Where
-    /// there is none, as the round was given up or the clock could not be read, it is given up.
+    /// Waits until so many workers have arrived, opens the gate, and gives the instant before.
+    /// Where there is none, as the round was given up or the clock could not be read, it is given
+    /// up.
     pub fn open<R: Wait + Clock>(&self, rt: &R, workers: u64) -> Option<Instant> {
         if !self.wait_for(rt, workers) {
             return None;

@@ -1,8 +1,8 @@
 //! `bus_bench` times a bus: a thread for each sender and each receiver shares a new bus, once for
 //! each repetition, and each receiver takes all items. What the receivers were given is checked.
 //!
-//! Exit status: 0 where all rounds passed; 1 where the messages do not fit a bus or a round failed, which standard error
-//! then says; 2 where the command line was refused.
+//! Exit status: 0 where all rounds passed; 1 where the messages do not fit a bus or a round failed,
+//! which standard error then says; 2 where the command line was refused.
 #![tactic(auto)]
 
 mod checks;

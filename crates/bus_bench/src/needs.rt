@@ -1,6 +1,7 @@
 //! What a sitting takes of a bus, and whether a bus has it.
 
-ghost use Rattle.std.specs.Prelude.{◌≡◌, ◌*◌, ◌<◌, ◌≤◌, ◌⊎◌, IfOk, IfErr, OnOk, OnErr};
+ghost use Rattle.std.specs.Prelude.{◌≡◌, ◌*◌, ◌<◌, ◌≤◌, ◌⊎◌, IfOk, IfErr};
+ghost use Rattle.std.specs.Prelude.{OnOk, OnErr};
 
 use crate::request::{Request, Size};
 use std::fmt;
@@ -80,8 +81,8 @@ impl Request {
         u128::from(self.senders) * self.batches() + 1
     }
 
-    /// How many log words a sitting takes: one for each batch, for each message one and those of its
-    /// bytes, and two for the close.
+    /// How many log words a sitting takes: one for each batch, for each message one and those of
+    /// its bytes, and two for the close.
     pub fn words_needed(self) -> u128
         ensures { result ≡ words_of self }
     {
@@ -91,11 +92,14 @@ impl Request {
 
     /// The same, if a bus has enough for it.
     pub fn load(self) -> Result<Load, Shortage>
-        ensures workers { IfOk result (λ load. (load.senders ≡ self.senders) × (load.receivers ≡ self.receivers)) }
-        ensures messages { IfOk result (λ load. (load.messages ≡ self.messages) × (load.size ≡ self.size)) }
+        ensures workers { IfOk result (λ load. (load.senders ≡ self.senders)
+            × (load.receivers ≡ self.receivers)) }
+        ensures messages { IfOk result (λ load. (load.messages ≡ self.messages)
+            × (load.size ≡ self.size)) }
         ensures repetitions { IfOk result (λ load. load.repetitions ≡ self.repetitions) }
         ensures fits { OnOk result ((tenures_of self ≤ 256) × (words_of self ≤ 65536)) }
-        ensures needed { IfErr result (λ short. (short.tenures ≡ tenures_of self) × (short.words ≡ words_of self)) }
+        ensures needed { IfErr result (λ short. (short.tenures ≡ tenures_of self)
+            × (short.words ≡ words_of self)) }
         ensures short { OnErr result ((256 < tenures_of self) ⊎ (65536 < words_of self)) }
     {
         let tenures = self.tenures_needed();

@@ -1,6 +1,7 @@
 //! What is printed.
 
-ghost use Rattle.std.specs.Prelude.{◌≡◌, ◌+◌, ◌-◌, ◌/◌, ◌<◌, ◌≤◌, length, slice_index, IfSome, MatchOption, Contains, EachIndex};
+ghost use Rattle.std.specs.Prelude.{◌≡◌, ◌+◌, ◌-◌, ◌/◌, ◌<◌, ◌≤◌};
+ghost use Rattle.std.specs.Prelude.{length, slice_index, IfSome, MatchOption, Contains, EachIndex};
 
 use crate::faults::Fault;
 use crate::needs::Load;
@@ -83,7 +84,8 @@ fn print_summary<R: Print>(rt: &R, load: Load, least: u64, median: u64) -> io::R
 
 /// The least of the times; none of none.
 pub fn least_of(times: &[u64]) -> Option<u64>
-    ensures least { MatchOption result (length times.now ≡ 0) (λ least. EachIndex times.now (λ k. least ≤ slice_index times.now k)) }
+    ensures least { MatchOption result (length times.now ≡ 0)
+        (λ least. EachIndex times.now (λ k. least ≤ slice_index times.now k)) }
     ensures among { IfSome result (Contains times.now) }
 {
     times.iter().copied().min()
@@ -91,7 +93,10 @@ pub fn least_of(times: &[u64]) -> Option<u64>
 
 /// The middle of numbers in order: of an even count, half the sum of the two in the middle.
 pub fn middle(sorted: &[u64]) -> Option<u64>
-    ensures { MatchOption result (length sorted.now ≡ 0) (λ middle. middle ≡ (slice_index sorted.now ((length sorted.now - 1) / 2) + slice_index sorted.now (length sorted.now / 2)) / 2) }
+    ensures { MatchOption result (length sorted.now ≡ 0)
+        (λ middle. middle
+        ≡ (slice_index sorted.now ((length sorted.now - 1) / 2) + slice_index sorted.now
+        (length sorted.now / 2)) / 2) }
 {
     if sorted.is_empty() {
         return None;

@@ -1,6 +1,7 @@
 //! What the command line asks for.
 
-ghost use Rattle.std.specs.Prelude.{◌≡◌, ◌≢◌, ◌<◌, ◌≤◌, ◌^◌, length, None, IfSome, IfOk, IfErr, OnOk};
+ghost use Rattle.std.specs.Prelude.{◌≡◌, ◌≢◌, ◌<◌, ◌≤◌, ◌^◌, length};
+ghost use Rattle.std.specs.Prelude.{None, IfSome, IfOk, IfErr, OnOk};
 ghost use Rattle.std.specs.Option.{SomeIff};
 ghost use Rattle.std.specs.Str.Parse.{IsNumeral, digits_value};
 ghost use Rattle.bus_bench.specs.Sizes.{bytes_of};
@@ -124,8 +125,10 @@ impl Request {
         bytes: u64,
         repetitions: u64,
     ) -> Result<Request, Refusal>
-        ensures senders { IfOk result (λ request. (request.senders ≡ senders) × (request.receivers ≡ receivers)) }
-        ensures messages { IfOk result (λ request. (request.messages ≡ messages) × (bytes_of request.size ≡ bytes)) }
+        ensures senders { IfOk result (λ request. (request.senders ≡ senders)
+            × (request.receivers ≡ receivers)) }
+        ensures messages { IfOk result (λ request. (request.messages ≡ messages)
+            × (bytes_of request.size ≡ bytes)) }
         ensures repetitions { IfOk result (λ request. request.repetitions ≡ repetitions) }
         ensures refused { IfErr result (IsOutOfRange senders receivers messages bytes repetitions) }
     {
@@ -179,10 +182,12 @@ fn read_request(
     repetitions: &str,
 ) -> Result<Request, Refusal>
     ensures senders { IfOk result (λ request. request.senders ≡ digits_value 10 senders.now) }
-    ensures receivers { IfOk result (λ request. request.receivers ≡ digits_value 10 receivers.now) }
+    ensures receivers { IfOk result
+        (λ request. request.receivers ≡ digits_value 10 receivers.now) }
     ensures messages { IfOk result (λ request. request.messages ≡ digits_value 10 messages.now) }
     ensures bytes { IfOk result (λ request. bytes_of request.size ≡ digits_value 10 bytes.now) }
-    ensures repetitions { IfOk result (λ request. request.repetitions ≡ digits_value 10 repetitions.now) }
+    ensures repetitions { IfOk result
+        (λ request. request.repetitions ≡ digits_value 10 repetitions.now) }
 {
     Request::new(
         number(senders, Field::Senders)?,
@@ -203,7 +208,8 @@ fn number(word: &str, field: Field) -> Result<u64, Refusal>
 
 /// The number that decimal digits write, without a sign.
 pub fn number_of(word: &str) -> Option<u64>
-    ensures { SomeIff result (IsNumeral 10 word.now × (digits_value 10 word.now < 2 ^ 64)) (digits_value 10 word.now) }
+    ensures { SomeIff result (IsNumeral 10 word.now
+        × (digits_value 10 word.now < 2 ^ 64)) (digits_value 10 word.now) }
 {
     if word.as_bytes().first() == Some(&b'+') {
         return None;

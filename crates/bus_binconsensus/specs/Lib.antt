@@ -3,6 +3,7 @@ pub mod Fallback
 pub mod Chain
 pub mod Lift
 pub mod Objects
+pub mod Decisions
 pub mod ObjectNames
 pub mod DecideLaw
 pub mod DecideRefuses

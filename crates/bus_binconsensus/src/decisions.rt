@@ -1,9 +1,12 @@
 //! A binary decision: ratifiers and conciliators in turn, and a fallback word.
 
-ghost use Rattle.std.specs.Prelude.{◌≡◌, ◌≢◌, ℕ, ◌+◌, ◌*◌, ◌-◌, ◌<◌, ◌≤◌, ◌^◌};
+ghost use Rattle.std.specs.Prelude.{◌≡◌, ◌≢◌, ℕ, ◌+◌, ◌*◌, ◌-◌, ◌<◌};
+ghost use Rattle.std.specs.Prelude.{◌≤◌, ◌^◌};
 ghost use Rattle.bus_binconsensus.specs.Chain.{span, entered};
 ghost use Rattle.bus_binconsensus.specs.ObjectNames.{objects_named};
-ghost use Rattle.bus_binconsensus.specs.Objects.{objects_of, object_kind, object_calls, decide_op, decide_fed, decide_protocol};
+ghost use Rattle.bus_binconsensus.specs.Objects.{objects_of, object_kind, object_calls, decide_op};
+ghost use Rattle.bus_binconsensus.specs.Objects.{decide_fed};
+ghost use Rattle.bus_binconsensus.specs.Decisions.{decisions};
 ghost use Rattle.bus_coinconc.specs.Conciliator.{conciliator_kind, conciliator_op, conciliator_fed};
 ghost use Rattle.bus_coinconc.specs.ConciliatorProtocol.{conciliator_protocol};
 ghost use Rattle.bus_coinconc.specs.ConciliatorSteps.{conciliator_names_each_step};
@@ -40,9 +43,17 @@ impl<Q: Ratifier> Model for Decide<Q> {
 
     ghost Value = { Link (Object Q ConciliatorState) };
 
-    ghost view = { λ d. record { n = d.n; me = d.me.0; at = d.at.0; input = d.input; after = d.after; object = d.object } };
+    ghost view = { λ d. record {
+      n = d.n;
+      me = d.me.0;
+      at = d.at.0;
+      input = d.input;
+      after = d.after;
+      object = d.object;
+    } };
 
-    ghost invariant = { λ d. (d.me.0 < d.n) × (d.n ≤ 64) × (d.at.0 + span (objects_of Q.protocol conciliator_protocol) d.n d.after ≤ 2 ^ 64) };
+    ghost invariant = { λ d. (d.me.0 < d.n) × (d.n ≤ 64)
+        × (d.at.0 + span (objects_of Q.protocol conciliator_protocol) d.n d.after ≤ 2 ^ 64) };
 }
 
 impl<Q: Ratifier + Drop> Decide<Q> {
@@ -52,7 +63,7 @@ impl<Q: Ratifier + Drop> Decide<Q> {
         requires some { 1 ≤ rounds }
         requires not_many { rounds ≤ 8 }
         ensures words { result ≡ rounds * Q.protocol.width n + (rounds - 1) * (n + 2) + 1 }
-        ensures protocol { result ≡ (decide_protocol Q.protocol conciliator_protocol rounds).width n }
+        ensures protocol { result ≡ (decisions Q.protocol rounds).width n }
     {
         rounds * Q::width(n) + (rounds - 1) * Conciliator::width(n) + 1
     }
@@ -64,8 +75,8 @@ impl<Q: Ratifier + Drop> Decide<Q> {
         requires few { n ≤ 64 }
         requires some { 1 ≤ rounds }
         requires not_many { rounds ≤ 8 }
-        requires room { at.0 + (decide_protocol Q.protocol conciliator_protocol rounds).width n ≤ 2 ^ 64 }
-        ensures { result ≡ (decide_protocol Q.protocol conciliator_protocol rounds).started n me.0 input at.0 }
+        requires room { at.0 + (decisions Q.protocol rounds).width n ≤ 2 ^ 64 }
+        ensures { result ≡ (decisions Q.protocol rounds).started n me.0 input at.0 }
     {
         let after = 2 * rounds - 1;
         Decide {
@@ -80,7 +91,7 @@ impl<Q: Ratifier + Drop> Decide<Q> {
 
     /// The decision, once the process takes no further step.
     pub fn decided(&self) -> Option<bool>
-        ensures { (rounds : ℕ) → result ≡ (decide_protocol Q.protocol conciliator_protocol rounds).output self.now }
+        ensures { (rounds : ℕ) → result ≡ (decisions Q.protocol rounds).output self.now }
     {
         match self.object.output() {
             Some(Verdict::Commit(value)) | Some(Verdict::Adopt(value)) => Some(value),
@@ -113,7 +124,8 @@ impl<Q: Ratifier + Drop> Machine for Decide<Q> {
 
     ghost fed = { decide_fed Q.protocol conciliator_protocol Q.fed conciliator_fed };
 
-    ghost names_each_step = { λ d word. objects_named Q.kind_of Q.op Q.names_each_step conciliator_kind conciliator_op conciliator_names_each_step d.object word };
+    ghost names_each_step = { λ d word. objects_named Q.kind_of Q.op Q.names_each_step
+        conciliator_kind conciliator_op conciliator_names_each_step d.object word };
 
     fn kind(&self) -> Option<Kind> {
         self.object.kind()

@@ -1,6 +1,7 @@
 //! What holds of every binary decision, over any ratifier.
 
-ghost use Rattle.std.specs.Prelude.{◌≡◌, ℕ, ◌+◌, ◌*◌, ◌-◌, ◌<◌, ◌≤◌, ◌^◌};
+ghost use Rattle.std.specs.Prelude.{◌≡◌, ℕ, ◌+◌, ◌*◌, ◌-◌, ◌<◌, ◌≤◌};
+ghost use Rattle.std.specs.Prelude.{◌^◌};
 ghost use Rattle.bus_binconsensus.specs.DecideLaw.{DecideLaw};
 ghost use Rattle.bus_binconsensus.specs.DecideRefuses.{RefusesShortcuts};
 ghost use Rattle.bus_coinconc.specs.Conciliator.{conciliator_op, conciliator_fed};

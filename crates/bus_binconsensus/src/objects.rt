@@ -1,7 +1,8 @@
 //! The objects that a decision goes through.
 
 ghost use Rattle.std.specs.Prelude.{◌≡◌, ℕ, ◌+◌, ◌<◌, ◌≤◌, ◌^◌};
-ghost use Rattle.bus_binconsensus.specs.Objects.{objects_of, object_kind, object_op, object_fed, object_output, object_calls};
+ghost use Rattle.bus_binconsensus.specs.Objects.{objects_of, object_kind, object_op, object_fed};
+ghost use Rattle.bus_binconsensus.specs.Objects.{object_output, object_calls};
 ghost use Rattle.bus_binconsensus.specs.ObjectNames.{objects_named};
 ghost use Rattle.bus_coinconc.specs.Conciliator.{conciliator_kind, conciliator_op, conciliator_fed};
 ghost use Rattle.bus_coinconc.specs.ConciliatorProtocol.{conciliator_protocol};
@@ -44,8 +45,10 @@ impl<Q: Ratifier> Object<Q, Conciliator> {
     pub fn start(n: u64, me: SenderNo, input: bool, at: Reg, after: u64) -> Object<Q, Conciliator>
         requires me_below { me.0 < n }
         requires few { n ≤ 64 }
-        requires room { at.0 + (objects_of Q.protocol conciliator_protocol after).width n ≤ 2 ^ 64 }
-        ensures { result ≡ (objects_of Q.protocol conciliator_protocol after).started n me.0 input at.0 }
+        requires room { at.0 + (objects_of Q.protocol conciliator_protocol after).width n
+            ≤ 2 ^ 64 }
+        ensures { result
+            ≡ (objects_of Q.protocol conciliator_protocol after).started n me.0 input at.0 }
     {
         if after == 0 {
             Object::Fall(Fallback {
@@ -95,7 +98,8 @@ impl<Q: Ratifier> Machine for Object<Q, Conciliator> {
 
     ghost fed = { object_fed Q.fed conciliator_fed };
 
-    ghost names_each_step = { objects_named Q.kind_of Q.op Q.names_each_step conciliator_kind conciliator_op conciliator_names_each_step };
+    ghost names_each_step = { objects_named Q.kind_of Q.op Q.names_each_step conciliator_kind
+        conciliator_op conciliator_names_each_step };
 
     fn kind(&self) -> Option<Kind> {
         match self {

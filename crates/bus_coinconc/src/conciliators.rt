@@ -36,7 +36,13 @@ impl Model for Conciliator {
 
     ghost Value = { ConciliatorState };
 
-    ghost view = { λ c. record { n = c.n; me = c.me.0; at = c.at.0; input = c.input; stage = c.stage } };
+    ghost view = { λ c. record {
+      n = c.n;
+      me = c.me.0;
+      at = c.at.0;
+      input = c.input;
+      stage = c.stage;
+    } };
 
     ghost invariant = { λ c. Sized c.n c.me.0 c.at.0 };
 }
@@ -97,7 +103,8 @@ impl Conciliator {
 }
 
 impl Machine for Conciliator {
-    ghost use Rattle.bus_coinconc.specs.Conciliator.{conciliator_kind, conciliator_op, conciliator_fed};
+    ghost use Rattle.bus_coinconc.specs.Conciliator.{conciliator_kind, conciliator_op};
+    ghost use Rattle.bus_coinconc.specs.Conciliator.{conciliator_fed};
     ghost use Rattle.bus_coinconc.specs.ConciliatorSteps.{conciliator_names_each_step};
 
     ghost kind_of = { conciliator_kind };

@@ -4,7 +4,8 @@ ghost use Rattle.std.specs.Prelude.{◌≡◌, Some};
 ghost use Rattle.bus_register.specs.Protocol.{Laws};
 ghost use Rattle.bus_register.specs.declared.kinds.Kind.{Kind};
 ghost use Rattle.bus_coinconc.specs.Conciliation.{Conciles};
-ghost use Rattle.bus_coinconc.specs.Conciliator.{ConciliatorState, conciliator_kind, conciliator_op, conciliator_fed};
+ghost use Rattle.bus_coinconc.specs.Conciliator.{ConciliatorState, conciliator_kind};
+ghost use Rattle.bus_coinconc.specs.Conciliator.{conciliator_op, conciliator_fed};
 ghost use Rattle.bus_coinconc.specs.ConciliatorKinds.{IsOfConciliator};
 ghost use Rattle.bus_coinconc.specs.ConciliatorProtocol.{conciliator_protocol};
 
@@ -17,5 +18,6 @@ pub fn conciliator_is_lawful()
 
 /// A conciliator's steps are of its four kinds.
 pub fn conciliator_names_its_kinds()
-    ensures { (s : ConciliatorState) (k : Kind) → conciliator_kind s ≡ Some k → IsOfConciliator k }
+    ensures { (s : ConciliatorState) (k : Kind) → conciliator_kind s ≡ Some k
+        → IsOfConciliator k }
 {}

@@ -1,6 +1,7 @@
 //! A whole log, read.
 
-ghost use Rattle.std.specs.Prelude.{◌≡◌, ◌≢◌, ℕ, List, ◌++◌, ◌||◌, IfOk, IfErr, OnOk, MatchResult, Err};
+ghost use Rattle.std.specs.Prelude.{◌≡◌, ◌≢◌, ℕ, List, ◌++◌, ◌||◌, IfOk};
+ghost use Rattle.std.specs.Prelude.{IfErr, OnOk, MatchResult, Err};
 ghost use Rattle.bus_batch.specs.Frames.{Spells, BeginsLog, piece_items, piece_owners, is_end};
 ghost use Rattle.bus_deliverylog.specs.Orders.{order_held};
 ghost use Rattle.bus_deliverylog.specs.Logs.{Reads, IsFirstBad, IsTorn, StopsAtGood};
@@ -11,12 +12,16 @@ use std::alloc::Global;
 
 /// Reads the words of a log of so many senders.
 pub fn read_log(alloc: Global, words: &[u64], senders: u64) -> Result<LogRead, LogFault>
-    ensures read { IfOk result (λ read. Spells senders words.now (order_held read.order) read.owners.items) }
+    ensures read { IfOk result
+        (λ read. Spells senders words.now (order_held read.order) read.owners.items) }
 
     // Of the words of a log it tells just what they spell, unless memory is refused.
-    ensures exact { (order : _) (owners : _) → Spells senders words.now order owners → MatchResult result (λ read. (order_held read.order ≡ order) × (read.owners.items ≡ owners)) (λ fault. fault ≡ LogFault.NoMemory) }
+    ensures exact { (order : _) (owners : _) → Spells senders words.now order owners
+        → MatchResult result (λ read. (order_held read.order ≡ order)
+        × (read.owners.items ≡ owners)) (λ fault. fault ≡ LogFault.NoMemory) }
 
-    ensures bad { (place : _) → result ≡ Err (LogFault.BadWord place) → IsFirstBad senders words.now place }
+    ensures bad { (place : _) → result ≡ Err (LogFault.BadWord place)
+        → IsFirstBad senders words.now place }
     ensures torn { result ≡ Err LogFault.Torn → IsTorn senders words.now }
     ensures no_memory { result ≡ Err LogFault.NoMemory → StopsAtGood senders words.now }
 {
@@ -33,9 +38,12 @@ pub(crate) fn read_words(
     words: &[u64],
     senders: u64,
 ) -> Result<(LogRead, FrameReader), LogFault>
-    ensures read { IfOk result (λ done. Reads senders words.now done.1 (order_held done.0.order) done.0.owners.items) }
-    ensures begins { BeginsLog senders words.now → IfErr result (λ fault. fault ≡ LogFault.NoMemory) }
-    ensures bad { (place : _) → result ≡ Err (LogFault.BadWord place) → IsFirstBad senders words.now place }
+    ensures read { IfOk result
+        (λ done. Reads senders words.now done.1 (order_held done.0.order) done.0.owners.items) }
+    ensures begins { BeginsLog senders words.now
+        → IfErr result (λ fault. fault ≡ LogFault.NoMemory) }
+    ensures bad { (place : _) → result ≡ Err (LogFault.BadWord place)
+        → IsFirstBad senders words.now place }
     ensures torn { result ≢ Err LogFault.Torn }
     ensures no_memory { result ≡ Err LogFault.NoMemory → StopsAtGood senders words.now }
 {
@@ -60,9 +68,11 @@ pub(crate) fn read_words(
 
 /// Notes what a word gave.
 fn note(read: &mut LogRead, found: Option<Piece>) -> Result<(), LogFault>
-    ensures items { OnOk result (read.new.order.items.items ≡ read.old.order.items.items ++ piece_items found) }
+    ensures items { OnOk result
+        (read.new.order.items.items ≡ read.old.order.items.items ++ piece_items found) }
     ensures ended { OnOk result (read.new.order.ended ≡ (read.old.order.ended || is_end found)) }
-    ensures owners { OnOk result (read.new.owners.items ≡ read.old.owners.items ++ piece_owners found) }
+    ensures owners { OnOk result
+        (read.new.owners.items ≡ read.old.owners.items ++ piece_owners found) }
     ensures only { IfErr result (λ fault. fault ≡ LogFault.NoMemory) }
 {
     match found {

@@ -1,6 +1,7 @@
 //! A receiver's end of the log.
 
-ghost use Rattle.std.specs.Prelude.{◌≡◌, ◌≢◌, ℕ, ◌+◌, ◌<◌, ◌≤◌, ◌^◌, [], false};
+ghost use Rattle.std.specs.Prelude.{◌≡◌, ◌≢◌, ℕ, ◌+◌, ◌<◌, ◌≤◌};
+ghost use Rattle.std.specs.Prelude.{◌^◌, [], false};
 ghost use Rattle.bus_batch.specs.Reading.{HasRead};
 
 use bus_batch::{FrameReader, Item, Piece};
@@ -41,19 +42,39 @@ impl Model for Reader {
 
     ghost Value = { Receiving };
 
-    ghost view = { λ r. record { log_at = r.log.0; length_at = r.length.0; log_words = r.words; known = r.known; place = r.place; frames = r.frames; ended = r.ended } };
+    ghost view = { λ r. record {
+      log_at = r.log.0;
+      length_at = r.length.0;
+      log_words = r.words;
+      known = r.known;
+      place = r.place;
+      frames = r.frames;
+      ended = r.ended;
+    } };
 
-    ghost invariant = { λ r. (r.log.0 + r.words < 2 ^ 64) × (r.known ≤ r.words) × (r.place ≤ r.known) × HasSeen (record { log_at = r.log.0; length_at = r.length.0; log_words = r.words; known = r.known; place = r.place; frames = r.frames; ended = r.ended }) };
+    ghost invariant = { λ r. (r.log.0 + r.words < 2 ^ 64) × (r.known ≤ r.words)
+        × (r.place ≤ r.known)
+        × HasSeen (record {
+          log_at = r.log.0;
+          length_at = r.length.0;
+          log_words = r.words;
+          known = r.known;
+          place = r.place;
+          frames = r.frames;
+          ended = r.ended;
+        }) };
 }
 
 impl Reader {
-    ghost use Rattle.bus_deliverylog.specs.Receiving.{receiving_kind, receiving_op, HasReceived, TakesLength, TakesWord};
+    ghost use Rattle.bus_deliverylog.specs.Receiving.{receiving_kind, receiving_op, HasReceived};
+    ghost use Rattle.bus_deliverylog.specs.Receiving.{TakesLength, TakesWord};
 
     /// A receiver at the first word of a log of so many senders, which can have `words` words from
     /// `log` on, and its length at `length`. It knows no word.
     pub fn new(senders: u64, log: Reg, length: Reg, words: u64) -> Reader
         requires { log.0 + words < 2 ^ 64 }
-        ensures at { (result.log_at ≡ log.0) × (result.length_at ≡ length.0) × (result.log_words ≡ words) }
+        ensures at { (result.log_at ≡ log.0) × (result.length_at ≡ length.0)
+            × (result.log_words ≡ words) }
         ensures start { (result.known ≡ 0) × (result.place ≡ 0) × (result.ended ≡ false) }
         ensures senders { result.frames.senders ≡ senders }
         ensures received { HasReceived [] [] result }
@@ -121,8 +142,11 @@ impl Reader {
     /// The step that `next` told was taken, and found `got`.
     pub fn feed(&mut self, got: u64) -> RecvTurn
         requires { self.old.ended ≡ false }
-        ensures length { self.old.place ≡ self.old.known → TakesLength self.old got result self.new }
-        ensures word { self.old.place ≢ self.old.known → (words : _) (pieces : _) → HasReceived words pieces self.old → TakesWord words pieces self.old got result self.new }
+        ensures length { self.old.place ≡ self.old.known
+            → TakesLength self.old got result self.new }
+        ensures word { self.old.place ≢ self.old.known → (words : _) (pieces : _)
+            → HasReceived words pieces self.old
+            → TakesWord words pieces self.old got result self.new }
         ensures place { self.new.place ≤ self.old.place + 1 }
         ensures senders { self.new.frames.senders ≡ self.old.frames.senders }
     {
@@ -151,7 +175,8 @@ impl Reader {
     fn feed_word(&mut self, got: u64) -> RecvTurn
         requires unread { self.old.place ≢ self.old.known }
         requires going { self.old.ended ≡ false }
-        ensures word { (words : _) (pieces : _) → HasReceived words pieces self.old → TakesWord words pieces self.old got result self.new }
+        ensures word { (words : _) (pieces : _) → HasReceived words pieces self.old
+            → TakesWord words pieces self.old got result self.new }
         ensures place { self.new.place ≤ self.old.place + 1 }
         ensures senders { self.new.frames.senders ≡ self.old.frames.senders }
     {

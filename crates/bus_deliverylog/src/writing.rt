@@ -1,6 +1,7 @@
 //! A sender's end of the log.
 
-ghost use Rattle.std.specs.Prelude.{◌≡◌, ℕ, ◌+◌, ◌<◌, ◌≤◌, ◌^◌, length, Some, None};
+ghost use Rattle.std.specs.Prelude.{◌≡◌, ℕ, ◌+◌, ◌<◌, ◌≤◌, ◌^◌, length};
+ghost use Rattle.std.specs.Prelude.{Some, None};
 ghost use Rattle.bus_batch.specs.Batches.{HasSomething, frame_of};
 ghost use Rattle.bus_batch.specs.Frames.{frame_words};
 
@@ -26,9 +27,16 @@ impl Model for Writer {
 
     ghost Value = { Writing };
 
-    ghost view = { λ w. record { frame = w.frame.items; from = w.from; stored = w.stored; log_at = w.log.0; length_at = w.length.0 } };
+    ghost view = { λ w. record {
+      frame = w.frame.items;
+      from = w.from;
+      stored = w.stored;
+      log_at = w.log.0;
+      length_at = w.length.0;
+    } };
 
-    ghost invariant = { λ w. (w.log.0 + w.from + len w.frame.items < 2 ^ 64) × (len w.frame.items ≤ 129) × (w.stored ≤ len w.frame.items + 1) };
+    ghost invariant = { λ w. (w.log.0 + w.from + len w.frame.items < 2 ^ 64)
+        × (len w.frame.items ≤ 129) × (w.stored ≤ len w.frame.items + 1) };
 }
 
 impl Writer {
@@ -38,7 +46,13 @@ impl Writer {
         requires something { HasSomething batch.now }
         requires tenure { tenure < 2 ^ 40 }
         requires fits { log.0 + from + 129 < 2 ^ 64 }
-        ensures { result ≡ record { frame = frame_words (frame_of batch.now tenure); from = from; stored = 0; log_at = log.0; length_at = length.0 } }
+        ensures { result ≡ record {
+          frame = frame_words (frame_of batch.now tenure);
+          from = from;
+          stored = 0;
+          log_at = log.0;
+          length_at = length.0;
+        } }
     {
         let len = batch.frame_len();
         let mut frame = ArrayVec::new();

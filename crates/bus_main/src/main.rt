@@ -1,8 +1,9 @@
 //! The program `bus`. `bus ratify` and `bus replay` read a script from standard input and write its
 //! answer to standard output. `bus run` lets threads share a bus, and writes what came of it.
 //!
-//! Exit status: 0 where the script was played or the bus was run; 1 where a script was refused or the program could not do
-//! its work, which standard error then says; 2 where the command line was refused or asked for help.
+//! Exit status: 0 where the script was played or the bus was run; 1 where a script was refused or
+//! the program could not do its work, which standard error then says; 2 where the command line was
+//! refused or asked for help.
 #![tactic(auto)]
 
 mod command_line;

@@ -32,14 +32,20 @@ pub fn print_run<R: Threads + Wait + Sync, W: Write>(
     writer: &mut W,
 ) -> Result<Outcome, RunFault>
     // The run ended well, and all of its text was written.
-    ensures ok { IfOk result (λ outcome. (outcome ≡ Outcome.Done) × (text : List ℕ) × IsRunText request.senders request.receivers (min request.messages 400) text × Appends (W.contents writer.old) (W.contents writer.new) text) }
+    ensures ok { IfOk result (λ outcome. (outcome ≡ Outcome.Done) × (text : List ℕ)
+        × IsRunText request.senders request.receivers (min request.messages 400) text
+        × Appends (W.contents writer.old) (W.contents writer.new) text) }
 
     // The run ended well, and a part of its text was written.
-    ensures write { IsErrOf result RunFault.Write → (text : List ℕ) × IsRunText request.senders request.receivers (min request.messages 400) text × WritesPart (W.contents writer.old) (W.contents writer.new) text }
+    ensures write { IsErrOf result RunFault.Write → (text : List ℕ)
+        × IsRunText request.senders request.receivers (min request.messages 400) text
+        × WritesPart (W.contents writer.old) (W.contents writer.new) text }
 
     // Else the run did not end well, and nothing was written.
-    ensures fault { IfErr result (λ fault. (fault ≡ RunFault.Write) ⊎ IsRunFault request.senders request.receivers fault) }
-    ensures unwritten { IfErr result (λ fault. (fault ≡ RunFault.Write → ⊥) → Keeps (W.contents writer.old) (W.contents writer.new)) }
+    ensures fault { IfErr result (λ fault. (fault ≡ RunFault.Write)
+        ⊎ IsRunFault request.senders request.receivers fault) }
+    ensures unwritten { IfErr result (λ fault. (fault ≡ RunFault.Write → ⊥)
+        → Keeps (W.contents writer.old) (W.contents writer.new)) }
 {
     let messages = request.messages.min(400);
     let report = run(

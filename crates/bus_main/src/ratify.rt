@@ -20,16 +20,21 @@ pub fn ratify<R: Read, W: Write>(
     writer: &mut W,
 ) -> Result<Outcome, RunFault>
     // All of the input was read, and all of its answer was written.
-    ensures ok { IfOk result (λ outcome. (input text : List ℕ) × ReadsWhole (R.remaining reader.old) input × IsAnswer input outcome text
+    ensures ok { IfOk result (λ outcome. (input text : List ℕ)
+        × ReadsWhole (R.remaining reader.old) input × IsAnswer input outcome text
         × Appends (W.contents writer.old) (W.contents writer.new) text) }
 
-    // Which faults there are. But for a front of the answer, where a write failed, nothing was written.
-    ensures fault { IfErr result (IsScriptFault (λ input text. (outcome : Outcome) × IsAnswer input outcome text)
-        (R.remaining reader.old) (R.remaining reader.new) (W.contents writer.old) (W.contents writer.new)) }
+    // Which faults there are. But for a front of the answer, where a write failed, nothing was
+    // written.
+    ensures fault { IfErr result (IsScriptFault (λ input text. (outcome : Outcome)
+        × IsAnswer input outcome text)
+        (R.remaining reader.old) (R.remaining reader.new) (W.contents writer.old)
+        (W.contents writer.new)) }
 
     // The reader is at its end, or it gave no more than shows that the input is too long.
     ensures end { OnOk result (IsAtEnd (R.remaining reader.new)) }
-    ensures taken { ReadsAtMost (R.remaining reader.old) (R.remaining reader.new) (input_limit + 1) }
+    ensures taken { ReadsAtMost (R.remaining reader.old) (R.remaining reader.new)
+        (input_limit + 1) }
 {
     let input = read_whole(alloc, reader)?;
     let answer = answer_to(alloc, input.as_slice())?;

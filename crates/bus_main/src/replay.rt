@@ -24,19 +24,23 @@ pub fn replay<Q: Ratifier + Drop, R: Read, W: Write>(
 ) -> Result<Outcome, RunFault>
     // All of the input was read, and all of its answer was written.
     ensures ok { let X = election_of Q.Ratifier in
-        IfOk result (λ outcome. (input text : List ℕ) × ReadsWhole (R.remaining reader.old) input
+        IfOk result (λ outcome. (input text : List ℕ)
+        × ReadsWhole (R.remaining reader.old) input
         × IsReplay (λ shape. (X, layout_of Q.protocol shape)) input outcome text
         × Appends (W.contents writer.old) (W.contents writer.new) text) }
 
-    // Which faults there are. But for a front of the answer, where a write failed, nothing was written.
+    // Which faults there are. But for a front of the answer, where a write failed, nothing was
+    // written.
     ensures fault { let X = election_of Q.Ratifier in
         IfErr result (IsScriptFault (λ input text. (outcome : Outcome)
         × IsReplay (λ shape. (X, layout_of Q.protocol shape)) input outcome text)
-        (R.remaining reader.old) (R.remaining reader.new) (W.contents writer.old) (W.contents writer.new)) }
+        (R.remaining reader.old) (R.remaining reader.new) (W.contents writer.old)
+        (W.contents writer.new)) }
 
     // The reader is at its end, or it gave no more than shows that the input is too long.
     ensures end { OnOk result (IsAtEnd (R.remaining reader.new)) }
-    ensures taken { ReadsAtMost (R.remaining reader.old) (R.remaining reader.new) (input_limit + 1) }
+    ensures taken { ReadsAtMost (R.remaining reader.old) (R.remaining reader.new)
+        (input_limit + 1) }
 {
     let input = read_whole(alloc, reader)?;
     let answer = answer_to::<Q>(alloc, input.as_slice())?;

@@ -2,7 +2,8 @@
 
 ghost use Rattle.std.specs.Prelude.{◌≡◌, ◌+◌, IfOk, OnOk, IfErr};
 ghost use Rattle.std.specs.Io.KnownBytes.{Appends, IsAtEnd};
-ghost use Rattle.bus_main.specs.Streams.{input_limit, ReadsWhole, ReadsAtMost, WritesPart, IsReadFault};
+ghost use Rattle.bus_main.specs.Streams.{input_limit, ReadsWhole, ReadsAtMost, WritesPart};
+ghost use Rattle.bus_main.specs.Streams.{IsReadFault};
 
 use bus_run::RunFault;
 use std::alloc::Global;
@@ -20,7 +21,8 @@ pub fn read_whole<R: Read>(alloc: Global, reader: &mut R) -> Result<Vec<u8>, Run
     ensures ok { IfOk result (λ input. ReadsWhole (R.remaining reader.old) input.items) }
     ensures end { OnOk result (IsAtEnd (R.remaining reader.new)) }
     ensures fault { IfErr result (IsReadFault (R.remaining reader.old) (R.remaining reader.new)) }
-    ensures taken { ReadsAtMost (R.remaining reader.old) (R.remaining reader.new) (input_limit + 1) }
+    ensures taken { ReadsAtMost (R.remaining reader.old) (R.remaining reader.new)
+        (input_limit + 1) }
 {
     let mut input = Vec::new(alloc);
     let mut chunk = [0u8; CHUNK];

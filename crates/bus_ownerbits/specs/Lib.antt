@@ -4,4 +4,5 @@ pub mod ElectionSized
 pub mod ElectionNames
 pub mod ElectionAsks
 pub mod ElectionKeeps
+pub mod Electors
 pub mod ElectionLaw

@@ -1,10 +1,14 @@
 //! Elections of one owner.
 
-ghost use Rattle.std.specs.Prelude.{◌≡◌, ℕ, ◌+◌, ◌*◌, ◌-◌, ◌<◌, ◌≤◌, ◌^◌, IsTrue, true};
-ghost use Rattle.bus_binconsensus.specs.Objects.{object_calls, object_kind, decide_op, decide_fed, decide_protocol};
+ghost use Rattle.std.specs.Prelude.{◌≡◌, ℕ, ◌+◌, ◌*◌, ◌-◌, ◌<◌, ◌≤◌};
+ghost use Rattle.std.specs.Prelude.{◌^◌, IsTrue, true};
+ghost use Rattle.bus_binconsensus.specs.Objects.{object_calls, object_kind, decide_op, decide_fed};
+ghost use Rattle.bus_binconsensus.specs.Decisions.{decisions};
+ghost use Rattle.bus_ownerbits.specs.Electors.{elections};
 ghost use Rattle.bus_coinconc.specs.Conciliator.{conciliator_kind, conciliator_op, conciliator_fed};
 ghost use Rattle.bus_coinconc.specs.ConciliatorProtocol.{conciliator_protocol};
-ghost use Rattle.bus_ownerbits.specs.Election.{election_kind, election_op, election_fed, owner_of, going, seeking, with_bit, fits_bits};
+ghost use Rattle.bus_ownerbits.specs.Election.{election_kind, election_op, election_fed, owner_of};
+ghost use Rattle.bus_ownerbits.specs.Election.{going, seeking, with_bit, fits_bits};
 ghost use Rattle.bus_ownerbits.specs.ElectionKeeps.{election_protocol};
 ghost use Rattle.bus_ownerbits.specs.ElectionNames.{election_named, sender, calls_of};
 ghost use Rattle.bus_ownerbits.specs.Sizes.{bits_of, decision_cost};
@@ -19,10 +23,10 @@ use bus_register::{Kind, Machine, Op, Reg, SenderNo};
 use std::marker::Model;
 
 /// One process of an election of one owner among at most 64 senders. It announces itself; its
-/// candidate is itself. From the highest bit on it proposes its candidate's bit to that bit's binary
-/// decision. After a bit that does not fit its candidate it looks for another announced sender that
-/// fits. The owner is the number that the bits spell. The words are an announcement for each sender,
-/// and then the decisions, that of the lowest bit first.
+/// candidate is itself. From the highest bit on it proposes its candidate's bit to that bit's
+/// binary decision. After a bit that does not fit its candidate it looks for another announced
+/// sender that fits. The owner is the number that the bits spell. The words are an announcement for
+/// each sender, and then the decisions, that of the lowest bit first.
 #[derive(Drop)]
 pub struct Election<Q: Ratifier> {
     n: u64,
@@ -40,7 +44,8 @@ pub struct Election<Q: Ratifier> {
 }
 
 impl<Q: Ratifier> Model for Election<Q> {
-    ghost use Rattle.bus_binconsensus.specs.Objects.{Decider, decide_protocol};
+    ghost use Rattle.bus_binconsensus.specs.Objects.{Decider};
+    ghost use Rattle.bus_binconsensus.specs.Decisions.{decisions};
     ghost use Rattle.bus_coinconc.specs.Conciliator.{ConciliatorState};
     ghost use Rattle.bus_coinconc.specs.ConciliatorProtocol.{conciliator_protocol};
     ghost use Rattle.bus_ownerbits.specs.Election.{Electing};
@@ -48,9 +53,20 @@ impl<Q: Ratifier> Model for Election<Q> {
 
     ghost Value = { Electing (Decider Q ConciliatorState) };
 
-    ghost view = { λ e. record { n = e.n; me = e.me.0; rounds = e.rounds; at = e.at.0; left = e.left; spelled = e.spelled; candidate = e.candidate; turns = e.turns; stage = e.stage } };
+    ghost view = { λ e. record {
+      n = e.n;
+      me = e.me.0;
+      rounds = e.rounds;
+      at = e.at.0;
+      left = e.left;
+      spelled = e.spelled;
+      candidate = e.candidate;
+      turns = e.turns;
+      stage = e.stage;
+    } };
 
-    ghost invariant = { λ e. Sized (decide_protocol Q.protocol conciliator_protocol) e.n e.me.0 e.rounds e.at.0 e.left e.spelled e.stage };
+    ghost invariant = { λ e. Sized (decisions Q.protocol) e.n e.me.0 e.rounds e.at.0 e.left
+        e.spelled e.stage };
 }
 
 impl<Q: Ratifier + Drop> Election<Q> {
@@ -60,8 +76,9 @@ impl<Q: Ratifier + Drop> Election<Q> {
         requires few { n ≤ 64 }
         requires rounds_some { 1 ≤ rounds }
         requires rounds_few { rounds ≤ 8 }
-        ensures words { result ≡ n + bits_of n * (rounds * Q.protocol.width n + (rounds - 1) * (n + 2) + 1) }
-        ensures protocol { result ≡ (election_protocol (decide_protocol Q.protocol conciliator_protocol) decision_cost rounds).width n }
+        ensures words { result
+            ≡ n + bits_of n * (rounds * Q.protocol.width n + (rounds - 1) * (n + 2) + 1) }
+        ensures protocol { result ≡ (elections Q.protocol rounds).width n }
     {
         n + bits(n) * Decide::<Q>::width(n, rounds)
     }
@@ -72,8 +89,8 @@ impl<Q: Ratifier + Drop> Election<Q> {
         requires few { n ≤ 64 }
         requires rounds_some { 1 ≤ rounds }
         requires rounds_few { rounds ≤ 8 }
-        requires room { at.0 + (election_protocol (decide_protocol Q.protocol conciliator_protocol) decision_cost rounds).width n ≤ 2 ^ 64 }
-        ensures { result ≡ (election_protocol (decide_protocol Q.protocol conciliator_protocol) decision_cost rounds).started n me.0 tt at.0 }
+        requires room { at.0 + (elections Q.protocol rounds).width n ≤ 2 ^ 64 }
+        ensures { result ≡ (elections Q.protocol rounds).started n me.0 tt at.0 }
     {
         Election {
             n,
@@ -90,7 +107,7 @@ impl<Q: Ratifier + Drop> Election<Q> {
 
     /// The owner, once the process takes no further step.
     pub fn owner(&self) -> Option<SenderNo>
-        ensures { result ≡ sender (owner_of (decide_protocol Q.protocol conciliator_protocol) self.now) }
+        ensures { result ≡ sender (owner_of (decisions Q.protocol) self.now) }
     {
         match &self.stage {
             Stage::Announce | Stage::Search(_) => None,
@@ -128,7 +145,7 @@ impl<Q: Ratifier + Drop> Election<Q> {
 
     /// Proposes the candidate's next bit.
     fn go_on(&mut self)
-        ensures { self.new ≡ going (decide_protocol Q.protocol conciliator_protocol) self.old }
+        ensures { self.new ≡ going (decisions Q.protocol) self.old }
     {
         if self.left == 0 {
             self.stage = Stage::Alone;
@@ -143,7 +160,7 @@ impl<Q: Ratifier + Drop> Election<Q> {
 
     /// Goes on where the candidate fits, and else begins to search.
     fn seek(&mut self)
-        ensures { self.new ≡ seeking (decide_protocol Q.protocol conciliator_protocol) self.old }
+        ensures { self.new ≡ seeking (decisions Q.protocol) self.old }
     {
         if self.fits(self.candidate) {
             self.go_on();
@@ -172,9 +189,13 @@ impl<Q: Ratifier + Drop> Machine for Election<Q> {
 
     ghost op = { election_op (decide_op Q.op conciliator_op) };
 
-    ghost fed = { election_fed (decide_protocol Q.protocol conciliator_protocol) (decide_fed Q.protocol conciliator_protocol Q.fed conciliator_fed) };
+    ghost fed = { election_fed (decisions Q.protocol)
+        (decide_fed Q.protocol conciliator_protocol Q.fed conciliator_fed) };
 
-    ghost names_each_step = { election_named (λ d. object_kind Q.kind_of conciliator_kind d.object) (decide_op Q.op conciliator_op) (λ d word. objects_named Q.kind_of Q.op Q.names_each_step conciliator_kind conciliator_op conciliator_names_each_step d.object word) };
+    ghost names_each_step = { election_named (λ d. object_kind Q.kind_of conciliator_kind d.object)
+        (decide_op Q.op conciliator_op)
+        (λ d word. objects_named Q.kind_of Q.op Q.names_each_step conciliator_kind conciliator_op
+        conciliator_names_each_step d.object word) };
 
     fn kind(&self) -> Option<Kind> {
         match &self.stage {

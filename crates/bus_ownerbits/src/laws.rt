@@ -1,7 +1,8 @@
 //! What holds of every election, over any ratifier.
 
 ghost use Rattle.std.specs.Prelude.{◌≡◌, ℕ};
-ghost use Rattle.bus_binconsensus.specs.Objects.{decide_op, decide_fed, decide_protocol};
+ghost use Rattle.bus_binconsensus.specs.Objects.{decide_op, decide_fed};
+ghost use Rattle.bus_binconsensus.specs.Decisions.{decisions};
 ghost use Rattle.bus_coinconc.specs.Conciliator.{conciliator_op, conciliator_fed};
 ghost use Rattle.bus_coinconc.specs.ConciliatorProtocol.{conciliator_protocol};
 ghost use Rattle.bus_ownerbits.specs.ElectionAsks.{AsksAsTold};
@@ -12,6 +13,8 @@ use bus_adoptcommit::Ratifier;
 
 /// An election keeps its law, over any ratifier and any number of rounds.
 pub fn election_is_lawful<Q: Ratifier>()
-    ensures lawful { ElectionLaw (decide_op Q.op conciliator_op) (decide_fed Q.protocol conciliator_protocol Q.fed conciliator_fed) (decide_protocol Q.protocol conciliator_protocol) decision_cost }
+    ensures lawful { ElectionLaw (decide_op Q.op conciliator_op)
+        (decide_fed Q.protocol conciliator_protocol Q.fed conciliator_fed)
+        (decisions Q.protocol) decision_cost }
     ensures asks { AsksAsTold Q.protocol conciliator_protocol }
 {}

@@ -1,6 +1,7 @@
 //! How many bits an owner's number has, and how many turns an election takes at most.
 
-ghost use Rattle.std.specs.Prelude.{◌≡◌, ℕ, ◌+◌, ◌*◌, ◌-◌, ◌<◌, ◌≤◌, ◌^◌};
+ghost use Rattle.std.specs.Prelude.{◌≡◌, ℕ, ◌+◌, ◌*◌, ◌-◌, ◌<◌, ◌≤◌};
+ghost use Rattle.std.specs.Prelude.{◌^◌};
 ghost use Rattle.bus_ownerbits.specs.Sizes.{IsBits, bits_of, election_bound};
 
 /// How many bits the numbers below `n` have: the least count of bits that spell `n` numbers.

@@ -256,8 +256,8 @@ impl Schedule {
         }
     }
 
-    /// Takes a turn of a process that goes on, on the words and on the board. Gives whether it still
-    /// goes on.
+    /// Takes a turn of a process that goes on, on the words and on the board. Gives whether it
+    /// still goes on.
     fn take_turn(&mut self, rt: &impl Abort, p: usize, word: u32, reached: &mut Reached) -> bool {
         assert!(rt; p < self.seats.len());
         let seat = &mut self.seats[p];

@@ -26,7 +26,8 @@ impl Bus {
     /// taken here: no later call takes any.
     pub fn new(alloc: Global, shape: Shape) -> Result<(Bus, Vec<Sender>, Vec<Tap>), MakeFault>
         ensures senders { IfOk result (λ made. AreNewSeats shape.senders made.1.items) }
-        ensures taps { IfOk result (λ made. AreNewPasses shape.senders shape.receivers made.2.items) }
+        ensures taps { IfOk result
+            (λ made. AreNewPasses shape.senders shape.receivers made.2.items) }
         ensures served { OnOk result (IsServed shape) }
         ensures fault { IfErr result (MakeRefused shape) }
     {

@@ -1,6 +1,7 @@
 //! What a bus leaves behind.
 
-ghost use Rattle.std.specs.Prelude.{◌≡◌, ℕ, ◌<◌, List, length, None, Some, codes, IfOk, OnErr};
+ghost use Rattle.std.specs.Prelude.{◌≡◌, ℕ, ◌<◌, List, length, None, Some, codes, IfOk};
+ghost use Rattle.std.specs.Prelude.{OnErr};
 ghost use Rattle.bus_register.specs.declared.registers.SenderNo.{SenderNo as Number};
 ghost use Rattle.bus_batch.specs.Frames.{Order, Spells};
 ghost use Rattle.bus_deliverylog.specs.Orders.{of_sender};
@@ -45,15 +46,24 @@ impl Model for Ended {
 
     ghost Value = { Outcome };
 
-    ghost view = { λ e. record { senders = e.world.layout.senders; log = log_of e.world; page = e.page } };
+    ghost view = { λ e. record {
+      senders = e.world.layout.senders;
+      log = log_of e.world;
+      page = e.page;
+    } };
 
-    ghost invariant = { λ e. IsOutcome (record { senders = e.world.layout.senders; log = log_of e.world; page = e.page }) };
+    ghost invariant = { λ e. IsOutcome (record {
+      senders = e.world.layout.senders;
+      log = log_of e.world;
+      page = e.page;
+    }) };
 }
 
 impl Ended {
     /// What this world leaves behind.
     pub(crate) fn of(world: World<TwoCollect>) -> Result<Ended, EndFault>
-        ensures ended { IfOk result (λ e. (e.senders ≡ world.layout.senders) × (e.log ≡ log_of world) × (world.bus.side.home ≡ Some e.page)) }
+        ensures ended { IfOk result (λ e. (e.senders ≡ world.layout.senders)
+            × (e.log ≡ log_of world) × (world.bus.side.home ≡ Some e.page)) }
         ensures out { OnErr result (world.bus.side.home ≡ None) }
     {
         let Some(page) = world.page() else {
@@ -75,7 +85,9 @@ impl Ended {
     pub fn page(&self) -> &Page
         ensures page { result.now ≡ self.now.page }
         ensures words { result.now.words ≡ length self.now.log }
-        ensures ended { (order : Order) (owners : List (ℕ × Number)) → Spells self.now.senders self.now.log order owners → result.now.ended ≡ order.ended }
+        ensures ended { (order : Order) (owners : List (ℕ × Number))
+            → Spells self.now.senders self.now.log order owners
+            → result.now.ended ≡ order.ended }
     {
         spells_one();
         &self.page
@@ -84,8 +96,11 @@ impl Ended {
     /// How many items the sender has in the order that the log spells. It spells one alone.
     pub fn count(&self, sender: SenderNo) -> u64
         requires { sender.0 < 8 }
-        ensures counts { (order : Order) (owners : List (ℕ × Number)) → Spells self.now.senders self.now.log order owners → result ≡ length (of_sender sender.0 order) }
-        ensures spelled { (order : Order) × (owners : List (ℕ × Number)) × Spells self.now.senders self.now.log order owners }
+        ensures counts { (order : Order) (owners : List (ℕ × Number))
+            → Spells self.now.senders self.now.log order owners
+            → result ≡ length (of_sender sender.0 order) }
+        ensures spelled { (order : Order) × (owners : List (ℕ × Number))
+            × Spells self.now.senders self.now.log order owners }
     {
         spells_one();
         self.page.next[usize::from(sender.0)]

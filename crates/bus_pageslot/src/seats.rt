@@ -1,7 +1,10 @@
 //! A sender of a bus.
 
-ghost use Rattle.std.specs.Prelude.{◌≡◌, ℕ, ◌+◌, ◌<◌, ◌≤◌, ◌^◌, [], ◌∷◌, ◌++◌, List, All, length, IfOk, IfErr, OnOk, OnErr, Some, slice_get, true, false};
-ghost use Rattle.bus_batch.specs.Batches.{Pending, next_of, CanPut, IsPutFault, CanClose, IsCloseFault};
+ghost use Rattle.std.specs.Prelude.{◌≡◌, ℕ, ◌+◌, ◌<◌, ◌≤◌, ◌^◌, []};
+ghost use Rattle.std.specs.Prelude.{◌∷◌, ◌++◌, List, All, length, IfOk, IfErr, OnOk};
+ghost use Rattle.std.specs.Prelude.{OnErr, Some, slice_get, true, false};
+ghost use Rattle.bus_batch.specs.Batches.{Pending, next_of, CanPut, IsPutFault, CanClose};
+ghost use Rattle.bus_batch.specs.Batches.{IsCloseFault};
 ghost use Rattle.bus_batch.specs.declared.batches.Phase.TheVariants as queue_phase;
 ghost use Rattle.bus_register.specs.declared.kinds.Kind.TheVariants as kind;
 ghost use Rattle.bus_tenure.specs.Elections.{election_of, elections};
@@ -43,7 +46,15 @@ impl Model for Sender {
 
     ghost Value = { Seat };
 
-    ghost view = { λ s. record { queue = s.batch; fresh = s.fresh.items; closes = s.closes; words = s.words; kind = s.kind; wants_word = s.wants_word; turns_left = s.turns_left } };
+    ghost view = { λ s. record {
+      queue = s.batch;
+      fresh = s.fresh.items;
+      closes = s.closes;
+      words = s.words;
+      kind = s.kind;
+      wants_word = s.wants_word;
+      turns_left = s.turns_left;
+    } };
 
     ghost invariant = { λ s. len s.fresh.items ≤ len s.batch.messages };
 }
@@ -117,11 +128,20 @@ impl Sender {
     pub fn put(&mut self, bytes: &[u8]) -> Result<u64, PutFault>
         requires { next_of self.old.queue < 2 ^ 48 }
         ensures number { IfOk result (λ number. number ≡ next_of self.old.queue) }
-        ensures taken { OnOk result (self.new ≡ record self.old { queue = record self.old.queue { messages = self.old.queue.messages ++ bytes.now ∷ [] }; fresh = self.old.fresh ++ bytes.now ∷ [] }) }
+        ensures taken { OnOk result
+            (self.new ≡ record self.old {
+              queue = record self.old.queue {
+                messages = self.old.queue.messages
+                    ++ bytes.now ∷ [];
+              };
+              fresh = self.old.fresh ++ bytes.now ∷ [];
+            }) }
         ensures could { OnOk result (CanPut self.old.queue (length bytes.now)) }
 
         // What the bus was told falls short of the batch by the new messages, before and after.
-        ensures owed { (told : Pending) → Owes told self.old.fresh self.old.closes self.old.queue → OnOk result (Owes told self.new.fresh self.new.closes self.new.queue × (told.busy ≡ false)) }
+        ensures owed { (told : Pending) → Owes told self.old.fresh self.old.closes self.old.queue
+            → OnOk result (Owes told self.new.fresh self.new.closes self.new.queue
+            × (told.busy ≡ false)) }
 
         ensures fault { IfErr result (IsPutFault self.old.queue (length bytes.now)) }
         ensures refused { OnErr result (self.new ≡ self.old) }
@@ -135,11 +155,17 @@ impl Sender {
 
     /// Lets an end mark wait in place of messages.
     pub fn close(&mut self) -> Result<(), CloseFault>
-        ensures taken { OnOk result (self.new ≡ record self.old { queue = record self.old.queue { phase = queue_phase.Closing }; closes = true }) }
+        ensures taken { OnOk result
+            (self.new ≡ record self.old {
+              queue = record self.old.queue { phase = queue_phase.Closing };
+              closes = true;
+            }) }
         ensures could { OnOk result (CanClose self.old.queue) }
 
         // What the bus was told falls short of the batch by the close too, after it.
-        ensures owed { (told : Pending) → Owes told self.old.fresh self.old.closes self.old.queue → OnOk result (Owes told self.new.fresh self.new.closes self.new.queue × (told.busy ≡ false)) }
+        ensures owed { (told : Pending) → Owes told self.old.fresh self.old.closes self.old.queue
+            → OnOk result (Owes told self.new.fresh self.new.closes self.new.queue
+            × (told.busy ≡ false)) }
 
         ensures fault { IfErr result (IsCloseFault self.old.queue) }
         ensures refused { OnErr result (self.new ≡ self.old) }
@@ -165,7 +191,8 @@ impl Sender {
     /// Full, Closed or Spent. Each vote takes one word of `rng`.
     pub fn send<W: Wait, R: Rng>(&mut self, wait: &W, bus: &Bus, rng: &mut R) -> Turn
         ensures last { is_last result ≡ true }
-        ensures turns { (queue : Pending) × GoesOn self.old.queue queue × (self.new.queue ≡ queue_by result queue) }
+        ensures turns { (queue : Pending) × GoesOn self.old.queue queue
+            × (self.new.queue ≡ queue_by result queue) }
         ensures words { self.old.words ≤ self.new.words }
     {
         let backoff = Backoff::new();
@@ -188,8 +215,12 @@ impl Sender {
     fn turn_on<Q: Ratifier + Drop>(&mut self, world: &mut World<Q>, word: u32) -> Turn
         ensures queue { self.new.queue ≡ queue_by result self.old.queue }
         ensures words { self.old.words ≤ self.new.words }
-        ensures stored { let X = election_of Q.Ratifier in kind_in X (slice_get world.old.bus.side.senders self.old.queue.sender.0) ≡ Some kind.StoreLength → length (log_of world.new) ≤ self.new.words }
-        ensures in_step { let X = election_of Q.Ratifier in StaysInStep X (elections Q.protocol world.old.layout.rounds) world.old world.new self.old.queue.sender.0 self.old self.new }
+        ensures stored { let X = election_of Q.Ratifier in
+            kind_in X (slice_get world.old.bus.side.senders self.old.queue.sender.0) ≡ Some
+            kind.StoreLength → length (log_of world.new) ≤ self.new.words }
+        ensures in_step { let X = election_of Q.Ratifier in
+            StaysInStep X (elections Q.protocol world.old.layout.rounds) world.old world.new
+            self.old.queue.sender.0 self.old self.new }
     {
         let stores_length = kind_of(world, self.batch.sender()) == Some(Kind::StoreLength);
         let turn = self.step_on(world, word);
@@ -205,7 +236,9 @@ impl Sender {
     fn step_on<Q: Ratifier + Drop>(&mut self, world: &mut World<Q>, word: u32) -> Turn
         ensures queue { self.new.queue ≡ self.old.queue }
         ensures words { self.new.words ≡ self.old.words }
-        ensures answers { let X = election_of Q.Ratifier in Answers X (elections Q.protocol world.old.layout.rounds) world.old world.new self.old.queue.sender.0 self.old result self.new }
+        ensures answers { let X = election_of Q.Ratifier in
+            Answers X (elections Q.protocol world.old.layout.rounds) world.old world.new
+            self.old.queue.sender.0 self.old result self.new }
     {
         if !self.tell_on(world) {
             return Turn::Closed;
@@ -215,10 +248,18 @@ impl Sender {
 
     /// Where no tenure is begun, the world is told of what was accepted. Says whether it took all.
     fn tell_on<Q: Ratifier + Drop>(&mut self, world: &mut World<Q>) -> bool
-        ensures rests { is_resting (slice_get world.old.bus.side.senders self.old.queue.sender.0) ≡ true → self.new ≡ record self.old { fresh = []; closes = false } }
-        ensures told { let X = election_of Q.Ratifier in is_resting (slice_get world.old.bus.side.senders self.old.queue.sender.0) ≡ true → Runs X world.old.bus (tellings self.old.queue.sender.0 self.old.fresh self.old.closes) world.new.bus }
-        ensures takes { is_resting (slice_get world.old.bus.side.senders self.old.queue.sender.0) ≡ true → TakesTold world.old.bus.side.senders world.new.bus.side.senders self.old.queue.sender.0 self.old.fresh self.old.closes result }
-        ensures busy { is_resting (slice_get world.old.bus.side.senders self.old.queue.sender.0) ≡ false → (self.new ≡ self.old) × (world.new ≡ world.old) × (result ≡ true) }
+        ensures rests { is_resting (slice_get world.old.bus.side.senders self.old.queue.sender.0)
+            ≡ true → self.new ≡ record self.old { fresh = []; closes = false } }
+        ensures told { let X = election_of Q.Ratifier in
+            is_resting (slice_get world.old.bus.side.senders self.old.queue.sender.0) ≡ true
+            → Runs X world.old.bus
+            (tellings self.old.queue.sender.0 self.old.fresh self.old.closes) world.new.bus }
+        ensures takes { is_resting (slice_get world.old.bus.side.senders self.old.queue.sender.0)
+            ≡ true → TakesTold world.old.bus.side.senders world.new.bus.side.senders
+            self.old.queue.sender.0 self.old.fresh self.old.closes result }
+        ensures busy { is_resting (slice_get world.old.bus.side.senders self.old.queue.sender.0)
+            ≡ false → (self.new ≡ self.old) × (world.new ≡ world.old)
+            × (result ≡ true) }
         ensures queue { self.new.queue ≡ self.old.queue }
         ensures words { self.new.words ≡ self.old.words }
     {
@@ -234,7 +275,9 @@ impl Sender {
 
     /// Keeps what its next step is.
     fn look<Q: Ratifier + Drop>(&mut self, world: &World<Q>)
-        ensures { let X = election_of Q.Ratifier in self.new ≡ seen X (slice_get world.now.bus.side.senders self.old.queue.sender.0) self.old }
+        ensures { let X = election_of Q.Ratifier in
+            self.new ≡ seen X
+            (slice_get world.now.bus.side.senders self.old.queue.sender.0) self.old }
     {
         if let Some(core) = world.core(self.batch.sender()) {
             self.kind = core.kind();

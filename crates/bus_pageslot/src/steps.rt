@@ -1,6 +1,7 @@
 //! Single steps on a world that its caller holds.
 
-ghost use Rattle.std.specs.Prelude.{◌≡◌, ℕ, [], length, map, slice_get, slice_index, IsTrue, ◌↔◌};
+ghost use Rattle.std.specs.Prelude.{◌≡◌, ℕ, [], length, map, slice_get, slice_index};
+ghost use Rattle.std.specs.Prelude.{IsTrue, ◌↔◌};
 ghost use Rattle.bus_tenure.specs.Elections.{election_of};
 ghost use Rattle.bus_world.specs.Playing.{log_of};
 ghost use Rattle.bus_world.specs.World.{Happens, IsEvent, Put, Close, Turn as SenderTurn};
@@ -40,7 +41,8 @@ pub fn rests<Q: Ratifier + Drop>(world: &World<Q>, me: SenderNo) -> bool
 
 /// What the sender's next step is for.
 pub fn kind_of<Q: Ratifier + Drop>(world: &World<Q>, me: SenderNo) -> Option<Kind>
-    ensures { let X = election_of Q.Ratifier in result ≡ kind_in X (slice_get world.now.bus.side.senders me.0) }
+    ensures { let X = election_of Q.Ratifier in
+        result ≡ kind_in X (slice_get world.now.bus.side.senders me.0) }
 {
     match world.core(me) {
         Some(core) => core.kind(),
@@ -52,8 +54,10 @@ pub fn kind_of<Q: Ratifier + Drop>(world: &World<Q>, me: SenderNo) -> Option<Kin
 fn tell_message<Q: Ratifier + Drop>(world: &mut World<Q>, me: SenderNo, bytes: &[u8]) -> bool
     ensures layout { world.new.layout ≡ world.old.layout }
     ensures bytes { IsEvent (Put me.0 bytes.now) }
-    ensures happens { let X = election_of Q.Ratifier in Happens X world.old.bus (Put me.0 bytes.now) world.new.bus }
-    ensures takes { TakesMessage world.old.bus.side.senders world.new.bus.side.senders me.0 bytes.now result }
+    ensures happens { let X = election_of Q.Ratifier in
+        Happens X world.old.bus (Put me.0 bytes.now) world.new.bus }
+    ensures takes { TakesMessage world.old.bus.side.senders world.new.bus.side.senders me.0
+        bytes.now result }
 {
     world.put(me, bytes).is_ok()
 }
@@ -61,8 +65,10 @@ fn tell_message<Q: Ratifier + Drop>(world: &mut World<Q>, me: SenderNo, bytes: &
 /// Puts messages for the sender, one after another. Says whether the world took all.
 fn tell_messages<Q: Ratifier + Drop>(world: &mut World<Q>, me: SenderNo, fresh: &[Message]) -> bool
     ensures layout { world.new.layout ≡ world.old.layout }
-    ensures runs { let X = election_of Q.Ratifier in Runs X world.old.bus (map (Put me.0) fresh.now) world.new.bus }
-    ensures takes { TakesMessages world.old.bus.side.senders world.new.bus.side.senders me.0 fresh.now [] result }
+    ensures runs { let X = election_of Q.Ratifier in
+        Runs X world.old.bus (map (Put me.0) fresh.now) world.new.bus }
+    ensures takes { TakesMessages world.old.bus.side.senders world.new.bus.side.senders me.0
+        fresh.now [] result }
 {
     let mut takes_all = true;
     for message in fresh {
@@ -75,7 +81,8 @@ fn tell_messages<Q: Ratifier + Drop>(world: &mut World<Q>, me: SenderNo, fresh: 
 /// Closes for the sender. Says whether the world took it.
 fn tell_close<Q: Ratifier + Drop>(world: &mut World<Q>, me: SenderNo) -> bool
     ensures layout { world.new.layout ≡ world.old.layout }
-    ensures happens { let X = election_of Q.Ratifier in Happens X world.old.bus (Close me.0) world.new.bus }
+    ensures happens { let X = election_of Q.Ratifier in
+        Happens X world.old.bus (Close me.0) world.new.bus }
     ensures takes { TakesClose world.old.bus.side.senders world.new.bus.side.senders me.0 result }
 {
     world.close(me).is_ok()
@@ -89,8 +96,10 @@ pub fn tell<Q: Ratifier + Drop>(
     closes: bool,
 ) -> bool
     ensures layout { world.new.layout ≡ world.old.layout }
-    ensures runs { let X = election_of Q.Ratifier in Runs X world.old.bus (tellings me.0 fresh.now closes) world.new.bus }
-    ensures takes { TakesTold world.old.bus.side.senders world.new.bus.side.senders me.0 fresh.now closes result }
+    ensures runs { let X = election_of Q.Ratifier in
+        Runs X world.old.bus (tellings me.0 fresh.now closes) world.new.bus }
+    ensures takes { TakesTold world.old.bus.side.senders world.new.bus.side.senders me.0 fresh.now
+        closes result }
 {
     let takes_all = tell_messages(world, me, fresh);
     if closes {
@@ -102,8 +111,11 @@ pub fn tell<Q: Ratifier + Drop>(
 /// One turn of the sender. Where there is none of this number the answer is Closed.
 pub fn take_turn<Q: Ratifier + Drop>(world: &mut World<Q>, me: SenderNo, word: u32) -> Turn
     ensures layout { world.new.layout ≡ world.old.layout }
-    ensures happens { let X = election_of Q.Ratifier in Happens X world.old.bus (SenderTurn me.0 word) world.new.bus }
-    ensures answer { let X = election_of Q.Ratifier in result ≡ answer_in X world.old.bus.side.words (slice_get world.old.bus.side.senders me.0) word }
+    ensures happens { let X = election_of Q.Ratifier in
+        Happens X world.old.bus (SenderTurn me.0 word) world.new.bus }
+    ensures answer { let X = election_of Q.Ratifier in
+        result ≡ answer_in X world.old.bus.side.words
+        (slice_get world.old.bus.side.senders me.0) word }
 {
     let event = Event::Turn {
         sender: u64::from(me.0),

@@ -16,14 +16,18 @@ use std::alloc::Global;
 fn play(alloc: Global, script: &Script) -> Result<Vec<Option<Verdict>>, NoMemory>
     requires few { length script.now.inputs.items ≤ 8 }
     requires known { All (λ p. p < length script.now.inputs.items) script.now.schedule.items }
-    ensures { IfOk result (λ verdicts. IsPlayed (record { inputs = script.now.inputs.items; schedule = script.now.schedule.items }) verdicts.items) }
+    ensures { IfOk result (λ verdicts. IsPlayed (record {
+      inputs = script.now.inputs.items;
+      schedule = script.now.schedule.items;
+    }) verdicts.items) }
 {
     verdicts::<TwoCollect>(alloc, &script.inputs, &script.schedule)
 }
 
 /// What is written for an input: verdicts, or the first refusal.
 pub fn answer_to(alloc: Global, input: &[u8]) -> Result<Answer, NoMemory>
-    ensures { IfOk result (λ answer. IsAnswer input.now answer.outcome (string_bytes answer.text)) }
+    ensures { IfOk result
+        (λ answer. IsAnswer input.now answer.outcome (string_bytes answer.text)) }
 {
     match read_script(alloc, input) {
         Ok(script) => {

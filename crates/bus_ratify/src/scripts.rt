@@ -1,7 +1,9 @@
 //! Scripts of `ratify`: the inputs of the processes, and the order of their steps.
 
 ghost use Rattle.std.specs.Prelude.{◌≡◌, ◌≤◌, Ok, length, ok_or};
-ghost use Rattle.bus_ratify.specs.Scripts.{RatifyScript, bit_of, inputs_of, steps_of, refused_at, steps_among, schedule_of, ratify_script, Gives, GivesSteps};
+ghost use Rattle.bus_ratify.specs.Scripts.{RatifyScript, bit_of, inputs_of, steps_of, refused_at};
+ghost use Rattle.bus_ratify.specs.Scripts.{steps_among, schedule_of, ratify_script, Gives};
+ghost use Rattle.bus_ratify.specs.Scripts.{GivesSteps};
 ghost use Rattle.bus_ratify.specs.declared.refusals.LineFault.TheVariants.{BadLine};
 
 use crate::refusals::{LineFault, ReadingFault, Refusal};
@@ -48,7 +50,8 @@ fn bit_of(word: &[u8]) -> Option<bool>
 
 /// The inputs that the line of inputs gives.
 fn inputs_of(alloc: Global, line: Line<'_>) -> Result<Vec<bool>, ReadingFault>
-    ensures { Gives (λ inputs. inputs.items) result (ok_or (inputs_of line.entry.bytes.now) (refused_at line.entry.number BadLine)) }
+    ensures { Gives (λ inputs. inputs.items) result
+        (ok_or (inputs_of line.entry.bytes.now) (refused_at line.entry.number BadLine)) }
 {
     let Some(mut words) = words_behind(line.bytes, b"inputs") else {
         return Err(bad_line(line));
@@ -69,7 +72,8 @@ fn inputs_of(alloc: Global, line: Line<'_>) -> Result<Vec<bool>, ReadingFault>
 /// Puts the steps of a line at the end of the schedule.
 fn push_steps(line: Line<'_>, processes: usize, schedule: &mut Vec<u8>) -> Result<(), ReadingFault>
     requires { processes ≤ 8 }
-    ensures { GivesSteps result schedule.old.items schedule.new.items (steps_among processes line.entry.number (steps_of line.entry.bytes.now)) }
+    ensures { GivesSteps result schedule.old.items schedule.new.items
+        (steps_among processes line.entry.number (steps_of line.entry.bytes.now)) }
 {
     let Some(mut words) = words_behind(line.bytes, b"steps") else {
         return Err(bad_line(line));
@@ -114,7 +118,10 @@ fn schedule_of(
 
 /// What a script says, or its first fault.
 pub fn read_script(alloc: Global, script: &[u8]) -> Result<Script, ReadingFault>
-    ensures { Gives (λ said. record { inputs = said.inputs.items; schedule = said.schedule.items }) result (ratify_script script.now) }
+    ensures { Gives (λ said. record {
+      inputs = said.inputs.items;
+      schedule = said.schedule.items;
+    }) result (ratify_script script.now) }
 {
     let mut lines = Lines::new(script);
     let Some(first) = lines.next_line() else {

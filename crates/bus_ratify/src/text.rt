@@ -20,7 +20,8 @@ fn push_verdict(
     process: usize,
     verdict: Option<Verdict>,
 ) -> Result<(), AllocError>
-    ensures { OnOk result (string_bytes text.new ≡ string_bytes text.old ++ verdict_line process verdict) }
+    ensures { OnOk result
+        (string_bytes text.new ≡ string_bytes text.old ++ verdict_line process verdict) }
 {
     match verdict {
         None => writeln!(text, "{process} open"),

@@ -1,6 +1,7 @@
 //! A listener that counts what a receiver was given.
 
-ghost use Rattle.std.specs.Prelude.{◌≡◌, ◌+◌, ◌<◌, ◌^◌, ◌&&◌, ◌==◌, nat_lt, slice_index, slice_set, true, false};
+ghost use Rattle.std.specs.Prelude.{◌≡◌, ◌+◌, ◌<◌, ◌^◌, ◌&&◌, ◌==◌};
+ghost use Rattle.std.specs.Prelude.{nat_lt, slice_index, slice_set, true, false};
 
 use bus_deliverylog::RecvTurn;
 use bus_register::SenderNo;
@@ -62,8 +63,15 @@ impl Heard {
     /// Takes the item of this number, or refuses it.
     fn note_item(&mut self, sender: SenderNo, number: u64) -> bool
         requires { self.old.items + 1 < 2 ^ 64 }
-        ensures takes { result ≡ (goes_on self.old && (nat_lt sender.0 8 && (number == slice_index self.old.counts sender.0))) }
-        ensures taken { result ≡ true → self.new ≡ record self.old { counts = slice_set self.old.counts sender.0 (number + 1); items = self.old.items + 1 } }
+        ensures takes { result
+            ≡ (goes_on self.old &&
+            (nat_lt sender.0 8 && (number == slice_index self.old.counts sender.0))) }
+        ensures taken { result ≡ true
+            → self.new ≡ record self.old {
+              counts = slice_set self.old.counts sender.0
+                  (number + 1);
+              items = self.old.items + 1;
+            } }
         ensures refused { result ≡ false → self.new ≡ self.old }
     {
         if self.ended || sender.0 >= 8 {

@@ -1,6 +1,7 @@
 //! What a listener counts, whatever it is told.
 
-ghost use Rattle.std.specs.Prelude.{◌≡◌, ℕ, ◌<◌, ◌==◌, List, length, count_by, slice_index};
+ghost use Rattle.std.specs.Prelude.{◌≡◌, ℕ, ◌<◌, ◌==◌, List, length, count_by};
+ghost use Rattle.std.specs.Prelude.{slice_index};
 ghost use Rattle.bus_deliverylog.specs.declared.receiving.RecvTurn.{RecvTurn};
 ghost use Rattle.bus_receiver.specs.Hearing.{nothing};
 ghost use Rattle.bus_receiver.specs.HearingRuns.{heard, items_taken};
@@ -8,6 +9,9 @@ ghost use Rattle.bus_receiver.specs.HearingRuns.{heard, items_taken};
 /// Of any answers in a row a listener counts just those items that it takes, for each sender and in
 /// all.
 pub fn counts_what_it_takes()
-    ensures each { (turns : List RecvTurn) (s : ℕ) → s < 8 → slice_index (heard nothing turns).counts s ≡ count_by (λ item. item.sender.0 == s) (items_taken nothing turns) }
-    ensures all { (turns : List RecvTurn) → (heard nothing turns).items ≡ length (items_taken nothing turns) }
+    ensures each { (turns : List RecvTurn) (s : ℕ) → s < 8
+        → slice_index (heard nothing turns).counts s ≡ count_by (λ item. item.sender.0 == s)
+        (items_taken nothing turns) }
+    ensures all { (turns : List RecvTurn)
+        → (heard nothing turns).items ≡ length (items_taken nothing turns) }
 {}

@@ -1,6 +1,7 @@
 //! A receiver of a bus.
 
-ghost use Rattle.std.specs.Prelude.{◌≡◌, ◌≢◌, ℕ, ◌-◌, ◌≤◌, ◌^◌, max, true, false, []};
+ghost use Rattle.std.specs.Prelude.{◌≡◌, ◌≢◌, ℕ, ◌-◌, ◌≤◌, ◌^◌, max};
+ghost use Rattle.std.specs.Prelude.{true, false, []};
 ghost use Rattle.std.specs.Ordering.{nat_cmp};
 ghost use Rattle.bus_deliverylog.specs.Receiving.{Receiving as Reached, HasReceived};
 ghost use Rattle.bus_receiver.specs.Receiving.{knows, Hears, HearsOn, is_found};
@@ -95,7 +96,8 @@ impl Receiver {
     /// are compared.
     pub fn meet<W: Wait>(&mut self, wait: &W, other: &mut Receiver, bus: &Bus) -> Ordering
         ensures order { result ≡ nat_cmp self.old.place other.old.place }
-        ensures length { (got : ℕ) × (self.new ≡ knows (max self.old.known got) self.old) × (other.new ≡ knows (max other.old.known got) other.old) }
+        ensures length { (got : ℕ) × (self.new ≡ knows (max self.old.known got) self.old)
+            × (other.new ≡ knows (max other.old.known got) other.old) }
     {
         self.tap.meet(wait, &mut other.tap, bus);
         self.reader.place().cmp(&other.reader.place())
@@ -122,7 +124,8 @@ fn catch_up(reader: &mut Reader, known: u64)
     requires going { reader.old.ended ≡ false }
     requires known { reader.old.known ≤ known }
     requires words { reader.old.log_words ≡ 2 ^ 64 - 1 }
-    ensures at_length { reader.old.place ≡ reader.old.known → reader.new ≡ knows known reader.old }
+    ensures at_length { reader.old.place ≡ reader.old.known
+        → reader.new ≡ knows known reader.old }
     ensures at_word { reader.old.place ≢ reader.old.known → reader.new ≡ reader.old }
 {
     if reader.place() == reader.known() {

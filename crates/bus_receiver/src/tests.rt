@@ -67,8 +67,8 @@ fn head(tenure: u64) -> RecvTurn {
     }
 }
 
-/// The small bus with its sender and its receivers, once the a stands in the log. The first receiver
-/// has read it, the second has taken no turn.
+/// The small bus with its sender and its receivers, once the a stands in the log. The first
+/// receiver has read it, the second has taken no turn.
 fn with_an_a<R: Abort + Wait>(rt: &R, alloc: Global) -> (Bus, Sender, Receiver, Receiver) {
     let (bus, mut senders, mut taps) = Bus::new(alloc, SMALL).expect(rt, "memory");
     let mut sender = senders.pop().expect(rt, "a sender");

@@ -36,5 +36,6 @@ pub trait Machine {
         ensures { self.new ≡ fed self.old got word };
 
     /// A kind is named exactly where there is a step, whatever the random word.
-    ghost names_each_step: { (s : Self) (word : ℕ) → is_some (kind_of s) ≡ is_some (op s word) };
+    ghost names_each_step: { (s : Self) (word : ℕ)
+        → is_some (kind_of s) ≡ is_some (op s word) };
 }

@@ -1,6 +1,7 @@
 //! Words for one thread.
 
-ghost use Rattle.std.specs.Prelude.{◌≡◌, ℕ, ◌<◌, List, Some, codes, length, replicate, slice_index, slice_set, IfOk, IsTrue, ◌↔◌, []};
+ghost use Rattle.std.specs.Prelude.{◌≡◌, ℕ, ◌<◌, List, Some, codes, length, replicate};
+ghost use Rattle.std.specs.Prelude.{slice_index, slice_set, IfOk, IsTrue, ◌↔◌, []};
 ghost use Rattle.bus_register.specs.Words.{register, after, SumFits};
 
 use super::registers::{Op, Reg};

@@ -19,7 +19,8 @@ use std::alloc::Global;
 /// The answer to a script that was refused before there was a bus.
 fn refused(alloc: Global, place: Place, name: &str) -> Result<Answer, NoMemory>
     ensures outcome { IfOk result (λ answer. answer.outcome ≡ Outcome.Refused) }
-    ensures text { IfOk result (λ answer. string_bytes answer.text ≡ refusal_line place name.now) }
+    ensures text { IfOk result
+        (λ answer. string_bytes answer.text ≡ refusal_line place name.now) }
 {
     Ok(Answer {
         outcome: Outcome::Refused,
@@ -33,7 +34,10 @@ fn answer_from<Q: Ratifier + Drop>(
     mut world: World<Q>,
     lines: Lines<'_>,
 ) -> Result<Answer, NoMemory>
-    ensures { let X = election_of Q.Ratifier in IfOk result (λ answer. (text : List ℕ) × (end : End (Elector Q)) × Prints X world.bus lines.entry text end × Ends X world.layout end text answer.outcome (string_bytes answer.text)) }
+    ensures { let X = election_of Q.Ratifier in
+        IfOk result (λ answer. (text : List ℕ) × (end : End (Elector Q))
+        × Prints X world.bus lines.entry text end
+        × Ends X world.layout end text answer.outcome (string_bytes answer.text)) }
 {
     let mut text = String::new(alloc);
     match play(alloc, &mut world, lines, &mut text)? {
@@ -55,7 +59,8 @@ fn answer_from<Q: Ratifier + Drop>(
 /// the script gives, with ratifiers of this kind; or the answers up to the first refusal.
 pub fn answer_to<Q: Ratifier + Drop>(alloc: Global, input: &[u8]) -> Result<Answer, NoMemory>
     ensures { let X = election_of Q.Ratifier in
-        IfOk result (λ answer. IsReplay (λ shape. (X, layout_of Q.protocol shape)) input.now answer.outcome (string_bytes answer.text)) }
+        IfOk result (λ answer. IsReplay (λ shape. (X, layout_of Q.protocol shape)) input.now
+        answer.outcome (string_bytes answer.text)) }
 {
     let mut lines = Lines::new(input);
     let Some(first) = lines.next_line() else {

@@ -16,7 +16,9 @@ use std::alloc::{AllocError, Global};
 
 /// Puts the line of the owners at the end of a text.
 fn push_owners(text: &mut String, owners: &[SenderNo]) -> Result<(), AllocError>
-    ensures { OnOk result (string_bytes text.new ≡ string_bytes text.old ++ owners_line (map (λ s. s.0) owners.now)) }
+    ensures { OnOk result
+        (string_bytes text.new ≡ string_bytes text.old ++ owners_line
+        (map (λ s. s.0) owners.now)) }
 {
     text.push_str("owners")?;
     for owner in owners {
@@ -27,7 +29,8 @@ fn push_owners(text: &mut String, owners: &[SenderNo]) -> Result<(), AllocError>
 
 /// Puts a line for each item at the end of a text, and one for the end.
 fn push_order(text: &mut String, order: &Order) -> Result<(), AllocError>
-    ensures { OnOk result (string_bytes text.new ≡ string_bytes text.old ++ order_text (order_held order.now)) }
+    ensures { OnOk result
+        (string_bytes text.new ≡ string_bytes text.old ++ order_text (order_held order.now)) }
 {
     for item in &order.items {
         text.push_str("order")?;
@@ -42,7 +45,9 @@ fn push_order(text: &mut String, order: &Order) -> Result<(), AllocError>
 
 /// Puts the line of what a receiver was given at the end of a text.
 fn push_given(text: &mut String, receiver: u64, order: &Order) -> Result<(), AllocError>
-    ensures { OnOk result (string_bytes text.new ≡ string_bytes text.old ++ given_line receiver (order_held order.now)) }
+    ensures { OnOk result
+        (string_bytes text.new ≡ string_bytes text.old ++ given_line receiver
+        (order_held order.now)) }
 {
     write!(text, "given {receiver} {}", order.items.len())?;
     if order.ended {
@@ -59,7 +64,8 @@ fn push_all_given<Q: Ratifier + Drop>(
 ) -> Result<(), NoMemory>
     ensures text { let X = election_of Q.Ratifier in
         OnOk result ((trails : Trails) → Reached X world.now.layout world.now.bus trails
-        → string_bytes text.new ≡ string_bytes text.old ++ given_text (given_by trails world.now.bus.receivers)) }
+        → string_bytes text.new ≡ string_bytes text.old ++ given_text
+        (given_by trails world.now.bus.receivers)) }
 {
     for receiver in 0..world.receivers() {
         let given = world.given(alloc, receiver)?;
@@ -75,7 +81,8 @@ pub fn push_closing<Q: Ratifier + Drop>(
     text: &mut String,
 ) -> Result<(), NoMemory>
     ensures text { let X = election_of Q.Ratifier in
-        OnOk result ((closing : List ℕ) × Closes X world.now closing × (string_bytes text.new ≡ string_bytes text.old ++ closing)) }
+        OnOk result ((closing : List ℕ) × Closes X world.now closing
+        × (string_bytes text.new ≡ string_bytes text.old ++ closing)) }
 {
     world.promises();
     let order = world.order(alloc)?;

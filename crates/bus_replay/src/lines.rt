@@ -1,9 +1,11 @@
 //! What the lines of a script of `replay` say.
 
-ghost use Rattle.std.specs.Prelude.{◌≡◌, ◌⊎◌, [], None, Some, IfOk, IfSome, IfNone, MatchOption, codes, option_and_then};
+ghost use Rattle.std.specs.Prelude.{◌≡◌, ◌⊎◌, [], None, Some, IfOk, IfSome, IfNone};
+ghost use Rattle.std.specs.Prelude.{MatchOption, codes, option_and_then};
 ghost use Rattle.std.specs.Option.{option_map};
 ghost use Rattle.bus_script.specs.Grammar.{number_of, each_of, and_before, arguments_of};
-ghost use Rattle.bus_replay.specs.Lines.{shape_of, put_of, put_from, close_from, are_times, turn_from, recv_from, numbers_behind, command_of, hex_of};
+ghost use Rattle.bus_replay.specs.Lines.{shape_of, put_of, put_from, close_from, are_times};
+ghost use Rattle.bus_replay.specs.Lines.{turn_from, recv_from, numbers_behind, command_of, hex_of};
 ghost use Rattle.bus_replay.specs.Told.{command_told};
 
 use crate::commands::Command;
@@ -14,7 +16,8 @@ use std::alloc::{AllocError, Global};
 
 /// The number that the next word is.
 fn next_number(words: &mut Words<'_>) -> Option<u64>
-    ensures some { IfSome result (λ n. each_of number_of words.old ≡ and_before (Some n) (each_of number_of words.new)) }
+    ensures some { IfSome result
+        (λ n. each_of number_of words.old ≡ and_before (Some n) (each_of number_of words.new)) }
     ensures none { IfNone result ((words.old ≡ []) ⊎ (each_of number_of words.old ≡ None)) }
 {
     number_of(words.next_word()?)
@@ -44,8 +47,10 @@ pub fn shape_of(line: &[u8]) -> Option<Shape>
 
 /// The sender of a message, and the word that spells its bytes.
 fn put_words(line: &[u8]) -> Option<(u64, &[u8])>
-    ensures { MatchOption result (option_and_then put_from (arguments_of (codes "put") line.now) ≡ None)
-        (λ words. option_and_then put_from (arguments_of (codes "put") line.now) ≡ put_of (Some words.0) (hex_of words.1.now)) }
+    ensures { MatchOption result
+        (option_and_then put_from (arguments_of (codes "put") line.now) ≡ None)
+        (λ words. option_and_then put_from (arguments_of (codes "put") line.now) ≡ put_of
+        (Some words.0) (hex_of words.1.now)) }
 {
     let mut words = words_behind(line, b"put")?;
     let sender = words.next_word()?;
@@ -57,7 +62,9 @@ fn put_words(line: &[u8]) -> Option<(u64, &[u8])>
 }
 
 fn put_of(alloc: Global, line: &[u8]) -> Result<Option<Command>, AllocError>
-    ensures { IfOk result (λ command. option_map command_told command ≡ option_and_then put_from (arguments_of (codes "put") line.now)) }
+    ensures { IfOk result
+        (λ command. option_map command_told command ≡ option_and_then put_from
+        (arguments_of (codes "put") line.now)) }
 {
     let Some((sender, word)) = put_words(line) else {
         return Ok(None);
@@ -72,7 +79,8 @@ fn put_of(alloc: Global, line: &[u8]) -> Result<Option<Command>, AllocError>
 }
 
 fn close_of(line: &[u8]) -> Option<Command>
-    ensures { option_map command_told result ≡ option_and_then close_from (numbers_behind (codes "close") line.now) }
+    ensures { option_map command_told result ≡ option_and_then close_from
+        (numbers_behind (codes "close") line.now) }
 {
     let mut words = words_behind(line, b"close")?;
     let sender = next_number(&mut words)?;
@@ -92,7 +100,8 @@ fn are_times(times: u64) -> bool
 }
 
 fn turn_of(line: &[u8]) -> Option<Command>
-    ensures { option_map command_told result ≡ option_and_then turn_from (numbers_behind (codes "turn") line.now) }
+    ensures { option_map command_told result ≡ option_and_then turn_from
+        (numbers_behind (codes "turn") line.now) }
 {
     let mut words = words_behind(line, b"turn")?;
     let sender = next_number(&mut words)?;
@@ -111,7 +120,8 @@ fn turn_of(line: &[u8]) -> Option<Command>
 }
 
 fn recv_of(line: &[u8]) -> Option<Command>
-    ensures { option_map command_told result ≡ option_and_then recv_from (numbers_behind (codes "recv") line.now) }
+    ensures { option_map command_told result ≡ option_and_then recv_from
+        (numbers_behind (codes "recv") line.now) }
 {
     let mut words = words_behind(line, b"recv")?;
     let receiver = next_number(&mut words)?;

@@ -1,7 +1,8 @@
 //! What refusals are called.
 
 ghost use Rattle.std.specs.Prelude.{◌≡◌};
-ghost use Rattle.bus_replay.specs.Text.{put_fault_name, close_fault_name, step_fault_name, make_fault_name};
+ghost use Rattle.bus_replay.specs.Text.{put_fault_name, close_fault_name, step_fault_name};
+ghost use Rattle.bus_replay.specs.Text.{make_fault_name};
 
 use bus_batch::{CloseFault, PutFault};
 use bus_world::{MakeFault, StepFault};

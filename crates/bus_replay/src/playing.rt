@@ -1,6 +1,7 @@
 //! How the lines of a script move the bus.
 
-ghost use Rattle.std.specs.Prelude.{◌≡◌, ◌++◌, ◌-◌, ℕ, ◌<◌, List, IfOk, IfErr, OnOk, string_bytes};
+ghost use Rattle.std.specs.Prelude.{◌≡◌, ◌++◌, ◌-◌, ℕ, ◌<◌, List, IfOk, IfErr};
+ghost use Rattle.std.specs.Prelude.{OnOk, string_bytes};
 ghost use Rattle.bus_tenure.specs.Elections.{election_of};
 ghost use Rattle.bus_world.specs.Playing.{event_told, Refused};
 ghost use Rattle.bus_script.specs.declared.places.Place.TheVariants.{AtLine};
@@ -53,7 +54,9 @@ fn repeat<Q: Ratifier + Drop>(
 ) -> Result<Answer, StepFault>
     requires { 0 < times }
     ensures layout { world.new.layout ≡ world.old.layout }
-    ensures last { let X = election_of Q.Ratifier in IfOk result (λ last. Repeats X world.old.bus (event_told event.now) (times - 1) last world.new.bus) }
+    ensures last { let X = election_of Q.Ratifier in
+        IfOk result (λ last. Repeats X world.old.bus
+        (event_told event.now) (times - 1) last world.new.bus) }
     ensures fault { IfErr result (Refused world.old.bus (event_told event.now)) }
 {
     let mut last = world.step(event)?;
@@ -67,7 +70,8 @@ fn repeat<Q: Ratifier + Drop>(
 
 /// Puts the line of a refusal at the end of a text.
 fn push_refusal(alloc: Global, number: u64, name: &str, text: &mut String) -> Result<(), AllocError>
-    ensures { OnOk result (string_bytes text.new ≡ string_bytes text.old ++ refusal_line (AtLine number) name.now) }
+    ensures { OnOk result
+        (string_bytes text.new ≡ string_bytes text.old ++ refusal_line (AtLine number) name.now) }
 {
     let line = refusal_line(alloc, Place::AtLine(number), name)?;
     text.push_str(&line)
@@ -81,7 +85,10 @@ fn obey<Q: Ratifier + Drop>(
     text: &mut String,
 ) -> Result<Outcome, NoMemory>
     ensures layout { world.new.layout ≡ world.old.layout }
-    ensures obeyed { let X = election_of Q.Ratifier in IfOk result (λ outcome. (added : List ℕ) × IsObeyed X world.old.bus (line.entry.number, line.entry.bytes.now) outcome added world.new.bus × (string_bytes text.new ≡ string_bytes text.old ++ added)) }
+    ensures obeyed { let X = election_of Q.Ratifier in
+        IfOk result (λ outcome. (added : List ℕ)
+        × IsObeyed X world.old.bus (line.entry.number, line.entry.bytes.now) outcome added
+        world.new.bus × (string_bytes text.new ≡ string_bytes text.old ++ added)) }
 {
     let Some(command) = command_of(alloc, line.bytes)? else {
         push_refusal(alloc, line.number, "BadLine", text)?;
@@ -107,7 +114,10 @@ pub fn play<Q: Ratifier + Drop>(
     text: &mut String,
 ) -> Result<Outcome, NoMemory>
     ensures layout { world.new.layout ≡ world.old.layout }
-    ensures played { let X = election_of Q.Ratifier in IfOk result (λ outcome. (added : List ℕ) × ArePlayed X world.old.bus lines.entry outcome added world.new.bus × (string_bytes text.new ≡ string_bytes text.old ++ added)) }
+    ensures played { let X = election_of Q.Ratifier in
+        IfOk result (λ outcome. (added : List ℕ)
+        × ArePlayed X world.old.bus lines.entry outcome added world.new.bus
+        × (string_bytes text.new ≡ string_bytes text.old ++ added)) }
 {
     while let Some(line) = lines.next_line() {
         match obey(alloc, world, line, text)? {

@@ -2,7 +2,8 @@
 
 ghost use Rattle.std.specs.Prelude.{◌≡◌, ◌++◌, OnOk, string_bytes};
 ghost use Rattle.bus_world.specs.Playing.{event_told};
-ghost use Rattle.bus_replay.specs.Text.{hex_text, turn_text, item_text, recv_text, answer_text, event_text, answer_line};
+ghost use Rattle.bus_replay.specs.Text.{hex_text, turn_text, item_text, recv_text, answer_text};
+ghost use Rattle.bus_replay.specs.Text.{event_text, answer_line};
 
 use bus_batch::Item;
 use bus_deliverylog::RecvTurn;
@@ -67,7 +68,8 @@ fn push_receiving(text: &mut String, turn: &RecvTurn) -> Result<(), AllocError>
 }
 
 fn push_answer(text: &mut String, answer: &Answer) -> Result<(), AllocError>
-    ensures { OnOk result (string_bytes text.new ≡ string_bytes text.old ++ answer_text answer.now) }
+    ensures { OnOk result
+        (string_bytes text.new ≡ string_bytes text.old ++ answer_text answer.now) }
 {
     match answer {
         Answer::Number(number) => write!(text, "number {number}"),
@@ -79,7 +81,8 @@ fn push_answer(text: &mut String, answer: &Answer) -> Result<(), AllocError>
 
 /// Puts whom an event asks at the end of a text.
 fn push_event(text: &mut String, event: &Event) -> Result<(), AllocError>
-    ensures { OnOk result (string_bytes text.new ≡ string_bytes text.old ++ event_text (event_told event.now)) }
+    ensures { OnOk result
+        (string_bytes text.new ≡ string_bytes text.old ++ event_text (event_told event.now)) }
 {
     match event {
         Event::Put { sender, bytes: _ } => write!(text, "put {sender}"),
@@ -91,7 +94,9 @@ fn push_event(text: &mut String, event: &Event) -> Result<(), AllocError>
 
 /// Puts the line of a command that was answered at the end of a text.
 pub fn push_answer_line(text: &mut String, event: &Event, answer: &Answer) -> Result<(), AllocError>
-    ensures { OnOk result (string_bytes text.new ≡ string_bytes text.old ++ answer_line (event_told event.now) answer.now) }
+    ensures { OnOk result
+        (string_bytes text.new ≡ string_bytes text.old
+        ++ answer_line (event_told event.now) answer.now) }
 {
     push_event(text, event)?;
     text.push_str(": ")?;

@@ -1,7 +1,8 @@
 //! What receivers were given, held against what the bus left behind.
 
 ghost use Rattle.std.specs.Prelude.{◌≡◌, ℕ, ◌<◌, List, All, None, IfSome, OnOk, IfErr};
-ghost use Rattle.bus_run.specs.Audit.{OfOrder, IsSpelled, CountsBelow, Miscounts, IsFair, IsFirstFault};
+ghost use Rattle.bus_run.specs.Audit.{OfOrder, IsSpelled, CountsBelow, Miscounts, IsFair};
+ghost use Rattle.bus_run.specs.Audit.{IsFirstFault};
 
 use bus_pageslot::Ended;
 use bus_receiver::Heard;
@@ -20,7 +21,8 @@ pub enum AuditFault {
 /// Holds what each receiver noted against what the bus left behind.
 pub fn audit(ended: &Ended, heards: &[Heard]) -> Result<(), AuditFault>
     ensures ok { OnOk result (OfOrder ended.now (λ order. All (IsFair order) heards.now)) }
-    ensures fault { IfErr result (λ fault. OfOrder ended.now (λ order. IsFirstFault order heards.now fault)) }
+    ensures fault { IfErr result
+        (λ fault. OfOrder ended.now (λ order. IsFirstFault order heards.now fault)) }
     ensures spelled { IsSpelled ended.now }
 {
     let _any = ended.count(SenderNo(0));
@@ -39,7 +41,8 @@ pub fn audit(ended: &Ended, heards: &[Heard]) -> Result<(), AuditFault>
 /// The lowest sender below 8 whose items the listener did not count.
 fn first_miscount(ended: &Ended, heard: &Heard) -> Option<u64>
     ensures none { result ≡ None → OfOrder ended.now (λ order. CountsBelow 8 order heard.now) }
-    ensures some { IfSome result (λ sender. (sender < 8) × OfOrder ended.now (λ order. Miscounts order heard.now sender)) }
+    ensures some { IfSome result (λ sender. (sender < 8)
+        × OfOrder ended.now (λ order. Miscounts order heard.now sender)) }
 {
     for number in 0..8u8 {
         let sender = SenderNo(number);

@@ -1,6 +1,7 @@
 //! What a run leaves behind, once all its workers have ended.
 
-ghost use Rattle.std.specs.Prelude.{◌≡◌, ◌≢◌, ◌≤◌, ◌<◌, ◌+◌, ◌⊎◌, ℕ, All, length, Some, IfOk, OnOk, IfErr, IsErrOf};
+ghost use Rattle.std.specs.Prelude.{◌≡◌, ◌≢◌, ◌≤◌, ◌<◌, ◌+◌, ◌⊎◌};
+ghost use Rattle.std.specs.Prelude.{ℕ, All, length, Some, IfOk, OnOk, IfErr, IsErrOf};
 ghost use Rattle.std.specs.List.{list_any};
 ghost use Rattle.bus_run.specs.Audit.{OfOrder, IsSpelled, IsFair, SendsEach, IsClosed};
 ghost use Rattle.bus_run.specs.Stops.{is_gate, lowest, first_stop, fault_of, IsStop};
@@ -30,15 +31,21 @@ pub fn end_and_audit<W: Wait>(
     messages: u64,
 ) -> Result<Report, RunFault>
     requires { shape.senders ≤ 8 }
-    ensures sent { IfOk result (λ report. OfOrder report.ended (SendsEach shape.senders messages)) }
+    ensures sent { IfOk result
+        (λ report. OfOrder report.ended (SendsEach shape.senders messages)) }
     ensures closed { IfOk result (λ report. OfOrder report.ended IsClosed) }
-    ensures heard { IfOk result (λ report. OfOrder report.ended (λ order. All (IsFair order) report.heards.items)) }
+    ensures heard { IfOk result
+        (λ report. OfOrder report.ended (λ order. All (IsFair order) report.heards.items)) }
     ensures each { IfOk result (λ report. length report.heards.items ≡ shape.receivers) }
     ensures spelled { IfOk result (λ report. IsSpelled report.ended) }
 
     // Who could not be started comes before what stopped a sender, and that before all else.
-    ensures spawn { (length crew.desks.items ≢ shape.senders) ⊎ (length crew.ears.items ≢ shape.receivers) → IsErrOf result RunFault.Spawn }
-    ensures stopped { length crew.desks.items ≡ shape.senders → length crew.ears.items ≡ shape.receivers → (fault : SenderFault) → first_stop (λ desk. desk.fault) crew.desks.items ≡ Some fault → IsErrOf result (fault_of fault) }
+    ensures spawn { (length crew.desks.items ≢ shape.senders)
+        ⊎ (length crew.ears.items ≢ shape.receivers) → IsErrOf result RunFault.Spawn }
+    ensures stopped { length crew.desks.items ≡ shape.senders
+        → length crew.ears.items ≡ shape.receivers → (fault : SenderFault)
+        → first_stop (λ desk. desk.fault) crew.desks.items ≡ Some fault
+        → IsErrOf result (fault_of fault) }
     ensures fault { IfErr result IsStop }
 {
     let Crew {
@@ -134,7 +141,9 @@ fn end_bus<W: Wait>(
 fn all_sent(ended: &Ended, senders: u64, messages: u64) -> Result<(), RunFault>
     requires { senders ≤ 8 }
     ensures ok { OnOk result (OfOrder ended.now (SendsEach senders messages)) }
-    ensures fault { IfErr result (λ fault. OfOrder ended.now (λ order. (s : ℕ) × (fault ≡ stopped s) × (s < senders) × SendsEach s messages order × (length (of_sender s order) ≢ messages))) }
+    ensures fault { IfErr result (λ fault. OfOrder ended.now (λ order. (s : ℕ)
+        × (fault ≡ stopped s) × (s < senders) × SendsEach s messages order
+        × (length (of_sender s order) ≢ messages))) }
     ensures kind { IfErr result IsStop }
 {
     for number in 0..senders {

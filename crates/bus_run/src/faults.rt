@@ -3,7 +3,9 @@
 ghost use Rattle.std.specs.Prelude.{◌≡◌, Some};
 ghost use Rattle.bus_run.specs.Printed.{fault_text};
 ghost use Rattle.bus_run.specs.Stops.{fault_of};
-ghost use Rattle.bus_run.specs.declared.faults.RunFault.TheVariants.{NoMemory as no_memory, Make as not_made, Audit as not_fair};
+ghost use Rattle.bus_run.specs.declared.faults.RunFault.TheVariants.{NoMemory as no_memory};
+ghost use Rattle.bus_run.specs.declared.faults.RunFault.TheVariants.{Make as not_made};
+ghost use Rattle.bus_run.specs.declared.faults.RunFault.TheVariants.{Audit as not_fair};
 
 use crate::audits::AuditFault;
 use bus_register::NoMemory;

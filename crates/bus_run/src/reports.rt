@@ -1,8 +1,10 @@
 //! What a run leaves behind, and the text that says so.
 
-ghost use Rattle.std.specs.Prelude.{◌≡◌, ◌≤◌, ◌++◌, All, length, IfOk, IfErr, OnOk, string_bytes};
+ghost use Rattle.std.specs.Prelude.{◌≡◌, ◌≤◌, ◌++◌, All, length, IfOk, IfErr, OnOk};
+ghost use Rattle.std.specs.Prelude.{string_bytes};
 ghost use Rattle.bus_run.specs.Audit.{OfOrder, IsFair};
-ghost use Rattle.bus_run.specs.RunText.{sender_line, sender_lines, receiver_line, receiver_lines, page_lines, report_text as text_of};
+ghost use Rattle.bus_run.specs.RunText.{sender_line, sender_lines, receiver_line, receiver_lines};
+ghost use Rattle.bus_run.specs.RunText.{page_lines, report_text as text_of};
 ghost use Rattle.bus_run.specs.Stops.{IsStop};
 
 use crate::audits::audit;
@@ -23,8 +25,12 @@ pub struct Report {
 /// The lines of a run that passes the audit.
 pub fn report_text(alloc: Global, report: &Report, senders: u64) -> Result<String, RunFault>
     requires { senders ≤ 8 }
-    ensures fair { OnOk result (OfOrder report.now.ended (λ order. All (IsFair order) report.now.heards.items)) }
-    ensures text { IfOk result (λ text. OfOrder report.now.ended (λ order. string_bytes text ≡ text_of order report.now.ended.page senders report.now.heards.items)) }
+    ensures fair { OnOk result
+        (OfOrder report.now.ended (λ order. All (IsFair order) report.now.heards.items)) }
+    ensures text { IfOk result
+        (λ text. OfOrder report.now.ended
+        (λ order. string_bytes text
+        ≡ text_of order report.now.ended.page senders report.now.heards.items)) }
     ensures words { OnOk result (report.now.ended.page.words ≡ length report.now.ended.log) }
     ensures fault { IfErr result IsStop }
 {
@@ -40,7 +46,9 @@ pub fn report_text(alloc: Global, report: &Report, senders: u64) -> Result<Strin
 /// Puts a line for each sender at the end of a text.
 fn push_senders(text: &mut String, ended: &Ended, senders: u64) -> Result<(), AllocError>
     requires { senders ≤ 8 }
-    ensures { OnOk result (OfOrder ended.now (λ order. string_bytes text.new ≡ string_bytes text.old ++ sender_lines order senders)) }
+    ensures { OnOk result
+        (OfOrder ended.now
+        (λ order. string_bytes text.new ≡ string_bytes text.old ++ sender_lines order senders)) }
 {
     for number in 0..senders {
         push_sender(text, number, ended.count(SenderNo(number as u8)))?;
@@ -49,14 +57,16 @@ fn push_senders(text: &mut String, ended: &Ended, senders: u64) -> Result<(), Al
 }
 
 fn push_sender(text: &mut String, number: u64, count: u64) -> Result<(), AllocError>
-    ensures { OnOk result (string_bytes text.new ≡ string_bytes text.old ++ sender_line number count) }
+    ensures { OnOk result
+        (string_bytes text.new ≡ string_bytes text.old ++ sender_line number count) }
 {
     write!(text, "sender {number}: {count}\n")
 }
 
 /// Puts a line for each receiver at the end of a text.
 fn push_receivers(text: &mut String, heards: &[Heard]) -> Result<(), AllocError>
-    ensures { OnOk result (string_bytes text.new ≡ string_bytes text.old ++ receiver_lines 0 heards.now) }
+    ensures { OnOk result
+        (string_bytes text.new ≡ string_bytes text.old ++ receiver_lines 0 heards.now) }
 {
     for (place, heard) in heards.iter().enumerate() {
         push_receiver(text, place as u64, heard)?;
@@ -65,7 +75,8 @@ fn push_receivers(text: &mut String, heards: &[Heard]) -> Result<(), AllocError>
 }
 
 fn push_receiver(text: &mut String, number: u64, heard: &Heard) -> Result<(), AllocError>
-    ensures { OnOk result (string_bytes text.new ≡ string_bytes text.old ++ receiver_line number heard.now) }
+    ensures { OnOk result
+        (string_bytes text.new ≡ string_bytes text.old ++ receiver_line number heard.now) }
 {
     write!(text, "receiver {number}: {}", heard.items())?;
     if heard.ended() {

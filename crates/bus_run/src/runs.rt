@@ -2,7 +2,8 @@
 
 ghost use Rattle.std.specs.Prelude.{◌≡◌, ◌≤◌, All, length, IfOk, OnOk, IfErr};
 ghost use Rattle.bus_world.specs.Playing.{IsServed};
-ghost use Rattle.bus_run.specs.Audit.{OfOrder, IsSpelled, IsFair, SendsEach, IsClosed, shape_of_run};
+ghost use Rattle.bus_run.specs.Audit.{OfOrder, IsSpelled, IsFair, SendsEach, IsClosed};
+ghost use Rattle.bus_run.specs.Audit.{shape_of_run};
 ghost use Rattle.bus_run.specs.Stops.{IsRunFault};
 
 use crate::closing::end_and_audit;
@@ -32,7 +33,8 @@ pub fn run<R: Threads + Wait + Sync, G: Gate + Sync>(
     ensures served { OnOk result (IsServed (shape_of_run senders receivers)) }
     ensures sent { IfOk result (λ report. OfOrder report.ended (SendsEach senders messages)) }
     ensures closed { IfOk result (λ report. OfOrder report.ended IsClosed) }
-    ensures heard { IfOk result (λ report. OfOrder report.ended (λ order. All (IsFair order) report.heards.items)) }
+    ensures heard { IfOk result
+        (λ report. OfOrder report.ended (λ order. All (IsFair order) report.heards.items)) }
     ensures each { IfOk result (λ report. length report.heards.items ≡ receivers) }
     ensures spelled { IfOk result (λ report. IsSpelled report.ended) }
     ensures fault { IfErr result (IsRunFault senders receivers) }

@@ -1,6 +1,7 @@
 //! What the worker of a sender does, and that of a receiver.
 
-ghost use Rattle.std.specs.Prelude.{◌≡◌, ◌++◌, ◌∷◌, [], ◌<◌, ◌≤◌, ◌⊎◌, ◌^◌, true, false, None, Some, replicate};
+ghost use Rattle.std.specs.Prelude.{◌≡◌, ◌++◌, ◌∷◌, [], ◌<◌, ◌≤◌};
+ghost use Rattle.std.specs.Prelude.{◌⊎◌, ◌^◌, true, false, None, Some, replicate};
 ghost use Rattle.std.specs.Int.{w64, to_le_bytes, to_be_bytes};
 ghost use Rattle.rand_chacha.specs.ChaCha.{of_seed};
 ghost use Rattle.bus_batch.specs.Batches.{next_of, IsPutFault};
@@ -75,7 +76,8 @@ impl Desk {
     /// Says that its sender was stopped, unless it had a fault before.
     pub fn stop(&mut self)
         ensures sender { self.new.sender ≡ self.old.sender }
-        ensures stopped { self.old.fault ≡ None → self.new.fault ≡ Some (stopped self.old.sender.queue.sender.0) }
+        ensures stopped { self.old.fault ≡ None
+            → self.new.fault ≡ Some (stopped self.old.sender.queue.sender.0) }
         ensures before { (self.old.fault ≡ None → ⊥) → self.new.fault ≡ self.old.fault }
     {
         if self.fault.is_none() {
@@ -88,7 +90,8 @@ impl Desk {
 
 /// The random words of a sender: its own stream under the key of the seed.
 pub fn generator(seed: u64, sender: u64) -> ChaCha8Rng
-    ensures { result ≡ record (of_seed (to_le_bytes w64 seed ++ replicate 24 0)) { stream = sender } }
+    ensures { result
+        ≡ record (of_seed (to_le_bytes w64 seed ++ replicate 24 0)) { stream = sender } }
 {
     let mut key = [0u8; 32];
     key[..8].copy_from_slice(&seed.to_le_bytes());
@@ -131,8 +134,11 @@ fn put_all(sender: &mut Sender, first: u64, end: u64) -> bool {
 
 /// Puts a number as a message of 8 bytes, the highest first. Says whether it was taken.
 fn put_number(sender: &mut Sender, number: u64) -> bool
-    ensures taken { result ≡ true → sender.new.queue.messages ≡ sender.old.queue.messages ++ to_be_bytes w64 number ∷ [] }
-    ensures refused { result ≡ false → (400 ≤ next_of sender.old.queue) ⊎ ((why : PutFault) × IsPutFault sender.old.queue 8 why) }
+    ensures taken { result ≡ true
+        → sender.new.queue.messages ≡ sender.old.queue.messages ++ to_be_bytes w64
+        number ∷ [] }
+    ensures refused { result ≡ false → (400 ≤ next_of sender.old.queue)
+        ⊎ ((why : PutFault) × IsPutFault sender.old.queue 8 why) }
 {
     sender.next_number() < MOST_MESSAGES && sender.put(&number.to_be_bytes()).is_ok()
 }

@@ -46,7 +46,8 @@ impl<'a> Lines<'a> {
 
     /// Takes the next line.
     pub fn next_line(&mut self) -> Option<Line<'a>>
-        ensures some { IfSome result (λ line. self.old ≡ (line.number, line.bytes.now) ∷ self.new) }
+        ensures some { IfSome result
+            (λ line. self.old ≡ (line.number, line.bytes.now) ∷ self.new) }
         ensures none { IfNone result (self.old ≡ []) }
     {
         while !self.rest.is_empty() {

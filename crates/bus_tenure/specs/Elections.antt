@@ -7,20 +7,12 @@ use Rattle.bus_register.specs.Protocol.{Protocol}
 use Rattle.bus_adoptcommit.specs.declared.verdicts.Verdict.{Verdict}
 use Rattle.bus_coinconc.specs.Conciliator.{ConciliatorState, conciliator_kind, conciliator_op, conciliator_fed}
 use Rattle.bus_coinconc.specs.ConciliatorProtocol.{conciliator_protocol}
-use Rattle.bus_binconsensus.specs.Objects.{Decider, object_kind, decide_op, decide_fed, decide_protocol}
-use Rattle.bus_ownerbits.specs.Election.{Electing, election_kind, election_op, election_fed, owner_of}
-use Rattle.bus_ownerbits.specs.ElectionKeeps.{election_protocol}
+use Rattle.bus_binconsensus.specs.Objects.{Decider, object_kind, decide_op, decide_fed}
+use Rattle.bus_binconsensus.specs.Decisions.{decisions}
+use Rattle.bus_ownerbits.specs.Election.{election_kind, election_op, election_fed, owner_of}
+pub use Rattle.bus_ownerbits.specs.Electors.{Elector, elections}
 use Rattle.bus_ownerbits.specs.ElectionNames.{calls_of}
-use Rattle.bus_ownerbits.specs.Sizes.{decision_cost}
 use Rattle.bus_tenure.specs.Core.{Layout, Election}
-
--- one process in an election over ratifiers with local states of type S
-abbrev pub Elector : Type 0 → Type 0
-Elector S = Electing (Decider S ConciliatorState)
-
--- the protocol of such an election, of so many rounds for each bit
-abbrev pub elections : {S : Type 0} → Protocol S Bool Verdict → ℕ → Protocol (Elector S) (Unit {0}) ℕ
-elections P rounds = election_protocol (decide_protocol P conciliator_protocol) decision_cost rounds
 
 -- what a sender's part in an election keeps: it is of its row, stands as it started until its first step, and has chosen no other
 pub record ElectorKeeps {S : Type 0} (P : Protocol S Bool Verdict) (rounds n me at : ℕ) (e : Elector S) : Type 0 where
@@ -37,8 +29,8 @@ abbrev pub election_with : {S : Type 0} → (S → Option Kind) → (S → ℕ �
 election_with kind op fed P = record {
   kind_of = election_kind (λ d. object_kind kind conciliator_kind d.object);
   op = election_op (decide_op op conciliator_op);
-  fed = election_fed (decide_protocol P conciliator_protocol) (decide_fed P conciliator_protocol fed conciliator_fed);
-  owner = owner_of (decide_protocol P conciliator_protocol);
+  fed = election_fed (decisions P) (decide_fed P conciliator_protocol fed conciliator_fed);
+  owner = owner_of (decisions P);
   wants_word = calls_of conciliator_protocol;
   turns_left = λ e. e.turns;
   started = λ n me rounds at. (elections P rounds).started n me tt at;

@@ -1,16 +1,26 @@
 //! A sender and its turns.
 
-ghost use Rattle.std.specs.Prelude.{◌≡◌, ℕ, ◌+◌, ◌*◌, ◌-◌, ◌<◌, ◌≤◌, ◌^◌, List, [], ◌∷◌, ◌++◌, length, slice_index, IfOk, IfErr, OnOk, OnErr, IfSome, IsSome, IsTrue, ◌↔◌, false, true};
+ghost use Rattle.std.specs.Prelude.{◌≡◌, ℕ, ◌+◌, ◌*◌, ◌-◌, ◌<◌, ◌≤◌};
+ghost use Rattle.std.specs.Prelude.{◌^◌, List, [], ◌∷◌, ◌++◌, length, slice_index};
+ghost use Rattle.std.specs.Prelude.{IfOk, IfErr, OnOk, OnErr, IfSome, IsSome, IsTrue, ◌↔◌};
+ghost use Rattle.std.specs.Prelude.{false, true};
 ghost use Rattle.bus_register.specs.Words.{register};
-ghost use Rattle.bus_batch.specs.Batches.{next_of, frame_of, HasSomething, CanPut, IsPutFault, CanClose, IsCloseFault};
+ghost use Rattle.bus_batch.specs.Batches.{next_of, frame_of, HasSomething, CanPut, IsPutFault};
+ghost use Rattle.bus_batch.specs.Batches.{CanClose, IsCloseFault};
 ghost use Rattle.bus_batch.specs.Frames.{frame_words};
 ghost use Rattle.bus_batch.specs.declared.batches.Phase.TheVariants as queue_phase;
 ghost use Rattle.bus_tenure.specs.Causes.{HasCause, IsCaused};
-ghost use Rattle.bus_tenure.specs.Core.{Core, row_at, words_of, is_closing, is_closed, is_empty, frame_len, has_room, Situation, LooksAtStage, GivesBack, resting, electing, holding, situation_at, situation_of, kind_at, op_at, rested, saw_stage, elected, fed_at, answer_of_stage, answer_of_election, answer_of_leaving, rest_at, answer_at, page_after};
+ghost use Rattle.bus_tenure.specs.Core.{Core, row_at, words_of, is_closing, is_closed, is_empty};
+ghost use Rattle.bus_tenure.specs.Core.{frame_len, has_room, Situation, LooksAtStage, GivesBack};
+ghost use Rattle.bus_tenure.specs.Core.{resting, electing, holding, situation_at, situation_of};
+ghost use Rattle.bus_tenure.specs.Core.{kind_at, op_at, rested, saw_stage, elected, fed_at};
+ghost use Rattle.bus_tenure.specs.Core.{answer_of_stage, answer_of_election, answer_of_leaving};
+ghost use Rattle.bus_tenure.specs.Core.{rest_at, answer_at, page_after};
 ghost use Rattle.bus_tenure.specs.declared.phases.Phase.TheVariants as phase;
 ghost use Rattle.bus_tenure.specs.Elections.{election_of, elections, layout_with};
 ghost use Rattle.bus_tenure.specs.Keeping.{IsUnderWay, IsInTenure, IsHolding, AreSizes};
-ghost use Rattle.bus_tenure.specs.Seen.{wants_at, turns_of, tenure_of, HasElection, AwaitsItsPage, GivesItBack, turn_without_step, held_by};
+ghost use Rattle.bus_tenure.specs.Seen.{wants_at, turns_of, tenure_of, HasElection, AwaitsItsPage};
+ghost use Rattle.bus_tenure.specs.Seen.{GivesItBack, turn_without_step, held_by};
 
 use super::holds::Hold;
 use super::pages::Page;
@@ -58,9 +68,36 @@ impl<Q: Ratifier> Model for SenderCore<Q> {
 
     ghost Value = { Core (Elector Q) };
 
-    ghost view = { λ c. record { layout = record { senders = c.sizes.senders; rounds = c.sizes.rounds; rows = c.sizes.rows; width = c.sizes.width; capacity = c.sizes.capacity }; me = c.me.0; queue = c.batch; least = c.least; phase = c.phase } };
+    ghost view = { λ c. record {
+      layout = record {
+        senders = c.sizes.senders;
+        rounds = c.sizes.rounds;
+        rows = c.sizes.rows;
+        width = c.sizes.width;
+        capacity = c.sizes.capacity;
+      };
+      me = c.me.0;
+      queue = c.batch;
+      least = c.least;
+      phase = c.phase;
+    } };
 
-    ghost invariant = { λ c. CoreKeeps ((elections Q.protocol c.sizes.rounds).width c.sizes.senders) (ElectorKeeps Q.protocol c.sizes.rounds c.sizes.senders c.me.0) (record { layout = record { senders = c.sizes.senders; rounds = c.sizes.rounds; rows = c.sizes.rows; width = c.sizes.width; capacity = c.sizes.capacity }; me = c.me.0; queue = c.batch; least = c.least; phase = c.phase }) };
+    ghost invariant = { λ c. CoreKeeps
+        ((elections Q.protocol c.sizes.rounds).width c.sizes.senders)
+        (ElectorKeeps Q.protocol c.sizes.rounds c.sizes.senders c.me.0)
+        (record {
+          layout = record {
+            senders = c.sizes.senders;
+            rounds = c.sizes.rounds;
+            rows = c.sizes.rows;
+            width = c.sizes.width;
+            capacity = c.sizes.capacity;
+          };
+          me = c.me.0;
+          queue = c.batch;
+          least = c.least;
+          phase = c.phase;
+        }) };
 }
 
 impl<Q: Ratifier + Drop> SenderCore<Q> {
@@ -74,7 +111,19 @@ impl<Q: Ratifier + Drop> SenderCore<Q> {
         requires rows_few { rows ≤ 2 ^ 16 }
         requires log_few { log_words ≤ 2 ^ 20 }
         requires room { words_of (layout_with Q.protocol senders rounds rows log_words) ≤ 2 ^ 63 }
-        ensures { result ≡ record { layout = layout_with Q.protocol senders rounds rows log_words; me = me.0; queue = record { sender = me; first = 0; messages = []; phase = queue_phase.Open; busy = false }; least = 0; phase = phase.Resting } }
+        ensures { result ≡ record {
+          layout = layout_with Q.protocol senders rounds rows log_words;
+          me = me.0;
+          queue = record {
+            sender = me;
+            first = 0;
+            messages = [];
+            phase = queue_phase.Open;
+            busy = false;
+          };
+          least = 0;
+          phase = phase.Resting;
+        } }
     {
         SenderCore {
             sizes: Sizes {
@@ -95,7 +144,13 @@ impl<Q: Ratifier + Drop> SenderCore<Q> {
     pub fn put(&mut self, bytes: &[u8]) -> Result<u64, PutFault>
         requires { next_of self.old.queue < 2 ^ 48 }
         ensures number { IfOk result (λ number. number ≡ next_of self.old.queue) }
-        ensures taken { OnOk result (self.new ≡ record self.old { queue = record self.old.queue { messages = self.old.queue.messages ++ bytes.now ∷ [] } }) }
+        ensures taken { OnOk result
+            (self.new ≡ record self.old {
+              queue = record self.old.queue {
+                messages = self.old.queue.messages
+                    ++ bytes.now ∷ [];
+              };
+            }) }
         ensures could { OnOk result (CanPut self.old.queue (length bytes.now)) }
         ensures fault { IfErr result (IsPutFault self.old.queue (length bytes.now)) }
         ensures refused { OnErr result (self.new ≡ self.old) }
@@ -105,7 +160,10 @@ impl<Q: Ratifier + Drop> SenderCore<Q> {
 
     /// Lets an end mark wait in place of messages.
     pub fn close(&mut self) -> Result<(), CloseFault>
-        ensures taken { OnOk result (self.new ≡ record self.old { queue = record self.old.queue { phase = queue_phase.Closing } }) }
+        ensures taken { OnOk result
+            (self.new ≡ record self.old {
+              queue = record self.old.queue { phase = queue_phase.Closing };
+            }) }
         ensures could { OnOk result (CanClose self.old.queue) }
         ensures fault { IfErr result (IsCloseFault self.old.queue) }
         ensures refused { OnErr result (self.new ≡ self.old) }
@@ -163,7 +221,8 @@ impl<Q: Ratifier + Drop> SenderCore<Q> {
 
     /// Nothing is pending, and no end mark waits.
     fn has_nothing(&self) -> bool
-        ensures { IsTrue result ↔ ((self.now.queue.messages ≡ []) × (is_closing self.now.queue.phase ≡ false)) }
+        ensures { IsTrue result
+            ↔ ((self.now.queue.messages ≡ []) × (is_closing self.now.queue.phase ≡ false)) }
     {
         self.batch.is_empty() && !self.is_closing()
     }
@@ -204,9 +263,13 @@ impl<Q: Ratifier + Drop> SenderCore<Q> {
     /// What it does next with a page before it.
     fn hold(&self, page: Page, stored: u64, published: bool) -> Hold
         requires { HasSomething self.now.queue }
-        ensures situation { (t : ℕ) → holding self.now t page stored published ≡ held_by result t page stored }
-        ensures word { result ≡ Hold.Word → (page.words + frame_len self.now ≤ self.now.layout.capacity) × (stored < frame_len self.now) }
-        ensures length { result ≡ Hold.Length → page.words + frame_len self.now ≤ self.now.layout.capacity }
+        ensures situation { (t : ℕ)
+            → holding self.now t page stored published ≡ held_by result t page stored }
+        ensures word { result ≡ Hold.Word
+            → (page.words + frame_len self.now ≤ self.now.layout.capacity)
+            × (stored < frame_len self.now) }
+        ensures length { result ≡ Hold.Length
+            → page.words + frame_len self.now ≤ self.now.layout.capacity }
         ensures sent { result ≡ Hold.Back Leaving.Sent → published ≡ true }
     {
         if published {
@@ -224,7 +287,8 @@ impl<Q: Ratifier + Drop> SenderCore<Q> {
 
     /// What the next step is for; none where none is due.
     pub fn kind(&self) -> Option<Kind>
-        ensures kind { let X = election_of Q.Ratifier in result ≡ kind_at X (situation_of X self.now) }
+        ensures kind { let X = election_of Q.Ratifier in
+            result ≡ kind_at X (situation_of X self.now) }
         ensures cause { IfSome result (λ k. HasCause Q.protocol self.now k) }
     {
         match &self.phase {
@@ -260,7 +324,8 @@ impl<Q: Ratifier + Drop> SenderCore<Q> {
 
     /// The next step asks for a random word.
     pub fn wants_word(&self) -> bool
-        ensures { let X = election_of Q.Ratifier in result ≡ wants_at X (situation_of X self.now) }
+        ensures { let X = election_of Q.Ratifier in
+            result ≡ wants_at X (situation_of X self.now) }
     {
         match &self.phase {
             Phase::Electing { election, .. } => match election.owner() {
@@ -297,7 +362,9 @@ impl<Q: Ratifier + Drop> SenderCore<Q> {
     fn holder_step(&self, tenure: u64, page: Page, stored: u64, published: bool) -> Op
         requires { IsHolding self.now tenure page.words stored published }
         ensures below { register result < words_of self.now.layout }
-        ensures step { let X = election_of Q.Ratifier in (word : ℕ) → Some result ≡ op_at X self.now (holding self.now tenure page stored published) word }
+        ensures step { let X = election_of Q.Ratifier in
+            (word : ℕ) → Some result ≡ op_at X self.now
+            (holding self.now tenure page stored published) word }
     {
         match self.hold(page, stored, published) {
             Hold::Word => {
@@ -312,7 +379,8 @@ impl<Q: Ratifier + Drop> SenderCore<Q> {
 
     /// The next step; none where none is due. Takes nothing and changes nothing.
     pub fn next(&self, word: u32) -> Option<Op>
-        ensures step { let X = election_of Q.Ratifier in result ≡ op_at X self.now (situation_of X self.now) word }
+        ensures step { let X = election_of Q.Ratifier in
+            result ≡ op_at X self.now (situation_of X self.now) word }
         ensures below { IfSome result (λ o. register o < words_of self.now.layout) }
     {
         match &self.phase {
@@ -376,9 +444,12 @@ impl<Q: Ratifier + Drop> SenderCore<Q> {
     /// Takes the next step of its election, or, elected, takes the page.
     fn elect(&mut self, got: u64, word: u32) -> Turn
         requires elects { HasElection self.old.phase }
-        requires steps { let X = election_of Q.Ratifier in IsSome (op_at X self.old (situation_of X self.old) word) }
-        ensures state { let X = election_of Q.Ratifier in self.new ≡ fed_at X self.old (situation_of X self.old) got word }
-        ensures answer { let X = election_of Q.Ratifier in result ≡ answer_at X self.old (situation_of X self.old) got word }
+        requires steps { let X = election_of Q.Ratifier in
+            IsSome (op_at X self.old (situation_of X self.old) word) }
+        ensures state { let X = election_of Q.Ratifier in
+            self.new ≡ fed_at X self.old (situation_of X self.old) got word }
+        ensures answer { let X = election_of Q.Ratifier in
+            result ≡ answer_at X self.old (situation_of X self.old) got word }
     {
         let Phase::Electing { tenure, election } = &mut self.phase else {
             unreachable!()
@@ -439,8 +510,14 @@ impl<Q: Ratifier + Drop> SenderCore<Q> {
     /// Goes on after a step of a holder of the page.
     fn hold_on(&mut self, tenure: u64, page: Page, stored: u64, published: bool) -> Turn
         requires { self.old.phase ≡ phase.Holding tenure page stored published }
-        ensures state { let X = election_of Q.Ratifier in (got : ℕ) (word : ℕ) → self.new ≡ fed_at X self.old (holding self.old tenure page stored published) got word }
-        ensures answer { let X = election_of Q.Ratifier in (got : ℕ) (word : ℕ) → result ≡ answer_at X self.old (holding self.old tenure page stored published) got word }
+        ensures state { let X = election_of Q.Ratifier in
+            (got : ℕ) (word : ℕ)
+            → self.new ≡ fed_at X self.old
+            (holding self.old tenure page stored published) got word }
+        ensures answer { let X = election_of Q.Ratifier in
+            (got : ℕ) (word : ℕ)
+            → result ≡ answer_at X self.old
+            (holding self.old tenure page stored published) got word }
     {
         match self.hold(page, stored, published) {
             Hold::Word => {
@@ -467,9 +544,12 @@ impl<Q: Ratifier + Drop> SenderCore<Q> {
 
     /// The step that `next` told for the same random word was taken, and found `got`.
     pub fn feed(&mut self, got: u64, word: u32) -> Turn
-        requires { let X = election_of Q.Ratifier in IsSome (op_at X self.old (situation_of X self.old) word) }
-        ensures state { let X = election_of Q.Ratifier in self.new ≡ fed_at X self.old (situation_of X self.old) got word }
-        ensures answer { let X = election_of Q.Ratifier in result ≡ answer_at X self.old (situation_of X self.old) got word }
+        requires { let X = election_of Q.Ratifier in
+            IsSome (op_at X self.old (situation_of X self.old) word) }
+        ensures state { let X = election_of Q.Ratifier in
+            self.new ≡ fed_at X self.old (situation_of X self.old) got word }
+        ensures answer { let X = election_of Q.Ratifier in
+            result ≡ answer_at X self.old (situation_of X self.old) got word }
     {
         match self.phase {
             Phase::Resting => self.see_stage(got),
@@ -498,7 +578,8 @@ impl<Q: Ratifier + Drop> SenderCore<Q> {
     /// Lays the page before it, which it has taken.
     pub fn lay(&mut self, page: Page)
         requires { AwaitsItsPage self.old.phase }
-        ensures { (t : ℕ) → self.old.phase ≡ phase.Taken t → self.new ≡ record self.old { phase = phase.Holding t page 0 false } }
+        ensures { (t : ℕ) → self.old.phase ≡ phase.Taken t
+            → self.new ≡ record self.old { phase = phase.Holding t page 0 false } }
     {
         if let Phase::Taken { tenure } = self.phase {
             self.phase = Phase::Holding {
@@ -512,7 +593,8 @@ impl<Q: Ratifier + Drop> SenderCore<Q> {
 
     /// The page is to be given back, and stands before it yet.
     pub fn gives_back(&self) -> bool
-        ensures { let X = election_of Q.Ratifier in IsTrue result ↔ GivesItBack (situation_of X self.now) }
+        ensures { let X = election_of Q.Ratifier in
+            IsTrue result ↔ GivesItBack (situation_of X self.now) }
     {
         match self.phase {
             Phase::Holding {
@@ -555,8 +637,14 @@ impl<Q: Ratifier + Drop> SenderCore<Q> {
     /// Takes the page from it, to be given back.
     pub fn hand(&mut self) -> Page
         requires { let X = election_of Q.Ratifier in GivesItBack (situation_of X self.old) }
-        ensures page { let X = election_of Q.Ratifier in (t : ℕ) (page : Page) (leaving : Leaving) → situation_of X self.old ≡ GivesBack t page leaving → result ≡ page_after self.old t page leaving }
-        ensures state { let X = election_of Q.Ratifier in (t : ℕ) (page : Page) (leaving : Leaving) → situation_of X self.old ≡ GivesBack t page leaving → self.new ≡ record self.old { phase = phase.Giving t leaving } }
+        ensures page { let X = election_of Q.Ratifier in
+            (t : ℕ) (page : Page) (leaving : Leaving)
+            → situation_of X self.old ≡ GivesBack t page leaving
+            → result ≡ page_after self.old t page leaving }
+        ensures state { let X = election_of Q.Ratifier in
+            (t : ℕ) (page : Page) (leaving : Leaving)
+            → situation_of X self.old ≡ GivesBack t page leaving
+            → self.new ≡ record self.old { phase = phase.Giving t leaving } }
     {
         if let Phase::Holding {
             tenure,

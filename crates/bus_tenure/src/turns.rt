@@ -7,7 +7,8 @@ use bus_register::SenderNo;
 pub enum Turn {
     /// Nothing is pending, and it is not closing. No step was taken.
     Idle,
-    /// The stage shows no tenure that it may enter: another sender holds the page, or it has been there.
+    /// The stage shows no tenure that it may enter: another sender holds the page, or it has been
+    /// there.
     Waiting,
     /// A step was taken, and more are to come.
     Going,

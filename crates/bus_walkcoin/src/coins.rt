@@ -35,7 +35,13 @@ impl Model for WalkCoin {
 
     ghost Value = { CoinState };
 
-    ghost view = { λ c. record { n = c.n; me = c.me.0; at = c.at.0; own = c.own; phase = c.phase } };
+    ghost view = { λ c. record {
+      n = c.n;
+      me = c.me.0;
+      at = c.at.0;
+      own = c.own;
+      phase = c.phase;
+    } };
 
     ghost invariant = { λ c. Sized c.n c.me.0 c.at.0 c.own c.phase };
 }

@@ -18,7 +18,8 @@ pub fn coin_is_lawful()
 /// those that the definition reads off its steps.
 pub fn coin_answers_by_its_trail()
     ensures { (n me at : ℕ) (trail : List Entry) (s : CoinState)
-        → me < n → Took coin_op coin_fed (coin_started n me at) trail s → CoinAnswer n at trail s }
+        → me < n → Took coin_op coin_fed (coin_started n me at) trail s
+        → CoinAnswer n at trail s }
 {}
 
 /// A process has a next step exactly as long as the definition gives no answer.

@@ -14,8 +14,11 @@ use bus_ownerbits::laws::election_is_lawful;
 /// Whatever trails lead to a bus of at most 8 senders, up to 2^40 tenures and fewer than 2^40 log
 /// words, the promise holds of them, with the order and the owners that its log spells.
 pub fn trails_keep_promises<Q: Ratifier>()
-    ensures { (senders rounds rows capacity : ℕ) → IsLayout (layout_with Q.protocol senders rounds rows capacity)
-        → (bus : Bus (Elector Q)) (trails : Trails) → Reached (election_of Q.Ratifier) (layout_with Q.protocol senders rounds rows capacity) bus trails
+    ensures { (senders rounds rows capacity : ℕ)
+        → IsLayout (layout_with Q.protocol senders rounds rows capacity)
+        → (bus : Bus (Elector Q)) (trails : Trails)
+        → Reached (election_of Q.Ratifier) (layout_with Q.protocol senders rounds rows capacity)
+        bus trails
         → IsPromised (layout_with Q.protocol senders rounds rows capacity) bus trails }
 {
     election_is_lawful::<Q>();
@@ -24,9 +27,12 @@ pub fn trails_keep_promises<Q: Ratifier>()
 /// And whatever happens to such a bus next, the promise stays: its order, its owners and what each
 /// receiver was given are extended, and never otherwise changed.
 pub fn promises_only_grow<Q: Ratifier>()
-    ensures { (senders rounds rows capacity : ℕ) → IsLayout (layout_with Q.protocol senders rounds rows capacity)
-        → (old : Bus (Elector Q)) (events : List Event) (new : Bus (Elector Q)) → AllAnswered (election_of Q.Ratifier) old events new
-        → Played (election_of Q.Ratifier) (layout_with Q.protocol senders rounds rows capacity) old events new }
+    ensures { (senders rounds rows capacity : ℕ)
+        → IsLayout (layout_with Q.protocol senders rounds rows capacity)
+        → (old : Bus (Elector Q)) (events : List Event) (new : Bus (Elector Q))
+        → AllAnswered (election_of Q.Ratifier) old events new
+        → Played (election_of Q.Ratifier) (layout_with Q.protocol senders rounds rows capacity)
+        old events new }
 {
     election_is_lawful::<Q>();
 }

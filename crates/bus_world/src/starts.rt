@@ -1,6 +1,7 @@
 //! The senders and receivers of a new bus.
 
-ghost use Rattle.std.specs.Prelude.{◌≡◌, ℕ, ◌+◌, ◌*◌, ◌<◌, ◌≤◌, ◌^◌, [], length, slice_get, Some, IfOk};
+ghost use Rattle.std.specs.Prelude.{◌≡◌, ℕ, ◌+◌, ◌*◌, ◌<◌, ◌≤◌, ◌^◌};
+ghost use Rattle.std.specs.Prelude.{[], length, slice_get, Some, IfOk};
 ghost use Rattle.bus_batch.specs.Reading.{HasRead};
 ghost use Rattle.bus_tenure.specs.Core.{words_of};
 ghost use Rattle.bus_world.specs.Playing.{layout_of};
@@ -21,7 +22,8 @@ pub fn new_senders<Q: Ratifier + Drop>(
 ) -> Result<Vec<SenderCore<Q>>, NoMemory>
     requires served { IsServed shape }
     requires room { words_of (layout_of Q.protocol shape) ≤ 2 ^ 63 }
-    ensures { IfOk result (λ senders. AreNewCores (layout_of Q.protocol shape) shape.senders senders.items) }
+    ensures { IfOk result
+        (λ senders. AreNewCores (layout_of Q.protocol shape) shape.senders senders.items) }
 {
     let mut senders = Vec::new(alloc);
     for me in 0..shape.senders {
@@ -40,7 +42,9 @@ pub fn new_senders<Q: Ratifier + Drop>(
 /// A receiver for each number, at the first word of the log.
 pub fn new_receivers(alloc: Global, shape: Shape, log: Reg) -> Result<Vec<Reader>, NoMemory>
     requires { log.0 + shape.log_words < 2 ^ 64 }
-    ensures { IfOk result (λ receivers. AreNewReaders shape.senders log.0 shape.log_words shape.receivers receivers.items) }
+    ensures { IfOk result
+        (λ receivers. AreNewReaders shape.senders log.0 shape.log_words
+        shape.receivers receivers.items) }
 {
     let mut receivers = Vec::new(alloc);
     for _ in 0..shape.receivers {

@@ -1,6 +1,7 @@
 //! One turn of one sender, and of one receiver, on what they share.
 
-ghost use Rattle.std.specs.Prelude.{◌≡◌, ℕ, ◌<◌, ◌^◌, length, map, slice_index, IsSome, IfSome, Some, IfOk, IfErr, OnOk};
+ghost use Rattle.std.specs.Prelude.{◌≡◌, ℕ, ◌<◌, ◌^◌, length, map, slice_index};
+ghost use Rattle.std.specs.Prelude.{IsSome, IfSome, Some, IfOk, IfErr, OnOk};
 ghost use Rattle.bus_register.specs.declared.registers.Op.{Op};
 ghost use Rattle.bus_register.specs.Words.{register, SumFits};
 ghost use Rattle.bus_tenure.specs.Core.{words_of, Elects, situation_of, op_at, fed_at, answer_at};
@@ -21,8 +22,10 @@ use bus_tenure::{Page, SenderCore, Turn};
 
 /// The page comes home from a sender that is to give it back.
 fn hand_home<Q: Ratifier + Drop>(home: &mut Option<Page>, core: &mut SenderCore<Q>)
-    ensures home { let X = election_of Q.Ratifier in home.new ≡ home_handed core.old (situation_of X core.old) home.old }
-    ensures core { let X = election_of Q.Ratifier in core.new ≡ handed core.old (situation_of X core.old) }
+    ensures home { let X = election_of Q.Ratifier in
+        home.new ≡ home_handed core.old (situation_of X core.old) home.old }
+    ensures core { let X = election_of Q.Ratifier in
+        core.new ≡ handed core.old (situation_of X core.old) }
 {
     if core.gives_back() {
         *home = Some(core.hand());
@@ -32,11 +35,20 @@ fn hand_home<Q: Ratifier + Drop>(home: &mut Option<Page>, core: &mut SenderCore<
 /// The step that is due, where one is, and the sender's answer.
 fn take_step<Q: Ratifier + Drop>(cells: &mut Cells, core: &mut SenderCore<Q>, word: u32) -> Turn
     requires room { length cells.old ≡ words_of core.old.layout }
-    requires sums { let X = election_of Q.Ratifier in (o : Op) → op_at X core.old (situation_of X core.old) word ≡ Some o → SumFits o (slice_index cells.old (register o)) }
-    requires goes { let X = election_of Q.Ratifier in (t : ℕ) (e : Elector Q) → situation_of X core.old ≡ Elects t e → IsSome (X.op e word) }
-    ensures words { let X = election_of Q.Ratifier in cells.new ≡ stepped cells.old (op_at X core.old (situation_of X core.old) word) }
-    ensures core { let X = election_of Q.Ratifier in core.new ≡ fed_at X core.old (situation_of X core.old) (found cells.old (op_at X core.old (situation_of X core.old) word)) word }
-    ensures answer { let X = election_of Q.Ratifier in result ≡ answer_at X core.old (situation_of X core.old) (found cells.old (op_at X core.old (situation_of X core.old) word)) word }
+    requires sums { let X = election_of Q.Ratifier in
+        (o : Op) → op_at X core.old (situation_of X core.old) word ≡ Some o
+        → SumFits o (slice_index cells.old (register o)) }
+    requires goes { let X = election_of Q.Ratifier in
+        (t : ℕ) (e : Elector Q) → situation_of X core.old ≡ Elects t e
+        → IsSome (X.op e word) }
+    ensures words { let X = election_of Q.Ratifier in
+        cells.new ≡ stepped cells.old (op_at X core.old (situation_of X core.old) word) }
+    ensures core { let X = election_of Q.Ratifier in
+        core.new ≡ fed_at X core.old (situation_of X core.old)
+        (found cells.old (op_at X core.old (situation_of X core.old) word)) word }
+    ensures answer { let X = election_of Q.Ratifier in
+        result ≡ answer_at X core.old (situation_of X core.old)
+        (found cells.old (op_at X core.old (situation_of X core.old) word)) word }
 {
     let Some(op) = core.next(word) else {
         return core.rest();
@@ -57,7 +69,8 @@ fn lay_page<Q: Ratifier + Drop>(home: &mut Option<Page>, core: &mut SenderCore<Q
     }
 }
 
-/// One turn of a sender: at most one step on the words, with which the page comes to it or goes home.
+/// One turn of a sender: at most one step on the words, with which the page comes to it or goes
+/// home.
 pub fn turn_sender<Q: Ratifier + Drop>(
     cells: &mut Cells,
     home: &mut Option<Page>,
@@ -65,12 +78,22 @@ pub fn turn_sender<Q: Ratifier + Drop>(
     word: u32,
 ) -> Turn
     requires room { length cells.old ≡ words_of core.old.layout }
-    requires sums { let X = election_of Q.Ratifier in (o : Op) → op_at X core.old (situation_of X core.old) word ≡ Some o → SumFits o (slice_index cells.old (register o)) }
-    requires goes { let X = election_of Q.Ratifier in (t : ℕ) (e : Elector Q) → situation_of X core.old ≡ Elects t e → IsSome (X.op e word) }
-    ensures words { let X = election_of Q.Ratifier in cells.new ≡ stepped cells.old (op_at X core.old (situation_of X core.old) word) }
-    ensures home { let X = election_of Q.Ratifier in home.new ≡ home_after core.old (situation_of X core.old) home.old }
-    ensures core { let X = election_of Q.Ratifier in core.new ≡ core_after X core.old (situation_of X core.old) home.old (found cells.old (op_at X core.old (situation_of X core.old) word)) word }
-    ensures answer { let X = election_of Q.Ratifier in result ≡ answer_at X core.old (situation_of X core.old) (found cells.old (op_at X core.old (situation_of X core.old) word)) word }
+    requires sums { let X = election_of Q.Ratifier in
+        (o : Op) → op_at X core.old (situation_of X core.old) word ≡ Some o
+        → SumFits o (slice_index cells.old (register o)) }
+    requires goes { let X = election_of Q.Ratifier in
+        (t : ℕ) (e : Elector Q) → situation_of X core.old ≡ Elects t e
+        → IsSome (X.op e word) }
+    ensures words { let X = election_of Q.Ratifier in
+        cells.new ≡ stepped cells.old (op_at X core.old (situation_of X core.old) word) }
+    ensures home { let X = election_of Q.Ratifier in
+        home.new ≡ home_after core.old (situation_of X core.old) home.old }
+    ensures core { let X = election_of Q.Ratifier in
+        core.new ≡ core_after X core.old (situation_of X core.old) home.old
+        (found cells.old (op_at X core.old (situation_of X core.old) word)) word }
+    ensures answer { let X = election_of Q.Ratifier in
+        result ≡ answer_at X core.old (situation_of X core.old)
+        (found cells.old (op_at X core.old (situation_of X core.old) word)) word }
 {
     hand_home(home, core);
     let turn = take_step(cells, core, word);
@@ -119,7 +142,8 @@ pub fn close_to<Q: Ratifier + Drop>(core: &mut SenderCore<Q>) -> Result<(), Step
 /// Who took the page, by tenure, after this answer of a sender.
 pub fn note_owner(owners: &mut ArrayVec<SenderNo, 256>, sender: SenderNo, turn: Turn)
     requires { (t : ℕ) → turn ≡ Turn.Own t → length owners.old.items < 256 }
-    ensures { map (λ s. s.0) owners.new.items ≡ owners_by turn sender.0 (map (λ s. s.0) owners.old.items) }
+    ensures { map (λ s. s.0) owners.new.items ≡ owners_by turn sender.0
+        (map (λ s. s.0) owners.old.items) }
 {
     if let Turn::Own { .. } = turn {
         owners.push(sender);

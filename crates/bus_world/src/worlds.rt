@@ -1,6 +1,7 @@
 //! A bus that plays events.
 
-ghost use Rattle.std.specs.Prelude.{◌≡◌, ℕ, ◌<◌, length, map, slice_get, List, Some, All, IfOk, IfErr, OnOk, OnErr};
+ghost use Rattle.std.specs.Prelude.{◌≡◌, ℕ, ◌<◌, length, map, slice_get, List, Some};
+ghost use Rattle.std.specs.Prelude.{All, IfOk, IfErr, OnOk, OnErr};
 ghost use Rattle.std.specs.Option.{option_copied};
 ghost use Rattle.bus_register.specs.declared.registers.SenderNo.{SenderNo as Number};
 ghost use Rattle.bus_batch.specs.Frames.{Frame, AreFrames, Spells, log_words, order_of};
@@ -9,10 +10,13 @@ ghost use Rattle.bus_deliverylog.specs.Receiving.{Receiving};
 ghost use Rattle.bus_tenure.specs.Elections.{Elector, election_of, elections};
 ghost use Rattle.bus_world.specs.declared.events.Answer.TheVariants as answer;
 ghost use Rattle.bus_world.specs.Headline.{given};
-ghost use Rattle.bus_world.specs.World.{Put, Close, Turn as SenderTurn, Recv, IsEvent, Happens, given_at};
+ghost use Rattle.bus_world.specs.World.{Put, Close, Turn as SenderTurn, Recv, IsEvent, Happens};
+ghost use Rattle.bus_world.specs.World.{given_at};
 ghost use Rattle.bus_world.specs.Telling.{Tells, SenderCauses, EventCauses};
-ghost use Rattle.bus_world.specs.Trails.{Trails, no_trails, Reached, IsPromised, Takers, Follows, Played, Stops};
-ghost use Rattle.bus_world.specs.Playing.{event_told, layout_of, Answers, PutGives, CloseGives, Refused, IsMade, MakeRefused, log_of};
+ghost use Rattle.bus_world.specs.Trails.{Trails, no_trails, Reached, IsPromised, Takers, Follows};
+ghost use Rattle.bus_world.specs.Trails.{Played, Stops};
+ghost use Rattle.bus_world.specs.Playing.{event_told, layout_of, Answers, PutGives, CloseGives};
+ghost use Rattle.bus_world.specs.Playing.{Refused, IsMade, MakeRefused, log_of};
 
 use crate::events::{Answer, Event, PlayFault, StepFault};
 use crate::shapes::{MakeFault, Shape};
@@ -48,16 +52,21 @@ impl<Q: Ratifier> Model for World<Q> {
 
     ghost Value = { Sitting (Elector Q) };
 
-    ghost view = { λ w. sitting_of (layout_of Q.protocol w.shape) w.cells w.home w.senders.items (map (λ s. s.0) w.owners.items) w.receivers.items };
+    ghost view = { λ w. sitting_of (layout_of Q.protocol w.shape) w.cells w.home w.senders.items
+        (map (λ s. s.0) w.owners.items) w.receivers.items };
 
-    ghost invariant = { λ w. IsSitting (election_with Q.kind_of Q.op Q.fed Q.protocol) (elections Q.protocol w.shape.rounds) (sitting_of (layout_of Q.protocol w.shape) w.cells w.home w.senders.items (map (λ s. s.0) w.owners.items) w.receivers.items) };
+    ghost invariant = { λ w. IsSitting (election_with Q.kind_of Q.op Q.fed Q.protocol)
+        (elections Q.protocol w.shape.rounds)
+        (sitting_of (layout_of Q.protocol w.shape) w.cells w.home w.senders.items
+        (map (λ s. s.0) w.owners.items) w.receivers.items) };
 }
 
 impl<Q: Ratifier + Drop> World<Q> {
     /// A new bus, with its words at zero and its page at home.
     pub fn new(alloc: Global, shape: Shape) -> Result<World<Q>, MakeFault>
         ensures made { IfOk result (IsMade (layout_of Q.protocol shape) shape) }
-        ensures begins { let X = election_of Q.Ratifier in IfOk result (λ world. Reached X world.layout world.bus no_trails) }
+        ensures begins { let X = election_of Q.Ratifier in
+            IfOk result (λ world. Reached X world.layout world.bus no_trails) }
         ensures fault { IfErr result (MakeRefused shape) }
     {
         if let Some(fault) = shape.fault() {
@@ -83,8 +92,10 @@ impl<Q: Ratifier + Drop> World<Q> {
     fn put_at(&mut self, sender: u64, bytes: &[u8]) -> Result<u64, StepFault>
         ensures bytes { All (λ byte. byte < 256) bytes.now }
         ensures layout { self.new.layout ≡ self.old.layout }
-        ensures happens { let X = election_of Q.Ratifier in Happens X self.old.bus (Put sender bytes.now) self.new.bus }
-        ensures number { IfOk result (PutGives (slice_get self.old.bus.side.senders sender) (length bytes.now)) }
+        ensures happens { let X = election_of Q.Ratifier in
+            Happens X self.old.bus (Put sender bytes.now) self.new.bus }
+        ensures number { IfOk result
+            (PutGives (slice_get self.old.bus.side.senders sender) (length bytes.now)) }
         ensures fault { IfErr result (Refused self.old.bus (Put sender bytes.now)) }
         ensures refused { OnErr result (self.new ≡ self.old) }
     {
@@ -98,7 +109,8 @@ impl<Q: Ratifier + Drop> World<Q> {
     /// An end mark waits at a sender.
     fn close_at(&mut self, sender: u64) -> Result<(), StepFault>
         ensures layout { self.new.layout ≡ self.old.layout }
-        ensures happens { let X = election_of Q.Ratifier in Happens X self.old.bus (Close sender) self.new.bus }
+        ensures happens { let X = election_of Q.Ratifier in
+            Happens X self.old.bus (Close sender) self.new.bus }
         ensures could { OnOk result (CloseGives (slice_get self.old.bus.side.senders sender)) }
         ensures fault { IfErr result (Refused self.old.bus (Close sender)) }
         ensures refused { OnErr result (self.new ≡ self.old) }
@@ -113,9 +125,12 @@ impl<Q: Ratifier + Drop> World<Q> {
     /// A sender takes a turn.
     fn turn_at(&mut self, sender: u64, word: u32) -> Result<Answer, StepFault>
         ensures layout { self.new.layout ≡ self.old.layout }
-        ensures happens { let X = election_of Q.Ratifier in Happens X self.old.bus (SenderTurn sender word) self.new.bus }
-        ensures answer { let X = election_of Q.Ratifier in IfOk result (λ a. Answers X self.old.bus (SenderTurn sender word) a self.new.bus) }
-        ensures causes { let X = election_of Q.Ratifier in SenderCauses X Q.protocol (slice_get self.old.bus.side.senders sender) }
+        ensures happens { let X = election_of Q.Ratifier in
+            Happens X self.old.bus (SenderTurn sender word) self.new.bus }
+        ensures answer { let X = election_of Q.Ratifier in
+            IfOk result (λ a. Answers X self.old.bus (SenderTurn sender word) a self.new.bus) }
+        ensures causes { let X = election_of Q.Ratifier in
+            SenderCauses X Q.protocol (slice_get self.old.bus.side.senders sender) }
         ensures fault { IfErr result (Refused self.old.bus (SenderTurn sender word)) }
         ensures refused { OnErr result (self.new ≡ self.old) }
     {
@@ -133,8 +148,10 @@ impl<Q: Ratifier + Drop> World<Q> {
     /// A receiver takes a turn.
     fn recv_at(&mut self, receiver: u64) -> Result<Answer, StepFault>
         ensures layout { self.new.layout ≡ self.old.layout }
-        ensures happens { let X = election_of Q.Ratifier in Happens X self.old.bus (Recv receiver) self.new.bus }
-        ensures answer { let X = election_of Q.Ratifier in IfOk result (λ a. Answers X self.old.bus (Recv receiver) a self.new.bus) }
+        ensures happens { let X = election_of Q.Ratifier in
+            Happens X self.old.bus (Recv receiver) self.new.bus }
+        ensures answer { let X = election_of Q.Ratifier in
+            IfOk result (λ a. Answers X self.old.bus (Recv receiver) a self.new.bus) }
         ensures fault { IfErr result (Refused self.old.bus (Recv receiver)) }
         ensures refused { OnErr result (self.new ≡ self.old) }
     {
@@ -149,10 +166,13 @@ impl<Q: Ratifier + Drop> World<Q> {
     /// A message is put into the batch of a sender, and gets this number. Takes no memory.
     pub fn put(&mut self, sender: SenderNo, bytes: &[u8]) -> Result<u64, StepFault>
         ensures layout { self.new.layout ≡ self.old.layout }
-        ensures happens { let X = election_of Q.Ratifier in Happens X self.old.bus (Put sender.0 bytes.now) self.new.bus }
+        ensures happens { let X = election_of Q.Ratifier in
+            Happens X self.old.bus (Put sender.0 bytes.now) self.new.bus }
         ensures follows { let X = election_of Q.Ratifier in
-            IfOk result (λ number. Follows X self.old.layout self.old.bus (Put sender.0 bytes.now) (answer.Number number) self.new.bus) }
-        ensures number { IfOk result (PutGives (slice_get self.old.bus.side.senders sender.0) (length bytes.now)) }
+            IfOk result (λ number. Follows X self.old.layout self.old.bus (Put sender.0 bytes.now)
+            (answer.Number number) self.new.bus) }
+        ensures number { IfOk result
+            (PutGives (slice_get self.old.bus.side.senders sender.0) (length bytes.now)) }
         ensures fault { IfErr result (Refused self.old.bus (Put sender.0 bytes.now)) }
         ensures refused { OnErr result (self.new ≡ self.old) }
     {
@@ -164,9 +184,11 @@ impl<Q: Ratifier + Drop> World<Q> {
     /// A sender is to close the order. Takes no memory.
     pub fn close(&mut self, sender: SenderNo) -> Result<(), StepFault>
         ensures layout { self.new.layout ≡ self.old.layout }
-        ensures happens { let X = election_of Q.Ratifier in Happens X self.old.bus (Close sender.0) self.new.bus }
+        ensures happens { let X = election_of Q.Ratifier in
+            Happens X self.old.bus (Close sender.0) self.new.bus }
         ensures follows { let X = election_of Q.Ratifier in
-            OnOk result (Follows X self.old.layout self.old.bus (Close sender.0) answer.Closing self.new.bus) }
+            OnOk result (Follows X self.old.layout self.old.bus
+            (Close sender.0) answer.Closing self.new.bus) }
         ensures could { OnOk result (CloseGives (slice_get self.old.bus.side.senders sender.0)) }
         ensures fault { IfErr result (Refused self.old.bus (Close sender.0)) }
         ensures refused { OnErr result (self.new ≡ self.old) }
@@ -180,9 +202,12 @@ impl<Q: Ratifier + Drop> World<Q> {
     fn take_in(&mut self, event: &Event) -> Result<Answer, StepFault>
         ensures layout { self.new.layout ≡ self.old.layout }
         ensures is { IsEvent (event_told event.now) }
-        ensures happens { let X = election_of Q.Ratifier in Happens X self.old.bus (event_told event.now) self.new.bus }
-        ensures answer { let X = election_of Q.Ratifier in IfOk result (λ a. Answers X self.old.bus (event_told event.now) a self.new.bus) }
-        ensures causes { let X = election_of Q.Ratifier in EventCauses X Q.protocol self.old.bus (event_told event.now) }
+        ensures happens { let X = election_of Q.Ratifier in
+            Happens X self.old.bus (event_told event.now) self.new.bus }
+        ensures answer { let X = election_of Q.Ratifier in
+            IfOk result (λ a. Answers X self.old.bus (event_told event.now) a self.new.bus) }
+        ensures causes { let X = election_of Q.Ratifier in
+            EventCauses X Q.protocol self.old.bus (event_told event.now) }
         ensures fault { IfErr result (Refused self.old.bus (event_told event.now)) }
         ensures refused { OnErr result (self.new ≡ self.old) }
     {
@@ -201,11 +226,15 @@ impl<Q: Ratifier + Drop> World<Q> {
     pub fn step(&mut self, event: &Event) -> Result<Answer, StepFault>
         ensures layout { self.new.layout ≡ self.old.layout }
         ensures is { IsEvent (event_told event.now) }
-        ensures happens { let X = election_of Q.Ratifier in Happens X self.old.bus (event_told event.now) self.new.bus }
-        ensures answer { let X = election_of Q.Ratifier in IfOk result (λ a. Answers X self.old.bus (event_told event.now) a self.new.bus) }
-        ensures causes { let X = election_of Q.Ratifier in EventCauses X Q.protocol self.old.bus (event_told event.now) }
+        ensures happens { let X = election_of Q.Ratifier in
+            Happens X self.old.bus (event_told event.now) self.new.bus }
+        ensures answer { let X = election_of Q.Ratifier in
+            IfOk result (λ a. Answers X self.old.bus (event_told event.now) a self.new.bus) }
+        ensures causes { let X = election_of Q.Ratifier in
+            EventCauses X Q.protocol self.old.bus (event_told event.now) }
         ensures follows { let X = election_of Q.Ratifier in
-            IfOk result (λ a. Follows X self.old.layout self.old.bus (event_told event.now) a self.new.bus) }
+            IfOk result (λ a. Follows X self.old.layout self.old.bus
+            (event_told event.now) a self.new.bus) }
         ensures tells { let X = election_of Q.Ratifier in
             IfOk result (Tells X self.old.layout self.old.bus (event_told event.now)) }
         ensures fault { IfErr result (Refused self.old.bus (event_told event.now)) }
@@ -220,9 +249,12 @@ impl<Q: Ratifier + Drop> World<Q> {
     pub fn play(&mut self, events: &[Event]) -> Result<(), PlayFault>
         ensures layout { self.new.layout ≡ self.old.layout }
         ensures played { let X = election_of Q.Ratifier in
-            OnOk result (Played X self.old.layout self.old.bus (map event_told events.now) self.new.bus) }
+            OnOk result (Played X self.old.layout self.old.bus
+            (map event_told events.now) self.new.bus) }
         ensures stopped { let X = election_of Q.Ratifier in
-            IfErr result (λ fault. Stops X self.old.layout self.old.bus (map event_told events.now) fault.place fault.why self.new.bus) }
+            IfErr result
+            (λ fault. Stops X self.old.layout self.old.bus (map event_told events.now) fault.place
+            fault.why self.new.bus) }
     {
         election_is_lawful::<Q>();
         let _ = &self.shape;
@@ -238,7 +270,8 @@ impl<Q: Ratifier + Drop> World<Q> {
     pub fn owners(&self) -> &[SenderNo]
         ensures state { map (λ s. s.0) result.now ≡ self.now.bus.side.owners }
         ensures took { let X = election_of Q.Ratifier in
-            (trails : Trails) → Reached X self.now.layout self.now.bus trails → Takers (map (λ s. s.0) result.now) trails.deeds }
+            (trails : Trails) → Reached X self.now.layout self.now.bus trails
+            → Takers (map (λ s. s.0) result.now) trails.deeds }
     {
         election_is_lawful::<Q>();
         let _ = &self.shape;
@@ -282,7 +315,8 @@ impl<Q: Ratifier + Drop> World<Q> {
 
     /// The order: what the words below the length spell. Memory is its only refusal.
     pub fn order(&self, alloc: Global) -> Result<Order, NoMemory>
-        ensures { IfOk result (λ order. (owners : List (ℕ × Number)) × Spells self.now.layout.senders (log_of self.now) (order_held order) owners) }
+        ensures { IfOk result (λ order. (owners : List (ℕ × Number))
+            × Spells self.now.layout.senders (log_of self.now) (order_held order) owners) }
     {
         match read_log(alloc, self.log(), self.shape.senders) {
             Ok(read) => Ok(read.order),
@@ -295,7 +329,9 @@ impl<Q: Ratifier + Drop> World<Q> {
     pub fn given(&self, alloc: Global, receiver: u64) -> Result<Order, NoMemory>
         requires { receiver < length self.now.bus.receivers }
         ensures { let X = election_of Q.Ratifier in
-            IfOk result (λ order. (trails : Trails) → Reached X self.now.layout self.now.bus trails → order_held order ≡ given (trails.heard receiver)) }
+            IfOk result (λ order. (trails : Trails)
+            → Reached X self.now.layout self.now.bus trails
+            → order_held order ≡ given (trails.heard receiver)) }
     {
         election_is_lawful::<Q>();
         let _ = &self.shape;
@@ -305,7 +341,10 @@ impl<Q: Ratifier + Drop> World<Q> {
     /// The pieces of the log below a receiver's place, which there must be.
     fn given_below(&self, alloc: Global, receiver: u64) -> Result<Order, NoMemory>
         requires { receiver < length self.now.bus.receivers }
-        ensures { IfOk result (λ order. (frames : List Frame) (v : Receiving) → AreFrames self.now.layout.senders frames → log_of self.now ≡ log_words frames → slice_get self.now.bus.receivers receiver ≡ Some v → order_held order ≡ given_at frames v) }
+        ensures { IfOk result (λ order. (frames : List Frame) (v : Receiving)
+            → AreFrames self.now.layout.senders frames → log_of self.now ≡ log_words frames
+            → slice_get self.now.bus.receivers receiver ≡ Some v
+            → order_held order ≡ given_at frames v) }
     {
         let place = self.receivers[receiver as usize].place();
         match read_front(alloc, &self.log()[..place as usize], self.shape.senders) {
@@ -316,8 +355,11 @@ impl<Q: Ratifier + Drop> World<Q> {
 
     /// What a bus promises: some trails lead to it, and of all trails that do the promise holds.
     pub fn promises(&self)
-        ensures happened { let X = election_of Q.Ratifier in (trails : Trails) × Reached X self.now.layout self.now.bus trails }
-        ensures promised { let X = election_of Q.Ratifier in (trails : Trails) → Reached X self.now.layout self.now.bus trails → IsPromised self.now.layout self.now.bus trails }
+        ensures happened { let X = election_of Q.Ratifier in
+            (trails : Trails) × Reached X self.now.layout self.now.bus trails }
+        ensures promised { let X = election_of Q.Ratifier in
+            (trails : Trails) → Reached X self.now.layout self.now.bus trails
+            → IsPromised self.now.layout self.now.bus trails }
     {
         election_is_lawful::<Q>();
         let _ = &self.shape;

@@ -31,7 +31,8 @@ fn encode(command: Command) -> [u8; 3]
 
 /// Carries out the command of a message. Any other message changes nothing.
 fn apply(message: &[u8], counters: &mut [u64; 4])
-    ensures { (command : Command) → message.now ≡ message_of command → counters.new ≡ changed command counters.old }
+    ensures { (command : Command) → message.now ≡ message_of command
+        → counters.new ≡ changed command counters.old }
 {
     match *message {
         [b'+', counter @ 0..4, amount] => {

@@ -1,5 +1,5 @@
-//! Random scripts of all shapes, whose closing lines a plain checker looks at: it knows what was put
-//! and nothing of buses.
+//! Random scripts of all shapes, whose closing lines a plain checker looks at: it knows what was
+//! put and nothing of buses.
 
 use crate::answer_to;
 use bus_adoptcommit::TwoCollect;
