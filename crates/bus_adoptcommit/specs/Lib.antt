@@ -4,13 +4,6 @@ pub mod Schedule
 pub mod Plays
 pub mod TwoCollect
 pub mod TwoCollectKeeps
-pub mod TwoCollectWordLaws
-pub mod TwoCollectMarkLaws
-pub mod TwoCollectStepLaws
-pub mod TwoCollectPassLaws
-pub mod TwoCollectMoveLaws
-pub mod TwoCollectStartLaws
-pub mod TwoCollectOutcomeLaws
-pub mod TwoCollectLaws
 pub mod Checks
 pub mod Refused
+pub mod Proved

@@ -1,5 +1,6 @@
 -- One object, played by a schedule over words of zero.
 use Rattle.std.specs.Prelude.{◌≡◌, ℕ, ◌+◌, ◌<◌, ◌≤◌, Bool, List, [], ◌∷◌, length, slice_get, slice_index, Option, Some, None, IsSome, option_map}
+use Rattle.bus_register.specs.declared.limits.TheConstants.{MOST_PROCESSES}
 use Rattle.bus_register.specs.declared.registers.Op.{Op}
 use Rattle.bus_register.specs.Protocol.{Protocol}
 use Rattle.bus_register.specs.Tables.{Beside}
@@ -55,7 +56,7 @@ pub record AtStarts {S : Type 0} (P : Protocol S Bool Verdict) (n i : ℕ) (give
 -- a process takes neither more nor fewer steps than `steps`: it starts with that many left, a step takes one of them, and
 -- an output stands only where none is left
 pub record IsExact {S I O : Type 0} (op : S → ℕ → Option Op) (fed : S → ℕ → ℕ → S) (P : Protocol S I O) : Type 0 where
-  pub starts : (n me at : ℕ) (v : I) → me < n → n ≤ 64 → P.left (P.started n me v at) ≡ P.steps n
+  pub starts : (n me at : ℕ) (v : I) → me < n → n ≤ MOST_PROCESSES → P.left (P.started n me v at) ≡ P.steps n
   pub falls : (n me at : ℕ) (s : S) (got word : ℕ) (o : Op) → P.Belongs n me at s → op s word ≡ Some o → P.left s ≡ P.left (fed s got word) + 1
   pub ends : (s : S) (d : O) → P.output s ≡ Some d → P.left s ≡ 0
 

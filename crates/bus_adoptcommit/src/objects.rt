@@ -7,6 +7,7 @@ ghost use Rattle.bus_adoptcommit.specs.Plays.{AtStarts, IsMove, Verdicts, moment
 
 use super::ratifiers::Ratifier;
 use super::verdicts::Verdict;
+use bus_register::limits::MOST_PROCESSES;
 use bus_register::{Cells, Machine, NoMemory, Reg, SenderNo};
 use std::alloc::Global;
 
@@ -30,7 +31,7 @@ pub fn step<Q: Ratifier>(cells: &mut Cells, processes: &mut [Q], p: usize)
 
 /// A process for each input, at its start.
 fn start_all<Q: Ratifier + Drop>(alloc: Global, inputs: &[bool]) -> Result<Vec<Q>, NoMemory>
-    requires few { length inputs.now ≤ 64 }
+    requires few { length inputs.now ≤ MOST_PROCESSES }
     requires room { Q.protocol.width (length inputs.now) ≤ 2 ^ 64 }
     ensures { IfOk result
         (λ processes. AtStarts Q.protocol
@@ -60,7 +61,7 @@ pub fn verdicts<Q: Ratifier + Drop>(
     inputs: &[bool],
     schedule: &[u8],
 ) -> Result<Vec<Option<Verdict>>, NoMemory>
-    requires few { length inputs.now ≤ 64 }
+    requires few { length inputs.now ≤ MOST_PROCESSES }
     requires known { All (λ p. p < length inputs.now) schedule.now }
     ensures { IfOk result
         (λ outs. Verdicts Q.op Q.fed Q.protocol inputs.now schedule.now outs.items) }

@@ -5,11 +5,13 @@ ghost use Rattle.std.specs.Prelude.{Bool, false, Some};
 ghost use Rattle.bus_register.specs.declared.kinds.Kind.{Kind};
 ghost use Rattle.bus_register.specs.declared.registers.Op.{Op};
 ghost use Rattle.bus_register.specs.Protocol.{Protocol, Laws};
+ghost use Rattle.bus_register.specs.declared.limits.TheConstants.{MOST_PROCESSES};
 ghost use Rattle.bus_adoptcommit.specs.declared.verdicts.Verdict.{Verdict};
 ghost use Rattle.bus_adoptcommit.specs.Agreement.{Legal};
 ghost use Rattle.bus_adoptcommit.specs.Kinds.{IsOfRatifier, IsNamedFor};
 
 use super::verdicts::Verdict;
+use bus_register::limits::MOST_PROCESSES;
 use bus_register::{Machine, Reg, SenderNo};
 
 /// One process of an adopt-commit object of at most 64 processes (Gafni 1998; a ratifier in Aspnes
@@ -20,13 +22,13 @@ pub trait Ratifier: Machine {
 
     /// How many words an object for `n` processes has.
     fn width(n: u64) -> u64
-        requires { n ≤ 64 }
+        requires { n ≤ MOST_PROCESSES }
         ensures { result ≡ protocol.width n };
 
     /// Process `me` of `n` with its input, over the words from `at` on.
     fn start(n: u64, me: SenderNo, input: bool, at: Reg) -> Self
         requires me_below { me.0 < n }
-        requires few { n ≤ 64 }
+        requires few { n ≤ MOST_PROCESSES }
         requires room { at.0 + protocol.width n ≤ 2 ^ 64 }
         ensures { result ≡ protocol.started n me.0 input at.0 };
 
@@ -53,5 +55,5 @@ pub trait Ratifier: Machine {
     ghost quick: { (n : ℕ) → protocol.steps n ≤ 2 * n + 2 };
 
     /// So that the words of many objects can be counted.
-    ghost narrow: { (n : ℕ) → n ≤ 64 → protocol.width n ≤ 1024 };
+    ghost narrow: { (n : ℕ) → n ≤ MOST_PROCESSES → protocol.width n ≤ 1024 };
 }

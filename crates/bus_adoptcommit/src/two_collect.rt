@@ -6,9 +6,9 @@ ghost use Rattle.bus_adoptcommit.specs.Plays.{IsExact};
 ghost use Rattle.bus_adoptcommit.specs.TwoCollect.{Local, Sized, proposal_code, verdict_code};
 ghost use Rattle.bus_adoptcommit.specs.TwoCollect.{verdict_in, kind_at, op_of, fed_of};
 ghost use Rattle.bus_adoptcommit.specs.TwoCollectKeeps.{two_collect};
-ghost use Rattle.bus_adoptcommit.specs.TwoCollectLaws.{two_collect_legal, two_collect_exact};
-ghost use Rattle.bus_adoptcommit.specs.TwoCollectLaws.{named_at, own_kinds, named_for, wordless};
-ghost use Rattle.bus_adoptcommit.specs.TwoCollectLaws.{quick, narrow};
+ghost use Rattle.bus_adoptcommit.specs.Proved.TwoCollectLaws.{two_collect_legal, two_collect_exact};
+ghost use Rattle.bus_adoptcommit.specs.Proved.TwoCollectLaws.{named_at, own_kinds, named_for, wordless};
+ghost use Rattle.bus_adoptcommit.specs.Proved.TwoCollectLaws.{quick, narrow};
 
 use super::phases::Phase;
 use super::ratifiers::Ratifier;

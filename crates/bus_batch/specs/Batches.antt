@@ -1,5 +1,6 @@
 -- What a sender's batch holds, and the frame that it makes.
 use Rattle.std.specs.Prelude.{◌≡◌, ℕ, ◌+◌, ◌<◌, ◌≤◌, ◌^◌, ◌⊎◌, List, [], length, All, Bool, true, false}
+use Rattle.bus_register.specs.declared.limits.TheConstants.{MOST_BYTES, MOST_MESSAGES, NUMBERS}
 use Rattle.bus_register.specs.declared.registers.SenderNo.{SenderNo}
 use Rattle.bus_batch.specs.declared.batches.Phase.{Phase}
 use Rattle.bus_batch.specs.declared.batches.Phase.TheVariants.{Open, Closing, Closed}
@@ -44,15 +45,15 @@ frame_of b tenure = record { tenure = tenure; owner = b.sender; body = body_of b
 pub record CanPut (b : Pending) (len : ℕ) : Type 0 where
   pub is_open : b.phase ≡ Open
   pub idle : b.busy ≡ false
-  pub short : len ≤ 56
-  pub room : length b.messages < 16
+  pub short : len ≤ MOST_BYTES
+  pub room : length b.messages < MOST_MESSAGES
 
 -- why a message of so many bytes is refused: each fault where its cause holds and no earlier one
 abbrev pub IsPutFault : Pending → ℕ → PutFault → Type 0
 IsPutFault b len put.Closed = IsShut b
 IsPutFault b len put.Busy = (b.phase ≡ Open) × (b.busy ≡ true)
-IsPutFault b len put.TooLong = (b.phase ≡ Open) × (b.busy ≡ false) × (56 < len)
-IsPutFault b len put.BatchFull = (b.phase ≡ Open) × (b.busy ≡ false) × (len ≤ 56) × (length b.messages ≡ 16)
+IsPutFault b len put.TooLong = (b.phase ≡ Open) × (b.busy ≡ false) × (MOST_BYTES < len)
+IsPutFault b len put.BatchFull = (b.phase ≡ Open) × (b.busy ≡ false) × (len ≤ MOST_BYTES) × (length b.messages ≡ MOST_MESSAGES)
 
 -- a close is taken
 pub record CanClose (b : Pending) : Type 0 where
@@ -74,8 +75,8 @@ sent Closed = Closed
 
 -- what a batch always keeps
 pub record IsKept (b : Pending) : Type 0 where
-  pub few : length b.messages ≤ 16
+  pub few : length b.messages ≤ MOST_MESSAGES
   pub each : All IsMessage b.messages
-  pub numbers : next_of b ≤ 2 ^ 48
+  pub numbers : next_of b ≤ NUMBERS
   pub alone : b.phase ≡ Closing → b.messages ≡ []
   pub owner_bits : b.sender.0 < 2 ^ 8

@@ -8,6 +8,7 @@
 -- The count is the number of words of the frame after its head. A message word is followed by its bytes, eight to a word
 -- from the high end on, the last word filled with zero bytes.
 use Rattle.std.specs.Prelude.{◌≡◌, ℕ, zero, suc, ◌+◌, ◌*◌, ◌/◌, ◌<◌, ◌≤◌, ◌^◌, List, [], ◌∷◌, ◌++◌, length, take, drop, replicate, map, flat_map, All, Bool, true, false, ◌||◌, Option, Some, None, slice_get}
+use Rattle.bus_register.specs.declared.limits.TheConstants.{MOST_MESSAGES, TENURES}
 use Rattle.std.specs.List.{list_any}
 use Rattle.std.specs.Int.{w64, from_be_bytes}
 use Rattle.bus_register.specs.declared.registers.SenderNo.{SenderNo}
@@ -68,11 +69,11 @@ log_words frames = flat_map frame_words frames
 
 -- 1 to 16 messages, or an end mark
 abbrev pub IsBody : Body → Type 0
-IsBody (Messages messages) = (0 < length messages) × (length messages ≤ 16) × All IsNumbered messages
+IsBody (Messages messages) = (0 < length messages) × (length messages ≤ MOST_MESSAGES) × All IsNumbered messages
 IsBody EndMark = Unit {0}
 
 pub record IsFrame (senders : ℕ) (f : Frame) : Type 0 where
-  pub tenure : f.tenure < 2 ^ 40
+  pub tenure : f.tenure < TENURES
   pub owner : f.owner.0 < senders
   pub owner_bits : f.owner.0 < 2 ^ 8
   pub body : IsBody f.body

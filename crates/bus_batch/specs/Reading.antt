@@ -1,5 +1,6 @@
 -- Where a reader of frames stands.
 use Rattle.std.specs.Prelude.{◌≡◌, ℕ, suc, ◌+◌, ◌-◌, ◌*◌, ◌<◌, ◌≤◌, List, [], ◌∷◌, ◌++◌, length, flat_map, All, ◌⊎◌, Option, Some}
+use Rattle.bus_register.specs.declared.limits.TheConstants.{MOST_MESSAGES, MOST_BYTES, MOST_MESSAGE_WORDS}
 use Rattle.bus_register.specs.declared.registers.SenderNo.{SenderNo}
 use Rattle.bus_batch.specs.declared.messages.Piece.{Piece}
 use Rattle.bus_batch.specs.declared.messages.Piece.TheVariants as piece
@@ -48,7 +49,7 @@ Awaits reader rest pieces = at reader.place
   where
     at : Place → Type 0
     at Between = (frames : List Frame) × AreFramesFrom reader.senders reader.least frames × (rest ≡ log_words frames) × (pieces ≡ log_pieces frames)
-    at (Body owner left room) = Fills reader.senders reader.least owner left room rest pieces ⊎ ((left ≡ 1) × (room ≡ 16) × (rest ≡ end_word ∷ []) × (pieces ≡ Some piece.End ∷ []))
+    at (Body owner left room) = Fills reader.senders reader.least owner left room rest pieces ⊎ ((left ≡ 1) × (room ≡ MOST_MESSAGES) × (rest ≡ end_word ∷ []) × (pieces ≡ Some piece.End ∷ []))
     at (Data owner left room number len) = Completes reader.senders reader.least owner left room number len reader.bytes rest pieces
     at Ended = (rest ≡ []) × (pieces ≡ [])
     at Bad = ⊥
@@ -69,7 +70,7 @@ HasMetBadWord reader = reader.place ≡ Bad
 -- what the numbers of a reader always keep: the words that are left can be filled
 abbrev pub IsSound : Place → List ℕ → Type 0
 IsSound Between bytes = bytes ≡ []
-IsSound (Body owner left room) bytes = (bytes ≡ []) × (1 ≤ left) × (left ≤ 8 * room) × (room ≤ 16)
-IsSound (Data owner left room number len) bytes = (length bytes < len) × (len ≤ 56) × (data_len (len - length bytes) ≤ left) × (left ≤ data_len (len - length bytes) + 8 * room) × (room < 16)
+IsSound (Body owner left room) bytes = (bytes ≡ []) × (1 ≤ left) × (left ≤ MOST_MESSAGE_WORDS * room) × (room ≤ MOST_MESSAGES)
+IsSound (Data owner left room number len) bytes = (length bytes < len) × (len ≤ MOST_BYTES) × (data_len (len - length bytes) ≤ left) × (left ≤ data_len (len - length bytes) + MOST_MESSAGE_WORDS * room) × (room < MOST_MESSAGES)
 IsSound Ended bytes = Unit {0}
 IsSound Bad bytes = Unit {0}

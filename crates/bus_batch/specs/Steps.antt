@@ -1,5 +1,6 @@
 -- What the words of a log are made of, one by one, and what one word does to a reader.
 use Rattle.std.specs.Prelude.{◌≡◌, ℕ, ◌<◌, ◌≤◌, ◌^◌, List, ◌∷◌, Option, Result, IfOk, OnErr}
+use Rattle.bus_register.specs.declared.limits.TheConstants.{MOST_BODY_WORDS, TENURES, MOST_BYTES, NUMBERS}
 use Rattle.bus_batch.specs.declared.messages.Piece.{Piece}
 use Rattle.bus_batch.specs.declared.readers.BadWord.{BadWord}
 use Rattle.bus_batch.specs.declared.readers.Head.{Head}
@@ -16,15 +17,15 @@ pub record IsHead (senders least word : ℕ) (h : Head) : Type 0 where
   pub owner : h.owner.0 < senders
   pub owner_bits : h.owner.0 < 2 ^ 8
   pub some : 1 ≤ h.count
-  pub most : h.count ≤ 128
+  pub most : h.count ≤ MOST_BODY_WORDS
   pub late : least ≤ h.tenure
-  pub tenure : h.tenure < 2 ^ 40
+  pub tenure : h.tenure < TENURES
 
 -- a word begins a message of this length and number
 pub record IsMessageWord (word : ℕ) (m : Length) : Type 0 where
   pub is : word ≡ message_word m.len m.number
-  pub len : m.len ≤ 56
-  pub number : m.number < 2 ^ 48
+  pub len : m.len ≤ MOST_BYTES
+  pub number : m.number < NUMBERS
 
 -- a word that gave this piece, or nothing, has led from one reader to the other
 pub record Takes (old : Reading) (word : ℕ) (found : Option Piece) (new : Reading) : Type 0 where

@@ -14,6 +14,7 @@ use crate::messages::Message;
 use crate::words::{COUNT, END, HIGH, TAG};
 use arrayvec::ArrayVec;
 use bus_register::SenderNo;
+use bus_register::limits::{MOST_BODY_WORDS, MOST_MESSAGE_WORDS, MOST_MESSAGES, NUMBERS, TENURES};
 use std::marker::Model;
 
 /// Why a message is not taken; of several causes the first counts.
@@ -55,7 +56,7 @@ pub enum Phase {
 pub struct Batch {
     sender: SenderNo,
     first: u64,
-    messages: ArrayVec<Message, 16>,
+    messages: ArrayVec<Message, MOST_MESSAGES>,
     phase: Phase,
     busy: bool,
 }
@@ -89,7 +90,7 @@ impl Batch {
 
     /// An empty batch of a sender whose next message has the number `next`.
     pub fn new(sender: SenderNo, next: u64) -> Batch
-        requires { next ≤ 2 ^ 48 }
+        requires { next ≤ NUMBERS }
         ensures { result ≡ record {
           sender = sender;
           first = next;
@@ -110,7 +111,7 @@ impl Batch {
     /// How many messages wait.
     pub fn len(&self) -> u64
         ensures len { result ≡ length self.now.messages }
-        ensures few { result ≤ 16 }
+        ensures few { result ≤ MOST_MESSAGES }
     {
         self.messages.len() as u64
     }
@@ -159,7 +160,7 @@ impl Batch {
 
     /// Appends a message and gives its number.
     pub fn put(&mut self, bytes: &[u8]) -> Result<u64, PutFault>
-        requires { next_of self.old < 2 ^ 48 }
+        requires { next_of self.old < NUMBERS }
         ensures number { IfOk result (λ number. number ≡ next_of self.old) }
         ensures taken { OnOk result
             (self.new ≡ record self.old { messages = self.old.messages ++ bytes.now ∷ [] }) }
@@ -256,11 +257,11 @@ impl Batch {
         ensures len { (tenure : ℕ)
             → result ≡ length (frame_words (frame_of self.now tenure)) }
         ensures least { 2 ≤ result }
-        ensures most { result ≤ 129 }
+        ensures most { result ≤ 1 + MOST_BODY_WORDS }
 
         // In each tenure the frame is one that a log may have.
         ensures lawful { (senders : ℕ) (tenure : ℕ) → self.now.sender.0 < senders
-            → tenure < 2 ^ 40 → IsFrame senders (frame_of self.now tenure) }
+            → tenure < TENURES → IsFrame senders (frame_of self.now tenure) }
     {
         let _kept = &self.first;
         1 + self.body_len()
@@ -270,7 +271,7 @@ impl Batch {
     pub fn word(&self, i: u64, tenure: u64) -> u64
         requires something { HasSomething self.now }
         requires below { i < length (frame_words (frame_of self.now tenure)) }
-        requires tenure { tenure < 2 ^ 40 }
+        requires tenure { tenure < TENURES }
         ensures { slice_get (frame_words (frame_of self.now tenure)) i ≡ Some result }
     {
         if i == 0 {
@@ -286,7 +287,7 @@ impl Batch {
     fn body_len(&self) -> u64
         ensures len { result ≡ length
             (body_words (body_of self.now.phase self.now.first self.now.messages)) }
-        ensures most { result ≤ 128 }
+        ensures most { result ≤ MOST_BODY_WORDS }
     {
         if self.phase == Phase::Closing {
             return 1;
@@ -321,14 +322,14 @@ impl Batch {
 /// How many words a message has: its own and those of its bytes.
 fn words_of(message: &Message) -> u64
     ensures words { result ≡ 1 + data_len (length message.now) }
-    ensures most { result ≤ 8 }
+    ensures most { result ≤ MOST_MESSAGE_WORDS }
 {
     1 + (message.len() as u64 + 7) / 8
 }
 
 /// The word at `place` of a message with this number.
 fn word_of(message: &Message, number: u64, place: u64) -> u64
-    requires number { number < 2 ^ 48 }
+    requires number { number < NUMBERS }
     requires place { place < 1 + data_len (length message.now) }
     ensures { slice_get (message_words (record {
       number = number;

@@ -6,13 +6,14 @@ ghost use Rattle.std.specs.Prelude.{Bool, min};
 
 use arrayvec::ArrayVec;
 use bus_register::SenderNo;
+use bus_register::limits::MOST_BYTES;
 use std::alloc::AllocError;
 use std::marker::Model;
 
 /// At most 56 bytes.
 #[derive(Debug, Drop, PartialEq, Eq)]
 pub struct Message {
-    bytes: ArrayVec<u8, 56>,
+    bytes: ArrayVec<u8, MOST_BYTES>,
 }
 
 impl Model for Message {
@@ -35,7 +36,7 @@ impl Message {
 
     /// The bytes as a message; none where they are more than 56.
     pub fn of_bytes(bytes: &[u8]) -> Option<Message>
-        ensures fits { IsSome result ↔ (length bytes.now ≤ 56) }
+        ensures fits { IsSome result ↔ (length bytes.now ≤ MOST_BYTES) }
         ensures same { IfSome result (λ m. m ≡ bytes.now) }
     {
         let mut message = ArrayVec::new();
@@ -46,7 +47,7 @@ impl Message {
     /// The bytes.
     pub fn as_slice(&self) -> &[u8]
         ensures same { result.now ≡ self.now }
-        ensures short { length result.now ≤ 56 }
+        ensures short { length result.now ≤ MOST_BYTES }
     {
         self.bytes.as_slice()
     }
@@ -54,7 +55,7 @@ impl Message {
     /// How many bytes.
     pub fn len(&self) -> usize
         ensures len { result ≡ length self.now }
-        ensures short { result ≤ 56 }
+        ensures short { result ≤ MOST_BYTES }
     {
         self.bytes.len()
     }
@@ -68,7 +69,7 @@ impl Message {
 
     /// The bytes with more at the end.
     pub(crate) fn append(&mut self, more: &[u8])
-        requires { length self.old + length more.now ≤ 56 }
+        requires { length self.old + length more.now ≤ MOST_BYTES }
         ensures { self.new ≡ self.old ++ more.now }
     {
         let _fits = self.bytes.try_extend_from_slice(more);

@@ -6,8 +6,11 @@ ghost use Rattle.std.specs.Prelude.{IfNone, IfOk, OnErr, IsErr, IsTrue, ◌↔�
 ghost use Rattle.bus_batch.specs.Frames.{data_len};
 
 use crate::messages::{Item, Message, Piece};
-use crate::words::{COUNT, END, HIGH, NUMBERS, TAG};
+use crate::words::{COUNT, END, HIGH, TAG};
 use bus_register::SenderNo;
+use bus_register::limits::{
+    MOST_BODY_WORDS, MOST_BYTES, MOST_MESSAGE_WORDS, MOST_MESSAGES, NUMBERS,
+};
 use std::marker::Model;
 use std::mem;
 
@@ -56,7 +59,7 @@ enum Place {
 }
 
 /// The most messages of a frame.
-const BATCH_MESSAGES: u64 = 16;
+const BATCH_MESSAGES: u64 = MOST_MESSAGES as u64;
 
 ghost use Rattle.bus_batch.specs.Steps.{IsHead, IsMessageWord, IsAfter};
 
@@ -69,7 +72,7 @@ fn head_of(word: u64, senders: u64, least: u64) -> Option<Head>
     let owner = word % TAG / HIGH;
     let count = word % HIGH / COUNT;
     let tenure = word % COUNT;
-    if tag == 1 && owner < senders && count >= 1 && count <= 128 && tenure >= least {
+    if tag == 1 && owner < senders && count >= 1 && count <= MOST_BODY_WORDS && tenure >= least {
         Some(Head {
             tenure,
             owner: SenderNo(owner as u8),
@@ -88,7 +91,7 @@ fn message_of(word: u64) -> Option<Length>
     let tag = word / TAG;
     let len = word % TAG / HIGH;
     let number = word % HIGH;
-    if tag == 2 && len <= 56 && number < NUMBERS {
+    if tag == 2 && len <= MOST_BYTES as u64 && number < NUMBERS {
         Some(Length { len, number })
     } else {
         None
@@ -254,7 +257,7 @@ impl FrameReader {
     {
         let _held = &self.bytes;
         let words = 1 + (length.len + 7) / 8;
-        if left < words || 8 * (room - 1) < left - words {
+        if left < words || MOST_MESSAGE_WORDS * (room - 1) < left - words {
             self.place = Place::Bad;
             return Err(BadWord);
         }

@@ -9,8 +9,5 @@ pub(crate) const HIGH: u64 = 0x0040_0000_0000_0000;
 /// One in the lowest bit of a head's count.
 pub(crate) const COUNT: u64 = 0x0000_0100_0000_0000;
 
-/// One more than the highest message number.
-pub(crate) const NUMBERS: u64 = 0x0001_0000_0000_0000;
-
 /// The end word.
 pub(crate) const END: u64 = 0xC000_0000_0000_0000;

@@ -1,11 +1,12 @@
 -- What a sitting takes of a bus.
 use Rattle.std.specs.Prelude.{◌+◌, ◌*◌, ◌/◌, ℕ}
+use Rattle.bus_register.specs.declared.limits.TheConstants.{MOST_MESSAGES}
 use Rattle.bus_bench.specs.Sizes.{bytes_of}
 use Rattle.bus_bench.specs.declared.request.Request.{Request}
 
 -- how many batches of 16 a sender sends
 abbrev pub batches_of : Request → ℕ
-batches_of r = (r.messages + 15) / 16
+batches_of r = (r.messages + (MOST_MESSAGES - 1)) / MOST_MESSAGES
 
 -- one tenure for each batch, and one for the close
 abbrev pub tenures_of : Request → ℕ

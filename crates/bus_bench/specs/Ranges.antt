@@ -1,5 +1,6 @@
 -- Which numbers a measurement can have.
 use Rattle.std.specs.Prelude.{◌≢◌, ◌<◌, ◌⊎◌, ℕ}
+use Rattle.bus_register.specs.declared.limits.TheConstants.{MOST_SENDERS, MOST_RECEIVERS}
 use Rattle.bus_bench.specs.declared.request.Field.{Field}
 use Rattle.bus_bench.specs.declared.request.Field.TheVariants as field
 use Rattle.bus_bench.specs.declared.request.Refusal.{Refusal}
@@ -7,8 +8,8 @@ use Rattle.bus_bench.specs.declared.request.Refusal.TheVariants as refusal
 
 -- the number of this word is out of its range
 abbrev pub IsOut : ℕ → ℕ → ℕ → ℕ → ℕ → Field → Type 0
-IsOut senders receivers messages bytes repetitions field.Senders = (senders < 1) ⊎ (8 < senders)
-IsOut senders receivers messages bytes repetitions field.Receivers = (receivers < 1) ⊎ (8 < receivers)
+IsOut senders receivers messages bytes repetitions field.Senders = (senders < 1) ⊎ (MOST_SENDERS < senders)
+IsOut senders receivers messages bytes repetitions field.Receivers = (receivers < 1) ⊎ (MOST_RECEIVERS < receivers)
 IsOut senders receivers messages bytes repetitions field.Messages = messages < 1
 IsOut senders receivers messages bytes repetitions field.Bytes = (bytes ≢ 8) × (bytes ≢ 56)
 IsOut senders receivers messages bytes repetitions field.Repetitions = 10000 < repetitions

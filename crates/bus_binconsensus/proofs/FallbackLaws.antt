@@ -6,7 +6,7 @@ use Rattle.bus_register.specs.declared.registers.Op.{Op}
 use Rattle.bus_register.specs.declared.registers.Op.TheVariants.{Cas}
 use Rattle.bus_register.specs.Words.{register, after, SumFits}
 use Rattle.bus_register.specs.Tables.{Beside, Stepped, of_some}
-use Rattle.bus_register.specs.TableLaws.{some_of}
+use Rattle.bus_register.specs.Proved.TableLaws.{some_of}
 use Rattle.bus_register.specs.Protocol.{Laws, Goes, inputs, outputs}
 use Rattle.bus_binconsensus.specs.declared.fallbacks.Fallback.{Fallback}
 use Rattle.bus_binconsensus.specs.Deciding.{Decides}

@@ -8,3 +8,4 @@ pub mod LiftLaws
 pub mod ObjectLaws
 pub mod ObjectPlaces
 pub mod RoundLaws
+pub mod Shortcuts

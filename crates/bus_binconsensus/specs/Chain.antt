@@ -2,6 +2,7 @@
 -- a process goes through them in turn, is given by each the value of the one before, and stops in the first that commits. The
 -- objects are numbered from the end: after the object k come k more, and the last one always commits.
 use Rattle.std.specs.Prelude.{◌≡◌, ℕ, zero, suc, ◌+◌, ◌-◌, ◌<◌, ◌≤◌, Bool, true, Option, Some, None, ◌==◌, if◌then◌else◌}
+use Rattle.bus_register.specs.declared.limits.TheConstants.{MOST_PROCESSES}
 use Rattle.bus_register.specs.declared.registers.Op.{Op}
 use Rattle.bus_register.specs.Protocol.{Protocol}
 use Rattle.bus_adoptcommit.specs.declared.verdicts.Verdict.{Verdict}
@@ -79,7 +80,7 @@ pub record ChainBelongs {X : Type 0} (objects : Objects X) (top n me at : ℕ) (
   pub n_is : d.n ≡ n
   pub me_is : d.me ≡ me
   pub below : me < n
-  pub few : n ≤ 64
+  pub few : n ≤ MOST_PROCESSES
   pub within : d.after ≤ top
   -- the words of this object and of those after it end where the chain's words end
   pub place : d.at + span objects n d.after ≡ at + span objects n top

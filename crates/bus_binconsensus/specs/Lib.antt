@@ -4,6 +4,6 @@ pub mod Chain
 pub mod Lift
 pub mod Objects
 pub mod Decisions
-pub mod ObjectNames
 pub mod DecideLaw
 pub mod DecideRefuses
+pub mod Proved

@@ -3,17 +3,18 @@
 ghost use Rattle.std.specs.Prelude.{◌≡◌, ◌≢◌, ℕ, ◌+◌, ◌*◌, ◌-◌, ◌<◌};
 ghost use Rattle.std.specs.Prelude.{◌≤◌, ◌^◌};
 ghost use Rattle.bus_binconsensus.specs.Chain.{span, entered};
-ghost use Rattle.bus_binconsensus.specs.ObjectNames.{objects_named};
+ghost use Rattle.bus_binconsensus.specs.Proved.ObjectNames.{objects_named};
 ghost use Rattle.bus_binconsensus.specs.Objects.{objects_of, object_kind, object_calls, decide_op};
 ghost use Rattle.bus_binconsensus.specs.Objects.{decide_fed};
 ghost use Rattle.bus_binconsensus.specs.Decisions.{decisions};
 ghost use Rattle.bus_coinconc.specs.Conciliator.{conciliator_kind, conciliator_op, conciliator_fed};
 ghost use Rattle.bus_coinconc.specs.ConciliatorProtocol.{conciliator_protocol};
-ghost use Rattle.bus_coinconc.specs.ConciliatorSteps.{conciliator_names_each_step};
+ghost use Rattle.bus_coinconc.specs.Proved.ConciliatorSteps.{conciliator_names_each_step};
 
 use super::objects::Object;
 use bus_adoptcommit::{Ratifier, Verdict};
 use bus_coinconc::Conciliator;
+use bus_register::limits::{MOST_PROCESSES, MOST_ROUNDS};
 use bus_register::{Kind, Machine, Op, Reg, SenderNo};
 use std::marker::Model;
 
@@ -39,6 +40,7 @@ impl<Q: Ratifier> Model for Decide<Q> {
     ghost use Rattle.bus_binconsensus.specs.declared.objects.Object.{Object};
     ghost use Rattle.bus_binconsensus.specs.Objects.{objects_of};
     ghost use Rattle.bus_coinconc.specs.Conciliator.{ConciliatorState};
+    ghost use Rattle.bus_register.specs.declared.limits.TheConstants.{MOST_PROCESSES};
     ghost use Rattle.bus_coinconc.specs.ConciliatorProtocol.{conciliator_protocol};
 
     ghost Value = { Link (Object Q ConciliatorState) };
@@ -52,16 +54,16 @@ impl<Q: Ratifier> Model for Decide<Q> {
       object = d.object;
     } };
 
-    ghost invariant = { λ d. (d.me.0 < d.n) × (d.n ≤ 64)
+    ghost invariant = { λ d. (d.me.0 < d.n) × (d.n ≤ MOST_PROCESSES)
         × (d.at.0 + span (objects_of Q.protocol conciliator_protocol) d.n d.after ≤ 2 ^ 64) };
 }
 
 impl<Q: Ratifier + Drop> Decide<Q> {
     /// How many words a decision of `n` processes in so many rounds has.
     pub fn width(n: u64, rounds: u64) -> u64
-        requires few { n ≤ 64 }
+        requires few { n ≤ MOST_PROCESSES }
         requires some { 1 ≤ rounds }
-        requires not_many { rounds ≤ 8 }
+        requires not_many { rounds ≤ MOST_ROUNDS }
         ensures words { result ≡ rounds * Q.protocol.width n + (rounds - 1) * (n + 2) + 1 }
         ensures protocol { result ≡ (decisions Q.protocol rounds).width n }
     {
@@ -72,9 +74,9 @@ impl<Q: Ratifier + Drop> Decide<Q> {
     /// first step.
     pub fn start(n: u64, me: SenderNo, input: bool, rounds: u64, at: Reg) -> Decide<Q>
         requires me_below { me.0 < n }
-        requires few { n ≤ 64 }
+        requires few { n ≤ MOST_PROCESSES }
         requires some { 1 ≤ rounds }
-        requires not_many { rounds ≤ 8 }
+        requires not_many { rounds ≤ MOST_ROUNDS }
         requires room { at.0 + (decisions Q.protocol rounds).width n ≤ 2 ^ 64 }
         ensures { result ≡ (decisions Q.protocol rounds).started n me.0 input at.0 }
     {

@@ -3,14 +3,15 @@
 ghost use Rattle.std.specs.Prelude.{◌≡◌, ℕ, ◌+◌, ◌<◌, ◌≤◌, ◌^◌};
 ghost use Rattle.bus_binconsensus.specs.Objects.{objects_of, object_kind, object_op, object_fed};
 ghost use Rattle.bus_binconsensus.specs.Objects.{object_output, object_calls};
-ghost use Rattle.bus_binconsensus.specs.ObjectNames.{objects_named};
+ghost use Rattle.bus_binconsensus.specs.Proved.ObjectNames.{objects_named};
 ghost use Rattle.bus_coinconc.specs.Conciliator.{conciliator_kind, conciliator_op, conciliator_fed};
 ghost use Rattle.bus_coinconc.specs.ConciliatorProtocol.{conciliator_protocol};
-ghost use Rattle.bus_coinconc.specs.ConciliatorSteps.{conciliator_names_each_step};
+ghost use Rattle.bus_coinconc.specs.Proved.ConciliatorSteps.{conciliator_names_each_step};
 
 use super::fallbacks::Fallback;
 use bus_adoptcommit::{Ratifier, Verdict};
 use bus_coinconc::Conciliator;
+use bus_register::limits::MOST_PROCESSES;
 use bus_register::{Kind, Machine, Op, Reg, SenderNo};
 
 /// One process in one object of a decision. The objects are numbered by how many come after: the
@@ -29,7 +30,7 @@ pub enum Object<Q, C> {
 impl<Q: Ratifier> Object<Q, Conciliator> {
     /// How many words the object with this number has.
     pub fn width(n: u64, after: u64) -> u64
-        requires { n ≤ 64 }
+        requires { n ≤ MOST_PROCESSES }
         ensures { result ≡ (objects_of Q.protocol conciliator_protocol after).width n }
     {
         if after == 0 {
@@ -44,7 +45,7 @@ impl<Q: Ratifier> Object<Q, Conciliator> {
     /// Process `me` of `n` in the object with this number, over the words from `at` on.
     pub fn start(n: u64, me: SenderNo, input: bool, at: Reg, after: u64) -> Object<Q, Conciliator>
         requires me_below { me.0 < n }
-        requires few { n ≤ 64 }
+        requires few { n ≤ MOST_PROCESSES }
         requires room { at.0 + (objects_of Q.protocol conciliator_protocol after).width n
             ≤ 2 ^ 64 }
         ensures { result

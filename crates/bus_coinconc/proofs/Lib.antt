@@ -1,3 +1,4 @@
 pub mod ConciliatorGoes
 pub mod ConciliatorLaws
 pub mod ConciliatorMoves
+pub mod OwnKinds

@@ -1,5 +1,6 @@
 -- A conciliator of two marks and a coin: a process sets the mark of its input and loads the other mark; where that is set, it asks the coin.
 use Rattle.std.specs.Prelude.{ℕ, ◌+◌, ◌<◌, ◌≤◌, ◌^◌, Bool, true, false, not, Option, Some, None, ◌==◌, if◌then◌else◌}
+use Rattle.bus_register.specs.declared.limits.TheConstants.{MOST_PROCESSES}
 use Rattle.bus_register.specs.declared.kinds.Kind.{Kind}
 use Rattle.bus_register.specs.declared.kinds.Kind.TheVariants as kind
 use Rattle.bus_register.specs.declared.registers.Op.{Op}
@@ -24,7 +25,7 @@ bit true = 1
 -- the number is that of a process, and each word has a place
 pub record Sized (n me at : ℕ) : Type 0 where
   pub below : me < n
-  pub few : n ≤ 64
+  pub few : n ≤ MOST_PROCESSES
   pub room : at + (n + 2) ≤ 2 ^ 64
 
 abbrev pub conciliator_started : ℕ → ℕ → Bool → ℕ → ConciliatorState

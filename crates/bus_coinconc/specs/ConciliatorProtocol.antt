@@ -1,5 +1,7 @@
 -- The conciliator as a protocol: what its words and local states always keep.
 use Rattle.std.specs.Prelude.{◌≡◌, ℕ, ◌+◌, ◌*◌, ◌<◌, ◌≤◌, Bool, true, false, not, Option, Some, None, if◌then◌else◌, ◌⊎◌}
+use Rattle.bus_votecount.specs.declared.tallies.TheConstants.{MOST_VOTES}
+use Rattle.bus_register.specs.declared.limits.TheConstants.{MOST_PROCESSES}
 use Rattle.bus_register.specs.Protocol.{Protocol}
 use Rattle.bus_register.specs.Tables.{of_some}
 use Rattle.bus_walkcoin.specs.Coin.{CoinState}
@@ -11,7 +13,7 @@ use Rattle.bus_coinconc.specs.Conciliator.{ConciliatorState, bit, conciliator_st
 
 -- the steps of the coin, at most
 abbrev pub coin_steps : ℕ → ℕ
-coin_steps n = 64 * (n + 1)
+coin_steps n = MOST_VOTES * (n + 1)
 
 -- the steps that are left, at most
 abbrev pub left_at : Stage → ℕ → ℕ
@@ -39,7 +41,7 @@ pub record Belongs (n me at : ℕ) (s : ConciliatorState) : Type 0 where
   pub me_is : s.me ≡ me
   pub at_is : s.at ≡ at
   pub below : me < n
-  pub few : n ≤ 64
+  pub few : n ≤ MOST_PROCESSES
   pub stage : StageBelongs n me at s.stage
 
 abbrev pub coin_at : Stage → Option CoinState

@@ -1,5 +1,5 @@
 pub mod Conciliation
 pub mod Conciliator
-pub mod ConciliatorSteps
 pub mod ConciliatorKinds
 pub mod ConciliatorProtocol
+pub mod Proved

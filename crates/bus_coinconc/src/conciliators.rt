@@ -3,6 +3,7 @@
 ghost use Rattle.std.specs.Prelude.{◌≡◌, ℕ, ◌+◌, ◌<◌, ◌≤◌, ◌^◌};
 ghost use Rattle.bus_coinconc.specs.Conciliator.{bit, conciliator_started, output_of, wants_of};
 
+use bus_register::limits::MOST_PROCESSES;
 use bus_register::{Kind, Machine, Op, Reg, SenderNo};
 use bus_walkcoin::WalkCoin;
 use std::marker::Model;
@@ -59,7 +60,7 @@ impl Conciliator {
     /// first step.
     pub fn start(n: u64, me: SenderNo, input: bool, at: Reg) -> Conciliator
         requires me_below { me.0 < n }
-        requires few { n ≤ 64 }
+        requires few { n ≤ MOST_PROCESSES }
         requires room { at.0 + (n + 2) ≤ 2 ^ 64 }
         ensures { result ≡ conciliator_started n me.0 input at.0 }
     {
@@ -105,7 +106,7 @@ impl Conciliator {
 impl Machine for Conciliator {
     ghost use Rattle.bus_coinconc.specs.Conciliator.{conciliator_kind, conciliator_op};
     ghost use Rattle.bus_coinconc.specs.Conciliator.{conciliator_fed};
-    ghost use Rattle.bus_coinconc.specs.ConciliatorSteps.{conciliator_names_each_step};
+    ghost use Rattle.bus_coinconc.specs.Proved.ConciliatorSteps.{conciliator_names_each_step};
 
     ghost kind_of = { conciliator_kind };
 

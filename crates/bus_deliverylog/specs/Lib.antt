@@ -1,6 +1,6 @@
 pub mod Orders
 pub mod Logs
 pub mod Writing
-pub mod WritingLaws
 pub mod Receiving
 pub mod Faults
+pub mod Proved

@@ -5,3 +5,4 @@ pub mod ElectionLaws
 pub mod ElectionMoves
 pub mod ElectionSteps
 pub mod NumberLaws
+pub mod ElectionAsking

@@ -1,31 +1,13 @@
 -- Where an election asks for a random word: in a conciliator alone.
-use Rattle.std.specs.Prelude.{◌≡◌, ℕ, Bool, false, refl}
+use Rattle.std.specs.Prelude.{◌≡◌, ℕ, Bool}
 use Rattle.bus_register.specs.Protocol.{Protocol}
 use Rattle.bus_adoptcommit.specs.declared.verdicts.Verdict.{Verdict}
-use Rattle.bus_binconsensus.specs.declared.objects.Object.{Object}
-use Rattle.bus_binconsensus.specs.declared.objects.Object.TheVariants.{Ratify, Concile, Fall}
-use Rattle.bus_binconsensus.specs.Objects.{Decider, decide_protocol, object_wants, object_calls}
-use Rattle.bus_ownerbits.specs.declared.stages.Stage.{Stage}
-use Rattle.bus_ownerbits.specs.declared.stages.Stage.TheVariants.{Announce, Propose, Search, Alone}
+use Rattle.bus_binconsensus.specs.Objects.{Decider, decide_protocol}
 use Rattle.bus_ownerbits.specs.Sizes.{decision_cost}
 use Rattle.bus_ownerbits.specs.Election.{Electing}
-use Rattle.bus_ownerbits.specs.ElectionKeeps.{election_protocol, wants_at}
-use Rattle.bus_ownerbits.specs.ElectionNames.{calls_at, calls_of}
+use Rattle.bus_ownerbits.specs.ElectionKeeps.{election_protocol}
+use Rattle.bus_ownerbits.specs.ElectionNames.{calls_of}
 
 -- an election asks where its machine says so
 abbrev pub AsksAsTold : {S T : Type 0} → Protocol S Bool Verdict → Protocol T Bool Bool → Type 0
 AsksAsTold {S = S} {T = T} P C = (rounds : ℕ) (s : Electing (Decider S T)) → (election_protocol (decide_protocol P C) decision_cost rounds).wants_word s ≡ calls_of C s
-
-object_asks : {S T : Type 0} (P : Protocol S Bool Verdict) (C : Protocol T Bool Bool) → ((q : S) → P.wants_word q ≡ false) → (x : Object S T) → object_wants P C x ≡ object_calls C x
-object_asks P C never (Ratify q) = never q
-object_asks P C never (Concile c) = refl
-object_asks P C never (Fall f) = refl
-
-stage_asks : {S T : Type 0} (P : Protocol S Bool Verdict) (C : Protocol T Bool Bool) → ((q : S) → P.wants_word q ≡ false) → (stage : Stage (Decider S T)) (s : Electing (Decider S T)) → wants_at (decide_protocol P C) stage s ≡ calls_at C stage
-stage_asks P C never Announce s = refl
-stage_asks P C never (Propose d) s = object_asks P C never d.object
-stage_asks P C never (Search i) s = refl
-stage_asks P C never Alone s = refl
-
-pub asks_as_told : {S T : Type 0} (P : Protocol S Bool Verdict) (C : Protocol T Bool Bool) → ((q : S) → P.wants_word q ≡ false) → AsksAsTold P C
-asks_as_told P C never rounds s = stage_asks P C never s.stage s

@@ -1,5 +1,6 @@
 -- What the words and the local states of an election always keep, and what an election promises.
 use Rattle.std.specs.Prelude.{◌≡◌, ℕ, zero, suc, ◌+◌, ◌*◌, ◌-◌, ◌/◌, ◌<◌, ◌≤◌, ◌^◌, Bool, true, false, Option, Some, None, if◌then◌else◌}
+use Rattle.bus_register.specs.declared.limits.TheConstants.{MOST_PROCESSES}
 use Rattle.bus_register.specs.Tables.{of_some}
 use Rattle.bus_register.specs.Protocol.{Protocol}
 use Rattle.bus_ownerbits.specs.declared.stages.Stage.{Stage}
@@ -38,7 +39,7 @@ pub record ElectionBelongs {S : Type 0} (D : Decisions S) (cost : ℕ → ℕ �
   pub rounds_is : s.rounds ≡ rounds
   pub at_is : s.at ≡ at
   pub below : me < n
-  pub few : n ≤ 64
+  pub few : n ≤ MOST_PROCESSES
   pub within : s.left ≤ bits_of n
   pub stage : StageBelongs D rounds n me at s.stage s
   pub enough : work_at D cost s.stage s + 1 ≤ s.turns

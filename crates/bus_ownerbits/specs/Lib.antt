@@ -6,3 +6,4 @@ pub mod ElectionAsks
 pub mod ElectionKeeps
 pub mod Electors
 pub mod ElectionLaw
+pub mod Proved

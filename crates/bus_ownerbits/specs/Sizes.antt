@@ -1,5 +1,6 @@
 -- How many bits an owner's number has.
 use Rattle.std.specs.Prelude.{ℕ, ◌+◌, ◌*◌, ◌-◌, ◌/◌, ◌%◌, ◌≤◌, ◌^◌, ◌==◌, nat_lt, [], ◌∷◌, count_by, Bool, true, false}
+use Rattle.bus_votecount.specs.declared.tallies.TheConstants.{MOST_VOTES}
 
 -- b is the least count of bits that spell n numbers
 pub record IsBits (n b : ℕ) : Type 0 where
@@ -21,8 +22,8 @@ bit_at k number = (number / 2 ^ k) % 2 == 1
 
 -- the steps of a binary decision of so many rounds, at most
 abbrev pub decision_cost : ℕ → ℕ → ℕ
-decision_cost rounds n = rounds * (2 * n + 2) + (rounds - 1) * (2 + 64 * (n + 1)) + 1
+decision_cost rounds n = rounds * (2 * n + 2) + (rounds - 1) * (2 + MOST_VOTES * (n + 1)) + 1
 
 -- the turns that an election takes at most: its announcement, for each bit a decision and a search, and one more for its owner
 abbrev pub election_bound : ℕ → ℕ → ℕ
-election_bound n rounds = 2 + bits_of n * (rounds * (2 * n + 2) + (rounds - 1) * (2 + 64 * (n + 1)) + 1 + n)
+election_bound n rounds = 2 + bits_of n * (rounds * (2 * n + 2) + (rounds - 1) * (2 + MOST_VOTES * (n + 1)) + 1 + n)

@@ -10,15 +10,17 @@ ghost use Rattle.bus_coinconc.specs.ConciliatorProtocol.{conciliator_protocol};
 ghost use Rattle.bus_ownerbits.specs.Election.{election_kind, election_op, election_fed, owner_of};
 ghost use Rattle.bus_ownerbits.specs.Election.{going, seeking, with_bit, fits_bits};
 ghost use Rattle.bus_ownerbits.specs.ElectionKeeps.{election_protocol};
-ghost use Rattle.bus_ownerbits.specs.ElectionNames.{election_named, sender, calls_of};
+ghost use Rattle.bus_ownerbits.specs.ElectionNames.{sender, calls_of};
+ghost use Rattle.bus_ownerbits.specs.Proved.ElectionNamed.{election_named};
 ghost use Rattle.bus_ownerbits.specs.Sizes.{bits_of, decision_cost};
-ghost use Rattle.bus_binconsensus.specs.ObjectNames.{objects_named};
-ghost use Rattle.bus_coinconc.specs.ConciliatorSteps.{conciliator_names_each_step};
+ghost use Rattle.bus_binconsensus.specs.Proved.ObjectNames.{objects_named};
+ghost use Rattle.bus_coinconc.specs.Proved.ConciliatorSteps.{conciliator_names_each_step};
 
 use super::sizes::{bits, bound};
 use super::stages::Stage;
 use bus_adoptcommit::Ratifier;
 use bus_binconsensus::Decide;
+use bus_register::limits::{MOST_PROCESSES, MOST_ROUNDS};
 use bus_register::{Kind, Machine, Op, Reg, SenderNo};
 use std::marker::Model;
 
@@ -73,9 +75,9 @@ impl<Q: Ratifier + Drop> Election<Q> {
     /// How many words an election of `n` senders has, in so many rounds for each bit.
     pub fn width(n: u64, rounds: u64) -> u64
         requires some { 1 ≤ n }
-        requires few { n ≤ 64 }
+        requires few { n ≤ MOST_PROCESSES }
         requires rounds_some { 1 ≤ rounds }
-        requires rounds_few { rounds ≤ 8 }
+        requires rounds_few { rounds ≤ MOST_ROUNDS }
         ensures words { result
             ≡ n + bits_of n * (rounds * Q.protocol.width n + (rounds - 1) * (n + 2) + 1) }
         ensures protocol { result ≡ (elections Q.protocol rounds).width n }
@@ -86,9 +88,9 @@ impl<Q: Ratifier + Drop> Election<Q> {
     /// Sender `me` of `n`, over the words from `at` on, which are zero before the first step.
     pub fn start(n: u64, me: SenderNo, rounds: u64, at: Reg) -> Election<Q>
         requires me_below { me.0 < n }
-        requires few { n ≤ 64 }
+        requires few { n ≤ MOST_PROCESSES }
         requires rounds_some { 1 ≤ rounds }
-        requires rounds_few { rounds ≤ 8 }
+        requires rounds_few { rounds ≤ MOST_ROUNDS }
         requires room { at.0 + (elections Q.protocol rounds).width n ≤ 2 ^ 64 }
         ensures { result ≡ (elections Q.protocol rounds).started n me.0 tt at.0 }
     {

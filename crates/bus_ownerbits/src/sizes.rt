@@ -4,10 +4,13 @@ ghost use Rattle.std.specs.Prelude.{◌≡◌, ℕ, ◌+◌, ◌*◌, ◌-◌, �
 ghost use Rattle.std.specs.Prelude.{◌^◌};
 ghost use Rattle.bus_ownerbits.specs.Sizes.{IsBits, bits_of, election_bound};
 
+use bus_register::limits::{MOST_PROCESSES, MOST_ROUNDS};
+use bus_votecount::tallies::MOST_VOTES;
+
 /// How many bits the numbers below `n` have: the least count of bits that spell `n` numbers.
 pub fn bits(n: u64) -> u64
     requires some { 1 ≤ n }
-    requires few { n ≤ 64 }
+    requires few { n ≤ MOST_PROCESSES }
     ensures least { IsBits n result }
     ensures value { result ≡ bits_of n }
 {
@@ -24,12 +27,12 @@ pub fn bits(n: u64) -> u64
 /// rounds for each bit.
 pub fn bound(n: u64, rounds: u64) -> u64
     requires some { 1 ≤ n }
-    requires few { n ≤ 64 }
+    requires few { n ≤ MOST_PROCESSES }
     requires rounds_some { 1 ≤ rounds }
-    requires rounds_few { rounds ≤ 8 }
+    requires rounds_few { rounds ≤ MOST_ROUNDS }
     ensures { result ≡ election_bound n rounds }
 {
     let ratifiers = rounds * (2 * n + 2);
-    let conciliators = (rounds - 1) * (2 + 64 * (n + 1));
+    let conciliators = (rounds - 1) * (2 + MOST_VOTES as u64 * (n + 1));
     2 + bits(n) * (ratifiers + conciliators + 1 + n)
 }

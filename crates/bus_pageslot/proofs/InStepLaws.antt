@@ -4,7 +4,7 @@ use Rattle.std.specs.Prelude.{is_none, is_ok, Result, Ok, Err, IfErr}
 use Rattle.std.proofs.lemmas.Bool.Decides.{nat_tests}
 use Rattle.std.proofs.lemmas.Option.{slice_get_within, get_or_from_slice_get}
 use Rattle.std.proofs.Math.Seq.{drop-cons}
-use Rattle.bus_register.specs.TableLaws.{get_set_same}
+use Rattle.bus_register.specs.Proved.TableLaws.{get_set_same}
 use Rattle.bus_register.specs.Protocol.{Protocol}
 use Rattle.bus_batch.specs.Batches.{Pending, next_of, sent, IsPutFault, IsCloseFault, CanPut, CanClose}
 use Rattle.bus_batch.specs.declared.batches.PutFault.{PutFault}

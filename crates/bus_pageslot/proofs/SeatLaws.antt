@@ -4,7 +4,7 @@ use Rattle.std.proofs.lemmas.Bool.{cases_lt}
 use Rattle.std.proofs.lemmas.List.{length-append}
 use Rattle.std.proofs.lemmas.List.Elements.{All-append, All-nil, All-cons}
 use Rattle.std.proofs.lemmas.Option.{same_Some, slice_get_within}
-use Rattle.bus_register.specs.TableLaws.{push_here, push_beside}
+use Rattle.bus_register.specs.Proved.TableLaws.{push_here, push_beside}
 use Rattle.bus_batch.specs.Batches.{Pending}
 use Rattle.bus_tenure.specs.declared.turns.Turn.{Turn}
 use Rattle.bus_pageslot.specs.Seats.{Seat, queue_by, queue_through, is_last, GoesOn, new_seat, AreNewSeats}

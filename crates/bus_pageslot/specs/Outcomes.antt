@@ -1,5 +1,6 @@
 -- What a bus leaves behind.
 use Rattle.std.specs.Prelude.{◌≡◌, ℕ, ◌<◌, List, length, slice_index}
+use Rattle.bus_register.specs.declared.limits.TheConstants.{MOST_SENDERS}
 use Rattle.bus_register.specs.declared.registers.SenderNo.{SenderNo}
 use Rattle.bus_batch.specs.Frames.{Order, Spells}
 use Rattle.bus_deliverylog.specs.Orders.{of_sender}
@@ -16,6 +17,6 @@ pub record IsOutcome (z : Outcome) : Type 0 where
   pub order : Order
   pub owners : List (ℕ × SenderNo)
   pub spells : Spells z.senders z.log order owners
-  pub counts : (s : ℕ) → s < 8 → slice_index z.page.next s ≡ length (of_sender s order)
+  pub counts : (s : ℕ) → s < MOST_SENDERS → slice_index z.page.next s ≡ length (of_sender s order)
   pub ended : z.page.ended ≡ order.ended
   pub words : z.page.words ≡ length z.log

@@ -9,6 +9,7 @@ use crate::outcomes::{EndFault, Ended};
 use crate::seats::Sender;
 use crate::taps::Tap;
 use bus_adoptcommit::TwoCollect;
+use bus_register::limits::MOST_SENDERS;
 use bus_register::{NoMemory, SenderNo};
 use bus_world::{MakeFault, Shape, World};
 use std::alloc::Global;
@@ -49,7 +50,7 @@ impl Bus {
 
 /// A sender of each number.
 fn new_senders(alloc: Global, many: u64) -> Result<Vec<Sender>, NoMemory>
-    requires { many ≤ 8 }
+    requires { many ≤ MOST_SENDERS }
     ensures { IfOk result (λ senders. AreNewSeats many senders.items) }
 {
     let mut senders = Vec::new(alloc);

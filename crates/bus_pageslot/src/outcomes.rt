@@ -10,6 +10,7 @@ ghost use Rattle.bus_world.specs.Playing.{log_of};
 use bus_adoptcommit::TwoCollect;
 use bus_batch::laws::spells_one;
 use bus_register::SenderNo;
+use bus_register::limits::MOST_SENDERS;
 use bus_tenure::Page;
 use bus_world::World;
 use std::error::Error;
@@ -95,7 +96,7 @@ impl Ended {
 
     /// How many items the sender has in the order that the log spells. It spells one alone.
     pub fn count(&self, sender: SenderNo) -> u64
-        requires { sender.0 < 8 }
+        requires { sender.0 < MOST_SENDERS }
         ensures counts { (order : Order) (owners : List (ℕ × Number))
             → Spells self.now.senders self.now.log order owners
             → result ≡ length (of_sender sender.0 order) }

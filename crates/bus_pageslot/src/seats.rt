@@ -20,6 +20,7 @@ use crate::steps::{kind_of, length_of, rests, take_turn, tell};
 use arrayvec::ArrayVec;
 use bus_adoptcommit::Ratifier;
 use bus_batch::{Batch, CloseFault, Message, PutFault};
+use bus_register::limits::{MOST_MESSAGES, NUMBERS};
 use bus_register::{Kind, SenderNo};
 use bus_tenure::Turn;
 use bus_world::World;
@@ -32,7 +33,7 @@ use std::sync::Wait;
 #[derive(Drop)]
 pub struct Sender {
     batch: Batch,
-    fresh: ArrayVec<Message, 16>,
+    fresh: ArrayVec<Message, MOST_MESSAGES>,
     closes: bool,
     words: u64,
     kind: Option<Kind>,
@@ -126,7 +127,7 @@ impl Sender {
 
     /// Appends a message to its batch and gives its number.
     pub fn put(&mut self, bytes: &[u8]) -> Result<u64, PutFault>
-        requires { next_of self.old.queue < 2 ^ 48 }
+        requires { next_of self.old.queue < NUMBERS }
         ensures number { IfOk result (λ number. number ≡ next_of self.old.queue) }
         ensures taken { OnOk result
             (self.new ≡ record self.old {

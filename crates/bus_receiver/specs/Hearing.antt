@@ -1,5 +1,6 @@
 -- What a listener has counted of the answers that a receiver gave.
 use Rattle.std.specs.Prelude.{ℕ, ◌+◌, Bool, true, false, List, replicate, nat_lt, ◌==◌, ◌&&◌, if◌then◌else◌, slice_index, slice_set}
+use Rattle.bus_register.specs.declared.limits.TheConstants.{MOST_SENDERS}
 use Rattle.bus_deliverylog.specs.declared.receiving.RecvTurn.{RecvTurn}
 use Rattle.bus_deliverylog.specs.declared.receiving.RecvTurn.TheVariants as turn
 
@@ -11,7 +12,7 @@ pub record Hearing : Type 0 where
 
 -- before any answer
 abbrev pub nothing : Hearing
-nothing = record { counts = replicate 8 0; items = 0; ended = false }
+nothing = record { counts = replicate MOST_SENDERS 0; items = 0; ended = false }
 
 abbrev pub goes_on : Hearing → Bool
 goes_on h = if h.ended then false else true
@@ -21,7 +22,7 @@ abbrev pub takes : Hearing → RecvTurn → Bool
 takes h turn.Going = goes_on h
 takes h turn.Empty = goes_on h
 takes h (turn.Head tenure owner) = goes_on h
-takes h (turn.Item item) = goes_on h && (nat_lt item.sender.0 8 && (item.number == slice_index h.counts item.sender.0))
+takes h (turn.Item item) = goes_on h && (nat_lt item.sender.0 MOST_SENDERS && (item.number == slice_index h.counts item.sender.0))
 takes h turn.End = true
 
 -- what is counted with an answer that is taken

@@ -2,6 +2,7 @@
 -- conciliators, binary decisions and elections are protocols, each with an outcome of its own, which relates the inputs that
 -- count to the outputs that stand.
 use Rattle.std.specs.Prelude.{◌≡◌, ℕ, ◌+◌, ◌<◌, ◌≤◌, Bool, true, false, Option, Some, None, IsSome, if◌then◌else◌}
+use Rattle.bus_register.specs.declared.limits.TheConstants.{MOST_PROCESSES}
 use Rattle.bus_register.specs.declared.registers.Op.{Op}
 use Rattle.bus_register.specs.declared.registers.Op.TheVariants.{Store}
 use Rattle.bus_register.specs.Words.{register, SumFits}
@@ -63,7 +64,7 @@ IsStore o = (r : ℕ) × (x : ℕ) × (o ≡ Store record { 0 = r } x)
 -- The laws of a protocol of at most 64 processes, whose machine takes the steps op and goes on by fed.
 pub record Laws {S I O : Type 0} (op : S → ℕ → Option Op) (fed : S → ℕ → ℕ → S) (P : Protocol S I O) (Outcome : (ℕ → Option I) → (ℕ → Option O) → Type 0) : Type 0 where
   -- each start
-  pub starts : (n me at : ℕ) (v : I) → me < n → n ≤ 64 → Starts P n me at v
+  pub starts : (n me at : ℕ) (v : I) → me < n → n ≤ MOST_PROCESSES → Starts P n me at v
   -- each step of one process, whatever it found: its word is one of the object's
   pub goes : (n me at : ℕ) (s : S) (got word : ℕ) (o : Op) → P.Belongs n me at s → op s word ≡ Some o → Goes P n me at o s (fed s got word)
   -- a process has an output exactly when it takes no further step
@@ -76,7 +77,7 @@ pub record Laws {S I O : Type 0} (op : S → ℕ → Option Op) (fed : S → ℕ
   -- words of zero and no process
   pub fresh : (n at : ℕ) (words : ℕ → ℕ) → Agree at (P.width n) (λ _. 0) words → P.Keeps n at words (λ _. None)
   -- a process may be put to its start
-  pub enters : (n at : ℕ) (words : ℕ → ℕ) (old new : ℕ → Option S) (p : ℕ) (v : I) → P.Keeps n at words old → p < n → n ≤ 64 → old p ≡ None → new p ≡ Some (P.started n p v at) → Beside p old new → P.Keeps n at words new
+  pub enters : (n at : ℕ) (words : ℕ → ℕ) (old new : ℕ → Option S) (p : ℕ) (v : I) → P.Keeps n at words old → p < n → n ≤ MOST_PROCESSES → old p ≡ None → new p ≡ Some (P.started n p v at) → Beside p old new → P.Keeps n at words new
   -- a process may step, and finds what stands
   pub moves : (n at : ℕ) (words words' : ℕ → ℕ) (old new : ℕ → Option S) (p : ℕ) (s : S) (word : ℕ) (o : Op) → P.Keeps n at words old → old p ≡ Some s → op s word ≡ Some o → new p ≡ Some (fed s (words (register o)) word) → Beside p old new → Stepped at (P.width n) o words words' → P.Keeps n at words' new
   -- an addition that comes next does not pass a word's range

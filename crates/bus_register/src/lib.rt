@@ -3,6 +3,7 @@
 #![tactic(auto)]
 
 pub mod kinds;
+pub mod limits;
 pub mod machines;
 pub mod memory;
 pub mod registers;

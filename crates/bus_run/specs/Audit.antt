@@ -1,5 +1,6 @@
 -- What receivers noted, against the order of items that a bus left behind.
 use Rattle.std.specs.Prelude.{◌≡◌, ◌≢◌, ℕ, ◌<◌, true, false, List, length, take, All, slice_index, slice_get, Some}
+use Rattle.bus_register.specs.declared.limits.TheConstants.{MOST_SENDERS, MOST_ROWS, MOST_LOG_WORDS}
 use Rattle.bus_register.specs.declared.registers.SenderNo.{SenderNo}
 use Rattle.bus_batch.specs.Frames.{Order, Spells}
 use Rattle.bus_deliverylog.specs.Orders.{of_sender}
@@ -27,12 +28,12 @@ Miscounts order h sender = CountsBelow sender order h × (slice_index h.counts s
 
 -- all items were counted, and the end was given
 abbrev pub IsFair : Order → Hearing → Type 0
-IsFair order h = CountsBelow 8 order h × (h.ended ≡ true)
+IsFair order h = CountsBelow MOST_SENDERS order h × (h.ended ≡ true)
 
 -- the receivers before the one that is named are fair, and it is not
 abbrev pub IsFirstFault : Order → List Hearing → AuditFault → Type 0
-IsFirstFault order heards (Count receiver sender) = All (IsFair order) (take receiver heards) × (h : Hearing) × (slice_get heards receiver ≡ Some h) × (sender < 8) × Miscounts order h sender
-IsFirstFault order heards (NotEnded receiver) = All (IsFair order) (take receiver heards) × (h : Hearing) × (slice_get heards receiver ≡ Some h) × CountsBelow 8 order h × (h.ended ≡ false)
+IsFirstFault order heards (Count receiver sender) = All (IsFair order) (take receiver heards) × (h : Hearing) × (slice_get heards receiver ≡ Some h) × (sender < MOST_SENDERS) × Miscounts order h sender
+IsFirstFault order heards (NotEnded receiver) = All (IsFair order) (take receiver heards) × (h : Hearing) × (slice_get heards receiver ≡ Some h) × CountsBelow MOST_SENDERS order h × (h.ended ≡ false)
 
 -- so many items of each of so many senders
 abbrev pub SendsEach : ℕ → ℕ → Order → Type 0
@@ -44,4 +45,4 @@ IsClosed order = order.ended ≡ true
 
 -- the shape of a run's bus
 abbrev pub shape_of_run : ℕ → ℕ → Shape
-shape_of_run senders receivers = record { senders = senders; receivers = receivers; rounds = 4; rows = 256; log_words = 65536 }
+shape_of_run senders receivers = record { senders = senders; receivers = receivers; rounds = 4; rows = MOST_ROWS; log_words = MOST_LOG_WORDS }

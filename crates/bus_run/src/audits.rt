@@ -7,6 +7,7 @@ ghost use Rattle.bus_run.specs.Audit.{IsFirstFault};
 use bus_pageslot::Ended;
 use bus_receiver::Heard;
 use bus_register::SenderNo;
+use bus_register::limits::MOST_SENDERS;
 
 /// The first receiver that was given something else than all, and what; of a receiver's own faults
 /// the count comes first.
@@ -40,11 +41,12 @@ pub fn audit(ended: &Ended, heards: &[Heard]) -> Result<(), AuditFault>
 
 /// The lowest sender below 8 whose items the listener did not count.
 fn first_miscount(ended: &Ended, heard: &Heard) -> Option<u64>
-    ensures none { result ≡ None → OfOrder ended.now (λ order. CountsBelow 8 order heard.now) }
-    ensures some { IfSome result (λ sender. (sender < 8)
+    ensures none { result ≡ None
+        → OfOrder ended.now (λ order. CountsBelow MOST_SENDERS order heard.now) }
+    ensures some { IfSome result (λ sender. (sender < MOST_SENDERS)
         × OfOrder ended.now (λ order. Miscounts order heard.now sender)) }
 {
-    for number in 0..8u8 {
+    for number in 0..MOST_SENDERS as u8 {
         let sender = SenderNo(number);
         if heard.count(sender) != ended.count(sender) {
             return Some(u64::from(number));

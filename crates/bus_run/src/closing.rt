@@ -17,6 +17,7 @@ use crate::workers::{Desk, Ear};
 use bus_pageslot::{Bus, Ended};
 use bus_receiver::{Heard, Receiver};
 use bus_register::SenderNo;
+use bus_register::limits::MOST_SENDERS;
 use bus_world::Shape;
 use std::sync::Wait;
 
@@ -30,7 +31,7 @@ pub fn end_and_audit<W: Wait>(
     shape: Shape,
     messages: u64,
 ) -> Result<Report, RunFault>
-    requires { shape.senders ≤ 8 }
+    requires { shape.senders ≤ MOST_SENDERS }
     ensures sent { IfOk result
         (λ report. OfOrder report.ended (SendsEach shape.senders messages)) }
     ensures closed { IfOk result (λ report. OfOrder report.ended IsClosed) }
@@ -139,7 +140,7 @@ fn end_bus<W: Wait>(
 
 /// Sees that each sender has so many items in the order that the bus left behind.
 fn all_sent(ended: &Ended, senders: u64, messages: u64) -> Result<(), RunFault>
-    requires { senders ≤ 8 }
+    requires { senders ≤ MOST_SENDERS }
     ensures ok { OnOk result (OfOrder ended.now (SendsEach senders messages)) }
     ensures fault { IfErr result (λ fault. OfOrder ended.now (λ order. (s : ℕ)
         × (fault ≡ stopped s) × (s < senders) × SendsEach s messages order

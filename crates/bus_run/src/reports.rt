@@ -12,6 +12,7 @@ use crate::faults::RunFault;
 use bus_pageslot::Ended;
 use bus_receiver::Heard;
 use bus_register::SenderNo;
+use bus_register::limits::MOST_SENDERS;
 use bus_tenure::Page;
 use std::alloc::{AllocError, Global};
 
@@ -24,7 +25,7 @@ pub struct Report {
 
 /// The lines of a run that passes the audit.
 pub fn report_text(alloc: Global, report: &Report, senders: u64) -> Result<String, RunFault>
-    requires { senders ≤ 8 }
+    requires { senders ≤ MOST_SENDERS }
     ensures fair { OnOk result
         (OfOrder report.now.ended (λ order. All (IsFair order) report.now.heards.items)) }
     ensures text { IfOk result
@@ -45,7 +46,7 @@ pub fn report_text(alloc: Global, report: &Report, senders: u64) -> Result<Strin
 
 /// Puts a line for each sender at the end of a text.
 fn push_senders(text: &mut String, ended: &Ended, senders: u64) -> Result<(), AllocError>
-    requires { senders ≤ 8 }
+    requires { senders ≤ MOST_SENDERS }
     ensures { OnOk result
         (OfOrder ended.now
         (λ order. string_bytes text.new ≡ string_bytes text.old ++ sender_lines order senders)) }

@@ -13,6 +13,7 @@ use crate::gates::Gate;
 use crate::reports::Report;
 use crate::workers::Load;
 use bus_pageslot::Bus;
+use bus_register::limits::{MOST_LOG_WORDS, MOST_ROWS};
 use bus_world::Shape;
 use std::alloc::Global;
 use std::sync::Wait;
@@ -43,8 +44,8 @@ pub fn run<R: Threads + Wait + Sync, G: Gate + Sync>(
         senders,
         receivers,
         rounds: 4,
-        rows: 256,
-        log_words: 65_536,
+        rows: MOST_ROWS as u64,
+        log_words: MOST_LOG_WORDS,
     };
     let (bus, seats, taps) = Bus::new(alloc, shape)?;
     let heards = Vec::with_capacity(alloc, taps.len())?;

@@ -1,5 +1,6 @@
 -- What every sender keeps.
 use Rattle.std.specs.Prelude.{◌≡◌, ◌≢◌, ℕ, ◌+◌, ◌<◌, ◌≤◌, ◌^◌, Bool, true, false}
+use Rattle.bus_register.specs.declared.limits.TheConstants.{MOST_SENDERS, MOST_ROUNDS}
 use Rattle.bus_batch.specs.Batches.{Pending, HasSomething}
 use Rattle.bus_batch.specs.declared.batches.Phase.TheVariants.{Closed}
 use Rattle.bus_tenure.specs.declared.phases.Phase.{Phase}
@@ -9,9 +10,9 @@ use Rattle.bus_tenure.specs.Core.{Layout, Core, row_at, words_of, frame_len}
 -- the sizes of a bus, with so many words in each row
 pub record AreSizes (x : Layout) (width : ℕ) : Type 0 where
   pub some : 1 ≤ x.senders
-  pub few : x.senders ≤ 8
+  pub few : x.senders ≤ MOST_SENDERS
   pub rounds_some : 1 ≤ x.rounds
-  pub rounds_few : x.rounds ≤ 8
+  pub rounds_few : x.rounds ≤ MOST_ROUNDS
   pub rows_few : x.rows ≤ 2 ^ 16
   pub capacity_few : x.capacity ≤ 2 ^ 20
   pub width_is : x.width ≡ width

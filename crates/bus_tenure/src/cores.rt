@@ -29,6 +29,7 @@ use super::turns::Turn;
 use bus_adoptcommit::Ratifier;
 use bus_batch::{Batch, CloseFault, PutFault};
 use bus_ownerbits::Election;
+use bus_register::limits::{MOST_BODY_WORDS, MOST_ROUNDS, MOST_SENDERS, NUMBERS, TENURES};
 use bus_register::{Kind, Machine, Op, Reg, SenderNo};
 use std::marker::Model;
 
@@ -105,9 +106,9 @@ impl<Q: Ratifier + Drop> SenderCore<Q> {
     /// and log words.
     pub fn new(senders: u64, me: SenderNo, rounds: u64, rows: u64, log_words: u64) -> SenderCore<Q>
         requires me_below { me.0 < senders }
-        requires few { senders ≤ 8 }
+        requires few { senders ≤ MOST_SENDERS }
         requires rounds_some { 1 ≤ rounds }
-        requires rounds_few { rounds ≤ 8 }
+        requires rounds_few { rounds ≤ MOST_ROUNDS }
         requires rows_few { rows ≤ 2 ^ 16 }
         requires log_few { log_words ≤ 2 ^ 20 }
         requires room { words_of (layout_with Q.protocol senders rounds rows log_words) ≤ 2 ^ 63 }
@@ -142,7 +143,7 @@ impl<Q: Ratifier + Drop> SenderCore<Q> {
 
     /// Appends a message to the batch and gives its number.
     pub fn put(&mut self, bytes: &[u8]) -> Result<u64, PutFault>
-        requires { next_of self.old.queue < 2 ^ 48 }
+        requires { next_of self.old.queue < NUMBERS }
         ensures number { IfOk result (λ number. number ≡ next_of self.old.queue) }
         ensures taken { OnOk result
             (self.new ≡ record self.old {
@@ -246,7 +247,7 @@ impl<Q: Ratifier + Drop> SenderCore<Q> {
     fn frame_len(&self) -> u64
         requires { HasSomething self.now.queue }
         ensures len { result ≡ frame_len self.now }
-        ensures most { result ≤ 129 }
+        ensures most { result ≤ 1 + MOST_BODY_WORDS }
     {
         self.batch.frame_len()
     }
@@ -352,7 +353,7 @@ impl<Q: Ratifier + Drop> SenderCore<Q> {
     fn frame_word(&self, tenure: u64, place: u64) -> u64
         requires something { HasSomething self.now.queue }
         requires below { place < frame_len self.now }
-        requires tenure { tenure < 2 ^ 40 }
+        requires tenure { tenure < TENURES }
         ensures { result ≡ slice_index (frame_words (frame_of self.now.queue tenure)) place }
     {
         self.batch.word(place, tenure)

@@ -3,6 +3,12 @@
 ghost use Rattle.std.specs.Prelude.{◌≡◌, ℕ, ◌+◌, ◌<◌, ◌≤◌, length};
 ghost use Rattle.bus_votecount.specs.Tally.{tally_of, word_of, voted, total_of};
 
+/// The votes of one process in one coin: at most 64.
+pub const MOST_VOTES: u32 = 64;
+
+/// The tallies of one coin, one for each process: at most 64.
+pub const MOST_TALLIES: usize = 64;
+
 /// How many heads and how many tails one process has voted in one coin.
 #[derive(Clone, Copy, Debug, PartialEq, Eq)]
 pub struct Tally {
@@ -32,7 +38,7 @@ impl Tally {
 
     /// One vote more.
     pub fn vote(self, head: bool) -> Tally
-        requires { self.heads + self.tails < 64 }
+        requires { self.heads + self.tails < MOST_VOTES }
         ensures { result ≡ voted self head }
     {
         if head {
@@ -51,7 +57,7 @@ impl Tally {
 
 /// All heads minus all tails.
 pub fn total(tallies: &[Tally]) -> i64
-    requires { length tallies.now ≤ 64 }
+    requires { length tallies.now ≤ MOST_TALLIES }
     ensures { result ≡ total_of tallies.now }
 {
     let mut heads: u64 = 0;

@@ -12,7 +12,7 @@ use Rattle.bus_walkcoin.specs.declared.coins.Phase.{Phase}
 use Rattle.bus_walkcoin.specs.declared.coins.Phase.TheVariants.{Vote, ReadVotes, Answered}
 use Rattle.bus_walkcoin.specs.Coin.{CoinState, after_settled, after_load, coin_started, answer_at, wants_at, coin_op, coin_fed, op_at, fed_at, PhaseFits}
 use Rattle.bus_walkcoin.specs.CoinRule.{settled, is_head}
-use Rattle.bus_walkcoin.specs.CoinLaws.{load_fits}
+use Rattle.bus_walkcoin.specs.Proved.CoinLaws.{load_fits}
 use Rattle.bus_walkcoin.specs.CoinProtocol.{left_at, begun_at, Belongs, tally_at, Keeps, coin_protocol, AnyAnswers}
 
 -- a vote is one more

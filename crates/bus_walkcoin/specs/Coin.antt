@@ -1,6 +1,8 @@
 -- The random-walk coin of Aspnes and Herlihy 1990, one step at a time: a process adds one vote to its own counter, then loads all
 -- counters in rising order, and goes on by the rule of the coin.
 use Rattle.std.specs.Prelude.{ℕ, ◌+◌, ◌*◌, ◌<◌, ◌≤◌, ◌^◌, Bool, true, false, Option, Some, None, [], ◌∷◌, ℤ, pos, neg_ℤ, ◌+ℤ◌, ◌≤ℤ◌, nat_lt, if◌then◌else◌}
+use Rattle.bus_votecount.specs.declared.tallies.TheConstants.{MOST_VOTES}
+use Rattle.bus_register.specs.declared.limits.TheConstants.{MOST_PROCESSES}
 use Rattle.bus_register.specs.declared.kinds.Kind.{Kind}
 use Rattle.bus_register.specs.declared.kinds.Kind.TheVariants as kind
 use Rattle.bus_register.specs.declared.registers.Op.{Op}
@@ -77,7 +79,7 @@ coin_fed s got word = fed_at s.phase s got word
 
 -- the votes and the place of the next step fit the phase
 abbrev pub PhaseFits : ℕ → ℕ → Phase → Type 0
-PhaseFits n votes Vote = votes < 64
+PhaseFits n votes Vote = votes < MOST_VOTES
 PhaseFits n votes (ReadVotes of lead) = (of < n) × (0 < votes)
 PhaseFits n votes (Answered answer) = 0 < votes
 
@@ -90,8 +92,8 @@ LeadFits (Answered answer) = Unit {0}
 -- the numbers fit, so that each counter has a place and no sum wraps
 pub record Sized (n me at : ℕ) (own : Tally) (phase : Phase) : Type 0 where
   pub below : me < n
-  pub few : n ≤ 64
+  pub few : n ≤ MOST_PROCESSES
   pub room : at + n ≤ 2 ^ 64
-  pub votes : votes_of own ≤ 64
+  pub votes : votes_of own ≤ MOST_VOTES
   pub fits : PhaseFits n (votes_of own) phase
   pub lead : LeadFits phase

@@ -1,5 +1,6 @@
 -- What the local state of a process has to do with the steps that it took.
 use Rattle.std.specs.Prelude.{◌≡◌, ℕ, ◌*◌, ◌<◌, int_le, Bool, true, false, Option, Some, List, [], ◌∷◌, ◌++◌, length, pos, neg_ℤ}
+use Rattle.bus_votecount.specs.declared.tallies.TheConstants.{MOST_VOTES}
 use Rattle.bus_register.specs.declared.registers.Op.{Op}
 use Rattle.bus_walkcoin.specs.Coin.{CoinState, answer_of, wants_of}
 use Rattle.bus_walkcoin.specs.CoinRule.{Entry, is_store, are_loads, votes, counted, total_seen, coin_answer, coin_votes}
@@ -24,4 +25,4 @@ pub record RefusesEarlyAnswers : Type 0 where
   -- the steps after its vote do not load the counters in rising order
   pub out_of_order : (n at : ℕ) (before loads : List Entry) (vote : Entry) (answer : Bool) → length loads ≡ n → ¬ (are_loads at loads ≡ true) → ¬ (coin_answer n at (before ++ vote ∷ loads) ≡ Some answer)
   -- the total that it saw is below the barrier on both sides, and it has not used up its votes
-  pub below_the_barrier : (n at : ℕ) (trail : List Entry) (answer : Bool) → length (votes trail) < 64 → int_le (pos (2 * n)) (total_seen n trail) ≡ false → int_le (total_seen n trail) (neg_ℤ (pos (2 * n))) ≡ false → ¬ (coin_answer n at trail ≡ Some answer)
+  pub below_the_barrier : (n at : ℕ) (trail : List Entry) (answer : Bool) → length (votes trail) < MOST_VOTES → int_le (pos (2 * n)) (total_seen n trail) ≡ false → int_le (total_seen n trail) (neg_ℤ (pos (2 * n))) ≡ false → ¬ (coin_answer n at trail ≡ Some answer)

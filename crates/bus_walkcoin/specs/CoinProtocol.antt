@@ -1,5 +1,6 @@
 -- The coin as a protocol: what its words and local states always keep. Nothing is claimed of the answers: coins need not agree.
 use Rattle.std.specs.Prelude.{◌≡◌, ℕ, ◌+◌, ◌*◌, ◌-◌, ◌<◌, ◌≤◌, Bool, true, Option, Some, None, nat_lt}
+use Rattle.bus_votecount.specs.declared.tallies.TheConstants.{MOST_VOTES}
 use Rattle.bus_register.specs.Protocol.{Protocol}
 use Rattle.bus_votecount.specs.declared.tallies.Tally.{Tally}
 use Rattle.bus_votecount.specs.Tally.{word_of, votes_of}
@@ -13,8 +14,8 @@ NoInput = Unit {0}
 
 -- the steps that are left, at most, after so many own votes
 abbrev pub left_at : ℕ → ℕ → Phase → ℕ
-left_at n votes Vote = (64 - votes) * (n + 1)
-left_at n votes (ReadVotes of lead) = (64 - votes) * (n + 1) + (n - of)
+left_at n votes Vote = (MOST_VOTES - votes) * (n + 1)
+left_at n votes (ReadVotes of lead) = (MOST_VOTES - votes) * (n + 1) + (n - of)
 left_at n votes (Answered answer) = 0
 
 abbrev pub begun_at : ℕ → Phase → Bool
@@ -28,7 +29,7 @@ pub record Belongs (n me at : ℕ) (s : CoinState) : Type 0 where
   pub me_is : s.me ≡ me
   pub at_is : s.at ≡ at
   pub below : me < n
-  pub votes : votes_of s.own ≤ 64
+  pub votes : votes_of s.own ≤ MOST_VOTES
   pub fits : PhaseFits n (votes_of s.own) s.phase
 
 -- the votes of a process; none, while it is not there
@@ -44,7 +45,7 @@ pub record Keeps (n at : ℕ) (words : ℕ → ℕ) (locals : ℕ → Option Coi
 abbrev pub coin_protocol : Protocol CoinState NoInput Bool
 coin_protocol = record {
   width = λ n. n;
-  steps = λ n. 64 * (n + 1);
+  steps = λ n. MOST_VOTES * (n + 1);
   started = λ n me input at. coin_started n me at;
   input = λ s. tt;
   has_begun = λ s. begun_at (votes_of s.own) s.phase;

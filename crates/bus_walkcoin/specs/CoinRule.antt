@@ -2,6 +2,7 @@
 -- they found: no local state is spoken of here. A process of n votes, then loads the n counters, then votes again, and so on, until
 -- it has an answer.
 use Rattle.std.specs.Prelude.{ℕ, ◌+◌, ◌*◌, ◌-◌, ◌%◌, Bool, true, false, not, ◌&&◌, ◌||◌, Option, Some, None, is_none, List, [], ◌∷◌, map, filter, length, drop, count_by, ℤ, pos, neg_ℤ, int_lt, int_le, ◌==◌, if◌then◌else◌}
+use Rattle.bus_votecount.specs.declared.tallies.TheConstants.{MOST_VOTES}
 use Rattle.bus_register.specs.declared.registers.Op.{Op}
 use Rattle.bus_register.specs.declared.registers.Op.TheVariants.{Load, Store, Add, Cas}
 use Rattle.bus_votecount.specs.declared.tallies.Tally.{Tally}
@@ -66,7 +67,7 @@ is_round n at trail = are_round n at (last_steps (n + 1) trail)
 abbrev pub settled : ℕ → ℕ → ℤ → Option Bool
 settled n votes total = if int_le (pos (2 * n)) total then Some true
     else if int_le total (neg_ℤ (pos (2 * n))) then Some false
-    else if votes == 64 then Some (int_lt (pos 0) total)
+    else if votes == MOST_VOTES then Some (int_lt (pos 0) total)
     else None
 
 -- the answer: by that rule once the n loads after a vote are done, and none at any other time

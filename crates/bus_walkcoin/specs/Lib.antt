@@ -1,5 +1,5 @@
 pub mod CoinRule
 pub mod Coin
-pub mod CoinLaws
 pub mod CoinProtocol
 pub mod CoinAnswer
+pub mod Proved

@@ -4,7 +4,9 @@ ghost use Rattle.std.specs.Prelude.{◌≡◌, ℕ, ◌+◌, ◌<◌, ◌≤◌,
 ghost use Rattle.bus_walkcoin.specs.CoinRule.{settled};
 ghost use Rattle.bus_walkcoin.specs.Coin.{after_load, answer_of, wants_of, coin_started};
 
+use bus_register::limits::MOST_PROCESSES;
 use bus_register::{Kind, Machine, Op, Reg, SenderNo};
+use bus_votecount::tallies::MOST_VOTES;
 use bus_votecount::{Tally, total};
 use std::marker::Model;
 
@@ -48,7 +50,7 @@ impl Model for WalkCoin {
 
 /// What the total says after so many own votes.
 fn settle(n: u64, votes: u32, lead: i64) -> Option<bool>
-    requires { n ≤ 64 }
+    requires { n ≤ MOST_PROCESSES }
     ensures { result ≡ settled n votes lead }
 {
     let barrier = 2 * n as i64;
@@ -56,7 +58,7 @@ fn settle(n: u64, votes: u32, lead: i64) -> Option<bool>
         Some(true)
     } else if lead <= -barrier {
         Some(false)
-    } else if votes == 64 {
+    } else if votes == MOST_VOTES {
         Some(0 < lead)
     } else {
         None
@@ -65,7 +67,7 @@ fn settle(n: u64, votes: u32, lead: i64) -> Option<bool>
 
 /// Where a process stands that has loaded the counter of process `of`.
 fn go_on(n: u64, votes: u32, of: u64, lead: i64) -> Phase
-    requires few { n ≤ 64 }
+    requires few { n ≤ MOST_PROCESSES }
     requires below { of < n }
     ensures { result ≡ after_load n votes of lead }
 {
@@ -83,7 +85,7 @@ impl WalkCoin {
     /// Process `me` of `n`, over the words from `at` on, which are zero before the first step.
     pub fn start(n: u64, me: SenderNo, at: Reg) -> WalkCoin
         requires me_below { me.0 < n }
-        requires few { n ≤ 64 }
+        requires few { n ≤ MOST_PROCESSES }
         requires room { at.0 + n ≤ 2 ^ 64 }
         ensures { result ≡ coin_started n me.0 at.0 }
     {
@@ -127,7 +129,7 @@ impl WalkCoin {
 
 impl Machine for WalkCoin {
     ghost use Rattle.bus_walkcoin.specs.Coin.{coin_kind, coin_op, coin_fed};
-    ghost use Rattle.bus_walkcoin.specs.CoinLaws.{coin_names_each_step};
+    ghost use Rattle.bus_walkcoin.specs.Proved.CoinLaws.{coin_names_each_step};
 
     ghost kind_of = { coin_kind };
 

@@ -23,7 +23,7 @@ use Rattle.bus_tenure.specs.declared.phases.Phase.{Phase}
 use Rattle.bus_tenure.specs.declared.phases.Phase.TheVariants as phase
 use Rattle.bus_world.specs.Log.{read, sent, AreCounted, AreEarlier, Logged, Knows}
 use Rattle.bus_register.specs.Tables.{put}
-use Rattle.bus_register.specs.TableLaws.{put_here, put_beside, some_or_none, push_beside}
+use Rattle.bus_register.specs.Proved.TableLaws.{put_here, put_beside, some_or_none, push_beside}
 use Rattle.bus_world.proofs.LogLaws.{read-agree, Logged-agree, Logged-publish, sent-append_other, sent-append_owner, has_end-append, AreEarlier-append, AreEarlier-later}
 use Rattle.bus_batch.proofs.BatchLaws.{is_frame}
 use Rattle.bus_world.proofs.QueueLaws.{counted_frame, length-items, ends-body}

@@ -11,7 +11,7 @@ use Rattle.bus_register.specs.declared.kinds.Kind.{Kind}
 use Rattle.bus_register.specs.declared.kinds.Kind.TheVariants as kind
 use Rattle.bus_register.specs.declared.registers.SenderNo.{SenderNo}
 use Rattle.bus_register.specs.Protocol.{Protocol, Laws, inputs, outputs}
-use Rattle.bus_register.specs.TableLaws.{get_set_same, get_set_other}
+use Rattle.bus_register.specs.Proved.TableLaws.{get_set_same, get_set_other}
 use Rattle.bus_batch.specs.declared.messages.Item.{Item}
 use Rattle.bus_batch.specs.Batches.{next_of}
 use Rattle.bus_batch.specs.declared.batches.Phase.TheVariants.{Closing}

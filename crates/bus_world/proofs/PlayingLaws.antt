@@ -32,7 +32,7 @@ use Rattle.bus_tenure.specs.declared.phases.Phase.TheVariants as phase
 use Rattle.bus_tenure.specs.declared.turns.Turn.{Turn as Answered}
 use Rattle.bus_tenure.specs.declared.turns.Turn.TheVariants as turn
 use Rattle.bus_world.specs.Bus.{IsLayout, Part, stands_at, standing_of}
-use Rattle.bus_register.specs.TableLaws.{push_here}
+use Rattle.bus_register.specs.Proved.TableLaws.{push_here}
 use Rattle.bus_world.specs.TurnParts.{owners_by}
 use Rattle.bus_world.specs.Turning.{Side, turned, stepped, found, home_after, core_after, owners_after, frames_after, IsSide}
 use Rattle.bus_world.proofs.TurningLaws.{turn_lawful}

@@ -5,7 +5,7 @@ use Rattle.std.proofs.lemmas.List.{length-append}
 use Rattle.std.proofs.lemmas.Option.{same_Some, slice_get_within}
 use Rattle.bus_deliverylog.specs.Receiving.{Receiving}
 use Rattle.bus_tenure.specs.Core.{Core, Layout}
-use Rattle.bus_register.specs.TableLaws.{push_here, push_beside}
+use Rattle.bus_register.specs.Proved.TableLaws.{push_here, push_beside}
 use Rattle.bus_world.specs.World.{new_core}
 use Rattle.bus_world.specs.Starting.{AreNewCores, IsNewReader, AreNewReaders}
 

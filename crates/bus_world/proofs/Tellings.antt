@@ -6,7 +6,7 @@ use Rattle.std.proofs.lemmas.List.{map-append}
 use Rattle.bus_register.specs.declared.kinds.Kind.{Kind}
 use Rattle.bus_register.specs.declared.kinds.Kind.TheVariants as kind
 use Rattle.bus_register.specs.Protocol.{Protocol, Laws}
-use Rattle.bus_register.specs.TableLaws.{some_or_none}
+use Rattle.bus_register.specs.Proved.TableLaws.{some_or_none}
 use Rattle.bus_batch.specs.Batches.{next_of, frame_of}
 use Rattle.bus_batch.specs.declared.batches.Phase.{Phase as BatchPhase}
 use Rattle.bus_batch.specs.declared.batches.Phase.TheVariants.{Closing}

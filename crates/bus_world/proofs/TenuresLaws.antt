@@ -7,7 +7,7 @@ use Rattle.std.proofs.lemmas.Option.{same_Some, slice_get_past, slice_get_within
 use Rattle.bus_register.specs.declared.registers.Op.{Op}
 use Rattle.bus_register.specs.Words.{register}
 use Rattle.bus_register.specs.Tables.{of_some, Beside, put, Agree, Stepped}
-use Rattle.bus_register.specs.TableLaws.{put_here, put_beside, some_or_none, here_not, push_here, push_beside}
+use Rattle.bus_register.specs.Proved.TableLaws.{put_here, put_beside, some_or_none, here_not, push_here, push_beside}
 use Rattle.bus_register.specs.Protocol.{Protocol, Laws, inputs, outputs}
 use Rattle.bus_ownerbits.specs.ElectionKeeps.{OneOwner}
 use Rattle.bus_ownerbits.proofs.ElectionSteps.{row_within}

@@ -9,7 +9,7 @@ use Rattle.bus_register.specs.declared.kinds.Kind.TheVariants as kind
 use Rattle.bus_register.specs.declared.registers.Op.{Op}
 use Rattle.bus_register.specs.Words.{register, after}
 use Rattle.bus_register.specs.Tables.{of_some, put, Agree}
-use Rattle.bus_register.specs.TableLaws.{put_here, put_beside, some_or_none, get_set_same, get_set_other}
+use Rattle.bus_register.specs.Proved.TableLaws.{put_here, put_beside, some_or_none, get_set_same, get_set_other}
 use Rattle.bus_register.specs.Protocol.{Protocol, Laws, Starts, counted}
 use Rattle.bus_tenure.specs.Core.{Core, Election, Layout, log_at, row_at, frame_len, has_room, is_empty, is_closing, is_closed, Situation, IsClosed, IsIdle, IsSpent, LooksAtStage, Elects, TakesPage, StoresWord, StoresLength, GivesBack, situation_at, situation_of, resting, electing, holding, begun, waits, elected, rested, answer_of_stage, answer_of_election, answer_at, op_at}
 use Rattle.bus_tenure.specs.declared.pages.Page.{Page}

@@ -10,7 +10,7 @@ use Rattle.bus_register.specs.declared.registers.Op.{Op}
 use Rattle.bus_register.specs.declared.registers.Op.TheVariants.{Store}
 use Rattle.bus_register.specs.Words.{register, after}
 use Rattle.bus_register.specs.Tables.{of_some, Beside}
-use Rattle.bus_register.specs.TableLaws.{some_or_none, get_set_same, get_set_other}
+use Rattle.bus_register.specs.Proved.TableLaws.{some_or_none, get_set_same, get_set_other}
 use Rattle.bus_register.specs.Protocol.{Protocol, Laws}
 use Rattle.bus_batch.specs.Frames.{Frame, frame_words}
 use Rattle.bus_batch.specs.Batches.{HasSomething, frame_of}

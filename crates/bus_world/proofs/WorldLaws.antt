@@ -38,7 +38,7 @@ use Rattle.bus_world.specs.Turning.{Side, turned, IsSide, frames_after}
 use Rattle.bus_world.proofs.TurningLaws as turning
 use Rattle.bus_world.proofs.PutLaws as puts
 use Rattle.bus_tenure.specs.declared.phases.Leaving.{Leaving}
-use Rattle.bus_register.specs.TableLaws.{get_set_same, get_set_other, some_of}
+use Rattle.bus_register.specs.Proved.TableLaws.{get_set_same, get_set_other, some_of}
 use Rattle.bus_world.specs.World.{frames_by, event_frames, accepted_by, accepted, waiting_at, Event, Put, Close, Turn, Recv, IsEvent, Happens, SenderDoes, ReceiverDoes, recv_found, Bus, is_open, can_put, can_close, put_in, close_in, with_sender, LawfulBus, IsReceiver, RecvStep, IsNew, new_page, put_by, waiting_of}
 
 -- ---- numbers

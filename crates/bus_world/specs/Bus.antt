@@ -1,5 +1,6 @@
 -- A lawful bus: words, page and local states fit one order and one list of owners.
 use Rattle.std.specs.Prelude.{◌≡◌, ℕ, ◌+◌, ◌*◌, ◌<◌, ◌≤◌, ◌^◌, true, false, Option, Some, None, List, [], ◌∷◌, ◌++◌, take, is_some, slice_get}
+use Rattle.bus_register.specs.declared.limits.TheConstants.{MOST_SENDERS, TENURES}
 use Rattle.bus_register.specs.Tables.{of_some}
 use Rattle.bus_register.specs.Protocol.{Protocol}
 use Rattle.bus_batch.specs.Batches.{Pending, IsKept, HasSomething, frame_of}
@@ -15,8 +16,8 @@ use Rattle.bus_world.specs.Tenures.Standing.{Rests, Runs, Holds}
 
 -- sizes that are served
 pub record IsLayout (x : Layout) : Type 0 where
-  pub senders : x.senders ≤ 8
-  pub rows : x.rows ≤ 2 ^ 40
+  pub senders : x.senders ≤ MOST_SENDERS
+  pub rows : x.rows ≤ TENURES
   pub capacity : x.capacity < 2 ^ 40
 
 -- what a sender stands in, as far as tenures go

@@ -1,5 +1,6 @@
 -- The log that words hold below the length, and the page that knows of it.
 use Rattle.std.specs.Prelude.{◌≡◌, ℕ, zero, suc, ◌+◌, ◌<◌, ◌≤◌, List, [], ◌∷◌, ◌++◌, length, slice_index}
+use Rattle.bus_register.specs.declared.limits.TheConstants.{MOST_SENDERS}
 use Rattle.bus_batch.specs.declared.messages.Item.{Item}
 use Rattle.bus_batch.specs.Frames.{Frame, AreFrames, log_words, order_of, has_end}
 use Rattle.bus_deliverylog.specs.Orders.{of_sender}
@@ -33,8 +34,8 @@ pub record Logged (n capacity at : ℕ) (words : ℕ → ℕ) (len : ℕ) (frame
 
 -- the page knows how many items of each sender the frames have, whether they have ended, the tenures and the length
 pub record Knows (page : Page) (frames : List Frame) (past len : ℕ) : Type 0 where
-  pub entries : length page.next ≡ 8
-  pub next : (s : ℕ) → s < 8 → slice_index page.next s ≡ sent s frames
+  pub entries : length page.next ≡ MOST_SENDERS
+  pub next : (s : ℕ) → s < MOST_SENDERS → slice_index page.next s ≡ sent s frames
   pub ended : page.ended ≡ has_end frames
   pub tenures : page.tenures ≡ past
   pub words : page.words ≡ len

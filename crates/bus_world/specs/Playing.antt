@@ -1,5 +1,6 @@
 -- The bus as a program holds it, and what it answers to each event.
 use Rattle.std.specs.Prelude.{◌≡◌, ℕ, ◌<◌, ◌≤◌, ◌⊎◌, Bool, Option, Some, None, List, [], ◌∷◌, length, slice_get, slice_index, slice_set}
+use Rattle.bus_register.specs.declared.limits.TheConstants.{MOST_SENDERS, MOST_RECEIVERS, MOST_ROUNDS, MOST_ROWS, LEAST_LOG_WORDS, MOST_LOG_WORDS}
 use Rattle.bus_batch.specs.Batches.{next_of, CanPut, IsPutFault, CanClose, IsCloseFault}
 use Rattle.bus_batch.specs.declared.batches.PutFault.{PutFault}
 use Rattle.bus_batch.specs.declared.batches.CloseFault.{CloseFault}
@@ -49,19 +50,19 @@ Beyond low high n = (n < low) ⊎ (high < n)
 
 -- a bus of this shape is served
 pub record IsServed (shape : Shape) : Type 0 where
-  pub senders : Within 1 8 shape.senders
-  pub receivers : Within 1 8 shape.receivers
-  pub rounds : Within 1 8 shape.rounds
-  pub rows : Within 1 256 shape.rows
-  pub log_words : Within 16 65536 shape.log_words
+  pub senders : Within 1 MOST_SENDERS shape.senders
+  pub receivers : Within 1 MOST_RECEIVERS shape.receivers
+  pub rounds : Within 1 MOST_ROUNDS shape.rounds
+  pub rows : Within 1 MOST_ROWS shape.rows
+  pub log_words : Within LEAST_LOG_WORDS MOST_LOG_WORDS shape.log_words
 
 -- why no bus is made: each cause where it holds and no earlier one
 abbrev pub MakeRefused : Shape → MakeFault → Type 0
-MakeRefused shape make.Senders = Beyond 1 8 shape.senders
-MakeRefused shape make.Receivers = Within 1 8 shape.senders × Beyond 1 8 shape.receivers
-MakeRefused shape make.Rounds = Within 1 8 shape.senders × Within 1 8 shape.receivers × Beyond 1 8 shape.rounds
-MakeRefused shape make.Rows = Within 1 8 shape.senders × Within 1 8 shape.receivers × Within 1 8 shape.rounds × Beyond 1 256 shape.rows
-MakeRefused shape make.LogWords = Within 1 8 shape.senders × Within 1 8 shape.receivers × Within 1 8 shape.rounds × Within 1 256 shape.rows × Beyond 16 65536 shape.log_words
+MakeRefused shape make.Senders = Beyond 1 MOST_SENDERS shape.senders
+MakeRefused shape make.Receivers = Within 1 MOST_SENDERS shape.senders × Beyond 1 MOST_RECEIVERS shape.receivers
+MakeRefused shape make.Rounds = Within 1 MOST_SENDERS shape.senders × Within 1 MOST_RECEIVERS shape.receivers × Beyond 1 MOST_ROUNDS shape.rounds
+MakeRefused shape make.Rows = Within 1 MOST_SENDERS shape.senders × Within 1 MOST_RECEIVERS shape.receivers × Within 1 MOST_ROUNDS shape.rounds × Beyond 1 MOST_ROWS shape.rows
+MakeRefused shape make.LogWords = Within 1 MOST_SENDERS shape.senders × Within 1 MOST_RECEIVERS shape.receivers × Within 1 MOST_ROUNDS shape.rounds × Within 1 MOST_ROWS shape.rows × Beyond LEAST_LOG_WORDS MOST_LOG_WORDS shape.log_words
 MakeRefused shape make.NoMemory = IsServed shape
 
 -- a new bus of this shape

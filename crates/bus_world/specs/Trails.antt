@@ -1,5 +1,6 @@
 -- How events extend the trails, which trails lead to a bus, and what is promised of it then.
 use Rattle.std.specs.Prelude.{◌≡◌, ℕ, ◌≤◌, Option, Some, None, List, [], ◌∷◌, ◌++◌, length, take, slice_get, if◌then◌else◌, ◌==◌}
+use Rattle.bus_register.specs.declared.limits.TheConstants.{MOST_SENDERS, MOST_ROWS, MOST_LOG_WORDS}
 use Rattle.bus_register.specs.declared.kinds.Kind.{Kind}
 use Rattle.bus_register.specs.declared.registers.SenderNo.{SenderNo}
 use Rattle.bus_register.specs.Protocol.{Protocol}
@@ -163,9 +164,9 @@ pub record Stops {E : Type 0} (X : Election E) (x : Layout) (old : Bus E) (event
 
 -- what every bus that a program holds keeps: some trails lead to it
 pub record IsSitting {E : Type 0} (X : Election E) (P : Protocol E (Unit {0}) ℕ) (z : Sitting E) : Type 0 where
-  pub senders_few : z.layout.senders ≤ 8
-  pub rows_few : z.layout.rows ≤ 256
-  pub capacity_few : z.layout.capacity ≤ 65536
+  pub senders_few : z.layout.senders ≤ MOST_SENDERS
+  pub rows_few : z.layout.rows ≤ MOST_ROWS
+  pub capacity_few : z.layout.capacity ≤ MOST_LOG_WORDS
   pub senders : length z.bus.side.senders ≡ z.layout.senders
   pub frames : List Frame
   pub lawful : LawfulBus P z.layout z.bus frames

@@ -1,5 +1,6 @@
 -- The bus as a machine that plays events, and what it always keeps.
 use Rattle.std.specs.Prelude.{◌≡◌, ◌≢◌, ℕ, ◌+◌, ◌<◌, Bool, true, false, ◌&&◌, Option, Some, None, List, [], ◌∷◌, ◌++◌, length, take, map, nat_lt, nat_le, slice_get, slice_index, slice_set, All, if◌then◌else◌, ◌==◌}
+use Rattle.bus_register.specs.declared.limits.TheConstants.{MOST_BYTES, MOST_MESSAGES, MOST_SENDERS}
 use Rattle.bus_register.specs.Protocol.{Protocol}
 use Rattle.bus_batch.specs.declared.batches.Phase.{Phase}
 use Rattle.bus_batch.specs.declared.batches.Phase.TheVariants.{Open, Closing, Closed}
@@ -45,7 +46,7 @@ is_open Closed = false
 
 -- a message of so many bytes is accepted
 abbrev pub can_put : Pending → ℕ → Bool
-can_put q len = is_open q.phase && ((if q.busy then false else true) && (nat_le len 56 && nat_lt (length q.messages) 16))
+can_put q len = is_open q.phase && ((if q.busy then false else true) && (nat_le len MOST_BYTES && nat_lt (length q.messages) MOST_MESSAGES))
 
 -- a close is accepted
 abbrev pub can_close : Pending → Bool
@@ -126,7 +127,7 @@ given_at frames v = order_in (take v.place (log_pieces frames))
 
 -- ---- a new bus
 abbrev pub new_page : Page
-new_page = record { next = replicate 8 0; ended = false; tenures = 0; words = 0 }
+new_page = record { next = replicate MOST_SENDERS 0; ended = false; tenures = 0; words = 0 }
 
 abbrev pub new_core : {E : Type 0} → Layout → ℕ → Core E
 new_core x p = record { layout = x; me = p; queue = record { sender = record { 0 = p }; first = 0; messages = []; phase = Open; busy = false }; least = 0; phase = phase.Resting }

@@ -4,6 +4,9 @@ ghost use Rattle.std.specs.Prelude.{◌≡◌, IfSome, None, ◌≢◌};
 ghost use Rattle.bus_world.specs.Playing.{IsServed, MakeRefused};
 
 use bus_register::NoMemory;
+use bus_register::limits::{
+    LEAST_LOG_WORDS, MOST_LOG_WORDS, MOST_RECEIVERS, MOST_ROUNDS, MOST_ROWS, MOST_SENDERS,
+};
 
 /// The sizes of a bus. `World::new` refuses all others than those named here.
 #[derive(Clone, Copy, Debug, PartialEq, Eq)]
@@ -39,15 +42,15 @@ impl Shape {
         ensures served { result ≡ None → IsServed self }
         ensures no_memory { IfSome result (λ why. why ≢ MakeFault.NoMemory) }
     {
-        if self.senders < 1 || self.senders > 8 {
+        if self.senders < 1 || self.senders > MOST_SENDERS as u64 {
             Some(MakeFault::Senders)
-        } else if self.receivers < 1 || self.receivers > 8 {
+        } else if self.receivers < 1 || self.receivers > MOST_RECEIVERS {
             Some(MakeFault::Receivers)
-        } else if self.rounds < 1 || self.rounds > 8 {
+        } else if self.rounds < 1 || self.rounds > MOST_ROUNDS {
             Some(MakeFault::Rounds)
-        } else if self.rows < 1 || self.rows > 256 {
+        } else if self.rows < 1 || self.rows > MOST_ROWS as u64 {
             Some(MakeFault::Rows)
-        } else if self.log_words < 16 || self.log_words > 65536 {
+        } else if self.log_words < LEAST_LOG_WORDS || self.log_words > MOST_LOG_WORDS {
             Some(MakeFault::LogWords)
         } else {
             None

@@ -17,6 +17,7 @@ use crate::events::StepFault;
 use arrayvec::ArrayVec;
 use bus_adoptcommit::Ratifier;
 use bus_deliverylog::{Reader, RecvTurn};
+use bus_register::limits::{MOST_ROWS, NUMBERS};
 use bus_register::{Cells, SenderNo};
 use bus_tenure::{Page, SenderCore, Turn};
 
@@ -116,7 +117,7 @@ pub fn turn_receiver(cells: &mut Cells, reader: &mut Reader) -> RecvTurn
 
 /// A message goes into the batch of a sender, or is refused.
 pub fn put_to<Q: Ratifier + Drop>(core: &mut SenderCore<Q>, bytes: &[u8]) -> Result<u64, StepFault>
-    requires { next_of core.old.queue < 2 ^ 48 }
+    requires { next_of core.old.queue < NUMBERS }
     ensures core { core.new ≡ put_in core.old bytes.now }
     ensures number { IfOk result (PutGives (Some core.old) (length bytes.now)) }
     ensures fault { IfErr result (PutRefused (Some core.old) (length bytes.now)) }
@@ -140,8 +141,8 @@ pub fn close_to<Q: Ratifier + Drop>(core: &mut SenderCore<Q>) -> Result<(), Step
 }
 
 /// Who took the page, by tenure, after this answer of a sender.
-pub fn note_owner(owners: &mut ArrayVec<SenderNo, 256>, sender: SenderNo, turn: Turn)
-    requires { (t : ℕ) → turn ≡ Turn.Own t → length owners.old.items < 256 }
+pub fn note_owner(owners: &mut ArrayVec<SenderNo, MOST_ROWS>, sender: SenderNo, turn: Turn)
+    requires { (t : ℕ) → turn ≡ Turn.Own t → length owners.old.items < MOST_ROWS }
     ensures { map (λ s. s.0) owners.new.items ≡ owners_by turn sender.0
         (map (λ s. s.0) owners.old.items) }
 {

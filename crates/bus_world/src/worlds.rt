@@ -27,6 +27,7 @@ use bus_adoptcommit::Ratifier;
 use bus_deliverylog::{Order, Reader, read_front, read_log};
 use bus_ownerbits::Election;
 use bus_ownerbits::laws::election_is_lawful;
+use bus_register::limits::{MOST_ROWS, MOST_SENDERS};
 use bus_register::{Cells, NoMemory, Reg, SenderNo};
 use bus_tenure::{Page, SenderCore};
 use std::alloc::Global;
@@ -41,7 +42,7 @@ pub struct World<Q: Ratifier> {
     senders: Vec<SenderCore<Q>>,
     receivers: Vec<Reader>,
     /// Who took the page, by tenure.
-    owners: ArrayVec<SenderNo, 256>,
+    owners: ArrayVec<SenderNo, MOST_ROWS>,
 }
 
 impl<Q: Ratifier> Model for World<Q> {
@@ -368,7 +369,7 @@ impl<Q: Ratifier + Drop> World<Q> {
 
 /// The page of a new bus.
 const NEW_PAGE: Page = Page {
-    next: [0; 8],
+    next: [0; MOST_SENDERS],
     ended: false,
     tenures: 0,
     words: 0,

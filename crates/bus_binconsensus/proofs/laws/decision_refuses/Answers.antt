@@ -1,5 +1,5 @@
 use Rattle.bus_coinconc.specs.ConciliatorProtocol.{conciliator_protocol}
-use Rattle.bus_binconsensus.specs.DecideRefuses.{refuses_shortcuts}
+use Rattle.bus_binconsensus.proofs.Shortcuts.{refuses_shortcuts}
 use Rattle.bus_binconsensus.proofs.laws.decision_refuses.Goals as goal
 
 pub returns : goal.returns

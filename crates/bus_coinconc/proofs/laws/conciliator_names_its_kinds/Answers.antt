@@ -1,4 +1,4 @@
-use Rattle.bus_coinconc.specs.ConciliatorKinds.{conciliator_own_kinds}
+use Rattle.bus_coinconc.proofs.OwnKinds.{conciliator_own_kinds}
 use Rattle.bus_coinconc.proofs.laws.conciliator_names_its_kinds.Goals as goal
 
 pub returns : goal.returns

@@ -9,7 +9,7 @@ use Rattle.bus_coinconc.specs.ConciliatorProtocol.{conciliator_protocol}
 use Rattle.bus_ownerbits.specs.ElectionKeeps.{StageStands}
 use Rattle.bus_ownerbits.proofs.ElectionLaws.{election_laws, owner_below, searches, last_bit}
 use Rattle.bus_ownerbits.proofs.ElectionSteps.{turns_after, busy}
-use Rattle.bus_ownerbits.specs.ElectionAsks.{asks_as_told}
+use Rattle.bus_ownerbits.proofs.ElectionAsking.{asks_as_told}
 use Rattle.bus_ownerbits.specs.Sizes.{decision_cost}
 use Rattle.bus_ownerbits.proofs.laws.election_is_lawful.Goals as goal
 

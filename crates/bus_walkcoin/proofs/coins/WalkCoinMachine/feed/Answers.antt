@@ -3,7 +3,7 @@ use Rattle.std.proofs.lemmas.Int.{ints}
 use Rattle.bus_votecount.specs.Tally.{tally_of, votes_of, total_of}
 use Rattle.bus_walkcoin.specs.declared.coins.Phase.{Phase}
 use Rattle.bus_walkcoin.specs.Coin.{CoinState, PhaseFits, LeadFits, after_load, coin_fed, fed_at}
-use Rattle.bus_walkcoin.specs.CoinLaws.{load_fits, load_lead}
+use Rattle.bus_walkcoin.specs.Proved.CoinLaws.{load_fits, load_lead}
 use Rattle.bus_walkcoin.proofs.coins.WalkCoinMachine.feed.Goals as goal
 
 -- the new phase, with the sum written plainly

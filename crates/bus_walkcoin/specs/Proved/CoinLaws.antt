@@ -1,5 +1,6 @@
 -- What follows of single steps of a coin.
 use Rattle.std.proofs.Common.{◌≡◌, ◌≢◌, ℕ, ◌+◌, ◌*◌, ◌<◌, ◌≤◌, ◌^◌, Bool, true, false, cond, Option, Some, None, is_some, [], ◌∷◌, nat_lt, ℤ, pos, neg_ℤ, ◌+ℤ◌, ◌≤ℤ◌, arith, refl}
+use Rattle.bus_votecount.specs.declared.tallies.TheConstants.{MOST_VOTES}
 use Rattle.std.proofs.lemmas.Bool.{ltb-true, eqb-false}
 use Rattle.std.proofs.lemmas.Int.{ints}
 use Rattle.bus_votecount.specs.Tally.{tally_of, total_of}
@@ -23,19 +24,19 @@ open_if false false true d e = absurd cc
 open_if false false false d e = refl
 
 -- without an answer, votes are left
-pub settled_none : (n votes : ℕ) (lead : ℤ) → settled n votes lead ≡ None → votes ≢ 64
-settled_none n votes lead e = eqb-false votes 64 (open_if _ _ _ _ e)
+pub settled_none : (n votes : ℕ) (lead : ℤ) → settled n votes lead ≡ None → votes ≢ MOST_VOTES
+settled_none n votes lead e = eqb-false votes MOST_VOTES (open_if _ _ _ _ e)
 
-settled_fits : (n votes : ℕ) (o : Option Bool) → 0 < votes → votes ≤ 64 → (o ≡ None → votes ≢ 64) → PhaseFits n votes (after_settled o)
+settled_fits : (n votes : ℕ) (o : Option Bool) → 0 < votes → votes ≤ MOST_VOTES → (o ≡ None → votes ≢ MOST_VOTES) → PhaseFits n votes (after_settled o)
 settled_fits n votes None some most ne = let h = ne refl in omega arith
 settled_fits n votes (Some answer) some most ne = some
 
-load_if : (n votes of : ℕ) (lead : ℤ) (b : Bool) → nat_lt (of + 1) n ≡ b → 0 < votes → votes ≤ 64 → PhaseFits n votes (cond b (ReadVotes (of + 1) lead) (after_settled (settled n votes lead)))
+load_if : (n votes of : ℕ) (lead : ℤ) (b : Bool) → nat_lt (of + 1) n ≡ b → 0 < votes → votes ≤ MOST_VOTES → PhaseFits n votes (cond b (ReadVotes (of + 1) lead) (after_settled (settled n votes lead)))
 load_if n votes of lead true e some most = (ltb-true (of + 1) n e, some)
 load_if n votes of lead false e some most = settled_fits n votes (settled n votes lead) some most (settled_none n votes lead)
 
 -- after a load the next step fits
-pub load_fits : (n votes of : ℕ) (lead : ℤ) → 0 < votes → votes ≤ 64 → PhaseFits n votes (after_load n votes of lead)
+pub load_fits : (n votes of : ℕ) (lead : ℤ) → 0 < votes → votes ≤ MOST_VOTES → PhaseFits n votes (after_load n votes of lead)
 load_fits n votes of lead some most = load_if n votes of lead (nat_lt (of + 1) n) refl some most
 
 abbrev Within : ℕ → ℤ → Type 0

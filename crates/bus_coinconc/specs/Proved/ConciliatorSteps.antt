@@ -1,6 +1,6 @@
 -- Each single step of a conciliator.
 use Rattle.std.proofs.Common.{◌≡◌, ℕ, is_some, refl}
-use Rattle.bus_walkcoin.specs.CoinLaws.{coin_names_each_step}
+use Rattle.bus_walkcoin.specs.Proved.CoinLaws.{coin_names_each_step}
 use Rattle.bus_coinconc.specs.declared.conciliators.Stage.{Stage}
 use Rattle.bus_coinconc.specs.declared.conciliators.Stage.TheVariants.{SetMark, ReadOtherMark, Alone, AskCoin}
 use Rattle.bus_coinconc.specs.Conciliator.{ConciliatorState, kind_at, op_at, conciliator_kind, conciliator_op}

@@ -8,11 +8,11 @@ use Rattle.bus_adoptcommit.specs.declared.verdicts.Verdict.{Verdict}
 use Rattle.bus_adoptcommit.specs.declared.verdicts.Verdict.TheVariants.{Commit}
 use Rattle.bus_adoptcommit.specs.Agreement.{value_of, IsValid, IsConvergent, IsCoherent, Legal}
 use Rattle.bus_register.specs.Protocol.{counted, inputs, outputs}
-use Rattle.bus_register.specs.TableLaws.{some_of}
+use Rattle.bus_register.specs.Proved.TableLaws.{some_of}
 use Rattle.bus_register.specs.Tables.{of_some}
 use Rattle.bus_adoptcommit.specs.TwoCollect.{Local, bit, taken_at, output_at, output_of, verdict_from}
 use Rattle.bus_adoptcommit.specs.TwoCollectKeeps.{Mark, mark, commit_number, proposal_word, Split, Committed, Holds, Keeps, two_collect}
-use Rattle.bus_adoptcommit.specs.TwoCollectMarkLaws.{proposal_none, proposal_some, verdict_none, verdict_some}
+use Rattle.bus_adoptcommit.specs.Proved.TwoCollectMarkLaws.{proposal_none, proposal_some, verdict_none, verdict_some}
 
 -- a bit tells the value
 bit_same : (a b : Bool) → bit a ≡ bit b → a ≡ b

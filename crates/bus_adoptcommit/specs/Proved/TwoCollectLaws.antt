@@ -1,5 +1,6 @@
 -- Two collects are an adopt-commit object, with coherence.
 use Rattle.std.proofs.Common.{◌≡◌, ℕ, ◌+◌, ◌*◌, ◌<◌, ◌≤◌, Bool, true, false, nat_lt, ◌⊎◌, Some, is_some, inl, inr, arith, refl, sym, ◌∙◌, subst}
+use Rattle.bus_register.specs.declared.limits.TheConstants.{MOST_PROCESSES}
 use mathlib.Core.Path.{fun_ext}
 use Rattle.std.proofs.lemmas.Option.{same_Some}
 use Rattle.bus_register.specs.declared.kinds.Kind.{Kind}
@@ -17,10 +18,10 @@ use Rattle.bus_adoptcommit.specs.Kinds.{IsOfRatifier, IsStoring, IsNamedFor}
 use Rattle.bus_adoptcommit.specs.Plays.{IsExact}
 use Rattle.bus_adoptcommit.specs.TwoCollect.{Local, kind_at, op_at, op_of, fed_at, fed_of, taken_at}
 use Rattle.bus_adoptcommit.specs.TwoCollectKeeps.{Keeps, two_collect}
-use Rattle.bus_adoptcommit.specs.TwoCollectStepLaws.{goes_of, falls_of, ends_at, unended_at, none_left_at}
-use Rattle.bus_adoptcommit.specs.TwoCollectMoveLaws.{moves_keep}
-use Rattle.bus_adoptcommit.specs.TwoCollectStartLaws.{fresh_keep, enters_keep}
-use Rattle.bus_adoptcommit.specs.TwoCollectOutcomeLaws.{keeps_legal}
+use Rattle.bus_adoptcommit.specs.Proved.TwoCollectStepLaws.{goes_of, falls_of, ends_at, unended_at, none_left_at}
+use Rattle.bus_adoptcommit.specs.Proved.TwoCollectMoveLaws.{moves_keep}
+use Rattle.bus_adoptcommit.specs.Proved.TwoCollectStartLaws.{fresh_keep, enters_keep}
+use Rattle.bus_adoptcommit.specs.Proved.TwoCollectOutcomeLaws.{keeps_legal}
 
 -- a kind is named exactly where there is a step
 pub named_at : (ph : Phase) (s : Local) → is_some (kind_at ph) ≡ is_some (op_at ph s)
@@ -130,5 +131,5 @@ two_collect_exact = record {
 pub quick : (n : ℕ) → two_collect.steps n ≤ 2 * n + 2
 quick n = omega arith
 
-pub narrow : (n : ℕ) → n ≤ 64 → two_collect.width n ≤ 1024
+pub narrow : (n : ℕ) → n ≤ MOST_PROCESSES → two_collect.width n ≤ 1024
 narrow n few = omega arith

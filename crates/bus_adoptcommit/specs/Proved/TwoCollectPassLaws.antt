@@ -8,9 +8,9 @@ use Rattle.bus_adoptcommit.specs.declared.phases.Phase.{Phase}
 use Rattle.bus_adoptcommit.specs.declared.phases.Phase.TheVariants.{StoreProposal, ReadProposal, StoreVerdict, ReadVerdict, Ended}
 use Rattle.bus_adoptcommit.specs.TwoCollect.{Local, PhaseFits, bit, op_at, fed_at, taken_at}
 use Rattle.bus_adoptcommit.specs.TwoCollectKeeps.{Mark, mark_of, commit_number, proposal_word, verdict_word, Holds}
-use Rattle.bus_adoptcommit.specs.TwoCollectMarkLaws.{Pass, verdict_none, verdict_some}
-use Rattle.bus_adoptcommit.specs.TwoCollectWordLaws.{bit_le, agreed_less, agreed_saw, agreed_missed, reads}
-use Rattle.bus_adoptcommit.specs.TwoCollectStepLaws.{advances_at}
+use Rattle.bus_adoptcommit.specs.Proved.TwoCollectMarkLaws.{Pass, verdict_none, verdict_some}
+use Rattle.bus_adoptcommit.specs.Proved.TwoCollectWordLaws.{bit_le, agreed_less, agreed_saw, agreed_missed, reads}
+use Rattle.bus_adoptcommit.specs.Proved.TwoCollectStepLaws.{advances_at}
 
 -- the mark of s, were it at this phase
 abbrev pub mark_at : Phase → Local → Mark

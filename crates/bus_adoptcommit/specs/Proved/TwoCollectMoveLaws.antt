@@ -9,9 +9,9 @@ use Rattle.bus_adoptcommit.specs.declared.phases.Phase.TheVariants.{StoreProposa
 use Rattle.bus_register.specs.Tables.{Beside, Stepped}
 use Rattle.bus_adoptcommit.specs.TwoCollect.{Local, PhaseFits, bit, verdict_code, first_verdict, op_at, op_of, fed_of, taken_at}
 use Rattle.bus_adoptcommit.specs.TwoCollectKeeps.{Belongs, Mark, mark, mark_of, proposal_word, verdict_word, Holds, Keeps}
-use Rattle.bus_adoptcommit.specs.TwoCollectMarkLaws.{Pass, Went, holds_after, proposal_some, verdict_some, proposal_now, verdict_now}
-use Rattle.bus_adoptcommit.specs.TwoCollectPassLaws.{pass_at}
-use Rattle.bus_adoptcommit.specs.TwoCollectStepLaws.{goes_of}
+use Rattle.bus_adoptcommit.specs.Proved.TwoCollectMarkLaws.{Pass, Went, holds_after, proposal_some, verdict_some, proposal_now, verdict_now}
+use Rattle.bus_adoptcommit.specs.Proved.TwoCollectPassLaws.{pass_at}
+use Rattle.bus_adoptcommit.specs.Proved.TwoCollectStepLaws.{goes_of}
 
 -- a step that leaves its word, after k steps: no first step, and not the one that stores a verdict
 record ReadsOnly (k n : ℕ) (o : Op) : Type 0 where

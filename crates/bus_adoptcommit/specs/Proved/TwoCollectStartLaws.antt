@@ -5,8 +5,8 @@ use Rattle.std.proofs.lemmas.Option.{same_Some}
 use Rattle.bus_register.specs.Tables.{Beside, Agree}
 use Rattle.bus_adoptcommit.specs.TwoCollect.{Local, start_of}
 use Rattle.bus_adoptcommit.specs.TwoCollectKeeps.{Belongs, Mark, mark, proposal_word, verdict_word, Split, Committed, AgreeAlike, MeetsCommit, SeesOwn, Holds, Keeps}
-use Rattle.bus_adoptcommit.specs.TwoCollectMarkLaws.{proposal_none, verdict_none, at_each_of, each_of, pairs_of}
-use Rattle.bus_adoptcommit.specs.TwoCollectWordLaws.{bit_le}
+use Rattle.bus_adoptcommit.specs.Proved.TwoCollectMarkLaws.{proposal_none, verdict_none, at_each_of, each_of, pairs_of}
+use Rattle.bus_adoptcommit.specs.Proved.TwoCollectWordLaws.{bit_le}
 
 -- nobody has taken a step
 blank_holds : (n : ℕ) → Holds n (λ _. mark None)

@@ -1,0 +1,9 @@
+-- What an impl gives as its laws: proofs, to be passed over.
+pub mod TwoCollectLaws
+pub mod TwoCollectMarkLaws
+pub mod TwoCollectMoveLaws
+pub mod TwoCollectOutcomeLaws
+pub mod TwoCollectPassLaws
+pub mod TwoCollectStartLaws
+pub mod TwoCollectStepLaws
+pub mod TwoCollectWordLaws
