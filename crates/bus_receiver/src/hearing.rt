@@ -1,6 +1,6 @@
 //! A listener that counts what a receiver was given.
 
-ghost use Rattle.std.specs.Prelude.{◌≡◌, ◌+◌, ◌<◌, ◌^◌, ◌&&◌, ◌==◌};
+ghost use Rattle.std.specs.Prelude.{◌≡◌, ◌+◌, ◌<◌, ◌&&◌, ◌==◌};
 ghost use Rattle.std.specs.Prelude.{nat_lt, slice_index, slice_set, true, false};
 
 use bus_deliverylog::RecvTurn;
@@ -28,7 +28,7 @@ impl Model for Heard {
 }
 
 impl Heard {
-    ghost use Rattle.bus_receiver.specs.Hearing.{nothing, goes_on, takes, counted};
+    ghost use Rattle.bus_receiver.specs.Hearing.{nothing, goes_on, has_room, takes, counted};
 
     /// A listener that has heard nothing.
     pub fn new() -> Heard
@@ -42,10 +42,9 @@ impl Heard {
     }
 
     /// Takes the next answer of a receiver, or refuses it: an item that is not the next of its
-    /// sender or of no sender below 8, and all but the end after the end. What is refused changes
-    /// nothing.
+    /// sender, of no sender below 8, or one more than can be counted, and all but the end after the
+    /// end. What is refused changes nothing.
     pub fn note(&mut self, turn: &RecvTurn) -> bool
-        requires { self.old.items + 1 < 2 ^ 64 }
         ensures takes { result ≡ takes self.old turn.now }
         ensures taken { result ≡ true → self.new ≡ counted self.old turn.now }
         ensures refused { result ≡ false → self.new ≡ self.old }
@@ -62,9 +61,8 @@ impl Heard {
 
     /// Takes the item of this number, or refuses it.
     fn note_item(&mut self, sender: SenderNo, number: u64) -> bool
-        requires { self.old.items + 1 < 2 ^ 64 }
         ensures takes { result
-            ≡ (goes_on self.old &&
+            ≡ (goes_on self.old && has_room self.old &&
             (nat_lt sender.0 8 && (number == slice_index self.old.counts sender.0))) }
         ensures taken { result ≡ true
             → self.new ≡ record self.old {
@@ -79,6 +77,9 @@ impl Heard {
         }
         let place = usize::from(sender.0);
         if number != self.counts[place] {
+            return false;
+        }
+        if self.items == u64::MAX {
             return false;
         }
         self.items += 1;
