@@ -1,5 +1,5 @@
 -- What a sitting takes of a bus.
-use Rattle.std.specs.Prelude.{◌+◌, ◌*◌, ◌/◌, ℕ}
+use Rattle.std.specs.Prelude.{◌+◌, ◌-◌, ◌*◌, ◌/◌, ℕ}
 use Rattle.bus_register.specs.declared.limits.TheConstants.{MOST_MESSAGES}
 use Rattle.bus_bench.specs.Sizes.{bytes_of}
 use Rattle.bus_bench.specs.declared.request.Request.{Request}

@@ -4,14 +4,13 @@ ghost use Rattle.std.specs.Prelude.{◌≡◌, ◌↔◌, IsTrue, List, None, On
 ghost use Rattle.bus_bench.specs.declared.workers.Got.{Got as Item};
 ghost use Rattle.bus_bench.specs.Checks.{HasEach};
 
-use crate::crews::Crew;
 use crate::faults::Fault;
 use crate::needs::Load;
 use crate::workers::{Desk, Ear, Got};
 use bus_pageslot::Bus;
 use bus_receiver::{Heard, Receiver};
 use bus_register::SenderNo;
-use bus_tenure::Turn;
+use bus_run::crews::Crew;
 use std::sync::Wait;
 
 /// Sees that each receiver has all items of each sender, and all the same order.
@@ -76,13 +75,21 @@ fn is_same(order: &[Got], other: &[Got]) -> bool
 
 /// The first sender closes the bus, and the bus is ended. Sees that it has all items of each
 /// sender.
-pub fn close_and_end<W: Wait>(wait: &W, bus: Bus, crew: Crew, load: Load) -> Result<(), Fault> {
+pub fn close_and_end<W: Wait>(
+    wait: &W,
+    bus: Bus,
+    crew: Crew<Desk, Ear>,
+    load: Load,
+) -> Result<(), Fault> {
     let Crew {
         mut desks,
         ears,
         ..
     } = crew;
-    if !close(wait, &bus, &mut desks) {
+    let Some(closer) = desks.first_mut() else {
+        return Err(Fault::End);
+    };
+    if !closer.close(wait, &bus) {
         return Err(Fault::End);
     }
     let Some(first) = ears.into_iter().next() else {
@@ -97,12 +104,4 @@ pub fn close_and_end<W: Wait>(wait: &W, bus: Bus, crew: Crew, load: Load) -> Res
         }
     }
     Ok(())
-}
-
-/// The first sender closes the bus. Says whether it is closed.
-fn close<W: Wait>(wait: &W, bus: &Bus, desks: &mut [Desk]) -> bool {
-    let Some(desk) = desks.first_mut() else {
-        return false;
-    };
-    desk.sender.close().is_ok() && desk.sender.send(wait, bus, &mut desk.rng) == Turn::Closed
 }

@@ -1,7 +1,7 @@
 //! One round: a new bus, all messages, and how long they took.
 
 use crate::checks::{check, close_and_end};
-use crate::crews::{Crew, Worked, man};
+use crate::crews::{Worked, crew_of, fault_of, man};
 use crate::faults::Fault;
 use crate::needs::{LOG_WORDS, Load, TENURES};
 use crate::workers::Ear;
@@ -40,13 +40,13 @@ pub fn round<R: Threads + Wait + Clock + Sync>(
     seed: u64,
 ) -> Result<Times, Fault> {
     let (bus, senders, taps) = Bus::new(alloc, shape_of(load))?;
-    let crew = Crew::new(alloc, senders, taps, load, seed)?;
+    let crew = crew_of(alloc, senders, taps, load, seed)?;
     let Worked {
         crew,
         started,
         opened,
     } = man(rt, &bus, load, crew);
-    if let Some(fault) = crew.fault(load) {
+    if let Some(fault) = fault_of(&crew, load) {
         return Err(fault);
     }
     let times = times_of(&crew.ears, started, opened)?;

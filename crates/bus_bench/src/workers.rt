@@ -7,13 +7,13 @@ use crate::faults::Fault;
 use crate::gates::Gate;
 use crate::needs::{BATCH, Load};
 use bus_deliverylog::RecvTurn;
-use bus_pageslot::{Bus, Sender};
+use bus_pageslot::Bus;
 use bus_receiver::{Heard, Receiver};
 use bus_register::SenderNo;
+use bus_run::crews::Work;
+use bus_run::workers;
 use bus_tenure::Turn;
 use crossbeam_utils::Backoff;
-use rand_chacha::ChaCha8Rng;
-use rand_core::SeedableRng;
 use std::alloc::{AllocError, Global};
 use std::sync::Wait;
 use std::time::{Clock, Instant};
@@ -22,38 +22,7 @@ use std::time::{Clock, Instant};
 const TOO_MANY_MESSAGES: u64 = 4096;
 
 /// A sender with its random words, and what stopped it.
-#[derive(Drop)]
-pub struct Desk {
-    pub sender: Sender,
-    pub rng: ChaCha8Rng,
-    pub fault: Option<Fault>,
-}
-
-impl Desk {
-    /// The desk of a sender that has not begun. Its random words are of its own stream of the seed.
-    pub fn new(sender: Sender, seed: u64) -> Desk {
-        let rng = generator(seed, u64::from(sender.number().0));
-        Desk {
-            sender,
-            rng,
-            fault: None,
-        }
-    }
-
-    /// The number of its sender.
-    fn number(&self) -> u64 {
-        u64::from(self.sender.number().0)
-    }
-}
-
-/// The random words of a sender.
-fn generator(seed: u64, sender: u64) -> ChaCha8Rng {
-    let mut key = [0u8; 32];
-    key[..8].copy_from_slice(&seed.to_le_bytes());
-    let mut rng = ChaCha8Rng::from_seed(key);
-    rng.set_stream(sender);
-    rng
-}
+pub type Desk = workers::Desk<Fault>;
 
 /// One item that a receiver was given.
 #[derive(Clone, Copy, Debug, PartialEq, Eq)]
@@ -93,39 +62,47 @@ impl Ear {
     }
 }
 
-/// Waits at the gate, and sends all messages of a sender.
-pub fn send_all<W: Wait>(wait: &W, bus: &Bus, gate: &Gate, load: Load, mut desk: Desk) -> Desk {
-    if !gate.pass(wait) {
-        return desk;
-    }
-    if let Err(fault) = send_batches(wait, bus, gate, load, &mut desk) {
-        desk.fault = Some(fault);
-        gate.give_up();
-    }
-    desk
+/// The work of the senders of a round.
+#[derive(Drop)]
+pub struct SendAll<'a, W> {
+    pub wait: &'a W,
+    pub bus: &'a Bus,
+    pub gate: &'a Gate,
+    pub load: Load,
 }
 
-/// Sends the numbers below `load.messages`, a batch at a time, or until the round was given up.
-fn send_batches<W: Wait>(
-    wait: &W,
-    bus: &Bus,
-    gate: &Gate,
-    load: Load,
-    desk: &mut Desk,
-) -> Result<(), Fault> {
-    for first in (0..load.messages).step_by(BATCH as usize) {
-        if gate.is_given_up() {
-            return Ok(());
+impl<W: Wait> Work<Desk> for SendAll<'_, W> {
+    /// Waits at the gate, and sends all messages of a sender.
+    fn work(&self, mut desk: Desk) -> Desk {
+        if !self.gate.pass(self.wait) {
+            return desk;
         }
-        let end = load.messages.min(first.saturating_add(BATCH));
-        put_all(desk, first, end, load.size.bytes())?;
-        let turn = desk.sender.send(wait, bus, &mut desk.rng);
-        if !matches!(turn, Turn::Delivered { .. }) {
-            let sender = desk.number();
-            return Err(Fault::Answer { sender, turn });
+        if let Err(fault) = self.send_batches(&mut desk) {
+            desk.fault = Some(fault);
+            self.gate.give_up();
         }
+        desk
     }
-    Ok(())
+}
+
+impl<W: Wait> SendAll<'_, W> {
+    /// Sends the numbers below `load.messages`, a batch at a time, or until the round was given up.
+    fn send_batches(&self, desk: &mut Desk) -> Result<(), Fault> {
+        let messages = self.load.messages;
+        for first in (0..messages).step_by(BATCH as usize) {
+            if self.gate.is_given_up() {
+                return Ok(());
+            }
+            let end = messages.min(first.saturating_add(BATCH));
+            put_all(desk, first, end, self.load.size.bytes())?;
+            let turn = desk.sender.send(self.wait, self.bus, &mut desk.rng);
+            if !matches!(turn, Turn::Delivered { .. }) {
+                let sender = desk.number();
+                return Err(Fault::Answer { sender, turn });
+            }
+        }
+        Ok(())
+    }
 }
 
 /// Puts the messages from `first` up to `end`, of so many bytes each.
@@ -153,63 +130,65 @@ fn message_of(number: u64) -> [u8; 56]
     message
 }
 
-/// Waits at the gate, takes all items, and notes the instant.
-pub fn hear_all<R: Wait + Clock>(rt: &R, bus: &Bus, gate: &Gate, load: Load, mut ear: Ear) -> Ear {
-    if !gate.pass(rt) {
-        return ear;
-    }
-    match take_all(rt, bus, gate, load.items(), &mut ear) {
-        Ok(true) => match Instant::now(rt) {
-            Ok(now) => ear.done = Some(now),
-            Err(_) => ear.fault = Some(Fault::Clock),
-        },
-        Ok(false) => {}
-        Err(fault) => {
-            ear.fault = Some(fault);
-            gate.give_up();
-        }
-    }
-    ear
+/// The work of the receivers of a round.
+#[derive(Drop)]
+pub struct HearAll<'a, R> {
+    pub rt: &'a R,
+    pub bus: &'a Bus,
+    pub gate: &'a Gate,
+    pub load: Load,
 }
 
-/// Takes turns until it has so many items. On false the round was given up before.
-fn take_all<W: Wait>(
-    wait: &W,
-    bus: &Bus,
-    gate: &Gate,
-    items: u64,
-    ear: &mut Ear,
-) -> Result<bool, Fault> {
-    let backoff = Backoff::new();
-    for _ in wait.forever() {
-        if ear.heard.items() >= items {
-            return Ok(true);
+impl<R: Wait + Clock> Work<Ear> for HearAll<'_, R> {
+    /// Waits at the gate, takes all items, and notes the instant.
+    fn work(&self, mut ear: Ear) -> Ear {
+        if !self.gate.pass(self.rt) {
+            return ear;
         }
-        let turn = ear.receiver.turn(wait, bus);
-        if !ear.heard.note(&turn) {
-            return Err(Fault::Heard {
-                receiver: ear.number,
-            });
-        }
-        match turn {
-            RecvTurn::Item(item) => {
-                let (sender, number) = (item.sender, item.number);
-                ear.order.push(Got { sender, number })?;
-                backoff.reset();
-            }
-            RecvTurn::Empty => {
-                if gate.is_given_up() {
-                    return Ok(false);
-                }
-                backoff.snooze();
-            }
-            RecvTurn::Going | RecvTurn::Head { .. } => backoff.reset(),
-            RecvTurn::End => {
-                return Err(Fault::Heard {
-                    receiver: ear.number,
-                });
+        match self.take_all(&mut ear) {
+            Ok(true) => match Instant::now(self.rt) {
+                Ok(now) => ear.done = Some(now),
+                Err(_) => ear.fault = Some(Fault::Clock),
+            },
+            Ok(false) => {}
+            Err(fault) => {
+                ear.fault = Some(fault);
+                self.gate.give_up();
             }
         }
+        ear
     }
-    unreachable!()
+}
+
+impl<R: Wait> HearAll<'_, R> {
+    /// Takes turns until it has all items. On false the round was given up before.
+    fn take_all(&self, ear: &mut Ear) -> Result<bool, Fault> {
+        let (items, receiver) = (self.load.items(), ear.number);
+        let backoff = Backoff::new();
+        for _ in self.rt.forever() {
+            if ear.heard.items() >= items {
+                return Ok(true);
+            }
+            let turn = ear.receiver.turn(self.rt, self.bus);
+            if !ear.heard.note(&turn) {
+                return Err(Fault::Heard { receiver });
+            }
+            match turn {
+                RecvTurn::Item(item) => {
+                    let (sender, number) = (item.sender, item.number);
+                    ear.order.push(Got { sender, number })?;
+                    backoff.reset();
+                }
+                RecvTurn::Empty => {
+                    if self.gate.is_given_up() {
+                        return Ok(false);
+                    }
+                    backoff.snooze();
+                }
+                RecvTurn::Going | RecvTurn::Head { .. } => backoff.reset(),
+                RecvTurn::End => return Err(Fault::Heard { receiver }),
+            }
+        }
+        unreachable!()
+    }
 }

@@ -1,5 +1,5 @@
 -- What a listener has counted of the answers that a receiver gave.
-use Rattle.std.specs.Prelude.{ℕ, ◌+◌, Bool, true, false, List, replicate, nat_lt, ◌==◌, ◌&&◌, if◌then◌else◌, slice_index, slice_set}
+use Rattle.std.specs.Prelude.{ℕ, ◌+◌, ◌^◌, Bool, true, false, List, replicate, nat_lt, ◌==◌, ◌&&◌, if◌then◌else◌, slice_index, slice_set}
 use Rattle.bus_register.specs.declared.limits.TheConstants.{MOST_SENDERS}
 use Rattle.bus_deliverylog.specs.declared.receiving.RecvTurn.{RecvTurn}
 use Rattle.bus_deliverylog.specs.declared.receiving.RecvTurn.TheVariants as turn
@@ -17,12 +17,16 @@ nothing = record { counts = replicate MOST_SENDERS 0; items = 0; ended = false }
 abbrev pub goes_on : Hearing → Bool
 goes_on h = if h.ended then false else true
 
--- the answer is taken: after the end only the end, and an item where it is the next of its sender
+-- one item more can be counted
+abbrev pub has_room : Hearing → Bool
+has_room h = nat_lt (h.items + 1) (2 ^ 64)
+
+-- the answer is taken: after the end only the end, and an item where it is the next of its sender and can be counted
 abbrev pub takes : Hearing → RecvTurn → Bool
 takes h turn.Going = goes_on h
 takes h turn.Empty = goes_on h
 takes h (turn.Head tenure owner) = goes_on h
-takes h (turn.Item item) = goes_on h && (nat_lt item.sender.0 MOST_SENDERS && (item.number == slice_index h.counts item.sender.0))
+takes h (turn.Item item) = goes_on h && has_room h && (nat_lt item.sender.0 MOST_SENDERS && (item.number == slice_index h.counts item.sender.0))
 takes h turn.End = true
 
 -- what is counted with an answer that is taken

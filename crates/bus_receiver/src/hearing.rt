@@ -1,17 +1,18 @@
 //! A listener that counts what a receiver was given.
 
-ghost use Rattle.std.specs.Prelude.{◌≡◌, ◌+◌, ◌<◌, ◌^◌, ◌&&◌, ◌==◌};
+ghost use Rattle.std.specs.Prelude.{◌≡◌, ◌+◌, ◌<◌, ◌&&◌, ◌==◌};
 ghost use Rattle.std.specs.Prelude.{nat_lt, slice_index, slice_set, true, false};
 
 use bus_deliverylog::RecvTurn;
 use bus_register::SenderNo;
+use bus_register::limits::MOST_SENDERS;
 use std::marker::Model;
 
 /// A listener: it counts the items of each sender, and refuses an answer that no receiver of a bus
 /// can have been given next.
 #[derive(Debug, Drop)]
 pub struct Heard {
-    counts: [u64; 8],
+    counts: [u64; MOST_SENDERS],
     items: u64,
     ended: bool,
 }
@@ -28,24 +29,23 @@ impl Model for Heard {
 }
 
 impl Heard {
-    ghost use Rattle.bus_receiver.specs.Hearing.{nothing, goes_on, takes, counted};
+    ghost use Rattle.bus_receiver.specs.Hearing.{nothing, goes_on, has_room, takes, counted};
 
     /// A listener that has heard nothing.
     pub fn new() -> Heard
         ensures { result ≡ nothing }
     {
         Heard {
-            counts: [0; 8],
+            counts: [0; MOST_SENDERS],
             items: 0,
             ended: false,
         }
     }
 
     /// Takes the next answer of a receiver, or refuses it: an item that is not the next of its
-    /// sender or of no sender below 8, and all but the end after the end. What is refused changes
-    /// nothing.
+    /// sender, of no sender below 8, or one more than can be counted, and all but the end after the
+    /// end. What is refused changes nothing.
     pub fn note(&mut self, turn: &RecvTurn) -> bool
-        requires { self.old.items + 1 < 2 ^ 64 }
         ensures takes { result ≡ takes self.old turn.now }
         ensures taken { result ≡ true → self.new ≡ counted self.old turn.now }
         ensures refused { result ≡ false → self.new ≡ self.old }
@@ -62,10 +62,9 @@ impl Heard {
 
     /// Takes the item of this number, or refuses it.
     fn note_item(&mut self, sender: SenderNo, number: u64) -> bool
-        requires { self.old.items + 1 < 2 ^ 64 }
         ensures takes { result
-            ≡ (goes_on self.old &&
-            (nat_lt sender.0 8 && (number == slice_index self.old.counts sender.0))) }
+            ≡ (goes_on self.old && has_room self.old &&
+            (nat_lt sender.0 MOST_SENDERS && (number == slice_index self.old.counts sender.0))) }
         ensures taken { result ≡ true
             → self.new ≡ record self.old {
               counts = slice_set self.old.counts sender.0
@@ -74,11 +73,14 @@ impl Heard {
             } }
         ensures refused { result ≡ false → self.new ≡ self.old }
     {
-        if self.ended || sender.0 >= 8 {
+        if self.ended || usize::from(sender.0) >= MOST_SENDERS {
             return false;
         }
         let place = usize::from(sender.0);
         if number != self.counts[place] {
+            return false;
+        }
+        if self.items == u64::MAX {
             return false;
         }
         self.items += 1;
@@ -88,7 +90,7 @@ impl Heard {
 
     /// How many items of the sender it has taken.
     pub fn count(&self, sender: SenderNo) -> u64
-        requires { sender.0 < 8 }
+        requires { sender.0 < MOST_SENDERS }
         ensures { result ≡ slice_index self.now.counts sender.0 }
     {
         self.counts[usize::from(sender.0)]

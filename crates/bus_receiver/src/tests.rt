@@ -1,7 +1,5 @@
 //! Two receivers of one bus, and what a listener refuses.
 
-ghost use Rattle.std.specs.Prelude.{◌≡◌, ◌+◌, ◌<◌, ◌^◌};
-
 use super::*;
 use bus_batch::{Item, Message};
 use bus_deliverylog::RecvTurn;
@@ -119,7 +117,6 @@ fn to_the_end(rt: HostRuntime) {
 
 /// Notes an answer, and sees whether it is taken.
 fn notes(rt: &impl Abort, heard: &mut Heard, turn: &RecvTurn, want: bool) {
-    assert!(rt; heard.items() < 1000);
     let taken = heard.note(turn);
     assert_eq!(rt; taken, want, "{turn:?}");
 }

@@ -26,7 +26,7 @@ use std::sync::Wait;
 pub fn end_and_audit<W: Wait>(
     wait: &W,
     bus: Bus,
-    crew: Crew,
+    crew: Crew<Desk<SenderFault>, Ear>,
     mut heards: Vec<Heard>,
     shape: Shape,
     messages: u64,
@@ -70,7 +70,7 @@ pub fn end_and_audit<W: Wait>(
 }
 
 /// What stopped a sender: a gate before all else, and then what stopped the lowest.
-fn first_fault(desks: &[Desk]) -> Option<SenderFault>
+fn first_fault(desks: &[Desk<SenderFault>]) -> Option<SenderFault>
     ensures { result ≡ first_stop (λ desk. desk.fault) desks.now }
 {
     if gate_refused(desks) {
@@ -81,7 +81,7 @@ fn first_fault(desks: &[Desk]) -> Option<SenderFault>
 }
 
 /// A gate let a sender's worker not through.
-fn gate_refused(desks: &[Desk]) -> bool
+fn gate_refused(desks: &[Desk<SenderFault>]) -> bool
     ensures { result ≡ list_any (λ desk. is_gate desk.fault) desks.now }
 {
     for desk in desks {
@@ -93,7 +93,7 @@ fn gate_refused(desks: &[Desk]) -> bool
 }
 
 /// What stopped the lowest sender that was stopped.
-fn lowest_fault(desks: &[Desk]) -> Option<SenderFault>
+fn lowest_fault(desks: &[Desk<SenderFault>]) -> Option<SenderFault>
     ensures { result ≡ lowest (λ desk. desk.fault) desks.now }
 {
     for desk in desks {
@@ -109,7 +109,7 @@ fn lowest_fault(desks: &[Desk]) -> Option<SenderFault>
 fn end_bus<W: Wait>(
     wait: &W,
     bus: Bus,
-    desks: &mut [Desk],
+    desks: &mut [Desk<SenderFault>],
     ears: Vec<Ear>,
     heards: &mut Vec<Heard>,
 ) -> Result<Ended, RunFault>

@@ -7,16 +7,18 @@ ghost use Rattle.bus_run.specs.Audit.{shape_of_run};
 ghost use Rattle.bus_run.specs.Stops.{IsRunFault};
 
 use crate::closing::end_and_audit;
-use crate::crews::{Crew, man};
-use crate::faults::RunFault;
+use crate::crews::Crew;
+use crate::faults::{RunFault, SenderFault};
 use crate::gates::Gate;
 use crate::reports::Report;
-use crate::workers::Load;
+use crate::workers::{Desk, Ear, HearAll, Load, SendAll, desks_of, ears_of};
 use bus_pageslot::Bus;
 use bus_register::limits::{MOST_LOG_WORDS, MOST_ROWS};
 use bus_world::Shape;
 use std::alloc::Global;
 use std::sync::Wait;
+use std::sync::atomic::{AtomicBool, Ordering};
+use std::thread;
 use std::thread::Threads;
 
 /// Runs a bus of its own to its end: each sender puts the numbers below `messages`, and each
@@ -50,7 +52,60 @@ pub fn run<R: Threads + Wait + Sync, G: Gate + Sync>(
     let (bus, seats, taps) = Bus::new(alloc, shape)?;
     let heards = Vec::with_capacity(alloc, taps.len())?;
     let load = Load { messages, seed };
-    let crew = Crew::new(alloc, seats, taps, load)?;
+    let crew = Crew::new(
+        alloc,
+        desks_of(alloc, seats, load.seed)?,
+        ears_of(alloc, taps)?,
+    )?;
     let crew = man(rt, &bus, gate, load, crew);
     end_and_audit(rt, bus, crew, heards, shape, messages)
+}
+
+/// Lets each sender and each receiver work in a thread of its own, until all have ended. Who could
+/// not be started is no longer in the crew.
+fn man<R: Threads + Wait + Sync, G: Gate + Sync>(
+    rt: &R,
+    bus: &Bus,
+    gate: &G,
+    load: Load,
+    crew: Crew<Desk<SenderFault>, Ear>,
+) -> Crew<Desk<SenderFault>, Ear> {
+    let given_up = AtomicBool::new(false);
+    let given_up = &given_up;
+    let wait = rt;
+    let sending = SendAll {
+        wait,
+        bus,
+        gate,
+        load,
+    };
+    let hearing = HearAll {
+        wait,
+        bus,
+        given_up,
+    };
+    let (sending, hearing) = (&sending, &hearing);
+    thread::scope(thread::scope_env(), rt, move |scope| {
+        let mut crew = crew;
+        if crew.start_senders(scope, sending) {
+            crew.start_receivers(scope, hearing);
+        }
+        crew.join_senders(rt);
+        let is_closed = close(rt, bus, &mut crew.desks);
+        given_up.store(!is_closed, Ordering::SeqCst);
+        crew.join_receivers(rt);
+        crew
+    })
+}
+
+/// The first sender closes the bus. Says whether it is closed.
+fn close<W: Wait>(wait: &W, bus: &Bus, desks: &mut [Desk<SenderFault>]) -> bool {
+    let Some(desk) = desks.first_mut() else {
+        return false;
+    };
+    let closed = desk.close(wait, bus);
+    if !closed {
+        desk.stop();
+    }
+    closed
 }

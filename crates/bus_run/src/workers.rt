@@ -8,15 +8,17 @@ ghost use Rattle.bus_batch.specs.Batches.{next_of, IsPutFault};
 ghost use Rattle.bus_batch.specs.declared.batches.PutFault.{PutFault};
 ghost use Rattle.bus_run.specs.declared.faults.SenderFault.TheVariants.{Stopped as stopped};
 
+use crate::crews::Work;
 use crate::faults::SenderFault;
 use crate::gates::Gate;
 use bus_deliverylog::RecvTurn;
-use bus_pageslot::{Bus, Sender};
+use bus_pageslot::{Bus, Sender, Tap};
 use bus_receiver::{Heard, Receiver};
 use bus_tenure::Turn;
 use crossbeam_utils::Backoff;
 use rand_chacha::ChaCha8Rng;
 use rand_core::SeedableRng;
+use std::alloc::{AllocError, Global};
 use std::sync::Wait;
 use std::sync::atomic::{AtomicBool, Ordering};
 
@@ -25,9 +27,6 @@ const BATCH: usize = 16;
 
 /// How many messages a sender sends at most in a run.
 const MOST_MESSAGES: u64 = 400;
-
-/// More items than a run can send.
-const TOO_MANY_ITEMS: u64 = 8 * MOST_MESSAGES + 1;
 
 /// How much each sender sends, and what its random words come from.
 #[derive(Clone, Copy, Debug)]
@@ -38,10 +37,10 @@ pub struct Load {
 
 /// A sender with its random words, and what stopped it.
 #[derive(Drop)]
-pub struct Desk {
+pub struct Desk<F: Drop> {
     pub sender: Sender,
     pub rng: ChaCha8Rng,
-    pub fault: Option<SenderFault>,
+    pub fault: Option<F>,
 }
 
 /// A receiver with what was noted of its answers.
@@ -51,9 +50,9 @@ pub struct Ear {
     pub heard: Heard,
 }
 
-impl Desk {
+impl<F: Drop> Desk<F> {
     /// The desk of a sender that has not begun.
-    pub fn new(sender: Sender, seed: u64) -> Desk
+    pub fn new(sender: Sender, seed: u64) -> Desk<F>
         ensures sender { result.sender ≡ sender }
         ensures stream { result.rng.stream ≡ sender.queue.sender.0 }
         ensures fault { result.fault ≡ None }
@@ -73,6 +72,15 @@ impl Desk {
         u64::from(self.sender.number().0)
     }
 
+    /// Its sender closes the bus. Says whether the bus is closed.
+    pub fn close<W: Wait>(&mut self, wait: &W, bus: &Bus) -> bool
+        ensures { self.new.fault ≡ self.old.fault }
+    {
+        self.sender.close().is_ok() && self.sender.send(wait, bus, &mut self.rng) == Turn::Closed
+    }
+}
+
+impl Desk<SenderFault> {
     /// Says that its sender was stopped, unless it had a fault before.
     pub fn stop(&mut self)
         ensures sender { self.new.sender ≡ self.old.sender }
@@ -88,6 +96,29 @@ impl Desk {
     }
 }
 
+/// A desk for each sender, in order.
+pub fn desks_of<F: Drop>(
+    alloc: Global,
+    senders: Vec<Sender>,
+    seed: u64,
+) -> Result<Vec<Desk<F>>, AllocError> {
+    let mut desks = Vec::with_capacity(alloc, senders.len())?;
+    for sender in senders {
+        desks.push(Desk::new(sender, seed))?;
+    }
+    Ok(desks)
+}
+
+/// An ear for each receiver, in order.
+pub fn ears_of(alloc: Global, taps: Vec<Tap>) -> Result<Vec<Ear>, AllocError> {
+    let mut ears = Vec::with_capacity(alloc, taps.len())?;
+    for tap in taps {
+        let (receiver, heard) = (Receiver::new(tap), Heard::new());
+        ears.push(Ear { receiver, heard })?;
+    }
+    Ok(ears)
+}
+
 /// The random words of a sender: its own stream under the key of the seed.
 pub fn generator(seed: u64, sender: u64) -> ChaCha8Rng
     ensures { result
@@ -100,26 +131,42 @@ pub fn generator(seed: u64, sender: u64) -> ChaCha8Rng
     rng
 }
 
-/// Sends the numbers below `load.messages`, in batches.
-pub fn send_all<W: Wait, G: Gate>(
-    wait: &W,
-    bus: &Bus,
-    gate: &G,
-    load: Load,
-    mut desk: Desk,
-) -> Desk {
-    for first in (0..load.messages).step_by(BATCH) {
-        if !gate.arrive(desk.number()) {
-            desk.fault = Some(SenderFault::Gate);
-            return desk;
+/// The work of the senders of a run.
+#[derive(Drop)]
+pub struct SendAll<'a, W, G> {
+    pub wait: &'a W,
+    pub bus: &'a Bus,
+    pub gate: &'a G,
+    pub load: Load,
+}
+
+impl<W: Wait, G: Gate> Work<Desk<SenderFault>> for SendAll<'_, W, G> {
+    /// Sends the numbers below `load.messages`, in batches.
+    fn work(&self, mut desk: Desk<SenderFault>) -> Desk<SenderFault> {
+        let messages = self.load.messages;
+        for first in (0..messages).step_by(BATCH) {
+            if !self.gate.arrive(desk.number()) {
+                desk.fault = Some(SenderFault::Gate);
+                return desk;
+            }
+            let end = messages.min(first.saturating_add(BATCH as u64));
+            if !put_all(&mut desk.sender, first, end) || !self.send_batch(&mut desk) {
+                desk.stop();
+                return desk;
+            }
         }
-        let end = load.messages.min(first.saturating_add(BATCH as u64));
-        if !put_all(&mut desk.sender, first, end) || !send_batch(wait, bus, &mut desk) {
-            desk.stop();
-            return desk;
-        }
+        desk
     }
-    desk
+}
+
+impl<W: Wait, G> SendAll<'_, W, G> {
+    /// Sends the messages that wait. Says whether the sender can go on.
+    fn send_batch(&self, desk: &mut Desk<SenderFault>) -> bool {
+        !matches!(
+            desk.sender.send(self.wait, self.bus, &mut desk.rng),
+            Turn::Full | Turn::Closed | Turn::Spent
+        )
+    }
 }
 
 /// Puts the messages from `first` up to `end`. Says whether all were taken.
@@ -143,33 +190,33 @@ fn put_number(sender: &mut Sender, number: u64) -> bool
     sender.next_number() < MOST_MESSAGES && sender.put(&number.to_be_bytes()).is_ok()
 }
 
-/// Sends the messages that wait. Says whether the sender can go on.
-fn send_batch<W: Wait>(wait: &W, bus: &Bus, desk: &mut Desk) -> bool {
-    !matches!(
-        desk.sender.send(wait, bus, &mut desk.rng),
-        Turn::Full | Turn::Closed | Turn::Spent
-    )
+/// The work of the receivers of a run.
+#[derive(Drop)]
+pub struct HearAll<'a, W> {
+    pub wait: &'a W,
+    pub bus: &'a Bus,
+    pub given_up: &'a AtomicBool,
 }
 
-/// Takes until the end and notes each answer, or until the bus was given up and has nothing more.
-pub fn hear_all<W: Wait>(wait: &W, bus: &Bus, given_up: &AtomicBool, mut ear: Ear) -> Ear {
-    let backoff = Backoff::new();
-    for _ in wait.forever() {
-        let turn = ear.receiver.turn(wait, bus);
-        if ear.heard.items() >= TOO_MANY_ITEMS {
-            return ear;
-        }
-        let _ = ear.heard.note(&turn);
-        match turn {
-            RecvTurn::End => return ear,
-            RecvTurn::Empty => {
-                if given_up.load(Ordering::SeqCst) {
-                    return ear;
+impl<W: Wait> Work<Ear> for HearAll<'_, W> {
+    /// Takes until the end and notes each answer, or until the bus was given up and has nothing
+    /// more.
+    fn work(&self, mut ear: Ear) -> Ear {
+        let backoff = Backoff::new();
+        for _ in self.wait.forever() {
+            let turn = ear.receiver.turn(self.wait, self.bus);
+            let _ = ear.heard.note(&turn);
+            match turn {
+                RecvTurn::End => return ear,
+                RecvTurn::Empty => {
+                    if self.given_up.load(Ordering::SeqCst) {
+                        return ear;
+                    }
+                    backoff.snooze();
                 }
-                backoff.snooze();
+                _ => backoff.reset(),
             }
-            _ => backoff.reset(),
         }
+        unreachable!()
     }
-    unreachable!()
 }
