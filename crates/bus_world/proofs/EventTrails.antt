@@ -20,7 +20,8 @@ use Rattle.bus_batch.proofs.PieceLaws.{owners_in-log}
 use Rattle.bus_deliverylog.specs.Orders.{IsPrefixOfOrder, of_sender}
 use Rattle.bus_deliverylog.specs.Receiving.{Receiving}
 use Rattle.bus_deliverylog.specs.declared.receiving.RecvTurn.{RecvTurn}
-use Rattle.bus_tenure.specs.Core.{Core, Election, Layout, log_at, words_of, kind_at, situation_of}
+use Rattle.bus_tenure.specs.Core.{Core, Election, Layout, log_at, words_of}
+use Rattle.bus_tenure.specs.Situations.{kind_at, situation_of, op_at, answer_at}
 use Rattle.bus_tenure.specs.declared.turns.Turn.{Turn as Answered}
 use Rattle.bus_tenure.specs.declared.phases.Phase.TheVariants as phase
 use Rattle.bus_ownerbits.specs.ElectionKeeps.{OneOwner, begun_at}
@@ -37,21 +38,21 @@ use Rattle.std.proofs.lemmas.List.Folds.{list_any-append}
 use Rattle.std.proofs.lemmas.Bool.Decides.{nat_tests}
 use Rattle.std.specs.Prelude.{◌||◌}
 use Rattle.std.specs.List.{list_any}
-use Rattle.bus_tenure.specs.Core.{op_at, answer_at}
 use Rattle.bus_world.specs.Bus.{IsLayout, AreOwned, Fits}
 use Rattle.bus_world.proofs.BusLaws as bus
 use Rattle.bus_world.specs.Headline.{Deed, HasPut, HasClosed, Stepped, puts, Took, Closed, item_heard, end_heard, given, heads, IsPrefix, Promises}
 use Rattle.bus_world.specs.Log.{sent, AreCounted}
 use Rattle.bus_world.proofs.LogLaws.{length-read}
 use Rattle.bus_world.proofs.ReceivingLaws.{given_is_prefix}
-use Rattle.bus_world.specs.Turning.{Side, turned, core_after, found, frames_after}
-use Rattle.bus_world.specs.World.{Bus, Event, Put, Close, Turn, Recv, IsEvent, Happens, SenderDoes, with_sender, can_put, can_close, put_in, close_in, LawfulBus, IsNew, put_by, waiting_of, waiting_at, is_open, given_at, accepted, accepted_by, event_frames, frames_by}
+use Rattle.bus_world.specs.Turning.{Side, turned, core_after, found}
+use Rattle.bus_world.specs.World.{Bus, Event, Put, Close, Turn, Recv, IsEvent, Happens, SenderDoes, with_sender, can_put, can_close, put_in, close_in, LawfulBus, IsNew, is_open, given_at}
 use Rattle.bus_world.proofs.WorldLaws.{event_left, event_puts, counted_at, new_is_lawful}
 use Rattle.bus_world.specs.Playing.{AllAnswered, Answers, PutGives, CloseGives, TurnAnswers, RecvAnswers, log_of}
 use Rattle.bus_world.specs.declared.events.Answer.{Answer}
 use Rattle.bus_world.specs.declared.events.Answer.TheVariants as answer
 use Rattle.bus_world.specs.Trails.{Trails, no_trails, extended, trails_after, deeds_of, put_deeds, close_deeds, turning_deeds, step_deed, heard_of, answer_heard, IsPromisedBy, IsPromised, StaysPromised, Follows, Played, Reached}
 use Rattle.bus_world.specs.Trails.Reached.{New, Then}
+use Rattle.bus_world.proofs.Waiting.{frames_after, put_by, waiting_of, waiting_at, accepted, accepted_by, event_frames, frames_by}
 use Rattle.bus_world.proofs.Tying.{AreNumbered, IsSilent, Hears, Tied}
 use Rattle.bus_world.proofs.Places.{got_split}
 use Rattle.bus_world.proofs.TableTrails.{plain_put, plain_close}
@@ -144,7 +145,7 @@ module _ {E : Type 0} (X : Election E) where
   turn_puts_at : (t : Bool) (words : List ℕ) (o : Option (Core E)) (word : ℕ) (a : Answer) → TurnAnswers X words o word a → puts (cond t (turning_deeds X words o word a) []) ≡ []
   turn_puts_at t words None word a told = absurd told
   turn_puts_at false words (Some c) word a told = refl
-  turn_puts_at true words (Some c) word a told = ap (λ z. puts (turning_deeds X words (Some c) word z)) told ∙ step_puts (kind_at X (situation_of X c)) _ _ _ _
+  turn_puts_at true words (Some c) word a told = ap (λ z. puts (turning_deeds X words (Some c) word z)) told ∙ step_puts (kind_at X c (situation_of X c)) _ _ _ _
 
   deeds_put : (b : Bus E) (e : Event) (a : Answer) (b' : Bus E) (q : ℕ) → Answers X b e a b' → puts (deeds_of X b e a q) ≡ accepted b e q
   deeds_put b (Put s bytes) a b' q w = ap (λ z. puts (cond (q == s) (put_deeds bytes z) [])) w.2 ∙ put_puts_at (q == s) (slice_get b.side.senders s) bytes w.0 w.1
@@ -211,10 +212,10 @@ module _ {E : Type 0} (X : Election E) (P : Protocol E (Unit {0}) ℕ) (laws : L
     turn_closings s word (Some c) i d ds =
         let part = h.side.sending.parts s c i in
         let z = situation_of X c in
-        subst (λ l. Closings (slice_get l) (frames_after c z frames) (λ q. D q ++ cond (q == s) ds [])) (sym (ap (λ (l : Side E). l.senders) d))
-        (closings_after b.side.senders frames D C s c i ds (core_after X c z b.side.home (found b.side.words (op_at X c z word)) word) (frames_after c z frames)
+        subst (λ l. Closings (slice_get l) (frames_after X c z frames) (λ q. D q ++ cond (q == s) ds [])) (sym (ap (λ (l : Side E). l.senders) d))
+        (closings_after b.side.senders frames D C s c i ds (core_after X c z b.side.home (found b.side.words (op_at X c z word)) word) (frames_after X c z frames)
         (λ e. own_closed b.side.senders frames D C s c i ds (turn_closing X c z b.side.home (found b.side.words (op_at X c z word)) word e))
-        (turn_frames c z frames (λ f. Closed (D f.owner.0 ++ cond (f.owner.0 == s) ds [])) (frames_later b.side.senders frames D C s c i ds)
+        (turn_frames X c z frames (λ f. Closed (D f.owner.0 ++ cond (f.owner.0 == s) ds [])) (frames_later b.side.senders frames D C s c i ds)
         (λ t e. subst (λ q. Closed (D q ++ cond (q == s) ds [])) (sym part.sender) (own_closed b.side.senders frames D C s c i ds e))))
 
     event_closings : (e : Event) (a : Answer) → Happens X b e b' → Answers X b e a b' → Closings (slice_get b'.side.senders) (event_frames X b e frames) (λ q. D q ++ deeds_of X b e a q)
@@ -324,7 +325,7 @@ module _ {E : Type 0} (X : Election E) (P : Protocol E (Unit {0}) ℕ) (laws : L
         turning : (t : Bool) (o : Option (Core E)) → TurnAnswers X b.side.words o word a → slice_get (cond t (turning_deeds X b.side.words o word a) []) j ≡ Some (HasPut n bytes) → ⊥
         turning t None told f = absurd told
         turning false (Some c) told f = none_in j _ f
-        turning true (Some c) told f = by_kind (kind_at X (situation_of X c)) _ _ _ _ (ap (λ z. slice_get (turning_deeds X b.side.words (Some c) word z) j) (sym told) ∙ f)
+        turning true (Some c) told f = by_kind (kind_at X c (situation_of X c)) _ _ _ _ (ap (λ z. slice_get (turning_deeds X b.side.words (Some c) word z) j) (sym told) ∙ f)
     numbers b' (Recv r) a w q j n bytes e = absurd (none_in j _ e)
 
   -- ---- one event, and any list of them

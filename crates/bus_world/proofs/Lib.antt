@@ -1,3 +1,4 @@
+pub mod Waiting
 pub mod TenuresLaws
 pub mod LogLaws
 pub mod QueueLaws

@@ -23,7 +23,8 @@ use Rattle.bus_batch.specs.declared.batches.CloseFault.TheVariants as close
 use Rattle.bus_deliverylog.specs.Receiving.{Receiving, receiving_op}
 use Rattle.bus_deliverylog.specs.declared.receiving.RecvTurn.{RecvTurn}
 use Rattle.bus_ownerbits.specs.ElectionKeeps.{OneOwner}
-use Rattle.bus_tenure.specs.Core.{Core, Election, Layout, is_empty, is_closing, is_closed, has_room, frame_len, words_of, waits, Situation, IsClosed, IsIdle, IsSpent, LooksAtStage, Elects, TakesPage, AwaitsPage, StoresWord, StoresLength, GivesBack, HasHanded, situation_at, situation_of, op_at, answer_at, answer_of_election, answer_of_leaving}
+use Rattle.bus_tenure.specs.Core.{Core, Election, Layout, is_empty, is_closing, is_closed, has_room, frame_len, words_of}
+use Rattle.bus_tenure.specs.Situations.{waits, Situation, IsClosed, IsIdle, IsSpent, LooksAtStage, Elects, TakesPage, AwaitsPage, StoresWord, StoresLength, GivesBack, HasHanded, situation_at, situation_of, op_at, answer_at, answer_of_election, answer_of_leaving}
 use Rattle.bus_tenure.specs.declared.pages.Page.{Page}
 use Rattle.bus_tenure.specs.declared.phases.Leaving.{Leaving}
 use Rattle.bus_tenure.specs.declared.phases.Leaving.TheVariants.{Sent, FoundEnd, NoRoom}
@@ -33,8 +34,8 @@ use Rattle.bus_tenure.specs.declared.turns.Turn.{Turn as Answered}
 use Rattle.bus_tenure.specs.declared.turns.Turn.TheVariants as turn
 use Rattle.bus_world.specs.Bus.{IsLayout, Part, stands_at, standing_of}
 use Rattle.bus_register.specs.TableLaws.{push_here}
-use Rattle.bus_world.specs.TurnParts.{owners_by}
-use Rattle.bus_world.specs.Turning.{Side, turned, stepped, found, home_after, core_after, owners_after, frames_after, IsSide}
+use Rattle.bus_world.specs.Turning.{Side, turned, stepped, found, home_after, core_after, owners_after, owners_by, IsSide}
+use Rattle.bus_world.proofs.Waiting.{frames_after}
 use Rattle.bus_world.proofs.TurningLaws.{turn_lawful}
 use Rattle.bus_world.specs.World.{Bus, Event, Put, Close, Turn, Recv, IsEvent, Happens, SenderDoes, ReceiverDoes, RecvDoes, with_sender, put_in, close_in, is_open, can_put, can_close, IsReceiver}
 use Rattle.bus_world.proofs.WorldLaws.{event_left, numbers_fit}
@@ -152,7 +153,7 @@ module _ {E : Type 0} (X : Election E) (c : Core E) (p : ℕ) (owners : List ℕ
   leaving_told t FoundEnd = refl
   leaving_told t NoRoom = refl
 
-  pub owners_told : (z : Situation E) (got word : ℕ) → owners_after z p owners ≡ owners_by (answer_at X c z got word) p owners
+  pub owners_told : (z : Situation E) (got word : ℕ) → owners_after X c z p owners ≡ owners_by (answer_at X c z got word) p owners
   owners_told IsClosed got word = refl
   owners_told IsIdle got word = refl
   owners_told IsSpent got word = refl
@@ -359,7 +360,7 @@ module _ {E : Type 0} (X : Election E) (P : Protocol E (Unit {0}) ℕ) (x : Layo
       abbrev answered : Answered
       answered = answer_at X c (situation_of X c) step_found word
 
-      turn_keeps : IsSide P x (turned X b.side s c (situation_of X c) word) (frames_after c (situation_of X c) h.frames)
+      turn_keeps : IsSide P x (turned X b.side s c (situation_of X c) word) (frames_after X c (situation_of X c) h.frames)
       turn_keeps = turn_lawful X P laws x served width starts owner_is b.side h.frames h.lawful.side s c old word
 
       -- there is room for one more owner
@@ -370,7 +371,7 @@ module _ {E : Type 0} (X : Election E) (P : Protocol E (Unit {0}) ℕ) (x : Layo
           let below = own.0 in let few = h.rows_few in
           omega arith
 
-      module _ (words : List ℕ) (home : Option Page) (c' : Core E) (owners : List ℕ) (words_are : words ≡ stepped b.side.words (op_at X c (situation_of X c) word)) (home_is : home ≡ home_after c (situation_of X c) b.side.home)
+      module _ (words : List ℕ) (home : Option Page) (c' : Core E) (owners : List ℕ) (words_are : words ≡ stepped b.side.words (op_at X c (situation_of X c) word)) (home_is : home ≡ home_after X c (situation_of X c) b.side.home)
           (core_is : c' ≡ core_after X c (situation_of X c) b.side.home step_found word) (owners_are : owners ≡ owners_by answered s b.side.owners) where
         abbrev with_turn : Bus E
         with_turn = record { side = record { words = words; home = home; senders = slice_set b.side.senders s c'; owners = owners }; receivers = b.receivers }
@@ -379,8 +380,8 @@ module _ {E : Type 0} (X : Election E) (P : Protocol E (Unit {0}) ℕ) (x : Layo
         side_is =
             ap (λ z. record { words = z; home = home; senders = slice_set b.side.senders s c'; owners = owners }) words_are
             ∙ ap (λ z. record { words = stepped b.side.words (op_at X c (situation_of X c) word); home = z; senders = slice_set b.side.senders s c'; owners = owners }) home_is
-            ∙ ap (λ z. record { words = stepped b.side.words (op_at X c (situation_of X c) word); home = home_after c (situation_of X c) b.side.home; senders = slice_set b.side.senders s z; owners = owners }) core_is
-            ∙ ap (λ z. record { words = stepped b.side.words (op_at X c (situation_of X c) word); home = home_after c (situation_of X c) b.side.home; senders = slice_set b.side.senders s (core_after X c (situation_of X c) b.side.home step_found word); owners = z })
+            ∙ ap (λ z. record { words = stepped b.side.words (op_at X c (situation_of X c) word); home = home_after X c (situation_of X c) b.side.home; senders = slice_set b.side.senders s z; owners = owners }) core_is
+            ∙ ap (λ z. record { words = stepped b.side.words (op_at X c (situation_of X c) word); home = home_after X c (situation_of X c) b.side.home; senders = slice_set b.side.senders s (core_after X c (situation_of X c) b.side.home step_found word); owners = z })
             (owners_are ∙ sym (owners_told X c s b.side.owners (situation_of X c) step_found word))
 
         turn_does : Happens X b (Turn s word) with_turn

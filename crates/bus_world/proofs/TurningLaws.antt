@@ -16,7 +16,8 @@ use Rattle.bus_batch.specs.Frames.{Frame, frame_words}
 use Rattle.bus_batch.specs.Batches.{HasSomething, frame_of}
 use Rattle.bus_batch.specs.declared.batches.Phase.{Phase as BatchPhase}
 use Rattle.bus_batch.specs.declared.batches.Phase.TheVariants.{Open, Closing, Closed}
-use Rattle.bus_tenure.specs.Core.{Core, Election, Layout, log_at, row_at, frame_len, has_room, is_empty, is_closing, is_closed, Situation, IsClosed, IsIdle, IsSpent, LooksAtStage, Elects, TakesPage, StoresWord, StoresLength, GivesBack, situation_at, situation_of, resting, electing, holding, begun, waits, elected, rested}
+use Rattle.bus_tenure.specs.Core.{Core, Election, Layout, log_at, row_at, frame_len, has_room, is_empty, is_closing, is_closed}
+use Rattle.bus_tenure.specs.Situations.{Situation, IsClosed, IsIdle, IsSpent, LooksAtStage, Elects, TakesPage, StoresWord, StoresLength, GivesBack, situation_at, situation_of, resting, electing, holding, begun, waits, elected, rested}
 use Rattle.bus_tenure.specs.declared.pages.Page.{Page}
 use Rattle.bus_tenure.specs.declared.phases.Leaving.{Leaving}
 use Rattle.bus_tenure.specs.declared.phases.Leaving.TheVariants.{Sent, FoundEnd, NoRoom}
@@ -29,7 +30,8 @@ use Rattle.bus_world.proofs.TenuresLaws as tenures
 use Rattle.bus_world.specs.Bus.{IsLayout, least_of, Part, Fits, HasBegun, Sending, stands_at}
 use Rattle.bus_world.proofs.BusLaws as bus
 use Rattle.bus_world.specs.Log.{sent}
-use Rattle.bus_world.specs.Turning.{Side, stepped, found, frames_after, laid, turned, IsSide}
+use Rattle.bus_world.specs.Turning.{Side, stepped, found, laid, turned, IsSide}
+use Rattle.bus_world.proofs.Waiting.{frames_after}
 
 -- ---- words of a list
 stepped-changes : (words : List ℕ) (o : Op) → register o < length words → bus.Changes o (slice_index words) (slice_index (slice_set words (register o) (after o (slice_index words (register o)))))
@@ -72,7 +74,7 @@ module _ {E : Type 0} (X : Election E) (P : Protocol E (Unit {0}) ℕ) (laws : L
   within = slice_get_within side.senders p c old
 
   abbrev Kept : Situation E → Type 0
-  Kept s = IsSide P x (turned X side p c s word) (frames_after c s frames)
+  Kept s = IsSide P x (turned X side p c s word) (frames_after X c s frames)
 
   -- the senders with another in the place of p
   pub placed : (c' : Core E) → slice_get (slice_set side.senders p c') p ≡ Some c'

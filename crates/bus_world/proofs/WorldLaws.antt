@@ -17,7 +17,8 @@ use Rattle.bus_batch.specs.declared.messages.Item.{Item}
 use Rattle.bus_batch.specs.Messages.{IsMessage, Numbered}
 use Rattle.bus_batch.specs.Batches.{Pending, IsKept, next_of, frame_of}
 use Rattle.bus_batch.specs.Frames.{IsBadWord, Frame, Body, Messages, EndMark, order_of, items_of, body_items, item_of, log_words, frame_words, body_words, message_words, log_pieces}
-use Rattle.bus_tenure.specs.Core.{Core, Election, Layout, log_at, words_of, is_empty, situation_of, Situation, IsClosed, IsIdle, IsSpent, LooksAtStage, Elects, TakesPage, AwaitsPage, StoresWord, StoresLength, GivesBack, HasHanded}
+use Rattle.bus_tenure.specs.Core.{Core, Election, Layout, log_at, words_of, is_empty}
+use Rattle.bus_tenure.specs.Situations.{situation_of, line_of}
 use Rattle.bus_tenure.specs.declared.phases.Phase.{Phase as SenderPhase}
 use Rattle.bus_tenure.specs.declared.phases.Phase.TheVariants as phase
 use Rattle.bus_deliverylog.specs.Orders.{of_sender}
@@ -34,12 +35,13 @@ use Rattle.bus_world.specs.Tenures.Standing.{Rests}
 use Rattle.bus_world.proofs.TenuresLaws as tenures
 use Rattle.bus_world.specs.Bus.{IsLayout, Part, Fits, Sending, least_of, stands_at, standing_of}
 use Rattle.bus_world.proofs.BusLaws as bus
-use Rattle.bus_world.specs.Turning.{Side, turned, IsSide, frames_after}
+use Rattle.bus_world.specs.Turning.{Side, turned, IsSide}
 use Rattle.bus_world.proofs.TurningLaws as turning
 use Rattle.bus_world.proofs.PutLaws as puts
 use Rattle.bus_tenure.specs.declared.phases.Leaving.{Leaving}
 use Rattle.bus_register.specs.TableLaws.{get_set_same, get_set_other, some_of}
-use Rattle.bus_world.specs.World.{frames_by, event_frames, accepted_by, accepted, waiting_at, Event, Put, Close, Turn, Recv, IsEvent, Happens, SenderDoes, ReceiverDoes, recv_found, Bus, is_open, can_put, can_close, put_in, close_in, with_sender, LawfulBus, IsReceiver, RecvStep, IsNew, new_page, put_by, waiting_of}
+use Rattle.bus_world.specs.World.{Event, Put, Close, Turn, Recv, IsEvent, Happens, SenderDoes, ReceiverDoes, recv_found, Bus, is_open, can_put, can_close, put_in, close_in, with_sender, LawfulBus, IsReceiver, RecvStep, IsNew, new_page}
+use Rattle.bus_world.proofs.Waiting.{with_frame, frames_after, frames_by, event_frames, accepted_by, accepted, waiting_at, put_by, waiting_of}
 
 -- ---- numbers
 pub counted_at : (first : ℕ) (items : List Item) (k : ℕ) (i : Item) → AreCounted first items → slice_get items k ≡ Some i → i.number ≡ first + k
@@ -255,18 +257,9 @@ module _ (x : Layout) (frames : List Frame) (words words' : ℕ → ℕ) (log : 
       record { senders = h.senders; log = h.log; len_at = h.len_at; log_words = h.log_words; receives = Receives-append x.senders frames f (words 0) (words' 0) v.place v.known v.frames size (omega arith) h.receives }
 
 -- a turn publishes at most one frame
-one_or_none : {E : Type 0} (c : Core E) (s : Situation E) (frames : List Frame) → (frames_after c s frames ≡ frames) ⊎ ((f : Frame) × (frames_after c s frames ≡ frames ++ f ∷ []))
-one_or_none c IsClosed frames = inl refl
-one_or_none c IsIdle frames = inl refl
-one_or_none c IsSpent frames = inl refl
-one_or_none c LooksAtStage frames = inl refl
-one_or_none c (Elects t e) frames = inl refl
-one_or_none c (TakesPage t) frames = inl refl
-one_or_none c (AwaitsPage t) frames = inl refl
-one_or_none c (StoresWord t page stored) frames = inl refl
-one_or_none c (StoresLength t page stored) frames = inr (frame_of c.queue t, refl)
-one_or_none c (GivesBack t page leaving) frames = inl refl
-one_or_none c (HasHanded t leaving) frames = inl refl
+one_or_none : (more : Option Frame) (frames : List Frame) → (with_frame more frames ≡ frames) ⊎ ((f : Frame) × (with_frame more frames ≡ frames ++ f ∷ []))
+one_or_none None frames = inl refl
+one_or_none (Some f) frames = inr (f, refl)
 
 -- the frames of one bus begin those of the other
 pub record Continues (frames frames' : List Frame) : Type 0 where
@@ -319,8 +312,8 @@ module _ {E : Type 0} (X : Election E) (P : Protocol E (Unit {0}) ℕ) (laws : L
     unfolding quiet longer
     turn_left s word None i d same = record { left = quiet (same_side P x frames b.side b'.side d h.side) same; now_is = refl }
     turn_left s word (Some c) i d same =
-        let side = subst (λ z. IsSide P x z (frames_after c (situation_of X c) frames)) (sym d) (turning.turn_lawful X P laws x ok width starts owner_is b.side frames h.side s c i word) in
-        elim (one_or_none c (situation_of X c) frames) [
+        let side = subst (λ z. IsSide P x z (frames_after X c (situation_of X c) frames)) (sym d) (turning.turn_lawful X P laws x ok width starts owner_is b.side frames h.side s c i word) in
+        elim (one_or_none (line_of X c (situation_of X c)).publishes frames) [
           | inl e ↦ record { left = quiet (subst (IsSide P x b'.side) e side) same; now_is = sym e }
           | inr f ↦ record { left = longer f.0 (subst (IsSide P x b'.side) f.1 side) same; now_is = sym f.1 }
         ]
@@ -429,7 +422,7 @@ module _ {E : Type 0} (X : Election E) (P : Protocol E (Unit {0}) ℕ) (laws : L
     turn_event_puts s word None i d q = bus_same d frames q ∙ sym (append-nil (put_by b frames q))
     turn_event_puts s word (Some c) i d q =
         let part = own_part s c i in
-        ap (λ (z : Side E). map (λ (v : Item). v.message) (of_sender q (order_of (frames_after c (situation_of X c) frames))) ++ waiting_of (slice_get z.senders q)) d
+        ap (λ (z : Side E). map (λ (v : Item). v.message) (of_sender q (order_of (frames_after X c (situation_of X c) frames))) ++ waiting_of (slice_get z.senders q)) d
         ∙ puts.turn_puts X b.side frames s c i part.queue part.sender word (λ t leaving g. never_giving c c.phase refl part.fits t leaving g) q ∙ sym (append-nil (put_by b frames q))
 
     pub event_puts : (e : Event) → Happens X b e b' → (q : ℕ) → put_by b' (event_frames X b e frames) q ≡ put_by b frames q ++ accepted b e q
