@@ -38,6 +38,7 @@ use Rattle.bus_world.specs.Turning.{Side, turned, stepped, found, home_after, co
 use Rattle.bus_world.proofs.Waiting.{frames_after}
 use Rattle.bus_world.proofs.TurningLaws.{turn_lawful}
 use Rattle.bus_world.specs.World.{Bus, Event, Put, Close, Turn, Recv, IsEvent, Happens, SenderDoes, ReceiverDoes, RecvDoes, with_sender, put_in, close_in, is_open, can_put, can_close, IsReceiver}
+use Rattle.bus_world.proofs.Accepting.{open_is, not_busy, empty_is}
 use Rattle.bus_world.proofs.WorldLaws.{event_left, numbers_fit}
 use Rattle.bus_world.specs.Trails.{IsSitting, extended}
 use Rattle.bus_world.specs.Trails.Reached.{Then}
@@ -81,20 +82,6 @@ module _ {E : Type 0} (X : Election E) (P : Protocol E (Unit {0}) ℕ) (x : Layo
         trails = extended X b e a h.trails;
         reached = Then b b' h.trails e a h.reached is d w;
       }
-
--- ---- tests
-open_is : (ph : BatchPhase) → is_open ph ≡ true → ph ≡ Open
-open_is Open e = refl
-open_is Closing e = absurd (true≢false (sym e))
-open_is Closed e = absurd (true≢false (sym e))
-
-not_busy : (b : Bool) → cond b false true ≡ true → b ≡ false
-not_busy true e = absurd (true≢false (sym e))
-not_busy false e = refl
-
-empty_is : {A : Type 0} (xs : List A) → is_empty xs ≡ true → xs ≡ []
-empty_is [] e = refl
-empty_is (x ∷ xs) e = absurd (true≢false (sym e))
 
 -- ---- results
 refuses : {A F : Type 0} (r : Result A F) (Q : F → Type 0) (P : Type 0) → IfErr r Q → ((e : F) → Q e → P) → OnErr r P

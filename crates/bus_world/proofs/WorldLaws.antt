@@ -38,6 +38,8 @@ use Rattle.bus_world.proofs.BusLaws as bus
 use Rattle.bus_world.specs.Turning.{Side, turned, IsSide}
 use Rattle.bus_world.proofs.TurningLaws as turning
 use Rattle.bus_world.proofs.PutLaws as puts
+use Rattle.bus_world.proofs.Accepting as accepting
+use Rattle.bus_world.proofs.Accepting.{Accepted, Puts, Closes, accept, AreAccepted, open_is, not_busy, empty_is, idle_rests}
 use Rattle.bus_tenure.specs.declared.phases.Leaving.{Leaving}
 use Rattle.bus_register.specs.TableLaws.{get_set_same, get_set_other, some_of}
 use Rattle.bus_world.specs.World.{Event, Put, Close, Turn, Recv, IsEvent, Happens, SenderDoes, ReceiverDoes, recv_found, Bus, is_open, can_put, can_close, put_in, close_in, with_sender, LawfulBus, IsReceiver, RecvStep, IsNew, new_page}
@@ -49,135 +51,22 @@ counted_at first [] k i a e = absurd cc
 counted_at first (x ∷ items) zero i a e = ap (λ (z : Item). z.number) (sym (same_Some _ _ e)) ∙ a.0 ∙ (let z : first ≡ first + 0 = omega arith in z)
 counted_at first (x ∷ items) (suc k) i a e = counted_at (first + 1) items k i a.1 e ∙ (let z : first + 1 + k ≡ first + suc k = omega arith in z)
 
--- ---- each item has a word
-shorter : {A : Type 0} (b : Bool) (x : A) (ys : List A) (n : ℕ) → length ys ≤ n → length (cond b (x ∷ ys) ys) ≤ suc n
-shorter true x ys n l = omega arith
-shorter false x ys n l = omega arith
-
-filter_short : (p : Item → Bool) (xs : List Item) → length (filter p xs) ≤ length xs
-filter_short p [] = omega arith
-filter_short p (x ∷ xs) = shorter (p x) x (filter p xs) (length xs) (filter_short p xs)
-
-items_short : (owner : SenderNo) (ms : List Numbered) → length (map (item_of owner) ms) ≤ length (flat_map message_words ms)
-items_short owner [] = omega arith
-items_short owner (m ∷ ms) = let a = length-append (message_words m) (flat_map message_words ms) in let b = items_short owner ms in omega arith
-
-body_short : (owner : SenderNo) (b : Body) → length (body_items owner b) ≤ length (body_words b)
-body_short owner (Messages ms) = items_short owner ms
-body_short owner EndMark = omega arith
-
-order_short : (frames : List Frame) → length (order_of frames).items ≤ length (log_words frames)
-order_short [] = omega arith
-order_short (f ∷ frames) =
-    let a = length-append (items_of f) (order_of frames).items in let b = length-append (frame_words f) (log_words frames) in let d = body_short f.owner f.body in let e = order_short frames in omega arith
-
-sent_short : (s : ℕ) (frames : List Frame) → sent s frames ≤ length (log_words frames)
-sent_short s frames = let a = filter_short (λ i. i.sender.0 == s) (order_of frames).items in let b = order_short frames in omega arith
-
--- ---- tests
-open_is : (ph : Phase) → is_open ph ≡ true → ph ≡ Open
-open_is Open e = refl
-open_is Closing e = absurd (true≢false (sym e))
-open_is Closed e = absurd (true≢false (sym e))
-
-not_busy : (b : Bool) → cond b false true ≡ true → b ≡ false
-not_busy true e = absurd (true≢false (sym e))
-not_busy false e = refl
-
-empty_is : {A : Type 0} (xs : List A) → is_empty xs ≡ true → xs ≡ []
-empty_is [] e = refl
-empty_is (x ∷ xs) e = absurd (true≢false (sym e))
-
 same_side : {E : Type 0} (P : Protocol E (Unit {0}) ℕ) (x : Layout) (frames : List Frame) (side side' : Side E) → side' ≡ side → IsSide P x side frames → IsSide P x side' frames
 same_side P x frames side side' e h = subst (λ z. IsSide P x z frames) (sym e) h
-
--- a batch that is not on its way is that of a sender that has begun no tenure
-idle_rests : {E : Type 0} (words : ℕ → ℕ) (frames : List Frame) (c : Core E) (ph : SenderPhase E) → Fits words frames c ph → c.queue.busy ≡ false → ph ≡ phase.Resting
-idle_rests words frames c phase.Resting f e = refl
-idle_rests words frames c (phase.Electing t u) f e = absurd (true≢false (sym f.0.busy ∙ e))
-idle_rests words frames c (phase.Taken t) f e = absurd f
-idle_rests words frames c (phase.Holding t page stored true) f e = absurd (true≢false (sym f.0.busy ∙ e))
-idle_rests words frames c (phase.Holding t page stored false) f e = absurd (true≢false (sym f.0.busy ∙ e))
-idle_rests words frames c (phase.Giving t leaving) f e = absurd f
 
 module _ {E : Type 0} (X : Election E) (P : Protocol E (Unit {0}) ℕ) (laws : Laws X.op X.fed P OneOwner) (x : Layout) (ok : IsLayout x) (width : x.width ≡ P.width x.senders)
     (starts : (n me at : ℕ) → X.started n me x.rounds at ≡ P.started n me tt at) (owner_is : (e : E) → X.owner e ≡ P.output e) where
   module _ (side : Side E) (frames : List Frame) (h : IsSide P x side frames) (p : ℕ) (c : Core E) (old : slice_get side.senders p ≡ Some c) where
-    abbrev W : ℕ → ℕ
-    W = slice_index side.words
-
-    own : Part x W frames p c
-    own = h.sending.parts p c old
-
-    replaced : (q : Pending) → c.queue.busy ≡ false → q.busy ≡ false → q.sender ≡ c.queue.sender → q.first ≡ c.queue.first → IsKept q → IsSide P x (with_sender side p (record c { queue = q })) frames
-    replaced q idle idle' sender first kept =
-        let rests = idle_rests W frames c c.phase own.fits idle in
-        let fits = subst (Fits W frames c) rests own.fits in
-        record {
-          words = h.words;
-          sending = bus.spends X P laws x ok width W side.home (slice_get side.senders) side.owners frames h.sending p c (record c { queue = q }) (slice_get (slice_set side.senders p (record c { queue = q }))) old
-              (turning.placed X P laws x ok width starts owner_is side frames h p c old 0 (record c { queue = q })) (turning.others X P laws x ok width starts owner_is side frames h p c old 0 (record c { queue = q })) rests rests (omega arith)
-              record {
-                layout = own.layout;
-                me = own.me;
-                below = own.below;
-                sender = ap (λ (z : SenderNo). z.0) sender ∙ own.sender;
-                queue = kept;
-                fits = subst (Fits W frames (record c { queue = q })) (sym rests) (idle', first ∙ fits.1);
-              };
-        }
-
-    -- its numbers stay far below their range
-    first_below : (ph : SenderPhase E) → Fits W frames c ph → c.queue.first ≤ length (log_words frames)
-    first_below phase.Resting f = let short = sent_short c.me frames in let base = f.1 in omega arith
-    first_below (phase.Electing t u) f = let short = sent_short c.me frames in let base = f.1 in omega arith
-    first_below (phase.Taken t) f = absurd f
-    first_below (phase.Holding t page stored true) f =
-        let written = f.1 in let short = sent_short c.me written.front in let base = written.base in
-        let more = ap length (ap log_words written.frames_are ∙ log_words-append written.front (frame_of c.queue t)) ∙ length-append (log_words written.front) (frame_words (frame_of c.queue t)) in
-        omega arith
-    first_below (phase.Holding t page stored false) f = let short = sent_short c.me frames in let base = f.1.base in omega arith
-    first_below (phase.Giving t leaving) f = absurd f
-
     pub numbers_fit : next_of c.queue < 2 ^ 48
-    numbers_fit =
-        let few = own.queue.few in let first = first_below c.phase own.fits in let cap = ok.capacity in let within = h.sending.log.fits in
-        let size : length (log_words frames) ≡ W 0 = sym (ap length h.sending.log.words_are) ∙ length-read W (log_at x) (W 0) in
-        omega arith
+    numbers_fit = accepting.numbers_fit X P laws x ok width (slice_index side.words) side.home side.owners frames p (slice_get side.senders) h.sending c old
 
-    put_lawful : (bytes : List ℕ) → All (λ byte. byte < 256) bytes → IsSide P x (with_sender side p (put_in c bytes)) frames
-    put_lawful bytes small = by_test (can_put c.queue (length bytes)) refl
-      where
-        by_test : (b : Bool) → can_put c.queue (length bytes) ≡ b → IsSide P x (with_sender side p (cond b (record c { queue = record c.queue { messages = c.queue.messages ++ bytes ∷ [] } }) c)) frames
-        by_test false e = turning.unchanged X P laws x ok width starts owner_is side frames h p c old 0
-        by_test true e =
-            let opened = and_parts (is_open c.queue.phase) (cond c.queue.busy false true && (nat_le (length bytes) 56 && nat_lt (length c.queue.messages) 16)) e in
-            let idled = and_parts (cond c.queue.busy false true) (nat_le (length bytes) 56 && nat_lt (length c.queue.messages) 16) opened.1 in
-            let sized = and_parts (nat_le (length bytes) 56) (nat_lt (length c.queue.messages) 16) idled.1 in
-            let idle = not_busy c.queue.busy idled.0 in
-            let is = open_is c.queue.phase opened.0 in
-            let short = leb-true (length bytes) 56 sized.0 in
-            let room = ltb-true (length c.queue.messages) 16 sized.1 in
-            let more = length-append c.queue.messages (bytes ∷ []) in
-            let fit = numbers_fit in
-            replaced (record c.queue { messages = c.queue.messages ++ bytes ∷ [] }) idle idle refl refl record {
-              few = (omega arith);
-              each = All-append IsMessage c.queue.messages (bytes ∷ []) own.queue.each (All-from_recursion IsMessage (bytes ∷ []) ((short, small), tt));
-              numbers = (omega arith);
-              alone = λ z. absurd (let bad = sym is ∙ z in let wrong : ⊥ = cc in wrong);
-              owner_bits = own.queue.owner_bits;
-            }
-
-    close_lawful : IsSide P x (with_sender side p (close_in c)) frames
-    close_lawful = by_test (can_close c.queue) refl
-      where
-        by_test : (b : Bool) → can_close c.queue ≡ b → IsSide P x (with_sender side p (cond b (record c { queue = record c.queue { phase = Closing } }) c)) frames
-        by_test false e = turning.unchanged X P laws x ok width starts owner_is side frames h p c old 0
-        by_test true e =
-            let tests = and_parts (cond c.queue.busy false true) (is_empty c.queue.messages) (and_parts (is_open c.queue.phase) (cond c.queue.busy false true && is_empty c.queue.messages) e).1 in
-            let idle = not_busy c.queue.busy tests.0 in
-            let none = empty_is c.queue.messages tests.1 in
-            replaced (record c.queue { phase = Closing }) idle idle refl refl record { few = own.queue.few; each = own.queue.each; numbers = own.queue.numbers; alone = λ z. none; owner_bits = own.queue.owner_bits }
+    -- what it accepts keeps what the senders keep
+    accept_lawful : (a : Accepted) → AreAccepted (a ∷ []) → IsSide P x (with_sender side p (accept c a)) frames
+    accept_lawful a each = record {
+      words = h.words;
+      sending = accepting.grows X P laws x ok width (slice_index side.words) side.home side.owners frames p (a ∷ []) each (slice_get side.senders) h.sending c old (slice_get (slice_set side.senders p (accept c a)))
+          (get_set_other side.senders p (accept c a)) (get_set_same side.senders p (accept c a) (slice_get_within side.senders p c old));
+    }
 
 -- ---- receivers
 index-read : (words : ℕ → ℕ) (at k i : ℕ) → i < k → slice_index (read words at k) i ≡ words (at + i)
@@ -301,12 +190,12 @@ module _ {E : Type 0} (X : Election E) (P : Protocol E (Unit {0}) ℕ) (laws : L
     put_left : (s : ℕ) (bytes : List ℕ) → All (λ byte. byte < 256) bytes → (o : Option (Core E)) → slice_get b.side.senders s ≡ o → SenderDoes b.side o (λ c. with_sender b.side s (put_in c bytes)) b'.side → b'.receivers ≡ b.receivers → After frames frames b'
     unfolding quiet longer
     put_left s bytes small None i d same = record { left = quiet (same_side P x frames b.side b'.side d h.side) same; now_is = refl }
-    put_left s bytes small (Some c) i d same = record { left = quiet (same_side P x frames (with_sender b.side s (put_in c bytes)) b'.side d (put_lawful X P laws x ok width starts owner_is b.side frames h.side s c i bytes small)) same; now_is = refl }
+    put_left s bytes small (Some c) i d same = record { left = quiet (same_side P x frames (with_sender b.side s (put_in c bytes)) b'.side d (accept_lawful X P laws x ok width starts owner_is b.side frames h.side s c i (Puts bytes) (small, tt))) same; now_is = refl }
 
     close_left : (s : ℕ) (o : Option (Core E)) → slice_get b.side.senders s ≡ o → SenderDoes b.side o (λ c. with_sender b.side s (close_in c)) b'.side → b'.receivers ≡ b.receivers → After frames frames b'
     unfolding quiet longer
     close_left s None i d same = record { left = quiet (same_side P x frames b.side b'.side d h.side) same; now_is = refl }
-    close_left s (Some c) i d same = record { left = quiet (same_side P x frames (with_sender b.side s (close_in c)) b'.side d (close_lawful X P laws x ok width starts owner_is b.side frames h.side s c i)) same; now_is = refl }
+    close_left s (Some c) i d same = record { left = quiet (same_side P x frames (with_sender b.side s (close_in c)) b'.side d (accept_lawful X P laws x ok width starts owner_is b.side frames h.side s c i Closes tt)) same; now_is = refl }
 
     turn_left : (s word : ℕ) (o : Option (Core E)) → slice_get b.side.senders s ≡ o → SenderDoes b.side o (λ c. turned X b.side s c (situation_of X c) word) b'.side → b'.receivers ≡ b.receivers → After frames (frames_by X o frames) b'
     unfolding quiet longer

@@ -5,7 +5,7 @@ use Rattle.bus_register.specs.Words.{register, after}
 use Rattle.bus_register.specs.Protocol.{Protocol}
 use Rattle.bus_batch.specs.Frames.{Frame}
 use Rattle.bus_tenure.specs.Core.{Core, Election, Layout, words_of}
-use Rattle.bus_tenure.specs.Situations.{Situation, PageMove, Stays, Comes, Returns, line_of, op_at, fed_at}
+use Rattle.bus_tenure.specs.Situations.{Situation, situation_of, PageMove, Stays, Comes, Returns, line_of, op_at, fed_at}
 use Rattle.bus_tenure.specs.declared.pages.Page.{Page}
 use Rattle.bus_tenure.specs.declared.phases.Phase.{Phase}
 use Rattle.bus_tenure.specs.declared.phases.Phase.TheVariants as phase
@@ -54,13 +54,17 @@ before_step Stays = Stays
 before_step (Comes t) = Stays
 before_step (Returns t leaving page) = Returns t leaving page
 
+-- that part of the turn that a sender takes
+abbrev pub handing : {E : Type 0} → Election E → Core E → PageMove
+handing X c = before_step (line_of X c (situation_of X c)).move
+
 -- and the part after it: a page that was taken is laid before the sender
 abbrev pub after_step : PageMove → PageMove
 after_step Stays = Stays
 after_step (Comes t) = Comes t
 after_step (Returns t leaving page) = Stays
 
--- the latter, as the phase shows it that the step has left
+-- that part, as the phase shows it that the step has left
 abbrev pub laying : {E : Type 0} → Phase E → PageMove
 laying phase.Resting = Stays
 laying (phase.Electing t e) = Stays

@@ -4,9 +4,9 @@ ghost use Rattle.std.specs.Prelude.{◌≡◌, ℕ, ◌<◌, ◌^◌, length, ma
 ghost use Rattle.bus_register.specs.declared.registers.Op.{Op};
 ghost use Rattle.bus_register.specs.Words.{register, SumFits};
 ghost use Rattle.bus_tenure.specs.Core.{words_of};
-ghost use Rattle.bus_tenure.specs.Situations.{Elects, situation_of, line_of, op_at, fed_at, answer_at};
+ghost use Rattle.bus_tenure.specs.Situations.{Elects, situation_of, op_at, fed_at, answer_at};
 ghost use Rattle.bus_tenure.specs.Elections.{Elector, election_of};
-ghost use Rattle.bus_world.specs.Turning.{stepped, found, home_moved, core_moved, before_step, laying, home_after, core_after, owners_by};
+ghost use Rattle.bus_world.specs.Turning.{stepped, found, home_moved, core_moved, handing, laying, home_after, core_after, owners_by};
 ghost use Rattle.bus_deliverylog.specs.Receiving.{receiving_op};
 ghost use Rattle.bus_batch.specs.Batches.{next_of};
 ghost use Rattle.bus_world.specs.World.{RecvDoes, put_in, close_in};
@@ -21,8 +21,8 @@ use bus_tenure::{Page, SenderCore, Turn};
 
 /// The page comes home from a sender that is to give it back.
 fn hand_home<Q: Ratifier + Drop>(home: &mut Option<Page>, core: &mut SenderCore<Q>)
-    ensures home { let X = election_of Q.Ratifier in home.new ≡ home_moved (before_step (line_of X core.old (situation_of X core.old)).move) home.old }
-    ensures core { let X = election_of Q.Ratifier in core.new ≡ core_moved (before_step (line_of X core.old (situation_of X core.old)).move) home.old core.old }
+    ensures home { let X = election_of Q.Ratifier in home.new ≡ home_moved (handing X core.old) home.old }
+    ensures core { let X = election_of Q.Ratifier in core.new ≡ core_moved (handing X core.old) home.old core.old }
 {
     if core.gives_back() {
         *home = Some(core.hand());
