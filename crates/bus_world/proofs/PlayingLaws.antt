@@ -14,8 +14,7 @@ use Rattle.bus_register.specs.declared.registers.Op.{Op}
 use Rattle.bus_register.specs.declared.registers.Op.TheVariants.{Load, Store}
 use Rattle.bus_register.specs.Tables.{of_some}
 use Rattle.bus_batch.specs.Batches.{Pending, next_of, CanPut, CanClose, IsPutFault, IsCloseFault}
-use Rattle.bus_batch.specs.declared.batches.Phase.TheVariants.{Open, Closing, Closed}
-use Rattle.bus_batch.specs.declared.batches.Phase.{Phase as BatchPhase}
+use Rattle.bus_batch.specs.declared.batches.Phase.TheVariants.{Closing}
 use Rattle.bus_batch.specs.declared.batches.PutFault.{PutFault}
 use Rattle.bus_batch.specs.declared.batches.PutFault.TheVariants as put
 use Rattle.bus_batch.specs.declared.batches.CloseFault.{CloseFault}
