@@ -7,7 +7,8 @@ ghost use Rattle.bus_adoptcommit.specs.TwoCollect.{Local, Sized, proposal_code, 
 ghost use Rattle.bus_adoptcommit.specs.TwoCollect.{verdict_in, kind_at, op_of, fed_of};
 ghost use Rattle.bus_adoptcommit.specs.TwoCollectKeeps.{two_collect};
 ghost use Rattle.bus_adoptcommit.specs.Proved.TwoCollectLaws.{two_collect_legal, two_collect_exact};
-ghost use Rattle.bus_adoptcommit.specs.Proved.TwoCollectLaws.{named_at, own_kinds, named_for, wordless};
+ghost use Rattle.bus_adoptcommit.specs.Proved.TwoCollectLaws.{named_at, own_kinds, named_for};
+ghost use Rattle.bus_adoptcommit.specs.Proved.TwoCollectLaws.{wordless};
 ghost use Rattle.bus_adoptcommit.specs.Proved.TwoCollectLaws.{quick, narrow};
 
 use super::phases::Phase;
@@ -203,7 +204,8 @@ impl Ratifier for TwoCollect {
 
 /// A process of two collects takes all its steps, and has no output before.
 pub fn two_collect_is_exact()
-    ensures exact { IsExact ⟦<TwoCollect as Machine>⟧.op ⟦<TwoCollect as Machine>⟧.fed ⟦<TwoCollect as Ratifier>⟧.protocol }
+    ensures exact { IsExact ⟦<TwoCollect as Machine>⟧.op ⟦<TwoCollect as
+        Machine>⟧.fed ⟦<TwoCollect as Ratifier>⟧.protocol }
     ensures steps { (n : ℕ)
         → Protocol.steps ⟦<TwoCollect as Ratifier>⟧.protocol n ≡ 2 * n + 2 }
 {}

@@ -14,7 +14,8 @@ use Rattle.bus_batch.specs.declared.batches.CloseFault.TheVariants as close
 use Rattle.bus_batch.specs.Frames.{Frame}
 use Rattle.bus_batch.specs.declared.batches.Phase.{Phase as BatchPhase}
 use Rattle.bus_batch.specs.declared.batches.Phase.TheVariants.{Open, Closing, Closed}
-use Rattle.bus_tenure.specs.Core.{Core, Election, is_closed, is_closing, is_empty, queue_after, waits, has_room, frame_len, IsClosed, IsIdle, IsSpent, LooksAtStage, Elects, TakesPage, StoresWord, StoresLength, GivesBack, situation_at, situation_of, op_at, answer_at, answer_of_leaving, answer_of_election, elected}
+use Rattle.bus_tenure.specs.Core.{Core, Election, is_closed, is_closing, is_empty, has_room, frame_len}
+use Rattle.bus_tenure.specs.Situations.{queue_after, waits, IsClosed, IsIdle, IsSpent, LooksAtStage, Elects, TakesPage, StoresWord, StoresLength, GivesBack, situation_at, situation_of, op_at, answer_at, answer_of_leaving, answer_of_election, elected}
 use Rattle.bus_tenure.specs.declared.pages.Page.{Page}
 use Rattle.bus_tenure.specs.declared.phases.Leaving.{Leaving}
 use Rattle.bus_tenure.specs.declared.phases.Leaving.TheVariants.{Sent, FoundEnd, NoRoom}

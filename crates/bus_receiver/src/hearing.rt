@@ -73,10 +73,10 @@ impl Heard {
             } }
         ensures refused { result ≡ false → self.new ≡ self.old }
     {
-        if self.ended || usize::from(sender.0) >= MOST_SENDERS {
+        let place = usize::from(sender.0);
+        if self.ended || place >= MOST_SENDERS {
             return false;
         }
-        let place = usize::from(sender.0);
         if number != self.counts[place] {
             return false;
         }

@@ -27,7 +27,8 @@ pub const MOST_MESSAGES: usize = 16;
 /// Bytes of one message: at most 56.
 pub const MOST_BYTES: usize = 56;
 
-/// Words of one message in a frame, that of its number and length and those of its bytes: at most 8.
+/// Words of one message in a frame, that of its number and length and those of its bytes: at most
+/// 8.
 pub const MOST_MESSAGE_WORDS: u64 = 8;
 
 /// Words of a frame behind its head: at most 128.

@@ -4,7 +4,8 @@ use Rattle.std.proofs.lemmas.Bool.{true≢false}
 use Rattle.std.proofs.lemmas.Option.{slice_get_within}
 use Rattle.bus_register.specs.Proved.TableLaws.{get_set_same}
 use Rattle.bus_deliverylog.specs.Receiving.{Receiving}
-use Rattle.bus_tenure.specs.Core.{Core, Election, situation_of}
+use Rattle.bus_tenure.specs.Core.{Core, Election}
+use Rattle.bus_tenure.specs.Situations.{situation_of}
 use Rattle.bus_world.specs.Turning.{Side, turned}
 use Rattle.bus_world.specs.World.{Bus, Event, Put, Close, Turn, Recv, Happens, SenderDoes}
 use Rattle.bus_world.specs.Playing.{Answers, Refused, TurnAnswers, RecvAnswers, TurnRefused, RecvRefused}

@@ -28,7 +28,8 @@ use Rattle.bus_tenure.specs.declared.pages.Page.{Page}
 use Rattle.bus_tenure.specs.declared.phases.Leaving.{Leaving}
 use Rattle.bus_tenure.specs.declared.phases.Leaving.TheVariants.{Sent, FoundEnd, NoRoom}
 use Rattle.bus_tenure.specs.declared.phases.Phase.TheVariants.{Electing, Holding}
-use Rattle.bus_tenure.specs.Core.{Core, Situation, GivesBack, StoresWord, StoresLength, row_at, frame_len, has_room, holding}
+use Rattle.bus_tenure.specs.Core.{Core, row_at, frame_len, has_room}
+use Rattle.bus_tenure.specs.Situations.{Situation, GivesBack, StoresWord, StoresLength, holding}
 use Rattle.bus_tenure.specs.Causes.{HasCause, IsDeciding, IsInRatifier, IsInConciliator, IsAtFallback, HasWordLeft, HasStoredAll, LeavesPage}
 use Rattle.bus_tenure.specs.Elections.{Elector, ElectorKeeps, elections}
 use Rattle.bus_tenure.specs.Keeping.{CoreKeeps, PhaseKeeps, IsElecting, IsHolding}

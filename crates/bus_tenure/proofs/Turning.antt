@@ -6,7 +6,8 @@ use Rattle.bus_batch.specs.Batches.{Pending}
 use Rattle.bus_ownerbits.specs.ElectionNames.{sender}
 use Rattle.bus_tenure.specs.declared.phases.Phase.TheVariants.{Resting, Electing}
 use Rattle.bus_tenure.specs.declared.turns.Turn.TheVariants as turn
-use Rattle.bus_tenure.specs.Core.{Core, Election, Elects, TakesPage, situation_of, situation_at, op_at, elected, fed_at, answer_at, answer_of_election, row_at}
+use Rattle.bus_tenure.specs.Core.{Core, Election, row_at}
+use Rattle.bus_tenure.specs.Situations.{Elects, TakesPage, situation_of, situation_at, op_at, elected, fed_at, answer_at, answer_of_election}
 use Rattle.bus_tenure.specs.Keeping.{CoreKeeps, PhaseKeeps, IsElecting}
 
 pub sender_some : (x : Option ℕ) (v : SenderNo) → sender x ≡ Some v → x ≡ Some v.0

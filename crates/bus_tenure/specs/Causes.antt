@@ -21,7 +21,8 @@ use Rattle.bus_ownerbits.specs.Sizes.{bits_of}
 use Rattle.bus_tenure.specs.declared.pages.Page.{Page}
 use Rattle.bus_tenure.specs.declared.phases.Leaving.{Leaving}
 use Rattle.bus_tenure.specs.declared.phases.Phase.TheVariants.{Resting, Electing, Holding, Giving}
-use Rattle.bus_tenure.specs.Core.{Core, Election, kind_at, situation_of, row_at, frame_len}
+use Rattle.bus_tenure.specs.Core.{Core, Election, row_at, frame_len}
+use Rattle.bus_tenure.specs.Situations.{kind_at, situation_of}
 use Rattle.bus_tenure.specs.Elections.{Elector, elections}
 
 -- it has begun no tenure, has something to send, and has a tenure left to enter
@@ -153,4 +154,4 @@ HasCause P c kind.LoadLogWord = ⊥
 
 -- whatever its next step is for, it has a cause
 abbrev pub IsCaused : {S : Type 0} → Election (Elector S) → Protocol S Bool Verdict → Core (Elector S) → Type 0
-IsCaused X P c = (k : Kind) → kind_at X (situation_of X c) ≡ Some k → HasCause P c k
+IsCaused X P c = (k : Kind) → kind_at X c (situation_of X c) ≡ Some k → HasCause P c k

@@ -1,4 +1,5 @@
 pub mod Core
+pub mod Situations
 pub mod Elections
 pub mod Causes
 pub mod CausesRefuse

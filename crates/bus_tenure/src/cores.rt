@@ -11,16 +11,17 @@ ghost use Rattle.bus_batch.specs.Frames.{frame_words};
 ghost use Rattle.bus_batch.specs.declared.batches.Phase.TheVariants as queue_phase;
 ghost use Rattle.bus_tenure.specs.Causes.{HasCause, IsCaused};
 ghost use Rattle.bus_tenure.specs.Core.{Core, row_at, words_of, is_closing, is_closed, is_empty};
-ghost use Rattle.bus_tenure.specs.Core.{frame_len, has_room, Situation, LooksAtStage, GivesBack};
-ghost use Rattle.bus_tenure.specs.Core.{resting, electing, holding, situation_at, situation_of};
-ghost use Rattle.bus_tenure.specs.Core.{kind_at, op_at, rested, saw_stage, elected, fed_at};
-ghost use Rattle.bus_tenure.specs.Core.{answer_of_stage, answer_of_election, answer_of_leaving};
-ghost use Rattle.bus_tenure.specs.Core.{rest_at, answer_at, page_after};
+ghost use Rattle.bus_tenure.specs.Core.{frame_len, has_room, page_after};
+ghost use Rattle.bus_tenure.specs.Situations.{line_of, Situation, LooksAtStage, GivesBack, resting};
+ghost use Rattle.bus_tenure.specs.Situations.{electing, holding, situation_at, situation_of};
+ghost use Rattle.bus_tenure.specs.Situations.{kind_at, op_at, rested, saw_stage, elected, fed_at};
+ghost use Rattle.bus_tenure.specs.Situations.{answer_of_stage, answer_of_election};
+ghost use Rattle.bus_tenure.specs.Situations.{answer_of_leaving, rest_at, answer_at, wants_at};
 ghost use Rattle.bus_tenure.specs.declared.phases.Phase.TheVariants as phase;
 ghost use Rattle.bus_tenure.specs.Elections.{election_of, elections, layout_with};
 ghost use Rattle.bus_tenure.specs.Keeping.{IsUnderWay, IsInTenure, IsHolding, AreSizes};
-ghost use Rattle.bus_tenure.specs.Seen.{wants_at, turns_of, tenure_of, HasElection, AwaitsItsPage};
-ghost use Rattle.bus_tenure.specs.Seen.{GivesItBack, turn_without_step, held_by};
+ghost use Rattle.bus_tenure.specs.Seen.{turns_of, tenure_of, HasElection, AwaitsItsPage};
+ghost use Rattle.bus_tenure.specs.Seen.{GivesItBack, held_by};
 
 use super::holds::Hold;
 use super::pages::Page;
@@ -230,7 +231,8 @@ impl<Q: Ratifier + Drop> SenderCore<Q> {
 
     /// The answer where no tenure is begun and no step is due.
     fn turn_at_rest(&self) -> Option<Turn>
-        ensures { result ≡ turn_without_step (resting self.now) }
+        ensures { let X = election_of Q.Ratifier in
+            result ≡ (line_of X self.now (resting self.now)).rest }
     {
         if self.is_closed() {
             Some(Turn::Closed)
@@ -289,7 +291,7 @@ impl<Q: Ratifier + Drop> SenderCore<Q> {
     /// What the next step is for; none where none is due.
     pub fn kind(&self) -> Option<Kind>
         ensures kind { let X = election_of Q.Ratifier in
-            result ≡ kind_at X (situation_of X self.now) }
+            result ≡ kind_at X self.now (situation_of X self.now) }
         ensures cause { IfSome result (λ k. HasCause Q.protocol self.now k) }
     {
         match &self.phase {
@@ -326,7 +328,7 @@ impl<Q: Ratifier + Drop> SenderCore<Q> {
     /// The next step asks for a random word.
     pub fn wants_word(&self) -> bool
         ensures { let X = election_of Q.Ratifier in
-            result ≡ wants_at X (situation_of X self.now) }
+            result ≡ wants_at X self.now (situation_of X self.now) }
     {
         match &self.phase {
             Phase::Electing { election, .. } => match election.owner() {
@@ -406,7 +408,8 @@ impl<Q: Ratifier + Drop> SenderCore<Q> {
 
     /// The answer where no step is due; Going where one is, or a page is to be laid.
     pub fn rest(&self) -> Turn
-        ensures { let X = election_of Q.Ratifier in result ≡ rest_at (situation_of X self.now) }
+        ensures { let X = election_of Q.Ratifier in
+            result ≡ rest_at X self.now (situation_of X self.now) }
     {
         match &self.phase {
             Phase::Resting => match self.turn_at_rest() {

@@ -15,7 +15,8 @@ use Rattle.bus_register.specs.Tables.{of_some, Beside, Agree, Stepped}
 use Rattle.bus_register.specs.Protocol.{Protocol, Laws}
 use Rattle.bus_batch.specs.Batches.{Pending, IsKept, next_of, frame_of}
 use Rattle.bus_batch.specs.Frames.{Frame, frame_words, IsFrame, items_of, has_end}
-use Rattle.bus_tenure.specs.Core.{Core, Election, Layout, log_at, frame_len, rested, queue_after, page_after}
+use Rattle.bus_tenure.specs.Core.{Core, Election, Layout, log_at, frame_len, page_after}
+use Rattle.bus_tenure.specs.Situations.{rested, queue_after}
 use Rattle.bus_tenure.specs.declared.phases.Leaving.{Leaving}
 use Rattle.bus_tenure.specs.declared.phases.Leaving.TheVariants.{Sent, FoundEnd, NoRoom}
 use Rattle.bus_tenure.specs.declared.pages.Page.{Page}

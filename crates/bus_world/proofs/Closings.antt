@@ -8,13 +8,15 @@ use Rattle.bus_batch.specs.Batches.{Pending, body_of, frame_of, sent}
 use Rattle.bus_batch.specs.declared.batches.Phase.{Phase as BatchPhase}
 use Rattle.bus_batch.specs.declared.batches.Phase.TheVariants.{Open, Closing, Closed as Shut}
 use Rattle.bus_batch.specs.Frames.{Frame, EndMark}
-use Rattle.bus_tenure.specs.Core.{Core, Election, Situation, IsClosed, IsIdle, IsSpent, LooksAtStage, Elects, TakesPage, AwaitsPage, StoresWord, StoresLength, GivesBack, HasHanded, begun, elected, waits, queue_after}
+use Rattle.bus_tenure.specs.Core.{Core, Election}
+use Rattle.bus_tenure.specs.Situations.{Situation, IsClosed, IsIdle, IsSpent, LooksAtStage, Elects, TakesPage, AwaitsPage, StoresWord, StoresLength, GivesBack, HasHanded, begun, elected, waits, queue_after}
 use Rattle.bus_tenure.specs.declared.pages.Page.{Page}
 use Rattle.bus_tenure.specs.declared.phases.Leaving.{Leaving}
 use Rattle.bus_tenure.specs.declared.phases.Leaving.TheVariants.{Sent, FoundEnd, NoRoom}
 use Rattle.bus_tenure.specs.declared.phases.Phase.TheVariants as phase
 use Rattle.bus_world.specs.Headline.{Deed, HasClosed, Closed}
-use Rattle.bus_world.specs.Turning.{core_after, laid, frames_after}
+use Rattle.bus_world.specs.Turning.{core_after, laid}
+use Rattle.bus_world.proofs.Waiting.{frames_after}
 use Rattle.bus_world.proofs.Places.{got_before, got_after, got_split}
 
 pub record Closings {E : Type 0} (senders : ℕ → Option (Core E)) (frames : List Frame) (deeds : ℕ → List Deed) : Type 0 where
@@ -84,24 +86,24 @@ one_frame f (suc i) g e = absurd (none_there i g e)
     none_there i g e = cc
 
 -- each frame of the log after a turn was there before, or it is that of the sender's batch
-pub turn_frames : {E : Type 0} (c : Core E) (z : Situation E) (frames : List Frame) (D : Frame → Type 0) → ((i : ℕ) (f : Frame) → slice_get frames i ≡ Some f → f.body ≡ EndMark → D f)
-    → ((t : ℕ) → c.queue.phase ≡ Closing → D (frame_of c.queue t)) → (i : ℕ) (f : Frame) → slice_get (frames_after c z frames) i ≡ Some f → f.body ≡ EndMark → D f
-turn_frames c IsClosed frames D old new = old
-turn_frames c IsIdle frames D old new = old
-turn_frames c IsSpent frames D old new = old
-turn_frames c LooksAtStage frames D old new = old
-turn_frames c (Elects t e) frames D old new = old
-turn_frames c (TakesPage t) frames D old new = old
-turn_frames c (AwaitsPage t) frames D old new = old
-turn_frames c (StoresWord t page stored) frames D old new = old
-turn_frames c (StoresLength t page stored) frames D old new = λ i f at ends. elim (got_split frames (frame_of c.queue t ∷ []) i f at) [
+pub turn_frames : {E : Type 0} (X : Election E) (c : Core E) (z : Situation E) (frames : List Frame) (D : Frame → Type 0) → ((i : ℕ) (f : Frame) → slice_get frames i ≡ Some f → f.body ≡ EndMark → D f)
+    → ((t : ℕ) → c.queue.phase ≡ Closing → D (frame_of c.queue t)) → (i : ℕ) (f : Frame) → slice_get (frames_after X c z frames) i ≡ Some f → f.body ≡ EndMark → D f
+turn_frames X c IsClosed frames D old new = old
+turn_frames X c IsIdle frames D old new = old
+turn_frames X c IsSpent frames D old new = old
+turn_frames X c LooksAtStage frames D old new = old
+turn_frames X c (Elects t e) frames D old new = old
+turn_frames X c (TakesPage t) frames D old new = old
+turn_frames X c (AwaitsPage t) frames D old new = old
+turn_frames X c (StoresWord t page stored) frames D old new = old
+turn_frames X c (StoresLength t page stored) frames D old new = λ i f at ends. elim (got_split frames (frame_of c.queue t ∷ []) i f at) [
   | inl l ↦ old i f l ends
   | inr r ↦
       let is = one_frame (frame_of c.queue t) r.0 f r.2 in
       subst D is (new t (body_ends c.queue.phase c.queue.first c.queue.messages (ap (λ (g : Frame). g.body) is ∙ ends)))
 ]
-turn_frames c (GivesBack t page leaving) frames D old new = old
-turn_frames c (HasHanded t leaving) frames D old new = old
+turn_frames X c (GivesBack t page leaving) frames D old new = old
+turn_frames X c (HasHanded t leaving) frames D old new = old
 
 -- ---- the trails of all, of which that of one may have more
 module _ {E : Type 0} (senders : List (Core E)) (frames : List Frame) (D : ℕ → List Deed) (h : Closings (slice_get senders) frames D) (p : ℕ) (c : Core E) (old : slice_get senders p ≡ Some c) (ds : List Deed) where

@@ -1,12 +1,13 @@
 -- Events one after another: who took the pages only grows, and each event is answered.
-use Rattle.std.proofs.Common.{◌≡◌, ℕ, ◌+◌, ◌<◌, ◌≤◌, Option, Some, None, List, [], ◌∷◌, ◌++◌, length, map, take, get_or, slice_get, arith, refl, sym, ◌∙◌, ap, subst, append_assoc}
+use Rattle.std.proofs.Common.{◌≡◌, ℕ, ◌+◌, ◌<◌, ◌≤◌, Bool, true, false, cond, Option, Some, None, List, [], ◌∷◌, ◌++◌, length, map, take, get_or, slice_get, arith, refl, sym, ◌∙◌, ap, subst, append_assoc}
 use Rattle.std.proofs.lemmas.Grind.{common_steps}
 use Rattle.std.proofs.lemmas.List.{take_all, map_more}
 use Rattle.std.proofs.lemmas.Option.{slice_get-get_or, slice_get-map}
 use Rattle.std.specs.Option.{option_map}
-use Rattle.bus_tenure.specs.Core.{Core, Election, Situation, IsClosed, IsIdle, IsSpent, LooksAtStage, Elects, TakesPage, AwaitsPage, StoresWord, StoresLength, GivesBack, HasHanded, situation_of}
+use Rattle.bus_tenure.specs.Core.{Core, Election}
+use Rattle.bus_tenure.specs.Situations.{situation_of, line_of}
 use Rattle.bus_world.specs.Headline.{IsPrefix}
-use Rattle.bus_world.specs.Turning.{Side, turned, owners_after}
+use Rattle.bus_world.specs.Turning.{Side, turned}
 use Rattle.bus_world.specs.World.{Bus, Event, Put, Close, Turn, Recv, IsEvent, Happens, SenderDoes, with_sender, put_in, close_in}
 use Rattle.bus_world.specs.declared.events.Event.{Event as Told}
 use Rattle.bus_world.specs.Playing.{event_told, Answers, AllAnswered}
@@ -25,22 +26,13 @@ same_prefix xs ys e = subst (IsPrefix xs) (sym e) (nothing_more xs)
 pub prefix_after : {A : Type 0} (xs ys zs : List A) → IsPrefix xs ys → IsPrefix ys zs → IsPrefix xs zs
 prefix_after xs ys zs h k = record { rest = h.rest ++ k.rest; together = sym (append_assoc xs h.rest k.rest) ∙ ap (λ z. z ++ k.rest) h.together ∙ k.together }
 
-owners_grow : {E : Type 0} (z : Situation E) (p : ℕ) (owners : List ℕ) → IsPrefix owners (owners_after z p owners)
-owners_grow IsClosed p owners = nothing_more owners
-owners_grow IsIdle p owners = nothing_more owners
-owners_grow IsSpent p owners = nothing_more owners
-owners_grow LooksAtStage p owners = nothing_more owners
-owners_grow (Elects t e) p owners = nothing_more owners
-owners_grow (TakesPage t) p owners = record { rest = p ∷ []; together = refl }
-owners_grow (AwaitsPage t) p owners = nothing_more owners
-owners_grow (StoresWord t page stored) p owners = nothing_more owners
-owners_grow (StoresLength t page stored) p owners = nothing_more owners
-owners_grow (GivesBack t page leaving) p owners = nothing_more owners
-owners_grow (HasHanded t leaving) p owners = nothing_more owners
+owners_grow : (takes : Bool) (p : ℕ) (owners : List ℕ) → IsPrefix owners (cond takes (owners ++ p ∷ []) owners)
+owners_grow true p owners = record { rest = p ∷ []; together = refl }
+owners_grow false p owners = nothing_more owners
 
 turn_owners : {E : Type 0} (X : Election E) (side side' : Side E) (s word : ℕ) (o : Option (Core E)) → SenderDoes side o (λ c. turned X side s c (situation_of X c) word) side' → IsPrefix side.owners side'.owners
 turn_owners X side side' s word None d = same_prefix side.owners side'.owners (ap (λ (z : Side _). z.owners) d)
-turn_owners X side side' s word (Some c) d = subst (IsPrefix side.owners) (sym (ap (λ (z : Side _). z.owners) d)) (owners_grow (situation_of X c) s side.owners)
+turn_owners X side side' s word (Some c) d = subst (IsPrefix side.owners) (sym (ap (λ (z : Side _). z.owners) d)) (owners_grow (line_of X c (situation_of X c)).takes s side.owners)
 
 same_owners : {E : Type 0} (side side' : Side E) (o : Option (Core E)) (f : Core E → Side E) → ((c : Core E) → (f c).owners ≡ side.owners) → SenderDoes side o f side' → IsPrefix side.owners side'.owners
 same_owners side side' None f same d = same_prefix side.owners side'.owners (ap (λ (z : Side _). z.owners) d)

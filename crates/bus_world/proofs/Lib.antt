@@ -1,3 +1,4 @@
+pub mod Waiting
 pub mod TenuresLaws
 pub mod LogLaws
 pub mod QueueLaws
@@ -6,6 +7,7 @@ pub mod TurningLaws
 pub mod TurnSteps
 pub mod ReceivingLaws
 pub mod PutLaws
+pub mod Accepting
 pub mod WorldLaws
 pub mod StartingLaws
 pub mod PlayingLaws

@@ -14,8 +14,7 @@ use Rattle.bus_register.specs.declared.registers.Op.{Op}
 use Rattle.bus_register.specs.declared.registers.Op.TheVariants.{Load, Store}
 use Rattle.bus_register.specs.Tables.{of_some}
 use Rattle.bus_batch.specs.Batches.{Pending, next_of, CanPut, CanClose, IsPutFault, IsCloseFault}
-use Rattle.bus_batch.specs.declared.batches.Phase.TheVariants.{Open, Closing, Closed}
-use Rattle.bus_batch.specs.declared.batches.Phase.{Phase as BatchPhase}
+use Rattle.bus_batch.specs.declared.batches.Phase.TheVariants.{Closing}
 use Rattle.bus_batch.specs.declared.batches.PutFault.{PutFault}
 use Rattle.bus_batch.specs.declared.batches.PutFault.TheVariants as put
 use Rattle.bus_batch.specs.declared.batches.CloseFault.{CloseFault}
@@ -23,7 +22,8 @@ use Rattle.bus_batch.specs.declared.batches.CloseFault.TheVariants as close
 use Rattle.bus_deliverylog.specs.Receiving.{Receiving, receiving_op}
 use Rattle.bus_deliverylog.specs.declared.receiving.RecvTurn.{RecvTurn}
 use Rattle.bus_ownerbits.specs.ElectionKeeps.{OneOwner}
-use Rattle.bus_tenure.specs.Core.{Core, Election, Layout, is_empty, is_closing, is_closed, has_room, frame_len, words_of, waits, Situation, IsClosed, IsIdle, IsSpent, LooksAtStage, Elects, TakesPage, AwaitsPage, StoresWord, StoresLength, GivesBack, HasHanded, situation_at, situation_of, op_at, answer_at, answer_of_election, answer_of_leaving}
+use Rattle.bus_tenure.specs.Core.{Core, Election, Layout, is_empty, is_closing, is_closed, has_room, frame_len, words_of}
+use Rattle.bus_tenure.specs.Situations.{waits, Situation, IsClosed, IsIdle, IsSpent, LooksAtStage, Elects, TakesPage, AwaitsPage, StoresWord, StoresLength, GivesBack, HasHanded, situation_at, situation_of, op_at, answer_at, answer_of_election, answer_of_leaving}
 use Rattle.bus_tenure.specs.declared.pages.Page.{Page}
 use Rattle.bus_tenure.specs.declared.phases.Leaving.{Leaving}
 use Rattle.bus_tenure.specs.declared.phases.Leaving.TheVariants.{Sent, FoundEnd, NoRoom}
@@ -33,10 +33,11 @@ use Rattle.bus_tenure.specs.declared.turns.Turn.{Turn as Answered}
 use Rattle.bus_tenure.specs.declared.turns.Turn.TheVariants as turn
 use Rattle.bus_world.specs.Bus.{IsLayout, Part, stands_at, standing_of}
 use Rattle.bus_register.specs.Proved.TableLaws.{push_here}
-use Rattle.bus_world.specs.TurnParts.{owners_by}
-use Rattle.bus_world.specs.Turning.{Side, turned, stepped, found, home_after, core_after, owners_after, frames_after, IsSide}
-use Rattle.bus_world.proofs.TurningLaws.{turn_lawful}
+use Rattle.bus_world.specs.Turning.{Side, turned, stepped, found, home_after, core_after, owners_after, owners_by}
+use Rattle.bus_world.proofs.Waiting.{frames_after}
+use Rattle.bus_world.proofs.TurningLaws.{turn_lawful, IsSide, side_of}
 use Rattle.bus_world.specs.World.{Bus, Event, Put, Close, Turn, Recv, IsEvent, Happens, SenderDoes, ReceiverDoes, RecvDoes, with_sender, put_in, close_in, is_open, can_put, can_close, IsReceiver}
+use Rattle.bus_world.proofs.Accepting.{open_is, not_busy, empty_is}
 use Rattle.bus_world.proofs.WorldLaws.{event_left, numbers_fit}
 use Rattle.bus_world.specs.Trails.{IsSitting, extended}
 use Rattle.bus_world.specs.Trails.Reached.{Then}
@@ -80,20 +81,6 @@ module _ {E : Type 0} (X : Election E) (P : Protocol E (Unit {0}) ℕ) (x : Layo
         trails = extended X b e a h.trails;
         reached = Then b b' h.trails e a h.reached is d w;
       }
-
--- ---- tests
-open_is : (ph : BatchPhase) → is_open ph ≡ true → ph ≡ Open
-open_is Open e = refl
-open_is Closing e = absurd (true≢false (sym e))
-open_is Closed e = absurd (true≢false (sym e))
-
-not_busy : (b : Bool) → cond b false true ≡ true → b ≡ false
-not_busy true e = absurd (true≢false (sym e))
-not_busy false e = refl
-
-empty_is : {A : Type 0} (xs : List A) → is_empty xs ≡ true → xs ≡ []
-empty_is [] e = refl
-empty_is (x ∷ xs) e = absurd (true≢false (sym e))
 
 -- ---- results
 refuses : {A F : Type 0} (r : Result A F) (Q : F → Type 0) (P : Type 0) → IfErr r Q → ((e : F) → Q e → P) → OnErr r P
@@ -152,7 +139,7 @@ module _ {E : Type 0} (X : Election E) (c : Core E) (p : ℕ) (owners : List ℕ
   leaving_told t FoundEnd = refl
   leaving_told t NoRoom = refl
 
-  pub owners_told : (z : Situation E) (got word : ℕ) → owners_after z p owners ≡ owners_by (answer_at X c z got word) p owners
+  pub owners_told : (z : Situation E) (got word : ℕ) → owners_after X c z p owners ≡ owners_by (answer_at X c z got word) p owners
   owners_told IsClosed got word = refl
   owners_told IsIdle got word = refl
   owners_told IsSpent got word = refl
@@ -252,7 +239,7 @@ module _ {E : Type 0} (X : Election E) (P : Protocol E (Unit {0}) ℕ) (x : Layo
 
     -- ---- a put
     pub put_fits : next_of c.queue < 2 ^ 48
-    put_fits = numbers_fit X P laws x served width starts owner_is b.side h.frames h.lawful.side s c old
+    put_fits = numbers_fit X P laws x served width starts owner_is b.side h.frames (side_of h.lawful) s c old
 
     module _ (bytes : List ℕ) (c' : Core E) (put_is : c' ≡ put_in c bytes) where
       put_does : Happens X b (Put s bytes) (with_core s c')
@@ -321,10 +308,10 @@ module _ {E : Type 0} (X : Election E) (P : Protocol E (Unit {0}) ℕ) (x : Layo
 
     -- ---- a turn
     part : Part x (slice_index b.side.words) h.frames s c
-    part = h.lawful.side.sending.parts s c old
+    part = h.lawful.keeps.sending.parts s c old
 
     pub words_enough : length b.side.words ≡ words_of c.layout
-    words_enough = h.lawful.side.words ∙ ap words_of (sym part.layout)
+    words_enough = h.lawful.words ∙ ap words_of (sym part.layout)
 
     module _ (word : ℕ) where
       kept_below : (o : Op) (r v : ℕ) → Store record { 0 = r } v ≡ o → SumFits o (slice_index b.side.words (register o))
@@ -333,7 +320,7 @@ module _ {E : Type 0} (X : Election E) (P : Protocol E (Unit {0}) ℕ) (x : Layo
       -- what an election adds to stays in range
       election_fits : (t : ℕ) (e : E) → situation_of X c ≡ Elects t e → (o : Op) → X.op e word ≡ Some o → SumFits o (slice_index b.side.words (register o))
       election_fits t e i o w =
-          let tenures = h.lawful.side.sending.tenures in
+          let tenures = h.lawful.keeps.sending.tenures in
           let has = tenures.electing s t e (ap (of_some standing_of) old ∙ ap (λ z. Some (stands_at z)) (elects X c s [] c.phase t e i).0) in
           laws.fits x.senders (2 + t * P.width x.senders) (slice_index b.side.words) (tenures.elections t) s e word o (tenures.kept t has.0) has.2 w
 
@@ -359,8 +346,8 @@ module _ {E : Type 0} (X : Election E) (P : Protocol E (Unit {0}) ℕ) (x : Layo
       abbrev answered : Answered
       answered = answer_at X c (situation_of X c) step_found word
 
-      turn_keeps : IsSide P x (turned X b.side s c (situation_of X c) word) (frames_after c (situation_of X c) h.frames)
-      turn_keeps = turn_lawful X P laws x served width starts owner_is b.side h.frames h.lawful.side s c old word
+      turn_keeps : IsSide P x (turned X b.side s c (situation_of X c) word) (frames_after X c (situation_of X c) h.frames)
+      turn_keeps = turn_lawful X P laws x served width starts owner_is b.side h.frames (side_of h.lawful) s c old word
 
       -- there is room for one more owner
       pub owner_fits : (t : ℕ) → answered ≡ turn.Own t → length b.side.owners < 256
@@ -370,7 +357,7 @@ module _ {E : Type 0} (X : Election E) (P : Protocol E (Unit {0}) ℕ) (x : Layo
           let below = own.0 in let few = h.rows_few in
           omega arith
 
-      module _ (words : List ℕ) (home : Option Page) (c' : Core E) (owners : List ℕ) (words_are : words ≡ stepped b.side.words (op_at X c (situation_of X c) word)) (home_is : home ≡ home_after c (situation_of X c) b.side.home)
+      module _ (words : List ℕ) (home : Option Page) (c' : Core E) (owners : List ℕ) (words_are : words ≡ stepped b.side.words (op_at X c (situation_of X c) word)) (home_is : home ≡ home_after X c (situation_of X c) b.side.home)
           (core_is : c' ≡ core_after X c (situation_of X c) b.side.home step_found word) (owners_are : owners ≡ owners_by answered s b.side.owners) where
         abbrev with_turn : Bus E
         with_turn = record { side = record { words = words; home = home; senders = slice_set b.side.senders s c'; owners = owners }; receivers = b.receivers }
@@ -379,8 +366,8 @@ module _ {E : Type 0} (X : Election E) (P : Protocol E (Unit {0}) ℕ) (x : Layo
         side_is =
             ap (λ z. record { words = z; home = home; senders = slice_set b.side.senders s c'; owners = owners }) words_are
             ∙ ap (λ z. record { words = stepped b.side.words (op_at X c (situation_of X c) word); home = z; senders = slice_set b.side.senders s c'; owners = owners }) home_is
-            ∙ ap (λ z. record { words = stepped b.side.words (op_at X c (situation_of X c) word); home = home_after c (situation_of X c) b.side.home; senders = slice_set b.side.senders s z; owners = owners }) core_is
-            ∙ ap (λ z. record { words = stepped b.side.words (op_at X c (situation_of X c) word); home = home_after c (situation_of X c) b.side.home; senders = slice_set b.side.senders s (core_after X c (situation_of X c) b.side.home step_found word); owners = z })
+            ∙ ap (λ z. record { words = stepped b.side.words (op_at X c (situation_of X c) word); home = home_after X c (situation_of X c) b.side.home; senders = slice_set b.side.senders s z; owners = owners }) core_is
+            ∙ ap (λ z. record { words = stepped b.side.words (op_at X c (situation_of X c) word); home = home_after X c (situation_of X c) b.side.home; senders = slice_set b.side.senders s (core_after X c (situation_of X c) b.side.home step_found word); owners = z })
             (owners_are ∙ sym (owners_told X c s b.side.owners (situation_of X c) step_found word))
 
         turn_does : Happens X b (Turn s word) with_turn
@@ -398,20 +385,20 @@ module _ {E : Type 0} (X : Election E) (P : Protocol E (Unit {0}) ℕ) (x : Layo
   -- ---- a turn of a receiver
   module _ (r : ℕ) (v : Receiving) (old : slice_get b.receivers r ≡ Some v) where
     own_reader : IsReceiver x h.frames (slice_index b.side.words 0) v
-    own_reader = h.lawful.receivers r v old
+    own_reader = h.lawful.keeps.receiving r v old
 
     pub loads_within : IfSome (receiving_op v) (λ o. register o < length b.side.words)
     loads_within = by_end v.ended (v.place == v.known) (eqb_tells v.place v.known)
       where
         few : 2 ≤ length b.side.words
-        few = let z = h.lawful.side.words in omega arith
+        few = let z = h.lawful.words in omega arith
 
         by_end : (e q : Bool) → ((q ≡ true) × (v.place ≡ v.known)) ⊎ ((q ≡ false) × (v.place ≢ v.known)) → IfSome (cond {A = Option Op} e None (cond q (Some (Load (record { 0 = v.length_at }))) (Some (Load (record { 0 = v.log_at + v.place }))))) (λ o. register o < length b.side.words)
         by_end true q how = tt
         by_end false true how = let a = own_reader.len_at in let z = few in omega arith
         by_end false false (inl how) = absurd (true≢false (sym how.0))
         by_end false false (inr how) =
-            let a = own_reader.log in let z = h.lawful.side.words in let d = own_reader.receives.place_below in let g = own_reader.receives.known_below in let f = h.lawful.side.sending.log.fits in let ne = how.1 in
+            let a = own_reader.log in let z = h.lawful.words in let d = own_reader.receives.place_below in let g = own_reader.receives.known_below in let f = h.lawful.keeps.sending.log.fits in let ne = how.1 in
             let below : v.place < v.known = omega arith in
             omega arith
 

@@ -11,7 +11,8 @@ use Rattle.bus_batch.specs.declared.messages.Item.{Item}
 use Rattle.bus_batch.specs.Messages.{numbered}
 use Rattle.bus_batch.specs.Batches.{Pending, IsKept, frame_of, body_of}
 use Rattle.bus_batch.specs.Frames.{Frame, order_of, items_of, body_items, item_of}
-use Rattle.bus_tenure.specs.Core.{Core, Election, frame_len, has_room, is_empty, is_closing, is_closed, Situation, IsClosed, IsIdle, IsSpent, LooksAtStage, Elects, TakesPage, StoresWord, StoresLength, GivesBack, situation_at, situation_of, resting, electing, holding, begun, saw_stage, waits, elected, rested}
+use Rattle.bus_tenure.specs.Core.{Core, Election, frame_len, has_room, is_empty, is_closing, is_closed}
+use Rattle.bus_tenure.specs.Situations.{Situation, IsClosed, IsIdle, IsSpent, LooksAtStage, Elects, TakesPage, StoresWord, StoresLength, GivesBack, situation_at, situation_of, resting, electing, holding, begun, saw_stage, waits, elected, rested}
 use Rattle.bus_tenure.specs.declared.pages.Page.{Page}
 use Rattle.bus_tenure.specs.declared.phases.Leaving.{Leaving}
 use Rattle.bus_tenure.specs.declared.phases.Leaving.TheVariants.{Sent, FoundEnd, NoRoom}
@@ -19,8 +20,8 @@ use Rattle.bus_tenure.specs.declared.phases.Phase.{Phase}
 use Rattle.bus_tenure.specs.declared.phases.Phase.TheVariants as phase
 use Rattle.bus_deliverylog.specs.Orders.{of_sender}
 use Rattle.bus_world.proofs.LogLaws.{of_sender-append, owned_items, others_items}
-use Rattle.bus_world.specs.Turning.{Side, found, frames_after, laid, turned}
-use Rattle.bus_world.specs.World.{waiting_at, waiting_of}
+use Rattle.bus_world.specs.Turning.{Side, found, laid, turned}
+use Rattle.bus_world.proofs.Waiting.{frames_after, waiting_at, waiting_of}
 
 -- the messages of a frame are those of the batch
 messages_numbered : (owner : SenderNo) (base : ℕ) (ms : List (List ℕ)) → map (λ (i : Item). i.message) (map (item_of owner) (numbered base ms)) ≡ ms
@@ -53,7 +54,7 @@ module _ {E : Type 0} (X : Election E) (side : Side E) (frames : List Frame) (p 
   sent_of fs q = map (λ (i : Item). i.message) (of_sender q (order_of fs))
 
   abbrev Puts : Situation E → Type 0
-  Puts s = (q : ℕ) → sent_of (frames_after c s frames) q ++ waiting_of (slice_get (turned X side p c s word).senders q) ≡ sent_of frames q ++ waiting_of (slice_get side.senders q)
+  Puts s = (q : ℕ) → sent_of (frames_after X c s frames) q ++ waiting_of (slice_get (turned X side p c s word).senders q) ≡ sent_of frames q ++ waiting_of (slice_get side.senders q)
 
   -- where the order stays and the batch keeps its messages
   stays : (c' : Core E) → waiting_of (Some c') ≡ waiting_of (Some c) → (q : ℕ) → sent_of frames q ++ waiting_of (slice_get (slice_set side.senders p c') q) ≡ sent_of frames q ++ waiting_of (slice_get side.senders q)

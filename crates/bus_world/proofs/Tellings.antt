@@ -12,7 +12,8 @@ use Rattle.bus_batch.specs.declared.batches.Phase.{Phase as BatchPhase}
 use Rattle.bus_batch.specs.declared.batches.Phase.TheVariants.{Closing}
 use Rattle.bus_batch.specs.Frames.{Frame, AreFrames, order_of, items_of, tenure_and_owner}
 use Rattle.bus_ownerbits.specs.ElectionKeeps.{OneOwner}
-use Rattle.bus_tenure.specs.Core.{Core, Election, Layout, log_at, is_empty, is_closing, is_closed, has_room, frame_len, Situation, IsClosed, IsIdle, IsSpent, LooksAtStage, Elects, TakesPage, StoresWord, StoresLength, GivesBack, situation_at, situation_of, resting, electing, holding, waits, op_at, answer_at, answer_of_election}
+use Rattle.bus_tenure.specs.Core.{Core, Election, Layout, log_at, is_empty, is_closing, is_closed, has_room, frame_len}
+use Rattle.bus_tenure.specs.Situations.{Situation, IsClosed, IsIdle, IsSpent, LooksAtStage, Elects, TakesPage, StoresWord, StoresLength, GivesBack, situation_at, situation_of, resting, electing, holding, waits, op_at, answer_at, answer_of_election}
 use Rattle.bus_tenure.specs.declared.pages.Page.{Page}
 use Rattle.bus_tenure.specs.declared.phases.Leaving.TheVariants.{Sent, FoundEnd, NoRoom}
 use Rattle.bus_tenure.specs.declared.phases.Phase.{Phase}
@@ -29,7 +30,8 @@ use Rattle.bus_world.specs.Playing.{Answers, TurnAnswers, log_of}
 use Rattle.bus_world.proofs.QueueLaws.{counted_frame, length-items}
 use Rattle.bus_world.specs.Telling.{TurnTells, SenderTells, EventTells}
 use Rattle.bus_world.specs.Trails.{Trails, Reached, extended, turn_deeds, turning_deeds, step_deed}
-use Rattle.bus_world.specs.Turning.{Side, found, IsSide}
+use Rattle.bus_world.specs.Turning.{Side, found}
+use Rattle.bus_world.proofs.TurningLaws.{IsSide, side_of}
 use Rattle.bus_world.specs.World.{Bus, Event, Put, Close, Turn, Recv, Happens}
 use Rattle.bus_world.proofs.EventTrails.{reached_kept, follows}
 use Rattle.bus_world.proofs.Framing.{items_owned, framed, front_lawful}
@@ -55,7 +57,7 @@ module _ {E : Type 0} (X : Election E) (P : Protocol E (Unit {0}) ℕ) (laws : L
   told z = answer_at X c z (found side.words (op_at X c z word)) word
 
   abbrev deeds : Situation E → List Deed
-  deeds z = before ++ turn_deeds X z (found side.words (op_at X c z word)) word (answer.Turn (told z))
+  deeds z = before ++ turn_deeds X c z (found side.words (op_at X c z word)) word (answer.Turn (told z))
 
   abbrev True : Situation E → Type 0
   True z = ((t place : ℕ) → Took (deeds z) t place → Elected (deeds z) t p) → TurnTells x log p c (deeds z) (told z)
@@ -119,7 +121,7 @@ module _ {E : Type 0} (X : Election E) (P : Protocol E (Unit {0}) ℕ) (laws : L
         by_closing (is_closing c.queue.phase) refl fits.1.front fits.1.frames_are (some_messages c.queue.phase (length c.queue.messages) fits.0.something)
       where
         by_closing : (b : Bool) → is_closing c.queue.phase ≡ b → (front : List Frame) → frames ≡ front ++ frame_of c.queue t ∷ [] → (is_closing c.queue.phase ≡ false → 0 < length c.queue.messages)
-            → TurnTells x log p c (before ++ turn_deeds X (GivesBack t page Sent) (found side.words (op_at X c (GivesBack t page Sent) word)) word (answer.Turn (told (GivesBack t page Sent)))) (cond b turn.Closed (turn.Delivered t c.queue.first (next_of c.queue - 1)))
+            → TurnTells x log p c (before ++ turn_deeds X c (GivesBack t page Sent) (found side.words (op_at X c (GivesBack t page Sent) word)) word (answer.Turn (told (GivesBack t page Sent)))) (cond b turn.Closed (turn.Delivered t c.queue.first (next_of c.queue - 1)))
         by_closing true i front e some = tt
         by_closing false i front e some = (
           order_of frames,
@@ -183,7 +185,7 @@ module _ {E : Type 0} (X : Election E) (P : Protocol E (Unit {0}) ℕ) (laws : L
       let is = same_turn t _ told in
       subst (λ z. ((u place : ℕ) → Took (T.deeds s ++ turning_deeds X old.side.words (Some c) word (answer.Turn z)) u place → Elected (T.deeds s ++ turning_deeds X old.side.words (Some c) word (answer.Turn z)) u s)
       → TurnTells x (log_of record { layout = x; bus = old }) s c (T.deeds s ++ turning_deeds X old.side.words (Some c) word (answer.Turn z)) z) (sym is)
-      (turn_true X P laws x owner_is named old.side k.frames k.lawful.side s c i word (T.deeds s)) own
+      (turn_true X P laws x owner_is named old.side k.frames (side_of k.lawful) s c i word (T.deeds s)) own
 
   turn_tells : (s word : ℕ) (t : Answered) → Happens X old (Turn s word) new → Answers X old (Turn s word) (answer.Turn t) new → EventTells x old (Turn s word) (answer.Turn t) (extended X old (Turn s word) (answer.Turn t) T)
   turn_tells s word t d w =

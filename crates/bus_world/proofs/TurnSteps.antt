@@ -1,12 +1,12 @@
 -- A turn in its three parts: the page comes home, the step is taken, the page is laid.
-use Rattle.std.proofs.Common.{◌≡◌, ℕ, ◌+◌, ◌/◌, ◌==◌, Bool, true, false, cond, ◌&&◌, nat_lt, nat_le, Option, Some, None, List, is_some, refl, sym, ◌∙◌, ap, subst}
-use Rattle.bus_tenure.specs.Core.{Core, Election, is_empty, is_closing, is_closed, frame_len, has_room, Situation, IsClosed, IsIdle, IsSpent, LooksAtStage, Elects, TakesPage, AwaitsPage, StoresWord, StoresLength, GivesBack, HasHanded, situation_at, situation_of, waits, begun, saw_stage, elected, rested, op_at, fed_at, answer_at}
+use Rattle.std.proofs.Common.{◌≡◌, ℕ, ◌+◌, ◌/◌, ◌==◌, Bool, true, false, cond, ◌&&◌, nat_lt, nat_le, Option, Some, None, List, is_some, refl, sym, ◌∙◌, ap}
+use Rattle.bus_tenure.specs.Core.{Core, Election, is_empty, is_closing, is_closed, frame_len, has_room}
+use Rattle.bus_tenure.specs.Situations.{Situation, IsClosed, IsIdle, IsSpent, LooksAtStage, Elects, TakesPage, AwaitsPage, StoresWord, StoresLength, GivesBack, HasHanded, situation_at, situation_of, waits, begun, saw_stage, elected, op_at, fed_at, answer_at, PageMove, Stays, Comes, Returns, line_of}
 use Rattle.bus_tenure.specs.declared.pages.Page.{Page}
 use Rattle.bus_tenure.specs.declared.phases.Leaving.TheVariants.{Sent, FoundEnd, NoRoom}
 use Rattle.bus_tenure.specs.declared.phases.Phase.{Phase}
 use Rattle.bus_tenure.specs.declared.phases.Phase.TheVariants as phase
-use Rattle.bus_world.specs.Turning.{laid, stepped, found, home_after, core_after}
-use Rattle.bus_world.specs.TurnParts.{handed, home_handed, laid_at, home_laid}
+use Rattle.bus_world.specs.Turning.{stepped, found, home_moved, core_moved, before_step, after_step, laying, home_after, core_after}
 
 module _ {E : Type 0} (X : Election E) (c : Core E) where
   -- ---- what a situation tells of the phase
@@ -38,90 +38,106 @@ module _ {E : Type 0} (X : Election E) (c : Core E) where
   not_taken z other i t taken = other t (sym i ∙ ap (situation_at X c) taken)
 
   -- ---- the whole turn
-  -- the step is the same
-  after_hand : (z : Situation E) → situation_of X c ≡ z → (word : ℕ) → op_at X (handed c z) (situation_of X (handed c z)) word ≡ op_at X c z word
-  after_hand IsClosed i word = ap (λ z. op_at X c z word) i
-  after_hand IsIdle i word = ap (λ z. op_at X c z word) i
-  after_hand IsSpent i word = ap (λ z. op_at X c z word) i
-  after_hand LooksAtStage i word = ap (λ z. op_at X c z word) i
-  after_hand (Elects t e) i word = ap (λ z. op_at X c z word) i
-  after_hand (TakesPage t) i word = ap (λ z. op_at X c z word) i
-  after_hand (AwaitsPage t) i word = ap (λ z. op_at X c z word) i
-  after_hand (StoresWord t page stored) i word = ap (λ z. op_at X c z word) i
-  after_hand (StoresLength t page stored) i word = ap (λ z. op_at X c z word) i
-  after_hand (GivesBack t page leaving) i word = refl
-  after_hand (HasHanded t leaving) i word = ap (λ z. op_at X c z word) i
+  abbrev move : Situation E → PageMove
+  move z = (line_of X c z).move
 
-  answers_so : (z : Situation E) → situation_of X c ≡ z → (got word : ℕ) → answer_at X (handed c z) (situation_of X (handed c z)) got word ≡ answer_at X c z got word
-  answers_so IsClosed i got word = ap (λ z. answer_at X c z got word) i
-  answers_so IsIdle i got word = ap (λ z. answer_at X c z got word) i
-  answers_so IsSpent i got word = ap (λ z. answer_at X c z got word) i
-  answers_so LooksAtStage i got word = ap (λ z. answer_at X c z got word) i
-  answers_so (Elects t e) i got word = ap (λ z. answer_at X c z got word) i
-  answers_so (TakesPage t) i got word = ap (λ z. answer_at X c z got word) i
-  answers_so (AwaitsPage t) i got word = ap (λ z. answer_at X c z got word) i
-  answers_so (StoresWord t page stored) i got word = ap (λ z. answer_at X c z got word) i
-  answers_so (StoresLength t page stored) i got word = ap (λ z. answer_at X c z got word) i
-  answers_so (GivesBack t page leaving) i got word = refl
-  answers_so (HasHanded t leaving) i got word = ap (λ z. answer_at X c z got word) i
+  -- the sender out of whose hands the page has gone that it gives back
+  abbrev handed : Option Page → Situation E → Core E
+  handed home z = core_moved (before_step (move z)) home c
 
-  -- what laying the page leaves
-  abbrev Lays : Core E → Option Page → Core E → Option Page → Type 0
-  Lays now home core rest = (laid_at now now.phase home ≡ core) × (home_laid now.phase home ≡ rest)
+  -- what is left of its line is the same, with the rest of the move
+  after_hand : (home : Option Page) (z : Situation E) → situation_of X c ≡ z → line_of X (handed home z) (situation_of X (handed home z)) ≡ record (line_of X c z) { move = after_step (move z) }
+  after_hand home IsClosed i = ap (line_of X c) i
+  after_hand home IsIdle i = ap (line_of X c) i
+  after_hand home IsSpent i = ap (line_of X c) i
+  after_hand home LooksAtStage i = ap (line_of X c) i
+  after_hand home (Elects t e) i = ap (line_of X c) i
+  after_hand home (TakesPage t) i = ap (line_of X c) i
+  after_hand home (AwaitsPage t) i = ap (line_of X c) i
+  after_hand home (StoresWord t page stored) i = ap (line_of X c) i
+  after_hand home (StoresLength t page stored) i = ap (line_of X c) i
+  after_hand home (GivesBack t page leaving) i = refl
+  after_hand home (HasHanded t leaving) i = ap (line_of X c) i
 
-  lays_none : (now : Core E) (ph : Phase E) → ((t : ℕ) → ph ≡ phase.Taken t → ⊥) → (home : Option Page) → (laid_at now ph home ≡ now) × (home_laid ph home ≡ home)
-  lays_none now phase.Resting other home = (refl, refl)
-  lays_none now (phase.Electing t e) other home = (refl, refl)
-  lays_none now (phase.Taken t) other home = absurd (other t refl)
-  lays_none now (phase.Holding t page stored published) other home = (refl, refl)
-  lays_none now (phase.Giving t leaving) other home = (refl, refl)
-
-  saw_lays : (got : ℕ) (home : Option Page) → ((t : ℕ) → c.phase ≡ phase.Taken t → ⊥) → Lays (saw_stage X c got) home (saw_stage X c got) home
-  saw_lays got home other = by_tests (waits c got) (nat_le c.layout.rows (got / 2))
+  -- the phase that a step has left tells whether the page is laid
+  rests_on : (z : Situation E) → ((t : ℕ) → z ≡ AwaitsPage t → ⊥) → situation_of X c ≡ z → laying c.phase ≡ Stays
+  rests_on z other i = by_phase c.phase (not_taken z other i)
     where
-      by_tests : (a b : Bool) → let s = cond a c (cond b (record c { least = got / 2 }) (begun X c (got / 2))) in Lays s home s home
-      by_tests true b = lays_none c c.phase other home
-      by_tests false true = lays_none (record c { least = got / 2 }) c.phase other home
-      by_tests false false = (refl, refl)
+      by_phase : (ph : Phase E) → ((t : ℕ) → ph ≡ phase.Taken t → ⊥) → laying ph ≡ Stays
+      by_phase phase.Resting apart = refl
+      by_phase (phase.Electing t e) apart = refl
+      by_phase (phase.Taken t) apart = absurd (apart t refl)
+      by_phase (phase.Holding t page stored published) apart = refl
+      by_phase (phase.Giving t leaving) apart = refl
 
-  elected_lays : (t : ℕ) (e : E) (o : Option ℕ) (home : Option Page) → Lays (elected c t e o) home (elected c t e o) home
-  elected_lays t e None home = (refl, refl)
-  elected_lays t e (Some o) home = by_test (o == c.me)
+  saw_lays : (got : ℕ) → situation_of X c ≡ LooksAtStage → laying (saw_stage X c got).phase ≡ Stays
+  saw_lays got i = by_tests (waits c got) (nat_le c.layout.rows (got / 2))
     where
-      by_test : (a : Bool) → let s = cond a (record c { phase = phase.Electing t e }) (record c { queue = record c.queue { busy = false }; least = t + 1; phase = phase.Resting }) in Lays s home s home
-      by_test true = (refl, refl)
-      by_test false = (refl, refl)
+      by_tests : (a b : Bool) → laying (cond a c (cond b (record c { least = got / 2 }) (begun X c (got / 2)))).phase ≡ Stays
+      by_tests true b = rests_on LooksAtStage (λ t e. cc) i
+      by_tests false true = rests_on LooksAtStage (λ t e. cc) i
+      by_tests false false = refl
 
-  lays_after : (z : Situation E) → situation_of X c ≡ z → (got word : ℕ) (home : Option Page)
-      → Lays (fed_at X (handed c z) (situation_of X (handed c z)) got word) (home_handed c z home) (core_after X c z home got word) (home_after c z home)
-  lays_after IsClosed i got word home = subst (λ z. Lays (fed_at X c z got word) home c home) (sym i) (lays_none c c.phase (not_taken IsClosed (λ t e. cc) i) home)
-  lays_after IsIdle i got word home = subst (λ z. Lays (fed_at X c z got word) home c home) (sym i) (lays_none c c.phase (not_taken IsIdle (λ t e. cc) i) home)
-  lays_after IsSpent i got word home = subst (λ z. Lays (fed_at X c z got word) home c home) (sym i) (lays_none c c.phase (not_taken IsSpent (λ t e. cc) i) home)
-  lays_after LooksAtStage i got word home = subst (λ z. Lays (fed_at X c z got word) home (saw_stage X c got) home) (sym i) (saw_lays got home (not_taken LooksAtStage (λ t e. cc) i))
-  lays_after (Elects t e) i got word home = subst (λ z. Lays (fed_at X c z got word) home (elected c t (X.fed e got word) (X.owner (X.fed e got word))) home) (sym i) (elected_lays t (X.fed e got word) (X.owner (X.fed e got word)) home)
-  lays_after (TakesPage t) i got word None = subst (λ z. Lays (fed_at X c z got word) None (laid c t None) None) (sym i) (refl, refl)
-  lays_after (TakesPage t) i got word (Some page) = subst (λ z. Lays (fed_at X c z got word) (Some page) (laid c t (Some page)) None) (sym i) (refl, refl)
-  lays_after (AwaitsPage t) i got word home = subst (λ z. Lays (fed_at X c z got word) home (laid c t home) None) (sym i) (let taken = awaits c.phase t i in (ap (λ z. laid_at c z home) taken, ap (λ z. home_laid z home) taken))
-  lays_after (StoresWord t page stored) i got word home = subst (λ z. Lays (fed_at X c z got word) home (record c { phase = phase.Holding t page (stored + 1) false }) home) (sym i) (refl, refl)
-  lays_after (StoresLength t page stored) i got word home = subst (λ z. Lays (fed_at X c z got word) home (record c { phase = phase.Holding t page stored true }) home) (sym i) (refl, refl)
-  lays_after (GivesBack t page leaving) i got word home = (refl, refl)
-  lays_after (HasHanded t leaving) i got word home = subst (λ z. Lays (fed_at X c z got word) home (rested c leaving t) home) (sym i) (refl, refl)
+  elected_lays : (t : ℕ) (e : E) (o : Option ℕ) → laying (elected c t e o).phase ≡ Stays
+  elected_lays t e None = refl
+  elected_lays t e (Some o) = by_test (o == c.me)
+    where
+      by_test : (a : Bool) → laying (cond a (record c { phase = phase.Electing t e }) (record c { queue = record c.queue { busy = false }; least = t + 1; phase = phase.Resting })).phase ≡ Stays
+      by_test true = refl
+      by_test false = refl
 
-  module _ (cells : List ℕ) (word : ℕ) (home : Option Page) (given : Core E) (taken : given ≡ handed c (situation_of X c)) where
-    step_same : op_at X given (situation_of X given) word ≡ op_at X c (situation_of X c) word
-    step_same = ap (λ k. op_at X k (situation_of X k) word) taken ∙ after_hand (situation_of X c) refl word
+  lays : (z : Situation E) → situation_of X c ≡ z → (got word : ℕ) → laying (fed_at X c z got word).phase ≡ after_step (move z)
+  lays IsClosed i got word = rests_on IsClosed (λ t e. cc) i
+  lays IsIdle i got word = rests_on IsIdle (λ t e. cc) i
+  lays IsSpent i got word = rests_on IsSpent (λ t e. cc) i
+  lays LooksAtStage i got word = saw_lays got i
+  lays (Elects t e) i got word = elected_lays t (X.fed e got word) (X.owner (X.fed e got word))
+  lays (TakesPage t) i got word = refl
+  lays (AwaitsPage t) i got word = ap laying (awaits c.phase t i)
+  lays (StoresWord t page stored) i got word = refl
+  lays (StoresLength t page stored) i got word = refl
+  lays (GivesBack t page leaving) i got word = refl
+  lays (HasHanded t leaving) i got word = refl
 
-    pub words_so : stepped cells (op_at X given (situation_of X given) word) ≡ stepped cells (op_at X c (situation_of X c) word)
+  -- a move is its two parts
+  home_parts : (m : PageMove) (home : Option Page) → home_moved (after_step m) (home_moved (before_step m) home) ≡ home_moved m home
+  home_parts Stays home = refl
+  home_parts (Comes t) home = refl
+  home_parts (Returns t leaving page) home = refl
+
+  core_parts : (m : PageMove) (home : Option Page) (now : Core E) → core_moved (after_step m) (home_moved (before_step m) home) now ≡ core_moved (after_step m) home now
+  core_parts Stays home now = refl
+  core_parts (Comes t) home now = refl
+  core_parts (Returns t leaving page) home now = refl
+
+  module _ (cells : List ℕ) (word : ℕ) (home : Option Page) (given : Core E) (taken : given ≡ handed home (situation_of X c)) where
+    abbrev z : Situation E
+    z = situation_of X c
+
+    abbrev got : ℕ
+    got = found cells (op_at X c z word)
+
+    left : line_of X given (situation_of X given) ≡ record (line_of X c z) { move = after_step (move z) }
+    left = ap (λ k. line_of X k (situation_of X k)) taken ∙ after_hand home z refl
+
+    step_same : op_at X given (situation_of X given) word ≡ op_at X c z word
+    step_same = ap (λ l. l.op word) left
+
+    pub words_so : stepped cells (op_at X given (situation_of X given) word) ≡ stepped cells (op_at X c z word)
     words_so = ap (stepped cells) step_same
 
-    pub answer_so : answer_at X given (situation_of X given) (found cells (op_at X given (situation_of X given) word)) word ≡ answer_at X c (situation_of X c) (found cells (op_at X c (situation_of X c) word)) word
-    answer_so = ap (λ o. answer_at X given (situation_of X given) (found cells o) word) step_same ∙ ap (λ k. answer_at X k (situation_of X k) (found cells (op_at X c (situation_of X c) word)) word) taken
-        ∙ answers_so (situation_of X c) refl (found cells (op_at X c (situation_of X c) word)) word
+    pub answer_so : answer_at X given (situation_of X given) (found cells (op_at X given (situation_of X given) word)) word ≡ answer_at X c z got word
+    answer_so = ap (λ o. answer_at X given (situation_of X given) (found cells o) word) step_same ∙ ap (λ l. l.answer got word) left
 
-    pub turn_lays : (now : Core E) (rest : Option Page) → now ≡ fed_at X given (situation_of X given) (found cells (op_at X given (situation_of X given) word)) word → rest ≡ home_handed c (situation_of X c) home
-        → Lays now rest (core_after X c (situation_of X c) home (found cells (op_at X c (situation_of X c) word)) word) (home_after c (situation_of X c) home)
-    turn_lays now rest went at_home =
-        let got = found cells (op_at X c (situation_of X c) word) in
-        let now_is = went ∙ ap (λ o. fed_at X given (situation_of X given) (found cells o) word) step_same ∙ ap (λ k. fed_at X k (situation_of X k) got word) taken in
-        subst (λ k. Lays k rest (core_after X c (situation_of X c) home got word) (home_after c (situation_of X c) home)) (sym now_is)
-        (subst (λ r. Lays (fed_at X (handed c (situation_of X c)) (situation_of X (handed c (situation_of X c))) got word) r (core_after X c (situation_of X c) home got word) (home_after c (situation_of X c) home)) (sym at_home) (lays_after (situation_of X c) refl got word home))
+    module _ (now : Core E) (rest : Option Page) (went : now ≡ fed_at X given (situation_of X given) (found cells (op_at X given (situation_of X given) word)) word) (at_home : rest ≡ home_moved (before_step (move z)) home) where
+      now_is : now ≡ fed_at X c z got word
+      now_is = went ∙ ap (λ o. fed_at X given (situation_of X given) (found cells o) word) step_same ∙ ap (λ l. l.fed got word) left
+
+      laid_so : laying now.phase ≡ after_step (move z)
+      laid_so = ap (λ k. laying k.phase) now_is ∙ lays z refl got word
+
+      pub home_so : home_moved (laying now.phase) rest ≡ home_after X c z home
+      home_so = ap (λ m. home_moved m rest) laid_so ∙ ap (home_moved (after_step (move z))) at_home ∙ home_parts (move z) home
+
+      pub core_so : core_moved (laying now.phase) rest now ≡ core_after X c z home got word
+      core_so = ap (λ m. core_moved m rest now) laid_so ∙ ap (λ r. core_moved (after_step (move z)) r now) at_home ∙ core_parts (move z) home now ∙ ap (core_moved (after_step (move z)) home) now_is

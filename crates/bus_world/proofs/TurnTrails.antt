@@ -11,7 +11,8 @@ use Rattle.bus_register.specs.Words.{register, after}
 use Rattle.bus_register.specs.Tables.{of_some, put, Agree}
 use Rattle.bus_register.specs.Proved.TableLaws.{put_here, put_beside, some_or_none, get_set_same, get_set_other}
 use Rattle.bus_register.specs.Protocol.{Protocol, Laws, Starts, counted}
-use Rattle.bus_tenure.specs.Core.{Core, Election, Layout, log_at, row_at, frame_len, has_room, is_empty, is_closing, is_closed, Situation, IsClosed, IsIdle, IsSpent, LooksAtStage, Elects, TakesPage, StoresWord, StoresLength, GivesBack, situation_at, situation_of, resting, electing, holding, begun, waits, elected, rested, answer_of_stage, answer_of_election, answer_at, op_at}
+use Rattle.bus_tenure.specs.Core.{Core, Election, Layout, log_at, row_at, frame_len, has_room, is_empty, is_closing, is_closed}
+use Rattle.bus_tenure.specs.Situations.{Situation, IsClosed, IsIdle, IsSpent, LooksAtStage, Elects, TakesPage, StoresWord, StoresLength, GivesBack, situation_at, situation_of, resting, electing, holding, begun, waits, elected, rested, answer_of_stage, answer_of_election, answer_at, op_at}
 use Rattle.bus_tenure.specs.declared.pages.Page.{Page}
 use Rattle.bus_tenure.specs.declared.phases.Leaving.{Leaving}
 use Rattle.bus_tenure.specs.declared.phases.Leaving.TheVariants.{Sent, FoundEnd, NoRoom}
@@ -24,7 +25,8 @@ use Rattle.bus_ownerbits.proofs.ElectionSteps.{row_within}
 use Rattle.bus_world.specs.Tenures.Standing.{Runs}
 use Rattle.bus_world.proofs.TenuresLaws as tenures
 use Rattle.bus_world.specs.Bus.{IsLayout, least_of, Part, Fits, stands_at}
-use Rattle.bus_world.specs.Turning.{Side, stepped, found, laid, turned, IsSide}
+use Rattle.bus_world.specs.Turning.{Side, stepped, found, laid, turned}
+use Rattle.bus_world.proofs.TurningLaws.{IsSide}
 use Rattle.bus_world.specs.declared.events.Answer.TheVariants as answer
 use Rattle.bus_world.specs.Headline.{Deed, Stepped, Announced, Elected}
 use Rattle.bus_world.specs.Trails.{step_deed, turn_deeds}
@@ -86,7 +88,7 @@ module _ {E : Type 0} (X : Election E) (P : Protocol E (Unit {0}) ℕ) (laws : L
   part = h.sending.parts p c old
 
   abbrev Kept : Situation E → Type 0
-  Kept z = Ties P x (turned X side p c z word) (λ q. D q ++ cond (q == p) (turn_deeds X z (found side.words (op_at X c z word)) word (answer.Turn (answer_at X c z (found side.words (op_at X c z word)) word))) [])
+  Kept z = Ties P x (turned X side p c z word) (λ q. D q ++ cond (q == p) (turn_deeds X c z (found side.words (op_at X c z word)) word (answer.Turn (answer_at X c z (found side.words (op_at X c z word)) word))) [])
 
   follows : (c' : Core E) → next_tenure c ≤ next_tenure c' → GoesOn p c c' (slice_get side.senders) (slice_get (slice_set side.senders p c'))
   follows c' l = record { before = old; now = get_set_same side.senders p c' (slice_get_within side.senders p c old); others = get_set_other side.senders p c'; rises = l }

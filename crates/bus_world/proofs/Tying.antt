@@ -10,7 +10,8 @@ use Rattle.bus_tenure.specs.declared.phases.Phase.{Phase}
 use Rattle.bus_tenure.specs.declared.phases.Phase.TheVariants as phase
 use Rattle.bus_world.specs.Headline.{Deed, HasPut, puts, Announced, Elected, Took, given, heads}
 use Rattle.bus_world.specs.Trails.{Trails}
-use Rattle.bus_world.specs.World.{Bus, put_by, given_at}
+use Rattle.bus_world.specs.World.{Bus, given_at}
+use Rattle.bus_world.proofs.Waiting.{put_by}
 use Rattle.bus_world.proofs.Closings.{Closings}
 
 -- the first tenure in whose election a sender has no part

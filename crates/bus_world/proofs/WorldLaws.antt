@@ -1,27 +1,26 @@
 -- Every event keeps the bus lawful, and a lawful bus keeps its promises.
-use Rattle.std.proofs.Common.{◌≡◌, ◌≢◌, ℕ, zero, suc, ◌+◌, ◌<◌, ◌≤◌, ◌^◌, Bool, true, false, cond, ◌&&◌, ◌==◌, nat_lt, nat_le, Option, Some, None, ◌⊎◌, inl, inr, List, [], ◌∷◌, ◌++◌, length, filter, map, flat_map, take, slice_get, slice_index, slice_set, is_some, arith, refl, sym, ◌∙◌, ap, subst, append_assoc, replicate}
+use Rattle.std.proofs.Common.{◌≡◌, ◌≢◌, ℕ, zero, suc, ◌+◌, ◌<◌, ◌^◌, Bool, true, false, cond, ◌&&◌, ◌==◌, nat_lt, nat_le, Option, Some, None, ◌⊎◌, inl, inr, List, [], ◌∷◌, ◌++◌, length, map, take, slice_get, slice_index, slice_set, is_some, arith, refl, sym, ◌∙◌, ap, subst, append_assoc, replicate}
 use Rattle.std.specs.Prelude.{All}
-use Rattle.std.proofs.lemmas.Bool.{and_parts, cases_eq, cases_lt, leb-true, ltb-true, true≢false}
+use Rattle.std.proofs.lemmas.Bool.{and_parts, cases_eq, cases_lt}
 use Rattle.std.proofs.lemmas.Bool.Decides.{eqb_tells}
 use Rattle.std.proofs.lemmas.Grind.{common_steps}
 use Rattle.std.proofs.lemmas.List.{append-nil, length-append, length-replicate, length-take, get_or_append_left, get_or_past, get_or-replicate}
 use Rattle.std.proofs.Math.Seq.{take-nil}
-use Rattle.std.proofs.lemmas.List.Elements.{All-append, All-from_recursion}
+use Rattle.std.proofs.lemmas.List.Elements.{All-from_recursion}
 use Rattle.std.proofs.lemmas.Option.{same_Some, slice_get_within}
-use Rattle.bus_register.specs.declared.registers.SenderNo.{SenderNo}
 use Rattle.bus_register.specs.Protocol.{Protocol, Laws}
 use Rattle.bus_register.specs.Tables.{of_some}
-use Rattle.bus_batch.specs.declared.batches.Phase.{Phase}
-use Rattle.bus_batch.specs.declared.batches.Phase.TheVariants.{Open, Closing, Closed}
+use Rattle.bus_batch.specs.declared.batches.Phase.TheVariants.{Closing}
 use Rattle.bus_batch.specs.declared.messages.Item.{Item}
-use Rattle.bus_batch.specs.Messages.{IsMessage, Numbered}
-use Rattle.bus_batch.specs.Batches.{Pending, IsKept, next_of, frame_of}
-use Rattle.bus_batch.specs.Frames.{IsBadWord, Frame, Body, Messages, EndMark, order_of, items_of, body_items, item_of, log_words, frame_words, body_words, message_words, log_pieces}
-use Rattle.bus_tenure.specs.Core.{Core, Election, Layout, log_at, words_of, is_empty, situation_of, Situation, IsClosed, IsIdle, IsSpent, LooksAtStage, Elects, TakesPage, AwaitsPage, StoresWord, StoresLength, GivesBack, HasHanded}
+use Rattle.bus_batch.specs.Messages.{IsMessage}
+use Rattle.bus_batch.specs.Batches.{next_of}
+use Rattle.bus_batch.specs.Frames.{IsBadWord, Frame, order_of, log_words, frame_words, log_pieces}
+use Rattle.bus_tenure.specs.Core.{Core, Election, Layout, log_at, words_of, is_empty}
+use Rattle.bus_tenure.specs.Situations.{situation_of, line_of}
 use Rattle.bus_tenure.specs.declared.phases.Phase.{Phase as SenderPhase}
 use Rattle.bus_tenure.specs.declared.phases.Phase.TheVariants as phase
 use Rattle.bus_deliverylog.specs.Orders.{of_sender}
-use Rattle.bus_world.specs.Log.{sent, read, AreCounted, Logged, Knows}
+use Rattle.bus_world.specs.Log.{read, AreCounted, Logged, Knows}
 use Rattle.bus_world.proofs.LogLaws.{length-read, log_words-append}
 use Rattle.bus_world.proofs.ReceivingLaws.{goes_on, Receives-known, Receives-word, Receives-append}
 use Rattle.bus_world.specs.Receiving.{Receives}
@@ -34,12 +33,16 @@ use Rattle.bus_world.specs.Tenures.Standing.{Rests}
 use Rattle.bus_world.proofs.TenuresLaws as tenures
 use Rattle.bus_world.specs.Bus.{IsLayout, Part, Fits, Sending, least_of, stands_at, standing_of}
 use Rattle.bus_world.proofs.BusLaws as bus
-use Rattle.bus_world.specs.Turning.{Side, turned, IsSide, frames_after}
+use Rattle.bus_world.specs.Turning.{Side, turned}
+use Rattle.bus_world.proofs.TurningLaws.{IsSide, side_of}
 use Rattle.bus_world.proofs.TurningLaws as turning
 use Rattle.bus_world.proofs.PutLaws as puts
+use Rattle.bus_world.proofs.Accepting as accepting
+use Rattle.bus_world.proofs.Accepting.{Accepted, Puts, Closes, accept, AreAccepted, open_is, not_busy, empty_is, idle_rests}
 use Rattle.bus_tenure.specs.declared.phases.Leaving.{Leaving}
 use Rattle.bus_register.specs.Proved.TableLaws.{get_set_same, get_set_other, some_of}
-use Rattle.bus_world.specs.World.{frames_by, event_frames, accepted_by, accepted, waiting_at, Event, Put, Close, Turn, Recv, IsEvent, Happens, SenderDoes, ReceiverDoes, recv_found, Bus, is_open, can_put, can_close, put_in, close_in, with_sender, LawfulBus, IsReceiver, RecvStep, IsNew, new_page, put_by, waiting_of}
+use Rattle.bus_world.specs.World.{Event, Put, Close, Turn, Recv, IsEvent, Happens, SenderDoes, ReceiverDoes, recv_found, Bus, is_open, can_put, can_close, put_in, close_in, with_sender, LawfulBus, IsReceiver, RecvStep, IsNew, new_page}
+use Rattle.bus_world.proofs.Waiting.{with_frame, frames_after, frames_by, event_frames, accepted_by, accepted, waiting_at, put_by, waiting_of}
 
 -- ---- numbers
 pub counted_at : (first : ℕ) (items : List Item) (k : ℕ) (i : Item) → AreCounted first items → slice_get items k ≡ Some i → i.number ≡ first + k
@@ -47,135 +50,22 @@ counted_at first [] k i a e = absurd cc
 counted_at first (x ∷ items) zero i a e = ap (λ (z : Item). z.number) (sym (same_Some _ _ e)) ∙ a.0 ∙ (let z : first ≡ first + 0 = omega arith in z)
 counted_at first (x ∷ items) (suc k) i a e = counted_at (first + 1) items k i a.1 e ∙ (let z : first + 1 + k ≡ first + suc k = omega arith in z)
 
--- ---- each item has a word
-shorter : {A : Type 0} (b : Bool) (x : A) (ys : List A) (n : ℕ) → length ys ≤ n → length (cond b (x ∷ ys) ys) ≤ suc n
-shorter true x ys n l = omega arith
-shorter false x ys n l = omega arith
-
-filter_short : (p : Item → Bool) (xs : List Item) → length (filter p xs) ≤ length xs
-filter_short p [] = omega arith
-filter_short p (x ∷ xs) = shorter (p x) x (filter p xs) (length xs) (filter_short p xs)
-
-items_short : (owner : SenderNo) (ms : List Numbered) → length (map (item_of owner) ms) ≤ length (flat_map message_words ms)
-items_short owner [] = omega arith
-items_short owner (m ∷ ms) = let a = length-append (message_words m) (flat_map message_words ms) in let b = items_short owner ms in omega arith
-
-body_short : (owner : SenderNo) (b : Body) → length (body_items owner b) ≤ length (body_words b)
-body_short owner (Messages ms) = items_short owner ms
-body_short owner EndMark = omega arith
-
-order_short : (frames : List Frame) → length (order_of frames).items ≤ length (log_words frames)
-order_short [] = omega arith
-order_short (f ∷ frames) =
-    let a = length-append (items_of f) (order_of frames).items in let b = length-append (frame_words f) (log_words frames) in let d = body_short f.owner f.body in let e = order_short frames in omega arith
-
-sent_short : (s : ℕ) (frames : List Frame) → sent s frames ≤ length (log_words frames)
-sent_short s frames = let a = filter_short (λ i. i.sender.0 == s) (order_of frames).items in let b = order_short frames in omega arith
-
--- ---- tests
-open_is : (ph : Phase) → is_open ph ≡ true → ph ≡ Open
-open_is Open e = refl
-open_is Closing e = absurd (true≢false (sym e))
-open_is Closed e = absurd (true≢false (sym e))
-
-not_busy : (b : Bool) → cond b false true ≡ true → b ≡ false
-not_busy true e = absurd (true≢false (sym e))
-not_busy false e = refl
-
-empty_is : {A : Type 0} (xs : List A) → is_empty xs ≡ true → xs ≡ []
-empty_is [] e = refl
-empty_is (x ∷ xs) e = absurd (true≢false (sym e))
-
 same_side : {E : Type 0} (P : Protocol E (Unit {0}) ℕ) (x : Layout) (frames : List Frame) (side side' : Side E) → side' ≡ side → IsSide P x side frames → IsSide P x side' frames
 same_side P x frames side side' e h = subst (λ z. IsSide P x z frames) (sym e) h
-
--- a batch that is not on its way is that of a sender that has begun no tenure
-idle_rests : {E : Type 0} (words : ℕ → ℕ) (frames : List Frame) (c : Core E) (ph : SenderPhase E) → Fits words frames c ph → c.queue.busy ≡ false → ph ≡ phase.Resting
-idle_rests words frames c phase.Resting f e = refl
-idle_rests words frames c (phase.Electing t u) f e = absurd (true≢false (sym f.0.busy ∙ e))
-idle_rests words frames c (phase.Taken t) f e = absurd f
-idle_rests words frames c (phase.Holding t page stored true) f e = absurd (true≢false (sym f.0.busy ∙ e))
-idle_rests words frames c (phase.Holding t page stored false) f e = absurd (true≢false (sym f.0.busy ∙ e))
-idle_rests words frames c (phase.Giving t leaving) f e = absurd f
 
 module _ {E : Type 0} (X : Election E) (P : Protocol E (Unit {0}) ℕ) (laws : Laws X.op X.fed P OneOwner) (x : Layout) (ok : IsLayout x) (width : x.width ≡ P.width x.senders)
     (starts : (n me at : ℕ) → X.started n me x.rounds at ≡ P.started n me tt at) (owner_is : (e : E) → X.owner e ≡ P.output e) where
   module _ (side : Side E) (frames : List Frame) (h : IsSide P x side frames) (p : ℕ) (c : Core E) (old : slice_get side.senders p ≡ Some c) where
-    abbrev W : ℕ → ℕ
-    W = slice_index side.words
-
-    own : Part x W frames p c
-    own = h.sending.parts p c old
-
-    replaced : (q : Pending) → c.queue.busy ≡ false → q.busy ≡ false → q.sender ≡ c.queue.sender → q.first ≡ c.queue.first → IsKept q → IsSide P x (with_sender side p (record c { queue = q })) frames
-    replaced q idle idle' sender first kept =
-        let rests = idle_rests W frames c c.phase own.fits idle in
-        let fits = subst (Fits W frames c) rests own.fits in
-        record {
-          words = h.words;
-          sending = bus.spends X P laws x ok width W side.home (slice_get side.senders) side.owners frames h.sending p c (record c { queue = q }) (slice_get (slice_set side.senders p (record c { queue = q }))) old
-              (turning.placed X P laws x ok width starts owner_is side frames h p c old 0 (record c { queue = q })) (turning.others X P laws x ok width starts owner_is side frames h p c old 0 (record c { queue = q })) rests rests (omega arith)
-              record {
-                layout = own.layout;
-                me = own.me;
-                below = own.below;
-                sender = ap (λ (z : SenderNo). z.0) sender ∙ own.sender;
-                queue = kept;
-                fits = subst (Fits W frames (record c { queue = q })) (sym rests) (idle', first ∙ fits.1);
-              };
-        }
-
-    -- its numbers stay far below their range
-    first_below : (ph : SenderPhase E) → Fits W frames c ph → c.queue.first ≤ length (log_words frames)
-    first_below phase.Resting f = let short = sent_short c.me frames in let base = f.1 in omega arith
-    first_below (phase.Electing t u) f = let short = sent_short c.me frames in let base = f.1 in omega arith
-    first_below (phase.Taken t) f = absurd f
-    first_below (phase.Holding t page stored true) f =
-        let written = f.1 in let short = sent_short c.me written.front in let base = written.base in
-        let more = ap length (ap log_words written.frames_are ∙ log_words-append written.front (frame_of c.queue t)) ∙ length-append (log_words written.front) (frame_words (frame_of c.queue t)) in
-        omega arith
-    first_below (phase.Holding t page stored false) f = let short = sent_short c.me frames in let base = f.1.base in omega arith
-    first_below (phase.Giving t leaving) f = absurd f
-
     pub numbers_fit : next_of c.queue < 2 ^ 48
-    numbers_fit =
-        let few = own.queue.few in let first = first_below c.phase own.fits in let cap = ok.capacity in let within = h.sending.log.fits in
-        let size : length (log_words frames) ≡ W 0 = sym (ap length h.sending.log.words_are) ∙ length-read W (log_at x) (W 0) in
-        omega arith
+    numbers_fit = accepting.numbers_fit X P laws x ok width (slice_index side.words) side.home side.owners frames p (slice_get side.senders) h.sending c old
 
-    put_lawful : (bytes : List ℕ) → All (λ byte. byte < 256) bytes → IsSide P x (with_sender side p (put_in c bytes)) frames
-    put_lawful bytes small = by_test (can_put c.queue (length bytes)) refl
-      where
-        by_test : (b : Bool) → can_put c.queue (length bytes) ≡ b → IsSide P x (with_sender side p (cond b (record c { queue = record c.queue { messages = c.queue.messages ++ bytes ∷ [] } }) c)) frames
-        by_test false e = turning.unchanged X P laws x ok width starts owner_is side frames h p c old 0
-        by_test true e =
-            let opened = and_parts (is_open c.queue.phase) (cond c.queue.busy false true && (nat_le (length bytes) 56 && nat_lt (length c.queue.messages) 16)) e in
-            let idled = and_parts (cond c.queue.busy false true) (nat_le (length bytes) 56 && nat_lt (length c.queue.messages) 16) opened.1 in
-            let sized = and_parts (nat_le (length bytes) 56) (nat_lt (length c.queue.messages) 16) idled.1 in
-            let idle = not_busy c.queue.busy idled.0 in
-            let is = open_is c.queue.phase opened.0 in
-            let short = leb-true (length bytes) 56 sized.0 in
-            let room = ltb-true (length c.queue.messages) 16 sized.1 in
-            let more = length-append c.queue.messages (bytes ∷ []) in
-            let fit = numbers_fit in
-            replaced (record c.queue { messages = c.queue.messages ++ bytes ∷ [] }) idle idle refl refl record {
-              few = (omega arith);
-              each = All-append IsMessage c.queue.messages (bytes ∷ []) own.queue.each (All-from_recursion IsMessage (bytes ∷ []) ((short, small), tt));
-              numbers = (omega arith);
-              alone = λ z. absurd (let bad = sym is ∙ z in let wrong : ⊥ = cc in wrong);
-              owner_bits = own.queue.owner_bits;
-            }
-
-    close_lawful : IsSide P x (with_sender side p (close_in c)) frames
-    close_lawful = by_test (can_close c.queue) refl
-      where
-        by_test : (b : Bool) → can_close c.queue ≡ b → IsSide P x (with_sender side p (cond b (record c { queue = record c.queue { phase = Closing } }) c)) frames
-        by_test false e = turning.unchanged X P laws x ok width starts owner_is side frames h p c old 0
-        by_test true e =
-            let tests = and_parts (cond c.queue.busy false true) (is_empty c.queue.messages) (and_parts (is_open c.queue.phase) (cond c.queue.busy false true && is_empty c.queue.messages) e).1 in
-            let idle = not_busy c.queue.busy tests.0 in
-            let none = empty_is c.queue.messages tests.1 in
-            replaced (record c.queue { phase = Closing }) idle idle refl refl record { few = own.queue.few; each = own.queue.each; numbers = own.queue.numbers; alone = λ z. none; owner_bits = own.queue.owner_bits }
+    -- what it accepts keeps what the senders keep
+    accept_lawful : (a : Accepted) → AreAccepted (a ∷ []) → IsSide P x (with_sender side p (accept c a)) frames
+    accept_lawful a each = record {
+      words = h.words;
+      sending = accepting.grows X P laws x ok width (slice_index side.words) side.home side.owners frames p (a ∷ []) each (slice_get side.senders) h.sending c old (slice_get (slice_set side.senders p (accept c a)))
+          (get_set_other side.senders p (accept c a)) (get_set_same side.senders p (accept c a) (slice_get_within side.senders p c old));
+    }
 
 -- ---- receivers
 index-read : (words : ℕ → ℕ) (at k i : ℕ) → i < k → slice_index (read words at k) i ≡ words (at + i)
@@ -255,18 +145,12 @@ module _ (x : Layout) (frames : List Frame) (words words' : ℕ → ℕ) (log : 
       record { senders = h.senders; log = h.log; len_at = h.len_at; log_words = h.log_words; receives = Receives-append x.senders frames f (words 0) (words' 0) v.place v.known v.frames size (omega arith) h.receives }
 
 -- a turn publishes at most one frame
-one_or_none : {E : Type 0} (c : Core E) (s : Situation E) (frames : List Frame) → (frames_after c s frames ≡ frames) ⊎ ((f : Frame) × (frames_after c s frames ≡ frames ++ f ∷ []))
-one_or_none c IsClosed frames = inl refl
-one_or_none c IsIdle frames = inl refl
-one_or_none c IsSpent frames = inl refl
-one_or_none c LooksAtStage frames = inl refl
-one_or_none c (Elects t e) frames = inl refl
-one_or_none c (TakesPage t) frames = inl refl
-one_or_none c (AwaitsPage t) frames = inl refl
-one_or_none c (StoresWord t page stored) frames = inl refl
-one_or_none c (StoresLength t page stored) frames = inr (frame_of c.queue t, refl)
-one_or_none c (GivesBack t page leaving) frames = inl refl
-one_or_none c (HasHanded t leaving) frames = inl refl
+one_or_none : (more : Option Frame) (frames : List Frame) → (with_frame more frames ≡ frames) ⊎ ((f : Frame) × (with_frame more frames ≡ frames ++ f ∷ []))
+one_or_none None frames = inl refl
+one_or_none (Some f) frames = inr (f, refl)
+
+lawful_of : {E : Type 0} {P : Protocol E (Unit {0}) ℕ} {x : Layout} {b : Bus E} {frames : List Frame} → IsSide P x b.side frames → ((r : ℕ) (v : Receiving) → slice_get b.receivers r ≡ Some v → IsReceiver x frames (slice_index b.side.words 0) v) → LawfulBus P x b frames
+lawful_of side receiving = record { words = side.words; keeps = record { sending = side.sending; receiving = receiving } }
 
 -- the frames of one bus begin those of the other
 pub record Continues (frames frames' : List Frame) : Type 0 where
@@ -294,44 +178,44 @@ module _ {E : Type 0} (X : Election E) (P : Protocol E (Unit {0}) ℕ) (laws : L
     quiet : IsSide P x b'.side frames → b'.receivers ≡ b.receivers → Left frames b'
     quiet side same = record {
       frames_now = frames;
-      lawful = record { side = side; receivers = λ r v e. receiver_stays x frames (slice_index b.side.words) (slice_index b'.side.words) h.side.sending.log side.sending.log v (h.receivers r v (ap (λ z. slice_get z r) (sym same) ∙ e)) };
+      lawful = lawful_of side (λ r v e. receiver_stays x frames (slice_index b.side.words) (slice_index b'.side.words) h.keeps.sending.log side.sending.log v (h.keeps.receiving r v (ap (λ z. slice_get z r) (sym same) ∙ e)));
       continues = record { more = []; together = append-nil frames };
     }
 
     longer : (f : Frame) → IsSide P x b'.side (frames ++ f ∷ []) → b'.receivers ≡ b.receivers → Left frames b'
     longer f side same = record {
       frames_now = frames ++ f ∷ [];
-      lawful = record { side = side; receivers = λ r v e. receiver_follows x frames (slice_index b.side.words) (slice_index b'.side.words) h.side.sending.log f side.sending.log v (h.receivers r v (ap (λ z. slice_get z r) (sym same) ∙ e)) };
+      lawful = lawful_of side (λ r v e. receiver_follows x frames (slice_index b.side.words) (slice_index b'.side.words) h.keeps.sending.log f side.sending.log v (h.keeps.receiving r v (ap (λ z. slice_get z r) (sym same) ∙ e)));
       continues = record { more = f ∷ []; together = refl };
     }
 
     put_left : (s : ℕ) (bytes : List ℕ) → All (λ byte. byte < 256) bytes → (o : Option (Core E)) → slice_get b.side.senders s ≡ o → SenderDoes b.side o (λ c. with_sender b.side s (put_in c bytes)) b'.side → b'.receivers ≡ b.receivers → After frames frames b'
     unfolding quiet longer
-    put_left s bytes small None i d same = record { left = quiet (same_side P x frames b.side b'.side d h.side) same; now_is = refl }
-    put_left s bytes small (Some c) i d same = record { left = quiet (same_side P x frames (with_sender b.side s (put_in c bytes)) b'.side d (put_lawful X P laws x ok width starts owner_is b.side frames h.side s c i bytes small)) same; now_is = refl }
+    put_left s bytes small None i d same = record { left = quiet (same_side P x frames b.side b'.side d (side_of h)) same; now_is = refl }
+    put_left s bytes small (Some c) i d same = record { left = quiet (same_side P x frames (with_sender b.side s (put_in c bytes)) b'.side d (accept_lawful X P laws x ok width starts owner_is b.side frames (side_of h) s c i (Puts bytes) (small, tt))) same; now_is = refl }
 
     close_left : (s : ℕ) (o : Option (Core E)) → slice_get b.side.senders s ≡ o → SenderDoes b.side o (λ c. with_sender b.side s (close_in c)) b'.side → b'.receivers ≡ b.receivers → After frames frames b'
     unfolding quiet longer
-    close_left s None i d same = record { left = quiet (same_side P x frames b.side b'.side d h.side) same; now_is = refl }
-    close_left s (Some c) i d same = record { left = quiet (same_side P x frames (with_sender b.side s (close_in c)) b'.side d (close_lawful X P laws x ok width starts owner_is b.side frames h.side s c i)) same; now_is = refl }
+    close_left s None i d same = record { left = quiet (same_side P x frames b.side b'.side d (side_of h)) same; now_is = refl }
+    close_left s (Some c) i d same = record { left = quiet (same_side P x frames (with_sender b.side s (close_in c)) b'.side d (accept_lawful X P laws x ok width starts owner_is b.side frames (side_of h) s c i Closes tt)) same; now_is = refl }
 
     turn_left : (s word : ℕ) (o : Option (Core E)) → slice_get b.side.senders s ≡ o → SenderDoes b.side o (λ c. turned X b.side s c (situation_of X c) word) b'.side → b'.receivers ≡ b.receivers → After frames (frames_by X o frames) b'
     unfolding quiet longer
-    turn_left s word None i d same = record { left = quiet (same_side P x frames b.side b'.side d h.side) same; now_is = refl }
+    turn_left s word None i d same = record { left = quiet (same_side P x frames b.side b'.side d (side_of h)) same; now_is = refl }
     turn_left s word (Some c) i d same =
-        let side = subst (λ z. IsSide P x z (frames_after c (situation_of X c) frames)) (sym d) (turning.turn_lawful X P laws x ok width starts owner_is b.side frames h.side s c i word) in
-        elim (one_or_none c (situation_of X c) frames) [
+        let side = subst (λ z. IsSide P x z (frames_after X c (situation_of X c) frames)) (sym d) (turning.turn_lawful X P laws x ok width starts owner_is b.side frames (side_of h) s c i word) in
+        elim (one_or_none (line_of X c (situation_of X c)).publishes frames) [
           | inl e ↦ record { left = quiet (subst (IsSide P x b'.side) e side) same; now_is = sym e }
           | inr f ↦ record { left = longer f.0 (subst (IsSide P x b'.side) f.1 side) same; now_is = sym f.1 }
         ]
 
     recv_left : (r : ℕ) (o : Option Receiving) → slice_get b.receivers r ≡ o → b'.side ≡ b.side → ReceiverDoes b.side.words b.receivers r o b'.receivers → After frames frames b'
     unfolding quiet longer
-    recv_left r None i d rs = record { left = quiet (same_side P x frames b.side b'.side d h.side) rs; now_is = refl }
+    recv_left r None i d rs = record { left = quiet (same_side P x frames b.side b'.side d (side_of h)) rs; now_is = refl }
     recv_left r (Some v) i d rs =
         let words = slice_index b.side.words in
-        let log = h.side.sending.log in
-        let own = h.receivers r v i in
+        let log = h.keeps.sending.log in
+        let own = h.keeps.receiving r v i in
         let goes : v.ended ≡ false → RecvStep v (recv_found b.side.words v) rs.1 rs.0 → IsReceiver x frames (words 0) rs.0 = λ going step. elim (eqb_tells v.place v.known) [
           | inl y ↦ at_length x frames words log v own rs.1 rs.0 y.1 (subst (λ z. RecvStep v z rs.1 rs.0) (ap (λ q. cond q (words v.length_at) (words (v.log_at + v.place))) y.0 ∙ ap words own.len_at) step)
           | inr y ↦ at_word x frames words log v own rs.1 rs.0 y.1 (subst (λ z. RecvStep v z rs.1 rs.0) (ap (λ q. cond q (words v.length_at) (words (v.log_at + v.place))) y.0 ∙ ap (λ q. words (q + v.place)) own.log) step)
@@ -345,13 +229,10 @@ module _ {E : Type 0} (X : Election E) (P : Protocol E (Unit {0}) ℕ) (laws : L
           now_is = refl;
           left = record {
             frames_now = frames;
-            lawful = record {
-              side = same_side P x frames b.side b'.side d h.side;
-              receivers = λ q w e. subst (λ z. IsReceiver x frames (slice_index z.words 0) w) (sym d) (elim (cases_eq q r) [
-                | inl j ↦ subst (IsReceiver x frames (words 0)) (same_Some _ _ (sym (get_set_same b.receivers r rs.0 (slice_get_within b.receivers r v i)) ∙ ap (λ z. slice_get z r) (sym rs.3) ∙ ap (slice_get b'.receivers) (sym j) ∙ e)) next_is
-                | inr ne ↦ h.receivers q w (sym (get_set_other b.receivers r rs.0 q ne) ∙ ap (λ z. slice_get z q) (sym rs.3) ∙ e)
-              ]);
-            };
+            lawful = lawful_of {b = b'} (same_side P x frames b.side b'.side d (side_of h)) (λ q w e. subst (λ z. IsReceiver x frames (slice_index z.words 0) w) (sym d) (elim (cases_eq q r) [
+              | inl j ↦ subst (IsReceiver x frames (words 0)) (same_Some _ _ (sym (get_set_same b.receivers r rs.0 (slice_get_within b.receivers r v i)) ∙ ap (λ z. slice_get z r) (sym rs.3) ∙ ap (slice_get b'.receivers) (sym j) ∙ e)) next_is
+              | inr ne ↦ h.keeps.receiving q w (sym (get_set_other b.receivers r rs.0 q ne) ∙ ap (λ z. slice_get z q) (sym rs.3) ∙ e)
+            ]));
             continues = record { more = []; together = append-nil frames };
           };
         }
@@ -401,7 +282,7 @@ module _ {E : Type 0} (X : Election E) (P : Protocol E (Unit {0}) ℕ) (laws : L
             ap (waiting_at (record c { queue = record c.queue { phase = Closing } })) rests ∙ sym (ap (waiting_at c) rests) ∙ sym (append-nil (waiting_of (Some c)))
 
     own_part : (s : ℕ) (c : Core E) → slice_get b.side.senders s ≡ Some c → Part x (slice_index b.side.words) frames s c
-    own_part s c i = h.side.sending.parts s c i
+    own_part s c i = h.keeps.sending.parts s c i
 
     put_puts : (s : ℕ) (bytes : List ℕ) (o : Option (Core E)) → slice_get b.side.senders s ≡ o → SenderDoes b.side o (λ c. with_sender b.side s (put_in c bytes)) b'.side → (q : ℕ) → put_by b' frames q ≡ put_by b frames q ++ cond (q == s) (accepted_by o bytes) []
     put_puts s bytes None i d q = bus_same d frames q ∙ sym (append-nil (put_by b frames q)) ∙ ap (λ z. put_by b frames q ++ z) (sym (same_arms (q == s)))
@@ -429,7 +310,7 @@ module _ {E : Type 0} (X : Election E) (P : Protocol E (Unit {0}) ℕ) (laws : L
     turn_event_puts s word None i d q = bus_same d frames q ∙ sym (append-nil (put_by b frames q))
     turn_event_puts s word (Some c) i d q =
         let part = own_part s c i in
-        ap (λ (z : Side E). map (λ (v : Item). v.message) (of_sender q (order_of (frames_after c (situation_of X c) frames))) ++ waiting_of (slice_get z.senders q)) d
+        ap (λ (z : Side E). map (λ (v : Item). v.message) (of_sender q (order_of (frames_after X c (situation_of X c) frames))) ++ waiting_of (slice_get z.senders q)) d
         ∙ puts.turn_puts X b.side frames s c i part.queue part.sender word (λ t leaving g. never_giving c c.phase refl part.fits t leaving g) q ∙ sym (append-nil (put_by b frames q))
 
     pub event_puts : (e : Event) → Happens X b e b' → (q : ℕ) → put_by b' (event_frames X b e frames) q ≡ put_by b frames q ++ accepted b e q
@@ -485,20 +366,17 @@ module _ {E : Type 0} (X : Election E) (P : Protocol E (Unit {0}) ℕ) (laws : L
     }
 
     pub new_is_lawful : LawfulBus P x b []
-    new_is_lawful = record {
-      side = record { words = ap length new.words ∙ length-replicate (words_of x) 0; sending = new_sending };
-      receivers = λ r v e.
-          let n = new.receivers r v e in
-          let none : take v.place (log_words []) ≡ [] = take-nil v.place in
-          record {
-            senders = n.0;
-            log = n.1;
-            len_at = n.2;
-            log_words = n.3;
-            receives = record {
-              place_below = (let a = n.4 in let d = n.5 in omega arith);
-              known_below = (let a = n.4 in omega arith);
-              has_read = subst (λ z. HasRead x.senders (take z (log_words [])) (take z (log_pieces [])) v.frames) (sym n.5) n.7;
-            };
+    new_is_lawful = lawful_of (record { words = ap length new.words ∙ length-replicate (words_of x) 0; sending = new_sending }) (λ r v e.
+        let n = new.receivers r v e in
+        let none : take v.place (log_words []) ≡ [] = take-nil v.place in
+        record {
+          senders = n.0;
+          log = n.1;
+          len_at = n.2;
+          log_words = n.3;
+          receives = record {
+            place_below = (let a = n.4 in let d = n.5 in omega arith);
+            known_below = (let a = n.4 in omega arith);
+            has_read = subst (λ z. HasRead x.senders (take z (log_words [])) (take z (log_pieces [])) v.frames) (sym n.5) n.7;
           };
-    }
+        })

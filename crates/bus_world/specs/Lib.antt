@@ -3,7 +3,6 @@ pub mod Tenures
 pub mod Log
 pub mod Bus
 pub mod Turning
-pub mod TurnParts
 pub mod Receiving
 pub mod World
 pub mod Starting

@@ -6,7 +6,8 @@ use Rattle.bus_batch.specs.declared.batches.PutFault.{PutFault}
 use Rattle.bus_batch.specs.declared.batches.CloseFault.{CloseFault}
 use Rattle.bus_deliverylog.specs.Receiving.{Receiving}
 use Rattle.bus_deliverylog.specs.declared.receiving.RecvTurn.{RecvTurn}
-use Rattle.bus_tenure.specs.Core.{Core, Election, Layout, log_at, situation_of, op_at, answer_at}
+use Rattle.bus_tenure.specs.Core.{Core, Election, Layout, log_at}
+use Rattle.bus_tenure.specs.Situations.{situation_of, op_at, answer_at}
 use Rattle.bus_tenure.specs.Elections.{layout_with}
 use Rattle.bus_tenure.specs.declared.pages.Page.{Page}
 use Rattle.bus_register.specs.Protocol.{Protocol}

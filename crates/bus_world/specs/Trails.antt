@@ -7,7 +7,8 @@ use Rattle.bus_register.specs.Protocol.{Protocol}
 use Rattle.bus_batch.specs.Frames.{Frame, Order, Spells}
 use Rattle.bus_deliverylog.specs.declared.receiving.RecvTurn.{RecvTurn}
 use Rattle.bus_deliverylog.specs.Orders.{IsPrefixOfOrder}
-use Rattle.bus_tenure.specs.Core.{Core, Election, Layout, Situation, IsClosed, IsIdle, IsSpent, LooksAtStage, Elects, TakesPage, AwaitsPage, StoresWord, StoresLength, GivesBack, HasHanded, situation_of, kind_at, op_at}
+use Rattle.bus_tenure.specs.Core.{Core, Election, Layout}
+use Rattle.bus_tenure.specs.Situations.{Situation, situation_of, tenure_at, kind_at, op_at, chosen_at}
 use Rattle.bus_tenure.specs.declared.turns.Turn.{Turn as Answered}
 use Rattle.bus_world.specs.Headline.{Deed, HasPut, HasClosed, Stepped, Took, given, IsPrefix, Promises}
 use Rattle.bus_world.specs.Turning.{found}
@@ -17,49 +18,21 @@ use Rattle.bus_world.specs.declared.events.Answer.{Answer}
 use Rattle.bus_world.specs.declared.events.Answer.TheVariants as answer
 use Rattle.bus_world.specs.declared.events.StepFault.{StepFault}
 
--- the tenure of a step
-abbrev pub tenure_at : {E : Type 0} → Situation E → Option ℕ
-tenure_at IsClosed = None
-tenure_at IsIdle = None
-tenure_at IsSpent = None
-tenure_at LooksAtStage = None
-tenure_at (Elects t e) = Some t
-tenure_at (TakesPage t) = Some t
-tenure_at (AwaitsPage t) = Some t
-tenure_at (StoresWord t page stored) = Some t
-tenure_at (StoresLength t page stored) = Some t
-tenure_at (GivesBack t page leaving) = Some t
-tenure_at (HasHanded t leaving) = Some t
-
--- the owner with which a step ended an election
-abbrev pub chosen_at : {E : Type 0} → Election E → Situation E → ℕ → ℕ → Option ℕ
-chosen_at X IsClosed got word = None
-chosen_at X IsIdle got word = None
-chosen_at X IsSpent got word = None
-chosen_at X LooksAtStage got word = None
-chosen_at X (Elects t e) got word = X.owner (X.fed e got word)
-chosen_at X (TakesPage t) got word = None
-chosen_at X (AwaitsPage t) got word = None
-chosen_at X (StoresWord t page stored) got word = None
-chosen_at X (StoresLength t page stored) got word = None
-chosen_at X (GivesBack t page leaving) got word = None
-chosen_at X (HasHanded t leaving) got word = None
-
 abbrev pub step_deed : Option Kind → Option ℕ → ℕ → Option ℕ → Answered → List Deed
 step_deed None tenure got chose turn = []
 step_deed (Some k) tenure got chose turn = Stepped tenure k got chose turn ∷ []
 
 -- what a turn of a sender in this situation adds to its trail, where its step found this number and this is its answer
-abbrev pub turn_deeds : {E : Type 0} → Election E → Situation E → ℕ → ℕ → Answer → List Deed
-turn_deeds X z got word (answer.Number n) = []
-turn_deeds X z got word answer.Closing = []
-turn_deeds X z got word (answer.Turn t) = step_deed (kind_at X z) (tenure_at z) got (chosen_at X z got word) t
-turn_deeds X z got word (answer.Recv t) = []
+abbrev pub turn_deeds : {E : Type 0} → Election E → Core E → Situation E → ℕ → ℕ → Answer → List Deed
+turn_deeds X c z got word (answer.Number n) = []
+turn_deeds X c z got word answer.Closing = []
+turn_deeds X c z got word (answer.Turn t) = step_deed (kind_at X c z) (tenure_at X c z) got (chosen_at X c z got word) t
+turn_deeds X c z got word (answer.Recv t) = []
 
 -- of the sender that there is
 abbrev pub turning_deeds : {E : Type 0} → Election E → List ℕ → Option (Core E) → ℕ → Answer → List Deed
 turning_deeds X words None word a = []
-turning_deeds X words (Some c) word a = turn_deeds X (situation_of X c) (found words (op_at X c (situation_of X c) word)) word a
+turning_deeds X words (Some c) word a = turn_deeds X c (situation_of X c) (found words (op_at X c (situation_of X c) word)) word a
 
 -- what a put of these bytes adds, by its answer
 abbrev pub put_deeds : List ℕ → Answer → List Deed

@@ -1,14 +1,14 @@
 -- One turn of one sender, on the words, the page, the senders and the owners.
-use Rattle.std.specs.Prelude.{◌≡◌, ℕ, false, Option, Some, None, List, [], ◌∷◌, ◌++◌, length, slice_get, slice_index, slice_set}
+use Rattle.std.specs.Prelude.{ℕ, false, Option, Some, None, List, [], ◌∷◌, ◌++◌, slice_index, slice_set, if◌then◌else◌}
 use Rattle.bus_register.specs.declared.registers.Op.{Op}
 use Rattle.bus_register.specs.Words.{register, after}
-use Rattle.bus_register.specs.Protocol.{Protocol}
-use Rattle.bus_batch.specs.Frames.{Frame}
-use Rattle.bus_batch.specs.Batches.{frame_of}
-use Rattle.bus_tenure.specs.Core.{Core, Election, Layout, words_of, Situation, IsClosed, IsIdle, IsSpent, LooksAtStage, Elects, TakesPage, AwaitsPage, StoresWord, StoresLength, GivesBack, HasHanded, op_at, fed_at, page_after}
+use Rattle.bus_tenure.specs.Core.{Core, Election}
+use Rattle.bus_tenure.specs.Situations.{Situation, situation_of, PageMove, Stays, Comes, Returns, line_of, op_at, fed_at}
 use Rattle.bus_tenure.specs.declared.pages.Page.{Page}
+use Rattle.bus_tenure.specs.declared.phases.Phase.{Phase}
 use Rattle.bus_tenure.specs.declared.phases.Phase.TheVariants as phase
-use Rattle.bus_world.specs.Bus.{Sending}
+use Rattle.bus_tenure.specs.declared.turns.Turn.{Turn as Answered}
+use Rattle.bus_tenure.specs.declared.turns.Turn.TheVariants as turn
 
 -- what senders share, and the senders
 pub record Side (E : Type 0) : Type 0 where
@@ -28,76 +28,76 @@ abbrev pub found : List ℕ → Option Op → ℕ
 found words None = 0
 found words (Some o) = slice_index words (register o)
 
--- the page moves to the sender that takes it, and home from the one that gives it back
-abbrev pub home_after : {E : Type 0} → Core E → Situation E → Option Page → Option Page
-home_after c IsClosed home = home
-home_after c IsIdle home = home
-home_after c IsSpent home = home
-home_after c LooksAtStage home = home
-home_after c (Elects t e) home = home
-home_after c (TakesPage t) home = None
-home_after c (AwaitsPage t) home = None
-home_after c (StoresWord t page stored) home = home
-home_after c (StoresLength t page stored) home = home
-home_after c (GivesBack t page leaving) home = Some (page_after c t page leaving)
-home_after c (HasHanded t leaving) home = home
+-- ---- the page
+-- where it is at home, after it has moved so
+abbrev pub home_moved : PageMove → Option Page → Option Page
+home_moved Stays home = home
+home_moved (Comes t) home = None
+home_moved (Returns t leaving page) home = Some page
 
 abbrev pub laid : {E : Type 0} → Core E → ℕ → Option Page → Core E
 laid c t None = record c { phase = phase.Taken t }
 laid c t (Some page) = record c { phase = phase.Holding t page 0 false }
 
--- the sender after its turn; one that takes the page has it laid before it
-abbrev pub core_after : {E : Type 0} → Election E → Core E → Situation E → Option Page → ℕ → ℕ → Core E
-core_after X c IsClosed home got word = c
-core_after X c IsIdle home got word = c
-core_after X c IsSpent home got word = c
-core_after X c LooksAtStage home got word = fed_at X c LooksAtStage got word
-core_after X c (Elects t e) home got word = fed_at X c (Elects t e) got word
-core_after X c (TakesPage t) home got word = laid c t home
-core_after X c (AwaitsPage t) home got word = laid c t home
-core_after X c (StoresWord t page stored) home got word = fed_at X c (StoresWord t page stored) got word
-core_after X c (StoresLength t page stored) home got word = fed_at X c (StoresLength t page stored) got word
-core_after X c (GivesBack t page leaving) home got word = fed_at X c (GivesBack t page leaving) got word
-core_after X c (HasHanded t leaving) home got word = fed_at X c (HasHanded t leaving) got word
+-- the sender, after the page has moved so, which was at home or not
+abbrev pub core_moved : {E : Type 0} → PageMove → Option Page → Core E → Core E
+core_moved Stays home c = c
+core_moved (Comes t) home c = laid c t home
+core_moved (Returns t leaving page) home c = record c { phase = phase.Giving t leaving }
 
-abbrev pub owners_after : {E : Type 0} → Situation E → ℕ → List ℕ → List ℕ
-owners_after IsClosed p owners = owners
-owners_after IsIdle p owners = owners
-owners_after IsSpent p owners = owners
-owners_after LooksAtStage p owners = owners
-owners_after (Elects t e) p owners = owners
-owners_after (TakesPage t) p owners = owners ++ p ∷ []
-owners_after (AwaitsPage t) p owners = owners
-owners_after (StoresWord t page stored) p owners = owners
-owners_after (StoresLength t page stored) p owners = owners
-owners_after (GivesBack t page leaving) p owners = owners
-owners_after (HasHanded t leaving) p owners = owners
+-- of a turn's move the part before its step: a page that is given back goes home, out of the hands of the sender
+abbrev pub before_step : PageMove → PageMove
+before_step Stays = Stays
+before_step (Comes t) = Stays
+before_step (Returns t leaving page) = Returns t leaving page
+
+-- that part of the turn that a sender takes
+abbrev pub handing : {E : Type 0} → Election E → Core E → PageMove
+handing X c = before_step (line_of X c (situation_of X c)).move
+
+-- and the part after it: a page that was taken is laid before the sender
+abbrev pub after_step : PageMove → PageMove
+after_step Stays = Stays
+after_step (Comes t) = Comes t
+after_step (Returns t leaving page) = Stays
+
+-- that part, as the phase shows it that the step has left
+abbrev pub laying : {E : Type 0} → Phase E → PageMove
+laying phase.Resting = Stays
+laying (phase.Electing t e) = Stays
+laying (phase.Taken t) = Comes t
+laying (phase.Holding t page stored published) = Stays
+laying (phase.Giving t leaving) = Stays
+
+-- ---- after a turn in a situation
+abbrev pub home_after : {E : Type 0} → Election E → Core E → Situation E → Option Page → Option Page
+home_after X c z home = home_moved (line_of X c z).move home
+
+-- the sender, with the page laid before it where it has taken it
+abbrev pub core_after : {E : Type 0} → Election E → Core E → Situation E → Option Page → ℕ → ℕ → Core E
+core_after X c z home got word = core_moved (after_step (line_of X c z).move) home (fed_at X c z got word)
+
+abbrev pub owners_after : {E : Type 0} → Election E → Core E → Situation E → ℕ → List ℕ → List ℕ
+owners_after X c z p owners = if (line_of X c z).takes then owners ++ p ∷ [] else owners
 
 -- after a turn of sender p, which held c and was in this situation
 abbrev pub turned : {E : Type 0} → Election E → Side E → ℕ → Core E → Situation E → ℕ → Side E
 turned X side p c situation word =
     record {
       words = stepped side.words (op_at X c situation word);
-      home = home_after c situation side.home;
+      home = home_after X c situation side.home;
       senders = slice_set side.senders p (core_after X c situation side.home (found side.words (op_at X c situation word)) word);
-      owners = owners_after situation p side.owners;
+      owners = owners_after X c situation p side.owners;
     }
 
--- the frames of the log after it: one more where the length is stored
-abbrev pub frames_after : {E : Type 0} → Core E → Situation E → List Frame → List Frame
-frames_after c IsClosed frames = frames
-frames_after c IsIdle frames = frames
-frames_after c IsSpent frames = frames
-frames_after c LooksAtStage frames = frames
-frames_after c (Elects t e) frames = frames
-frames_after c (TakesPage t) frames = frames
-frames_after c (AwaitsPage t) frames = frames
-frames_after c (StoresWord t page stored) frames = frames
-frames_after c (StoresLength t page stored) frames = frames ++ frame_of c.queue t ∷ []
-frames_after c (GivesBack t page leaving) frames = frames
-frames_after c (HasHanded t leaving) frames = frames
-
--- what the senders keep, with these frames in the log
-pub record IsSide {E : Type 0} (P : Protocol E (Unit {0}) ℕ) (x : Layout) (side : Side E) (frames : List Frame) : Type 0 where
-  pub words : length side.words ≡ words_of x
-  pub sending : Sending P x (slice_index side.words) side.home (slice_get side.senders) side.owners frames
+-- who took the pages, as the answer of a turn tells it
+abbrev pub owners_by : Answered → ℕ → List ℕ → List ℕ
+owners_by turn.Idle p owners = owners
+owners_by turn.Waiting p owners = owners
+owners_by turn.Going p owners = owners
+owners_by (turn.Lost t o) p owners = owners
+owners_by (turn.Own t) p owners = owners ++ p ∷ []
+owners_by (turn.Delivered t first last) p owners = owners
+owners_by turn.Full p owners = owners
+owners_by turn.Closed p owners = owners
+owners_by turn.Spent p owners = owners

@@ -1,24 +1,22 @@
 -- The bus as a machine that plays events, and what it always keeps.
-use Rattle.std.specs.Prelude.{◌≡◌, ◌≢◌, ℕ, ◌+◌, ◌<◌, Bool, true, false, ◌&&◌, Option, Some, None, List, [], ◌∷◌, ◌++◌, length, take, map, nat_lt, nat_le, slice_get, slice_index, slice_set, All, if◌then◌else◌, ◌==◌}
+use Rattle.std.specs.Prelude.{◌≡◌, ◌≢◌, ℕ, ◌+◌, ◌<◌, Bool, true, false, ◌&&◌, Option, Some, None, List, [], ◌∷◌, ◌++◌, length, take, replicate, nat_lt, nat_le, slice_get, slice_index, slice_set, All, if◌then◌else◌, ◌==◌}
 use Rattle.bus_register.specs.declared.limits.TheConstants.{MOST_BYTES, MOST_MESSAGES, MOST_SENDERS}
 use Rattle.bus_register.specs.Protocol.{Protocol}
 use Rattle.bus_batch.specs.declared.batches.Phase.{Phase}
 use Rattle.bus_batch.specs.declared.batches.Phase.TheVariants.{Open, Closing, Closed}
 use Rattle.bus_batch.specs.Batches.{Pending}
-use Rattle.bus_batch.specs.Frames.{Frame, Order, order_of, order_in, log_pieces}
+use Rattle.bus_batch.specs.Frames.{Frame, Order, order_in, log_pieces}
 use Rattle.bus_deliverylog.specs.declared.receiving.RecvTurn.{RecvTurn}
 use Rattle.bus_deliverylog.specs.declared.receiving.RecvTurn.TheVariants.{End as RecvEnd}
 use Rattle.bus_deliverylog.specs.Receiving.{Receiving, HasReceived, TakesLength, TakesWord}
-use Rattle.bus_tenure.specs.Core.{Core, Election, Layout, log_at, is_empty, situation_of}
-use Rattle.bus_tenure.specs.declared.phases.Phase.{Phase as SenderPhase}
+use Rattle.bus_tenure.specs.Core.{Core, Election, Layout, log_at, words_of, is_empty}
+use Rattle.bus_tenure.specs.Situations.{situation_of}
 use Rattle.bus_tenure.specs.declared.phases.Phase.TheVariants as phase
-use Rattle.bus_deliverylog.specs.Orders.{of_sender}
 use Rattle.bus_world.specs.Receiving.{Receives}
-use Rattle.std.specs.Prelude.{replicate}
 use Rattle.bus_batch.specs.Reading.{HasRead}
 use Rattle.bus_tenure.specs.declared.pages.Page.{Page}
-use Rattle.bus_tenure.specs.Core.{words_of}
-use Rattle.bus_world.specs.Turning.{Side, turned, IsSide, frames_after}
+use Rattle.bus_world.specs.Bus.{Sending}
+use Rattle.bus_world.specs.Turning.{Side, turned}
 
 -- the senders' side, and the receivers
 pub record Bus (E : Type 0) : Type 0 where
@@ -99,27 +97,15 @@ pub record IsReceiver (x : Layout) (frames : List Frame) (len : ℕ) (v : Receiv
   pub log_words : v.log_words ≡ x.capacity
   pub receives : Receives x.senders frames len v.place v.known v.frames
 
+-- words, page, senders and receivers by number, whatever holds them, with who took the pages and the frames of the log
+pub record Lawful {E : Type 0} (P : Protocol E (Unit {0}) ℕ) (x : Layout) (words : ℕ → ℕ) (home : Option Page) (senders : ℕ → Option (Core E)) (receivers : ℕ → Option Receiving) (owners : List ℕ) (frames : List Frame) : Type 0 where
+  pub sending : Sending P x words home senders owners frames
+  pub receiving : (r : ℕ) (v : Receiving) → receivers r ≡ Some v → IsReceiver x frames (words 0) v
+
+-- a machine has just the words of its layout
 pub record LawfulBus {E : Type 0} (P : Protocol E (Unit {0}) ℕ) (x : Layout) (bus : Bus E) (frames : List Frame) : Type 0 where
-  pub side : IsSide P x bus.side frames
-  pub receivers : (r : ℕ) (v : Receiving) → slice_get bus.receivers r ≡ Some v → IsReceiver x frames (slice_index bus.side.words 0) v
-
--- ---- what was put, and what was given
--- messages of a sender that are not in the order yet
-abbrev pub waiting_at : {E : Type 0} → Core E → SenderPhase E → List (List ℕ)
-waiting_at c phase.Resting = c.queue.messages
-waiting_at c (phase.Electing t e) = c.queue.messages
-waiting_at c (phase.Taken t) = c.queue.messages
-waiting_at c (phase.Holding t page stored true) = []
-waiting_at c (phase.Holding t page stored false) = c.queue.messages
-waiting_at c (phase.Giving t leaving) = []
-
-abbrev pub waiting_of : {E : Type 0} → Option (Core E) → List (List ℕ)
-waiting_of None = []
-waiting_of (Some c) = waiting_at c c.phase
-
--- what a sender has put: its messages in the order, and those that are not in it yet
-abbrev pub put_by : {E : Type 0} → Bus E → List Frame → ℕ → List (List ℕ)
-put_by bus frames s = map (λ i. i.message) (of_sender s (order_of frames)) ++ waiting_of (slice_get bus.side.senders s)
+  pub words : length bus.side.words ≡ words_of x
+  pub keeps : Lawful P x (slice_index bus.side.words) bus.side.home (slice_get bus.side.senders) (slice_get bus.receivers) bus.side.owners frames
 
 -- what a receiver was given: the items and the end among the pieces below its place
 abbrev pub given_at : List Frame → Receiving → Order
@@ -139,26 +125,3 @@ pub record IsNew {E : Type 0} (x : Layout) (bus : Bus E) : Type 0 where
   pub senders : (p : ℕ) (c : Core E) → slice_get bus.side.senders p ≡ Some c → (p < x.senders) × (c ≡ new_core x p)
   pub owners : bus.side.owners ≡ []
   pub receivers : (r : ℕ) (v : Receiving) → slice_get bus.receivers r ≡ Some v → (v.frames.senders ≡ x.senders) × (v.log_at ≡ log_at x) × (v.length_at ≡ 0) × (v.log_words ≡ x.capacity) × (v.known ≡ 0) × (v.place ≡ 0) × (v.ended ≡ false) × HasRead x.senders [] [] v.frames
-
--- ---- what an event puts
-abbrev pub frames_by : {E : Type 0} → Election E → Option (Core E) → List Frame → List Frame
-frames_by X None frames = frames
-frames_by X (Some c) frames = frames_after c (situation_of X c) frames
-
--- the frames of the log after an event
-abbrev pub event_frames : {E : Type 0} → Election E → Bus E → Event → List Frame → List Frame
-event_frames X b (Put s bytes) frames = frames
-event_frames X b (Close s) frames = frames
-event_frames X b (Turn s word) frames = frames_by X (slice_get b.side.senders s) frames
-event_frames X b (Recv r) frames = frames
-
-abbrev pub accepted_by : {E : Type 0} → Option (Core E) → List ℕ → List (List ℕ)
-accepted_by None bytes = []
-accepted_by (Some c) bytes = if can_put c.queue (length bytes) then bytes ∷ [] else []
-
--- the message that an event puts for a sender: none, or the bytes of a put that is accepted
-abbrev pub accepted : {E : Type 0} → Bus E → Event → ℕ → List (List ℕ)
-accepted b (Put s bytes) q = if q == s then accepted_by (slice_get b.side.senders s) bytes else []
-accepted b (Close s) q = []
-accepted b (Turn s word) q = []
-accepted b (Recv r) q = []

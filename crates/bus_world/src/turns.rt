@@ -4,14 +4,15 @@ ghost use Rattle.std.specs.Prelude.{◌≡◌, ℕ, ◌<◌, ◌^◌, length, ma
 ghost use Rattle.std.specs.Prelude.{IsSome, IfSome, Some, IfOk, IfErr, OnOk};
 ghost use Rattle.bus_register.specs.declared.registers.Op.{Op};
 ghost use Rattle.bus_register.specs.Words.{register, SumFits};
-ghost use Rattle.bus_tenure.specs.Core.{words_of, Elects, situation_of, op_at, fed_at, answer_at};
+ghost use Rattle.bus_tenure.specs.Core.{words_of};
+ghost use Rattle.bus_tenure.specs.Situations.{Elects, situation_of, op_at, fed_at, answer_at};
 ghost use Rattle.bus_tenure.specs.Elections.{Elector, election_of};
-ghost use Rattle.bus_world.specs.Turning.{stepped, found, home_after, core_after};
+ghost use Rattle.bus_world.specs.Turning.{stepped, found, home_moved, core_moved, handing, laying};
+ghost use Rattle.bus_world.specs.Turning.{home_after, core_after, owners_by};
 ghost use Rattle.bus_deliverylog.specs.Receiving.{receiving_op};
 ghost use Rattle.bus_batch.specs.Batches.{next_of};
 ghost use Rattle.bus_world.specs.World.{RecvDoes, put_in, close_in};
 ghost use Rattle.bus_world.specs.Playing.{PutGives, PutRefused, CloseGives, CloseRefused};
-ghost use Rattle.bus_world.specs.TurnParts.{handed, home_handed, laid_at, home_laid, owners_by};
 
 use crate::events::StepFault;
 use arrayvec::ArrayVec;
@@ -24,9 +25,9 @@ use bus_tenure::{Page, SenderCore, Turn};
 /// The page comes home from a sender that is to give it back.
 fn hand_home<Q: Ratifier + Drop>(home: &mut Option<Page>, core: &mut SenderCore<Q>)
     ensures home { let X = election_of Q.Ratifier in
-        home.new ≡ home_handed core.old (situation_of X core.old) home.old }
+        home.new ≡ home_moved (handing X core.old) home.old }
     ensures core { let X = election_of Q.Ratifier in
-        core.new ≡ handed core.old (situation_of X core.old) }
+        core.new ≡ core_moved (handing X core.old) home.old core.old }
 {
     if core.gives_back() {
         *home = Some(core.hand());
@@ -60,8 +61,8 @@ fn take_step<Q: Ratifier + Drop>(cells: &mut Cells, core: &mut SenderCore<Q>, wo
 
 /// The page is laid before a sender that has taken it.
 fn lay_page<Q: Ratifier + Drop>(home: &mut Option<Page>, core: &mut SenderCore<Q>)
-    ensures core { core.new ≡ laid_at core.old core.old.phase home.old }
-    ensures home { home.new ≡ home_laid core.old.phase home.old }
+    ensures core { core.new ≡ core_moved (laying core.old.phase) home.old core.old }
+    ensures home { home.new ≡ home_moved (laying core.old.phase) home.old }
 {
     if core.awaits_page() {
         if let Some(page) = home.take() {
@@ -88,7 +89,7 @@ pub fn turn_sender<Q: Ratifier + Drop>(
     ensures words { let X = election_of Q.Ratifier in
         cells.new ≡ stepped cells.old (op_at X core.old (situation_of X core.old) word) }
     ensures home { let X = election_of Q.Ratifier in
-        home.new ≡ home_after core.old (situation_of X core.old) home.old }
+        home.new ≡ home_after X core.old (situation_of X core.old) home.old }
     ensures core { let X = election_of Q.Ratifier in
         core.new ≡ core_after X core.old (situation_of X core.old) home.old
         (found cells.old (op_at X core.old (situation_of X core.old) word)) word }

@@ -1,5 +1,5 @@
 use Rattle.std.proofs.Common.{sym, ◌∙◌, ap}
-use Rattle.bus_tenure.specs.Core.{situation_at, fed_at, answer_at}
+use Rattle.bus_tenure.specs.Situations.{situation_at, fed_at, answer_at}
 use Rattle.bus_tenure.specs.Elections.{election_with}
 use Rattle.bus_tenure.proofs.cores.SenderCore.feed.Goals as goal
 

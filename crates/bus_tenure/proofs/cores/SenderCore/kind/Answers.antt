@@ -1,6 +1,6 @@
 use Rattle.std.proofs.Common.{IfSome, inl, sym, ◌∙◌, ap, subst}
 use Rattle.bus_tenure.specs.Causes.{HasCause, HasStoredAll}
-use Rattle.bus_tenure.specs.Core.{holding}
+use Rattle.bus_tenure.specs.Situations.{holding}
 use Rattle.bus_tenure.proofs.Caused.{word_cause, length_cause, back_cause, election_cause}
 use Rattle.bus_tenure.proofs.cores.SenderCore.kind.Goals as goal
 

@@ -1,5 +1,5 @@
 use Rattle.std.proofs.Common.{sym, ◌∙◌, ap}
-use Rattle.bus_tenure.specs.Core.{situation_at, op_at}
+use Rattle.bus_tenure.specs.Situations.{situation_at, op_at}
 use Rattle.bus_tenure.specs.Elections.{election_with}
 use Rattle.bus_tenure.proofs.Lawful.{place_below}
 use Rattle.bus_tenure.proofs.cores.SenderCore.next.Goals as goal

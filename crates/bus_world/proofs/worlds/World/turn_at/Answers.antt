@@ -1,6 +1,6 @@
 use Rattle.std.proofs.Common.{refl, subst, arith, ◌∙◌, sym, ap, map}
 use Rattle.bus_tenure.specs.Elections.{elections, election_with, layout_with}
-use Rattle.bus_world.specs.TurnParts.{owners_by}
+use Rattle.bus_world.specs.Turning.{owners_by}
 use Rattle.bus_world.proofs.PlayingLaws.{there, no_sender, now_has, turn_unknown, turn_idle, words_enough, sums_fit, owner_fits, turn_happens, turn_sits, turn_answers, numbers_many}
 use Rattle.bus_world.specs.Telling.{SenderCauses}
 use Rattle.bus_world.proofs.worlds.World.turn_at.Goals as goal

@@ -1,0 +1,58 @@
+-- What senders have put, and what an event puts and publishes.
+use Rattle.std.proofs.Common.{ℕ, true, false, cond, ◌==◌, Option, Some, None, List, [], ◌∷◌, ◌++◌, length, map, slice_get}
+use Rattle.bus_batch.specs.Frames.{Frame, order_of}
+use Rattle.bus_deliverylog.specs.Orders.{of_sender}
+use Rattle.bus_tenure.specs.Core.{Core, Election}
+use Rattle.bus_tenure.specs.Situations.{Situation, situation_of, line_of}
+use Rattle.bus_tenure.specs.declared.phases.Phase.{Phase}
+use Rattle.bus_tenure.specs.declared.phases.Phase.TheVariants as phase
+use Rattle.bus_world.specs.World.{Bus, Event, Put, Close, Turn, Recv, can_put}
+
+-- ---- the frames of the log
+abbrev pub with_frame : Option Frame → List Frame → List Frame
+with_frame None frames = frames
+with_frame (Some f) frames = frames ++ f ∷ []
+
+-- after a turn in a situation: one more where the length was stored
+abbrev pub frames_after : {E : Type 0} → Election E → Core E → Situation E → List Frame → List Frame
+frames_after X c z frames = with_frame (line_of X c z).publishes frames
+
+abbrev pub frames_by : {E : Type 0} → Election E → Option (Core E) → List Frame → List Frame
+frames_by X None frames = frames
+frames_by X (Some c) frames = frames_after X c (situation_of X c) frames
+
+-- after an event
+abbrev pub event_frames : {E : Type 0} → Election E → Bus E → Event → List Frame → List Frame
+event_frames X b (Put s bytes) frames = frames
+event_frames X b (Close s) frames = frames
+event_frames X b (Turn s word) frames = frames_by X (slice_get b.side.senders s) frames
+event_frames X b (Recv r) frames = frames
+
+-- ---- messages
+-- of a sender those that are not in the order yet
+abbrev pub waiting_at : {E : Type 0} → Core E → Phase E → List (List ℕ)
+waiting_at c phase.Resting = c.queue.messages
+waiting_at c (phase.Electing t e) = c.queue.messages
+waiting_at c (phase.Taken t) = c.queue.messages
+waiting_at c (phase.Holding t page stored true) = []
+waiting_at c (phase.Holding t page stored false) = c.queue.messages
+waiting_at c (phase.Giving t leaving) = []
+
+abbrev pub waiting_of : {E : Type 0} → Option (Core E) → List (List ℕ)
+waiting_of None = []
+waiting_of (Some c) = waiting_at c c.phase
+
+-- what a sender has put: its messages in the order, and those that are not in it yet
+abbrev pub put_by : {E : Type 0} → Bus E → List Frame → ℕ → List (List ℕ)
+put_by bus frames s = map (λ i. i.message) (of_sender s (order_of frames)) ++ waiting_of (slice_get bus.side.senders s)
+
+abbrev pub accepted_by : {E : Type 0} → Option (Core E) → List ℕ → List (List ℕ)
+accepted_by None bytes = []
+accepted_by (Some c) bytes = cond (can_put c.queue (length bytes)) (bytes ∷ []) []
+
+-- the message that an event puts for a sender: none, or the bytes of a put that is accepted
+abbrev pub accepted : {E : Type 0} → Bus E → Event → ℕ → List (List ℕ)
+accepted b (Put s bytes) q = cond (q == s) (accepted_by (slice_get b.side.senders s) bytes) []
+accepted b (Close s) q = []
+accepted b (Turn s word) q = []
+accepted b (Recv r) q = []
