@@ -1,0 +1,199 @@
+-- What a sender accepts between its steps keeps what senders, words, page and owners keep.
+use Rattle.std.proofs.Common.{◌≡◌, ◌≢◌, ℕ, zero, suc, ◌+◌, ◌<◌, ◌≤◌, ◌^◌, Bool, true, false, cond, ◌&&◌, ◌==◌, nat_lt, nat_le, Option, Some, None, ◌⊎◌, inl, inr, List, [], ◌∷◌, ◌++◌, length, filter, map, flat_map, arith, refl, sym, ◌∙◌, ap, subst}
+use mathlib.Core.Path.{fun_ext}
+use Rattle.std.specs.Prelude.{All}
+use Rattle.std.proofs.lemmas.Bool.{and_parts, cases_eq, leb-true, ltb-true, true≢false}
+use Rattle.std.proofs.lemmas.List.{length-append}
+use Rattle.std.proofs.lemmas.List.Elements.{All-append, All-from_recursion}
+use Rattle.bus_register.specs.declared.registers.SenderNo.{SenderNo}
+use Rattle.bus_register.specs.Protocol.{Protocol, Laws}
+use Rattle.bus_register.specs.Tables.{put, Beside}
+use Rattle.bus_register.specs.TableLaws.{put_here, put_beside}
+use Rattle.bus_batch.specs.declared.batches.Phase.{Phase}
+use Rattle.bus_batch.specs.declared.batches.Phase.TheVariants.{Open, Closing, Closed}
+use Rattle.bus_batch.specs.declared.messages.Item.{Item}
+use Rattle.bus_batch.specs.Messages.{IsMessage, Numbered}
+use Rattle.bus_batch.specs.Batches.{Pending, IsKept, next_of, frame_of}
+use Rattle.bus_batch.specs.Frames.{Frame, Body, Messages, EndMark, order_of, items_of, body_items, item_of, log_words, frame_words, body_words, message_words}
+use Rattle.bus_tenure.specs.Core.{Core, Election, Layout, log_at, is_empty}
+use Rattle.bus_tenure.specs.declared.pages.Page.{Page}
+use Rattle.bus_tenure.specs.declared.phases.Phase.{Phase as SenderPhase}
+use Rattle.bus_tenure.specs.declared.phases.Phase.TheVariants as phase
+use Rattle.bus_ownerbits.specs.ElectionKeeps.{OneOwner}
+use Rattle.bus_world.specs.Log.{sent}
+use Rattle.bus_world.proofs.LogLaws.{length-read, log_words-append}
+use Rattle.bus_world.specs.Bus.{IsLayout, Part, Fits, Sending}
+use Rattle.bus_world.proofs.BusLaws as bus
+use Rattle.bus_world.specs.World.{is_open, can_put, can_close, put_in, close_in}
+use Rattle.bus_table.specs.Steps.{Accepted, Puts, Closes, accept, accepting, AreAccepted}
+
+-- ---- each item has a word
+shorter : {A : Type 0} (b : Bool) (x : A) (ys : List A) (n : ℕ) → length ys ≤ n → length (cond b (x ∷ ys) ys) ≤ suc n
+shorter true x ys n l = omega arith
+shorter false x ys n l = omega arith
+
+filter_short : (p : Item → Bool) (xs : List Item) → length (filter p xs) ≤ length xs
+filter_short p [] = omega arith
+filter_short p (x ∷ xs) = shorter (p x) x (filter p xs) (length xs) (filter_short p xs)
+
+items_short : (owner : SenderNo) (ms : List Numbered) → length (map (item_of owner) ms) ≤ length (flat_map message_words ms)
+items_short owner [] = omega arith
+items_short owner (m ∷ ms) = let a = length-append (message_words m) (flat_map message_words ms) in let b = items_short owner ms in omega arith
+
+body_short : (owner : SenderNo) (b : Body) → length (body_items owner b) ≤ length (body_words b)
+body_short owner (Messages ms) = items_short owner ms
+body_short owner EndMark = omega arith
+
+order_short : (frames : List Frame) → length (order_of frames).items ≤ length (log_words frames)
+order_short [] = omega arith
+order_short (f ∷ frames) =
+    let a = length-append (items_of f) (order_of frames).items in let b = length-append (frame_words f) (log_words frames) in let d = body_short f.owner f.body in let e = order_short frames in omega arith
+
+sent_short : (s : ℕ) (frames : List Frame) → sent s frames ≤ length (log_words frames)
+sent_short s frames = let a = filter_short (λ i. i.sender.0 == s) (order_of frames).items in let b = order_short frames in omega arith
+
+-- ---- tests
+open_is : (ph : Phase) → is_open ph ≡ true → ph ≡ Open
+open_is Open e = refl
+open_is Closing e = absurd (true≢false (sym e))
+open_is Closed e = absurd (true≢false (sym e))
+
+not_busy : (b : Bool) → cond b false true ≡ true → b ≡ false
+not_busy true e = absurd (true≢false (sym e))
+not_busy false e = refl
+
+empty_is : {A : Type 0} (xs : List A) → is_empty xs ≡ true → xs ≡ []
+empty_is [] e = refl
+empty_is (x ∷ xs) e = absurd (true≢false (sym e))
+
+idle_rests : {E : Type 0} (words : ℕ → ℕ) (frames : List Frame) (c : Core E) (ph : SenderPhase E) → Fits words frames c ph → c.queue.busy ≡ false → ph ≡ phase.Resting
+idle_rests words frames c phase.Resting f e = refl
+idle_rests words frames c (phase.Electing t u) f e = absurd (true≢false (sym f.0.busy ∙ e))
+idle_rests words frames c (phase.Taken t) f e = absurd f
+idle_rests words frames c (phase.Holding t page stored true) f e = absurd (true≢false (sym f.0.busy ∙ e))
+idle_rests words frames c (phase.Holding t page stored false) f e = absurd (true≢false (sym f.0.busy ∙ e))
+idle_rests words frames c (phase.Giving t leaving) f e = absurd f
+
+-- ---- what stays
+module _ {E : Type 0} where
+  accept_keeps : {A : Type 0} (f : Core E → A) → ((c : Core E) (q : Pending) → f (record c { queue = q }) ≡ f c) → (c : Core E) (a : Accepted) → f (accept c a) ≡ f c
+  accept_keeps f same c (Puts bytes) = by_test (can_put c.queue (length bytes))
+    where
+      by_test : (b : Bool) → f (cond b (record c { queue = record c.queue { messages = c.queue.messages ++ bytes ∷ [] } }) c) ≡ f c
+      by_test true = same c (record c.queue { messages = c.queue.messages ++ bytes ∷ [] })
+      by_test false = refl
+  accept_keeps f same c Closes = by_test (can_close c.queue)
+    where
+      by_test : (b : Bool) → f (cond b (record c { queue = record c.queue { phase = Closing } }) c) ≡ f c
+      by_test true = same c (record c.queue { phase = Closing })
+      by_test false = refl
+
+  accepting_keeps : {A : Type 0} (f : Core E → A) → ((c : Core E) (q : Pending) → f (record c { queue = q }) ≡ f c) → (c : Core E) (more : List Accepted) → f (accepting c more) ≡ f c
+  accepting_keeps f same c [] = refl
+  accepting_keeps f same c (a ∷ more) = accepting_keeps f same (accept c a) more ∙ accept_keeps f same c a
+
+  pub same_me : (c : Core E) (more : List Accepted) → (accepting c more).me ≡ c.me
+  same_me = accepting_keeps (λ d. d.me) (λ c q. refl)
+
+  pub same_layout : (c : Core E) (more : List Accepted) → (accepting c more).layout ≡ c.layout
+  same_layout = accepting_keeps (λ d. d.layout) (λ c q. refl)
+
+  pub accepting_more : (c : Core E) (more : List Accepted) (a : Accepted) → accepting c (more ++ a ∷ []) ≡ accept (accepting c more) a
+  accepting_more c [] a = refl
+  accepting_more c (b ∷ more) a = accepting_more (accept c b) more a
+
+module _ {E : Type 0} (X : Election E) (P : Protocol E (Unit {0}) ℕ) (laws : Laws X.op X.fed P OneOwner) (x : Layout) (ok : IsLayout x) (width : x.width ≡ P.width x.senders)
+    (words : ℕ → ℕ) (home : Option Page) (owners : List ℕ) (frames : List Frame) (p : ℕ) where
+  module _ (senders : ℕ → Option (Core E)) (h : Sending P x words home senders owners frames) (c : Core E) (old : senders p ≡ Some c) where
+    own : Part x words frames p c
+    own = h.parts p c old
+
+    -- its numbers stay far below their range
+    first_below : (ph : SenderPhase E) → Fits words frames c ph → c.queue.first ≤ length (log_words frames)
+    first_below phase.Resting f = let short = sent_short c.me frames in let base = f.1 in omega arith
+    first_below (phase.Electing t u) f = let short = sent_short c.me frames in let base = f.1 in omega arith
+    first_below (phase.Taken t) f = absurd f
+    first_below (phase.Holding t page stored true) f =
+        let written = f.1 in let short = sent_short c.me written.front in let base = written.base in
+        let more = ap length (ap log_words written.frames_are ∙ log_words-append written.front (frame_of c.queue t)) ∙ length-append (log_words written.front) (frame_words (frame_of c.queue t)) in
+        omega arith
+    first_below (phase.Holding t page stored false) f = let short = sent_short c.me frames in let base = f.1.base in omega arith
+    first_below (phase.Giving t leaving) f = absurd f
+
+    numbers_fit : next_of c.queue < 2 ^ 48
+    numbers_fit =
+        let few = own.queue.few in let first = first_below c.phase own.fits in let cap = ok.capacity in let within = h.log.fits in
+        let size : length (log_words frames) ≡ words 0 = sym (ap length h.log.words_are) ∙ length-read words (log_at x) (words 0) in
+        omega arith
+
+    module _ (senders' : ℕ → Option (Core E)) (beside : Beside p senders senders') where
+      unchanged : senders' p ≡ Some c → Sending P x words home senders' owners frames
+      unchanged new = subst (λ z. Sending P x words home z owners frames) (sym (fun_ext same)) h
+        where
+          same : (q : ℕ) → senders' q ≡ senders q
+          same q = elim (cases_eq q p) [
+            | inl i ↦ ap senders' i ∙ new ∙ sym old ∙ ap senders (sym i)
+            | inr ne ↦ beside q ne
+          ]
+
+      replaced : (q : Pending) → c.queue.busy ≡ false → q.busy ≡ false → q.sender ≡ c.queue.sender → q.first ≡ c.queue.first → IsKept q → senders' p ≡ Some (record c { queue = q }) → Sending P x words home senders' owners frames
+      replaced q idle idle' sender first kept new =
+          let rests = idle_rests words frames c c.phase own.fits idle in
+          let fits = subst (Fits words frames c) rests own.fits in
+          bus.spends X P laws x ok width words home senders owners frames h p c (record c { queue = q }) senders' old new beside rests rests (omega arith)
+          record {
+            layout = own.layout;
+            me = own.me;
+            below = own.below;
+            sender = ap (λ (z : SenderNo). z.0) sender ∙ own.sender;
+            queue = kept;
+            fits = subst (Fits words frames (record c { queue = q })) (sym rests) (idle', first ∙ fits.1);
+          }
+
+      put_kept : (bytes : List ℕ) → All (λ byte. byte < 256) bytes → senders' p ≡ Some (put_in c bytes) → Sending P x words home senders' owners frames
+      put_kept bytes small new = by_test (can_put c.queue (length bytes)) refl new
+        where
+          by_test : (b : Bool) → can_put c.queue (length bytes) ≡ b → senders' p ≡ Some (cond b (record c { queue = record c.queue { messages = c.queue.messages ++ bytes ∷ [] } }) c) → Sending P x words home senders' owners frames
+          by_test false e now = unchanged now
+          by_test true e now =
+              let opened = and_parts (is_open c.queue.phase) (cond c.queue.busy false true && (nat_le (length bytes) 56 && nat_lt (length c.queue.messages) 16)) e in
+              let idled = and_parts (cond c.queue.busy false true) (nat_le (length bytes) 56 && nat_lt (length c.queue.messages) 16) opened.1 in
+              let sized = and_parts (nat_le (length bytes) 56) (nat_lt (length c.queue.messages) 16) idled.1 in
+              let idle = not_busy c.queue.busy idled.0 in
+              let is = open_is c.queue.phase opened.0 in
+              let short = leb-true (length bytes) 56 sized.0 in
+              let room = ltb-true (length c.queue.messages) 16 sized.1 in
+              let more = length-append c.queue.messages (bytes ∷ []) in
+              let fit = numbers_fit in
+              replaced (record c.queue { messages = c.queue.messages ++ bytes ∷ [] }) idle idle refl refl
+              record {
+                few = (omega arith);
+                each = All-append IsMessage c.queue.messages (bytes ∷ []) own.queue.each (All-from_recursion IsMessage (bytes ∷ []) ((short, small), tt));
+                numbers = (omega arith);
+                alone = λ z. absurd (let bad = sym is ∙ z in let wrong : ⊥ = cc in wrong);
+                owner_bits = own.queue.owner_bits;
+              } now
+
+      close_kept : senders' p ≡ Some (close_in c) → Sending P x words home senders' owners frames
+      close_kept new = by_test (can_close c.queue) refl new
+        where
+          by_test : (b : Bool) → can_close c.queue ≡ b → senders' p ≡ Some (cond b (record c { queue = record c.queue { phase = Closing } }) c) → Sending P x words home senders' owners frames
+          by_test false e now = unchanged now
+          by_test true e now =
+              let tests = and_parts (cond c.queue.busy false true) (is_empty c.queue.messages) (and_parts (is_open c.queue.phase) (cond c.queue.busy false true && is_empty c.queue.messages) e).1 in
+              let idle = not_busy c.queue.busy tests.0 in
+              let none = empty_is c.queue.messages tests.1 in
+              replaced (record c.queue { phase = Closing }) idle idle refl refl record { few = own.queue.few; each = own.queue.each; numbers = own.queue.numbers; alone = λ z. none; owner_bits = own.queue.owner_bits } now
+
+  -- a sender with all that it has accepted, in the place of the one before
+  pub grows : (more : List Accepted) → AreAccepted more → (senders : ℕ → Option (Core E)) → Sending P x words home senders owners frames → (c : Core E) → senders p ≡ Some c
+      → (senders' : ℕ → Option (Core E)) → Beside p senders senders' → senders' p ≡ Some (accepting c more) → Sending P x words home senders' owners frames
+  grows [] each senders h c old senders' beside new = unchanged senders h c old senders' beside new
+  grows (Puts bytes ∷ more) each senders h c old senders' beside new =
+      let mid : ℕ → Option (Core E) = put p (Some (put_in c bytes)) senders in
+      grows more each.1 mid (put_kept senders h c old mid (put_beside p (Some (put_in c bytes)) senders) bytes each.0 (put_here p (Some (put_in c bytes)) senders)) (put_in c bytes) (put_here p (Some (put_in c bytes)) senders)
+      senders' (λ q ne. beside q ne ∙ sym (put_beside p (Some (put_in c bytes)) senders q ne)) new
+  grows (Closes ∷ more) each senders h c old senders' beside new =
+      let mid : ℕ → Option (Core E) = put p (Some (close_in c)) senders in
+      grows more each mid (close_kept senders h c old mid (put_beside p (Some (close_in c)) senders) (put_here p (Some (close_in c)) senders)) (close_in c) (put_here p (Some (close_in c)) senders)
+      senders' (λ q ne. beside q ne ∙ sym (put_beside p (Some (close_in c)) senders q ne)) new

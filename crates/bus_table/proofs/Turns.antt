@@ -1,0 +1,276 @@
+-- Each turn of a sender keeps what senders, words, page and owners keep, whatever the random word: over words and senders as functions.
+use Rattle.std.proofs.Common.{◌≡◌, ◌≢◌, ℕ, ◌+◌, ◌*◌, ◌/◌, ◌%◌, ◌<◌, ◌≤◌, Bool, true, false, cond, ◌&&◌, nat_lt, nat_le, Option, Some, None, inl, inr, List, [], ◌∷◌, ◌++◌, length, is_some, slice_get, slice_index, arith, refl, sym, ◌∙◌, ap, subst}
+use mathlib.Core.Path.{fun_ext}
+use Rattle.std.proofs.lemmas.Bool.{cases_eq, leb-false, leb-true, ltb-false, ltb-true, true≢false}
+use Rattle.std.proofs.lemmas.Bool.Decides.{eqb_tells}
+use Rattle.std.proofs.lemmas.Option.{same_Some}
+use Rattle.bus_register.specs.declared.registers.Op.{Op}
+use Rattle.bus_register.specs.declared.registers.Op.TheVariants.{Load, Store}
+use Rattle.bus_register.specs.Words.{register, after, SumFits}
+use Rattle.bus_register.specs.Tables.{of_some, Beside}
+use Rattle.bus_register.specs.TableLaws.{some_or_none}
+use Rattle.bus_register.specs.Protocol.{Protocol, Laws, IsStore}
+use Rattle.bus_batch.specs.Frames.{Frame, frame_words}
+use Rattle.bus_batch.specs.Batches.{HasSomething, frame_of}
+use Rattle.bus_batch.specs.declared.batches.Phase.{Phase as BatchPhase}
+use Rattle.bus_batch.specs.declared.batches.Phase.TheVariants.{Open, Closing, Closed}
+use Rattle.bus_tenure.specs.Core.{Core, Election, Layout, log_at, row_at, words_of, frame_len, has_room, is_empty, is_closing, is_closed, Situation, IsClosed, IsIdle, IsSpent, LooksAtStage, Elects, TakesPage, AwaitsPage, StoresWord, StoresLength, GivesBack, HasHanded, situation_at, situation_of, resting, electing, holding, begun, waits, elected, rested, op_at}
+use Rattle.bus_tenure.specs.declared.pages.Page.{Page}
+use Rattle.bus_tenure.specs.declared.phases.Leaving.{Leaving}
+use Rattle.bus_tenure.specs.declared.phases.Leaving.TheVariants.{Sent, FoundEnd, NoRoom}
+use Rattle.bus_tenure.specs.declared.phases.Phase.{Phase}
+use Rattle.bus_tenure.specs.declared.phases.Phase.TheVariants as phase
+use Rattle.bus_ownerbits.specs.ElectionKeeps.{OneOwner}
+use Rattle.bus_world.specs.Tenures.Standing.{Runs}
+use Rattle.bus_world.proofs.TenuresLaws as tenures
+use Rattle.bus_world.specs.Bus.{IsLayout, least_of, standing_of, Part, Fits, HasBegun, Sending, stands_at}
+use Rattle.bus_world.proofs.BusLaws as bus
+use Rattle.bus_world.specs.Log.{sent}
+use Rattle.bus_world.specs.Turning.{laid, home_after, core_after, owners_after, frames_after}
+
+open_apart : Open ≡ Closed → ⊥
+open_apart h = cc
+
+closing_apart : Closing ≡ Closed → ⊥
+closing_apart h = cc
+
+-- the stage shows a tenure that is open and may be entered
+open_stage : {E : Type 0} (c : Core E) (got : ℕ) → waits c got ≡ false → (got ≡ 2 * (got / 2)) × (c.least ≤ got / 2)
+open_stage c got e = elim (eqb_tells (got % 2) 0) [
+  | inl h ↦ (let z = h.1 in omega arith, ltb-false (got / 2) c.least (ap (λ b. cond b (nat_lt (got / 2) c.least) true) (sym h.0) ∙ e))
+  | inr h ↦ absurd (true≢false (ap (λ b. cond b (nat_lt (got / 2) c.least) true) (sym h.0) ∙ e))
+]
+
+-- a load changes no word
+pub loaded : (r : ℕ) (words words' : ℕ → ℕ) → bus.Changes (Load record { 0 = r }) words words' → (q : ℕ) → words' q ≡ words q
+loaded r words words' step q = elim (cases_eq q r) [
+  | inl i ↦ ap words' i ∙ step.here ∙ ap words (sym i)
+  | inr ne ↦ step.elsewhere q ne
+]
+
+module _ {E : Type 0} (X : Election E) (P : Protocol E (Unit {0}) ℕ) (laws : Laws X.op X.fed P OneOwner) (x : Layout) (ok : IsLayout x) (width : x.width ≡ P.width x.senders)
+    (starts : (n me at : ℕ) → X.started n me x.rounds at ≡ P.started n me tt at) (owner_is : (e : E) → X.owner e ≡ P.output e)
+    (words : ℕ → ℕ) (home : Option Page) (senders : ℕ → Option (Core E)) (owners : List ℕ) (frames : List Frame) (h : Sending P x words home senders owners frames)
+    (p : ℕ) (c : Core E) (old : senders p ≡ Some c) (word : ℕ) where
+  part : Part x words frames p c
+  part = h.parts p c old
+
+  -- an elected sender finds the page at home
+  module _ (t : ℕ) (e : E) (elects : c.phase ≡ phase.Electing t e) where
+    runs : of_some standing_of (senders p) ≡ Some (Runs t e)
+    runs = ap (of_some standing_of) old ∙ ap (λ z. Some (stands_at z)) elects
+
+    own_output : (o : ℕ) → X.owner e ≡ Some o → P.output e ≡ Some p
+    own_output o own =
+        let out : P.output e ≡ Some o = sym (owner_is e) ∙ own in
+        out ∙ ap Some (h.chosen p c t e o old elects out)
+
+    pub at_home : (o : ℕ) → X.owner e ≡ Some o → (page : Page) × (home ≡ Some page)
+    at_home o own = by_home home refl
+      where
+        by_home : (z : Option Page) → home ≡ z → (page : Page) × (home ≡ Some page)
+        by_home None i = absurd (
+            let f = tenures.finds_home X.op X.fed P laws x.senders x.rows 2 words (words 1) (is_some home) (λ q. of_some standing_of (senders q)) (λ q. least_of (senders q)) owners h.tenures p t e runs (own_output o own) in
+            true≢false (sym f.1 ∙ ap is_some i))
+        by_home (Some page) i = (page, i)
+
+  -- ---- after the step
+  module _ (words' : ℕ → ℕ) (senders' : ℕ → Option (Core E)) (beside : Beside p senders senders') where
+    abbrev Kept : Situation E → Op → Type 0
+    Kept s o = bus.Changes o words words' → senders' p ≡ Some (core_after X c s home (words (register o)) word) → Sending P x words' (home_after c s home) senders' (owners_after s p owners) (frames_after c s frames)
+
+    abbrev KeptBy : Situation E → Type 0
+    KeptBy s = (o : Op) → op_at X c s word ≡ Some o → Kept s o
+
+    by_op : (s : Situation E) (o : Op) → op_at X c s word ≡ Some o → Kept s o → KeptBy s
+    by_op s o is k o' is' = subst (Kept s) (same_Some _ _ (sym is ∙ is')) k
+
+    no_op : (s : Situation E) → op_at X c s word ≡ None → KeptBy s
+    no_op s is o is' = absurd (let bad : None ≡ Some o = sym is ∙ is' in let wrong : ⊥ = cc in wrong)
+
+    choose : (b : Bool) (s u : Situation E) → KeptBy s → KeptBy u → KeptBy (cond b s u)
+    choose true s u e f = e
+    choose false s u e f = f
+
+    -- ---- a load of the stage
+    module _ (rests : c.phase ≡ phase.Resting) where
+      resting_fits : (c.queue.busy ≡ false) × (c.queue.first ≡ sent c.me frames)
+      resting_fits = subst (Fits words frames c) rests part.fits
+
+      part_least : (k : ℕ) → Part x words frames p (record c { least = k })
+      part_least k = record { layout = part.layout; me = part.me; below = part.below; sender = part.sender; queue = part.queue; fits = subst (Fits words frames (record c { least = k })) (sym rests) resting_fits }
+
+      part_begun : (t : ℕ) → (c.queue.phase ≡ Closed → ⊥) → HasSomething c.queue → Part x words frames p (begun X c t)
+      part_begun t is_open something = record {
+        layout = part.layout;
+        me = part.me;
+        below = part.below;
+        sender = part.sender;
+        queue = record { few = part.queue.few; each = part.queue.each; numbers = part.queue.numbers; alone = part.queue.alone; owner_bits = part.queue.owner_bits };
+        fits = (record { busy = refl; is_open = is_open; something = something }, resting_fits.1);
+      }
+
+      rows_is : c.layout.rows ≡ x.rows
+      rows_is = ap (λ (z : Layout). z.rows) part.layout
+
+      abbrev got : ℕ
+      got = words 1
+
+      start_is : P.started x.senders p tt (2 + got / 2 * P.width x.senders) ≡ X.started c.layout.senders c.me c.layout.rounds (row_at c.layout (got / 2))
+      start_is =
+          sym (starts x.senders p (2 + got / 2 * P.width x.senders)) ∙ ap (λ z. X.started x.senders p x.rounds (2 + got / 2 * z)) (sym width)
+          ∙ ap (λ z. X.started x.senders z x.rounds (row_at x (got / 2))) (sym part.me) ∙ ap (λ (z : Layout). X.started z.senders c.me z.rounds (row_at z (got / 2))) (sym part.layout)
+
+      unchanged : senders' p ≡ Some c → Sending P x words home senders' owners frames
+      unchanged new = subst (λ z. Sending P x words home z owners frames) (sym (fun_ext same)) h
+        where
+          same : (q : ℕ) → senders' q ≡ senders q
+          same q = elim (cases_eq q p) [
+            | inl i ↦ ap senders' i ∙ new ∙ sym old ∙ ap senders (sym i)
+            | inr ne ↦ beside q ne
+          ]
+
+      module _ (is_open : c.queue.phase ≡ Closed → ⊥) (something : HasSomething c.queue) where
+        by_room : (b : Bool) → nat_le c.layout.rows (got / 2) ≡ b → waits c got ≡ false → senders' p ≡ Some (cond b (record c { least = got / 2 }) (begun X c (got / 2))) → Sending P x words home senders' owners frames
+        by_room true d e new = let stage = open_stage c got e in bus.spends X P laws x ok width words home senders owners frames h p c (record c { least = got / 2 }) senders' old new beside rests rests stage.1 (part_least (got / 2))
+        by_room false d e new = let stage = open_stage c got e in
+            bus.begins X P laws x ok width words home senders owners frames h p c (begun X c (got / 2)) senders' old new beside
+            (got / 2) rests stage.0 stage.1 (let a = leb-false c.layout.rows (got / 2) d in let b = rows_is in omega arith) part.below (ap (phase.Electing (got / 2)) (sym start_is)) refl (part_begun (got / 2) is_open something)
+
+        by_waits : (b : Bool) → waits c got ≡ b → senders' p ≡ Some (cond b c (cond (nat_le c.layout.rows (got / 2)) (record c { least = got / 2 }) (begun X c (got / 2)))) → Sending P x words home senders' owners frames
+        by_waits true e new = unchanged new
+        by_waits false e new = by_room (nat_le c.layout.rows (got / 2)) refl e new
+
+        looked : Kept LooksAtStage (Load record { 0 = 1 })
+        looked step new = subst (λ z. Sending P x z home senders' owners frames) (sym (fun_ext (loaded 1 words words' step))) (by_waits (waits c got) refl new)
+
+        looks : KeptBy LooksAtStage
+        looks = by_op LooksAtStage (Load record { 0 = 1 }) refl looked
+
+      rest_kept : KeptBy (resting c)
+      rest_kept = by_closed c.queue.phase refl
+        where
+          by_empty : (b : Bool) → (c.queue.phase ≡ Closed → ⊥) → (is_empty c.queue.messages && cond (is_closing c.queue.phase) false true) ≡ b → KeptBy (cond b IsIdle (cond (nat_le c.layout.rows c.least) IsSpent LooksAtStage))
+          by_empty true a e = no_op IsIdle refl
+          by_empty false a e = choose (nat_le c.layout.rows c.least) IsSpent LooksAtStage (no_op IsSpent refl) (looks a (something_from c.queue.phase c.queue.messages refl refl e))
+            where
+              some_message : (messages : List (List ℕ)) → c.queue.messages ≡ messages → (is_empty messages && true) ≡ false → HasSomething c.queue
+              some_message [] j f = absurd (true≢false f)
+              some_message (m ∷ messages) j f = inl (let z = ap length j in omega arith)
+
+              something_from : (ph : BatchPhase) (messages : List (List ℕ)) → c.queue.phase ≡ ph → c.queue.messages ≡ messages → (is_empty messages && cond (is_closing ph) false true) ≡ false → HasSomething c.queue
+              something_from Open messages i j f = some_message messages j f
+              something_from Closing messages i j f = inr i
+              something_from Closed messages i j f = some_message messages j f
+
+          by_closed : (ph : BatchPhase) → c.queue.phase ≡ ph → KeptBy (cond (is_closed ph) IsClosed (cond (is_empty c.queue.messages && cond (is_closing c.queue.phase) false true) IsIdle (cond (nat_le c.layout.rows c.least) IsSpent LooksAtStage)))
+          by_closed Open e = by_empty (is_empty c.queue.messages && cond (is_closing c.queue.phase) false true) (λ z. open_apart (sym e ∙ z)) refl
+          by_closed Closing e = by_empty (is_empty c.queue.messages && cond (is_closing c.queue.phase) false true) (λ z. closing_apart (sym e ∙ z)) refl
+          by_closed Closed e = no_op IsClosed refl
+
+    -- ---- an election
+    module _ (t : ℕ) (e : E) (elects : c.phase ≡ phase.Electing t e) where
+      electing_fits : HasBegun c.queue × (c.queue.first ≡ sent c.me frames)
+      electing_fits = subst (Fits words frames c) elects part.fits
+
+      -- it takes the page
+      take_kept : (o : ℕ) → X.owner e ≡ Some o → KeptBy (TakesPage t)
+      take_kept o own = by_op (TakesPage t) (Store record { 0 = 1 } (2 * t + 1)) refl (λ step new. taken step new (at_home t e elects o own).0 (at_home t e elects o own).1)
+        where
+          taken : bus.Changes (Store record { 0 = 1 } (2 * t + 1)) words words' → senders' p ≡ Some (laid c t home) → (page : Page) → home ≡ Some page → Sending P x words' None senders' (owners ++ p ∷ []) frames
+          taken step new page i = bus.takes X P laws x ok width words home senders owners frames h p c (record c { phase = phase.Holding t page 0 false }) senders' old (new ∙ ap (λ z. Some (laid c t z)) i) beside
+              t e page words' elects (own_output t e elects o own) i step.here (λ r ne. step.elsewhere r ne) refl
+
+      -- it takes a step of its election
+      module _ (o : Op) (next : X.op e word ≡ Some o) (step : bus.Changes o words words') where
+        abbrev later : E
+        later = X.fed e (words (register o)) word
+
+        going : (owner : Option ℕ) → X.owner later ≡ owner → ((u : ℕ) → owner ≡ Some u → u ≡ p) → senders' p ≡ Some (record c { phase = phase.Electing t later }) → Sending P x words' home senders' owners frames
+        going owner i mine now = bus.elects_on X P laws x ok width words home senders owners frames h p c (record c { phase = phase.Electing t later }) senders' old now beside t e word o words' elects next step refl refl
+            (λ u out. mine u (sym i ∙ owner_is later ∙ out))
+            record { layout = part.layout; me = part.me; below = part.below; sender = part.sender; queue = part.queue; fits = electing_fits }
+
+        losing : (u : ℕ) → X.owner later ≡ Some u → u ≢ p → senders' p ≡ Some (record c { queue = record c.queue { busy = false }; least = t + 1; phase = phase.Resting }) → Sending P x words' home senders' owners frames
+        losing u i other now = bus.loses X P laws x ok width words home senders owners frames h p c (record c { queue = record c.queue { busy = false }; least = t + 1; phase = phase.Resting }) senders' old now beside t e word o words' elects next step
+            u (sym (owner_is later) ∙ i) other refl refl
+            record {
+              layout = part.layout;
+              me = part.me;
+              below = part.below;
+              sender = part.sender;
+              queue = record { few = part.queue.few; each = part.queue.each; numbers = part.queue.numbers; alone = part.queue.alone; owner_bits = part.queue.owner_bits };
+              fits = (refl, electing_fits.1);
+            }
+
+        by_owner : (owner : Option ℕ) → X.owner later ≡ owner → senders' p ≡ Some (elected c t later owner) → Sending P x words' home senders' owners frames
+        by_owner None i now = going None i (λ u b. absurd cc) now
+        by_owner (Some u) i now = elim (eqb_tells u c.me) [
+          | inl y ↦ going (Some u) i (λ v b. sym (same_Some _ _ b) ∙ y.1 ∙ part.me)
+              (now ∙ ap (λ b. Some (cond b (record c { phase = phase.Electing t later }) (record c { queue = record c.queue { busy = false }; least = t + 1; phase = phase.Resting }))) y.0)
+          | inr y ↦ losing u i (λ g. y.1 (g ∙ sym part.me))
+              (now ∙ ap (λ b. Some (cond b (record c { phase = phase.Electing t later }) (record c { queue = record c.queue { busy = false }; least = t + 1; phase = phase.Resting }))) y.0)
+        ]
+
+      elect_kept : KeptBy (Elects t e)
+      elect_kept o next step new = by_owner o next step (X.owner (X.fed e (words (register o)) word)) refl new
+
+      election_kept : KeptBy (electing X t e)
+      election_kept = by_output (X.owner e) refl
+        where
+          by_output : (owner : Option ℕ) → X.owner e ≡ owner → KeptBy (cond (is_some owner) (TakesPage t) (Elects t e))
+          by_output (Some o) i = take_kept o i
+          by_output None i = elect_kept
+
+    -- ---- a holder of the page
+    module _ (t : ℕ) (page : Page) (stored : ℕ) (published : Bool) (holds : c.phase ≡ phase.Holding t page stored published) where
+      capacity_is : c.layout.capacity ≡ x.capacity
+      capacity_is = ap (λ (z : Layout). z.capacity) part.layout
+
+      unsent_kept : (leaving : Leaving) → bus.IsUnsent leaving → published ≡ false → KeptBy (GivesBack t page leaving)
+      unsent_kept leaving unsent none_yet = by_op (GivesBack t page leaving) (Store record { 0 = 1 } (2 * t + 2)) refl (λ step new.
+          bus.gives_unsent X P laws x ok width words home senders owners frames h p c (rested c leaving t) senders' old new beside t page stored published holds words' step.here (λ r ne. step.elsewhere r ne) leaving unsent none_yet refl)
+
+      sent_kept : published ≡ true → KeptBy (GivesBack t page Sent)
+      sent_kept out = by_op (GivesBack t page Sent) (Store record { 0 = 1 } (2 * t + 2)) refl (λ step new.
+          bus.gives_sent X P laws x ok width words home senders owners frames h p c (rested c Sent t) senders' old new beside t page stored published holds words' step.here (λ r ne. step.elsewhere r ne) out refl)
+
+      module _ (none_yet : published ≡ false) (is_open : page.ended ≡ false) (room : page.words + frame_len c ≤ c.layout.capacity) where
+        store_kept : stored < frame_len c → KeptBy (StoresWord t page stored)
+        store_kept more = by_op (StoresWord t page stored) (Store record { 0 = log_at c.layout + page.words + stored } (slice_index (frame_words (frame_of c.queue t)) stored)) refl (λ step new.
+            bus.writes X P laws x ok width words home senders owners frames h p c (record c { phase = phase.Holding t page (stored + 1) false }) senders' old new beside t page stored published holds words' none_yet is_open room more step.here (λ r ne. step.elsewhere r ne) refl)
+
+        publish_kept : frame_len c ≤ stored → KeptBy (StoresLength t page stored)
+        publish_kept all = by_op (StoresLength t page stored) (Store record { 0 = 0 } (page.words + frame_len c)) refl (λ step new.
+            bus.publishes X P laws x ok width words home senders owners frames h p c (record c { phase = phase.Holding t page stored true }) senders' old new beside t page stored published holds words' none_yet is_open room all step.here (λ r ne. step.elsewhere r ne) refl)
+
+        stores_by : (b : Bool) → nat_lt stored (frame_len c) ≡ b → KeptBy (cond b (StoresWord t page stored) (StoresLength t page stored))
+        stores_by true e = store_kept (ltb-true stored (frame_len c) e)
+        stores_by false e = publish_kept (ltb-false stored (frame_len c) e)
+
+      hold_kept : KeptBy (holding c t page stored published)
+      hold_kept = by_published published refl
+        where
+          by_room : (b : Bool) → published ≡ false → page.ended ≡ false → has_room c page ≡ b → KeptBy (cond b (cond (nat_lt stored (frame_len c)) (StoresWord t page stored) (StoresLength t page stored)) (GivesBack t page NoRoom))
+          by_room true a d e = stores_by a d (leb-true (page.words + frame_len c) c.layout.capacity e) (nat_lt stored (frame_len c)) refl
+          by_room false a d e = unsent_kept NoRoom tt a
+
+          by_ended : (b : Bool) → published ≡ false → page.ended ≡ b → KeptBy (cond b (GivesBack t page FoundEnd) (cond (has_room c page) (cond (nat_lt stored (frame_len c)) (StoresWord t page stored) (StoresLength t page stored)) (GivesBack t page NoRoom)))
+          by_ended true a d = unsent_kept FoundEnd tt a
+          by_ended false a d = by_room (has_room c page) a d refl
+
+          by_published : (b : Bool) → published ≡ b → KeptBy (cond b (GivesBack t page Sent) (cond page.ended (GivesBack t page FoundEnd) (cond (has_room c page) (cond (nat_lt stored (frame_len c)) (StoresWord t page stored) (StoresLength t page stored)) (GivesBack t page NoRoom))))
+          by_published true e = sent_kept e
+          by_published false e = by_ended page.ended e refl
+
+    -- ---- any turn
+    turn_at : (ph : Phase E) → c.phase ≡ ph → KeptBy (situation_at X c ph)
+    turn_at phase.Resting e = rest_kept e
+    turn_at (phase.Electing t u) e = election_kept t u e
+    turn_at (phase.Taken t) e = absurd (subst (Fits words frames c) e part.fits)
+    turn_at (phase.Holding t page stored published) e = hold_kept t page stored published e
+    turn_at (phase.Giving t leaving) e = absurd (subst (Fits words frames c) e part.fits)
+
+    -- a turn of a sender keeps what senders, words, page and owners keep
+    pub turn_keeps : KeptBy (situation_of X c)
+    turn_keeps = turn_at c.phase refl
