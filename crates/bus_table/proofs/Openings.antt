@@ -1,31 +1,28 @@
 -- The table at its start, and how senders get their seats.
-use Rattle.std.proofs.Common.{◌≡◌, ◌≢◌, ℕ, zero, suc, ◌+◌, ◌*◌, ◌<◌, ◌≤◌, ◌^◌, eqb, cond, Bool, eq-eqb, ne_eqb, length-set, Option, Some, None, List, [], ◌∷◌, ◌++◌, length, set, slice_get, slice_index, replicate, arith, refl, sym, ◌∙◌, ap, subst, ⊎_elim, inl, inr, ◌⊎◌}
-use mathlib.Core.Option.{some, none, some-injective, some-ne-none}
-use mathlib.Core.Option as maybe
+use Rattle.std.proofs.Common.{◌≡◌, ◌≢◌, ℕ, zero, suc, ◌+◌, ◌<◌, ◌^◌, eqb, cond, Bool, eq-eqb, ne_eqb, length-set, Option, Some, None, List, [], ◌∷◌, ◌++◌, length, set, slice_get, replicate, arith, refl, sym, ◌∙◌, ap, subst, ⊎_elim, inl, inr, ◌⊎◌}
+use mathlib.Core.Option.{some, some-injective, some-ne-none}
 use lib.ListN.{get_elem?}
 use Rattle.std.proofs.lemmas.Bool.{cases_lt}
-use Rattle.std.proofs.lemmas.List.{length-append, length-replicate}
+use Rattle.std.proofs.lemmas.List.{length-append}
 use Rattle.std.proofs.lemmas.Option.{same_Some, slice_get_within}
 use Rattle.atomic_table.specs.declared.shared.Seat.{Seat}
-use Rattle.atomic_table.specs.Table.{State, Splits, opening}
+use Rattle.atomic_table.specs.Table.{Splits, opening}
 use Rattle.atomic_table.proofs.Lists.{at_set}
 use Rattle.bus_register.specs.TableLaws.{some_or_none, here_not, push_here, push_beside}
-use Rattle.bus_register.specs.Protocol.{Protocol, Laws}
-use Rattle.bus_batch.specs.Frames.{Frame, log_words, order_of}
-use Rattle.bus_deliverylog.specs.Orders.{of_sender}
 use Rattle.bus_tenure.specs.Core.{Core, Election, Layout, words_of}
 use Rattle.bus_tenure.specs.declared.pages.Page.{Page}
-use Rattle.bus_ownerbits.specs.ElectionKeeps.{OneOwner}
 use Rattle.bus_world.specs.Bus.{IsLayout}
 use Rattle.bus_world.specs.Starting.{AreNewCores}
 use Rattle.bus_world.proofs.StartingLaws.{one_more_core}
 use Rattle.bus_world.specs.World.{Bus, IsNew, new_core, new_page}
-use Rattle.bus_world.proofs.WorldLaws.{new_is_lawful}
+use Rattle.bus_world.specs.Trails.{Trails, no_trails}
+use Rattle.bus_world.specs.Trails.Reached.{New}
 use Rattle.bus_table.specs.declared.rule.View.{View}
 use Rattle.bus_table.specs.declared.rule.View.TheVariants.{Maker, Sender, Tap, Meeting, Telling, Spent}
-use Rattle.bus_table.specs.Rule.{tap_left, tap_right, Sat, trail_in, next_core, cut_left, cut_right, Published, Knows, IsShown}
-use Rattle.bus_table.specs.Steps.{carried_of}
-use Rattle.bus_table.specs.Seats.{Shows}
+use Rattle.bus_table.specs.Rule.{tap_left, tap_right, trail_in, stored_in, next_core, cut_left, cut_right, log_in_bus, Knows, IsShown}
+use Rattle.bus_table.specs.Steps.{carried_of, IsCounted}
+use Rattle.bus_table.specs.Steps.Accepts.{Nothing}
+use Rattle.bus_table.specs.Seats.{Seated, Shows}
 use Rattle.bus_table.specs.Buses.{IsNewSeat, AreNewSeats}
 use Rattle.atomic_table.specs.Seated.{TableId}
 
@@ -63,8 +60,7 @@ crowd_has {E = E} x k p l = let h = crowd_new {E = E} x k in elim (some_or_none 
   | inl nobody ↦ absurd (here_not (crowd {E = E} x k) p (let z = h.many_are in omega arith) nobody)
 ]
 
-module _ {E : Type 0} (X : Election E) (P : Protocol E (Unit {0}) ℕ) (laws : Laws X.op X.fed P OneOwner) (x : Layout) (ok : IsLayout x) (width : x.width ≡ P.width x.senders)
-    (starts : (n me at : ℕ) → X.started n me x.rounds at ≡ P.started n me tt at) (owner_is : (e : E) → X.owner e ≡ P.output e) where
+module _ {E : Type 0} (X : Election E) (x : Layout) where
   abbrev first : View (Core E)
   first = Maker (new_core x 0)
 
@@ -80,42 +76,37 @@ module _ {E : Type 0} (X : Election E) (P : Protocol E (Unit {0}) ℕ) (laws : L
     receivers = λ r v e. let bad : None ≡ Some v = e in let wrong : ⊥ = cc in absurd wrong;
   }
 
-  only : (j : ℕ) (v : View (Core E)) → get_elem? (first ∷ []) j ≡ some v → Knows x [] (slice_get (crowd {E = E} x x.senders)) (λ p. 0) j v
-  only zero v e = subst (Knows x [] (slice_get (crowd {E = E} x x.senders)) (λ p. 0) 0) (some-injective first v e) (refl, λ p low high. (refl, crowd_has {E = E} x x.senders p high))
-  only (suc j) v e = absurd (some-ne-none v (sym e))
+  only : (ws : List ℕ) (j : ℕ) (v : View (Core E)) → get_elem? (first ∷ []) j ≡ some v → Knows x (new_bus ws) no_trails (λ p. 0) j v
+  only ws zero v e = subst (Knows x (new_bus ws) no_trails (λ p. 0) 0) (some-injective first v e) (refl, λ p low high. record { here = refl; core = crowd_has {E = E} x x.senders p high; deeds = refl })
+  only ws (suc j) v e = absurd (some-ne-none v (sym e))
 
-  pub opens : (ws : List ℕ) → ws ≡ replicate (words_of x) 0 → IsShown P x (opening ws (Some new_page ∷ []) first)
-  opens ws zeros = record {
+  pub opens : IsLayout x → (ws : List ℕ) → ws ≡ replicate (words_of x) 0 → IsShown X x (opening ws (Some new_page ∷ []) first)
+  opens ok ws zeros = record {
     served = ok;
-    wide = ap length zeros ∙ length-replicate (words_of x) 0;
-    home = Some new_page;
-    senders = slice_get (crowd x x.senders);
-    owners = [];
-    frames = [];
-    sending = (new_is_lawful X P laws x ok width starts owner_is (new_bus ws) (is_new ws zeros)).side.sending;
+    bus = new_bus ws;
+    trails = no_trails;
+    reached = New (new_bus ws) (is_new ws zeros);
+    alone = refl;
+    words = refl;
     slot = refl;
     seat = λ p. 0;
-    views = only;
+    views = only ws;
   }
 
-module _ {E : Type 0} (P : Protocol E (Unit {0}) ℕ) (x : Layout) where
-  cut_others : (frames : List Frame) (senders : ℕ → Option (Core E)) (seat : ℕ → ℕ) (k id count : ℕ) → seat k ≡ id → (j : ℕ) → j ≢ id → (v : View (Core E)) → Knows x frames senders seat j v → Knows x frames senders (sit seat k count) j v
-  cut_others frames senders seat k id count mine j other (Maker c) h = (h.0, λ q low high. let u = h.1 q low high in (sit_else seat k count q (λ e. other (sym u.0 ∙ (ap seat e ∙ mine))) ∙ u.0, u.1))
-  cut_others frames senders seat k id count mine j other (Sender c t) h = (sit_else seat k count c.me (λ e. other (sym h.0 ∙ (ap seat e ∙ mine))) ∙ h.0, h.1, h.2)
-  cut_others frames senders seat k id count mine j other (Tap c known) h = h
-  cut_others frames senders seat k id count mine j other (Meeting c known d told) h = h
-  cut_others frames senders seat k id count mine j other (Telling c t d known) h = (sit_else seat k count c.me (λ e. other (sym h.0 ∙ (ap seat e ∙ mine))) ∙ h.0, h.1, h.2, h.3, h.4)
-  cut_others frames senders seat k id count mine j other Spent h = tt
+  module _ (b : Bus E) (T : Trails) (seat : ℕ → ℕ) (k id count : ℕ) (mine : seat k ≡ id) (j : ℕ) (other : j ≢ id) where
+    seats_still : (q : ℕ) → seat q ≡ j → sit seat k count q ≡ j
+    seats_still q at = sit_else seat k count q (λ e. other (sym at ∙ ap seat e ∙ mine)) ∙ at
 
-  nothing : {A : Type 0} (xs : List A) → 0 ≡ length xs → xs ≡ []
-  nothing [] e = refl
-  nothing (y ∷ xs) e = absurd (omega arith)
-
-  new_published : (frames : List Frame) (p : ℕ) → 0 ≡ length (of_sender p (order_of frames)) → Published p [] frames
-  new_published frames p e = record { sent = nothing (of_sender p (order_of frames)) e; words = tt }
+    cut_others : (v : View (Core E)) → Knows x b T seat j v → Knows x b T (sit seat k count) j v
+    cut_others (Maker c) h = (h.0, λ q low high. let u = h.1 q low high in record { here = seats_still q u.here; core = u.core; deeds = u.deeds })
+    cut_others (Sender c t stored) h = record { here = seats_still c.me h.here; core = h.core; deeds = h.deeds; reached = h.reached }
+    cut_others (Tap c known) h = h
+    cut_others (Meeting c known d told) h = h
+    cut_others (Telling c t stored d known) h = (record { here = seats_still c.me h.0.here; core = h.0.core; deeds = h.0.deeds; reached = h.0.reached }, h.1)
+    cut_others Spent h = tt
 
   -- a seat for one more sender
-  pub cut_allowed : (id : ℕ) (c : Core E) → c.me < c.layout.senders → Splits (IsShown P x) id (Maker c) (cut_left (Maker c)) (cut_right (Maker c))
+  pub cut_allowed : (id : ℕ) (c : Core E) → c.me < c.layout.senders → Splits (IsShown X x) id (Maker c) (cut_left (Maker c)) (cut_right (Maker c))
   cut_allowed id c below s r at =
       let old = r.views id (Maker c) at in
       let layout : c.layout ≡ x = ap (λ (z : Core E). z.layout) old.0 in
@@ -124,63 +115,62 @@ module _ {E : Type 0} (P : Protocol E (Unit {0}) ℕ) (x : Layout) where
       let count : ℕ = length s.views in
       let seat : ℕ → ℕ = sit r.seat c.me count in
       let left : View (Core E) = Maker (next_core c) in
-      let right : View (Core E) = Sender c [] in
+      let right : View (Core E) = Sender c [] 0 in
       record {
         served = r.served;
-        wide = r.wide;
-        home = r.home;
-        senders = r.senders;
-        owners = r.owners;
-        frames = r.frames;
-        sending = r.sending;
+        bus = r.bus;
+        trails = r.trails;
+        reached = r.reached;
+        alone = r.alone;
+        words = r.words;
         slot = r.slot;
         seat = seat;
         views = λ j v e. elim (at_end (set s.views id left) right v j e) [
           | inl u ↦ ⊎_elim
-              (λ (y : (j ≡ id) × (left ≡ v)). subst (λ (z : ℕ × View (Core E)). Knows x r.frames r.senders seat z.0 z.1) (λ i. (sym y.0 i, y.1 i))
-              (ap (λ (z : Layout). new_core z (c.me + 1)) layout, λ q low high. let w = old.1 q (omega arith) high in (sit_else r.seat c.me count q (λ y. omega (arith, y)) ∙ w.0, w.1)))
-              (λ (y : (j ≢ id) × (get_elem? s.views j ≡ some v)). cut_others r.frames r.senders r.seat c.me id count mine.0 j y.0 v (r.views j v y.1))
+              (λ (y : (j ≡ id) × (left ≡ v)). subst (λ (z : ℕ × View (Core E)). Knows x r.bus r.trails seat z.0 z.1) (λ i. (sym y.0 i, y.1 i))
+              (ap (λ (z : Layout). new_core z (c.me + 1)) layout, λ q low high. let w = old.1 q (omega arith) high in record { here = sit_else r.seat c.me count q (λ y. omega (arith, y)) ∙ w.here; core = w.core; deeds = w.deeds }))
+              (λ (y : (j ≢ id) × (get_elem? s.views j ≡ some v)). cut_others r.bus r.trails r.seat c.me id count mine.here j y.0 v (r.views j v y.1))
               (at_set s.views id j left v u)
-          | inr u ↦ subst (λ (z : ℕ × View (Core E)). Knows x r.frames r.senders seat z.0 z.1) (λ i. (sym (u.0 ∙ length-set s.views id left) i, u.1 i))
-              (sit_here r.seat c.me count, mine.1 ∙ ap Some (sym old.0), new_published r.frames c.me (r.sending.parts c.me (new_core x c.me) mine.1).fits.1)
+          | inr u ↦ subst (λ (z : ℕ × View (Core E)). Knows x r.bus r.trails seat z.0 z.1) (λ i. (sym (u.0 ∙ length-set s.views id left) i, u.1 i))
+              (record { here = sit_here r.seat c.me count; core = mine.core ∙ ap Some (sym old.0); deeds = mine.deeds; reached = omega arith })
         ];
       }
 
-module _ {E : Type 0} (P : Protocol E (Unit {0}) ℕ) (x : Layout) where
   -- a seat for one more receiver
-  pub tap_allowed : (id : ℕ) (c : Core E) → Splits (IsShown P x) id (Maker c) (tap_left (Maker c)) (tap_right (Maker c))
+  pub tap_allowed : (id : ℕ) (c : Core E) → Splits (IsShown X x) id (Maker c) (tap_left (Maker c)) (tap_right (Maker c))
   tap_allowed id c s r at = record {
     served = r.served;
-    wide = r.wide;
-    home = r.home;
-    senders = r.senders;
-    owners = r.owners;
-    frames = r.frames;
-    sending = r.sending;
+    bus = r.bus;
+    trails = r.trails;
+    reached = r.reached;
+    alone = r.alone;
+    words = r.words;
     slot = r.slot;
     seat = r.seat;
     views = λ j v e. elim (at_end (set s.views id (Maker c)) (Tap c []) v j e) [
       | inl u ↦ ⊎_elim
-          (λ (y : (j ≡ id) × (Maker c ≡ v)). subst (λ (z : ℕ × View (Core E)). Knows x r.frames r.senders r.seat z.0 z.1) (λ i. (sym y.0 i, y.1 i)) (r.views id (Maker c) at))
+          (λ (y : (j ≡ id) × (Maker c ≡ v)). subst (λ (z : ℕ × View (Core E)). Knows x r.bus r.trails r.seat z.0 z.1) (λ i. (sym y.0 i, y.1 i)) (r.views id (Maker c) at))
           (λ (y : (j ≢ id) × (get_elem? s.views j ≡ some v)). r.views j v y.1)
           (at_set s.views id j (Maker c) v u)
-      | inr u ↦ subst (Knows x r.frames r.senders r.seat j) u.1 (ap (λ (z : Core E). z.layout) (r.views id (Maker c) at).0, record { rest = log_words r.frames; together = refl })
+      | inr u ↦ subst (Knows x r.bus r.trails r.seat j) u.1 (record { layout = ap (λ (z : Core E). z.layout) (r.views id (Maker c) at).0; front = record { rest = log_in_bus x r.bus; together = refl } })
     ];
   }
 
 -- a sender shows the seat that was made for it
-pub shows_new : {E : Type 0} (x : Layout) (k : ℕ) (c : Core E) (v : View (Core E)) (s : Seat (Option Page) (View (Core E))) → c ≡ new_core x k → v ≡ Maker (new_core x k) → s.me ≡ (cut_right v, []) → s.table_id.words ≡ words_of x → s.table_id.slots ≡ 1 → Shows c s
-shows_new {E} x k c v s is maker me words slots =
-    let now : s.me ≡ (Sender c [], []) = me ∙ ap (λ (y : View (Core E)). (cut_right y, [])) maker ∙ ap (λ (y : Core E). (Sender y [], [])) (sym is) in
+pub shows_new : {E : Type 0} (x : Layout) (k : ℕ) (c : Core E) (v : View (Core E)) (s : Seat (Option Page) (View (Core E))) → x.capacity < 2 ^ 40 → c ≡ new_core x k → v ≡ Maker (new_core x k) → s.me ≡ (cut_right v, []) → s.table_id.words ≡ words_of x → s.table_id.slots ≡ 1 → Shows c s
+shows_new {E} x k c v s few is maker me words slots =
+    let now : s.me ≡ (Sender c [] 0, []) = me ∙ ap (λ (y : View (Core E)). (cut_right y, [])) maker ∙ ap (λ (y : Core E). (Sender y [] 0, [])) (sym is) in
     record {
       shown = c;
-      grown = record { accepted = []; each = tt; is = refl };
-      me = now ∙ (λ i. (Sender c (trail_in (sym now i).0), carried_of (sym is i).phase));
+      deeds = [];
+      accepts = Nothing;
+      counted = subst IsCounted (sym is) (record { first = omega arith; few = omega arith; capacity = few });
+      me = now ∙ (λ i. (Sender c (trail_in (sym now i).0) (stored_in (sym now i).0), carried_of (sym is i).phase));
       words = words ∙ ap (λ (y : Core E). words_of y.layout) (sym is);
       slots = slots;
     }
 
-pub one_more : {E : Type 0} (x : Layout) (table : TableId) (many : ℕ) (senders : List (Core E × Seat (Option Page) (View (Core E)))) (s : Core E × Seat (Option Page) (View (Core E))) → AreNewSeats x table many senders → IsNewSeat x table many s → AreNewSeats x table (many + 1) (senders ++ s ∷ [])
+pub one_more : {E : Type 0} (x : Layout) (table : TableId) (many : ℕ) (senders : List (Seated E)) (s : Seated E) → AreNewSeats x table many senders → IsNewSeat x table many s → AreNewSeats x table (many + 1) (senders ++ s ∷ [])
 one_more x table many senders s h new = record {
   many_are = length-append senders (s ∷ []) ∙ (let z = h.many_are in omega arith);
   each = λ p y e.

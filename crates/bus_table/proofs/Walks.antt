@@ -1,26 +1,27 @@
 -- The parts of a sender's turn, put together: what it holds afterwards, and that its seat shows it.
-use Rattle.std.proofs.Common.{◌≡◌, ℕ, ◌+◌, ◌*◌, ◌/◌, ◌%◌, ◌<◌, ◌^◌, ◌==◌, Bool, true, false, cond, nat_le, eqb, Option, Some, None, IsSome, List, [], ◌∷◌, ◌++◌, arith, refl, sym, ◌∙◌, ap, subst}
+use Rattle.std.proofs.Common.{◌≡◌, ℕ, ◌+◌, ◌/◌, ◌<◌, ◌==◌, Bool, true, false, cond, nat_le, Option, Some, None, List, [], ◌∷◌, ◌++◌, arith, refl, sym, ◌∙◌, ap, subst}
 use prog.Atomic.{either}
+use Rattle.std.proofs.lemmas.List.{append-nil}
 use Rattle.std.proofs.lemmas.Option.{same_Some}
-use Rattle.atomic_table.specs.declared.shared.Seat.{Seat}
 use Rattle.atomic_table.specs.Table.{Allows, rest}
 use Rattle.bus_register.specs.declared.registers.Op.{Op}
 use Rattle.bus_register.specs.declared.registers.Op.TheVariants.{Load, Store}
 use Rattle.bus_register.specs.Words.{register, after, SumFits}
 use Rattle.bus_register.specs.Protocol.{Protocol, Laws}
-use Rattle.bus_tenure.specs.Core.{Core, Election, Layout, words_of, Situation, IsClosed, IsIdle, IsSpent, LooksAtStage, Elects, TakesPage, AwaitsPage, StoresWord, StoresLength, GivesBack, HasHanded, situation_of, op_at, fed_at, answer_at, waits, begun, saw_stage, elected, rested}
+use Rattle.bus_tenure.specs.Core.{Core, Election, Layout, words_of, Situation, IsClosed, IsIdle, IsSpent, LooksAtStage, Elects, TakesPage, AwaitsPage, StoresWord, StoresLength, GivesBack, HasHanded, situation_of, op_at, fed_at, answer_at, waits, begun, elected, rested, answer_of_election}
 use Rattle.bus_tenure.specs.Seen.{AwaitsItsPage}
 use Rattle.bus_tenure.specs.declared.pages.Page.{Page}
 use Rattle.bus_tenure.specs.declared.phases.Phase.{Phase}
 use Rattle.bus_tenure.specs.declared.phases.Phase.TheVariants as phase
 use Rattle.bus_ownerbits.specs.ElectionKeeps.{OneOwner}
+use Rattle.bus_world.proofs.Serving.{Serves}
 use Rattle.bus_world.specs.Turning.{core_after, laid}
 use Rattle.bus_world.specs.TurnParts.{handed, laid_at}
-use Rattle.bus_table.specs.declared.rule.Entry.{Entry}
-use Rattle.bus_table.specs.declared.rule.View.{View}
 use Rattle.bus_table.specs.declared.rule.View.TheVariants.{Sender}
-use Rattle.bus_table.specs.Rule.{Sat, trail_in, IsShown}
-use Rattle.bus_table.specs.Steps.{Grown, carried_of, out_with, carried_by, slot_in, emptied, entry, Gone, GoesOn, IsDue, Due}
+use Rattle.bus_table.specs.Rule.{Sat, trail_in, stored_in, IsShown}
+use Rattle.bus_table.specs.Steps.{carried_of, out_with, carried_by, slot_in, emptied, IsCounted, since_in, deeds_in, deeds_at, stored_at, Told, Gone, GoesOn, Due}
+use Rattle.bus_table.specs.Steps.Accepts.{Nothing}
+use Rattle.bus_table.proofs.Accepting.{since_is}
 use Rattle.bus_table.proofs.Situations.{tells}
 use Rattle.bus_table.proofs.Ties.{goes_allowed}
 
@@ -47,12 +48,29 @@ module _ {E : Type 0} (X : Election E) (P : Protocol E (Unit {0}) ℕ) (laws : L
   pub store_blind : (word : ℕ) (o : Op) (r v : ℕ) → o ≡ Store record { 0 = r } v → (d : Core E) → op_at X d (situation_of X d) word ≡ Some o → (got got' : ℕ) (home : Option Page) → core_after X d (situation_of X d) home got word ≡ core_after X d (situation_of X d) home got' word
   store_blind word o r v is d due = store_blind_at d word o r v is (situation_of X d) due
 
-  module _ (x : Layout) (width : x.width ≡ P.width x.senders) (starts : (n me at : ℕ) → X.started n me x.rounds at ≡ P.started n me tt at) (owner_is : (e : E) → X.owner e ≡ P.output e) where
-    pub picked_allowed : (slots id : ℕ) (m : Sat E) (k : Option (Core E)) (word : ℕ) (o : Op) (many : ℕ) → Due X k word m many o → (f g : ℕ → ℕ) → ((n : ℕ) → SumFits o n → f n ≡ after o n)
-        → ((d : Core E) → op_at X d (situation_of X d) word ≡ Some o → (n : ℕ) (home : Option Page) → core_after X d (situation_of X d) home (g n) word ≡ core_after X d (situation_of X d) home n word)
-        → Allows (IsShown P x) slots id m (register o) f (λ n. GoesOn X k word m (g n))
-    picked_allowed slots id m None word o many due f g writes blind = absurd due
-    picked_allowed slots id m (Some d) word o many due f g writes blind = goes_allowed X P laws x width starts owner_is slots id m d word o many due f g writes (blind d due.due)
+  answer_blind_at : (d : Core E) (word : ℕ) (o : Op) (r v : ℕ) → o ≡ Store record { 0 = r } v → (z : Situation E) → op_at X d z word ≡ Some o → (got got' : ℕ) → answer_at X d z got word ≡ answer_at X d z got' word
+  answer_blind_at d word o r v is IsClosed due got got' = refl
+  answer_blind_at d word o r v is IsIdle due got got' = refl
+  answer_blind_at d word o r v is IsSpent due got got' = refl
+  answer_blind_at d word o r v is LooksAtStage due got got' = absurd (let bad : Load record { 0 = 1 } ≡ Store record { 0 = r } v = same_Some _ _ due ∙ is in let wrong : ⊥ = cc in wrong)
+  answer_blind_at d word o r v is (Elects t e) due got got' = ap (λ u. answer_of_election d t (X.owner u)) (laws.blind e got got' word o due (r, v, is))
+  answer_blind_at d word o r v is (TakesPage t) due got got' = refl
+  answer_blind_at d word o r v is (AwaitsPage t) due got got' = refl
+  answer_blind_at d word o r v is (StoresWord t page stored) due got got' = refl
+  answer_blind_at d word o r v is (StoresLength t page stored) due got got' = refl
+  answer_blind_at d word o r v is (GivesBack t page leaving) due got got' = refl
+  answer_blind_at d word o r v is (HasHanded t leaving) due got got' = refl
+
+  pub answer_blind : (word : ℕ) (o : Op) (r v : ℕ) → o ≡ Store record { 0 = r } v → (d : Core E) → op_at X d (situation_of X d) word ≡ Some o → (got got' : ℕ) → answer_at X d (situation_of X d) got word ≡ answer_at X d (situation_of X d) got' word
+  answer_blind word o r v is d due = answer_blind_at d word o r v is (situation_of X d) due
+
+module _ {E : Type 0} (X : Election E) (P : Protocol E (Unit {0}) ℕ) (x : Layout) (s : Serves X P x) where
+  pub picked_allowed : (slots id : ℕ) (m : Sat E) (k : Option (Core E)) (word : ℕ) (o : Op) (many : ℕ) → Due X k word m many o → (f g : ℕ → ℕ) → ((n : ℕ) → SumFits o n → f n ≡ after o n) → ((n : ℕ) → Told o n (g n))
+      → ((d : Core E) → op_at X d (situation_of X d) word ≡ Some o → (n : ℕ) (home : Option Page) → core_after X d (situation_of X d) home (g n) word ≡ core_after X d (situation_of X d) home n word)
+      → ((d : Core E) → op_at X d (situation_of X d) word ≡ Some o → (n : ℕ) → answer_at X d (situation_of X d) (g n) word ≡ answer_at X d (situation_of X d) n word)
+      → Allows (IsShown X x) slots id m (register o) f (λ n. GoesOn X k word m (g n))
+  picked_allowed slots id m None word o many due f g writes says blind mute = absurd due
+  picked_allowed slots id m (Some d) word o many due f g writes says blind mute = goes_allowed X P x s slots id m d word o many due f g writes says (blind d due.due) (mute d due.due)
 
 pub swaps : (b : Bool) (x y : ℕ) → either b x y ≡ cond b x y
 swaps true x y = refl
@@ -187,24 +205,34 @@ module _ {E : Type 0} (X : Election E) (d : Core E) where
     pub ended : Ends d2 (core_after X d (situation_of X d) gone.home got word) m2.1
     ended = subst (λ (y : Core E × List (ℕ × Option Page)). Ends y.0 (core_after X d (situation_of X d) gone.home got word) y.1) (λ i. (sym fed_is i, sym out_is i)) (ends (situation_of X d) refl word o due gone.home gone.taken got)
 
-    pub trail_is : trail_in m2.0 ≡ trail_in m.0 ++ entry X d got ∷ []
-    trail_is = ap (λ (y : Sat E). trail_in y.0) gone.now ∙ ap (λ (y : Sat E). trail_in y.0 ++ entry X d got ∷ []) put_me
-
     module _ (m3 : Sat E) (d3 : Core E) (laid_is : d3 ≡ laid_at d2 d2.phase (slot_in m2.1)) (me_is : m3 ≡ (m2.0, emptied d2.phase m2.1)) where
       pub core_is : d3 ≡ core_after X d (situation_of X d) gone.home got word
       core_is = laid_is ∙ ended.core
 
-      pub trail_now : trail_in m3.0 ≡ trail_in m.0 ++ entry X d got ∷ []
-      trail_now = ap (λ (y : Sat E). trail_in y.0) me_is ∙ trail_is
+      pub deeds_now : trail_in m3.0 ≡ deeds_in m.0 d ++ deeds_at X d gone.found word
+      deeds_now = ap (λ (y : Sat E). trail_in y.0) me_is ∙ ap (λ (y : Sat E). trail_in y.0) gone.now ∙ ap (λ (y : Sat E). deeds_in y.0 d ++ deeds_at X d gone.found word) put_me
 
-      pub me_now : m3 ≡ (Sender d3 (trail_in m3.0), carried_of d3.phase)
+      pub stored_now : stored_in m3.0 ≡ stored_at d (situation_of X d) (stored_in m.0)
+      stored_now = ap (λ (y : Sat E). stored_in y.0) me_is ∙ ap (λ (y : Sat E). stored_in y.0) gone.now ∙ ap (λ (y : Sat E). stored_at d (situation_of X d) (stored_in y.0)) put_me
+
+      pub me_now : m3 ≡ (Sender d3 (trail_in m3.0) (stored_in m3.0), carried_of d3.phase)
       me_now = me_is
           ∙ (λ i. ((gone.now i).0, ended.slot i))
-          ∙ (λ i. (Sender (sym core_is i) (trail_in m1.0 ++ entry X d got ∷ []), carried_of (sym core_is i).phase))
-          ∙ (λ i. (Sender d3 (same_trail i), carried_of d3.phase))
+          ∙ (λ i. (Sender (sym core_is i) (deeds_in m1.0 d ++ deeds_at X d gone.found word) (stored_at d (situation_of X d) (stored_in m1.0)), carried_of (sym core_is i).phase))
+          ∙ (λ i. (Sender d3 (same_trail i) (same_stored i), carried_of d3.phase))
         where
-          same_trail : trail_in m1.0 ++ entry X d got ∷ [] ≡ trail_in m3.0
+          same_trail : deeds_in m1.0 d ++ deeds_at X d gone.found word ≡ trail_in m3.0
           same_trail = sym (ap (λ (y : Sat E). trail_in y.0) gone.now) ∙ sym (ap (λ (y : Sat E). trail_in y.0) me_is)
+
+          same_stored : stored_at d (situation_of X d) (stored_in m1.0) ≡ stored_in m3.0
+          same_stored = sym (ap (λ (y : Sat E). stored_in y.0) gone.now) ∙ sym (ap (λ (y : Sat E). stored_in y.0) me_is)
+
+      -- nothing was accepted since
+      pub all_now : deeds_in m3.0 d3 ≡ deeds_in m.0 d ++ deeds_at X d gone.found word
+      all_now = ap (λ l. trail_in m3.0 ++ l) (ap (λ (y : Sat E). since_in y.0 d3) me_now ∙ since_is d3 d3 [] Nothing) ∙ append-nil (trail_in m3.0) ∙ deeds_now
+
+      pub counted_now : IsCounted d3
+      counted_now = subst IsCounted (sym core_is) gone.counted
 
       pub wide_now : (words : ℕ) → words ≡ words_of d.layout → words ≡ words_of d3.layout
       wide_now words e = e ∙ ap words_of (sym (ap (λ (z : Core E). z.layout) core_is ∙ layout_stays X d (situation_of X d) gone.home got word))

@@ -2,35 +2,39 @@
 
 use atomic_table::{Join, Play, Seat, Shared, Split, Table, TableRule};
 use bus_adoptcommit::Ratifier;
-use bus_batch::Item;
-use bus_register::Kind;
 use bus_tenure::{Page, SenderCore};
 use bus_world::Shape;
 use std::alloc::Global;
 use std::collections::LinkedList;
-use std::marker::{Brand, PhantomData};
+use std::marker::{Brand, Model, PhantomData};
 
-/// A step that was taken: what it was for, and what it found (at a store, what it stored); where it published a frame, the
-/// items of that and the length that it stored.
-pub struct Entry {
-    pub kind: Option<Kind>,
-    pub got: u64,
-    pub sent: LinkedList<Item>,
-    pub words: u64,
+/// What a sender did, as the page of promises lists it. No value of it is made.
+pub struct Trail {
+    of: PhantomData<()>,
+}
+
+impl Model for Trail {
+    ghost use Rattle.std.specs.Prelude.{List, []};
+    ghost use Rattle.bus_world.specs.Headline.{Deed};
+
+    ghost Value = { List Deed };
+
+    ghost view = { λ _. [] };
 }
 
 /// What a seat shows, of a bus whose senders are of type C. No value of it is made.
 pub enum View<C> {
     /// The senders from this one on have no seat yet.
     Maker(C),
-    /// A sender as it was after its last step, and the steps that it has taken.
-    Sender(C, LinkedList<Entry>),
+    /// A sender as it was after its last step, all that it did until then, and the last length that it
+    /// has stored.
+    Sender(C, Trail, u64),
     /// A receiver, with the words of the log that it knows, on a bus of such senders.
     Tap(C, LinkedList<u64>),
     /// Two receivers, joined while they meet.
     Meeting(C, LinkedList<u64>, C, LinkedList<u64>),
     /// A sender and a receiver, joined while the one tells the other.
-    Telling(C, LinkedList<Entry>, C, LinkedList<u64>),
+    Telling(C, Trail, u64, C, LinkedList<u64>),
     Spent,
 }
 
@@ -39,13 +43,13 @@ pub struct BusRule<Q> {
 }
 
 impl<Q: Ratifier> TableRule<Option<Page>, View<SenderCore<Q>>, Shape> for BusRule<Q> {
-    ghost use Rattle.bus_tenure.specs.Elections.{elections};
+    ghost use Rattle.bus_tenure.specs.Elections.{election_of};
     ghost use Rattle.bus_world.specs.Playing.{layout_of};
     ghost use Rattle.bus_world.specs.World.{new_core};
     ghost use Rattle.bus_table.specs.declared.rule.View.TheVariants.{Maker};
     ghost use Rattle.bus_table.specs.Rule.{IsShown};
 
-    ghost holds = { λ key. IsShown (elections Q.protocol key.rounds) (layout_of Q.protocol key) };
+    ghost holds = { λ key. IsShown (election_of Q.Ratifier) (layout_of Q.protocol key) };
 
     ghost first = { λ key. Maker (new_core (layout_of Q.protocol key) 0) };
 }

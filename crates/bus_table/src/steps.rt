@@ -1,20 +1,19 @@
 //! One step of a sender on one word, with which the page comes to it or goes home.
 
-ghost use Rattle.std.specs.Prelude.{◌≡◌, ℕ, ◌+◌, ◌<◌, List, [], ◌∷◌, ◌++◌, Option, Some, IsSome};
+ghost use Rattle.std.specs.Prelude.{◌≡◌, ℕ, ◌+◌, ◌<◌, List, [], ◌∷◌, ◌++◌, Option, Some};
 ghost use Rattle.atomic_table.specs.Table.{rest};
 ghost use Rattle.bus_register.specs.Words.{register};
-ghost use Rattle.bus_tenure.specs.Core.{words_of, situation_of, op_at, fed_at, answer_at};
+ghost use Rattle.bus_tenure.specs.Core.{words_of, situation_of, op_at};
 ghost use Rattle.bus_tenure.specs.Elections.{election_of};
 ghost use Rattle.bus_tenure.specs.Seen.{AwaitsItsPage};
 ghost use Rattle.bus_world.specs.TurnParts.{handed, laid_at};
-ghost use Rattle.bus_table.specs.Rule.{trail_in};
-ghost use Rattle.bus_table.specs.Steps.{carried_of, out_with, GoesOn, Due, slot_in, emptied};
+ghost use Rattle.bus_table.specs.Steps.{carried_of, out_with, stored_at, GoesOn, Due, slot_in, emptied};
 ghost use Rattle.bus_table.specs.Seats.{Shows, Took};
 
 use crate::rule::{Goes, Place, Told, Top};
 use bus_adoptcommit::Ratifier;
 use bus_ownerbits::laws::election_is_lawful;
-use bus_register::Op;
+use bus_register::{Kind, Op};
 use bus_tenure::{SenderCore, Turn};
 
 /// A sender that is to give the page back puts it into its slot.
@@ -85,11 +84,33 @@ pub(crate) fn walk<Q: Ratifier + Drop, K: Told<SenderCore<Q>>>(
     requires below { register op < words_of core.old.layout }
     ensures table { (seat.new.table_id ≡ seat.old.table_id) × (seat.new.id ≡ seat.old.id) }
     ensures shows { Shows core.new seat.new }
-    ensures took { let X = election_of Q.Ratifier in Took X core.old seat.old word result core.new seat.new }
+    ensures took { let X = election_of Q.Ratifier in Took X (record { core = core.old; seat = seat.old }) word result (record { core = core.new; seat = seat.new }) }
 {
     put_out(top, seat, core);
     let got = step::<Q, K>(top, seat, op);
     let turn = core.feed(got, word);
     take_in(top, seat, core);
     turn
+}
+
+/// The last length that a sender has stored, once this step of it is taken. `before` is the one that
+/// it had stored until then.
+pub(crate) fn length_after<Q: Ratifier + Drop>(
+    core: &SenderCore<Q>,
+    op: Op,
+    word: u32,
+    before: u64,
+) -> u64
+    requires { let X = election_of Q.Ratifier in op_at X core.now (situation_of X core.now) word ≡ Some op }
+    ensures { let X = election_of Q.Ratifier in result ≡ stored_at core.now (situation_of X core.now) before }
+{
+    let _ = word;
+    let Op::Store(_, value) = op else {
+        return before;
+    };
+    if core.kind() == Some(Kind::StoreLength) && core.turns_left() == 0 {
+        value
+    } else {
+        before
+    }
 }

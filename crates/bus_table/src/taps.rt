@@ -1,15 +1,16 @@
 //! A receiver's seat, and its loads.
 
 ghost use Rattle.std.specs.Prelude.{◌≡◌, ℕ, ◌<◌, length, slice_index};
-ghost use Rattle.bus_table.specs.Rule.{known_in, trail_in};
+ghost use Rattle.bus_table.specs.Rule.{known_in};
 ghost use Rattle.bus_table.specs.Steps.{Learns, KnowsSent};
-ghost use Rattle.bus_table.specs.Seats.{IsTap, spot};
+ghost use Rattle.bus_table.specs.Seats.{IsTap, spot, table_of, deeds_of, stored_of};
 
 use crate::buses::Bus;
 use crate::meetings::meeting;
 use crate::rule::{LoadsLength, LoadsWord, Place};
 use crate::seats::Sender;
 use bus_adoptcommit::Ratifier;
+use bus_ownerbits::laws::election_is_lawful;
 use std::marker::Model;
 
 /// A receiver's seat.
@@ -56,6 +57,7 @@ impl<Q: Ratifier + Drop> Tap<Q> {
         ensures table { self.new.table_id ≡ self.old.table_id }
         ensures learns { Learns self.old.me result self.new.me }
     {
+        election_is_lawful::<Q>();
         let mut seat = self.seat.take().unwrap();
         let length = bus.table.shared.load::<LoadsLength<Q>>(&mut seat, 0);
         self.seat = Some(seat);
@@ -99,11 +101,11 @@ impl<Q: Ratifier + Drop> Tap<Q> {
 
     /// A sender tells: what is known then has all that the sender has published, and nothing else of that sender.
     pub fn told(&mut self, sender: &mut Sender<Q>, bus: &Bus<Q>) -> u64
-        requires table { (self.old.table_id ≡ bus.now.table.shared.table_id) × (sender.old.1.table_id ≡ bus.now.table.shared.table_id) }
-        ensures table { (self.new.table_id ≡ self.old.table_id) × (sender.new.1.table_id ≡ sender.old.1.table_id) }
-        ensures sender { (sender.new.0 ≡ sender.old.0) × (sender.new.1.me ≡ sender.old.1.me) }
+        requires table { (self.old.table_id ≡ bus.now.table.shared.table_id) × (table_of sender.old ≡ bus.now.table.shared.table_id) }
+        ensures table { (self.new.table_id ≡ self.old.table_id) × (table_of sender.new ≡ table_of sender.old) }
+        ensures sender { (sender.new.core ≡ sender.old.core) × (sender.new.seat.me ≡ sender.old.seat.me) }
         ensures learns { Learns self.old.me result self.new.me }
-        ensures sent { KnowsSent sender.old.0.layout.senders sender.old.0.me (trail_in sender.old.1.me.0) (known_in self.new.me.0) }
+        ensures sent { KnowsSent sender.old.core (deeds_of sender.old) (stored_of sender.old) (known_in self.new.me.0) }
     {
         let mine = self.seat.take().unwrap();
         let (length, mine) = sender.tell(bus, mine);

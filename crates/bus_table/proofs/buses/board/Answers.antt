@@ -1,8 +1,8 @@
-use Rattle.std.proofs.Common.{rules, ◌≡◌, ◌*◌, ◌+◌, ◌≤◌, ◌^◌, ℕ, Option, Some, List, [], ◌∷◌, replicate, refl, sym, ◌∙◌, subst, arith, ap}
+use Rattle.std.proofs.Common.{rules, ◌≡◌, ◌*◌, ◌+◌, Option, Some, List, [], ◌∷◌, replicate, sym, ◌∙◌, subst, arith, ap}
 use Rattle.std.proofs.lemmas.Grind.{common_steps}
 use Rattle.atomic_table.specs.Table.{opening}
 use Rattle.bus_tenure.specs.Core.{words_of}
-use Rattle.bus_tenure.specs.Elections.{elections, election_with, layout_with}
+use Rattle.bus_tenure.specs.Elections.{election_with, layout_with}
 use Rattle.bus_tenure.specs.declared.pages.Page.{Page}
 use Rattle.bus_world.proofs.ViewingLaws.{few_words}
 use Rattle.bus_world.specs.World.{new_core, new_page}
@@ -33,11 +33,9 @@ pub new-requires : goal.new-requires
 new-requires g c =
     let shape = c.args.shape in
     let X = election_with g.Q.Machine.kind_of g.Q.Machine.op g.Q.Machine.fed g.Q.Ratifier.protocol in
-    let P = elections g.Q.Ratifier.protocol shape.rounds in
     let x = layout_with g.Q.Ratifier.protocol shape.senders shape.rounds shape.rows shape.log_words in
-    let laws = c.election_is_lawful.ensures.lawful.laws shape.rounds in
     let zeros : c.as_slice.result.now ≡ replicate (2 + shape.rows * c.width-width.result + shape.log_words) 0 = (first_of (search rules, grind (arith, common_steps))) in
     let wide : 2 + shape.rows * c.width-width.result + shape.log_words ≡ words_of x = ap (λ w. 2 + shape.rows * w + shape.log_words) c.width-width.ensures.protocol in
     let one : c.push.new.self.items ≡ Some new_page ∷ [] = (first_of (search rules, grind (arith, common_steps))) in
-    subst (λ (xs : List (Option Page)). IsShown P x (opening c.as_slice.result.now xs (Maker (new_core x 0)))) (sym one)
-    (opens X P laws x (record { senders = c.requires.senders.1; rows = (let z = c.requires.rows.1 in omega arith); capacity = (let z = c.requires.log_words.1 in omega arith) }) refl (λ n me at. refl) (λ e. refl) c.as_slice.result.now (zeros ∙ ap (λ w. replicate w 0) wide))
+    subst (λ (xs : List (Option Page)). IsShown X x (opening c.as_slice.result.now xs (Maker (new_core x 0)))) (sym one)
+    (opens X x (record { senders = c.requires.senders.1; rows = (let z = c.requires.rows.1 in omega arith); capacity = (let z = c.requires.log_words.1 in omega arith) }) c.as_slice.result.now (zeros ∙ ap (λ w. replicate w 0) wide))
