@@ -22,8 +22,8 @@ use Rattle.bus_table.specs.declared.rule.View.TheVariants.{Maker, Sender, Tap, M
 use Rattle.bus_table.specs.Rule.{tap_left, tap_right, trail_in, stored_in, next_core, cut_left, cut_right, log_in_bus, Knows, IsShown}
 use Rattle.bus_table.specs.Steps.{carried_of, IsCounted}
 use Rattle.bus_table.specs.Steps.Accepts.{Nothing}
-use Rattle.bus_table.specs.Seats.{Seated, Shows}
-use Rattle.bus_table.specs.Buses.{IsNewSeat, AreNewSeats}
+use Rattle.bus_table.specs.Seats.{Seated, Spot, Shows}
+use Rattle.bus_table.specs.Buses.{IsNewSeat, AreNewSeats, IsNewTap, AreNewTaps}
 use Rattle.atomic_table.specs.Seated.{TableId}
 
 -- one seat replaced
@@ -181,5 +181,18 @@ one_more x table many senders s h new = record {
             let here : p ≡ length senders = omega arith in
             subst (λ z. IsNewSeat x table z y) (sym here) (subst (IsNewSeat x table (length senders)) (same_Some _ _ (sym (push_here senders s (length senders) refl) ∙ ap (slice_get (senders ++ s ∷ [])) (sym here) ∙ e))
             (subst (λ z. IsNewSeat x table z s) (sym h.many_are) new))
+      ];
+}
+
+pub one_more_tap : {E : Type 0} (table : TableId) (many : ℕ) (taps : List (Spot E)) (t : Spot E) → AreNewTaps table many taps → IsNewTap table t → AreNewTaps table (many + 1) (taps ++ t ∷ [])
+one_more_tap table many taps t h new = record {
+  many_are = length-append taps (t ∷ []) ∙ (let z = h.many_are in omega arith);
+  each = λ r y e.
+      let within = slice_get_within (taps ++ t ∷ []) r y e in let size = length-append taps (t ∷ []) in
+      elim (cases_lt r (length taps)) [
+        | inl l ↦ h.each r y (sym (push_beside taps t r (λ i. absurd (omega arith))) ∙ e)
+        | inr l ↦
+            let here : r ≡ length taps = omega arith in
+            subst (IsNewTap table) (same_Some _ _ (sym (push_here taps t (length taps) refl) ∙ ap (slice_get (taps ++ t ∷ [])) (sym here) ∙ e)) new
       ];
 }

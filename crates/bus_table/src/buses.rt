@@ -1,134 +1,84 @@
-//! The bus: how it is made.
+//! The bus: how it is made, and how it ends.
 
-ghost use Rattle.std.specs.Prelude.{◌≡◌, ℕ, ◌+◌, ◌<◌, ◌≤◌, ◌^◌, List, [], IfOk, OnOk, IfErr};
-ghost use Rattle.bus_tenure.specs.Core.{words_of, log_at};
+ghost use Rattle.std.specs.Prelude.{◌≡◌, ℕ, List, Some, None, IfOk, OnErr, IfErr, [], ◌≤◌};
+ghost use Rattle.std.specs.Vec.{vec_len, vec_capacity};
+ghost use Rattle.bus_tenure.specs.Elections.{election_of};
 ghost use Rattle.bus_world.specs.Playing.{layout_of, IsServed, MakeRefused};
-ghost use Rattle.bus_world.specs.World.{new_core};
-ghost use Rattle.bus_table.specs.declared.rule.View.TheVariants.{Maker};
 ghost use Rattle.bus_table.specs.Rule.{known_in};
-ghost use Rattle.bus_table.specs.Buses.{IsBoard, IsNewSeat, AreNewSeats};
+ghost use Rattle.bus_table.specs.Buses.{AreNewSeats, AreNewTaps};
+ghost use Rattle.bus_table.specs.Endings.{IsLeft};
 
-use crate::rule::{Board, Cut, CutTap, Place, Top};
+use crate::outcomes::{EndFault, Ended, leave};
+use crate::rule::Board;
+use crate::seating::{board, seat_all, tap_all};
 use crate::seats::Sender;
 use crate::taps::Tap;
-use atomic_table::Table;
 use bus_adoptcommit::Ratifier;
-use bus_ownerbits::Election;
-use bus_ownerbits::laws::election_is_lawful;
-use bus_register::{NoMemory, SenderNo};
-use bus_tenure::{Page, SenderCore};
+use bus_register::NoMemory;
 use bus_world::{MakeFault, Shape};
 use std::alloc::Global;
 
+/// A bus that threads share by `&`, without a lock: each step of a sender or of a receiver is one
+/// atomic step on one word of its table.
 #[derive(Drop)]
 pub struct Bus<Q: Ratifier> {
     pub(crate) table: Board<Q>,
+    log_words: u64,
+    room: Vec<u64>,
+    ghost sized: { log_words ≡ table.shared.key.log_words },
+    ghost empty: { (room.items ≡ []) × (vec_len room ≡ 0) },
+    ghost roomy: { log_words ≤ vec_capacity room },
 }
 
 impl<Q: Ratifier + Drop> Bus<Q> {
-    /// A new bus, with its words at zero and its page at home, and each of its senders, in order.
-    pub fn new(alloc: Global, shape: Shape) -> Result<(Bus<Q>, Vec<Sender<Q>>), MakeFault>
+    /// A new bus of this shape, with its words at zero and its page at home, and each of its senders
+    /// and of its receivers, in order. All memory is taken here: no later call takes any.
+    pub fn new(
+        alloc: Global,
+        shape: Shape,
+    ) -> Result<(Bus<Q>, Vec<Sender<Q>>, Vec<Tap<Q>>), MakeFault>
+        ensures shape { IfOk result (λ made. made.0.table.shared.key ≡ shape) }
         ensures senders { IfOk result (λ made. AreNewSeats (layout_of Q.protocol shape) made.0.table.shared.table_id shape.senders made.1.items) }
+        ensures taps { IfOk result (λ made. AreNewTaps made.0.table.shared.table_id shape.receivers made.2.items) }
+        ensures served { IfOk result (λ _. IsServed shape) }
         ensures fault { IfErr result (MakeRefused shape) }
     {
         if let Some(fault) = shape.fault() {
             return Err(fault);
         }
         let (table, maker) = board(alloc, shape)?;
-        let senders = seat_all(alloc, shape, &table.shared, maker)?;
-        Ok((Bus { table }, senders))
+        let log = table.word_count() as u64 - shape.log_words;
+        let (senders, maker) = seat_all(alloc, shape, &table.shared, maker)?;
+        let taps = tap_all(alloc, shape, &table.shared, maker, log)?;
+        let room = roomy(alloc, shape.log_words)?;
+        let bus = Bus {
+            table,
+            log_words: shape.log_words,
+            room,
+        };
+        Ok((bus, senders, taps))
+    }
+
+    /// Ends the bus, by a receiver of it: its log and its page, where the page is at home, and
+    /// PageOut where a sender that took it has not given it back. Bus and receiver are gone in either
+    /// case.
+    pub fn end(self, tap: Tap<Q>) -> Result<Ended, EndFault>
+        requires { tap.table_id ≡ self.table.shared.table_id }
+        ensures ended { let X = election_of Q.Ratifier in IfOk result (λ left. IsLeft X (layout_of Q.protocol self.table.shared.key) (known_in tap.me.0) left.log.items (Some left.page)) }
+        ensures out { let X = election_of Q.Ratifier in OnErr result ((log : List ℕ) × IsLeft X (layout_of Q.protocol self.table.shared.key) (known_in tap.me.0) log None) }
+    {
+        let Bus {
+            table,
+            log_words,
+            room,
+        } = self;
+        leave(table, tap.into_seat(), log_words, room)
     }
 }
 
-/// The table of a new bus, and the seat that the senders' seats are cut from.
-fn board<Q: Ratifier + Drop>(alloc: Global, shape: Shape) -> Result<(Board<Q>, Place<Q>), NoMemory>
-    requires { IsServed shape }
-    ensures { IfOk result (λ made. IsBoard (layout_of Q.protocol shape) made.0.shared.table_id made.1) }
+/// Room for so many words.
+fn roomy(alloc: Global, words: u64) -> Result<Vec<u64>, NoMemory>
+    ensures { IfOk result (λ room. (room.items ≡ []) × (vec_len room ≡ 0) × (words ≤ vec_capacity room)) }
 {
-    election_is_lawful::<Q>();
-    let width = Election::<Q>::width(shape.senders, shape.rounds);
-    let words = vec![in alloc; 0u64; (2 + shape.rows * width + shape.log_words) as usize]?;
-    let mut slots = Vec::with_capacity(alloc, 1)?;
-    slots.push(Some(NEW_PAGE))?;
-    match Table::new(alloc, words.as_slice(), slots, &shape) {
-        Ok(made) => Ok(made),
-        Err(_) => Err(NoMemory),
-    }
+    Ok(Vec::with_capacity(alloc, words as usize)?)
 }
-
-/// The next sender, with its seat.
-fn seat_next<Q: Ratifier + Drop>(
-    top: &Top<Q>,
-    maker: &mut Place<Q>,
-    shape: Shape,
-    me: u64,
-) -> Sender<Q>
-    requires table { maker.old.table_id ≡ top.now.table_id }
-    requires served { IsServed shape }
-    requires room { words_of (layout_of Q.protocol shape) ≤ 2 ^ 63 }
-    requires wide { (maker.old.table_id.words ≡ words_of (layout_of Q.protocol shape)) × (maker.old.table_id.slots ≡ 1) }
-    requires below { me < shape.senders }
-    requires maker { maker.old.me ≡ (Maker (new_core (layout_of Q.protocol shape) me), []) }
-    ensures table { maker.new.table_id ≡ maker.old.table_id }
-    ensures maker { maker.new.me ≡ (Maker (new_core (layout_of Q.protocol shape) (me + 1)), []) }
-    ensures seat { IsNewSeat (layout_of Q.protocol shape) maker.old.table_id me result }
-{
-    let seat = top.split_seat::<Cut<Q>>(maker);
-    let core = SenderCore::new(
-        shape.senders,
-        SenderNo(me as u8),
-        shape.rounds,
-        shape.rows,
-        shape.log_words,
-    );
-    Sender::seated(core, seat)
-}
-
-/// All senders, in order.
-fn seat_all<Q: Ratifier + Drop>(
-    alloc: Global,
-    shape: Shape,
-    top: &Top<Q>,
-    mut maker: Place<Q>,
-) -> Result<Vec<Sender<Q>>, NoMemory>
-    requires served { IsServed shape }
-    requires board { IsBoard (layout_of Q.protocol shape) top.now.table_id maker }
-    ensures { IfOk result (λ senders. AreNewSeats (layout_of Q.protocol shape) top.now.table_id shape.senders senders.items) }
-{
-    let mut senders = Vec::new(alloc);
-    for me in 0..shape.senders {
-        let sender = seat_next(top, &mut maker, shape, me);
-        senders.push(sender)?;
-    }
-    Ok(senders)
-}
-
-/// A receiver's seat, of a maker that has made the seats of so many senders.
-pub(crate) fn tap_next<Q: Ratifier + Drop>(
-    top: &Top<Q>,
-    maker: &mut Place<Q>,
-    shape: Shape,
-    made: u64,
-    log: u64,
-) -> Tap<Q>
-    requires table { maker.old.table_id ≡ top.now.table_id }
-    requires room { words_of (layout_of Q.protocol shape) ≤ 2 ^ 63 }
-    requires wide { maker.old.table_id.words ≡ words_of (layout_of Q.protocol shape) }
-    requires log { log ≡ log_at (layout_of Q.protocol shape) }
-    requires maker { maker.old.me ≡ (Maker (new_core (layout_of Q.protocol shape) made), []) }
-    ensures table { maker.new.table_id ≡ maker.old.table_id }
-    ensures maker { maker.new.me ≡ maker.old.me }
-    ensures tap { (result.table_id ≡ maker.old.table_id) × (known_in result.me.0 ≡ []) }
-{
-    let _ = (shape, made);
-    let seat = top.split_seat::<CutTap<Q>>(maker);
-    Tap::seated(seat, log)
-}
-
-/// The page of a new bus.
-const NEW_PAGE: Page = Page {
-    next: [0; 8],
-    ended: false,
-    tenures: 0,
-    words: 0,
-};

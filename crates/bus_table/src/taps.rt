@@ -1,6 +1,7 @@
 //! A receiver's seat, and its loads.
 
-ghost use Rattle.std.specs.Prelude.{◌≡◌, ℕ, ◌<◌, length, slice_index};
+ghost use Rattle.std.specs.Prelude.{◌≡◌, ℕ, ◌<◌, List, [], length, slice_index};
+ghost use Rattle.bus_table.specs.declared.rule.View.TheVariants as View;
 ghost use Rattle.bus_table.specs.Rule.{known_in};
 ghost use Rattle.bus_table.specs.Steps.{Learns, KnowsSent};
 ghost use Rattle.bus_table.specs.Seats.{IsTap, spot, table_of, deeds_of, stored_of};
@@ -42,6 +43,15 @@ impl<Q: Ratifier + Drop> Tap<Q> {
             log,
             known: 0,
         }
+    }
+
+    /// Its seat.
+    pub(crate) fn into_seat(self) -> Place<Q>
+        ensures spot { spot result ≡ self }
+        ensures tap { (d : _) × (known : List ℕ) × (result.me ≡ (View.Tap d known, [])) }
+    {
+        let Tap { seat, .. } = self;
+        seat.unwrap()
     }
 
     /// How many words of the log it knows.

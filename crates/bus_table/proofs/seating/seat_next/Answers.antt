@@ -10,7 +10,7 @@ use Rattle.bus_table.specs.Rule.{stored_in, cut_left, cut_right, IsShown}
 use Rattle.bus_table.specs.Steps.{deeds_in}
 use Rattle.bus_table.specs.Seats.{deeds_of, stored_of}
 use Rattle.bus_table.proofs.Openings.{cut_allowed, shows_new}
-use Rattle.bus_table.proofs.buses.seat_next.Goals as goal
+use Rattle.bus_table.proofs.seating.seat_next.Goals as goal
 
 pub split_seat-seat-requires : goal.split_seat-seat-requires
 split_seat-seat-requires g c =

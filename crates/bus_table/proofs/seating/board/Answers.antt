@@ -9,7 +9,7 @@ use Rattle.bus_world.specs.World.{new_core, new_page}
 use Rattle.bus_table.specs.declared.rule.View.TheVariants.{Maker}
 use Rattle.bus_table.specs.Rule.{IsShown}
 use Rattle.bus_table.proofs.Openings.{opens}
-use Rattle.bus_table.proofs.buses.board.Goals as goal
+use Rattle.bus_table.proofs.seating.board.Goals as goal
 
 pub overflow_mul-shape : goal.overflow_mul-shape
 overflow_mul-shape g c =

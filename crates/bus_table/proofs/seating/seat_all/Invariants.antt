@@ -3,7 +3,7 @@ use Rattle.bus_tenure.specs.Elections.{layout_with}
 use Rattle.bus_world.specs.World.{new_core}
 use Rattle.bus_table.specs.Buses.{AreNewSeats}
 use Rattle.bus_table.specs.declared.rule.View.TheVariants.{Maker}
-use Rattle.bus_table.proofs.buses.seat_all.Given as goal
+use Rattle.bus_table.proofs.seating.seat_all.Given as goal
 
 abbrev pub invariant-loop-me : goal.invariant-loop-me
 invariant-loop-me g l = record {

@@ -7,7 +7,7 @@ use Rattle.bus_world.specs.World.{new_core}
 use Rattle.bus_table.specs.declared.rule.View.{View}
 use Rattle.bus_table.specs.Rule.{tap_left, tap_right, known_in, IsShown}
 use Rattle.bus_table.proofs.Openings.{tap_allowed}
-use Rattle.bus_table.proofs.buses.tap_next.Goals as goal
+use Rattle.bus_table.proofs.seating.tap_next.Goals as goal
 
 pub split_seat-seat-requires : goal.split_seat-seat-requires
 split_seat-seat-requires g c =
@@ -38,4 +38,7 @@ seated-requires g c =
 pub returns-clause-tap : goal.returns-clause-tap
 returns-clause-tap g c =
     let split = c.split_seat-seat.ensures in
-    (ap (λ s. s.table_id) c.seated.ensures ∙ split.3, ap (λ s. known_in s.me.0) c.seated.ensures ∙ ap (λ m. known_in m.0) split.4 ∙ ap (λ m. known_in (tap_right m.0)) c.requires.maker)
+    record {
+      table_is = ap (λ s. s.table_id) c.seated.ensures ∙ split.3;
+      known = ap (λ s. known_in s.me.0) c.seated.ensures ∙ ap (λ m. known_in m.0) split.4 ∙ ap (λ m. known_in (tap_right m.0)) c.requires.maker;
+    }
