@@ -1,0 +1,84 @@
+//! The bus: how it is made, and how it ends.
+
+ghost use Rattle.std.specs.Prelude.{◌≡◌, ℕ, List, Some, None, IfOk, OnErr, IfErr, [], ◌≤◌};
+ghost use Rattle.std.specs.Vec.{vec_len, vec_capacity};
+ghost use Rattle.bus_tenure.specs.Elections.{election_of};
+ghost use Rattle.bus_world.specs.Playing.{layout_of, IsServed, MakeRefused};
+ghost use Rattle.bus_table.specs.Rule.{known_in};
+ghost use Rattle.bus_table.specs.Buses.{AreNewSeats, AreNewTaps};
+ghost use Rattle.bus_table.specs.Endings.{IsLeft};
+
+use crate::outcomes::{EndFault, Ended, leave};
+use crate::rule::Board;
+use crate::seating::{board, seat_all, tap_all};
+use crate::seats::Sender;
+use crate::taps::Tap;
+use bus_adoptcommit::Ratifier;
+use bus_register::NoMemory;
+use bus_world::{MakeFault, Shape};
+use std::alloc::Global;
+
+/// A bus that threads share by `&`, without a lock: each step of a sender or of a receiver is one
+/// atomic step on one word of its table.
+#[derive(Drop)]
+pub struct Bus<Q: Ratifier> {
+    pub(crate) table: Board<Q>,
+    log_words: u64,
+    room: Vec<u64>,
+    ghost sized: { log_words ≡ table.shared.key.log_words },
+    ghost empty: { (room.items ≡ []) × (vec_len room ≡ 0) },
+    ghost roomy: { log_words ≤ vec_capacity room },
+}
+
+impl<Q: Ratifier + Drop> Bus<Q> {
+    /// A new bus of this shape, with its words at zero and its page at home, and each of its senders
+    /// and of its receivers, in order. All memory is taken here: no later call takes any.
+    pub fn new(
+        alloc: Global,
+        shape: Shape,
+    ) -> Result<(Bus<Q>, Vec<Sender<Q>>, Vec<Tap<Q>>), MakeFault>
+        ensures shape { IfOk result (λ made. made.0.table.shared.key ≡ shape) }
+        ensures senders { IfOk result (λ made. AreNewSeats (layout_of Q.protocol shape) made.0.table.shared.table_id shape.senders made.1.items) }
+        ensures taps { IfOk result (λ made. AreNewTaps made.0.table.shared.table_id shape.receivers made.2.items) }
+        ensures served { IfOk result (λ _. IsServed shape) }
+        ensures fault { IfErr result (MakeRefused shape) }
+    {
+        if let Some(fault) = shape.fault() {
+            return Err(fault);
+        }
+        let (table, maker) = board(alloc, shape)?;
+        let log = table.word_count() as u64 - shape.log_words;
+        let (senders, maker) = seat_all(alloc, shape, &table.shared, maker)?;
+        let taps = tap_all(alloc, shape, &table.shared, maker, log)?;
+        let room = roomy(alloc, shape.log_words)?;
+        let bus = Bus {
+            table,
+            log_words: shape.log_words,
+            room,
+        };
+        Ok((bus, senders, taps))
+    }
+
+    /// Ends the bus, by a receiver of it: its log and its page, where the page is at home, and
+    /// PageOut where a sender that took it has not given it back. Bus and receiver are gone in either
+    /// case.
+    pub fn end(self, tap: Tap<Q>) -> Result<Ended, EndFault>
+        requires { tap.table_id ≡ self.table.shared.table_id }
+        ensures ended { let X = election_of Q.Ratifier in IfOk result (λ left. IsLeft X (layout_of Q.protocol self.table.shared.key) (known_in tap.me.0) left.log.items (Some left.page)) }
+        ensures out { let X = election_of Q.Ratifier in OnErr result ((log : List ℕ) × IsLeft X (layout_of Q.protocol self.table.shared.key) (known_in tap.me.0) log None) }
+    {
+        let Bus {
+            table,
+            log_words,
+            room,
+        } = self;
+        leave(table, tap.into_seat(), log_words, room)
+    }
+}
+
+/// Room for so many words.
+fn roomy(alloc: Global, words: u64) -> Result<Vec<u64>, NoMemory>
+    ensures { IfOk result (λ room. (room.items ≡ []) × (vec_len room ≡ 0) × (words ≤ vec_capacity room)) }
+{
+    Ok(Vec::with_capacity(alloc, words as usize)?)
+}

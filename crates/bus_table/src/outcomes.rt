@@ -1,0 +1,98 @@
+//! What a bus leaves behind.
+
+ghost use Rattle.std.specs.Prelude.{◌≡◌, ℕ, ◌+◌, ◌≤◌, List, [], Some, None, codes, slice_index, IfOk, OnErr};
+ghost use Rattle.std.specs.Vec.{vec_len, vec_capacity};
+ghost use Rattle.std.specs.Slots.{slots_items, slots_len, IsFull};
+ghost use Rattle.bus_tenure.specs.Elections.{election_of};
+ghost use Rattle.bus_tenure.specs.Core.{log_at};
+ghost use Rattle.bus_world.specs.Log.{read};
+ghost use Rattle.bus_world.specs.Playing.{layout_of};
+ghost use Rattle.bus_table.specs.declared.rule.View.TheVariants.{Tap};
+ghost use Rattle.bus_table.specs.Rule.{known_in};
+ghost use Rattle.bus_table.specs.Endings.{IsLeft};
+
+use crate::rule::{Board, Place};
+use atomic_table::Closed;
+use bus_adoptcommit::Ratifier;
+use bus_ownerbits::laws::election_is_lawful;
+use bus_tenure::Page;
+use std::alloc::Global;
+use std::error::Error;
+use std::fmt;
+
+/// Why a bus leaves nothing behind.
+#[derive(Clone, Copy, Debug, PartialEq, Eq)]
+pub enum EndFault {
+    /// A sender that took the page has not given it back.
+    PageOut,
+}
+
+impl Error for EndFault {}
+
+impl fmt::Display for EndFault {
+    ghost output = { λ _. Some (codes "a sender has not given the page back") };
+
+    fn fmt<W: fmt::Write>(&self, f: &mut fmt::Formatter<W>) -> fmt::Result {
+        f.write_str("a sender has not given the page back")
+    }
+}
+
+/// What a bus leaves behind.
+#[derive(Drop)]
+pub struct Ended {
+    /// The words of the log below the length.
+    pub log: Vec<u64>,
+    /// The page, as its last owner gave it back.
+    pub page: Page,
+}
+
+/// What this table, of which this is the seat of a receiver, leaves behind.
+pub(crate) fn leave<Q: Ratifier + Drop>(
+    table: Board<Q>,
+    seat: Place<Q>,
+    log_words: u64,
+    room: Vec<u64>,
+) -> Result<Ended, EndFault>
+    requires table { seat.table_id ≡ table.shared.table_id }
+    requires tap { (d : _) × (known : List ℕ) × (seat.me ≡ (Tap d known, [])) }
+    requires empty { (room.items ≡ []) × (vec_len room ≡ 0) }
+    requires log_words { log_words ≡ table.shared.key.log_words }
+    requires roomy { log_words ≤ vec_capacity room }
+    ensures ended { let X = election_of Q.Ratifier in IfOk result (λ left. IsLeft X (layout_of Q.protocol table.shared.key) (known_in seat.me.0) left.log.items (Some left.page)) }
+    ensures out { let X = election_of Q.Ratifier in OnErr result ((log : List ℕ) × IsLeft X (layout_of Q.protocol table.shared.key) (known_in seat.me.0) log None) }
+{
+    election_is_lawful::<Q>();
+    let mut closed = table.close_with(seat);
+    let stage = closed.word(1);
+    let length = closed.word(0);
+    let first = closed.words.len() as u64 - log_words;
+    let log = words_from(&closed, first, length, room);
+    let page = closed.take(0);
+    closed.free();
+    if stage % 2 == 1 {
+        return Err(EndFault::PageOut);
+    }
+    Ok(Ended {
+        log,
+        page: page.unwrap(),
+    })
+}
+
+/// So many words, from a place on.
+fn words_from(
+    closed: &Closed<Option<Page>, Global>,
+    first: u64,
+    many: u64,
+    mut room: Vec<u64>,
+) -> Vec<u64>
+    requires full { IsFull closed.now.words }
+    requires within { first + many ≤ slots_len closed.now.words }
+    requires empty { (room.items ≡ []) × (vec_len room ≡ 0) }
+    requires roomy { many ≤ vec_capacity room }
+    ensures { result.items ≡ read (slice_index (slots_items closed.now.words)) first many }
+{
+    for place in 0..many {
+        room.push_reserved(closed.word((first + place) as usize));
+    }
+    room
+}

@@ -1,0 +1,165 @@
+//! A sender with its seat.
+
+ghost use Rattle.std.specs.Prelude.{◌≡◌, ℕ, ◌<◌, List, [], ◌∷◌, ◌++◌, None, Some, IfOk, IfErr, OnOk, OnErr, length};
+ghost use Rattle.bus_batch.specs.Batches.{next_of, CanPut, IsPutFault, CanClose, IsCloseFault};
+ghost use Rattle.bus_tenure.specs.Core.{situation_of, kind_at, op_at, rest_at};
+ghost use Rattle.bus_tenure.specs.Elections.{election_of};
+ghost use Rattle.bus_tenure.specs.Seen.{wants_at, turns_of};
+ghost use Rattle.bus_register.specs.declared.registers.Op.{Op};
+ghost use Rattle.bus_world.specs.Headline.{HasPut, HasClosed};
+ghost use Rattle.bus_table.specs.declared.rule.View.TheVariants.{Tap};
+ghost use Rattle.bus_table.specs.Rule.{known_in, stored_in};
+ghost use Rattle.bus_table.specs.Steps.{with_message, with_close, Learns, KnowsSent};
+ghost use Rattle.bus_table.specs.Seats.{Shows, Took, table_of, deeds_of, stored_of};
+
+use crate::buses::Bus;
+use crate::meetings::meeting;
+use crate::rule::Place;
+use crate::steps::{length_after, walk};
+use bus_adoptcommit::Ratifier;
+use bus_batch::{CloseFault, PutFault};
+use bus_register::{Kind, SenderNo};
+use bus_tenure::{SenderCore, Turn};
+use std::marker::{Brand, Model};
+
+/// A sender of a bus: what it holds, and the seat that it steps with. One thread at a time has it.
+///
+/// `put` and `close` take no step on the bus. `turn` takes at most one, and waits for nothing.
+#[derive(Drop)]
+pub struct Sender<Q: Ratifier> {
+    core: SenderCore<Q>,
+    seat: Place<Q>,
+    stored: u64,
+}
+
+impl<Q: Ratifier> Model for Sender<Q> {
+    ghost use Rattle.std.specs.Prelude.{◌≡◌};
+    ghost use Rattle.bus_tenure.specs.Elections.{Elector};
+    ghost use Rattle.bus_table.specs.Rule.{stored_in};
+    ghost use Rattle.bus_table.specs.Seats.{Seated, Shows};
+
+    ghost Value = { Seated (Elector Q) };
+
+    ghost view = { λ s. record { core = s.core; seat = s.seat } };
+
+    ghost invariant = { λ s. Shows s.core s.seat × (s.stored ≡ stored_in s.seat.me.0) };
+}
+
+impl<Q: Ratifier + Drop> Sender<Q> {
+    pub(crate) fn seated(core: SenderCore<Q>, seat: Place<Q>) -> Sender<Q>
+        requires shows { Shows core seat }
+        requires stored { stored_in seat.me.0 ≡ 0 }
+        ensures { result ≡ record { core = core; seat = seat } }
+    {
+        Sender {
+            core,
+            seat,
+            stored: 0,
+        }
+    }
+
+    /// The sender's number, from 0 on.
+    pub fn number(&self) -> SenderNo
+        ensures { result.0 ≡ self.now.core.me }
+    {
+        self.core.number()
+    }
+
+    /// How many messages wait in its batch, at most 16.
+    pub fn pending(&self) -> u64
+        ensures { result ≡ length self.now.core.queue.messages }
+    {
+        self.core.pending()
+    }
+
+    /// The number that the next message gets.
+    pub fn next_number(&self) -> u64
+        ensures { result ≡ next_of self.now.core.queue }
+    {
+        self.core.next_number()
+    }
+
+    /// The last length of the log, in words, that it has stored; 0 before the first.
+    pub fn words(&self) -> u64
+        ensures { result ≡ stored_of self.now }
+    {
+        self.stored
+    }
+
+    /// What its next step is for; none where none is due.
+    pub fn kind(&self) -> Option<Kind>
+        ensures { let X = election_of Q.Ratifier in result ≡ kind_at X (situation_of X self.now.core) }
+    {
+        self.core.kind()
+    }
+
+    /// Its next step asks for a random word.
+    pub fn wants_word(&self) -> bool
+        ensures { let X = election_of Q.Ratifier in result ≡ wants_at X (situation_of X self.now.core) }
+    {
+        self.core.wants_word()
+    }
+
+    /// How many turns its election takes at most, with the one that takes the page; 0 where none is
+    /// begun.
+    pub fn turns_left(&self) -> u64
+        ensures { let X = election_of Q.Ratifier in result ≡ turns_of X self.now.core.phase }
+    {
+        self.core.turns_left()
+    }
+
+    /// Appends a message of at most 56 bytes to its batch of at most 16, and gives its number: how
+    /// many it had put before. Takes no step. A fault changes nothing.
+    pub fn put(&mut self, bytes: &[u8]) -> Result<u64, PutFault>
+        ensures number { IfOk result (λ number. number ≡ next_of self.old.core.queue) }
+        ensures taken { OnOk result (self.new.core ≡ with_message self.old.core bytes.now) }
+        ensures deed { IfOk result (λ number. deeds_of self.new ≡ deeds_of self.old ++ HasPut number bytes.now ∷ []) }
+        ensures could { OnOk result (CanPut self.old.core.queue (length bytes.now)) }
+        ensures fault { IfErr result (IsPutFault self.old.core.queue (length bytes.now)) }
+        ensures refused { OnErr result (self.new.core ≡ self.old.core) }
+        ensures seat { self.new.seat ≡ self.old.seat }
+    {
+        self.core.put(bytes)
+    }
+
+    /// Lets an end mark wait in place of messages. Takes no step. A fault changes nothing.
+    pub fn close(&mut self) -> Result<(), CloseFault>
+        ensures taken { OnOk result (self.new.core ≡ with_close self.old.core) }
+        ensures deed { OnOk result (deeds_of self.new ≡ deeds_of self.old ++ HasClosed ∷ []) }
+        ensures could { OnOk result (CanClose self.old.core.queue) }
+        ensures fault { IfErr result (IsCloseFault self.old.core.queue) }
+        ensures refused { OnErr result (self.new.core ≡ self.old.core) }
+        ensures seat { self.new.seat ≡ self.old.seat }
+    {
+        self.core.close()
+    }
+
+    /// One turn: at most one step on one word of the bus that it is a sender of. `word` is the random
+    /// word of a vote; other steps do not look at it.
+    pub fn turn(&mut self, bus: &Bus<Q>, word: u32) -> Turn
+        requires { table_of self.old ≡ bus.now.table.shared.table_id }
+        ensures table { table_of self.new ≡ table_of self.old }
+        ensures rests { let X = election_of Q.Ratifier in op_at X self.old.core (situation_of X self.old.core) word ≡ None → (self.new ≡ self.old) × (result ≡ rest_at (situation_of X self.old.core)) }
+        ensures steps { let X = election_of Q.Ratifier in (op : Op) → op_at X self.old.core (situation_of X self.old.core) word ≡ Some op → Took X self.old word result self.new }
+    {
+        let top = &bus.table.shared;
+        let Some(op) = self.core.next(word) else {
+            return self.core.rest();
+        };
+        self.stored = length_after(&self.core, op, word, self.stored);
+        walk::<Q, Brand>(top, &mut self.seat, &mut self.core, op, word)
+    }
+
+    /// A receiver's seat is joined to its own, which then loads the length; and the two are cut apart
+    /// again.
+    pub(crate) fn tell(&mut self, bus: &Bus<Q>, tap: Place<Q>) -> (u64, Place<Q>)
+        requires table { (table_of self.old ≡ bus.now.table.shared.table_id) × (tap.table_id ≡ bus.now.table.shared.table_id) }
+        requires tap { (d : _) × (known : List ℕ) × (tap.me ≡ (Tap d known, [])) }
+        ensures table { (table_of self.new ≡ table_of self.old) × (result.1.table_id ≡ tap.table_id) }
+        ensures same { (self.new.core ≡ self.old.core) × (self.new.seat.me ≡ self.old.seat.me) }
+        ensures learns { Learns tap.me result.0 result.1.me }
+        ensures sent { KnowsSent self.old.core (deeds_of self.old) (stored_of self.old) (known_in result.1.me.0) }
+    {
+        meeting(&bus.table.shared, &mut self.seat, tap)
+    }
+}

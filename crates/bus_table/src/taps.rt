@@ -1,0 +1,126 @@
+//! A receiver's seat, and its loads.
+
+ghost use Rattle.std.specs.Prelude.{◌≡◌, ℕ, ◌<◌, List, [], length, slice_index};
+ghost use Rattle.bus_table.specs.declared.rule.View.TheVariants as View;
+ghost use Rattle.bus_table.specs.Rule.{known_in};
+ghost use Rattle.bus_table.specs.Steps.{Learns, KnowsSent};
+ghost use Rattle.bus_table.specs.Seats.{IsTap, spot, table_of, deeds_of, stored_of};
+
+use crate::buses::Bus;
+use crate::meetings::meeting;
+use crate::rule::{LoadsLength, LoadsWord, Place};
+use crate::seats::Sender;
+use bus_adoptcommit::Ratifier;
+use bus_ownerbits::laws::election_is_lawful;
+use std::marker::Model;
+
+/// A receiver's seat.
+#[derive(Drop)]
+pub struct Tap<Q: Ratifier> {
+    seat: Option<Place<Q>>,
+    log: u64,
+    known: u64,
+}
+
+impl<Q: Ratifier> Model for Tap<Q> {
+    ghost use Rattle.bus_tenure.specs.Elections.{Elector};
+    ghost use Rattle.bus_table.specs.Seats.{Spot, spot_of, IsTap};
+
+    ghost Value = { Spot (Elector Q) };
+
+    ghost view = { λ t. spot_of t.seat };
+
+    ghost invariant = { λ t. IsTap (spot_of t.seat) t.log t.known };
+}
+
+impl<Q: Ratifier + Drop> Tap<Q> {
+    pub(crate) fn seated(seat: Place<Q>, log: u64) -> Tap<Q>
+        requires { IsTap (spot seat) log 0 }
+        ensures { result ≡ spot seat }
+    {
+        Tap {
+            seat: Some(seat),
+            log,
+            known: 0,
+        }
+    }
+
+    /// Its seat.
+    pub(crate) fn into_seat(self) -> Place<Q>
+        ensures spot { spot result ≡ self }
+        ensures tap { (d : _) × (known : List ℕ) × (result.me ≡ (View.Tap d known, [])) }
+    {
+        let Tap { seat, .. } = self;
+        seat.unwrap()
+    }
+
+    /// How many words of the log it knows.
+    pub fn known(&self) -> u64
+        ensures { result ≡ length (known_in self.now.me.0) }
+    {
+        self.known
+    }
+
+    /// Loads the length: it knows the log up to it from then on.
+    pub fn load_length(&mut self, bus: &Bus<Q>) -> u64
+        requires { self.old.table_id ≡ bus.now.table.shared.table_id }
+        ensures table { self.new.table_id ≡ self.old.table_id }
+        ensures learns { Learns self.old.me result self.new.me }
+    {
+        election_is_lawful::<Q>();
+        let mut seat = self.seat.take().unwrap();
+        let length = bus.table.shared.load::<LoadsLength<Q>>(&mut seat, 0);
+        self.seat = Some(seat);
+        self.known = length;
+        length
+    }
+
+    /// Loads a word of the log that it knows.
+    pub fn load_word(&mut self, bus: &Bus<Q>, place: u64) -> u64
+        requires table { self.old.table_id ≡ bus.now.table.shared.table_id }
+        requires below { place < length (known_in self.old.me.0) }
+        ensures table { self.new.table_id ≡ self.old.table_id }
+        ensures same { self.new.me ≡ self.old.me }
+        ensures word { result ≡ slice_index (known_in self.old.me.0) place }
+    {
+        let mut seat = self.seat.take().unwrap();
+        let word = bus
+            .table
+            .shared
+            .load::<LoadsWord<Q>>(&mut seat, (self.log + place) as usize);
+        self.seat = Some(seat);
+        word
+    }
+
+    /// Two receivers meet: each knows the log up to the length that is loaded.
+    pub fn meet(&mut self, other: &mut Tap<Q>, bus: &Bus<Q>) -> u64
+        requires table { (self.old.table_id ≡ bus.now.table.shared.table_id) × (other.old.table_id ≡ bus.now.table.shared.table_id) }
+        ensures table { (self.new.table_id ≡ self.old.table_id) × (other.new.table_id ≡ other.old.table_id) }
+        ensures learns { Learns self.old.me result self.new.me × Learns other.old.me result other.new.me }
+        ensures same { known_in other.new.me.0 ≡ known_in self.new.me.0 }
+    {
+        let mut mine = self.seat.take().unwrap();
+        let theirs = other.seat.take().unwrap();
+        let (length, theirs) = meeting(&bus.table.shared, &mut mine, theirs);
+        self.seat = Some(mine);
+        self.known = length;
+        other.seat = Some(theirs);
+        other.known = length;
+        length
+    }
+
+    /// A sender tells: what is known then has all that the sender has published, and nothing else of that sender.
+    pub fn told(&mut self, sender: &mut Sender<Q>, bus: &Bus<Q>) -> u64
+        requires table { (self.old.table_id ≡ bus.now.table.shared.table_id) × (table_of sender.old ≡ bus.now.table.shared.table_id) }
+        ensures table { (self.new.table_id ≡ self.old.table_id) × (table_of sender.new ≡ table_of sender.old) }
+        ensures sender { (sender.new.core ≡ sender.old.core) × (sender.new.seat.me ≡ sender.old.seat.me) }
+        ensures learns { Learns self.old.me result self.new.me }
+        ensures sent { KnowsSent sender.old.core (deeds_of sender.old) (stored_of sender.old) (known_in self.new.me.0) }
+    {
+        let mine = self.seat.take().unwrap();
+        let (length, mine) = sender.tell(bus, mine);
+        self.seat = Some(mine);
+        self.known = length;
+        length
+    }
+}
