@@ -9,14 +9,15 @@ use Rattle.atomic_table.specs.Seated.{TableId}
 use Rattle.atomic_table.specs.Table.{State, keeps, Allows, Splits, Joins}
 use Rattle.atomic_table.proofs.Lists.{at_set, at_snoc, set_else}
 use Rattle.bus_register.specs.Protocol.{Protocol}
-use Rattle.bus_register.specs.TableLaws.{get_set_same}
+use Rattle.bus_register.specs.Proved.TableLaws.{get_set_same}
 use Rattle.bus_batch.specs.declared.messages.Item.{Item}
 use Rattle.bus_batch.specs.Frames.{AreFrames, order_of, tenure_and_owner}
 use Rattle.bus_deliverylog.specs.Orders.{of_sender}
 use Rattle.bus_tenure.specs.Core.{Core, Election, Layout}
 use Rattle.bus_tenure.specs.declared.pages.Page.{Page}
 use Rattle.bus_world.specs.Headline.{Deed, puts}
-use Rattle.bus_world.specs.World.{Bus, waiting_at, waiting_of, with_sender}
+use Rattle.bus_world.specs.World.{Bus, with_sender}
+use Rattle.bus_world.specs.Waiting.{waiting_at, waiting_of}
 use Rattle.bus_world.proofs.Serving.{Serves}
 use Rattle.bus_table.specs.declared.rule.View.{View}
 use Rattle.bus_table.specs.declared.rule.View.TheVariants.{Maker, Sender, Tap, Meeting, Telling, Spent}

@@ -11,10 +11,11 @@ use Rattle.bus_register.specs.declared.registers.Op.{Op}
 use Rattle.bus_register.specs.declared.registers.Op.TheVariants.{Store}
 use Rattle.bus_register.specs.Words.{register, after, SumFits}
 use Rattle.bus_register.specs.Tables.{Beside}
-use Rattle.bus_register.specs.TableLaws.{get_set_same, get_set_other}
+use Rattle.bus_register.specs.Proved.TableLaws.{get_set_same, get_set_other}
 use Rattle.bus_register.specs.Protocol.{Protocol}
 use Rattle.bus_batch.specs.Frames.{log_words}
-use Rattle.bus_tenure.specs.Core.{Core, Election, Layout, words_of, frame_len, Situation, IsClosed, IsIdle, IsSpent, LooksAtStage, Elects, TakesPage, AwaitsPage, StoresWord, StoresLength, GivesBack, HasHanded, situation_of, op_at, answer_at}
+use Rattle.bus_tenure.specs.Core.{Core, Election, Layout, words_of, frame_len}
+use Rattle.bus_tenure.specs.Situations.{Situation, IsClosed, IsIdle, IsSpent, LooksAtStage, Elects, TakesPage, AwaitsPage, StoresWord, StoresLength, GivesBack, HasHanded, situation_of, op_at, answer_at}
 use Rattle.bus_tenure.specs.declared.pages.Page.{Page}
 use Rattle.bus_world.specs.Bus.{IsLayout}
 use Rattle.bus_world.specs.Headline.{Deed, IsPrefix}

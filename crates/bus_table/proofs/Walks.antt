@@ -8,7 +8,8 @@ use Rattle.bus_register.specs.declared.registers.Op.{Op}
 use Rattle.bus_register.specs.declared.registers.Op.TheVariants.{Load, Store}
 use Rattle.bus_register.specs.Words.{register, after, SumFits}
 use Rattle.bus_register.specs.Protocol.{Protocol, Laws}
-use Rattle.bus_tenure.specs.Core.{Core, Election, Layout, words_of, Situation, IsClosed, IsIdle, IsSpent, LooksAtStage, Elects, TakesPage, AwaitsPage, StoresWord, StoresLength, GivesBack, HasHanded, situation_of, op_at, fed_at, answer_at, waits, begun, elected, rested, answer_of_election}
+use Rattle.bus_tenure.specs.Core.{Core, Election, Layout, words_of}
+use Rattle.bus_tenure.specs.Situations.{Situation, IsClosed, IsIdle, IsSpent, LooksAtStage, Elects, TakesPage, AwaitsPage, StoresWord, StoresLength, GivesBack, HasHanded, situation_of, op_at, fed_at, answer_at, waits, begun, elected, rested, answer_of_election}
 use Rattle.bus_tenure.specs.Seen.{AwaitsItsPage}
 use Rattle.bus_tenure.specs.declared.pages.Page.{Page}
 use Rattle.bus_tenure.specs.declared.phases.Phase.{Phase}
@@ -16,10 +17,9 @@ use Rattle.bus_tenure.specs.declared.phases.Phase.TheVariants as phase
 use Rattle.bus_ownerbits.specs.ElectionKeeps.{OneOwner}
 use Rattle.bus_world.proofs.Serving.{Serves}
 use Rattle.bus_world.specs.Turning.{core_after, laid}
-use Rattle.bus_world.specs.TurnParts.{handed, laid_at}
 use Rattle.bus_table.specs.declared.rule.View.TheVariants.{Sender}
 use Rattle.bus_table.specs.Rule.{Sat, trail_in, stored_in, IsShown}
-use Rattle.bus_table.specs.Steps.{carried_of, out_with, carried_by, slot_in, emptied, IsCounted, since_in, deeds_in, deeds_at, stored_at, Told, Gone, GoesOn, Due}
+use Rattle.bus_table.specs.Steps.{handed, laid_at, carried_of, out_with, carried_by, slot_in, emptied, IsCounted, since_in, deeds_in, deeds_at, stored_at, Told, Gone, GoesOn, Due}
 use Rattle.bus_table.specs.Steps.Accepts.{Nothing}
 use Rattle.bus_table.proofs.Accepting.{since_is}
 use Rattle.bus_table.proofs.Situations.{tells}
@@ -104,7 +104,7 @@ module _ {E : Type 0} (X : Election E) (d : Core E) where
   layout_stays (HasHanded t leaving) home got word = refl
 
   -- ---- with the page handed on first
-  pub op_handed : (z : Situation E) → situation_of X d ≡ z → (word : ℕ) → op_at X (handed d z) (situation_of X (handed d z)) word ≡ op_at X d z word
+  pub op_handed : (z : Situation E) → situation_of X d ≡ z → (word : ℕ) → op_at X (handed X d z) (situation_of X (handed X d z)) word ≡ op_at X d z word
   op_handed IsClosed i word = ap (λ z. op_at X d z word) i
   op_handed IsIdle i word = ap (λ z. op_at X d z word) i
   op_handed IsSpent i word = ap (λ z. op_at X d z word) i
@@ -117,7 +117,7 @@ module _ {E : Type 0} (X : Election E) (d : Core E) where
   op_handed (GivesBack t page leaving) i word = refl
   op_handed (HasHanded t leaving) i word = ap (λ z. op_at X d z word) i
 
-  pub answer_handed : (z : Situation E) → situation_of X d ≡ z → (got word : ℕ) → answer_at X (handed d z) (situation_of X (handed d z)) got word ≡ answer_at X d z got word
+  pub answer_handed : (z : Situation E) → situation_of X d ≡ z → (got word : ℕ) → answer_at X (handed X d z) (situation_of X (handed X d z)) got word ≡ answer_at X d z got word
   answer_handed IsClosed i got word = ap (λ z. answer_at X d z got word) i
   answer_handed IsIdle i got word = ap (λ z. answer_at X d z got word) i
   answer_handed IsSpent i got word = ap (λ z. answer_at X d z got word) i
@@ -130,7 +130,7 @@ module _ {E : Type 0} (X : Election E) (d : Core E) where
   answer_handed (GivesBack t page leaving) i got word = refl
   answer_handed (HasHanded t leaving) i got word = ap (λ z. answer_at X d z got word) i
 
-  fed_handed : (z : Situation E) → situation_of X d ≡ z → (got word : ℕ) → fed_at X (handed d z) (situation_of X (handed d z)) got word ≡ fed_at X d z got word
+  fed_handed : (z : Situation E) → situation_of X d ≡ z → (got word : ℕ) → fed_at X (handed X d z) (situation_of X (handed X d z)) got word ≡ fed_at X d z got word
   fed_handed IsClosed i got word = ap (λ z. fed_at X d z got word) i
   fed_handed IsIdle i got word = ap (λ z. fed_at X d z got word) i
   fed_handed IsSpent i got word = ap (λ z. fed_at X d z got word) i
@@ -195,7 +195,7 @@ module _ {E : Type 0} (X : Election E) (d : Core E) where
 
   -- ---- the whole turn
   module _ (m m1 m2 : Sat E) (word got : ℕ) (o : Op) (due : op_at X d (situation_of X d) word ≡ Some o) (carried : m.1 ≡ carried_of d.phase) (d1 d2 : Core E)
-      (put : d1 ≡ handed d (situation_of X d)) (put_me : m1 ≡ (m.0, out_with d (situation_of X d) m.1)) (gone : Gone X d word m1 got m2) (fed : d2 ≡ fed_at X d1 (situation_of X d1) got word) where
+      (put : d1 ≡ handed X d (situation_of X d)) (put_me : m1 ≡ (m.0, out_with d (situation_of X d) m.1)) (gone : Gone X d word m1 got m2) (fed : d2 ≡ fed_at X d1 (situation_of X d1) got word) where
     fed_is : d2 ≡ fed_at X d (situation_of X d) got word
     fed_is = fed ∙ ap (λ k. fed_at X k (situation_of X k) got word) put ∙ fed_handed X d (situation_of X d) refl got word
 

@@ -2,9 +2,10 @@
 
 ghost use Rattle.std.specs.Prelude.{◌≡◌, ℕ, ◌<◌, List, [], ◌∷◌, ◌++◌, None, Some, IfOk, IfErr, OnOk, OnErr, length};
 ghost use Rattle.bus_batch.specs.Batches.{next_of, CanPut, IsPutFault, CanClose, IsCloseFault};
-ghost use Rattle.bus_tenure.specs.Core.{situation_of, kind_at, op_at, rest_at};
+ghost use Rattle.bus_tenure.specs.Situations.{situation_of, kind_at, op_at, rest_at};
 ghost use Rattle.bus_tenure.specs.Elections.{election_of};
-ghost use Rattle.bus_tenure.specs.Seen.{wants_at, turns_of};
+ghost use Rattle.bus_tenure.specs.Seen.{turns_of};
+ghost use Rattle.bus_tenure.specs.Situations.{wants_at};
 ghost use Rattle.bus_register.specs.declared.registers.Op.{Op};
 ghost use Rattle.bus_world.specs.Headline.{HasPut, HasClosed};
 ghost use Rattle.bus_table.specs.declared.rule.View.TheVariants.{Tap};
@@ -88,14 +89,14 @@ impl<Q: Ratifier + Drop> Sender<Q> {
 
     /// What its next step is for; none where none is due.
     pub fn kind(&self) -> Option<Kind>
-        ensures { let X = election_of Q.Ratifier in result ≡ kind_at X (situation_of X self.now.core) }
+        ensures { let X = election_of Q.Ratifier in result ≡ kind_at X self.now.core (situation_of X self.now.core) }
     {
         self.core.kind()
     }
 
     /// Its next step asks for a random word.
     pub fn wants_word(&self) -> bool
-        ensures { let X = election_of Q.Ratifier in result ≡ wants_at X (situation_of X self.now.core) }
+        ensures { let X = election_of Q.Ratifier in result ≡ wants_at X self.now.core (situation_of X self.now.core) }
     {
         self.core.wants_word()
     }
@@ -139,7 +140,7 @@ impl<Q: Ratifier + Drop> Sender<Q> {
     pub fn turn(&mut self, bus: &Bus<Q>, word: u32) -> Turn
         requires { table_of self.old ≡ bus.now.table.shared.table_id }
         ensures table { table_of self.new ≡ table_of self.old }
-        ensures rests { let X = election_of Q.Ratifier in op_at X self.old.core (situation_of X self.old.core) word ≡ None → (self.new ≡ self.old) × (result ≡ rest_at (situation_of X self.old.core)) }
+        ensures rests { let X = election_of Q.Ratifier in op_at X self.old.core (situation_of X self.old.core) word ≡ None → (self.new ≡ self.old) × (result ≡ rest_at X self.old.core (situation_of X self.old.core)) }
         ensures steps { let X = election_of Q.Ratifier in (op : Op) → op_at X self.old.core (situation_of X self.old.core) word ≡ Some op → Took X self.old word result self.new }
     {
         let top = &bus.table.shared;

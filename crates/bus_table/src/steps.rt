@@ -3,11 +3,11 @@
 ghost use Rattle.std.specs.Prelude.{◌≡◌, ℕ, ◌+◌, ◌<◌, List, [], ◌∷◌, ◌++◌, Option, Some};
 ghost use Rattle.atomic_table.specs.Table.{rest};
 ghost use Rattle.bus_register.specs.Words.{register};
-ghost use Rattle.bus_tenure.specs.Core.{words_of, situation_of, op_at};
+ghost use Rattle.bus_tenure.specs.Core.{words_of};
+ghost use Rattle.bus_tenure.specs.Situations.{situation_of, op_at};
 ghost use Rattle.bus_tenure.specs.Elections.{election_of};
 ghost use Rattle.bus_tenure.specs.Seen.{AwaitsItsPage};
-ghost use Rattle.bus_world.specs.TurnParts.{handed, laid_at};
-ghost use Rattle.bus_table.specs.Steps.{carried_of, out_with, stored_at, GoesOn, Due, slot_in, emptied};
+ghost use Rattle.bus_table.specs.Steps.{handed, laid_at, carried_of, out_with, stored_at, GoesOn, Due, slot_in, emptied};
 ghost use Rattle.bus_table.specs.Seats.{Shows, Took};
 
 use crate::rule::{Goes, Place, Told, Top};
@@ -20,7 +20,7 @@ use bus_tenure::{SenderCore, Turn};
 fn put_out<Q: Ratifier + Drop>(top: &Top<Q>, seat: &mut Place<Q>, core: &mut SenderCore<Q>)
     requires table { seat.old.table_id ≡ top.now.table_id }
     requires carried { seat.old.me.1 ≡ carried_of core.old.phase }
-    ensures core { let X = election_of Q.Ratifier in core.new ≡ handed core.old (situation_of X core.old) }
+    ensures core { let X = election_of Q.Ratifier in core.new ≡ handed X core.old (situation_of X core.old) }
     ensures table { (seat.new.table_id ≡ seat.old.table_id) × (seat.new.id ≡ seat.old.id) }
     ensures me { let X = election_of Q.Ratifier in seat.new.me ≡ (seat.old.me.0, out_with core.old (situation_of X core.old) seat.old.me.1) }
 {

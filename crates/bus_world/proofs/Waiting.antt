@@ -6,6 +6,7 @@ use Rattle.bus_tenure.specs.Core.{Core, Election}
 use Rattle.bus_tenure.specs.Situations.{Situation, situation_of, line_of}
 use Rattle.bus_tenure.specs.declared.phases.Phase.{Phase}
 use Rattle.bus_tenure.specs.declared.phases.Phase.TheVariants as phase
+pub use Rattle.bus_world.specs.Waiting.{waiting_at, waiting_of}
 use Rattle.bus_world.specs.World.{Bus, Event, Put, Close, Turn, Recv, can_put}
 
 -- ---- the frames of the log
@@ -29,19 +30,6 @@ event_frames X b (Turn s word) frames = frames_by X (slice_get b.side.senders s)
 event_frames X b (Recv r) frames = frames
 
 -- ---- messages
--- of a sender those that are not in the order yet
-abbrev pub waiting_at : {E : Type 0} → Core E → Phase E → List (List ℕ)
-waiting_at c phase.Resting = c.queue.messages
-waiting_at c (phase.Electing t e) = c.queue.messages
-waiting_at c (phase.Taken t) = c.queue.messages
-waiting_at c (phase.Holding t page stored true) = []
-waiting_at c (phase.Holding t page stored false) = c.queue.messages
-waiting_at c (phase.Giving t leaving) = []
-
-abbrev pub waiting_of : {E : Type 0} → Option (Core E) → List (List ℕ)
-waiting_of None = []
-waiting_of (Some c) = waiting_at c c.phase
-
 -- what a sender has put: its messages in the order, and those that are not in it yet
 abbrev pub put_by : {E : Type 0} → Bus E → List Frame → ℕ → List (List ℕ)
 put_by bus frames s = map (λ i. i.message) (of_sender s (order_of frames)) ++ waiting_of (slice_get bus.side.senders s)

@@ -11,3 +11,4 @@ pub mod Faults
 pub mod Trails
 pub mod Telling
 pub mod Refusals
+pub mod Waiting

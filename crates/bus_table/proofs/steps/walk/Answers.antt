@@ -1,6 +1,7 @@
 use Rattle.std.proofs.Common.{ℕ, Option, IsSome, refl, sym, ap, ◌∙◌, subst, []}
 use Rattle.atomic_table.specs.Seated.{TableId}
-use Rattle.bus_tenure.specs.Core.{Core, situation_of, op_at, answer_at}
+use Rattle.bus_tenure.specs.Core.{Core}
+use Rattle.bus_tenure.specs.Situations.{situation_of, op_at, answer_at}
 use Rattle.bus_tenure.specs.Elections.{Elector, election_with}
 use Rattle.bus_table.specs.Steps.Accepts.{Nothing}
 use Rattle.bus_table.specs.Steps.{Gone, GoesOn}

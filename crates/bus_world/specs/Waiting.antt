@@ -1,0 +1,17 @@
+-- Messages that a sender has put and that are not in the order yet.
+use Rattle.std.specs.Prelude.{ℕ, true, false, Option, Some, None, List, []}
+use Rattle.bus_tenure.specs.Core.{Core}
+use Rattle.bus_tenure.specs.declared.phases.Phase.{Phase}
+use Rattle.bus_tenure.specs.declared.phases.Phase.TheVariants as phase
+
+abbrev pub waiting_at : {E : Type 0} → Core E → Phase E → List (List ℕ)
+waiting_at c phase.Resting = c.queue.messages
+waiting_at c (phase.Electing t e) = c.queue.messages
+waiting_at c (phase.Taken t) = c.queue.messages
+waiting_at c (phase.Holding t page stored true) = []
+waiting_at c (phase.Holding t page stored false) = c.queue.messages
+waiting_at c (phase.Giving t leaving) = []
+
+abbrev pub waiting_of : {E : Type 0} → Option (Core E) → List (List ℕ)
+waiting_of None = []
+waiting_of (Some c) = waiting_at c c.phase
