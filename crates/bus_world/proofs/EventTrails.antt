@@ -46,6 +46,7 @@ use Rattle.bus_world.proofs.LogLaws.{length-read}
 use Rattle.bus_world.proofs.ReceivingLaws.{given_is_prefix}
 use Rattle.bus_world.specs.Turning.{Side, turned, core_after, found}
 use Rattle.bus_world.specs.World.{Bus, Event, Put, Close, Turn, Recv, IsEvent, Happens, SenderDoes, with_sender, can_put, can_close, put_in, close_in, LawfulBus, IsNew, is_open, given_at}
+use Rattle.bus_world.proofs.TurningLaws.{side_of}
 use Rattle.bus_world.proofs.WorldLaws.{event_left, event_puts, counted_at, new_is_lawful}
 use Rattle.bus_world.specs.Playing.{AllAnswered, Answers, PutGives, CloseGives, TurnAnswers, RecvAnswers, log_of}
 use Rattle.bus_world.specs.declared.events.Answer.{Answer}
@@ -163,21 +164,21 @@ module _ {E : Type 0} (X : Election E) (P : Protocol E (Unit {0}) ℕ) (laws : L
     put_ties s bytes (Some c) i d n gives = subst (λ z. Ties P x z (λ q. D q ++ cond (q == s) (HasPut n bytes ∷ []) [])) (sym d) (by_test (can_put c.queue (length bytes)))
       where
         by_test : (t : Bool) → Ties P x (with_sender b.side s (cond t (record c { queue = record c.queue { messages = c.queue.messages ++ bytes ∷ [] } }) c)) (λ q. D q ++ cond (q == s) (HasPut n bytes ∷ []) [])
-        by_test true = batch_ties X P laws x ok width starts owner_is named announces apart b.side frames h.side s c i 0 D T (record c { queue = record c.queue { messages = c.queue.messages ++ bytes ∷ [] } }) (HasPut n bytes ∷ []) refl refl (plain_put n bytes)
-        by_test false = batch_ties X P laws x ok width starts owner_is named announces apart b.side frames h.side s c i 0 D T c (HasPut n bytes ∷ []) refl refl (plain_put n bytes)
+        by_test true = batch_ties X P laws x ok width starts owner_is named announces apart b.side frames (side_of h) s c i 0 D T (record c { queue = record c.queue { messages = c.queue.messages ++ bytes ∷ [] } }) (HasPut n bytes ∷ []) refl refl (plain_put n bytes)
+        by_test false = batch_ties X P laws x ok width starts owner_is named announces apart b.side frames (side_of h) s c i 0 D T c (HasPut n bytes ∷ []) refl refl (plain_put n bytes)
 
     close_ties : (s : ℕ) (o : Option (Core E)) → slice_get b.side.senders s ≡ o → SenderDoes b.side o (λ c. with_sender b.side s (close_in c)) b'.side → CloseGives o → Ties P x b'.side (λ q. D q ++ cond (q == s) (HasClosed ∷ []) [])
     close_ties s None i d gives = absurd gives
     close_ties s (Some c) i d gives = subst (λ z. Ties P x z (λ q. D q ++ cond (q == s) (HasClosed ∷ []) [])) (sym d) (by_test (can_close c.queue))
       where
         by_test : (t : Bool) → Ties P x (with_sender b.side s (cond t (record c { queue = record c.queue { phase = Closing } }) c)) (λ q. D q ++ cond (q == s) (HasClosed ∷ []) [])
-        by_test true = batch_ties X P laws x ok width starts owner_is named announces apart b.side frames h.side s c i 0 D T (record c { queue = record c.queue { phase = Closing } }) (HasClosed ∷ []) refl refl plain_close
-        by_test false = batch_ties X P laws x ok width starts owner_is named announces apart b.side frames h.side s c i 0 D T c (HasClosed ∷ []) refl refl plain_close
+        by_test true = batch_ties X P laws x ok width starts owner_is named announces apart b.side frames (side_of h) s c i 0 D T (record c { queue = record c.queue { phase = Closing } }) (HasClosed ∷ []) refl refl plain_close
+        by_test false = batch_ties X P laws x ok width starts owner_is named announces apart b.side frames (side_of h) s c i 0 D T c (HasClosed ∷ []) refl refl plain_close
 
     turning_ties : (s word : ℕ) (o : Option (Core E)) → slice_get b.side.senders s ≡ o → SenderDoes b.side o (λ c. turned X b.side s c (situation_of X c) word) b'.side → (a : Answer) → TurnAnswers X b.side.words o word a → Ties P x b'.side (λ q. D q ++ cond (q == s) (turning_deeds X b.side.words o word a) [])
     turning_ties s word None i d a told = absurd told
     turning_ties s word (Some c) i d a told = subst (λ t. Ties P x b'.side (λ q. D q ++ cond (q == s) (turning_deeds X b.side.words (Some c) word t) [])) (sym told)
-        (subst (λ z. Ties P x z (λ q. D q ++ cond (q == s) (turning_deeds X b.side.words (Some c) word (answer.Turn (answer_at X c (situation_of X c) (found b.side.words (op_at X c (situation_of X c) word)) word))) [])) (sym d) (turn_ties X P laws x ok width starts owner_is named announces apart b.side frames h.side s c i word D T))
+        (subst (λ z. Ties P x z (λ q. D q ++ cond (q == s) (turning_deeds X b.side.words (Some c) word (answer.Turn (answer_at X c (situation_of X c) (found b.side.words (op_at X c (situation_of X c) word)) word))) [])) (sym d) (turn_ties X P laws x ok width starts owner_is named announces apart b.side frames (side_of h) s c i word D T))
 
     event_ties : (e : Event) (a : Answer) → Happens X b e b' → Answers X b e a b' → Ties P x b'.side (λ q. D q ++ deeds_of X b e a q)
     event_ties (Put s bytes) a d w = subst (λ t. Ties P x b'.side (λ q. D q ++ cond (q == s) (put_deeds bytes t) [])) (sym w.2) (put_ties s bytes (slice_get b.side.senders s) refl d.0 w.0 w.1)
@@ -210,7 +211,7 @@ module _ {E : Type 0} (X : Election E) (P : Protocol E (Unit {0}) ℕ) (laws : L
       ended = λ j f at ends. still_closed (D f.owner.0) (cond (f.owner.0 == s) ds []) (C.ended j f at ends);
     }
     turn_closings s word (Some c) i d ds =
-        let part = h.side.sending.parts s c i in
+        let part = h.keeps.sending.parts s c i in
         let z = situation_of X c in
         subst (λ l. Closings (slice_get l) (frames_after X c z frames) (λ q. D q ++ cond (q == s) ds [])) (sym (ap (λ (l : Side E). l.senders) d))
         (closings_after b.side.senders frames D C s c i ds (core_after X c z b.side.home (found b.side.words (op_at X c z word)) word) (frames_after X c z frames)
@@ -233,8 +234,8 @@ module _ {E : Type 0} (X : Election E) (P : Protocol E (Unit {0}) ℕ) (laws : L
   module _ (b b' : Bus E) (frames more : List Frame) (h : LawfulBus P x b frames) (A : ℕ → List RecvTurn) (H : Heard frames b.receivers A) where
     below : (r : ℕ) (v : Receiving) → slice_get b.receivers r ≡ Some v → v.place ≤ length (log_words frames)
     below r v i =
-        let own = (h.receivers r v i).receives in
-        let log = h.side.sending.log in
+        let own = (h.keeps.receiving r v i).receives in
+        let log = h.keeps.sending.log in
         let size : length (log_words frames) ≡ slice_index b.side.words 0 = sym (ap length log.words_are) ∙ length-read (slice_index b.side.words) (log_at x) (slice_index b.side.words 0) in
         let a = own.place_below in let d = own.known_below in omega arith
 
@@ -251,7 +252,7 @@ module _ {E : Type 0} (X : Election E) (P : Protocol E (Unit {0}) ℕ) (laws : L
         | inl y ↦
             let u_is : w.0 ≡ u = same_Some _ _ (sym (get_set_same b.receivers q w.0 there) ∙ ap (λ z. slice_get z q) (sym w.3) ∙ ap (slice_get b'.receivers) (sym y.1) ∙ j) in
             subst (λ t. Hears (frames ++ more) u (A r ++ cond t (w.1 ∷ []) [])) (sym y.0) (subst (λ z. Hears (frames ++ more) u (A z ++ w.1 ∷ [])) (sym y.1) (subst (λ z. Hears (frames ++ more) z (A q ++ w.1 ∷ [])) u_is
-            (hears_later frames more w.0 (A q ++ w.1 ∷ []) (next_below (subst (λ z. slice_get b'.receivers q ≡ Some z) refl (ap (λ z. slice_get z q) w.3 ∙ get_set_same b.receivers q w.0 there))) (hears_more x frames b.side.words h.side.sending.log v (h.receivers q v i) (A q) (H.each q v i) w.1 w.0 w.2))))
+            (hears_later frames more w.0 (A q ++ w.1 ∷ []) (next_below (subst (λ z. slice_get b'.receivers q ≡ Some z) refl (ap (λ z. slice_get z q) w.3 ∙ get_set_same b.receivers q w.0 there))) (hears_more x frames b.side.words h.keeps.sending.log v (h.keeps.receiving q v i) (A q) (H.each q v i) w.1 w.0 w.2))))
         | inr y ↦
             let was = sym (get_set_other b.receivers q w.0 r y.1) ∙ ap (λ z. slice_get z r) (sym w.3) ∙ j in
             subst (λ t. Hears (frames ++ more) u (A r ++ cond t (w.1 ∷ []) [])) (sym y.0) (subst (Hears (frames ++ more) u) (sym (append-nil (A r))) (hears_later frames more u (A r) (below r u was) (H.each r u was)))
@@ -267,8 +268,8 @@ module _ {E : Type 0} (X : Election E) (P : Protocol E (Unit {0}) ℕ) (laws : L
       -- a receiver takes no place past the length that it knew
       next_below : slice_get b'.receivers q ≡ Some w.0 → w.0.place ≤ length (log_words frames)
       next_below j =
-          let own = (lawful.receivers q w.0 j).receives in
-          let log = h.side.sending.log in
+          let own = (lawful.keeps.receiving q w.0 j).receives in
+          let log = h.keeps.sending.log in
           let size : length (log_words frames) ≡ slice_index b.side.words 0 = sym (ap length log.words_are) ∙ length-read (slice_index b.side.words) (log_at x) (slice_index b.side.words 0) in
           let same : slice_index b'.side.words 0 ≡ slice_index b.side.words 0 = ap (λ (z : Side E). slice_index z.words 0) side in
           let a = own.place_below in let d = own.known_below in omega arith
@@ -287,7 +288,7 @@ module _ {E : Type 0} (X : Election E) (P : Protocol E (Unit {0}) ℕ) (laws : L
 
     number_at : (s : ℕ) (c : Core E) → slice_get b.side.senders s ≡ Some c → (ph : SenderPhase E) → c.phase ≡ ph → Fits (slice_index b.side.words) frames c ph → cond c.queue.busy false true ≡ true → next_of c.queue ≡ length (put_by b frames s)
     number_at s c i phase.Resting e fits idle =
-        let part = h.side.sending.parts s c i in
+        let part = h.keeps.sending.parts s c i in
         let sent_now = map (λ (v : Item). v.message) (of_sender s (order_of frames)) in
         let waits : waiting_of (slice_get b.side.senders s) ≡ c.queue.messages = ap waiting_of i ∙ ap (waiting_at c) e in
         let size : length (put_by b frames s) ≡ length sent_now + length c.queue.messages = ap (λ z. length (sent_now ++ z)) waits ∙ length-append sent_now c.queue.messages in
@@ -302,7 +303,7 @@ module _ {E : Type 0} (X : Election E) (P : Protocol E (Unit {0}) ℕ) (laws : L
 
     put_number : (s : ℕ) (o : Option (Core E)) → slice_get b.side.senders s ≡ o → (len n : ℕ) → PutGives o len n → n ≡ length (put_by b frames s)
     put_number s None i len n gives = absurd gives
-    put_number s (Some c) i len n gives = gives.1 ∙ number_at s c i c.phase refl (h.side.sending.parts s c i).fits (ap (λ z. cond z false true) gives.0.idle)
+    put_number s (Some c) i len n gives = gives.1 ∙ number_at s c i c.phase refl (h.keeps.sending.parts s c i).fits (ap (λ z. cond z false true) gives.0.idle)
 
     numbers : (b' : Bus E) (e : Event) (a : Answer) → Answers X b e a b' → (q j n : ℕ) (bytes : List ℕ) → slice_get (deeds_of X b e a q) j ≡ Some (HasPut n bytes) → (j ≡ 0) × (n ≡ length (put_by b frames q))
     numbers b' (Put s bytes') a w q j n bytes e = elim (eqb_tells q s) [
@@ -453,8 +454,8 @@ module _ {E : Type 0} (X : Election E) (P : Protocol E (Unit {0}) ℕ) (laws : L
     }
 
     delivered_at : (r : ℕ) (o : Option Receiving) → slice_get b.receivers r ≡ o → IsPrefixOfOrder (given (T.heard r)) (order_of frames)
-    delivered_at r (Some v) i = subst (λ z. IsPrefixOfOrder z (order_of frames)) (sym (k.tied.heard r v i).given_is) (given_is_prefix x.senders frames v.place k.lawful.side.sending.log.lawful)
-    delivered_at r None i = subst (λ z. IsPrefixOfOrder (given z) (order_of frames)) (sym (k.tied.silent r i)) (given_is_prefix x.senders frames 0 k.lawful.side.sending.log.lawful)
+    delivered_at r (Some v) i = subst (λ z. IsPrefixOfOrder z (order_of frames)) (sym (k.tied.heard r v i).given_is) (given_is_prefix x.senders frames v.place k.lawful.keeps.sending.log.lawful)
+    delivered_at r None i = subst (λ z. IsPrefixOfOrder (given z) (order_of frames)) (sym (k.tied.silent r i)) (given_is_prefix x.senders frames 0 k.lawful.keeps.sending.log.lawful)
 
     told_at : (r : ℕ) (o : Option Receiving) → slice_get b.receivers r ≡ o → IsPrefix (heads (T.heard r)) (map tenure_and_owner frames)
     told_at r (Some v) i = subst (λ z. IsPrefix z (map tenure_and_owner frames)) (sym (k.tied.heard r v i).heads_are) (heads_prefix v.place)
@@ -472,18 +473,18 @@ module _ {E : Type 0} (X : Election E) (P : Protocol E (Unit {0}) ℕ) (laws : L
       took_once = λ t s s' i i' a d.
           let same : s ≡ s' = same_Some _ _ (sym (k.tied.takers.only t s i a) ∙ k.tied.takers.only t s' i' d) in
           (same, k.tied.takers.once t s i i' a (subst (λ z. Took (T.deeds z) t i') (sym same) d));
-      owned = λ j t o e. k.tied.takers.took t o.0 (owner_took b.side.owners frames k.lawful.side.sending.owned j t o e);
-      rising = λ i j t u o p e g l. rise x.senders 0 frames k.lawful.side.sending.log.lawful i j t u o p e g l;
+      owned = λ j t o e. k.tied.takers.took t o.0 (owner_took b.side.owners frames k.lawful.keeps.sending.owned j t o e);
+      rising = λ i j t u o p e g l. rise x.senders 0 frames k.lawful.keeps.sending.log.lawful i j t u o p e g l;
       delivered = λ r. delivered_at r (slice_get b.receivers r) refl;
       told = λ r. told_at r (slice_get b.receivers r) refl;
       faithful = record {
-        numbered = λ s q i e. counted_from 0 (of_sender s (order_of frames)) q i (k.lawful.side.sending.log.counted s) refl e;
+        numbered = λ s q i e. counted_from 0 (of_sender s (order_of frames)) q i (k.lawful.keeps.sending.log.counted s) refl e;
         messages = λ s. subst (IsPrefix (map (λ i. i.message) (of_sender s (order_of frames)))) (sym (k.tied.puts s)) (record { rest = waiting_of (slice_get b.side.senders s); together = refl });
       };
       numbered = k.tied.counted;
       silent = λ r. silent_at r (slice_get b.receivers r) refl;
       closed = λ e.
-          let l = last_frame x.senders 0 frames k.lawful.side.sending.log.lawful e in
+          let l = last_frame x.senders 0 frames k.lawful.keeps.sending.log.lawful e in
           record {
             front = map tenure_and_owner l.front;
             tenure = l.frame.tenure;
@@ -491,12 +492,12 @@ module _ {E : Type 0} (X : Election E) (P : Protocol E (Unit {0}) ℕ) (laws : L
             last = ap (map tenure_and_owner) l.frames_are ∙ map-append tenure_and_owner l.front (l.frame ∷ []);
             closed = k.tied.closings.ended l.place l.frame l.at l.ends;
           };
-      framed = framed x.senders 0 frames k.lawful.side.sending.log.lawful;
+      framed = framed x.senders 0 frames k.lawful.keeps.sending.log.lawful;
     }
 
     pub by_frames : IsPromisedBy x b T (order_of frames) (map tenure_and_owner frames)
     by_frames = record {
-      spelled = record { frames = frames; lawful = k.lawful.side.sending.log.lawful; words_are = sym k.lawful.side.sending.log.words_are; order_is = refl; owners_are = refl };
+      spelled = record { frames = frames; lawful = k.lawful.keeps.sending.log.lawful; words_are = sym k.lawful.keeps.sending.log.words_are; order_is = refl; owners_are = refl };
       takers = record { took = k.tied.takers.took; only = k.tied.takers.only };
       promises = page;
     }
@@ -515,7 +516,7 @@ module _ {E : Type 0} (X : Election E) (P : Protocol E (Unit {0}) ℕ) (laws : L
     later = kept_of k.frames new T' m
 
     grown : IsPrefixOfOrder (order_of k.frames) (order_of (k.frames ++ m.more))
-    grown = order_grows x.senders k.frames m.more m.lawful.side.sending.log.lawful
+    grown = order_grows x.senders k.frames m.more m.lawful.keeps.sending.log.lawful
 
     heard_grows : (r : ℕ) → IsPrefixOfOrder (given (T.heard r)) (given (T'.heard r))
     heard_grows r = given_more (T.heard r) (T'.heard r) (more r) (order_of k.frames) (order_of (k.frames ++ m.more)) ((page old T k).delivered r) ((page new T' later).delivered r) grown
@@ -561,7 +562,7 @@ module _ {E : Type 0} (X : Election E) (P : Protocol E (Unit {0}) ℕ) (laws : L
 
   -- what each receiver was given is what stands below its place
   pub given_below : (b : Bus E) (T : Trails) (r : Reached X x b T) (frames : List Frame) → AreFrames x.senders frames → log_of (record { layout = x; bus = b }) ≡ log_words frames → (q : ℕ) (v : Receiving) → slice_get b.receivers q ≡ Some v → given (T.heard q) ≡ given_at frames v
-  given_below b T r frames lawful words q v i = let k = reached_kept b T r in let log = k.lawful.side.sending.log in
+  given_below b T r frames lawful words q v i = let k = reached_kept b T r in let log = k.lawful.keeps.sending.log in
       (k.tied.heard q v i).given_is ∙ ap (λ z. given_at z v) (same_log x.senders 0 0 k.frames frames log.lawful lawful (sym log.words_are ∙ words))
 
 -- the first step of an election is the announcement

@@ -33,9 +33,9 @@ use Rattle.bus_tenure.specs.declared.turns.Turn.{Turn as Answered}
 use Rattle.bus_tenure.specs.declared.turns.Turn.TheVariants as turn
 use Rattle.bus_world.specs.Bus.{IsLayout, Part, stands_at, standing_of}
 use Rattle.bus_register.specs.TableLaws.{push_here}
-use Rattle.bus_world.specs.Turning.{Side, turned, stepped, found, home_after, core_after, owners_after, owners_by, IsSide}
+use Rattle.bus_world.specs.Turning.{Side, turned, stepped, found, home_after, core_after, owners_after, owners_by}
 use Rattle.bus_world.proofs.Waiting.{frames_after}
-use Rattle.bus_world.proofs.TurningLaws.{turn_lawful}
+use Rattle.bus_world.proofs.TurningLaws.{turn_lawful, IsSide, side_of}
 use Rattle.bus_world.specs.World.{Bus, Event, Put, Close, Turn, Recv, IsEvent, Happens, SenderDoes, ReceiverDoes, RecvDoes, with_sender, put_in, close_in, is_open, can_put, can_close, IsReceiver}
 use Rattle.bus_world.proofs.Accepting.{open_is, not_busy, empty_is}
 use Rattle.bus_world.proofs.WorldLaws.{event_left, numbers_fit}
@@ -239,7 +239,7 @@ module _ {E : Type 0} (X : Election E) (P : Protocol E (Unit {0}) ℕ) (x : Layo
 
     -- ---- a put
     pub put_fits : next_of c.queue < 2 ^ 48
-    put_fits = numbers_fit X P laws x served width starts owner_is b.side h.frames h.lawful.side s c old
+    put_fits = numbers_fit X P laws x served width starts owner_is b.side h.frames (side_of h.lawful) s c old
 
     module _ (bytes : List ℕ) (c' : Core E) (put_is : c' ≡ put_in c bytes) where
       put_does : Happens X b (Put s bytes) (with_core s c')
@@ -308,10 +308,10 @@ module _ {E : Type 0} (X : Election E) (P : Protocol E (Unit {0}) ℕ) (x : Layo
 
     -- ---- a turn
     part : Part x (slice_index b.side.words) h.frames s c
-    part = h.lawful.side.sending.parts s c old
+    part = h.lawful.keeps.sending.parts s c old
 
     pub words_enough : length b.side.words ≡ words_of c.layout
-    words_enough = h.lawful.side.words ∙ ap words_of (sym part.layout)
+    words_enough = h.lawful.words ∙ ap words_of (sym part.layout)
 
     module _ (word : ℕ) where
       kept_below : (o : Op) (r v : ℕ) → Store record { 0 = r } v ≡ o → SumFits o (slice_index b.side.words (register o))
@@ -320,7 +320,7 @@ module _ {E : Type 0} (X : Election E) (P : Protocol E (Unit {0}) ℕ) (x : Layo
       -- what an election adds to stays in range
       election_fits : (t : ℕ) (e : E) → situation_of X c ≡ Elects t e → (o : Op) → X.op e word ≡ Some o → SumFits o (slice_index b.side.words (register o))
       election_fits t e i o w =
-          let tenures = h.lawful.side.sending.tenures in
+          let tenures = h.lawful.keeps.sending.tenures in
           let has = tenures.electing s t e (ap (of_some standing_of) old ∙ ap (λ z. Some (stands_at z)) (elects X c s [] c.phase t e i).0) in
           laws.fits x.senders (2 + t * P.width x.senders) (slice_index b.side.words) (tenures.elections t) s e word o (tenures.kept t has.0) has.2 w
 
@@ -347,7 +347,7 @@ module _ {E : Type 0} (X : Election E) (P : Protocol E (Unit {0}) ℕ) (x : Layo
       answered = answer_at X c (situation_of X c) step_found word
 
       turn_keeps : IsSide P x (turned X b.side s c (situation_of X c) word) (frames_after X c (situation_of X c) h.frames)
-      turn_keeps = turn_lawful X P laws x served width starts owner_is b.side h.frames h.lawful.side s c old word
+      turn_keeps = turn_lawful X P laws x served width starts owner_is b.side h.frames (side_of h.lawful) s c old word
 
       -- there is room for one more owner
       pub owner_fits : (t : ℕ) → answered ≡ turn.Own t → length b.side.owners < 256
@@ -385,20 +385,20 @@ module _ {E : Type 0} (X : Election E) (P : Protocol E (Unit {0}) ℕ) (x : Layo
   -- ---- a turn of a receiver
   module _ (r : ℕ) (v : Receiving) (old : slice_get b.receivers r ≡ Some v) where
     own_reader : IsReceiver x h.frames (slice_index b.side.words 0) v
-    own_reader = h.lawful.receivers r v old
+    own_reader = h.lawful.keeps.receiving r v old
 
     pub loads_within : IfSome (receiving_op v) (λ o. register o < length b.side.words)
     loads_within = by_end v.ended (v.place == v.known) (eqb_tells v.place v.known)
       where
         few : 2 ≤ length b.side.words
-        few = let z = h.lawful.side.words in omega arith
+        few = let z = h.lawful.words in omega arith
 
         by_end : (e q : Bool) → ((q ≡ true) × (v.place ≡ v.known)) ⊎ ((q ≡ false) × (v.place ≢ v.known)) → IfSome (cond {A = Option Op} e None (cond q (Some (Load (record { 0 = v.length_at }))) (Some (Load (record { 0 = v.log_at + v.place }))))) (λ o. register o < length b.side.words)
         by_end true q how = tt
         by_end false true how = let a = own_reader.len_at in let z = few in omega arith
         by_end false false (inl how) = absurd (true≢false (sym how.0))
         by_end false false (inr how) =
-            let a = own_reader.log in let z = h.lawful.side.words in let d = own_reader.receives.place_below in let g = own_reader.receives.known_below in let f = h.lawful.side.sending.log.fits in let ne = how.1 in
+            let a = own_reader.log in let z = h.lawful.words in let d = own_reader.receives.place_below in let g = own_reader.receives.known_below in let f = h.lawful.keeps.sending.log.fits in let ne = how.1 in
             let below : v.place < v.known = omega arith in
             omega arith
 

@@ -49,7 +49,7 @@ module _ {E : Type 0} (X : Election E) (P : Protocol E (Unit {0}) ℕ) (x : Layo
       (λ T r. trails.given_below X P s.laws x served s.width s.starts s.owner_is s.named s.announces s.apart b T r)
 
   frames_there : (frames : List Frame) × AreFrames now.layout.senders frames × (log_of now ≡ log_words frames)
-  frames_there = subst (λ z. (frames : List Frame) × AreFrames z.layout.senders frames × (log_of z ≡ log_words frames)) is (h.frames, h.lawful.side.sending.log.lawful, h.lawful.side.sending.log.words_are)
+  frames_there = subst (λ z. (frames : List Frame) × AreFrames z.layout.senders frames × (log_of z ≡ log_words frames)) is (h.frames, h.lawful.keeps.sending.log.lawful, h.lawful.keeps.sending.log.words_are)
 
   -- what stands below the place of a receiver is what it was given
   pub heard : (r : ℕ) → r < length now.bus.receivers → (order : Order) → ((frames : List Frame) (v : Receiving) → AreFrames now.layout.senders frames → log_of now ≡ log_words frames → slice_get now.bus.receivers r ≡ Some v → order ≡ given_at frames v)

@@ -30,7 +30,8 @@ use Rattle.bus_world.specs.Playing.{Answers, TurnAnswers, log_of}
 use Rattle.bus_world.proofs.QueueLaws.{counted_frame, length-items}
 use Rattle.bus_world.specs.Telling.{TurnTells, SenderTells, EventTells}
 use Rattle.bus_world.specs.Trails.{Trails, Reached, extended, turn_deeds, turning_deeds, step_deed}
-use Rattle.bus_world.specs.Turning.{Side, found, IsSide}
+use Rattle.bus_world.specs.Turning.{Side, found}
+use Rattle.bus_world.proofs.TurningLaws.{IsSide, side_of}
 use Rattle.bus_world.specs.World.{Bus, Event, Put, Close, Turn, Recv, Happens}
 use Rattle.bus_world.proofs.EventTrails.{reached_kept, follows}
 use Rattle.bus_world.proofs.Framing.{items_owned, framed, front_lawful}
@@ -184,7 +185,7 @@ module _ {E : Type 0} (X : Election E) (P : Protocol E (Unit {0}) ℕ) (laws : L
       let is = same_turn t _ told in
       subst (λ z. ((u place : ℕ) → Took (T.deeds s ++ turning_deeds X old.side.words (Some c) word (answer.Turn z)) u place → Elected (T.deeds s ++ turning_deeds X old.side.words (Some c) word (answer.Turn z)) u s)
       → TurnTells x (log_of record { layout = x; bus = old }) s c (T.deeds s ++ turning_deeds X old.side.words (Some c) word (answer.Turn z)) z) (sym is)
-      (turn_true X P laws x owner_is named old.side k.frames k.lawful.side s c i word (T.deeds s)) own
+      (turn_true X P laws x owner_is named old.side k.frames (side_of k.lawful) s c i word (T.deeds s)) own
 
   turn_tells : (s word : ℕ) (t : Answered) → Happens X old (Turn s word) new → Answers X old (Turn s word) (answer.Turn t) new → EventTells x old (Turn s word) (answer.Turn t) (extended X old (Turn s word) (answer.Turn t) T)
   turn_tells s word t d w =

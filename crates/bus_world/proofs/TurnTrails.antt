@@ -25,7 +25,8 @@ use Rattle.bus_ownerbits.proofs.ElectionSteps.{row_within}
 use Rattle.bus_world.specs.Tenures.Standing.{Runs}
 use Rattle.bus_world.proofs.TenuresLaws as tenures
 use Rattle.bus_world.specs.Bus.{IsLayout, least_of, Part, Fits, stands_at}
-use Rattle.bus_world.specs.Turning.{Side, stepped, found, laid, turned, IsSide}
+use Rattle.bus_world.specs.Turning.{Side, stepped, found, laid, turned}
+use Rattle.bus_world.proofs.TurningLaws.{IsSide}
 use Rattle.bus_world.specs.declared.events.Answer.TheVariants as answer
 use Rattle.bus_world.specs.Headline.{Deed, Stepped, Announced, Elected}
 use Rattle.bus_world.specs.Trails.{step_deed, turn_deeds}

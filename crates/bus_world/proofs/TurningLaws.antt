@@ -31,7 +31,8 @@ use Rattle.bus_world.proofs.TenuresLaws as tenures
 use Rattle.bus_world.specs.Bus.{IsLayout, least_of, standing_of, Part, Fits, HasBegun, Sending, stands_at}
 use Rattle.bus_world.proofs.BusLaws as bus
 use Rattle.bus_world.specs.Log.{sent}
-use Rattle.bus_world.specs.Turning.{Side, stepped, found, laid, home_after, core_after, owners_after, turned, IsSide}
+use Rattle.bus_world.specs.Turning.{Side, stepped, found, laid, home_after, core_after, owners_after, turned}
+use Rattle.bus_world.specs.World.{Bus, LawfulBus}
 use Rattle.bus_world.proofs.Waiting.{frames_after}
 
 open_apart : Open ≡ Closed → ⊥
@@ -321,7 +322,15 @@ module _ {E : Type 0} (X : Election E) (P : Protocol E (Unit {0}) ℕ) (laws : L
     pub turn_keeps : Kept (situation_of X c)
     turn_keeps = turn_at c.phase refl
 
--- ---- words of a list
+-- ---- lists
+-- what the senders of a machine keep, with these frames in the log
+pub record IsSide {E : Type 0} (P : Protocol E (Unit {0}) ℕ) (x : Layout) (side : Side E) (frames : List Frame) : Type 0 where
+  pub words : length side.words ≡ words_of x
+  pub sending : Sending P x (slice_index side.words) side.home (slice_get side.senders) side.owners frames
+
+pub side_of : {E : Type 0} {P : Protocol E (Unit {0}) ℕ} {x : Layout} {b : Bus E} {frames : List Frame} → LawfulBus P x b frames → IsSide P x b.side frames
+side_of h = record { words = h.words; sending = h.keeps.sending }
+
 module _ (words : List ℕ) where
   found_is : (o : Option Op) → finds (slice_index words) o ≡ found words o
   found_is None = refl

@@ -33,17 +33,17 @@ module _ {E : Type 0} {X : Election E} (P : Protocol E (Unit {0}) ℕ) (z : Sitt
   pub log_is : (words : List ℕ) → words ≡ z.bus.side.words → (capacity : ℕ) → capacity ≡ z.layout.capacity
       → take (length words - capacity + slice_index words 0 - (length words - capacity)) (drop (length words - capacity) words) ≡ log_of z
   log_is words words_are capacity capacity_is =
-      let size : length words ≡ words_of z.layout = ap length words_are ∙ h.lawful.side.words in
+      let size : length words ≡ words_of z.layout = ap length words_are ∙ h.lawful.words in
       let at : length words - capacity ≡ log_at z.layout = omega arith in
-      let fits = h.lawful.side.sending.log.fits in
+      let fits = h.lawful.keeps.sending.log.fits in
       let len : slice_index words 0 ≡ slice_index z.bus.side.words 0 = ap (λ l. slice_index l 0) words_are in
       let many : length words - capacity + slice_index words 0 - (length words - capacity) ≡ slice_index z.bus.side.words 0 = omega arith in
       ap (λ k. take k (drop (length words - capacity) words)) many ∙ ap (λ k. take (slice_index z.bus.side.words 0) (drop k words)) at ∙ ap (λ l. take (slice_index z.bus.side.words 0) (drop (log_at z.layout) l)) words_are
-      ∙ sym (read-list z.bus.side.words (log_at z.layout) (slice_index z.bus.side.words 0) (let s = h.lawful.side.words in omega arith))
+      ∙ sym (read-list z.bus.side.words (log_at z.layout) (slice_index z.bus.side.words 0) (let s = h.lawful.words in omega arith))
 
   -- a receiver's place is in it
   pub place_within : (r : ℕ) (v : Receiving) → slice_get z.bus.receivers r ≡ Some v → v.place ≤ length (log_of z)
-  place_within r v e = let a = (h.lawful.receivers r v e).receives in let b = a.place_below in let d = a.known_below in let s = length-log in omega arith
+  place_within r v e = let a = (h.lawful.keeps.receiving r v e).receives in let b = a.place_below in let d = a.known_below in let s = length-log in omega arith
 
 -- frames are what their words spell
 pub frames_spell : (n : ℕ) (frames : List Frame) (words : List ℕ) → AreFrames n frames → words ≡ log_words frames → Spells n words (order_of frames) (map tenure_and_owner frames)

@@ -33,7 +33,8 @@ use Rattle.bus_world.specs.Tenures.Standing.{Rests}
 use Rattle.bus_world.proofs.TenuresLaws as tenures
 use Rattle.bus_world.specs.Bus.{IsLayout, Part, Fits, Sending, least_of, stands_at, standing_of}
 use Rattle.bus_world.proofs.BusLaws as bus
-use Rattle.bus_world.specs.Turning.{Side, turned, IsSide}
+use Rattle.bus_world.specs.Turning.{Side, turned}
+use Rattle.bus_world.proofs.TurningLaws.{IsSide, side_of}
 use Rattle.bus_world.proofs.TurningLaws as turning
 use Rattle.bus_world.proofs.PutLaws as puts
 use Rattle.bus_world.proofs.Accepting as accepting
@@ -148,6 +149,9 @@ one_or_none : (more : Option Frame) (frames : List Frame) → (with_frame more f
 one_or_none None frames = inl refl
 one_or_none (Some f) frames = inr (f, refl)
 
+lawful_of : {E : Type 0} {P : Protocol E (Unit {0}) ℕ} {x : Layout} {b : Bus E} {frames : List Frame} → IsSide P x b.side frames → ((r : ℕ) (v : Receiving) → slice_get b.receivers r ≡ Some v → IsReceiver x frames (slice_index b.side.words 0) v) → LawfulBus P x b frames
+lawful_of side receiving = record { words = side.words; keeps = record { sending = side.sending; receiving = receiving } }
+
 -- the frames of one bus begin those of the other
 pub record Continues (frames frames' : List Frame) : Type 0 where
   pub more : List Frame
@@ -174,32 +178,32 @@ module _ {E : Type 0} (X : Election E) (P : Protocol E (Unit {0}) ℕ) (laws : L
     quiet : IsSide P x b'.side frames → b'.receivers ≡ b.receivers → Left frames b'
     quiet side same = record {
       frames_now = frames;
-      lawful = record { side = side; receivers = λ r v e. receiver_stays x frames (slice_index b.side.words) (slice_index b'.side.words) h.side.sending.log side.sending.log v (h.receivers r v (ap (λ z. slice_get z r) (sym same) ∙ e)) };
+      lawful = lawful_of side (λ r v e. receiver_stays x frames (slice_index b.side.words) (slice_index b'.side.words) h.keeps.sending.log side.sending.log v (h.keeps.receiving r v (ap (λ z. slice_get z r) (sym same) ∙ e)));
       continues = record { more = []; together = append-nil frames };
     }
 
     longer : (f : Frame) → IsSide P x b'.side (frames ++ f ∷ []) → b'.receivers ≡ b.receivers → Left frames b'
     longer f side same = record {
       frames_now = frames ++ f ∷ [];
-      lawful = record { side = side; receivers = λ r v e. receiver_follows x frames (slice_index b.side.words) (slice_index b'.side.words) h.side.sending.log f side.sending.log v (h.receivers r v (ap (λ z. slice_get z r) (sym same) ∙ e)) };
+      lawful = lawful_of side (λ r v e. receiver_follows x frames (slice_index b.side.words) (slice_index b'.side.words) h.keeps.sending.log f side.sending.log v (h.keeps.receiving r v (ap (λ z. slice_get z r) (sym same) ∙ e)));
       continues = record { more = f ∷ []; together = refl };
     }
 
     put_left : (s : ℕ) (bytes : List ℕ) → All (λ byte. byte < 256) bytes → (o : Option (Core E)) → slice_get b.side.senders s ≡ o → SenderDoes b.side o (λ c. with_sender b.side s (put_in c bytes)) b'.side → b'.receivers ≡ b.receivers → After frames frames b'
     unfolding quiet longer
-    put_left s bytes small None i d same = record { left = quiet (same_side P x frames b.side b'.side d h.side) same; now_is = refl }
-    put_left s bytes small (Some c) i d same = record { left = quiet (same_side P x frames (with_sender b.side s (put_in c bytes)) b'.side d (accept_lawful X P laws x ok width starts owner_is b.side frames h.side s c i (Puts bytes) (small, tt))) same; now_is = refl }
+    put_left s bytes small None i d same = record { left = quiet (same_side P x frames b.side b'.side d (side_of h)) same; now_is = refl }
+    put_left s bytes small (Some c) i d same = record { left = quiet (same_side P x frames (with_sender b.side s (put_in c bytes)) b'.side d (accept_lawful X P laws x ok width starts owner_is b.side frames (side_of h) s c i (Puts bytes) (small, tt))) same; now_is = refl }
 
     close_left : (s : ℕ) (o : Option (Core E)) → slice_get b.side.senders s ≡ o → SenderDoes b.side o (λ c. with_sender b.side s (close_in c)) b'.side → b'.receivers ≡ b.receivers → After frames frames b'
     unfolding quiet longer
-    close_left s None i d same = record { left = quiet (same_side P x frames b.side b'.side d h.side) same; now_is = refl }
-    close_left s (Some c) i d same = record { left = quiet (same_side P x frames (with_sender b.side s (close_in c)) b'.side d (accept_lawful X P laws x ok width starts owner_is b.side frames h.side s c i Closes tt)) same; now_is = refl }
+    close_left s None i d same = record { left = quiet (same_side P x frames b.side b'.side d (side_of h)) same; now_is = refl }
+    close_left s (Some c) i d same = record { left = quiet (same_side P x frames (with_sender b.side s (close_in c)) b'.side d (accept_lawful X P laws x ok width starts owner_is b.side frames (side_of h) s c i Closes tt)) same; now_is = refl }
 
     turn_left : (s word : ℕ) (o : Option (Core E)) → slice_get b.side.senders s ≡ o → SenderDoes b.side o (λ c. turned X b.side s c (situation_of X c) word) b'.side → b'.receivers ≡ b.receivers → After frames (frames_by X o frames) b'
     unfolding quiet longer
-    turn_left s word None i d same = record { left = quiet (same_side P x frames b.side b'.side d h.side) same; now_is = refl }
+    turn_left s word None i d same = record { left = quiet (same_side P x frames b.side b'.side d (side_of h)) same; now_is = refl }
     turn_left s word (Some c) i d same =
-        let side = subst (λ z. IsSide P x z (frames_after X c (situation_of X c) frames)) (sym d) (turning.turn_lawful X P laws x ok width starts owner_is b.side frames h.side s c i word) in
+        let side = subst (λ z. IsSide P x z (frames_after X c (situation_of X c) frames)) (sym d) (turning.turn_lawful X P laws x ok width starts owner_is b.side frames (side_of h) s c i word) in
         elim (one_or_none (line_of X c (situation_of X c)).publishes frames) [
           | inl e ↦ record { left = quiet (subst (IsSide P x b'.side) e side) same; now_is = sym e }
           | inr f ↦ record { left = longer f.0 (subst (IsSide P x b'.side) f.1 side) same; now_is = sym f.1 }
@@ -207,11 +211,11 @@ module _ {E : Type 0} (X : Election E) (P : Protocol E (Unit {0}) ℕ) (laws : L
 
     recv_left : (r : ℕ) (o : Option Receiving) → slice_get b.receivers r ≡ o → b'.side ≡ b.side → ReceiverDoes b.side.words b.receivers r o b'.receivers → After frames frames b'
     unfolding quiet longer
-    recv_left r None i d rs = record { left = quiet (same_side P x frames b.side b'.side d h.side) rs; now_is = refl }
+    recv_left r None i d rs = record { left = quiet (same_side P x frames b.side b'.side d (side_of h)) rs; now_is = refl }
     recv_left r (Some v) i d rs =
         let words = slice_index b.side.words in
-        let log = h.side.sending.log in
-        let own = h.receivers r v i in
+        let log = h.keeps.sending.log in
+        let own = h.keeps.receiving r v i in
         let goes : v.ended ≡ false → RecvStep v (recv_found b.side.words v) rs.1 rs.0 → IsReceiver x frames (words 0) rs.0 = λ going step. elim (eqb_tells v.place v.known) [
           | inl y ↦ at_length x frames words log v own rs.1 rs.0 y.1 (subst (λ z. RecvStep v z rs.1 rs.0) (ap (λ q. cond q (words v.length_at) (words (v.log_at + v.place))) y.0 ∙ ap words own.len_at) step)
           | inr y ↦ at_word x frames words log v own rs.1 rs.0 y.1 (subst (λ z. RecvStep v z rs.1 rs.0) (ap (λ q. cond q (words v.length_at) (words (v.log_at + v.place))) y.0 ∙ ap (λ q. words (q + v.place)) own.log) step)
@@ -225,13 +229,10 @@ module _ {E : Type 0} (X : Election E) (P : Protocol E (Unit {0}) ℕ) (laws : L
           now_is = refl;
           left = record {
             frames_now = frames;
-            lawful = record {
-              side = same_side P x frames b.side b'.side d h.side;
-              receivers = λ q w e. subst (λ z. IsReceiver x frames (slice_index z.words 0) w) (sym d) (elim (cases_eq q r) [
-                | inl j ↦ subst (IsReceiver x frames (words 0)) (same_Some _ _ (sym (get_set_same b.receivers r rs.0 (slice_get_within b.receivers r v i)) ∙ ap (λ z. slice_get z r) (sym rs.3) ∙ ap (slice_get b'.receivers) (sym j) ∙ e)) next_is
-                | inr ne ↦ h.receivers q w (sym (get_set_other b.receivers r rs.0 q ne) ∙ ap (λ z. slice_get z q) (sym rs.3) ∙ e)
-              ]);
-            };
+            lawful = lawful_of {b = b'} (same_side P x frames b.side b'.side d (side_of h)) (λ q w e. subst (λ z. IsReceiver x frames (slice_index z.words 0) w) (sym d) (elim (cases_eq q r) [
+              | inl j ↦ subst (IsReceiver x frames (words 0)) (same_Some _ _ (sym (get_set_same b.receivers r rs.0 (slice_get_within b.receivers r v i)) ∙ ap (λ z. slice_get z r) (sym rs.3) ∙ ap (slice_get b'.receivers) (sym j) ∙ e)) next_is
+              | inr ne ↦ h.keeps.receiving q w (sym (get_set_other b.receivers r rs.0 q ne) ∙ ap (λ z. slice_get z q) (sym rs.3) ∙ e)
+            ]));
             continues = record { more = []; together = append-nil frames };
           };
         }
@@ -281,7 +282,7 @@ module _ {E : Type 0} (X : Election E) (P : Protocol E (Unit {0}) ℕ) (laws : L
             ap (waiting_at (record c { queue = record c.queue { phase = Closing } })) rests ∙ sym (ap (waiting_at c) rests) ∙ sym (append-nil (waiting_of (Some c)))
 
     own_part : (s : ℕ) (c : Core E) → slice_get b.side.senders s ≡ Some c → Part x (slice_index b.side.words) frames s c
-    own_part s c i = h.side.sending.parts s c i
+    own_part s c i = h.keeps.sending.parts s c i
 
     put_puts : (s : ℕ) (bytes : List ℕ) (o : Option (Core E)) → slice_get b.side.senders s ≡ o → SenderDoes b.side o (λ c. with_sender b.side s (put_in c bytes)) b'.side → (q : ℕ) → put_by b' frames q ≡ put_by b frames q ++ cond (q == s) (accepted_by o bytes) []
     put_puts s bytes None i d q = bus_same d frames q ∙ sym (append-nil (put_by b frames q)) ∙ ap (λ z. put_by b frames q ++ z) (sym (same_arms (q == s)))
@@ -365,20 +366,17 @@ module _ {E : Type 0} (X : Election E) (P : Protocol E (Unit {0}) ℕ) (laws : L
     }
 
     pub new_is_lawful : LawfulBus P x b []
-    new_is_lawful = record {
-      side = record { words = ap length new.words ∙ length-replicate (words_of x) 0; sending = new_sending };
-      receivers = λ r v e.
-          let n = new.receivers r v e in
-          let none : take v.place (log_words []) ≡ [] = take-nil v.place in
-          record {
-            senders = n.0;
-            log = n.1;
-            len_at = n.2;
-            log_words = n.3;
-            receives = record {
-              place_below = (let a = n.4 in let d = n.5 in omega arith);
-              known_below = (let a = n.4 in omega arith);
-              has_read = subst (λ z. HasRead x.senders (take z (log_words [])) (take z (log_pieces [])) v.frames) (sym n.5) n.7;
-            };
+    new_is_lawful = lawful_of (record { words = ap length new.words ∙ length-replicate (words_of x) 0; sending = new_sending }) (λ r v e.
+        let n = new.receivers r v e in
+        let none : take v.place (log_words []) ≡ [] = take-nil v.place in
+        record {
+          senders = n.0;
+          log = n.1;
+          len_at = n.2;
+          log_words = n.3;
+          receives = record {
+            place_below = (let a = n.4 in let d = n.5 in omega arith);
+            known_below = (let a = n.4 in omega arith);
+            has_read = subst (λ z. HasRead x.senders (take z (log_words [])) (take z (log_pieces [])) v.frames) (sym n.5) n.7;
           };
-    }
+        })

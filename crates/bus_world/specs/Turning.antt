@@ -1,17 +1,14 @@
 -- One turn of one sender, on the words, the page, the senders and the owners.
-use Rattle.std.specs.Prelude.{◌≡◌, ℕ, false, Option, Some, None, List, [], ◌∷◌, ◌++◌, length, slice_get, slice_index, slice_set, if◌then◌else◌}
+use Rattle.std.specs.Prelude.{ℕ, false, Option, Some, None, List, [], ◌∷◌, ◌++◌, slice_index, slice_set, if◌then◌else◌}
 use Rattle.bus_register.specs.declared.registers.Op.{Op}
 use Rattle.bus_register.specs.Words.{register, after}
-use Rattle.bus_register.specs.Protocol.{Protocol}
-use Rattle.bus_batch.specs.Frames.{Frame}
-use Rattle.bus_tenure.specs.Core.{Core, Election, Layout, words_of}
+use Rattle.bus_tenure.specs.Core.{Core, Election}
 use Rattle.bus_tenure.specs.Situations.{Situation, situation_of, PageMove, Stays, Comes, Returns, line_of, op_at, fed_at}
 use Rattle.bus_tenure.specs.declared.pages.Page.{Page}
 use Rattle.bus_tenure.specs.declared.phases.Phase.{Phase}
 use Rattle.bus_tenure.specs.declared.phases.Phase.TheVariants as phase
 use Rattle.bus_tenure.specs.declared.turns.Turn.{Turn as Answered}
 use Rattle.bus_tenure.specs.declared.turns.Turn.TheVariants as turn
-use Rattle.bus_world.specs.Bus.{Sending}
 
 -- what senders share, and the senders
 pub record Side (E : Type 0) : Type 0 where
@@ -104,8 +101,3 @@ owners_by (turn.Delivered t first last) p owners = owners
 owners_by turn.Full p owners = owners
 owners_by turn.Closed p owners = owners
 owners_by turn.Spent p owners = owners
-
--- what the senders keep, with these frames in the log
-pub record IsSide {E : Type 0} (P : Protocol E (Unit {0}) ℕ) (x : Layout) (side : Side E) (frames : List Frame) : Type 0 where
-  pub words : length side.words ≡ words_of x
-  pub sending : Sending P x (slice_index side.words) side.home (slice_get side.senders) side.owners frames

@@ -14,7 +14,8 @@ use Rattle.bus_tenure.specs.declared.phases.Phase.TheVariants as phase
 use Rattle.bus_world.specs.Receiving.{Receives}
 use Rattle.bus_batch.specs.Reading.{HasRead}
 use Rattle.bus_tenure.specs.declared.pages.Page.{Page}
-use Rattle.bus_world.specs.Turning.{Side, turned, IsSide}
+use Rattle.bus_world.specs.Bus.{Sending}
+use Rattle.bus_world.specs.Turning.{Side, turned}
 
 -- the senders' side, and the receivers
 pub record Bus (E : Type 0) : Type 0 where
@@ -95,9 +96,15 @@ pub record IsReceiver (x : Layout) (frames : List Frame) (len : ℕ) (v : Receiv
   pub log_words : v.log_words ≡ x.capacity
   pub receives : Receives x.senders frames len v.place v.known v.frames
 
+-- words, page, senders and receivers by number, whatever holds them, with who took the pages and the frames of the log
+pub record Lawful {E : Type 0} (P : Protocol E (Unit {0}) ℕ) (x : Layout) (words : ℕ → ℕ) (home : Option Page) (senders : ℕ → Option (Core E)) (receivers : ℕ → Option Receiving) (owners : List ℕ) (frames : List Frame) : Type 0 where
+  pub sending : Sending P x words home senders owners frames
+  pub receiving : (r : ℕ) (v : Receiving) → receivers r ≡ Some v → IsReceiver x frames (words 0) v
+
+-- a machine has just the words of its layout
 pub record LawfulBus {E : Type 0} (P : Protocol E (Unit {0}) ℕ) (x : Layout) (bus : Bus E) (frames : List Frame) : Type 0 where
-  pub side : IsSide P x bus.side frames
-  pub receivers : (r : ℕ) (v : Receiving) → slice_get bus.receivers r ≡ Some v → IsReceiver x frames (slice_index bus.side.words 0) v
+  pub words : length bus.side.words ≡ words_of x
+  pub keeps : Lawful P x (slice_index bus.side.words) bus.side.home (slice_get bus.side.senders) (slice_get bus.receivers) bus.side.owners frames
 
 -- what a receiver was given: the items and the end among the pieces below its place
 abbrev pub given_at : List Frame → Receiving → Order
