@@ -52,7 +52,7 @@ fits_whole words frames c (phase.Holding t page stored true) f = f.0.busy
 fits_whole words frames c (phase.Giving t leaving) f = f
 
 pub whole_of : {E : Type 0} {X : Election E} (P : Protocol E (Unit {0}) ℕ) (z : Sitting E) → IsSitting X P z → (p : ℕ) (c : Core E) → slice_get z.bus.side.senders p ≡ Some c → Whole c.phase c.queue × (c.queue.phase ≡ Closing → c.queue.messages ≡ [])
-whole_of P z h p c e = let part = h.lawful.side.sending.parts p c e in (fits_whole _ h.frames c c.phase part.fits, part.queue.alone)
+whole_of P z h p c e = let part = h.lawful.keeps.sending.parts p c e in (fits_whole _ h.frames c c.phase part.fits, part.queue.alone)
 
 -- ---- batches
 and_no : (a : Bool) → (a && false) ≡ false

@@ -15,7 +15,7 @@ use Rattle.bus_pageslot.specs.Outcomes.{IsOutcome}
 -- the page is at home only while a tenure is open, and then it knows the frames
 pub is_outcome : {E : Type 0} {X : Election E} (P : Protocol E (Unit {0}) ℕ) (z : Sitting E) → IsSitting X P z → (page : Page) → z.bus.side.home ≡ Some page → IsOutcome record { senders = z.layout.senders; log = log_of z; page = page }
 is_outcome P z h page home =
-    let sending = h.lawful.side.sending in
+    let sending = h.lawful.keeps.sending in
     elim sending.tenures.stage_is [
       | Open stage at_home many ↦
           let knows = (sending.page_knows page _ home stage).0 in
