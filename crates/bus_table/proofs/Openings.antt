@@ -5,6 +5,8 @@ use lib.ListN.{get_elem?}
 use Rattle.std.proofs.lemmas.Bool.{cases_lt}
 use Rattle.std.proofs.lemmas.List.{length-append}
 use Rattle.std.proofs.lemmas.Option.{same_Some, slice_get_within}
+use Rattle.std.specs.Prelude.{All}
+use Rattle.std.proofs.lemmas.List.Elements.{All-nil, All-cons}
 use Rattle.atomic_table.specs.declared.shared.Seat.{Seat}
 use Rattle.atomic_table.specs.Table.{Splits, opening}
 use Rattle.atomic_table.proofs.Lists.{at_set}
@@ -22,7 +24,7 @@ use Rattle.bus_table.specs.declared.rule.View.TheVariants.{Maker, Sender, Tap, M
 use Rattle.bus_table.specs.Rule.{tap_left, tap_right, trail_in, stored_in, next_core, cut_left, cut_right, log_in_bus, Knows, IsShown}
 use Rattle.bus_table.specs.Steps.{carried_of, IsCounted}
 use Rattle.bus_table.specs.Steps.Accepts.{Nothing}
-use Rattle.bus_table.specs.Seats.{Seated, Spot, Shows}
+use Rattle.bus_table.specs.Seats.{Seated, Spot, Shows, table_of}
 use Rattle.bus_table.specs.Buses.{IsNewSeat, AreNewSeats, IsNewTap, AreNewTaps}
 use Rattle.atomic_table.specs.Seated.{TableId}
 
@@ -196,3 +198,14 @@ one_more_tap table many taps t h new = record {
             subst (IsNewTap table) (same_Some _ _ (sym (push_here taps t (length taps) refl) ∙ ap (slice_get (taps ++ t ∷ [])) (sym here) ∙ e)) new
       ];
 }
+
+-- what each has, all have
+by_each : {A : Type 0} (P : A → Type 0) (xs : List A) → ((p : ℕ) (x : A) → slice_get xs p ≡ Some x → P x) → All P xs
+by_each P [] each = All-nil P
+by_each P (x ∷ xs) each = All-cons P x xs (each 0 x refl) (by_each P xs (λ p. each (suc p)))
+
+pub all_here : {E : Type 0} (x : Layout) (table : TableId) (many : ℕ) (senders : List (Seated E)) → AreNewSeats x table many senders → All (λ s. table_of s ≡ table) senders
+all_here x table many senders h = by_each (λ s. table_of s ≡ table) senders (λ p s e. (h.each p s e).table_is)
+
+pub all_taps_here : {E : Type 0} (table : TableId) (many : ℕ) (taps : List (Spot E)) → AreNewTaps table many taps → All (λ t. t.table_id ≡ table) taps
+all_taps_here table many taps h = by_each (λ t. t.table_id ≡ table) taps (λ r t e. (h.each r t e).table_is)

@@ -38,7 +38,7 @@ use Rattle.bus_table.specs.Rule.{log_in_bus}
 use Rattle.bus_table.specs.Steps.{with_message, with_close, Accepts, deeds_at}
 use Rattle.bus_table.specs.Steps.Accepts.{Nothing, Message, Close as Closes}
 use Rattle.bus_table.proofs.Situations.{tells}
-use Rattle.bus_table.proofs.Tests.{put_taken, close_taken, set_there}
+use Rattle.bus_table.proofs.Taking.{put_taken, close_taken, set_there}
 
 -- ---- trails that grow
 same_longer : (p : ℕ) (D : ℕ → List Deed) → Longer p [] D D

@@ -1,11 +1,12 @@
 //! The bus: how it is made, and how it ends.
 
-ghost use Rattle.std.specs.Prelude.{◌≡◌, ℕ, List, Some, None, IfOk, OnErr, IfErr, [], ◌≤◌};
+ghost use Rattle.std.specs.Prelude.{All, ◌≡◌, ℕ, List, Some, None, IfOk, OnErr, IfErr, [], ◌≤◌};
 ghost use Rattle.std.specs.Vec.{vec_len, vec_capacity};
 ghost use Rattle.bus_tenure.specs.Elections.{election_of};
 ghost use Rattle.bus_world.specs.Playing.{layout_of, IsServed, MakeRefused};
 ghost use Rattle.bus_table.specs.Rule.{known_in};
 ghost use Rattle.bus_table.specs.Buses.{AreNewSeats, AreNewTaps};
+ghost use Rattle.bus_table.specs.Seats.{table_of};
 ghost use Rattle.bus_table.specs.Endings.{IsLeft};
 
 use crate::outcomes::{EndFault, Ended, leave};
@@ -40,6 +41,7 @@ impl<Q: Ratifier + Drop> Bus<Q> {
         ensures shape { IfOk result (λ made. made.0.table.shared.key ≡ shape) }
         ensures senders { IfOk result (λ made. AreNewSeats (layout_of Q.protocol shape) made.0.table.shared.table_id shape.senders made.1.items) }
         ensures taps { IfOk result (λ made. AreNewTaps made.0.table.shared.table_id shape.receivers made.2.items) }
+        ensures table { IfOk result (λ made. All (λ s. table_of s ≡ made.0.table.shared.table_id) made.1.items × All (λ t. t.table_id ≡ made.0.table.shared.table_id) made.2.items) }
         ensures served { IfOk result (λ _. IsServed shape) }
         ensures fault { IfErr result (MakeRefused shape) }
     {

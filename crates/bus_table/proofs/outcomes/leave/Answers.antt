@@ -114,7 +114,7 @@ unwrap-requires g c =
     let is = ap (λ m. m.0) n.2 in
     let size = (slots_counts c.close_with-closed.result.words).0 ∙ wide X P x y seat.id seat.me.0 n.0 n.1 is ws xs f in
     let read_is = c.words_from-log.ensures ∙ ap (λ k. read (slice_index ws) (c.len.result - c.args.log_words) k) (sym (word_at ws 0 c.word-length.result c.word-length.ensures))
-        ∙ ap (λ k. read (slice_index ws) k (slice_index ws 0)) (let a = c.len.ensures in let b = c.requires.log_words in let e : c.len.result - c.args.log_words ≡ log_at x = omega arith in e) in
+    ∙ ap (λ k. read (slice_index ws) k (slice_index ws 0)) (let a = c.len.ensures in let b = c.requires.log_words in let e : c.len.result - c.args.log_words ≡ log_at x = omega arith in e) in
     let home = left_home X P x y seat.id seat.me.0 n.0 n.1 is ws xs f c.word-stage.result (word_at ws 1 c.word-stage.result c.word-stage.ensures) c.if-stage-eq1.false c.take-page.result c.take-page.ensures.value c.words_from-log.result.items read_is in
     subst IsSome (sym home.1) refl
 
@@ -134,6 +134,6 @@ returns-clause-ended g c =
     let is = ap (λ m. m.0) n.2 in
     let size = (slots_counts c.close_with-closed.result.words).0 ∙ wide X P x y seat.id seat.me.0 n.0 n.1 is ws xs f in
     let read_is = c.words_from-log.ensures ∙ ap (λ k. read (slice_index ws) (c.len.result - c.args.log_words) k) (sym (word_at ws 0 c.word-length.result c.word-length.ensures))
-        ∙ ap (λ k. read (slice_index ws) k (slice_index ws 0)) (let a = c.len.ensures in let b = c.requires.log_words in let e : c.len.result - c.args.log_words ≡ log_at x = omega arith in e) in
+    ∙ ap (λ k. read (slice_index ws) k (slice_index ws 0)) (let a = c.len.ensures in let b = c.requires.log_words in let e : c.len.result - c.args.log_words ≡ log_at x = omega arith in e) in
     let home = left_home X P x y seat.id seat.me.0 n.0 n.1 is ws xs f c.word-stage.result (word_at ws 1 c.word-stage.result c.word-stage.ensures) c.if-stage-eq1.false c.take-page.result c.take-page.ensures.value c.words_from-log.result.items read_is in
     subst (λ page. IsLeft X x (known_in seat.me.0) c.words_from-log.result.items (Some page)) (same_Some _ _ (sym home.1 ∙ c.unwrap.ensures)) home.2
