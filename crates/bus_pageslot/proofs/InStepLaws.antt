@@ -1,5 +1,5 @@
 -- A sender's batch follows the answers to its turns.
-use Rattle.std.proofs.Common.{◌≡◌, ℕ, ◌+◌, ◌-◌, ◌*◌, ◌/◌, ◌<◌, Bool, true, false, cond, ◌&&◌, ◌==◌, nat_lt, nat_le, Option, Some, None, is_some, ◌⊎◌, inl, inr, List, [], ◌∷◌, ◌++◌, length, drop, suc, slice_get, arith, refl, sym, ◌∙◌, ap, subst}
+use Rattle.std.proofs.Common.{◌≡◌, ℕ, ◌+◌, ◌-◌, ◌*◌, ◌/◌, ◌<◌, Bool, true, false, cond, ◌&&◌, ◌==◌, nat_lt, nat_le, Option, Some, None, is_some, ◌⊎◌, inl, inr, List, [], ◌∷◌, ◌++◌, length, drop, suc, slice_get, arith, refl, sym, ◌∙◌, ap, subst, slice_index}
 use Rattle.std.specs.Prelude.{is_none, is_ok, Result, Ok, Err, IfErr}
 use Rattle.std.proofs.lemmas.Bool.Decides.{nat_tests}
 use Rattle.std.proofs.lemmas.Option.{slice_get_within, get_or_from_slice_get}
@@ -206,7 +206,7 @@ module _ {E : Type 0} (X : Election E) (p : ℕ) (old new : Bus E) (c : Core E) 
       let q : CloseRefused (Some c) why = subst (λ o. CloseRefused o why) here h in
       absurd (let no : true ≡ false = sym can ∙ no_close_fault c.queue q.0 q.1 in cc)
 
-  pub turn_taken : (word : ℕ) → Happens X old (Turn p word) new → slice_get new.side.senders p ≡ Some (core_after X c (situation_of X c) old.side.home (found old.side.words (op_at X c (situation_of X c) word)) word)
+  pub turn_taken : (word : ℕ) → Happens X old (Turn p word) new → slice_get new.side.senders p ≡ Some (core_after X c (situation_of X c) old.side.home (found (slice_index old.side.words) (op_at X c (situation_of X c) word)) word)
   turn_taken word d =
       let side : new.side ≡ turned X old.side p c (situation_of X c) word = subst (λ o. SenderDoes old.side o (λ k. turned X old.side p k (situation_of X k) word) new.side) here d.0 in
       ap (λ (z : Side E). slice_get z.senders p) side ∙ get_set_same old.side.senders p _ (slice_get_within old.side.senders p c here)
@@ -291,7 +291,7 @@ module _ {E : Type 0} (X : Election E) (P : Protocol E (Unit {0}) ℕ) (old mid 
         let d = record c { queue = s.queue } in
         let whole = whole_of P old sitting p c here in
         let h = has_told c here step in
-        let got = found mid.bus.side.words (op_at X d (situation_of X d) word) in
+        let got = found (slice_index mid.bus.side.words) (op_at X d (situation_of X d) word) in
         let same : answer ≡ answer_at X d (situation_of X d) got word = is ∙ ap (λ o. answer_in X mid.bus.side.words o word) h.0 in
         let f = follows X d mid.bus.side.home got word (owed_alone c.queue s.fresh s.closes s.queue whole.1 step.owed) (whole_same c.phase c.queue s.queue (owed_busy c.queue s.fresh s.closes s.queue step.owed) whole.0) in
         (core_after X d (situation_of X d) mid.bus.side.home got word, turn_taken X p mid.bus new.bus d h.0 word does, f ∙ ap (λ a. queue_by a s.queue) (sym same), h.1, h.2);

@@ -1,5 +1,5 @@
 -- What a bus has of one of its senders, if there is one of this number.
-use Rattle.std.specs.Prelude.{◌≡◌, ℕ, Bool, true, is_none, Option, Some, None, List, [], ◌∷◌, ◌++◌, map, if◌then◌else◌}
+use Rattle.std.specs.Prelude.{◌≡◌, ℕ, Bool, true, is_none, Option, Some, None, List, [], ◌∷◌, ◌++◌, map, if◌then◌else◌, slice_index}
 use Rattle.bus_register.specs.declared.kinds.Kind.{Kind}
 use Rattle.bus_tenure.specs.Core.{Core, Election}
 use Rattle.bus_tenure.specs.Situations.{situation_of, kind_at, op_at, answer_at, wants_at}
@@ -23,7 +23,7 @@ kind_in X (Some c) = kind_at X c (situation_of X c)
 -- its answer to a turn on these words
 abbrev pub answer_in : {E : Type 0} → Election E → List ℕ → Option (Core E) → ℕ → Turn
 answer_in X words None word = turn.Closed
-answer_in X words (Some c) word = answer_at X c (situation_of X c) (found words (op_at X c (situation_of X c) word)) word
+answer_in X words (Some c) word = answer_at X c (situation_of X c) (found (slice_index words) (op_at X c (situation_of X c) word)) word
 
 -- a sender keeps what its next step is
 abbrev pub seen : {E : Type 0} → Election E → Option (Core E) → Seat → Seat

@@ -1,3 +1,5 @@
 mod Lawful
 mod Turning
 mod Caused
+mod Refused
+pub mod Situated

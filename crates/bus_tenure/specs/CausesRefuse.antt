@@ -3,7 +3,6 @@ use Rattle.std.specs.Prelude.{◌≡◌, ℕ, Bool, true, false}
 use Rattle.bus_register.specs.declared.kinds.Kind.TheVariants as kind
 use Rattle.bus_register.specs.Protocol.{Protocol}
 use Rattle.bus_adoptcommit.specs.declared.verdicts.Verdict.{Verdict}
-use Rattle.bus_coinconc.specs.declared.conciliators.Stage.{Stage}
 use Rattle.bus_coinconc.specs.declared.conciliators.Stage.TheVariants.{SetMark, ReadOtherMark}
 use Rattle.bus_tenure.specs.declared.pages.Page.{Page}
 use Rattle.bus_tenure.specs.declared.phases.Phase.TheVariants.{Resting, Holding}
@@ -28,32 +27,3 @@ pub record RefusesCauses {S : Type 0} (P : Protocol S Bool Verdict) : Type 0 whe
   pub unread_votes : (c : Core (Elector S)) → IsInConciliator c ReadOtherMark → ¬ HasCause P c kind.Vote
   -- it is to load votes, and votes again
   pub counting_votes : (c : Core (Elector S)) → CountsVotes c → ¬ HasCause P c kind.Vote
-
--- it is at one stage of one conciliator
-same_stage : {S : Type 0} (c : Core (Elector S)) (a b : Stage) → IsInConciliator c a → IsInConciliator c b → a ≡ b
-same_stage c a b x y =
-    let f = x.deciding.elects in
-    let g = y.deciding.elects in
-    let p = x.deciding.proposes in
-    let q = y.deciding.proposes in
-    let m = x.here in
-    let n = y.here in
-    let s = x.stands in
-    let t = y.stands in
-    cc
-
-module _ {S : Type 0} (P : Protocol S Bool Verdict) where
-  pub refuses_causes : RefusesCauses P
-  refuses_causes = record {
-    resting_takes = λ c rests h. let x = h.elects in absurd cc;
-    resting_stores = λ c rests h. let x = h.holds.holds in absurd cc;
-    resting_falls_back = λ c rests h. let x = h.deciding.elects in absurd cc;
-    ended_publishes = λ c tenure page stored at ended h. let x = h.holds.holds in let y = h.holds.not_ended in absurd cc;
-    unmarked_reads = λ c is h. let x = same_stage c _ _ is h in absurd cc;
-    unread_votes = λ c is h. let x = same_stage c _ _ is h.asks in absurd cc;
-    counting_votes = λ c is h.
-        let x = same_stage c _ _ is.asks.asks h.asks in
-        let y = is.asks.stands in
-        let z = h.stands in
-        absurd cc;
-  }

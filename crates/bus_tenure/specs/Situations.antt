@@ -101,9 +101,9 @@ pub record Line (E : Type 0) : Type 0 where
   -- the frame that joins the log with the step
   pub publishes : Option Frame
 
--- no tenure is begun and no step is due, which is answered so
-abbrev pub rests : {E : Type 0} → Core E → Turn → Line E
-rests c answer = record {
+-- a line with nothing in it: no tenure is begun, no step is due, and the sender is this one, with this answer
+abbrev pub blank : {E : Type 0} → Core E → Turn → Line E
+blank c answer = record {
   tenure = None;
   kind = None;
   op = λ word. None;
@@ -111,27 +111,19 @@ rests c answer = record {
   fed = λ got word. c;
   answer = λ got word. answer;
   chosen = λ got word. None;
-  rest = Some answer;
-  move = Stays;
-  takes = false;
-  publishes = None;
-}
-
--- in this tenure a step of this kind is due, after which the sender is this one, and its answer this, whatever was found
-abbrev pub steps : {E : Type 0} → ℕ → Kind → Op → Core E → Turn → Line E
-steps t kind op fed answer = record {
-  tenure = Some t;
-  kind = Some kind;
-  op = λ word. Some op;
-  wants_word = false;
-  fed = λ got word. fed;
-  answer = λ got word. answer;
-  chosen = λ got word. None;
   rest = None;
   move = Stays;
   takes = false;
   publishes = None;
 }
+
+-- a sender that has nothing to do
+abbrev pub rests : {E : Type 0} → Core E → Turn → Line E
+rests c answer = record (blank c answer) { rest = Some answer }
+
+-- in this tenure this step is due, after which the sender is this one, with this answer, whatever the step found
+abbrev pub steps : {E : Type 0} → ℕ → Kind → Op → Core E → Turn → Line E
+steps t kind op after answer = record (blank after answer) { tenure = Some t; kind = Some kind; op = λ word. Some op }
 
 -- ---- what a step leaves that depends on what it found
 abbrev pub begun : {E : Type 0} → Election E → Core E → ℕ → Core E
@@ -178,8 +170,13 @@ abbrev pub line_of : {E : Type 0} → Election E → Core E → Situation E → 
 line_of X c IsClosed = rests c turn.Closed
 line_of X c IsIdle = rests c turn.Idle
 line_of X c IsSpent = rests c turn.Spent
-line_of X c LooksAtStage = record (rests c turn.Going) { kind = Some kind.LoadStage; op = λ word. Some (Load record { 0 = stage_at }); fed = λ got word. saw_stage X c got; answer = λ got word. answer_of_stage c got; rest = None }
-line_of X c (Elects t e) = record {
+line_of X c LooksAtStage = record (blank c turn.Going) {
+  kind = Some kind.LoadStage;
+  op = λ word. Some (Load record { 0 = stage_at });
+  fed = λ got word. saw_stage X c got;
+  answer = λ got word. answer_of_stage c got;
+}
+line_of X c (Elects t e) = record (blank c turn.Going) {
   tenure = Some t;
   kind = X.kind_of e;
   op = X.op e;
@@ -187,13 +184,9 @@ line_of X c (Elects t e) = record {
   fed = λ got word. elected c t (X.fed e got word) (X.owner (X.fed e got word));
   answer = λ got word. answer_of_election c t (X.owner (X.fed e got word));
   chosen = λ got word. X.owner (X.fed e got word);
-  rest = None;
-  move = Stays;
-  takes = false;
-  publishes = None;
 }
 line_of X c (TakesPage t) = record (steps t kind.TakePage (Store record { 0 = stage_at } (2 * t + 1)) (record c { phase = Taken t }) (turn.Own t)) { move = Comes t; takes = true }
-line_of X c (AwaitsPage t) = record (rests c turn.Going) { tenure = Some t; rest = None; move = Comes t }
+line_of X c (AwaitsPage t) = record (blank c turn.Going) { tenure = Some t; move = Comes t }
 line_of X c (StoresWord t page stored) =
     steps t kind.StoreLogWord (Store record { 0 = log_at c.layout + page.words + stored } (slice_index (frame_words (frame_of c.queue t)) stored)) (record c { phase = Holding t page (stored + 1) false }) turn.Going
 line_of X c (StoresLength t page stored) =

@@ -9,7 +9,7 @@ use Rattle.bus_batch.specs.declared.batches.Phase.{Phase as BatchPhase}
 use Rattle.bus_batch.specs.declared.batches.Phase.TheVariants.{Open, Closing, Closed as Shut}
 use Rattle.bus_batch.specs.Frames.{Frame, EndMark}
 use Rattle.bus_tenure.specs.Core.{Core, Election}
-use Rattle.bus_tenure.specs.Situations.{Situation, IsClosed, IsIdle, IsSpent, LooksAtStage, Elects, TakesPage, AwaitsPage, StoresWord, StoresLength, GivesBack, HasHanded, begun, elected, waits, queue_after}
+use Rattle.bus_tenure.specs.Situations.{Situation, LooksAtStage, Elects, TakesPage, AwaitsPage, StoresLength, GivesBack, HasHanded, begun, elected, waits, queue_after}
 use Rattle.bus_tenure.specs.declared.pages.Page.{Page}
 use Rattle.bus_tenure.specs.declared.phases.Leaving.{Leaving}
 use Rattle.bus_tenure.specs.declared.phases.Leaving.TheVariants.{Sent, FoundEnd, NoRoom}
@@ -60,17 +60,13 @@ module _ {E : Type 0} (X : Election E) (c : Core E) where
       by_test false i = i
 
   pub turn_closing : (z : Situation E) (home : Option Page) (got word : ℕ) → (core_after X c z home got word).queue.phase ≡ Closing → c.queue.phase ≡ Closing
-  turn_closing IsClosed home got word e = e
-  turn_closing IsIdle home got word e = e
-  turn_closing IsSpent home got word e = e
   turn_closing LooksAtStage home got word e = saw_closing (waits c got) (nat_le c.layout.rows (got / 2)) got e
   turn_closing (Elects t u) home got word e = elected_closing t (X.fed u got word) (X.owner (X.fed u got word)) e
   turn_closing (TakesPage t) home got word e = laid_closing t home e
   turn_closing (AwaitsPage t) home got word e = laid_closing t home e
-  turn_closing (StoresWord t page stored) home got word e = e
-  turn_closing (StoresLength t page stored) home got word e = e
   turn_closing (GivesBack t page leaving) home got word e = left_closing leaving c.queue e
   turn_closing (HasHanded t leaving) home got word e = left_closing leaving c.queue e
+  turn_closing z home got word e = e
 
 -- ---- a frame that ends the log is that of a closing batch
 body_ends : (ph : BatchPhase) (first : ℕ) (messages : List (List ℕ)) → body_of ph first messages ≡ EndMark → ph ≡ Closing
@@ -88,22 +84,13 @@ one_frame f (suc i) g e = absurd (none_there i g e)
 -- each frame of the log after a turn was there before, or it is that of the sender's batch
 pub turn_frames : {E : Type 0} (X : Election E) (c : Core E) (z : Situation E) (frames : List Frame) (D : Frame → Type 0) → ((i : ℕ) (f : Frame) → slice_get frames i ≡ Some f → f.body ≡ EndMark → D f)
     → ((t : ℕ) → c.queue.phase ≡ Closing → D (frame_of c.queue t)) → (i : ℕ) (f : Frame) → slice_get (frames_after X c z frames) i ≡ Some f → f.body ≡ EndMark → D f
-turn_frames X c IsClosed frames D old new = old
-turn_frames X c IsIdle frames D old new = old
-turn_frames X c IsSpent frames D old new = old
-turn_frames X c LooksAtStage frames D old new = old
-turn_frames X c (Elects t e) frames D old new = old
-turn_frames X c (TakesPage t) frames D old new = old
-turn_frames X c (AwaitsPage t) frames D old new = old
-turn_frames X c (StoresWord t page stored) frames D old new = old
 turn_frames X c (StoresLength t page stored) frames D old new = λ i f at ends. elim (got_split frames (frame_of c.queue t ∷ []) i f at) [
   | inl l ↦ old i f l ends
   | inr r ↦
       let is = one_frame (frame_of c.queue t) r.0 f r.2 in
       subst D is (new t (body_ends c.queue.phase c.queue.first c.queue.messages (ap (λ (g : Frame). g.body) is ∙ ends)))
 ]
-turn_frames X c (GivesBack t page leaving) frames D old new = old
-turn_frames X c (HasHanded t leaving) frames D old new = old
+turn_frames X c z frames D old new = old
 
 -- ---- the trails of all, of which that of one may have more
 module _ {E : Type 0} (senders : List (Core E)) (frames : List Frame) (D : ℕ → List Deed) (h : Closings (slice_get senders) frames D) (p : ℕ) (c : Core E) (old : slice_get senders p ≡ Some c) (ds : List Deed) where

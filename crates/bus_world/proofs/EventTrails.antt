@@ -178,7 +178,7 @@ module _ {E : Type 0} (X : Election E) (P : Protocol E (Unit {0}) ℕ) (laws : L
     turning_ties : (s word : ℕ) (o : Option (Core E)) → slice_get b.side.senders s ≡ o → SenderDoes b.side o (λ c. turned X b.side s c (situation_of X c) word) b'.side → (a : Answer) → TurnAnswers X b.side.words o word a → Ties P x b'.side (λ q. D q ++ cond (q == s) (turning_deeds X b.side.words o word a) [])
     turning_ties s word None i d a told = absurd told
     turning_ties s word (Some c) i d a told = subst (λ t. Ties P x b'.side (λ q. D q ++ cond (q == s) (turning_deeds X b.side.words (Some c) word t) [])) (sym told)
-        (subst (λ z. Ties P x z (λ q. D q ++ cond (q == s) (turning_deeds X b.side.words (Some c) word (answer.Turn (answer_at X c (situation_of X c) (found b.side.words (op_at X c (situation_of X c) word)) word))) [])) (sym d) (turn_ties X P laws x ok width starts owner_is named announces apart b.side frames (side_of h) s c i word D T))
+        (subst (λ z. Ties P x z (λ q. D q ++ cond (q == s) (turning_deeds X b.side.words (Some c) word (answer.Turn (answer_at X c (situation_of X c) (found (slice_index b.side.words) (op_at X c (situation_of X c) word)) word))) [])) (sym d) (turn_ties X P laws x ok width starts owner_is named announces apart b.side frames (side_of h) s c i word D T))
 
     event_ties : (e : Event) (a : Answer) → Happens X b e b' → Answers X b e a b' → Ties P x b'.side (λ q. D q ++ deeds_of X b e a q)
     event_ties (Put s bytes) a d w = subst (λ t. Ties P x b'.side (λ q. D q ++ cond (q == s) (put_deeds bytes t) [])) (sym w.2) (put_ties s bytes (slice_get b.side.senders s) refl d.0 w.0 w.1)
@@ -214,8 +214,8 @@ module _ {E : Type 0} (X : Election E) (P : Protocol E (Unit {0}) ℕ) (laws : L
         let part = h.keeps.sending.parts s c i in
         let z = situation_of X c in
         subst (λ l. Closings (slice_get l) (frames_after X c z frames) (λ q. D q ++ cond (q == s) ds [])) (sym (ap (λ (l : Side E). l.senders) d))
-        (closings_after b.side.senders frames D C s c i ds (core_after X c z b.side.home (found b.side.words (op_at X c z word)) word) (frames_after X c z frames)
-        (λ e. own_closed b.side.senders frames D C s c i ds (turn_closing X c z b.side.home (found b.side.words (op_at X c z word)) word e))
+        (closings_after b.side.senders frames D C s c i ds (core_after X c z b.side.home (found (slice_index b.side.words) (op_at X c z word)) word) (frames_after X c z frames)
+        (λ e. own_closed b.side.senders frames D C s c i ds (turn_closing X c z b.side.home (found (slice_index b.side.words) (op_at X c z word)) word e))
         (turn_frames X c z frames (λ f. Closed (D f.owner.0 ++ cond (f.owner.0 == s) ds [])) (frames_later b.side.senders frames D C s c i ds)
         (λ t e. subst (λ q. Closed (D q ++ cond (q == s) ds [])) (sym part.sender) (own_closed b.side.senders frames D C s c i ds e))))
 
@@ -252,7 +252,7 @@ module _ {E : Type 0} (X : Election E) (P : Protocol E (Unit {0}) ℕ) (laws : L
         | inl y ↦
             let u_is : w.0 ≡ u = same_Some _ _ (sym (get_set_same b.receivers q w.0 there) ∙ ap (λ z. slice_get z q) (sym w.3) ∙ ap (slice_get b'.receivers) (sym y.1) ∙ j) in
             subst (λ t. Hears (frames ++ more) u (A r ++ cond t (w.1 ∷ []) [])) (sym y.0) (subst (λ z. Hears (frames ++ more) u (A z ++ w.1 ∷ [])) (sym y.1) (subst (λ z. Hears (frames ++ more) z (A q ++ w.1 ∷ [])) u_is
-            (hears_later frames more w.0 (A q ++ w.1 ∷ []) (next_below (subst (λ z. slice_get b'.receivers q ≡ Some z) refl (ap (λ z. slice_get z q) w.3 ∙ get_set_same b.receivers q w.0 there))) (hears_more x frames b.side.words h.keeps.sending.log v (h.keeps.receiving q v i) (A q) (H.each q v i) w.1 w.0 w.2))))
+            (hears_later frames more w.0 (A q ++ w.1 ∷ []) (next_below (subst (λ z. slice_get b'.receivers q ≡ Some z) refl (ap (λ z. slice_get z q) w.3 ∙ get_set_same b.receivers q w.0 there))) (hears_more x frames (slice_index b.side.words) h.keeps.sending.log v (h.keeps.receiving q v i) (A q) (H.each q v i) w.1 w.0 w.2))))
         | inr y ↦
             let was = sym (get_set_other b.receivers q w.0 r y.1) ∙ ap (λ z. slice_get z r) (sym w.3) ∙ j in
             subst (λ t. Hears (frames ++ more) u (A r ++ cond t (w.1 ∷ []) [])) (sym y.0) (subst (Hears (frames ++ more) u) (sym (append-nil (A r))) (hears_later frames more u (A r) (below r u was) (H.each r u was)))

@@ -177,9 +177,9 @@ module _ (frames : List Frame) (v : Receiving) (trail : List RecvTurn) (h : Hear
         silent = silent_more trail answer h.silent (inl told);
       }
 
-module _ (x : Layout) (frames : List Frame) (words : List ℕ) (log : Logged x.senders x.capacity (log_at x) (slice_index words) (slice_index words 0) frames) (v : Receiving) (own : IsReceiver x frames (slice_index words 0) v) (trail : List RecvTurn) (h : Hears frames v trail) (answer : RecvTurn) (next : Receiving) where
-  size_is : length (log_words frames) ≡ slice_index words 0
-  size_is = sym (ap length log.words_are) ∙ length-read (slice_index words) (log_at x) (slice_index words 0)
+module _ (x : Layout) (frames : List Frame) (words : ℕ → ℕ) (log : Logged x.senders x.capacity (log_at x) words (words 0) frames) (v : Receiving) (own : IsReceiver x frames (words 0) v) (trail : List RecvTurn) (h : Hears frames v trail) (answer : RecvTurn) (next : Receiving) where
+  size_is : length (log_words frames) ≡ words 0
+  size_is = sym (ap length log.words_are) ∙ length-read words (log_at x) (words 0)
 
   hears_step : v.ended ≡ false → RecvStep v (recv_found words v) answer next → Hears frames next (trail ++ answer ∷ [])
   hears_step on step = elim (cases_eq v.place v.known) [
@@ -198,16 +198,16 @@ module _ (x : Layout) (frames : List Frame) (words : List ℕ) (log : Logged x.s
           ]
         ]
     | inr ne ↦
-        let had = received x frames (slice_index words) log v own in
+        let had = received x frames words log v own in
         elim (step.at_word ne (take v.place (log_words frames)) (take v.place (log_pieces frames)) had) [
           | inl bad ↦ quiet frames v trail h answer next on record { items = ap item_heard bad.1; ends = ap end_heard bad.1; head = ap head_heard bad.1; place = ap (λ (z : Receiving). z.place) bad.2; ended = ap (λ (z : Receiving). z.ended) bad.2 }
           | inr ok ↦
-              let more : v.place < slice_index words 0 = let a = own.receives.place_below in let b = own.receives.known_below in omega arith in
-              let got_is : recv_found words v ≡ slice_index words (log_at x + v.place) = elim (eqb_tells v.place v.known) [
+              let more : v.place < words 0 = let a = own.receives.place_below in let b = own.receives.known_below in omega arith in
+              let got_is : recv_found words v ≡ words (log_at x + v.place) = elim (eqb_tells v.place v.known) [
                 | inl y ↦ absurd (ne y.1)
-                | inr y ↦ ap (λ q. cond q (slice_index words v.length_at) (slice_index words (v.log_at + v.place))) y.0 ∙ ap (λ q. slice_index words (q + v.place)) own.log
+                | inr y ↦ ap (λ q. cond q (words v.length_at) (words (v.log_at + v.place))) y.0 ∙ ap (λ q. words (q + v.place)) own.log
               ] in
-              let word_is : slice_index (log_words frames) v.place ≡ recv_found words v = ap (λ z. slice_index z v.place) (sym log.words_are) ∙ index-read (slice_index words) (log_at x) (slice_index words 0) v.place more ∙ sym got_is in
+              let word_is : slice_index (log_words frames) v.place ≡ recv_found words v = ap (λ z. slice_index z v.place) (sym log.words_are) ∙ index-read words (log_at x) (words 0) v.place more ∙ sym got_is in
               let size = size_is in
               let split = next_word (log_words frames) v.place (recv_found words v) (omega arith) word_is in
               let at = ok.gives frames (drop (suc v.place) (log_words frames)) (subst (λ z. AreFrames z frames) (sym own.senders) log.lawful) split in

@@ -1,5 +1,5 @@
 -- What a program holds stays a bus.
-use Rattle.std.proofs.Common.{◌≡◌, ◌≢◌, ℕ, ◌+◌, ◌*◌, ◌-◌, ◌/◌, ◌<◌, ◌≤◌, ◌^◌, Bool, true, false, cond, ◌&&◌, ◌==◌, nat_lt, nat_le, Option, Some, None, is_some, ◌⊎◌, inl, inr, List, [], ◌∷◌, ◌++◌, length, map, get_or, slice_get, slice_index, slice_set, arith, refl, sym, ◌∙◌, ap, subst}
+use Rattle.std.proofs.Common.{◌≡◌, ◌≢◌, ℕ, ◌+◌, ◌*◌, ◌-◌, ◌/◌, ◌<◌, ◌≤◌, ◌^◌, Bool, true, false, cond, ◌&&◌, ◌==◌, nat_lt, nat_le, Option, Some, None, ◌⊎◌, inl, inr, List, [], ◌∷◌, ◌++◌, length, map, get_or, slice_get, slice_index, slice_set, arith, refl, sym, ◌∙◌, ap, subst}
 use Rattle.std.specs.Prelude.{Result, Ok, Err, IfOk, IfErr, OnOk, OnErr, IfSome, All}
 use Rattle.std.proofs.lemmas.Bool.{and_parts, leb-true, ltb-true, true≢false}
 use Rattle.std.proofs.lemmas.Bool.Decides.{nat_tests, eqb_tells}
@@ -22,13 +22,11 @@ use Rattle.bus_batch.specs.declared.batches.CloseFault.TheVariants as close
 use Rattle.bus_deliverylog.specs.Receiving.{Receiving, receiving_op}
 use Rattle.bus_deliverylog.specs.declared.receiving.RecvTurn.{RecvTurn}
 use Rattle.bus_ownerbits.specs.ElectionKeeps.{OneOwner}
-use Rattle.bus_tenure.specs.Core.{Core, Election, Layout, is_empty, is_closing, is_closed, has_room, frame_len, words_of}
-use Rattle.bus_tenure.specs.Situations.{waits, Situation, IsClosed, IsIdle, IsSpent, LooksAtStage, Elects, TakesPage, AwaitsPage, StoresWord, StoresLength, GivesBack, HasHanded, situation_at, situation_of, op_at, answer_at, answer_of_election, answer_of_leaving}
+use Rattle.bus_tenure.specs.Core.{Core, Election, Layout, is_empty, is_closing, words_of}
+use Rattle.bus_tenure.specs.Situations.{waits, Situation, IsClosed, IsIdle, IsSpent, LooksAtStage, Elects, TakesPage, AwaitsPage, StoresWord, StoresLength, GivesBack, HasHanded, situation_of, op_at, answer_at, answer_of_election, answer_of_leaving}
 use Rattle.bus_tenure.specs.declared.pages.Page.{Page}
 use Rattle.bus_tenure.specs.declared.phases.Leaving.{Leaving}
 use Rattle.bus_tenure.specs.declared.phases.Leaving.TheVariants.{Sent, FoundEnd, NoRoom}
-use Rattle.bus_tenure.specs.declared.phases.Phase.{Phase}
-use Rattle.bus_tenure.specs.declared.phases.Phase.TheVariants as phase
 use Rattle.bus_tenure.specs.declared.turns.Turn.{Turn as Answered}
 use Rattle.bus_tenure.specs.declared.turns.Turn.TheVariants as turn
 use Rattle.bus_world.specs.Bus.{IsLayout, Part, stands_at, standing_of}
@@ -37,6 +35,7 @@ use Rattle.bus_world.specs.Turning.{Side, turned, stepped, found, home_after, co
 use Rattle.bus_world.proofs.Waiting.{frames_after}
 use Rattle.bus_world.proofs.TurningLaws.{turn_lawful, IsSide, side_of}
 use Rattle.bus_world.specs.World.{Bus, Event, Put, Close, Turn, Recv, IsEvent, Happens, SenderDoes, ReceiverDoes, RecvDoes, with_sender, put_in, close_in, is_open, can_put, can_close, IsReceiver}
+use Rattle.bus_tenure.proofs.Situated.{tells}
 use Rattle.bus_world.proofs.Accepting.{open_is, not_busy, empty_is}
 use Rattle.bus_world.proofs.WorldLaws.{event_left, numbers_fit}
 use Rattle.bus_world.specs.Trails.{IsSitting, extended}
@@ -140,42 +139,11 @@ module _ {E : Type 0} (X : Election E) (c : Core E) (p : ℕ) (owners : List ℕ
   leaving_told t NoRoom = refl
 
   pub owners_told : (z : Situation E) (got word : ℕ) → owners_after X c z p owners ≡ owners_by (answer_at X c z got word) p owners
-  owners_told IsClosed got word = refl
-  owners_told IsIdle got word = refl
-  owners_told IsSpent got word = refl
   owners_told LooksAtStage got word = stage_told (waits c got) (nat_le c.layout.rows (got / 2))
   owners_told (Elects t e) got word = election_told t (X.owner (X.fed e got word))
-  owners_told (TakesPage t) got word = refl
-  owners_told (AwaitsPage t) got word = refl
-  owners_told (StoresWord t page stored) got word = refl
-  owners_told (StoresLength t page stored) got word = refl
   owners_told (GivesBack t page leaving) got word = leaving_told t leaving
   owners_told (HasHanded t leaving) got word = leaving_told t leaving
-
-  -- ---- what the situation of a running election tells
-  resting_apart : (a b d : Bool) (t : ℕ) (e : E) → cond {A = Situation E} a IsClosed (cond b IsIdle (cond d IsSpent LooksAtStage)) ≡ Elects t e → ⊥
-  resting_apart true b d t e i = cc
-  resting_apart false true d t e i = cc
-  resting_apart false false true t e i = cc
-  resting_apart false false false t e i = cc
-
-  electing_is : (a : Bool) (t u : ℕ) (e f : E) → cond {A = Situation E} a (TakesPage t) (Elects t e) ≡ Elects u f → (a ≡ false) × (phase.Electing t e ≡ phase.Electing u f)
-  electing_is true t u e f i = absurd cc
-  electing_is false t u e f i = (refl, (let same : Elects t e ≡ Elects u f = i in cc))
-
-  holding_apart : (a b d g : Bool) (t u stored : ℕ) (page : Page) (e : E) → cond {A = Situation E} a (GivesBack t page Sent) (cond b (GivesBack t page FoundEnd) (cond d (cond g (StoresWord t page stored) (StoresLength t page stored)) (GivesBack t page NoRoom))) ≡ Elects u e → ⊥
-  holding_apart true b d g t u stored page e i = cc
-  holding_apart false true d g t u stored page e i = cc
-  holding_apart false false true true t u stored page e i = cc
-  holding_apart false false true false t u stored page e i = cc
-  holding_apart false false false g t u stored page e i = cc
-
-  elects : (ph : Phase E) (t : ℕ) (e : E) → situation_at X c ph ≡ Elects t e → (ph ≡ phase.Electing t e) × (is_some (X.owner e) ≡ false)
-  elects phase.Resting t e i = absurd (resting_apart (is_closed c.queue.phase) (is_empty c.queue.messages && cond (is_closing c.queue.phase) false true) (nat_le c.layout.rows c.least) t e i)
-  elects (phase.Electing u f) t e i = let is = electing_is (is_some (X.owner f)) u t f e i in (is.1, subst (λ z. is_some (X.owner z) ≡ false) (let both : phase.Electing u f ≡ phase.Electing t e = is.1 in cc) is.0)
-  elects (phase.Taken u) t e i = absurd cc
-  elects (phase.Holding u page stored published) t e i = absurd (holding_apart published page.ended (has_room c page) (nat_lt stored (frame_len c)) u t stored page e i)
-  elects (phase.Giving u leaving) t e i = absurd cc
+  owners_told z got word = refl
 
 -- as many numbers as senders
 pub numbers_many : (senders : List SenderNo) {most : ℕ} → length (map (λ s. s.0) senders) < most → length senders < most
@@ -321,7 +289,7 @@ module _ {E : Type 0} (X : Election E) (P : Protocol E (Unit {0}) ℕ) (x : Layo
       election_fits : (t : ℕ) (e : E) → situation_of X c ≡ Elects t e → (o : Op) → X.op e word ≡ Some o → SumFits o (slice_index b.side.words (register o))
       election_fits t e i o w =
           let tenures = h.lawful.keeps.sending.tenures in
-          let has = tenures.electing s t e (ap (of_some standing_of) old ∙ ap (λ z. Some (stands_at z)) (elects X c s [] c.phase t e i).0) in
+          let has = tenures.electing s t e (ap (of_some standing_of) old ∙ ap (λ z. Some (stands_at z)) (tells X c (Elects t e) i).0) in
           laws.fits x.senders (2 + t * P.width x.senders) (slice_index b.side.words) (tenures.elections t) s e word o (tenures.kept t has.0) has.2 w
 
       sums_at : (z : Situation E) → situation_of X c ≡ z → (o : Op) → op_at X c z word ≡ Some o → SumFits o (slice_index b.side.words (register o))
@@ -341,7 +309,7 @@ module _ {E : Type 0} (X : Election E) (P : Protocol E (Unit {0}) ℕ) (x : Layo
       sums_fit o w = sums_at (situation_of X c) refl o w
 
       abbrev step_found : ℕ
-      step_found = found b.side.words (op_at X c (situation_of X c) word)
+      step_found = found (slice_index b.side.words) (op_at X c (situation_of X c) word)
 
       abbrev answered : Answered
       answered = answer_at X c (situation_of X c) step_found word
@@ -402,7 +370,7 @@ module _ {E : Type 0} (X : Election E) (P : Protocol E (Unit {0}) ℕ) (x : Layo
             let below : v.place < v.known = omega arith in
             omega arith
 
-    module _ (turn : RecvTurn) (next : Receiving) (does : RecvDoes b.side.words v turn next) where
+    module _ (turn : RecvTurn) (next : Receiving) (does : RecvDoes (slice_index b.side.words) v turn next) where
       abbrev with_reader : List ℕ → Bus E
       with_reader words = record { side = record b.side { words = words }; receivers = slice_set b.receivers r next }
 

@@ -90,7 +90,7 @@ module _ {E : Type 0} (X : Election E) (side : Side E) (frames : List Frame) (p 
       where
         pick' : (b : Bool) → Puts (cond b (TakesPage t) (Elects t e))
         pick' true = stays (laid c t side.home) (laid_waits c t side.home ∙ sym electing_waits)
-        pick' false = stays (elected c t (X.fed e (found side.words (X.op e word)) word) (X.owner (X.fed e (found side.words (X.op e word)) word))) (elected_waits c t (X.fed e (found side.words (X.op e word)) word) (X.owner (X.fed e (found side.words (X.op e word)) word)) ∙ sym electing_waits)
+        pick' false = stays (elected c t (X.fed e (found (slice_index side.words) (X.op e word)) word) (X.owner (X.fed e (found (slice_index side.words) (X.op e word)) word))) (elected_waits c t (X.fed e (found (slice_index side.words) (X.op e word)) word) (X.owner (X.fed e (found (slice_index side.words) (X.op e word)) word)) ∙ sym electing_waits)
 
   module _ (t : ℕ) (page : Page) (stored : ℕ) where
     -- the frame goes into the order, and its messages out of what waits

@@ -54,10 +54,10 @@ module _ {E : Type 0} (X : Election E) (P : Protocol E (Unit {0}) ℕ) (laws : L
   part = h.sending.parts p c old
 
   abbrev told : Situation E → Answered
-  told z = answer_at X c z (found side.words (op_at X c z word)) word
+  told z = answer_at X c z (found (slice_index side.words) (op_at X c z word)) word
 
   abbrev deeds : Situation E → List Deed
-  deeds z = before ++ turn_deeds X c z (found side.words (op_at X c z word)) word (answer.Turn (told z))
+  deeds z = before ++ turn_deeds X c z (found (slice_index side.words) (op_at X c z word)) word (answer.Turn (told z))
 
   abbrev True : Situation E → Type 0
   True z = ((t place : ℕ) → Took (deeds z) t place → Elected (deeds z) t p) → TurnTells x log p c (deeds z) (told z)
@@ -68,7 +68,7 @@ module _ {E : Type 0} (X : Election E) (P : Protocol E (Unit {0}) ℕ) (laws : L
 
   -- ---- at rest
   looks : True LooksAtStage
-  looks own = by_tests (waits c (found side.words (op_at X c LooksAtStage word))) (nat_le c.layout.rows (found side.words (op_at X c LooksAtStage word) / 2)) (deeds LooksAtStage)
+  looks own = by_tests (waits c (found (slice_index side.words) (op_at X c LooksAtStage word))) (nat_le c.layout.rows (found (slice_index side.words) (op_at X c LooksAtStage word) / 2)) (deeds LooksAtStage)
     where
       by_tests : (a b : Bool) (ds : List Deed) → TurnTells x log p c ds (cond a turn.Waiting (cond b turn.Spent turn.Going))
       by_tests true b ds = tt
@@ -82,7 +82,7 @@ module _ {E : Type 0} (X : Election E) (P : Protocol E (Unit {0}) ℕ) (laws : L
   module _ (t : ℕ) (e : E) where
     takes : True (TakesPage t)
     takes own =
-        let taken : Took (deeds (TakesPage t)) t (length before + 0) = record { found = found side.words (op_at X c (TakesPage t) word); chose = None; answer = turn.Own t; at = got_after before _ 0 _ refl (length before + 0) refl } in
+        let taken : Took (deeds (TakesPage t)) t (length before + 0) = record { found = found (slice_index side.words) (op_at X c (TakesPage t) word); chose = None; answer = turn.Own t; at = got_after before _ 0 _ refl (length before + 0) refl } in
         (own t (length before + 0) taken, (length before + 0, taken))
 
     lost_or : (got : ℕ) (k : Kind) (owner : Option ℕ) → TurnTells x log p c (before ++ step_deed (Some k) (Some t) got owner (answer_of_election c t owner)) (answer_of_election c t owner)
@@ -106,7 +106,7 @@ module _ {E : Type 0} (X : Election E) (P : Protocol E (Unit {0}) ℕ) (laws : L
     elects_on : is_some (X.owner e) ≡ false → True (Elects t e)
     elects_on none own =
         let k = has_kind none in
-        let got = found side.words (X.op e word) in
+        let got = found (slice_index side.words) (X.op e word) in
         let owner = X.owner (X.fed e got word) in
         subst (λ z. TurnTells x log p c (before ++ step_deed z (Some t) got owner (answer_of_election c t owner)) (answer_of_election c t owner)) (sym k.1) (lost_or got k.0 owner)
 
@@ -121,7 +121,7 @@ module _ {E : Type 0} (X : Election E) (P : Protocol E (Unit {0}) ℕ) (laws : L
         by_closing (is_closing c.queue.phase) refl fits.1.front fits.1.frames_are (some_messages c.queue.phase (length c.queue.messages) fits.0.something)
       where
         by_closing : (b : Bool) → is_closing c.queue.phase ≡ b → (front : List Frame) → frames ≡ front ++ frame_of c.queue t ∷ [] → (is_closing c.queue.phase ≡ false → 0 < length c.queue.messages)
-            → TurnTells x log p c (before ++ turn_deeds X c (GivesBack t page Sent) (found side.words (op_at X c (GivesBack t page Sent) word)) word (answer.Turn (told (GivesBack t page Sent)))) (cond b turn.Closed (turn.Delivered t c.queue.first (next_of c.queue - 1)))
+            → TurnTells x log p c (before ++ turn_deeds X c (GivesBack t page Sent) (found (slice_index side.words) (op_at X c (GivesBack t page Sent) word)) word (answer.Turn (told (GivesBack t page Sent)))) (cond b turn.Closed (turn.Delivered t c.queue.first (next_of c.queue - 1)))
         by_closing true i front e some = tt
         by_closing false i front e some = (
           order_of frames,

@@ -88,7 +88,7 @@ module _ {E : Type 0} (X : Election E) (P : Protocol E (Unit {0}) ℕ) (laws : L
   part = h.sending.parts p c old
 
   abbrev Kept : Situation E → Type 0
-  Kept z = Ties P x (turned X side p c z word) (λ q. D q ++ cond (q == p) (turn_deeds X c z (found side.words (op_at X c z word)) word (answer.Turn (answer_at X c z (found side.words (op_at X c z word)) word))) [])
+  Kept z = Ties P x (turned X side p c z word) (λ q. D q ++ cond (q == p) (turn_deeds X c z (found (slice_index side.words) (op_at X c z word)) word (answer.Turn (answer_at X c z (found (slice_index side.words) (op_at X c z word)) word))) [])
 
   follows : (c' : Core E) → next_tenure c ≤ next_tenure c' → GoesOn p c c' (slice_get side.senders) (slice_get (slice_set side.senders p c'))
   follows c' l = record { before = old; now = get_set_same side.senders p c' (slice_get_within side.senders p c old); others = get_set_other side.senders p c'; rises = l }
@@ -320,8 +320,8 @@ module _ {E : Type 0} (X : Election E) (P : Protocol E (Unit {0}) ℕ) (laws : L
             by_step : (o : Op) → X.op e word ≡ Some o → Kept (Elects t e)
             by_step o next =
                 let k = has_kind o next in
-                subst (λ z. Ties P x record { words = stepped side.words z; home = side.home; senders = slice_set side.senders p (elected c t (X.fed e (found side.words z) word) (X.owner (X.fed e (found side.words z) word))); owners = side.owners }
-                (λ q. D q ++ cond (q == p) (step_deed (X.kind_of e) (Some t) (found side.words z) (X.owner (X.fed e (found side.words z) word)) (answer_of_election c t (X.owner (X.fed e (found side.words z) word)))) [])) (sym next)
+                subst (λ z. Ties P x record { words = stepped side.words z; home = side.home; senders = slice_set side.senders p (elected c t (X.fed e (found (slice_index side.words) z) word) (X.owner (X.fed e (found (slice_index side.words) z) word))); owners = side.owners }
+                (λ q. D q ++ cond (q == p) (step_deed (X.kind_of e) (Some t) (found (slice_index side.words) z) (X.owner (X.fed e (found (slice_index side.words) z) word)) (answer_of_election c t (X.owner (X.fed e (found (slice_index side.words) z) word)))) [])) (sym next)
                 (subst (λ z. Ties P x record { words = words_now o next k.0 k.1; home = side.home; senders = slice_set side.senders p (elected c t (later o next k.0 k.1) (X.owner (later o next k.0 k.1))); owners = side.owners }
                 (λ q. D q ++ cond (q == p) (step_deed z (Some t) (slice_index side.words (register o)) (X.owner (later o next k.0 k.1)) (answer_of_election c t (X.owner (later o next k.0 k.1)))) [])) (sym k.1)
                 (step_kept o next k.0 k.1))

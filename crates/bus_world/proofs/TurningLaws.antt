@@ -49,11 +49,6 @@ open_stage c got e = elim (eqb_tells (got % 2) 0) [
 ]
 
 -- ---- a step that is due, or none
--- what it finds
-abbrev pub finds : (ℕ → ℕ) → Option Op → ℕ
-finds words None = 0
-finds words (Some o) = words (register o)
-
 -- the words after it
 abbrev pub Steps : Option Op → (ℕ → ℕ) → (ℕ → ℕ) → Type 0
 Steps None words words' = (r : ℕ) → words' r ≡ words r
@@ -111,7 +106,7 @@ module _ {E : Type 0} (X : Election E) (P : Protocol E (Unit {0}) ℕ) (laws : L
     -- the turn's step is on a word that there is; and once it is taken, and the sender is as it is after it, all is kept
     abbrev pub Kept : Situation E → Type 0
     Kept z = ((o : Op) → op_at X c z word ≡ Some o → register o < words_of x)
-        × (Steps (op_at X c z word) words words' → senders' p ≡ Some (core_after X c z home (finds words (op_at X c z word)) word)
+        × (Steps (op_at X c z word) words words' → senders' p ≡ Some (core_after X c z home (found words (op_at X c z word)) word)
         → Sending P x words' (home_after X c z home) senders' (owners_after X c z p owners) (frames_after X c z frames))
 
     choose : (b : Bool) (s u : Situation E) → Kept s → Kept u → Kept (cond b s u)
@@ -245,7 +240,7 @@ module _ {E : Type 0} (X : Election E) (P : Protocol E (Unit {0}) ℕ) (laws : L
 
       -- whatever its step is
       abbrev KeptBy : Option Op → Type 0
-      KeptBy z = Steps z words words' → senders' p ≡ Some (elected c t (X.fed e (finds words z) word) (X.owner (X.fed e (finds words z) word))) → Sending P x words' home senders' owners frames
+      KeptBy z = Steps z words words' → senders' p ≡ Some (elected c t (X.fed e (found words z) word) (X.owner (X.fed e (found words z) word))) → Sending P x words' home senders' owners frames
 
       elect_kept : (o : Op) → X.op e word ≡ Some o → Kept (Elects t e)
       elect_kept o next = (in_row t e elects, subst KeptBy (sym next) (λ step now. by_owner o next step (X.owner (X.fed e (words (register o)) word)) refl now))
@@ -318,9 +313,17 @@ module _ {E : Type 0} (X : Election E) (P : Protocol E (Unit {0}) ℕ) (laws : L
     turn_at (phase.Holding t page stored published) e = hold_kept t page stored published e
     turn_at (phase.Giving t leaving) e = absurd (subst (Fits words frames c) e part.fits)
 
+    abbrev due : Option Op
+    due = op_at X c (situation_of X c) word
+
+    -- its step is on a word that there is
+    pub turn_within : (o : Op) → due ≡ Some o → register o < words_of x
+    turn_within = (turn_at c.phase refl).0
+
     -- a turn of a sender keeps what senders, words, page and owners keep
-    pub turn_keeps : Kept (situation_of X c)
-    turn_keeps = turn_at c.phase refl
+    pub turn_keeps : Steps due words words' → senders' p ≡ Some (core_after X c (situation_of X c) home (found words due) word)
+        → Sending P x words' (home_after X c (situation_of X c) home) senders' (owners_after X c (situation_of X c) p owners) (frames_after X c (situation_of X c) frames)
+    turn_keeps = (turn_at c.phase refl).1
 
 -- ---- lists
 -- what the senders of a machine keep, with these frames in the log
@@ -332,10 +335,6 @@ pub side_of : {E : Type 0} {P : Protocol E (Unit {0}) ℕ} {x : Layout} {b : Bus
 side_of h = record { words = h.words; sending = h.keeps.sending }
 
 module _ (words : List ℕ) where
-  found_is : (o : Option Op) → finds (slice_index words) o ≡ found words o
-  found_is None = refl
-  found_is (Some o) = refl
-
   length-stepped : (o : Option Op) → length (stepped words o) ≡ length words
   length-stepped None = refl
   length-stepped (Some o) = length-set words (register o) (after o (slice_index words (register o)))
@@ -355,10 +354,13 @@ module _ {E : Type 0} (X : Election E) (P : Protocol E (Unit {0}) ℕ) (laws : L
   turn_lawful =
       let W = slice_index side.words in
       let op = op_at X c (situation_of X c) word in
-      let c' = core_after X c (situation_of X c) side.home (found side.words op) word in
-      let kept = turn_keeps X P laws x ok width starts owner_is W side.home (slice_get side.senders) side.owners frames h.sending p c old word (slice_index (stepped side.words op)) (slice_get (slice_set side.senders p c')) (get_set_other side.senders p c') in
+      let c' = core_after X c (situation_of X c) side.home (found W op) word in
+      let words' = slice_index (stepped side.words op) in
+      let senders' = slice_get (slice_set side.senders p c') in
+      let others = get_set_other side.senders p c' in
+      let within = turn_within X P laws x ok width starts owner_is W side.home (slice_get side.senders) side.owners frames h.sending p c old word words' senders' others in
       record {
         words = length-stepped side.words op ∙ h.words;
-        sending = kept.1 (stepped-steps side.words op (λ o due. let a = kept.0 o due in let b = h.words in omega arith))
-            (get_set_same side.senders p c' (slice_get_within side.senders p c old) ∙ ap (λ k. Some (core_after X c (situation_of X c) side.home k word)) (sym (found_is side.words op)));
+        sending = turn_keeps X P laws x ok width starts owner_is W side.home (slice_get side.senders) side.owners frames h.sending p c old word words' senders' others
+            (stepped-steps side.words op (λ o due. let a = within o due in let b = h.words in omega arith)) (get_set_same side.senders p c' (slice_get_within side.senders p c old));
       }

@@ -216,7 +216,7 @@ module _ {E : Type 0} (X : Election E) (P : Protocol E (Unit {0}) ℕ) (laws : L
         let words = slice_index b.side.words in
         let log = h.keeps.sending.log in
         let own = h.keeps.receiving r v i in
-        let goes : v.ended ≡ false → RecvStep v (recv_found b.side.words v) rs.1 rs.0 → IsReceiver x frames (words 0) rs.0 = λ going step. elim (eqb_tells v.place v.known) [
+        let goes : v.ended ≡ false → RecvStep v (recv_found words v) rs.1 rs.0 → IsReceiver x frames (words 0) rs.0 = λ going step. elim (eqb_tells v.place v.known) [
           | inl y ↦ at_length x frames words log v own rs.1 rs.0 y.1 (subst (λ z. RecvStep v z rs.1 rs.0) (ap (λ q. cond q (words v.length_at) (words (v.log_at + v.place))) y.0 ∙ ap words own.len_at) step)
           | inr y ↦ at_word x frames words log v own rs.1 rs.0 y.1 (subst (λ z. RecvStep v z rs.1 rs.0) (ap (λ q. cond q (words v.length_at) (words (v.log_at + v.place))) y.0 ∙ ap (λ q. words (q + v.place)) own.log) step)
         ] in

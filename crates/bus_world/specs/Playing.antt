@@ -95,12 +95,12 @@ CloseGives (Some c) = CanClose c.queue
 -- a turn of a sender gives the answer of its situation and of what its step found
 abbrev pub TurnAnswers : {E : Type 0} → Election E → List ℕ → Option (Core E) → ℕ → Answer → Type 0
 TurnAnswers X words None word a = ⊥
-TurnAnswers X words (Some c) word a = a ≡ answer.Turn (answer_at X c (situation_of X c) (found words (op_at X c (situation_of X c) word)) word)
+TurnAnswers X words (Some c) word a = a ≡ answer.Turn (answer_at X c (situation_of X c) (found (slice_index words) (op_at X c (situation_of X c) word)) word)
 
 -- a turn of a receiver gives the answer of the step that it took
 abbrev pub RecvAnswers : List ℕ → List Receiving → ℕ → Option Receiving → Answer → List Receiving → Type 0
 RecvAnswers words old r None a new = ⊥
-RecvAnswers words old r (Some v) a new = (next : Receiving) × (turn : RecvTurn) × RecvDoes words v turn next × (new ≡ slice_set old r next) × (a ≡ answer.Recv turn)
+RecvAnswers words old r (Some v) a new = (next : Receiving) × (turn : RecvTurn) × RecvDoes (slice_index words) v turn next × (new ≡ slice_set old r next) × (a ≡ answer.Recv turn)
 
 abbrev pub Answers : {E : Type 0} → Election E → Bus E → Event → Answer → Bus E → Type 0
 Answers X old (Put s bytes) a new = (number : ℕ) × PutGives (slice_get old.side.senders s) (length bytes) number × (a ≡ answer.Number number)

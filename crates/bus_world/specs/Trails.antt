@@ -1,5 +1,5 @@
 -- How events extend the trails, which trails lead to a bus, and what is promised of it then.
-use Rattle.std.specs.Prelude.{◌≡◌, ℕ, ◌≤◌, Option, Some, None, List, [], ◌∷◌, ◌++◌, length, take, slice_get, if◌then◌else◌, ◌==◌}
+use Rattle.std.specs.Prelude.{◌≡◌, ℕ, ◌≤◌, Option, Some, None, List, [], ◌∷◌, ◌++◌, length, take, slice_get, slice_index, if◌then◌else◌, ◌==◌}
 use Rattle.bus_register.specs.declared.limits.TheConstants.{MOST_SENDERS, MOST_ROWS, MOST_LOG_WORDS}
 use Rattle.bus_register.specs.declared.kinds.Kind.{Kind}
 use Rattle.bus_register.specs.declared.registers.SenderNo.{SenderNo}
@@ -32,7 +32,7 @@ turn_deeds X c z got word (answer.Recv t) = []
 -- of the sender that there is
 abbrev pub turning_deeds : {E : Type 0} → Election E → List ℕ → Option (Core E) → ℕ → Answer → List Deed
 turning_deeds X words None word a = []
-turning_deeds X words (Some c) word a = turn_deeds X c (situation_of X c) (found words (op_at X c (situation_of X c) word)) word a
+turning_deeds X words (Some c) word a = turn_deeds X c (situation_of X c) (found (slice_index words) (op_at X c (situation_of X c) word)) word a
 
 -- what a put of these bytes adds, by its answer
 abbrev pub put_deeds : List ℕ → Answer → List Deed

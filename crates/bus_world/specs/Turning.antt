@@ -24,9 +24,9 @@ stepped words None = words
 stepped words (Some o) = slice_set words (register o) (after o (slice_index words (register o)))
 
 -- what a step finds
-abbrev pub found : List ℕ → Option Op → ℕ
+abbrev pub found : (ℕ → ℕ) → Option Op → ℕ
 found words None = 0
-found words (Some o) = slice_index words (register o)
+found words (Some o) = words (register o)
 
 -- ---- the page
 -- where it is at home, after it has moved so
@@ -86,7 +86,7 @@ turned X side p c situation word =
     record {
       words = stepped side.words (op_at X c situation word);
       home = home_after X c situation side.home;
-      senders = slice_set side.senders p (core_after X c situation side.home (found side.words (op_at X c situation word)) word);
+      senders = slice_set side.senders p (core_after X c situation side.home (found (slice_index side.words) (op_at X c situation word)) word);
       owners = owners_after X c situation p side.owners;
     }
 

@@ -65,11 +65,11 @@ pub record RecvStep (old : Receiving) (got : ℕ) (answer : RecvTurn) (new : Rec
   pub at_length : old.place ≡ old.known → TakesLength old got answer new
   pub at_word : old.place ≢ old.known → (words : List ℕ) (pieces : List _) → HasReceived words pieces old → TakesWord words pieces old got answer new
 
-abbrev pub recv_found : List ℕ → Receiving → ℕ
-recv_found words v = if v.place == v.known then slice_index words v.length_at else slice_index words (v.log_at + v.place)
+abbrev pub recv_found : (ℕ → ℕ) → Receiving → ℕ
+recv_found words v = if v.place == v.known then words v.length_at else words (v.log_at + v.place)
 
 -- one turn of a receiver: after the end it answers End for good, and takes no step
-pub record RecvDoes (words : List ℕ) (old : Receiving) (answer : RecvTurn) (new : Receiving) : Type 0 where
+pub record RecvDoes (words : ℕ → ℕ) (old : Receiving) (answer : RecvTurn) (new : Receiving) : Type 0 where
   pub ended : old.ended ≡ true → (answer ≡ RecvEnd) × (new ≡ old)
   pub going : old.ended ≡ false → RecvStep old (recv_found words old) answer new
 
@@ -81,7 +81,7 @@ SenderDoes old (Some c) f new = new ≡ f c
 
 abbrev pub ReceiverDoes : List ℕ → List Receiving → ℕ → Option Receiving → List Receiving → Type 0
 ReceiverDoes words old r None new = new ≡ old
-ReceiverDoes words old r (Some v) new = (next : Receiving) × (answer : RecvTurn) × RecvDoes words v answer next × (new ≡ slice_set old r next)
+ReceiverDoes words old r (Some v) new = (next : Receiving) × (answer : RecvTurn) × RecvDoes (slice_index words) v answer next × (new ≡ slice_set old r next)
 
 abbrev pub Happens : {E : Type 0} → Election E → Bus E → Event → Bus E → Type 0
 Happens X old (Put s bytes) new = SenderDoes old.side (slice_get old.side.senders s) (λ c. with_sender old.side s (put_in c bytes)) new.side × (new.receivers ≡ old.receivers)

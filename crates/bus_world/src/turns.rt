@@ -47,10 +47,10 @@ fn take_step<Q: Ratifier + Drop>(cells: &mut Cells, core: &mut SenderCore<Q>, wo
         cells.new ≡ stepped cells.old (op_at X core.old (situation_of X core.old) word) }
     ensures core { let X = election_of Q.Ratifier in
         core.new ≡ fed_at X core.old (situation_of X core.old)
-        (found cells.old (op_at X core.old (situation_of X core.old) word)) word }
+        (found (slice_index cells.old) (op_at X core.old (situation_of X core.old) word)) word }
     ensures answer { let X = election_of Q.Ratifier in
         result ≡ answer_at X core.old (situation_of X core.old)
-        (found cells.old (op_at X core.old (situation_of X core.old) word)) word }
+        (found (slice_index cells.old) (op_at X core.old (situation_of X core.old) word)) word }
 {
     let Some(op) = core.next(word) else {
         return core.rest();
@@ -92,10 +92,10 @@ pub fn turn_sender<Q: Ratifier + Drop>(
         home.new ≡ home_after X core.old (situation_of X core.old) home.old }
     ensures core { let X = election_of Q.Ratifier in
         core.new ≡ core_after X core.old (situation_of X core.old) home.old
-        (found cells.old (op_at X core.old (situation_of X core.old) word)) word }
+        (found (slice_index cells.old) (op_at X core.old (situation_of X core.old) word)) word }
     ensures answer { let X = election_of Q.Ratifier in
         result ≡ answer_at X core.old (situation_of X core.old)
-        (found cells.old (op_at X core.old (situation_of X core.old) word)) word }
+        (found (slice_index cells.old) (op_at X core.old (situation_of X core.old) word)) word }
 {
     hand_home(home, core);
     let turn = take_step(cells, core, word);
@@ -107,7 +107,7 @@ pub fn turn_sender<Q: Ratifier + Drop>(
 pub fn turn_receiver(cells: &mut Cells, reader: &mut Reader) -> RecvTurn
     requires { IfSome (receiving_op reader.old) (λ o. register o < length cells.old) }
     ensures words { cells.new ≡ cells.old }
-    ensures step { RecvDoes cells.old reader.old result reader.new }
+    ensures step { RecvDoes (slice_index cells.old) reader.old result reader.new }
 {
     let Some(op) = reader.next() else {
         return RecvTurn::End;

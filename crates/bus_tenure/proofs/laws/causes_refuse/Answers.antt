@@ -1,4 +1,4 @@
-use Rattle.bus_tenure.specs.CausesRefuse.{refuses_causes}
+use Rattle.bus_tenure.proofs.Refused.{refuses_causes}
 use Rattle.bus_tenure.proofs.laws.causes_refuse.Goals as goal
 
 pub returns : goal.returns
