@@ -2,9 +2,10 @@
 use Rattle.std.specs.Prelude.{◌≡◌, ℕ, zero, suc, ◌+◌, ◌*◌, ◌-◌, ◌/◌, ◌<◌, ◌≤◌, ◌^◌, Bool, true, false, Option, Some, None, if◌then◌else◌}
 use Rattle.bus_register.specs.Tables.{of_some}
 use Rattle.bus_register.specs.Protocol.{Protocol}
+use Rattle.bus_register.specs.Digits.{digit}
 use Rattle.bus_ownerbits.specs.declared.stages.Stage.{Stage}
 use Rattle.bus_ownerbits.specs.declared.stages.Stage.TheVariants.{Announce, Propose, Search, Alone}
-use Rattle.bus_ownerbits.specs.Sizes.{bits_of, digit, bit_at, each_bit, turns_of}
+use Rattle.bus_ownerbits.specs.Sizes.{bits_of, bit_at, each_bit, turns_of}
 use Rattle.bus_ownerbits.specs.Election.{Decisions, Electing, fits_bits, owner_of}
 
 -- all owners are equal, and the owner is a process that has announced itself

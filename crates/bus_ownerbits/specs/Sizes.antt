@@ -1,5 +1,5 @@
 -- How many bits an owner's number has, and how many turns an election takes.
-use Rattle.std.specs.Prelude.{ℕ, ◌+◌, ◌*◌, ◌-◌, ◌/◌, ◌%◌, ◌≤◌, ◌^◌, ◌==◌, nat_lt, [], ◌∷◌, count_by, Bool, true, false}
+use Rattle.std.specs.Prelude.{ℕ, ◌+◌, ◌*◌, ◌-◌, ◌/◌, ◌%◌, ◌≤◌, ◌^◌, ◌==◌, nat_lt, [], ◌∷◌, count_by, Bool}
 
 -- b is the least count of bits that spell n numbers
 pub record IsBits (n b : ℕ) : Type 0 where
@@ -9,11 +9,6 @@ pub record IsBits (n b : ℕ) : Type 0 where
 -- for at most 64 numbers: how many of 1, 2, 4, 8, 16 and 32 are less than n
 abbrev pub bits_of : ℕ → ℕ
 bits_of n = count_by (λ power. nat_lt power n) (1 ∷ 2 ∷ 4 ∷ 8 ∷ 16 ∷ 32 ∷ [])
-
--- 1 for true
-abbrev pub digit : Bool → ℕ
-digit false = 0
-digit true = 1
 
 -- the bit of value 2 ^ k
 abbrev pub bit_at : ℕ → ℕ → Bool
