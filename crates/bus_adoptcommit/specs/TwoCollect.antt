@@ -5,6 +5,7 @@ use Rattle.bus_register.specs.declared.kinds.Kind.{Kind}
 use Rattle.bus_register.specs.declared.kinds.Kind.TheVariants.{StoreProposal as storing_proposal, ReadProposal as reading_proposal, StoreVerdict as storing_verdict, ReadVerdict as reading_verdict}
 use Rattle.bus_register.specs.declared.registers.Op.{Op}
 use Rattle.bus_register.specs.declared.registers.Op.TheVariants.{Load, Store}
+use Rattle.bus_register.specs.Digits.{digit}
 use Rattle.bus_adoptcommit.specs.declared.phases.Phase.{Phase}
 use Rattle.bus_adoptcommit.specs.declared.phases.Phase.TheVariants.{StoreProposal, ReadProposal, StoreVerdict, ReadVerdict, Ended}
 use Rattle.bus_adoptcommit.specs.declared.verdicts.Verdict.{Verdict}
@@ -24,19 +25,14 @@ pub record Local : Type 0 where
   pub only_commits : Bool
   pub phase : Phase
 
--- 1 for true
-abbrev pub bit : Bool → ℕ
-bit false = 0
-bit true = 1
-
 -- the word of a proposal, as of an input: 1 or 2, so that 0 is no proposal
 abbrev pub proposal_code : Bool → ℕ
-proposal_code input = 1 + bit input
+proposal_code input = 1 + digit input
 
 -- the word of a verdict: adopt 0 is 1, adopt 1 is 2, commit 0 is 3, commit 1 is 4, so that 0 is no verdict
 abbrev pub verdict_code : Verdict → ℕ
-verdict_code (Adopt v) = 1 + bit v
-verdict_code (Commit v) = 3 + bit v
+verdict_code (Adopt v) = 1 + digit v
+verdict_code (Commit v) = 3 + digit v
 
 -- the verdict that a word holds, if it holds one
 abbrev pub verdict_in : ℕ → Option Verdict

@@ -2,8 +2,9 @@
 -- how far each has come.
 use Rattle.std.specs.Prelude.{◌≡◌, ℕ, ◌+◌, ◌*◌, ◌-◌, ◌<◌, ◌≤◌, Bool, false, Option, Some, None, nat_lt, if◌then◌else◌, ◌⊎◌}
 use Rattle.bus_register.specs.Protocol.{Protocol}
+use Rattle.bus_register.specs.Digits.{digit}
 use Rattle.bus_adoptcommit.specs.declared.verdicts.Verdict.{Verdict}
-use Rattle.bus_adoptcommit.specs.TwoCollect.{Local, PhaseFits, bit, start_of, taken_at, output_of}
+use Rattle.bus_adoptcommit.specs.TwoCollect.{Local, PhaseFits, start_of, taken_at, output_of}
 
 -- s is a local state of process me of n, over the words from at on
 pub record Belongs (n me at : ℕ) (s : Local) : Type 0 where
@@ -24,11 +25,11 @@ pub record Mark : Type 0 where
 -- 0 for no commit, else 1 more than its value
 abbrev pub commit_number : Option Bool → ℕ
 commit_number None = 0
-commit_number (Some v) = 1 + bit v
+commit_number (Some v) = 1 + digit v
 
 -- the mark of a local state
 abbrev pub mark_of : Local → Mark
-mark_of s = record { taken = taken_at s.n s.phase; value = bit s.input; agreed = bit s.agreed; commit = commit_number s.commit; only = bit s.only_commits }
+mark_of s = record { taken = taken_at s.n s.phase; value = digit s.input; agreed = digit s.agreed; commit = commit_number s.commit; only = digit s.only_commits }
 
 -- a process that is not there yet has taken no step
 abbrev pub mark : Option Local → Mark

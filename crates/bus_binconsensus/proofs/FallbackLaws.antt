@@ -8,15 +8,11 @@ use Rattle.bus_register.specs.Words.{register, after, SumFits}
 use Rattle.bus_register.specs.Tables.{Beside, Stepped, of_some}
 use Rattle.bus_register.specs.Proved.TableLaws.{some_of}
 use Rattle.bus_register.specs.Protocol.{Laws, Goes, inputs, outputs}
+use Rattle.bus_register.specs.Digits.{digit}
+use Rattle.bus_register.proofs.DigitLaws.{digit_same}
 use Rattle.bus_binconsensus.specs.declared.fallbacks.Fallback.{Fallback}
 use Rattle.bus_binconsensus.specs.Deciding.{Decides}
-use Rattle.bus_binconsensus.specs.Fallback.{digit, won, op_from, op_of, fed_of, Belongs, Filled, Keeps, fallback_protocol, left_from}
-
-digit_same : (a b : Bool) → digit a ≡ digit b → a ≡ b
-digit_same true true e = refl
-digit_same true false e = absurd (omega arith)
-digit_same false true e = absurd (omega arith)
-digit_same false false e = refl
+use Rattle.bus_binconsensus.specs.Fallback.{won, op_from, op_of, fed_of, Belongs, Filled, Keeps, fallback_protocol, left_from}
 
 won_is : (u v : Bool) → won (1 + digit u) v ≡ u
 won_is true v = refl

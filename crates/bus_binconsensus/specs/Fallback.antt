@@ -5,12 +5,8 @@ use Rattle.bus_register.specs.declared.kinds.Kind.TheVariants as kinds
 use Rattle.bus_register.specs.declared.registers.Op.{Op}
 use Rattle.bus_register.specs.declared.registers.Op.TheVariants.{Cas}
 use Rattle.bus_register.specs.Protocol.{Protocol}
+use Rattle.bus_register.specs.Digits.{digit}
 use Rattle.bus_binconsensus.specs.declared.fallbacks.Fallback.{Fallback}
-
--- 1 for true
-abbrev pub digit : Bool → ℕ
-digit false = 0
-digit true = 1
 
 abbrev pub kind_from : Option Bool → Option Kind
 kind_from None = Some kinds.Fallback

@@ -3,7 +3,7 @@
 ghost use Rattle.std.specs.Prelude.{◌≡◌};
 ghost use Rattle.std.proofs.Common.{rules};
 ghost use Rattle.bus_binconsensus.specs.Deciding.{Decides};
-ghost use Rattle.bus_binconsensus.specs.Fallback.{digit, op_of, fed_of, kind_of, fallback_protocol};
+ghost use Rattle.bus_binconsensus.specs.Fallback.{op_of, fed_of, kind_of, fallback_protocol};
 ghost use Rattle.bus_register.specs.Protocol.{Laws};
 
 use bus_register::{Kind, Machine, Op, Reg};

@@ -8,21 +8,13 @@ use Rattle.bus_register.specs.Proved.TableLaws.{some_of}
 use Rattle.bus_register.specs.Protocol.{Goes, IsStore}
 use Rattle.bus_walkcoin.specs.Coin.{CoinState, coin_started, coin_op, coin_fed}
 use Rattle.bus_walkcoin.proofs.CoinProtocolLaws.{coin_laws}
+use Rattle.bus_register.specs.Digits.{digit}
+use Rattle.bus_register.proofs.DigitLaws.{digit_le}
 use Rattle.bus_coinconc.specs.declared.conciliators.Stage.{Stage}
 use Rattle.bus_coinconc.specs.declared.conciliators.Stage.TheVariants.{SetMark, ReadOtherMark, Alone, AskCoin}
 use Rattle.bus_coinconc.specs.Conciliation.{IsInput, Conciles}
-use Rattle.bus_coinconc.specs.Conciliator.{ConciliatorState, bit, conciliator_op, conciliator_fed, op_at, stage_after, output_at, output_of, wants_at}
+use Rattle.bus_coinconc.specs.Conciliator.{ConciliatorState, conciliator_op, conciliator_fed, op_at, stage_after, output_at, output_of, wants_at}
 use Rattle.bus_coinconc.specs.ConciliatorProtocol.{coin_steps, left_at, begun_at, StageBelongs, Belongs, counted, marked, StageSaw, Keeps, conciliator_protocol}
-
-pub bit_le : (v : Bool) → bit v ≤ 1
-bit_le true = omega arith
-bit_le false = omega arith
-
-pub bit_same : (v w : Bool) → bit v ≡ bit w → v ≡ w
-bit_same true true e = refl
-bit_same true false e = absurd (omega arith)
-bit_same false true e = absurd (omega arith)
-bit_same false false e = refl
 
 either : (v w : Bool) → (w ≡ v) ⊎ (w ≡ not v)
 either true true = inl refl
@@ -84,12 +76,12 @@ goes_on s st o below few above under b = record {
 
 goes_at : (st : Stage) (s : ConciliatorState) (got word : ℕ) (o : Op) → s.stage ≡ st → s.me < s.n → s.n ≤ 64 → StageBelongs s.n s.me s.at st → op_at st s word ≡ Some o → Goes conciliator_protocol s.n s.me s.at o s (record s { stage = stage_after st s got word })
 goes_at SetMark s got word o e below few b q =
-    let place : register o ≡ s.at + bit s.input = ap register (sym (same_Some _ _ q)) in
-    let small = bit_le s.input in
+    let place : register o ≡ s.at + digit s.input = ap register (sym (same_Some _ _ q)) in
+    let small = digit_le s.input in
     goes_on s ReadOtherMark o below few (omega arith) (omega arith) record { belongs = tt; begun = refl; less = subst (λ z. 1 + coin_steps s.n < left_at z s.n) (sym e) (omega arith) }
 goes_at ReadOtherMark s got word o e below few b q =
-    let place : register o ≡ s.at + bit (not s.input) = ap register (sym (same_Some _ _ q)) in
-    let small = bit_le (not s.input) in
+    let place : register o ≡ s.at + digit (not s.input) = ap register (sym (same_Some _ _ q)) in
+    let small = digit_le (not s.input) in
     goes_on s _ o below few (omega arith) (omega arith) (subst (λ z. Begun s.n s.me s.at (left_at z s.n) (stage_after ReadOtherMark s got word)) (sym e) (looks_if s.n s.me s.at (got == 0) below few))
 goes_at Alone s got word o e below few b q = absurd cc
 goes_at (AskCoin c) s got word o e below few b q =

@@ -6,10 +6,12 @@ use Rattle.bus_register.specs.Words.{register}
 use Rattle.bus_register.specs.Tables.{of_some, Beside, Agree}
 use Rattle.bus_register.specs.Protocol.{Laws}
 use Rattle.bus_walkcoin.proofs.CoinProtocolLaws.{coin_laws}
+use Rattle.bus_register.specs.Digits.{digit}
+use Rattle.bus_register.proofs.DigitLaws.{digit_le}
 use Rattle.bus_coinconc.specs.Conciliation.{Conciles}
-use Rattle.bus_coinconc.specs.Conciliator.{ConciliatorState, bit, conciliator_started, conciliator_op, conciliator_fed}
+use Rattle.bus_coinconc.specs.Conciliator.{ConciliatorState, conciliator_started, conciliator_op, conciliator_fed}
 use Rattle.bus_coinconc.specs.ConciliatorProtocol.{Belongs, coin_at, coins, counted, marked, StageSaw, Keeps, conciliator_protocol}
-use Rattle.bus_coinconc.proofs.ConciliatorGoes.{bit_le, ends_at, unended_at, unmoved_at, blind_at, fits_at, goes_of, keeps_conciles}
+use Rattle.bus_coinconc.proofs.ConciliatorGoes.{ends_at, unended_at, unmoved_at, blind_at, fits_at, goes_of, keeps_conciles}
 use Rattle.bus_coinconc.proofs.ConciliatorMoves.{saw_stays, moves_keep}
 
 started_belongs : (n me at : ℕ) (v : Bool) → me < n → n ≤ 64 → Belongs n me at (conciliator_started n me v at)
@@ -19,7 +21,7 @@ fresh_keep : (n at : ℕ) (words : ℕ → ℕ) → Agree at (n + 2) (λ _. 0) w
 fresh_keep n at words zero = record {
   inside = λ p s e. absurd cc;
   set = λ p v e. absurd cc;
-  unset = λ v. inl (zero (at + bit v) (omega arith) (let l = bit_le v in omega arith));
+  unset = λ v. inl (zero (at + digit v) (omega arith) (let l = digit_le v in omega arith));
   saw = λ p s e. absurd cc;
   coin = coin_laws.fresh n (at + 2) words (λ r a b. zero r (omega arith) (omega arith));
 }
@@ -28,9 +30,9 @@ module _ (n at : ℕ) (words words' : ℕ → ℕ) (old new : ℕ → Option Con
   frame_keep : Keeps n at words' new
   frame_keep = record {
     inside = λ p s e. k.inside p s (sym (same p) ∙ e);
-    set = λ p v e. agree (at + bit v) (omega arith) (let l = bit_le v in omega arith) ∙ k.set p v (ap (of_some counted) (sym (same p)) ∙ e);
+    set = λ p v e. agree (at + digit v) (omega arith) (let l = digit_le v in omega arith) ∙ k.set p v (ap (of_some counted) (sym (same p)) ∙ e);
     unset = λ v. elim (k.unset v) [
-      | inl z ↦ inl (agree (at + bit v) (omega arith) (let l = bit_le v in omega arith) ∙ z)
+      | inl z ↦ inl (agree (at + digit v) (omega arith) (let l = digit_le v in omega arith) ∙ z)
       | inr i ↦ inr (i.0, ap (of_some counted) (same i.0) ∙ i.1)
     ];
     saw = λ p s e. saw_stays (marked old) (marked new) (λ v i. (i.0, ap (of_some counted) (same i.0) ∙ i.1)) s.stage s.input (k.saw p s (sym (same p) ∙ e));

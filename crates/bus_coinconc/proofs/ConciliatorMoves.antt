@@ -9,12 +9,14 @@ use Rattle.bus_register.specs.Tables.{of_some, Beside, Agree, Stepped}
 use Rattle.bus_walkcoin.specs.Coin.{coin_started, coin_fed}
 use Rattle.bus_walkcoin.specs.CoinProtocol.{coin_protocol}
 use Rattle.bus_walkcoin.proofs.CoinProtocolLaws.{coin_laws}
+use Rattle.bus_register.specs.Digits.{digit}
+use Rattle.bus_register.proofs.DigitLaws.{digit_le, digit_same}
 use Rattle.bus_coinconc.specs.declared.conciliators.Stage.{Stage}
 use Rattle.bus_coinconc.specs.declared.conciliators.Stage.TheVariants.{SetMark, ReadOtherMark, Alone, AskCoin}
 use Rattle.bus_coinconc.specs.Conciliation.{IsInput}
-use Rattle.bus_coinconc.specs.Conciliator.{ConciliatorState, bit, conciliator_op, conciliator_fed, op_at, stage_after}
+use Rattle.bus_coinconc.specs.Conciliator.{ConciliatorState, conciliator_op, conciliator_fed, op_at, stage_after}
 use Rattle.bus_coinconc.specs.ConciliatorProtocol.{begun_at, Belongs, coin_at, coins, counted, marked, StageSaw, Keeps}
-use Rattle.bus_coinconc.proofs.ConciliatorGoes.{bit_le, bit_same, goes_of}
+use Rattle.bus_coinconc.proofs.ConciliatorGoes.{goes_of}
 
 cases_bool : (v w : Bool) → (v ≡ w) ⊎ (v ≢ w)
 cases_bool true true = inl refl
@@ -61,10 +63,10 @@ module _ (n at : ℕ) (words words' : ℕ → ℕ) (old new : ℕ → Option Con
 
   -- the marks before the step, where it was not the step that sets the own mark
   record Marks : Type 0 where
-    set : (q : ℕ) (v : Bool) → marked new q ≡ Some v → words' (at + bit v) ≡ 1
-    unset : (v : Bool) → (words' (at + bit v) ≡ 0) ⊎ IsInput (marked new) v
+    set : (q : ℕ) (v : Bool) → marked new q ≡ Some v → words' (at + digit v) ≡ 1
+    unset : (v : Bool) → (words' (at + digit v) ≡ 0) ⊎ IsInput (marked new) v
 
-  marks_stay : begun_at s.stage ≡ true → ((v : Bool) → words' (at + bit v) ≡ words (at + bit v)) → Marks
+  marks_stay : begun_at s.stage ≡ true → ((v : Bool) → words' (at + digit v) ≡ words (at + digit v)) → Marks
   marks_stay b same = record {
     set = λ q v e. same v ∙ elim (cases_eq q p) [
       | inl i ↦ k.set p v (ap (of_some counted) here ∙ ap (λ z. cond z (Some s.input) None) b ∙ sym marked_now ∙ ap (marked new) (sym i) ∙ e)
@@ -111,14 +113,14 @@ module _ (n at : ℕ) (words words' : ℕ → ℕ) (old new : ℕ → Option Con
 
   by_stage : (st : Stage) → s.stage ≡ st → op_at st s word ≡ Some o → Keeps n at words' new
   by_stage SetMark e q =
-      let place : register o ≡ at + bit s.input = ap register (sym (same_Some _ _ q)) ∙ ap (λ z. z + bit s.input) mine.at_is in
-      let small = bit_le s.input in
+      let place : register o ≡ at + digit s.input = ap register (sym (same_Some _ _ q)) ∙ ap (λ z. z + digit s.input) mine.at_is in
+      let small = digit_le s.input in
       let to : stage_after s.stage s (words (register o)) word ≡ ReadOtherMark = ap (λ z. stage_after z s (words (register o)) word) e in
-      let written : words' (at + bit s.input) ≡ 1 = ap words' (sym place) ∙ step.here ∙ ap (λ z. after z (words (register o))) (sym (same_Some _ _ q)) in
-      let beside_it : (v : Bool) → v ≢ s.input → words' (at + bit v) ≡ words (at + bit v) = λ v ne. step.elsewhere (at + bit v) (omega arith) (let l = bit_le v in omega arith) (λ same. ne (bit_same v s.input (omega arith))) in
+      let written : words' (at + digit s.input) ≡ 1 = ap words' (sym place) ∙ step.here ∙ ap (λ z. after z (words (register o))) (sym (same_Some _ _ q)) in
+      let beside_it : (v : Bool) → v ≢ s.input → words' (at + digit v) ≡ words (at + digit v) = λ v ne. step.elsewhere (at + digit v) (omega arith) (let l = digit_le v in omega arith) (λ same. ne (digit_same v s.input (omega arith))) in
       whole record {
         set = λ q' v m. elim (cases_bool v s.input) [
-          | inl same ↦ ap (λ z. words' (at + bit z)) same ∙ written
+          | inl same ↦ ap (λ z. words' (at + digit z)) same ∙ written
           | inr ne ↦ beside_it v ne ∙ elim (cases_eq q' p) [
             | inl i ↦ absurd (ne (same_Some _ _ (sym m ∙ ap (marked new) i ∙ marked_now)))
             | inr other ↦ k.set q' v (ap (of_some counted) (sym (beside q' other)) ∙ m)
@@ -132,10 +134,10 @@ module _ (n at : ℕ) (words words' : ℕ → ℕ) (old new : ℕ → Option Con
       (subst (λ z. StageSaw (marked new) z s.input) (sym to) tt)
       (coin_stays (ap coin_at e) (ap coin_at to) (λ r a b. step.elsewhere r (omega arith) (omega arith) (omega arith)))
   by_stage ReadOtherMark e q =
-      let place : register o ≡ at + bit (not s.input) = ap register (sym (same_Some _ _ q)) ∙ ap (λ z. z + bit (not s.input)) mine.at_is in
+      let place : register o ≡ at + digit (not s.input) = ap register (sym (same_Some _ _ q)) ∙ ap (λ z. z + digit (not s.input)) mine.at_is in
       let same = loaded (λ found. ap (λ z. after z found) (sym (same_Some _ _ q))) in
       let to : stage_after s.stage s (words (register o)) word ≡ stage_after ReadOtherMark s (words (register o)) word = ap (λ z. stage_after z s (words (register o)) word) e in
-      let marks = marks_stay (ap begun_at e) (λ v. same (at + bit v) (omega arith) (let l = bit_le v in omega arith)) in
+      let marks = marks_stay (ap begun_at e) (λ v. same (at + digit v) (omega arith) (let l = digit_le v in omega arith)) in
       elim (eqb_tells (words (register o)) 0) [
         | inl zero ↦
             let alone : stage_after s.stage s (words (register o)) word ≡ Alone = to ∙ ap (λ z. cond z Alone (AskCoin (coin_started s.n s.me (s.at + 2)))) zero.0 in
@@ -154,7 +156,7 @@ module _ (n at : ℕ) (words words' : ℕ → ℕ) (old new : ℕ → Option Con
       let to : stage_after s.stage s (words (register o)) word ≡ AskCoin (coin_fed c (words (register o)) word) = ap (λ z. stage_after z s (words (register o)) word) e in
       let asked : coins old p ≡ Some c = coin_here ∙ ap coin_at e in
       let g = coin_laws.goes n p (at + 2) c (words (register o)) word o (coin_laws.known n (at + 2) words (coins old) p c k.coin asked).1 q in
-      whole (marks_stay (ap begun_at e) (λ v. step.elsewhere (at + bit v) (omega arith) (let l = bit_le v in omega arith) (let l = bit_le v in let h = g.above in omega arith)))
+      whole (marks_stay (ap begun_at e) (λ v. step.elsewhere (at + digit v) (omega arith) (let l = digit_le v in omega arith) (let l = digit_le v in let h = g.above in omega arith)))
       (subst (λ z. StageSaw (marked new) z s.input) (sym to) (input_stays (not s.input) (subst (λ z. StageSaw (marked old) z s.input) e (k.saw p s here))))
       (coin_laws.moves n (at + 2) words words' (coins old) (coins new) p c word o k.coin asked q (coin_now ∙ ap coin_at to) coins_beside record { here = step.here; elsewhere = λ r a b ne. step.elsewhere r (omega arith) (omega arith) ne })
 

@@ -1,5 +1,5 @@
 -- A conciliator of two marks and a coin: a process sets the mark of its input and loads the other mark; where that is set, it asks the coin.
-use Rattle.std.specs.Prelude.{ℕ, ◌+◌, ◌<◌, ◌≤◌, ◌^◌, Bool, true, false, not, Option, Some, None, ◌==◌, if◌then◌else◌}
+use Rattle.std.specs.Prelude.{ℕ, ◌+◌, ◌<◌, ◌≤◌, ◌^◌, Bool, false, not, Option, Some, None, ◌==◌, if◌then◌else◌}
 use Rattle.bus_register.specs.declared.limits.TheConstants.{MOST_PROCESSES}
 use Rattle.bus_register.specs.declared.kinds.Kind.{Kind}
 use Rattle.bus_register.specs.declared.kinds.Kind.TheVariants as kind
@@ -7,6 +7,7 @@ use Rattle.bus_register.specs.declared.registers.Op.{Op}
 use Rattle.bus_register.specs.declared.registers.Op.TheVariants.{Load, Store}
 use Rattle.bus_walkcoin.specs.Coin.{coin_started, coin_kind, coin_op, coin_fed, answer_of}
 use Rattle.bus_walkcoin.specs.Coin as coin
+use Rattle.bus_register.specs.Digits.{digit}
 use Rattle.bus_coinconc.specs.declared.conciliators.Stage.{Stage}
 use Rattle.bus_coinconc.specs.declared.conciliators.Stage.TheVariants.{SetMark, ReadOtherMark, Alone, AskCoin}
 
@@ -17,10 +18,6 @@ pub record ConciliatorState : Type 0 where
   pub at : ℕ
   pub input : Bool
   pub stage : Stage
-
-abbrev pub bit : Bool → ℕ
-bit false = 0
-bit true = 1
 
 -- the number is that of a process, and each word has a place
 pub record Sized (n me at : ℕ) : Type 0 where
@@ -61,8 +58,8 @@ abbrev pub conciliator_kind : ConciliatorState → Option Kind
 conciliator_kind s = kind_at s.stage
 
 abbrev pub op_at : Stage → ConciliatorState → ℕ → Option Op
-op_at SetMark s word = Some (Store record { 0 = s.at + bit s.input } 1)
-op_at ReadOtherMark s word = Some (Load record { 0 = s.at + bit (not s.input) })
+op_at SetMark s word = Some (Store record { 0 = s.at + digit s.input } 1)
+op_at ReadOtherMark s word = Some (Load record { 0 = s.at + digit (not s.input) })
 op_at Alone s word = None
 op_at (AskCoin c) s word = coin_op c word
 

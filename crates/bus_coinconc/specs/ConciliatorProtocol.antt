@@ -6,10 +6,11 @@ use Rattle.bus_register.specs.Protocol.{Protocol}
 use Rattle.bus_register.specs.Tables.{of_some}
 use Rattle.bus_walkcoin.specs.Coin.{CoinState}
 use Rattle.bus_walkcoin.specs.CoinProtocol.{coin_protocol}
+use Rattle.bus_register.specs.Digits.{digit}
 use Rattle.bus_coinconc.specs.declared.conciliators.Stage.{Stage}
 use Rattle.bus_coinconc.specs.declared.conciliators.Stage.TheVariants.{SetMark, ReadOtherMark, Alone, AskCoin}
 use Rattle.bus_coinconc.specs.Conciliation.{IsInput}
-use Rattle.bus_coinconc.specs.Conciliator.{ConciliatorState, bit, conciliator_started, output_of, wants_of}
+use Rattle.bus_coinconc.specs.Conciliator.{ConciliatorState, conciliator_started, output_of, wants_of}
 
 -- the steps of the coin, at most
 abbrev pub coin_steps : ℕ → ℕ
@@ -71,8 +72,8 @@ StageSaw inputs (AskCoin c) input = IsInput inputs (not input)
 pub record Keeps (n at : ℕ) (words : ℕ → ℕ) (locals : ℕ → Option ConciliatorState) : Type 0 where
   pub inside : (p : ℕ) (s : ConciliatorState) → locals p ≡ Some s → (p < n) × Belongs n p at s
   -- a mark is set by the processes with that input, and stays
-  pub set : (p : ℕ) (v : Bool) → marked locals p ≡ Some v → words (at + bit v) ≡ 1
-  pub unset : (v : Bool) → (words (at + bit v) ≡ 0) ⊎ IsInput (marked locals) v
+  pub set : (p : ℕ) (v : Bool) → marked locals p ≡ Some v → words (at + digit v) ≡ 1
+  pub unset : (v : Bool) → (words (at + digit v) ≡ 0) ⊎ IsInput (marked locals) v
   pub saw : (p : ℕ) (s : ConciliatorState) → locals p ≡ Some s → StageSaw (marked locals) s.stage s.input
   pub coin : coin_protocol.Keeps n (at + 2) words (coins locals)
 

@@ -1,7 +1,8 @@
 //! One process in one conciliator.
 
 ghost use Rattle.std.specs.Prelude.{◌≡◌, ℕ, ◌+◌, ◌<◌, ◌≤◌, ◌^◌};
-ghost use Rattle.bus_coinconc.specs.Conciliator.{bit, conciliator_started, output_of, wants_of};
+ghost use Rattle.bus_register.specs.Digits.{digit as digit_of};
+ghost use Rattle.bus_coinconc.specs.Conciliator.{conciliator_started, output_of, wants_of};
 
 use bus_register::limits::MOST_PROCESSES;
 use bus_register::{Kind, Machine, Op, Reg, SenderNo};
@@ -50,7 +51,7 @@ impl Model for Conciliator {
 
 /// 1 for true.
 fn digit(value: bool) -> u64
-    ensures { result ≡ bit value }
+    ensures { result ≡ digit_of value }
 {
     if value { 1 } else { 0 }
 }

@@ -8,9 +8,10 @@ use Rattle.bus_register.specs.Tables.{of_some, Beside, Agree}
 use Rattle.bus_register.specs.Proved.TableLaws.{some_of}
 use Rattle.bus_register.specs.Protocol.{Protocol, Laws, Starts, IsStore, counted, inputs, outputs}
 use Rattle.bus_binconsensus.specs.Deciding.{Decides}
+use Rattle.bus_register.specs.Digits.{digit}
 use Rattle.bus_ownerbits.specs.declared.stages.Stage.{Stage}
 use Rattle.bus_ownerbits.specs.declared.stages.Stage.TheVariants.{Announce, Propose, Search, Alone}
-use Rattle.bus_ownerbits.specs.Sizes.{bits_of, digit}
+use Rattle.bus_ownerbits.specs.Sizes.{bits_of}
 use Rattle.bus_ownerbits.specs.Election.{Decisions, Electing, fits_bits, decided_by, fed_at, election_op, election_fed, op_at, bit_told, owner_at, owner_of}
 use Rattle.bus_ownerbits.specs.ElectionKeeps.{OneOwner, Spelled, Standing, StageStands, ElectionKeeps, announcement, begun_at, wants_at, spelled_of, StageBelongs, ElectionBelongs, election_started, election_protocol}
 use Rattle.bus_ownerbits.proofs.ElectionGrows.{Grows, proposed_stays, standing_stays}

@@ -11,9 +11,10 @@ use Rattle.bus_register.specs.Protocol.{Laws, Goes, counted, inputs, outputs}
 use Rattle.bus_binconsensus.specs.Deciding.{Decides}
 use Rattle.bus_binconsensus.proofs.ChainMoves.{put_at, put_at_here, put_at_object, put_at_process}
 use Rattle.bus_binconsensus.proofs.ChainOutcome.{counted_is}
+use Rattle.bus_register.specs.Digits.{digit}
 use Rattle.bus_ownerbits.specs.declared.stages.Stage.{Stage}
 use Rattle.bus_ownerbits.specs.declared.stages.Stage.TheVariants.{Announce, Propose, Search, Alone}
-use Rattle.bus_ownerbits.specs.Sizes.{bits_of, digit, bit_at}
+use Rattle.bus_ownerbits.specs.Sizes.{bits_of, bit_at}
 use Rattle.bus_ownerbits.specs.Election.{Decisions, Electing, place, proposing, going, seeking, with_bit, decided_by, searched, fed_at, election_fed, op_at, election_op}
 use Rattle.bus_ownerbits.proofs.ElectionCases.{going_case, seeking_case, decided_case, searched_case}
 use Rattle.bus_ownerbits.specs.ElectionKeeps.{Fitting, Proposed, Saw, Spelled, Standing, StageStands, ElectionKeeps, StageBelongs, announcement, begun_at, spelled_of}

@@ -8,10 +8,10 @@ use Rattle.bus_register.specs.Protocol.{Laws, Goes}
 use Rattle.bus_binconsensus.specs.Deciding.{Decides}
 use Rattle.bus_ownerbits.specs.declared.stages.Stage.{Stage}
 use Rattle.bus_ownerbits.specs.declared.stages.Stage.TheVariants.{Announce, Propose, Search, Alone}
-use Rattle.bus_ownerbits.specs.Sizes.{bits_of, bit_at}
+use Rattle.bus_ownerbits.specs.Sizes.{bits_of, bit_at, each_bit}
 use Rattle.bus_ownerbits.specs.Election.{Decisions, Electing, place, proposing, going, fits_bits, seeking, with_bit, searched, fed_at, election_fed, op_at, election_op}
 use Rattle.bus_ownerbits.proofs.ElectionCases.{going_case, seeking_case, decided_case, searched_case}
-use Rattle.bus_ownerbits.specs.ElectionKeeps.{each_bit, work_at, StageBelongs, ElectionBelongs, begun_at, election_protocol}
+use Rattle.bus_ownerbits.specs.ElectionKeeps.{work_at, StageBelongs, ElectionBelongs, begun_at, election_protocol}
 
 -- one factor less
 pub peel : (x e : ℕ) → x ≢ 0 → x * e ≡ e + (x - 1) * e

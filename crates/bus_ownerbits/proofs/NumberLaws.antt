@@ -4,7 +4,8 @@ use Rattle.std.proofs.Math.Nat.{div-one, pow-suc}
 use Rattle.std.proofs.lemmas.Nat.{div-mul-add, mod_below, pow_pos, pow_below}
 use Rattle.std.proofs.lemmas.Bool.{cases_eq, cases_lt, lt-ltb, le-ltb}
 use Rattle.std.proofs.lemmas.Bool.Decides.{eqb_tells}
-use Rattle.bus_ownerbits.specs.Sizes.{IsBits, bits_of, digit, bit_at}
+use Rattle.bus_register.specs.Digits.{digit}
+use Rattle.bus_ownerbits.specs.Sizes.{IsBits, bits_of, bit_at}
 
 -- a test tells
 pub tested : (a b : ℕ) → ((nat_lt a b ≡ true) × (a < b)) ⊎ ((nat_lt a b ≡ false) × (b ≤ a))

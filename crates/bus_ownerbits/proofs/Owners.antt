@@ -3,8 +3,8 @@ use Rattle.std.proofs.Common.{◌≡◌, ℕ, ◌+◌, ◌*◌, ◌-◌, ◌<◌
 use Rattle.std.proofs.Math.Nat.{mul-le-mul_left}
 use Rattle.std.proofs.lemmas.Nat.{pow_pos}
 use mir.Val.{bool_byte}
+use Rattle.bus_register.specs.Digits.{digit}
 use Rattle.bus_ownerbits.specs.declared.stages.Stage.TheVariants.{Propose}
-use Rattle.bus_ownerbits.specs.Sizes.{digit}
 use Rattle.bus_ownerbits.proofs.NumberLaws.{tested}
 use Rattle.bus_ownerbits.specs.Election.{Decisions, Electing, seeking, with_bit, decided_by, fed_at, election_fed, bit_told, owner_at, owner_of}
 use Rattle.bus_ownerbits.specs.ElectionNames.{sender}

@@ -6,9 +6,10 @@ use Rattle.bus_register.specs.declared.kinds.Kind.TheVariants as kinds
 use Rattle.bus_register.specs.declared.registers.Op.{Op}
 use Rattle.bus_register.specs.declared.registers.Op.TheVariants.{Load, Store}
 use Rattle.bus_register.specs.Protocol.{Protocol}
+use Rattle.bus_register.specs.Digits.{digit}
 use Rattle.bus_ownerbits.specs.declared.stages.Stage.{Stage}
 use Rattle.bus_ownerbits.specs.declared.stages.Stage.TheVariants.{Announce, Propose, Search, Alone}
-use Rattle.bus_ownerbits.specs.Sizes.{digit, bit_at}
+use Rattle.bus_ownerbits.specs.Sizes.{bit_at}
 
 -- the decision of one bit, by the rounds that it has
 abbrev pub Decisions : Type 0 → Type 1

@@ -3,19 +3,16 @@ use Rattle.std.specs.Prelude.{◌≡◌, ℕ, zero, suc, ◌+◌, ◌*◌, ◌-�
 use Rattle.bus_register.specs.declared.limits.TheConstants.{MOST_PROCESSES}
 use Rattle.bus_register.specs.Tables.{of_some}
 use Rattle.bus_register.specs.Protocol.{Protocol}
+use Rattle.bus_register.specs.Digits.{digit}
 use Rattle.bus_ownerbits.specs.declared.stages.Stage.{Stage}
 use Rattle.bus_ownerbits.specs.declared.stages.Stage.TheVariants.{Announce, Propose, Search, Alone}
-use Rattle.bus_ownerbits.specs.Sizes.{bits_of, digit, bit_at}
+use Rattle.bus_ownerbits.specs.Sizes.{bits_of, bit_at, each_bit, turns_of}
 use Rattle.bus_ownerbits.specs.Election.{Decisions, Electing, fits_bits, owner_of}
 
 -- all owners are equal, and the owner is a process that has announced itself
 pub record OneOwner (announced : ℕ → Option (Unit {0})) (owners : ℕ → Option ℕ) : Type 0 where
   pub equal : (p q v w : ℕ) → owners p ≡ Some v → owners q ≡ Some w → v ≡ w
   pub announcer : (p v : ℕ) → owners p ≡ Some v → announced v ≡ Some tt
-
--- what a decision and a search cost at most, where cost is that of a decision, by rounds and processes
-abbrev pub each_bit : (ℕ → ℕ → ℕ) → ℕ → ℕ → ℕ
-each_bit cost rounds n = cost rounds n + n
 
 -- the steps that are left, at most
 abbrev pub work_at : {S : Type 0} → Decisions S → (ℕ → ℕ → ℕ) → Stage S → Electing S → ℕ
@@ -116,10 +113,6 @@ wants_at D Announce s = false
 wants_at D (Propose d) s = (D s.rounds).wants_word d
 wants_at D (Search i) s = false
 wants_at D Alone s = false
-
--- the turns that an election takes at most, with one more for its owner
-abbrev pub turns_of : (ℕ → ℕ → ℕ) → ℕ → ℕ → ℕ
-turns_of cost rounds n = 2 + bits_of n * each_bit cost rounds n
 
 abbrev pub election_started : {S : Type 0} → (ℕ → ℕ → ℕ) → ℕ → ℕ → ℕ → ℕ → Electing S
 election_started cost rounds n me at = record { n = n; me = me; rounds = rounds; at = at; left = bits_of n; spelled = 0; candidate = me; turns = turns_of cost rounds n; stage = Announce }

@@ -1,5 +1,5 @@
--- How many bits an owner's number has.
-use Rattle.std.specs.Prelude.{ℕ, ◌+◌, ◌*◌, ◌-◌, ◌/◌, ◌%◌, ◌≤◌, ◌^◌, ◌==◌, nat_lt, [], ◌∷◌, count_by, Bool, true, false}
+-- How many bits an owner's number has, and how many turns an election takes.
+use Rattle.std.specs.Prelude.{ℕ, ◌+◌, ◌*◌, ◌-◌, ◌/◌, ◌%◌, ◌≤◌, ◌^◌, ◌==◌, nat_lt, [], ◌∷◌, count_by, Bool}
 use Rattle.bus_votecount.specs.declared.tallies.TheConstants.{MOST_VOTES}
 
 -- b is the least count of bits that spell n numbers
@@ -11,11 +11,6 @@ pub record IsBits (n b : ℕ) : Type 0 where
 abbrev pub bits_of : ℕ → ℕ
 bits_of n = count_by (λ power. nat_lt power n) (1 ∷ 2 ∷ 4 ∷ 8 ∷ 16 ∷ 32 ∷ [])
 
--- 1 for true
-abbrev pub digit : Bool → ℕ
-digit false = 0
-digit true = 1
-
 -- the bit of value 2 ^ k
 abbrev pub bit_at : ℕ → ℕ → Bool
 bit_at k number = (number / 2 ^ k) % 2 == 1
@@ -24,6 +19,14 @@ bit_at k number = (number / 2 ^ k) % 2 == 1
 abbrev pub decision_cost : ℕ → ℕ → ℕ
 decision_cost rounds n = rounds * (2 * n + 2) + (rounds - 1) * (2 + MOST_VOTES * (n + 1)) + 1
 
+-- what a decision and a search cost at most, where cost is that of a decision, by rounds and processes
+abbrev pub each_bit : (ℕ → ℕ → ℕ) → ℕ → ℕ → ℕ
+each_bit cost rounds n = cost rounds n + n
+
 -- the turns that an election takes at most: its announcement, for each bit a decision and a search, and one more for its owner
+abbrev pub turns_of : (ℕ → ℕ → ℕ) → ℕ → ℕ → ℕ
+turns_of cost rounds n = 2 + bits_of n * each_bit cost rounds n
+
+-- the same over binary decisions
 abbrev pub election_bound : ℕ → ℕ → ℕ
-election_bound n rounds = 2 + bits_of n * (rounds * (2 * n + 2) + (rounds - 1) * (2 + MOST_VOTES * (n + 1)) + 1 + n)
+election_bound n rounds = turns_of decision_cost rounds n

@@ -1,10 +1,8 @@
 -- One more turn, one more sender, one more pass.
-use Rattle.std.proofs.Common.{◌≡◌, ℕ, ◌+◌, Some, inl, inr, List, [], ◌∷◌, ◌++◌, length, slice_get, false, arith, refl, sym, ◌∙◌, ap, subst}
-use Rattle.std.proofs.lemmas.Bool.{cases_lt}
+use Rattle.std.proofs.Common.{◌≡◌, ℕ, ◌+◌, List, [], ◌∷◌, ◌++◌, false, arith, refl, sym, ◌∙◌, ap}
 use Rattle.std.proofs.lemmas.List.{length-append}
 use Rattle.std.proofs.lemmas.List.Elements.{All-append, All-nil, All-cons}
-use Rattle.std.proofs.lemmas.Option.{same_Some, slice_get_within}
-use Rattle.bus_register.specs.Proved.TableLaws.{push_here, push_beside}
+use Rattle.bus_register.proofs.PushLaws.{each_more}
 use Rattle.bus_batch.specs.Batches.{Pending}
 use Rattle.bus_tenure.specs.declared.turns.Turn.{Turn}
 use Rattle.bus_pageslot.specs.Seats.{Seat, queue_by, queue_through, is_last, GoesOn, new_seat, AreNewSeats}
@@ -22,17 +20,6 @@ pub one_more_turn : (old mid new : Pending) (t : Turn) → GoesOn old mid → is
 one_more_turn old mid new t h e n = record { turns = h.turns ++ t ∷ []; go_on = All-append (λ s. is_last s ≡ false) h.turns (t ∷ []) h.go_on (All-cons (λ s. is_last s ≡ false) t [] e (All-nil (λ s. is_last s ≡ false))); queue = n ∙ ap (queue_by t) h.queue ∙ sym (queue_through-append h.turns t old) }
 
 -- ---- senders and passes
--- what holds of each element holds of one more
-each_more : {A : Type 0} (P : ℕ → A → Type 0) (xs : List A) (x : A) → ((p : ℕ) (y : A) → slice_get xs p ≡ Some y → P p y) → P (length xs) x → (p : ℕ) (y : A) → slice_get (xs ++ x ∷ []) p ≡ Some y → P p y
-each_more P xs x each last p y e =
-    let within = slice_get_within (xs ++ x ∷ []) p y e in let size = length-append xs (x ∷ []) in
-    elim (cases_lt p (length xs)) [
-      | inl l ↦ each p y (sym (push_beside xs x p (λ i. absurd (omega arith))) ∙ e)
-      | inr l ↦
-          let here : p ≡ length xs = omega arith in
-          subst (λ z. P z y) (sym here) (subst (P (length xs)) (same_Some _ _ (sym (push_here xs x (length xs) refl) ∙ ap (slice_get (xs ++ x ∷ [])) (sym here) ∙ e)) last)
-    ]
-
 pub one_more_seat : (many : ℕ) (seats : List Seat) (s : Seat) → AreNewSeats many seats → s ≡ new_seat many → AreNewSeats (many + 1) (seats ++ s ∷ [])
 one_more_seat many seats s h e = record {
   many_are = length-append seats (s ∷ []) ∙ (let z = h.many_are in omega arith);

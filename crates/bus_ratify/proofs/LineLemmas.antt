@@ -8,8 +8,8 @@ use Rattle.std.proofs.lemmas.Fmt.{decimal_digit}
 use Rattle.std.proofs.lemmas.Option.{cond_some}
 use Rattle.std.proofs.lemmas.Slice.Eq.{bytes_eq-Decides}
 use Rattle.bus_script.specs.Grammar.{number_of, each_of, arguments_of}
+use Rattle.bus_register.specs.Digits.{digit}
 use Rattle.bus_ratify.specs.Scripts.{bit_of, if_between, if_any, inputs_of, steps_of}
-use Rattle.bus_ratify.specs.Text.{bit}
 use Rattle.bus_ratify.specs.Lines.{IsInputsLine, IsStepsLine}
 use Rattle.bus_script.proofs.SpelledLaws.{NoSpace, chained, number_plain, number_spelled, number_read, line_spelled, line_read}
 
@@ -21,7 +21,7 @@ bit_cases false true x e = inr (refl, cc)
 bit_cases false false x e = absurd cc
 
 abbrev bit_text : Bool → List ℕ
-bit_text b = decimal (bit b)
+bit_text b = decimal (digit b)
 
 bit_spelled : (word : List ℕ) (b : Bool) → bit_of word ≡ Some b → (word ≡ bit_text b) × Unit {0}
 bit_spelled word b e =

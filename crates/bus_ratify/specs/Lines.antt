@@ -1,12 +1,12 @@
 -- How the lines of a script of `ratify` are spelled.
 use Rattle.std.specs.Prelude.{◌≡◌, ℕ, ◌^◌, ◌<◌, ◌≤◌, Bool, List, [], ◌∷◌, ◌++◌, length, codes, decimal, flat_map}
 use Rattle.std.specs.List.{AllByRecursion}
+use Rattle.bus_register.specs.Digits.{digit}
 use Rattle.bus_ratify.specs.Scripts.{RatifyScript}
-use Rattle.bus_ratify.specs.Text.{bit}
 
 -- a line `inputs BIT ..` of 1 to 8 bits
 pub record IsInputsLine (line : List ℕ) (inputs : List Bool) : Type 0 where
-  pub spelled : line ≡ codes "inputs" ++ flat_map (λ input. 32 ∷ decimal (bit input)) inputs
+  pub spelled : line ≡ codes "inputs" ++ flat_map (λ input. 32 ∷ decimal (digit input)) inputs
   pub some : 1 ≤ length inputs
   pub few : length inputs ≤ 8
 

@@ -1,22 +1,19 @@
 -- What `ratify` prints.
-use Rattle.std.specs.Prelude.{ℕ, Bool, true, false, List, [], ◌∷◌, ◌++◌, Option, Some, None, codes, decimal, flat_map}
+use Rattle.std.specs.Prelude.{ℕ, List, [], ◌∷◌, ◌++◌, Option, Some, None, codes, decimal, flat_map}
 use Rattle.std.specs.List.{enumerate_from}
 use Rattle.bus_adoptcommit.specs.declared.verdicts.Verdict.{Verdict}
 use Rattle.bus_adoptcommit.specs.declared.verdicts.Verdict.TheVariants.{Commit, Adopt}
+use Rattle.bus_register.specs.Digits.{digit}
 use Rattle.bus_ratify.specs.declared.refusals.LineFault.{LineFault}
 use Rattle.bus_ratify.specs.declared.refusals.LineFault.TheVariants.{BadLine, NoSuchProcess}
 use Rattle.bus_ratify.specs.declared.refusals.Refusal.{Refusal}
 use Rattle.bus_script.specs.Places.{refusal_line}
 
-abbrev pub bit : Bool → ℕ
-bit true = 1
-bit false = 0
-
 -- what a process has got, where None says that it has not ended
 abbrev pub verdict_name : Option Verdict → List ℕ
 verdict_name None = codes "open"
-verdict_name (Some (Commit v)) = codes "commit " ++ decimal (bit v)
-verdict_name (Some (Adopt v)) = codes "adopt " ++ decimal (bit v)
+verdict_name (Some (Commit v)) = codes "commit " ++ decimal (digit v)
+verdict_name (Some (Adopt v)) = codes "adopt " ++ decimal (digit v)
 
 -- the line of a process
 abbrev pub verdict_line : ℕ → Option Verdict → List ℕ

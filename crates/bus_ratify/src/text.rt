@@ -1,7 +1,8 @@
 //! What `ratify` prints.
 
 ghost use Rattle.std.specs.Prelude.{◌≡◌, ◌++◌, IfOk, OnOk, string_bytes};
-ghost use Rattle.bus_ratify.specs.Text.{bit, verdict_line, verdict_text, fault_name, refusal_text};
+ghost use Rattle.bus_register.specs.Digits.{digit};
+ghost use Rattle.bus_ratify.specs.Text.{verdict_line, verdict_text, fault_name, refusal_text};
 
 use crate::refusals::{LineFault, Refusal};
 use bus_adoptcommit::Verdict;
@@ -9,7 +10,7 @@ use bus_script::refusal_line;
 use std::alloc::{AllocError, Global};
 
 fn bit(value: bool) -> u8
-    ensures { result ≡ bit value }
+    ensures { result ≡ digit value }
 {
     if value { 1 } else { 0 }
 }

@@ -1,5 +1,7 @@
 //! Workers on a bus, some that send and some that hear, each in a thread of its own.
 
+ghost use Rattle.std.specs.Prelude.{◌≡◌, IfOk};
+
 use std::alloc::{AllocError, Global};
 use std::thread::{JoinHandle, Scope, Threads};
 
@@ -20,7 +22,10 @@ pub struct Crew<D: Drop, E: Drop> {
 
 impl<D: Send + Drop, E: Send + Drop> Crew<D, E> {
     /// A crew that has not begun. All its memory is taken here.
-    pub fn new(alloc: Global, desks: Vec<D>, ears: Vec<E>) -> Result<Crew<D, E>, AllocError> {
+    pub fn new(alloc: Global, desks: Vec<D>, ears: Vec<E>) -> Result<Crew<D, E>, AllocError>
+        ensures senders { IfOk result (λ crew. crew.desks.items ≡ desks.items) }
+        ensures receivers { IfOk result (λ crew. crew.ears.items ≡ ears.items) }
+    {
         let sending = Vec::with_capacity(alloc, desks.len())?;
         let hearing = Vec::with_capacity(alloc, ears.len())?;
         Ok(Crew {

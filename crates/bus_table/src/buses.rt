@@ -1,6 +1,7 @@
 //! The bus: how it is made, and how it ends.
 
-ghost use Rattle.std.specs.Prelude.{All, ◌≡◌, ℕ, List, Some, None, IfOk, OnErr, IfErr, [], ◌≤◌};
+ghost use Rattle.std.specs.Prelude.{All, ◌≡◌, ℕ, List, Some, None, IfOk, OnErr, IfErr, []};
+ghost use Rattle.std.specs.Prelude.{◌≤◌};
 ghost use Rattle.std.specs.Vec.{vec_len, vec_capacity};
 ghost use Rattle.bus_tenure.specs.Elections.{election_of};
 ghost use Rattle.bus_world.specs.Playing.{layout_of, IsServed, MakeRefused};
@@ -32,16 +33,21 @@ pub struct Bus<Q: Ratifier> {
 }
 
 impl<Q: Ratifier + Drop> Bus<Q> {
-    /// A new bus of this shape, with its words at zero and its page at home, and each of its senders
-    /// and of its receivers, in order. All memory is taken here: no later call takes any.
+    /// A new bus of this shape, with its words at zero and its page at home, and each of its
+    /// senders and of its receivers, in order. All memory is taken here: no later call takes any.
     pub fn new(
         alloc: Global,
         shape: Shape,
     ) -> Result<(Bus<Q>, Vec<Sender<Q>>, Vec<Tap<Q>>), MakeFault>
         ensures shape { IfOk result (λ made. made.0.table.shared.key ≡ shape) }
-        ensures senders { IfOk result (λ made. AreNewSeats (layout_of Q.protocol shape) made.0.table.shared.table_id shape.senders made.1.items) }
-        ensures taps { IfOk result (λ made. AreNewTaps made.0.table.shared.table_id shape.receivers made.2.items) }
-        ensures table { IfOk result (λ made. All (λ s. table_of s ≡ made.0.table.shared.table_id) made.1.items × All (λ t. t.table_id ≡ made.0.table.shared.table_id) made.2.items) }
+        ensures senders { IfOk result
+            (λ made. AreNewSeats (layout_of Q.protocol shape) made.0.table.shared.table_id
+            shape.senders made.1.items) }
+        ensures taps { IfOk result
+            (λ made. AreNewTaps made.0.table.shared.table_id shape.receivers made.2.items) }
+        ensures table { IfOk result
+            (λ made. All (λ s. table_of s ≡ made.0.table.shared.table_id) made.1.items
+            × All (λ t. t.table_id ≡ made.0.table.shared.table_id) made.2.items) }
         ensures served { IfOk result (λ _. IsServed shape) }
         ensures fault { IfErr result (MakeRefused shape) }
     {
@@ -62,12 +68,16 @@ impl<Q: Ratifier + Drop> Bus<Q> {
     }
 
     /// Ends the bus, by a receiver of it: its log and its page, where the page is at home, and
-    /// PageOut where a sender that took it has not given it back. Bus and receiver are gone in either
-    /// case.
+    /// PageOut where a sender that took it has not given it back. Bus and receiver are gone in
+    /// either case.
     pub fn end(self, tap: Tap<Q>) -> Result<Ended, EndFault>
         requires { tap.table_id ≡ self.table.shared.table_id }
-        ensures ended { let X = election_of Q.Ratifier in IfOk result (λ left. IsLeft X (layout_of Q.protocol self.table.shared.key) (known_in tap.me.0) left.log.items (Some left.page)) }
-        ensures out { let X = election_of Q.Ratifier in OnErr result ((log : List ℕ) × IsLeft X (layout_of Q.protocol self.table.shared.key) (known_in tap.me.0) log None) }
+        ensures ended { let X = election_of Q.Ratifier in
+            IfOk result (λ left. IsLeft X (layout_of Q.protocol self.table.shared.key)
+            (known_in tap.me.0) left.log.items (Some left.page)) }
+        ensures out { let X = election_of Q.Ratifier in
+            OnErr result ((log : List ℕ)
+            × IsLeft X (layout_of Q.protocol self.table.shared.key) (known_in tap.me.0) log None) }
     {
         let Bus {
             table,
@@ -80,7 +90,8 @@ impl<Q: Ratifier + Drop> Bus<Q> {
 
 /// Room for so many words.
 fn roomy(alloc: Global, words: u64) -> Result<Vec<u64>, NoMemory>
-    ensures { IfOk result (λ room. (room.items ≡ []) × (vec_len room ≡ 0) × (words ≤ vec_capacity room)) }
+    ensures { IfOk result (λ room. (room.items ≡ []) × (vec_len room ≡ 0)
+        × (words ≤ vec_capacity room)) }
 {
     Ok(Vec::with_capacity(alloc, words as usize)?)
 }

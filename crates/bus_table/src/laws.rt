@@ -18,7 +18,9 @@ use bus_ownerbits::laws::election_is_lawful;
 /// promises holds of what the seats show: of the deeds of all senders, and of the order and the
 /// owners that the words below the length spell; and what a receiver knows is a beginning of these.
 pub fn seats_keep_promises<Q: Ratifier>()
-    ensures { (shape : Shape) (s : State (Option Page) (View (Core (Elector Q)))) → IsShown (election_of Q.Ratifier) (layout_of Q.protocol shape) s → IsPromised (layout_of Q.protocol shape) s }
+    ensures { (shape : Shape) (s : State (Option Page) (View (Core (Elector Q))))
+        → IsShown (election_of Q.Ratifier) (layout_of Q.protocol shape) s
+        → IsPromised (layout_of Q.protocol shape) s }
 {
     election_is_lawful::<Q>();
 }

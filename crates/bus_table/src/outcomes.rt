@@ -1,6 +1,7 @@
 //! What a bus leaves behind.
 
-ghost use Rattle.std.specs.Prelude.{◌≡◌, ℕ, ◌+◌, ◌≤◌, List, [], Some, None, codes, slice_index, IfOk, OnErr};
+ghost use Rattle.std.specs.Prelude.{◌≡◌, ℕ, ◌+◌, ◌≤◌, List, [], Some, None};
+ghost use Rattle.std.specs.Prelude.{codes, slice_index, IfOk, OnErr};
 ghost use Rattle.std.specs.Vec.{vec_len, vec_capacity};
 ghost use Rattle.std.specs.Slots.{slots_items, slots_len, IsFull};
 ghost use Rattle.bus_tenure.specs.Elections.{election_of};
@@ -58,8 +59,12 @@ pub(crate) fn leave<Q: Ratifier + Drop>(
     requires empty { (room.items ≡ []) × (vec_len room ≡ 0) }
     requires log_words { log_words ≡ table.shared.key.log_words }
     requires roomy { log_words ≤ vec_capacity room }
-    ensures ended { let X = election_of Q.Ratifier in IfOk result (λ left. IsLeft X (layout_of Q.protocol table.shared.key) (known_in seat.me.0) left.log.items (Some left.page)) }
-    ensures out { let X = election_of Q.Ratifier in OnErr result ((log : List ℕ) × IsLeft X (layout_of Q.protocol table.shared.key) (known_in seat.me.0) log None) }
+    ensures ended { let X = election_of Q.Ratifier in
+        IfOk result (λ left. IsLeft X (layout_of Q.protocol table.shared.key) (known_in seat.me.0)
+        left.log.items (Some left.page)) }
+    ensures out { let X = election_of Q.Ratifier in
+        OnErr result ((log : List ℕ)
+        × IsLeft X (layout_of Q.protocol table.shared.key) (known_in seat.me.0) log None) }
 {
     election_is_lawful::<Q>();
     let mut closed = table.close_with(seat);

@@ -26,8 +26,8 @@ impl Model for Trail {
 pub enum View<C> {
     /// The senders from this one on have no seat yet.
     Maker(C),
-    /// A sender as it was after its last step, all that it did until then, and the last length that it
-    /// has stored.
+    /// A sender as it was after its last step, all that it did until then, and the last length that
+    /// it has stored.
     Sender(C, Trail, u64),
     /// A receiver, with the words of the log that it knows, on a bus of such senders.
     Tap(C, LinkedList<u64>),

@@ -1,6 +1,7 @@
 //! The table of a new bus, and the seats of its senders and receivers.
 
-ghost use Rattle.std.specs.Prelude.{◌≡◌, ℕ, ◌+◌, ◌<◌, ◌≤◌, ◌^◌, List, [], IfOk};
+ghost use Rattle.std.specs.Prelude.{◌≡◌, ℕ, ◌+◌, ◌<◌, ◌≤◌, ◌^◌, List, []};
+ghost use Rattle.std.specs.Prelude.{IfOk};
 ghost use Rattle.bus_tenure.specs.Core.{words_of, log_at};
 ghost use Rattle.bus_world.specs.Playing.{layout_of, IsServed};
 ghost use Rattle.bus_world.specs.World.{new_core};
@@ -24,7 +25,8 @@ pub(crate) fn board<Q: Ratifier + Drop>(
     shape: Shape,
 ) -> Result<(Board<Q>, Place<Q>), NoMemory>
     requires { IsServed shape }
-    ensures board { IfOk result (λ made. IsBoard (layout_of Q.protocol shape) made.0.shared.table_id made.1) }
+    ensures board { IfOk result
+        (λ made. IsBoard (layout_of Q.protocol shape) made.0.shared.table_id made.1) }
     ensures shape { IfOk result (λ made. made.0.shared.key ≡ shape) }
 {
     let width = Election::<Q>::width(shape.senders, shape.rounds);
@@ -47,7 +49,8 @@ fn seat_next<Q: Ratifier + Drop>(
     requires table { maker.old.table_id ≡ top.now.table_id }
     requires served { IsServed shape }
     requires room { words_of (layout_of Q.protocol shape) ≤ 2 ^ 63 }
-    requires wide { (maker.old.table_id.words ≡ words_of (layout_of Q.protocol shape)) × (maker.old.table_id.slots ≡ 1) }
+    requires wide { (maker.old.table_id.words ≡ words_of (layout_of Q.protocol shape))
+        × (maker.old.table_id.slots ≡ 1) }
     requires below { me < shape.senders }
     requires maker { maker.old.me ≡ (Maker (new_core (layout_of Q.protocol shape) me), []) }
     ensures table { maker.new.table_id ≡ maker.old.table_id }
@@ -74,8 +77,11 @@ pub(crate) fn seat_all<Q: Ratifier + Drop>(
 ) -> Result<(Vec<Sender<Q>>, Place<Q>), NoMemory>
     requires served { IsServed shape }
     requires board { IsBoard (layout_of Q.protocol shape) top.now.table_id maker }
-    ensures senders { IfOk result (λ made. AreNewSeats (layout_of Q.protocol shape) top.now.table_id shape.senders made.0.items) }
-    ensures maker { IfOk result (λ made. (made.1.table_id ≡ top.now.table_id) × (made.1.me ≡ (Maker (new_core (layout_of Q.protocol shape) shape.senders), []))) }
+    ensures senders { IfOk result
+        (λ made. AreNewSeats (layout_of Q.protocol shape) top.now.table_id shape.senders
+        made.0.items) }
+    ensures maker { IfOk result (λ made. (made.1.table_id ≡ top.now.table_id)
+        × (made.1.me ≡ (Maker (new_core (layout_of Q.protocol shape) shape.senders), []))) }
 {
     let mut senders = Vec::new(alloc);
     for me in 0..shape.senders {
@@ -119,7 +125,8 @@ pub(crate) fn tap_all<Q: Ratifier + Drop>(
     requires room { words_of (layout_of Q.protocol shape) ≤ 2 ^ 63 }
     requires wide { top.now.table_id.words ≡ words_of (layout_of Q.protocol shape) }
     requires log { log ≡ log_at (layout_of Q.protocol shape) }
-    requires maker { maker.me ≡ (Maker (new_core (layout_of Q.protocol shape) shape.senders), []) }
+    requires maker { maker.me
+        ≡ (Maker (new_core (layout_of Q.protocol shape) shape.senders), []) }
     ensures { IfOk result (λ taps. AreNewTaps top.now.table_id shape.receivers taps.items) }
 {
     let mut taps = Vec::new(alloc);

@@ -1,6 +1,7 @@
 //! A sender with its seat.
 
-ghost use Rattle.std.specs.Prelude.{◌≡◌, ℕ, ◌<◌, List, [], ◌∷◌, ◌++◌, None, Some, IfOk, IfErr, OnOk, OnErr, length};
+ghost use Rattle.std.specs.Prelude.{◌≡◌, ℕ, ◌<◌, List, [], ◌∷◌, ◌++◌, None};
+ghost use Rattle.std.specs.Prelude.{Some, IfOk, IfErr, OnOk, OnErr, length};
 ghost use Rattle.bus_batch.specs.Batches.{next_of, CanPut, IsPutFault, CanClose, IsCloseFault};
 ghost use Rattle.bus_tenure.specs.Situations.{situation_of, kind_at, op_at, rest_at};
 ghost use Rattle.bus_tenure.specs.Elections.{election_of};
@@ -89,14 +90,16 @@ impl<Q: Ratifier + Drop> Sender<Q> {
 
     /// What its next step is for; none where none is due.
     pub fn kind(&self) -> Option<Kind>
-        ensures { let X = election_of Q.Ratifier in result ≡ kind_at X self.now.core (situation_of X self.now.core) }
+        ensures { let X = election_of Q.Ratifier in
+            result ≡ kind_at X self.now.core (situation_of X self.now.core) }
     {
         self.core.kind()
     }
 
     /// Its next step asks for a random word.
     pub fn wants_word(&self) -> bool
-        ensures { let X = election_of Q.Ratifier in result ≡ wants_at X self.now.core (situation_of X self.now.core) }
+        ensures { let X = election_of Q.Ratifier in
+            result ≡ wants_at X self.now.core (situation_of X self.now.core) }
     {
         self.core.wants_word()
     }
@@ -114,7 +117,8 @@ impl<Q: Ratifier + Drop> Sender<Q> {
     pub fn put(&mut self, bytes: &[u8]) -> Result<u64, PutFault>
         ensures number { IfOk result (λ number. number ≡ next_of self.old.core.queue) }
         ensures taken { OnOk result (self.new.core ≡ with_message self.old.core bytes.now) }
-        ensures deed { IfOk result (λ number. deeds_of self.new ≡ deeds_of self.old ++ HasPut number bytes.now ∷ []) }
+        ensures deed { IfOk result
+            (λ number. deeds_of self.new ≡ deeds_of self.old ++ HasPut number bytes.now ∷ []) }
         ensures could { OnOk result (CanPut self.old.core.queue (length bytes.now)) }
         ensures fault { IfErr result (IsPutFault self.old.core.queue (length bytes.now)) }
         ensures refused { OnErr result (self.new.core ≡ self.old.core) }
@@ -135,13 +139,18 @@ impl<Q: Ratifier + Drop> Sender<Q> {
         self.core.close()
     }
 
-    /// One turn: at most one step on one word of the bus that it is a sender of. `word` is the random
-    /// word of a vote; other steps do not look at it.
+    /// One turn: at most one step on one word of the bus that it is a sender of. `word` is the
+    /// random word of a vote; other steps do not look at it.
     pub fn turn(&mut self, bus: &Bus<Q>, word: u32) -> Turn
         requires { table_of self.old ≡ bus.now.table.shared.table_id }
         ensures table { table_of self.new ≡ table_of self.old }
-        ensures rests { let X = election_of Q.Ratifier in op_at X self.old.core (situation_of X self.old.core) word ≡ None → (self.new ≡ self.old) × (result ≡ rest_at X self.old.core (situation_of X self.old.core)) }
-        ensures steps { let X = election_of Q.Ratifier in (op : Op) → op_at X self.old.core (situation_of X self.old.core) word ≡ Some op → Took X self.old word result self.new }
+        ensures rests { let X = election_of Q.Ratifier in
+            op_at X self.old.core (situation_of X self.old.core) word ≡ None
+            → (self.new ≡ self.old)
+            × (result ≡ rest_at X self.old.core (situation_of X self.old.core)) }
+        ensures steps { let X = election_of Q.Ratifier in
+            (op : Op) → op_at X self.old.core (situation_of X self.old.core) word ≡ Some op
+            → Took X self.old word result self.new }
     {
         let top = &bus.table.shared;
         let Some(op) = self.core.next(word) else {
@@ -151,15 +160,19 @@ impl<Q: Ratifier + Drop> Sender<Q> {
         walk::<Q, Brand>(top, &mut self.seat, &mut self.core, op, word)
     }
 
-    /// A receiver's seat is joined to its own, which then loads the length; and the two are cut apart
-    /// again.
+    /// A receiver's seat is joined to its own, which then loads the length; and the two are cut
+    /// apart again.
     pub(crate) fn tell(&mut self, bus: &Bus<Q>, tap: Place<Q>) -> (u64, Place<Q>)
-        requires table { (table_of self.old ≡ bus.now.table.shared.table_id) × (tap.table_id ≡ bus.now.table.shared.table_id) }
+        requires table { (table_of self.old ≡ bus.now.table.shared.table_id)
+            × (tap.table_id ≡ bus.now.table.shared.table_id) }
         requires tap { (d : _) × (known : List ℕ) × (tap.me ≡ (Tap d known, [])) }
-        ensures table { (table_of self.new ≡ table_of self.old) × (result.1.table_id ≡ tap.table_id) }
-        ensures same { (self.new.core ≡ self.old.core) × (self.new.seat.me ≡ self.old.seat.me) }
+        ensures table { (table_of self.new ≡ table_of self.old)
+            × (result.1.table_id ≡ tap.table_id) }
+        ensures same { (self.new.core ≡ self.old.core)
+            × (self.new.seat.me ≡ self.old.seat.me) }
         ensures learns { Learns tap.me result.0 result.1.me }
-        ensures sent { KnowsSent self.old.core (deeds_of self.old) (stored_of self.old) (known_in result.1.me.0) }
+        ensures sent { KnowsSent self.old.core (deeds_of self.old) (stored_of self.old)
+            (known_in result.1.me.0) }
     {
         meeting(&bus.table.shared, &mut self.seat, tap)
     }

@@ -94,9 +94,12 @@ impl<Q: Ratifier + Drop> Tap<Q> {
 
     /// Two receivers meet: each knows the log up to the length that is loaded.
     pub fn meet(&mut self, other: &mut Tap<Q>, bus: &Bus<Q>) -> u64
-        requires table { (self.old.table_id ≡ bus.now.table.shared.table_id) × (other.old.table_id ≡ bus.now.table.shared.table_id) }
-        ensures table { (self.new.table_id ≡ self.old.table_id) × (other.new.table_id ≡ other.old.table_id) }
-        ensures learns { Learns self.old.me result self.new.me × Learns other.old.me result other.new.me }
+        requires table { (self.old.table_id ≡ bus.now.table.shared.table_id)
+            × (other.old.table_id ≡ bus.now.table.shared.table_id) }
+        ensures table { (self.new.table_id ≡ self.old.table_id)
+            × (other.new.table_id ≡ other.old.table_id) }
+        ensures learns { Learns self.old.me result self.new.me
+            × Learns other.old.me result other.new.me }
         ensures same { known_in other.new.me.0 ≡ known_in self.new.me.0 }
     {
         let mut mine = self.seat.take().unwrap();
@@ -109,13 +112,18 @@ impl<Q: Ratifier + Drop> Tap<Q> {
         length
     }
 
-    /// A sender tells: what is known then has all that the sender has published, and nothing else of that sender.
+    /// A sender tells: what is known then has all that the sender has published, and nothing else
+    /// of that sender.
     pub fn told(&mut self, sender: &mut Sender<Q>, bus: &Bus<Q>) -> u64
-        requires table { (self.old.table_id ≡ bus.now.table.shared.table_id) × (table_of sender.old ≡ bus.now.table.shared.table_id) }
-        ensures table { (self.new.table_id ≡ self.old.table_id) × (table_of sender.new ≡ table_of sender.old) }
-        ensures sender { (sender.new.core ≡ sender.old.core) × (sender.new.seat.me ≡ sender.old.seat.me) }
+        requires table { (self.old.table_id ≡ bus.now.table.shared.table_id)
+            × (table_of sender.old ≡ bus.now.table.shared.table_id) }
+        ensures table { (self.new.table_id ≡ self.old.table_id)
+            × (table_of sender.new ≡ table_of sender.old) }
+        ensures sender { (sender.new.core ≡ sender.old.core)
+            × (sender.new.seat.me ≡ sender.old.seat.me) }
         ensures learns { Learns self.old.me result self.new.me }
-        ensures sent { KnowsSent sender.old.core (deeds_of sender.old) (stored_of sender.old) (known_in self.new.me.0) }
+        ensures sent { KnowsSent sender.old.core (deeds_of sender.old) (stored_of sender.old)
+            (known_in self.new.me.0) }
     {
         let mine = self.seat.take().unwrap();
         let (length, mine) = sender.tell(bus, mine);

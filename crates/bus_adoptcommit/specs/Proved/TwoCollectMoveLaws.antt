@@ -4,10 +4,11 @@ use Rattle.std.proofs.lemmas.Bool.{cases_eq}
 use Rattle.std.proofs.lemmas.Option.{same_Some}
 use Rattle.bus_register.specs.declared.registers.Op.{Op}
 use Rattle.bus_register.specs.Words.{register, after}
+use Rattle.bus_register.specs.Digits.{digit}
 use Rattle.bus_adoptcommit.specs.declared.phases.Phase.{Phase}
 use Rattle.bus_adoptcommit.specs.declared.phases.Phase.TheVariants.{StoreProposal, ReadProposal, StoreVerdict, ReadVerdict, Ended}
 use Rattle.bus_register.specs.Tables.{Beside, Stepped}
-use Rattle.bus_adoptcommit.specs.TwoCollect.{Local, PhaseFits, bit, verdict_code, first_verdict, op_at, op_of, fed_of, taken_at}
+use Rattle.bus_adoptcommit.specs.TwoCollect.{Local, PhaseFits, verdict_code, first_verdict, op_at, op_of, fed_of, taken_at}
 use Rattle.bus_adoptcommit.specs.TwoCollectKeeps.{Belongs, Mark, mark, mark_of, proposal_word, verdict_word, Holds, Keeps}
 use Rattle.bus_adoptcommit.specs.Proved.TwoCollectMarkLaws.{Pass, Went, holds_after, proposal_some, verdict_some, proposal_now, verdict_now}
 use Rattle.bus_adoptcommit.specs.Proved.TwoCollectPassLaws.{pass_at}
@@ -25,13 +26,13 @@ record WritesHere (place value : ℕ) (o : Op) : Type 0 where
   is : (x : ℕ) → after o x ≡ value
 
 -- the word of the verdict that is stored, in numbers
-verdict_stored : (agreed input : Bool) → verdict_code (first_verdict agreed input) ≡ 1 + 2 * bit agreed + bit input
+verdict_stored : (agreed input : Bool) → verdict_code (first_verdict agreed input) ≡ 1 + 2 * digit agreed + digit input
 verdict_stored true input = omega arith
 verdict_stored false input = omega arith
 
 -- each step reads only, or stores the proposal, or the verdict
 writes_of : (ph : Phase) (s : Local) (o : Op) → PhaseFits s.n ph → op_at ph s ≡ Some o
-    → ReadsOnly (taken_at s.n ph) s.n o ⊎ (((taken_at s.n ph ≡ 0) × WritesHere (s.at + s.me) (1 + bit s.input) o) ⊎ ((taken_at s.n ph ≡ 1 + s.n) × WritesHere (s.at + s.n + s.me) (1 + 2 * bit s.agreed + bit s.input) o))
+    → ReadsOnly (taken_at s.n ph) s.n o ⊎ (((taken_at s.n ph ≡ 0) × WritesHere (s.at + s.me) (1 + digit s.input) o) ⊎ ((taken_at s.n ph ≡ 1 + s.n) × WritesHere (s.at + s.n + s.me) (1 + 2 * digit s.agreed + digit s.input) o))
 writes_of StoreProposal s o f e = inr (inl (refl, record { at = ap register (sym (same_Some _ _ e)); is = λ x. ap (λ z. after z x) (sym (same_Some _ _ e)) }))
 writes_of (ReadProposal of) s o f e = inl record { same = λ x. ap (λ z. after z x) (sym (same_Some _ _ e)); begun = omega arith; other = omega arith }
 writes_of StoreVerdict s o f e = inr (inr (refl, record { at = ap register (sym (same_Some _ _ e)); is = λ x. ap (λ z. after z x) (sym (same_Some _ _ e)) ∙ verdict_stored s.agreed s.input }))
@@ -74,14 +75,14 @@ module _ (n at : ℕ) (words words' : ℕ → ℕ) (old new : ℕ → Option Loc
   taken_is = ap (λ z. (mark z).taken) here
 
   -- its input
-  value_is : (mark (new p)).value ≡ bit s.input
+  value_is : (mark (new p)).value ≡ digit s.input
   value_is = went.pass.value ∙ ap (λ z. (mark z).value) here
 
   -- the words that it stores
-  proposal_written : taken_at s.n s.phase ≡ 0 → proposal_word (mark (new p)) ≡ 1 + bit s.input
+  proposal_written : taken_at s.n s.phase ≡ 0 → proposal_word (mark (new p)) ≡ 1 + digit s.input
   proposal_written e = proposal_some (mark (new p)) (let g = went.pass.more in omega arith) ∙ ap (λ z. 1 + z) value_is
 
-  verdict_written : taken_at s.n s.phase ≡ 1 + s.n → verdict_word n (mark (new p)) ≡ 1 + 2 * bit s.agreed + bit s.input
+  verdict_written : taken_at s.n s.phase ≡ 1 + s.n → verdict_word n (mark (new p)) ≡ 1 + 2 * digit s.agreed + digit s.input
   verdict_written e =
       let t = taken_is in let x = own.n_is in let g = went.pass.more in let v = value_is in
       let a = went.pass.agreed_kept (inr (omega arith)) ∙ ap (λ z. (mark z).agreed) here in

@@ -2,6 +2,8 @@
 use Rattle.std.proofs.Common.{◌≡◌, ℕ, ◌+◌, ◌<◌, Bool, true, false, cond, Option, Some, None, inl, inr, arith, refl, sym, ◌∙◌, ap, subst}
 use Rattle.std.proofs.lemmas.Bool.{cases_lt, true≢false, lt-ltb}
 use Rattle.std.proofs.lemmas.Option.{same_Some}
+use Rattle.bus_register.specs.Digits.{digit}
+use Rattle.bus_register.proofs.DigitLaws.{digit_same}
 use Rattle.bus_adoptcommit.specs.declared.phases.Phase.{Phase}
 use Rattle.bus_adoptcommit.specs.declared.phases.Phase.TheVariants.{StoreProposal, ReadProposal, StoreVerdict, ReadVerdict, Ended}
 use Rattle.bus_adoptcommit.specs.declared.verdicts.Verdict.{Verdict}
@@ -10,16 +12,9 @@ use Rattle.bus_adoptcommit.specs.Agreement.{value_of, IsValid, IsConvergent, IsC
 use Rattle.bus_register.specs.Protocol.{counted, inputs, outputs}
 use Rattle.bus_register.specs.Proved.TableLaws.{some_of}
 use Rattle.bus_register.specs.Tables.{of_some}
-use Rattle.bus_adoptcommit.specs.TwoCollect.{Local, bit, taken_at, output_at, output_of, verdict_from}
+use Rattle.bus_adoptcommit.specs.TwoCollect.{Local, taken_at, output_at, output_of, verdict_from}
 use Rattle.bus_adoptcommit.specs.TwoCollectKeeps.{Mark, mark, commit_number, proposal_word, Split, Committed, Holds, Keeps, two_collect}
 use Rattle.bus_adoptcommit.specs.Proved.TwoCollectMarkLaws.{proposal_none, proposal_some, verdict_none, verdict_some}
-
--- a bit tells the value
-bit_same : (a b : Bool) → bit a ≡ bit b → a ≡ b
-bit_same true true e = refl
-bit_same true false e = absurd (omega arith)
-bit_same false true e = absurd (omega arith)
-bit_same false false e = refl
 
 -- ── processes that have ended ──
 module _ (n : ℕ) (m : ℕ → Mark) (h : Holds n m) where
@@ -74,9 +69,9 @@ output_ended (ReadVerdict of) s d e = absurd cc
 output_ended Ended s d e = (refl, same_Some _ _ e)
 
 -- a process that has taken a step counts with its input
-counts : (o : Option Local) (w : Bool) → 0 < (mark o).taken → (mark o).value ≡ bit w → of_some (counted two_collect) o ≡ Some w
+counts : (o : Option Local) (w : Bool) → 0 < (mark o).taken → (mark o).value ≡ digit w → of_some (counted two_collect) o ≡ Some w
 counts None w l e = absurd (omega arith)
-counts (Some s) w l e = ap (λ b. cond b (Some s.input) None) (lt-ltb 0 (taken_at s.n s.phase) l) ∙ ap Some (bit_same s.input w e)
+counts (Some s) w l e = ap (λ b. cond b (Some s.input) None) (lt-ltb 0 (taken_at s.n s.phase) l) ∙ ap Some (digit_same s.input w e)
 
 -- a number above 0 is that of a commit
 commit_some : (c : Option Bool) → 0 < commit_number c → (w : Bool) × (c ≡ Some w)
@@ -84,7 +79,7 @@ commit_some None l = absurd (omega arith)
 commit_some (Some w) l = (w, refl)
 
 -- 1 is that of true
-only_true : (b : Bool) → bit b ≡ 1 → b ≡ true
+only_true : (b : Bool) → digit b ≡ 1 → b ≡ true
 only_true true e = refl
 only_true false e = absurd (omega arith)
 
@@ -121,15 +116,15 @@ module _ (n at : ℕ) (words : ℕ → ℕ) (locals : ℕ → Option Local) (k :
       record { s = a.0; here = a.1; below = i.0; taken = ap (λ z. (mark z).taken) a.1 ∙ ap (taken_at a.0.n) b.0 ∙ ap (λ z. 2 + z + z) i.1.n_is; is = b.1 }
 
   -- the input of a process that has taken a step
-  counts_at : (p : ℕ) (w : Bool) → 0 < (mark (locals p)).taken → (mark (locals p)).value ≡ bit w → inputs two_collect locals p ≡ Some w
+  counts_at : (p : ℕ) (w : Bool) → 0 < (mark (locals p)).taken → (mark (locals p)).value ≡ digit w → inputs two_collect locals p ≡ Some w
   counts_at p w l e = counts (locals p) w l e
 
   -- the verdict's value is an input
   valid_from : (p : ℕ) (s : Local) → locals p ≡ Some s → (mark (locals p)).taken ≡ 2 + n + n → (c : Option Bool) → s.commit ≡ c → (q : ℕ) × (inputs two_collect locals q ≡ Some (value_of (verdict_from c s.only_commits s.input)))
   valid_from p s here taken None e = (p, counts_at p s.input (omega arith) (ap (λ z. (mark z).value) here))
   valid_from p s here taken (Some w) e =
-      let c = k.holds.seen p (bit w) (ap (λ z. (mark z).commit) here ∙ ap commit_number e) in
-      let a = committer n M k.holds (bit w) c in
+      let c = k.holds.seen p (digit w) (ap (λ z. (mark z).commit) here ∙ ap commit_number e) in
+      let a = committer n M k.holds (digit w) c in
       (c.by, counts_at c.by w (let z = a.stored in omega arith) a.value ∙ ap Some (sym (value_from w s.only_commits s.input)))
 
   valid : IsValid (inputs two_collect locals) (outputs two_collect locals)
@@ -142,13 +137,13 @@ module _ (n at : ℕ) (words : ℕ → ℕ) (locals : ℕ → Option Local) (k :
   coherent p q v d e f =
       let o = done p (Commit v) e in let u = done q d f in
       let c = commit_from o.s.commit o.s.only_commits o.s.input v o.is in
-      let only : (mark (locals p)).only ≡ 1 = ap (λ z. (mark z).only) o.here ∙ ap bit c.1 in
+      let only : (mark (locals p)).only ≡ 1 = ap (λ z. (mark z).only) o.here ∙ ap digit c.1 in
       let a = committing n M k.holds p o.below o.taken only in
-      let mine = commit_is n M k.holds p (bit v) p (mark (locals p)).value (ap (λ z. (mark z).commit) o.here ∙ ap commit_number c.0) a in
+      let mine = commit_is n M k.holds p (digit v) p (mark (locals p)).value (ap (λ z. (mark z).commit) o.here ∙ ap commit_number c.0) a in
       let some = met n M k.holds p o.below o.taken q u.below u.taken only in
       let w = commit_some u.s.commit (subst (λ z. 0 < (mark z).commit) u.here some) in
-      let theirs = commit_is n M k.holds q (bit w.0) p (mark (locals p)).value (ap (λ z. (mark z).commit) u.here ∙ ap commit_number w.1) a in
-      ap value_of (sym u.is) ∙ ap (λ z. value_of (verdict_from z u.s.only_commits u.s.input)) w.1 ∙ value_from w.0 u.s.only_commits u.s.input ∙ bit_same w.0 v (theirs ∙ sym mine)
+      let theirs = commit_is n M k.holds q (digit w.0) p (mark (locals p)).value (ap (λ z. (mark z).commit) u.here ∙ ap commit_number w.1) a in
+      ap value_of (sym u.is) ∙ ap (λ z. value_of (verdict_from z u.s.only_commits u.s.input)) w.1 ∙ value_from w.0 u.s.only_commits u.s.input ∙ digit_same w.0 v (theirs ∙ sym mine)
 
   -- who stored a proposal
   stored : (q v : ℕ) → proposal_word (mark (locals q)) ≡ 1 + v → (0 < (mark (locals q)).taken) × ((mark (locals q)).value ≡ v)
@@ -172,9 +167,9 @@ module _ (n at : ℕ) (words : ℕ → ℕ) (locals : ℕ → Option Local) (k :
       let a = committing n M k.holds p o.below o.taken only in
       let some = commits n M k.holds p o.below o.taken a in
       let w = commit_some o.s.commit (subst (λ z. 0 < (mark z).commit) o.here some) in
-      let mine = commit_is n M k.holds p (bit w.0) p (mark (locals p)).value (ap (λ z. (mark z).commit) o.here ∙ ap commit_number w.1) a in
+      let mine = commit_is n M k.holds p (digit w.0) p (mark (locals p)).value (ap (λ z. (mark z).commit) o.here ∙ ap commit_number w.1) a in
       let input : o.s.input ≡ v = all p o.s.input (counts_at p o.s.input (omega arith) (ap (λ z. (mark z).value) o.here)) in
-      let own : w.0 ≡ o.s.input = bit_same w.0 o.s.input (mine ∙ ap (λ z. (mark z).value) o.here) in
+      let own : w.0 ≡ o.s.input = digit_same w.0 o.s.input (mine ∙ ap (λ z. (mark z).value) o.here) in
       sym o.is ∙ ap (λ z. verdict_from z o.s.only_commits o.s.input) w.1 ∙ ap (λ z. verdict_from (Some w.0) z o.s.input) (only_true o.s.only_commits (sym (ap (λ z. (mark z).only) o.here) ∙ only)) ∙ ap Commit (own ∙ input)
 
   -- Gafni 1998

@@ -4,17 +4,25 @@ use Rattle.std.proofs.lemmas.Bool.{cases_lt}
 use Rattle.std.proofs.lemmas.Option.{same_Some}
 use Rattle.bus_register.specs.declared.registers.Op.{Op}
 use Rattle.bus_register.specs.Words.{register}
+use Rattle.bus_register.specs.Digits.{digit}
+use Rattle.bus_register.proofs.DigitLaws.{digit_le}
 use Rattle.bus_adoptcommit.specs.declared.phases.Phase.{Phase}
 use Rattle.bus_adoptcommit.specs.declared.phases.Phase.TheVariants.{StoreProposal, ReadProposal, StoreVerdict, ReadVerdict, Ended}
-use Rattle.bus_adoptcommit.specs.TwoCollect.{Local, PhaseFits, bit, op_at, fed_at, taken_at}
+use Rattle.bus_adoptcommit.specs.TwoCollect.{Local, PhaseFits, op_at, fed_at, taken_at}
 use Rattle.bus_adoptcommit.specs.TwoCollectKeeps.{Mark, mark_of, commit_number, proposal_word, verdict_word, Holds}
+<<<<<<< HEAD:crates/bus_adoptcommit/specs/Proved/TwoCollectPassLaws.antt
 use Rattle.bus_adoptcommit.specs.Proved.TwoCollectMarkLaws.{Pass, verdict_none, verdict_some}
 use Rattle.bus_adoptcommit.specs.Proved.TwoCollectWordLaws.{bit_le, agreed_less, agreed_saw, agreed_missed, reads}
 use Rattle.bus_adoptcommit.specs.Proved.TwoCollectStepLaws.{advances_at}
+=======
+use Rattle.bus_adoptcommit.specs.Proved.TwoCollectMarkLaws.{Pass, verdict_none, verdict_some}
+use Rattle.bus_adoptcommit.specs.Proved.TwoCollectWordLaws.{agreed_less, agreed_saw, agreed_missed, reads}
+use Rattle.bus_adoptcommit.specs.Proved.TwoCollectStepLaws.{advances_at}
+>>>>>>> e1803bb0d4c42c158edf0191b30b648f9df0c604:crates/bus_adoptcommit/specs/TwoCollectPassLaws.antt
 
 -- the mark of s, were it at this phase
 abbrev pub mark_at : Phase → Local → Mark
-mark_at ph s = record { taken = taken_at s.n ph; value = bit s.input; agreed = bit s.agreed; commit = commit_number s.commit; only = bit s.only_commits }
+mark_at ph s = record { taken = taken_at s.n ph; value = digit s.input; agreed = digit s.agreed; commit = commit_number s.commit; only = digit s.only_commits }
 
 -- no word of a verdict is above 4
 verdict_small : (n : ℕ) (m : ℕ → Mark) → Holds n m → (q : ℕ) → verdict_word n (m q) ≤ 4
@@ -25,11 +33,11 @@ verdict_small n m h q = elim (cases_lt (1 + n) (m q).taken) [
 
 -- a step that tells nothing of another process
 quiet : (n : ℕ) (m : ℕ → Mark) (x : Mark) → (x.taken ≡ 0) ⊎ (x.taken ≡ 1 + n) → x.value ≤ 1 → Pass n m x record x { taken = 1 + x.taken }
-quiet n m x now bit = record {
+quiet n m x now small = record {
   more = refl;
   room = omega arith;
   value = refl;
-  value_bit = bit;
+  value_bit = small;
   agreed_less = omega arith;
   agreed_kept = λ _. refl;
   agreed_saw = λ q l k u. absurd (omega arith);
@@ -47,7 +55,7 @@ quiet n m x now bit = record {
 pub pass_at : (ph : Phase) (m : ℕ → Mark) (s : Local) (o : Op) (got : ℕ) → Holds s.n m → s.me < s.n → PhaseFits s.n ph → op_at ph s ≡ Some o
     → ((q : ℕ) → q < s.n → register o ≡ s.at + q → got ≡ proposal_word (m q)) → ((q : ℕ) → q < s.n → register o ≡ s.at + s.n + q → got ≡ verdict_word s.n (m q))
     → Pass s.n m (mark_at ph s) (mark_of (fed_at ph s got))
-pass_at StoreProposal m s o got h below f e a b = quiet s.n m (mark_at StoreProposal s) (inl refl) (bit_le s.input)
+pass_at StoreProposal m s o got h below f e a b = quiet s.n m (mark_at StoreProposal s) (inl refl) (digit_le s.input)
 pass_at (ReadProposal of) m s o got h below f e a b =
     let place : register o ≡ s.at + of = ap register (sym (same_Some _ _ e)) in
     let read = a of f place in
@@ -58,11 +66,11 @@ pass_at (ReadProposal of) m s o got h below f e a b =
       more = step.more;
       room = omega arith;
       value = refl;
-      value_bit = bit_le s.input;
+      value_bit = digit_le s.input;
       agreed_less = agreed_less s.input got s.agreed;
       agreed_kept = λ c. absurd (omega arith);
-      agreed_saw = λ q l k u. let same : of ≡ q = omega arith in subst (λ z. (z ≡ 0) ⊎ (z ≡ 1 + bit s.input)) (read ∙ ap (λ z. proposal_word (m z)) same) (saw u);
-      agreed_missed = λ q l k u v. let same : of ≡ q = omega arith in subst (λ z. (0 < z) × (z ≢ 1 + bit s.input)) (read ∙ ap (λ z. proposal_word (m z)) same) (missed u v);
+      agreed_saw = λ q l k u. let same : of ≡ q = omega arith in subst (λ z. (z ≡ 0) ⊎ (z ≡ 1 + digit s.input)) (read ∙ ap (λ z. proposal_word (m z)) same) (saw u);
+      agreed_missed = λ q l k u v. let same : of ≡ q = omega arith in subst (λ z. (0 < z) × (z ≢ 1 + digit s.input)) (read ∙ ap (λ z. proposal_word (m z)) same) (missed u v);
       only_less = omega arith;
       only_kept = λ _. refl;
       only_saw = λ q l k u. absurd (omega arith);
@@ -71,7 +79,7 @@ pass_at (ReadProposal of) m s o got h below f e a b =
       commit_stays = λ z. z;
       commit_new = λ q l k. absurd (omega arith);
     }
-pass_at StoreVerdict m s o got h below f e a b = subst (λ z. Pass s.n m (mark_at StoreVerdict s) record (mark_at StoreVerdict s) { taken = z }) (omega arith) (quiet s.n m (mark_at StoreVerdict s) (inr refl) (bit_le s.input))
+pass_at StoreVerdict m s o got h below f e a b = subst (λ z. Pass s.n m (mark_at StoreVerdict s) record (mark_at StoreVerdict s) { taken = z }) (omega arith) (quiet s.n m (mark_at StoreVerdict s) (inr refl) (digit_le s.input))
 pass_at (ReadVerdict of) m s o got h below f e a b =
     let place : register o ≡ s.at + s.n + of = ap register (sym (same_Some _ _ e)) in
     let read = b of f place in
@@ -83,7 +91,7 @@ pass_at (ReadVerdict of) m s o got h below f e a b =
       more = step.more;
       room = omega arith;
       value = refl;
-      value_bit = bit_le s.input;
+      value_bit = digit_le s.input;
       agreed_less = omega arith;
       agreed_kept = λ _. refl;
       agreed_saw = λ q l k u. absurd (omega arith);

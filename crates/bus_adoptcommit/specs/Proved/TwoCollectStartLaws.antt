@@ -3,10 +3,15 @@ use Rattle.std.proofs.Common.{◌≡◌, ◌≢◌, ℕ, ◌+◌, ◌*◌, ◌<�
 use Rattle.std.proofs.lemmas.Bool.{cases_eq}
 use Rattle.std.proofs.lemmas.Option.{same_Some}
 use Rattle.bus_register.specs.Tables.{Beside, Agree}
+use Rattle.bus_register.proofs.DigitLaws.{digit_le}
 use Rattle.bus_adoptcommit.specs.TwoCollect.{Local, start_of}
 use Rattle.bus_adoptcommit.specs.TwoCollectKeeps.{Belongs, Mark, mark, proposal_word, verdict_word, Split, Committed, AgreeAlike, MeetsCommit, SeesOwn, Holds, Keeps}
+<<<<<<< HEAD:crates/bus_adoptcommit/specs/Proved/TwoCollectStartLaws.antt
 use Rattle.bus_adoptcommit.specs.Proved.TwoCollectMarkLaws.{proposal_none, verdict_none, at_each_of, each_of, pairs_of}
 use Rattle.bus_adoptcommit.specs.Proved.TwoCollectWordLaws.{bit_le}
+=======
+use Rattle.bus_adoptcommit.specs.Proved.TwoCollectMarkLaws.{proposal_none, verdict_none, at_each_of, each_of, pairs_of}
+>>>>>>> e1803bb0d4c42c158edf0191b30b648f9df0c604:crates/bus_adoptcommit/specs/TwoCollectStartLaws.antt
 
 -- nobody has taken a step
 blank_holds : (n : ℕ) → Holds n (λ _. mark None)
@@ -83,7 +88,7 @@ enters_keep n at words old new p v k below none start beside =
     let M' : ℕ → Mark = λ q. mark (new q) in
     let others : (q : ℕ) → q ≢ p → M' q ≡ M q = λ q ne. ap mark (beside q ne) in
     let blank : Starting (mark None) = record { taken = refl; value = omega arith; agreed = refl; commit = refl; only = refl } in
-    let started : Starting (mark (Some (start_of n p v at))) = record { taken = refl; value = bit_le v; agreed = refl; commit = refl; only = refl } in
+    let started : Starting (mark (Some (start_of n p v at))) = record { taken = refl; value = digit_le v; agreed = refl; commit = refl; only = refl } in
     let before : Starting (M p) = subst (λ z. Starting (mark z)) (sym none) blank in
     let now : Starting (M' p) = subst (λ z. Starting (mark z)) (sym start) started in
     record {
