@@ -54,14 +54,14 @@ module _ {E : Type 0} (X : Election E) (P : Protocol E (Unit {0}) ℕ) (x : Layo
     words_are = sym shown.words ∙ f.2
 
     pub wide : length ws ≡ words_of x
-    wide = ap length (sym words_are) ∙ (kept X P x y shown.served shown.bus shown.trails shown.reached).lawful.side.words
+    wide = ap length (sym words_are) ∙ (kept X P x y shown.served shown.bus shown.trails shown.reached).lawful.words
 
     pub fits : slice_index ws 0 ≤ x.capacity
-    fits = subst (λ l. slice_index l 0 ≤ x.capacity) words_are (kept X P x y shown.served shown.bus shown.trails shown.reached).lawful.side.sending.log.fits
+    fits = subst (λ l. slice_index l 0 ≤ x.capacity) words_are (kept X P x y shown.served shown.bus shown.trails shown.reached).lawful.keeps.sending.log.fits
 
     tells_of : (stage : ℕ) → slice_index ws 1 ≡ stage → ((stage % 2 ≡ 1) → is_some shown.bus.side.home ≡ false) × ((stage % 2 ≢ 1) → is_some shown.bus.side.home ≡ true)
     tells_of stage at =
-        let h = (kept X P x y shown.served shown.bus shown.trails shown.reached).lawful.side.sending.tenures in
+        let h = (kept X P x y shown.served shown.bus shown.trails shown.reached).lawful.keeps.sending.tenures in
         let t = stage_tells h.ended (slice_index shown.bus.side.words 1) (is_some shown.bus.side.home) shown.bus.side.owners _ h.stage_is in
         subst (λ n. ((n % 2 ≡ 1) → is_some shown.bus.side.home ≡ false) × ((n % 2 ≢ 1) → is_some shown.bus.side.home ≡ true)) (ap (λ l. slice_index l 1) words_are ∙ at) t
 

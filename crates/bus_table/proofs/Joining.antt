@@ -118,7 +118,7 @@ module _ {E : Type 0} (X : Election E) (P : Protocol E (Unit {0}) ℕ) (x : Layo
       let k = kept X P x y r.served b m.trails m.reached in
       let here : slice_get b.side.senders c.me ≡ Some e = get_set_same r.bus.side.senders c.me e (slice_get_within r.bus.side.senders c.me c h.core) in
       let me : e.me ≡ c.me = (stays c e deeds more).me in
-      let layout : e.layout ≡ x = (k.lawful.side.sending.parts c.me e here).layout in
+      let layout : e.layout ≡ x = (k.lawful.keeps.sending.parts c.me e here).layout in
       let did : m.trails.deeds c.me ≡ trail ++ deeds = m.longer.own ∙ ap (λ l. l ++ deeds) h.deeds in
       let order = order_of k.frames in
       record {
@@ -126,7 +126,7 @@ module _ {E : Type 0} (X : Election E) (P : Protocol E (Unit {0}) ℕ) (x : Layo
         owners = map tenure_and_owner k.frames;
         spelled = record {
           frames = k.frames;
-          lawful = subst (λ (z : Layout). AreFrames z.senders k.frames) (sym layout) k.lawful.side.sending.log.lawful;
+          lawful = subst (λ (z : Layout). AreFrames z.senders k.frames) (sym layout) k.lawful.keeps.sending.log.lawful;
           words_are = sym (log_is X P x y r.served b m.trails k);
           order_is = refl;
           owners_are = refl;

@@ -62,7 +62,7 @@ module _ {E : Type 0} (X : Election E) (P : Protocol E (Unit {0}) ℕ) (x : Layo
   pub fits : (s : State (Option Page) (View (Core E))) (r : IsShown X x s) (c : Core E) → c.layout ≡ x → length (log_in_bus x r.bus) ≤ c.layout.capacity
   fits s r c layout =
       let k = kept X P x y r.served r.bus r.trails r.reached in
-      let most = k.lawful.side.sending.log.fits in
+      let most = k.lawful.keeps.sending.log.fits in
       let l = length-read (slice_index r.bus.side.words) (log_at x) (slice_index r.bus.side.words 0) in
       let capacity = ap (λ (z : Layout). z.capacity) layout in
       omega arith

@@ -59,7 +59,7 @@ module _ {E : Type 0} (X : Election E) (P : Protocol E (Unit {0}) ℕ) (x : Layo
 
   -- the words of its log
   pub log_is : (b : Bus E) (T : Trails) (k : Kept b T) → log_in_bus x b ≡ log_words k.frames
-  log_is b T k = k.lawful.side.sending.log.words_are
+  log_is b T k = k.lawful.keeps.sending.log.words_are
 
   pub log_size : (b : Bus E) → length (log_in_bus x b) ≡ slice_index b.side.words 0
   log_size b = length-read (slice_index b.side.words) (log_at x) (slice_index b.side.words 0)
@@ -120,7 +120,7 @@ module _ {E : Type 0} (X : Election E) (P : Protocol E (Unit {0}) ℕ) (x : Layo
     pub trails : Trails
     pub reached : Reached X x bus trails
     pub words : bus.side.words ≡ slice_set b.side.words (register o) (after o (slice_index b.side.words (register o)))
-    pub home : bus.side.home ≡ home_after d (situation_of X d) b.side.home
+    pub home : bus.side.home ≡ home_after X d (situation_of X d) b.side.home
     pub senders : bus.side.senders ≡ slice_set b.side.senders p (core_after X d (situation_of X d) b.side.home (slice_index b.side.words (register o)) word)
     pub receivers : bus.receivers ≡ b.receivers
     pub longer : Longer p (deeds_at X d (slice_index b.side.words (register o)) word) T.deeds trails.deeds
@@ -131,7 +131,7 @@ module _ {E : Type 0} (X : Election E) (P : Protocol E (Unit {0}) ℕ) (x : Layo
     z = situation_of X d
 
     abbrev got : ℕ
-    got = found b.side.words (op_at X d z word)
+    got = found (slice_index b.side.words) (op_at X d z word)
 
     abbrev bus' : Bus E
     bus' = record { side = turned X b.side p d z word; receivers = b.receivers }
@@ -146,13 +146,13 @@ module _ {E : Type 0} (X : Election E) (P : Protocol E (Unit {0}) ℕ) (x : Layo
     answers = subst (λ c. TurnAnswers X b.side.words c word told) (sym old) refl
 
     deeds_are : turning_deeds X b.side.words (slice_get b.side.senders p) word told ≡ deeds_at X d (slice_index b.side.words (register o)) word
-    deeds_are = ap (λ c. turning_deeds X b.side.words c word told) old ∙ ap (λ w. deeds_at X d (found b.side.words w) word) due
+    deeds_are = ap (λ c. turning_deeds X b.side.words c word told) old ∙ ap (λ w. deeds_at X d (found (slice_index b.side.words) w) word) due
 
     front : IsPrefix (log_in_bus x b) (log_in_bus x bus')
     front =
         let k = kept b T r in
         let after = event_left X P s.laws x ok s.width s.starts s.owner_is b k.frames k.lawful bus' (Turn p word) tt turns in
-        let now : log_in_bus x bus' ≡ log_words after.left.frames_now = after.left.lawful.side.sending.log.words_are in
+        let now : log_in_bus x bus' ≡ log_words after.left.frames_now = after.left.lawful.keeps.sending.log.words_are in
         record {
           rest = log_words after.left.continues.more;
           together = ap (λ l. l ++ log_words after.left.continues.more) (log_is b T k) ∙ sym (flat_map-append frame_words k.frames after.left.continues.more) ∙ ap log_words after.left.continues.together ∙ sym now;
@@ -165,7 +165,7 @@ module _ {E : Type 0} (X : Election E) (P : Protocol E (Unit {0}) ℕ) (x : Layo
       reached = Then b bus' T (Turn p word) told r tt turns answers;
       words = ap (stepped b.side.words) due;
       home = refl;
-      senders = ap (λ w. slice_set b.side.senders p (core_after X d z b.side.home (found b.side.words w) word)) due;
+      senders = ap (λ w. slice_set b.side.senders p (core_after X d z b.side.home (found (slice_index b.side.words) w) word)) due;
       receivers = refl;
       longer = subst (λ ds. Longer p ds T.deeds (extended X b (Turn p word) told T).deeds) deeds_are (longer_by p (turning_deeds X b.side.words (slice_get b.side.senders p) word told) T.deeds);
       front = front;
@@ -190,7 +190,7 @@ module _ {E : Type 0} (X : Election E) (P : Protocol E (Unit {0}) ℕ) (x : Layo
     sums_at IsSpent i u w = absurd (let bad : None ≡ Some u = w in let wrong : ⊥ = cc in wrong)
     sums_at LooksAtStage i u w = subst (λ y. SumFits y (W (register y))) (same_Some _ _ w) tt
     sums_at (Elects t e) i u w =
-        let h = k.lawful.side.sending in
+        let h = k.lawful.keeps.sending in
         let has = h.tenures.electing p t e (stands t e (tells X d (Elects t e) i)) in
         s.laws.fits x.senders (2 + t * P.width x.senders) W (h.tenures.elections t) p e word u (h.tenures.kept t has.0) has.2 w
     sums_at (TakesPage t) i u w = stored_fits u 1 (2 * t + 1) (same_Some _ _ w)
@@ -216,7 +216,7 @@ module _ {E : Type 0} (X : Election E) (P : Protocol E (Unit {0}) ℕ) (x : Layo
         by_home : (home : Option Page) → b.side.home ≡ home → (e : E) → d.phase ≡ phase.Electing t e → (own : ℕ) → X.owner e ≡ Some own → (page : Page) × (home ≡ Some page)
         by_home (Some page) j e elects own is = (page, refl)
         by_home None j e elects own is = absurd (
-            let h = k.lawful.side.sending in
+            let h = k.lawful.keeps.sending in
             let out : P.output e ≡ Some own = sym (s.owner_is e) ∙ is in
             let mine : own ≡ p = h.chosen p d t e own old elects out in
             let f = tenures.finds_home X.op X.fed P s.laws x.senders x.rows 2 W (W 1) (is_some b.side.home) (λ q. of_some standing_of (slice_get b.side.senders q)) (λ q. least_of (slice_get b.side.senders q)) b.side.owners h.tenures p t e (stands t e elects) (out ∙ ap Some mine) in

@@ -97,10 +97,10 @@ module _ {E : Type 0} (X : Election E) (P : Protocol E (Unit {0}) ℕ) (x : Layo
   -- the numbers of a sender's messages stay far below their range
   counted : (ok : IsLayout x) (b : Bus E) (T : Trails) → Kept X P x y ok b T → (p : ℕ) (c : Core E) → slice_get b.side.senders p ≡ Some c → IsCounted c
   counted ok b T k p c old =
-      let part = k.lawful.side.sending.parts p c old in
+      let part = k.lawful.keeps.sending.parts p c old in
       let size : length (log_words k.frames) ≡ slice_index b.side.words 0 = ap length (sym (log_is X P x y ok b T k)) ∙ log_size X P x y ok b in
       let first = first_below (slice_index b.side.words) k.frames c c.phase part.fits in
-      let fits = k.lawful.side.sending.log.fits in
+      let fits = k.lawful.keeps.sending.log.fits in
       let capacity = ap (λ (z : Layout). z.capacity) part.layout in
       let most = ok.capacity in
       record { first = omega arith; few = part.queue.few; capacity = omega arith }
@@ -173,8 +173,8 @@ module _ {E : Type 0} (X : Election E) (P : Protocol E (Unit {0}) ℕ) (x : Layo
     within_bus : register o < length b.side.words
     within_bus =
         let k = kept X P x y r.served b grown.trails grown.reached in
-        let wide = k.lawful.side.words in let below = due.below in
-        let layout = ap words_of (k.lawful.side.sending.parts p d old).layout in
+        let wide = k.lawful.words in let below = due.below in
+        let layout = ap words_of (k.lawful.keeps.sending.parts p d old).layout in
         omega arith
 
     words_now : slice_set s.words (register o) (f n) ≡ done.bus.side.words
@@ -189,7 +189,7 @@ module _ {E : Type 0} (X : Election E) (P : Protocol E (Unit {0}) ℕ) (x : Layo
     after_step = kept X P x y r.served done.bus done.trails done.reached
 
     me_now : d_now.me ≡ p
-    me_now = (after_step.lawful.side.sending.parts p d_now placed).me
+    me_now = (after_step.lawful.keeps.sending.parts p d_now placed).me
 
     longer : slice_index r.bus.side.words 0 ≤ slice_index done.bus.side.words 0
     longer =
