@@ -9,7 +9,7 @@ use Rattle.std.proofs.lemmas.List.{get_or-replicate, length-map, length-replicat
 use Rattle.std.proofs.lemmas.List.Sums.{count_by_more_yes, count_by_more_no}
 use Rattle.std.proofs.lemmas.Option.{same_Some, slice_get_past, slice_get_within, slice_get-map}
 use Rattle.bus_register.specs.declared.registers.Op.{Op}
-use Rattle.bus_register.specs.Protocol.{Protocol, Laws, counted, inputs, outputs}
+use Rattle.bus_register.specs.Protocol.{Protocol, Laws, counted_input, inputs, outputs}
 use Rattle.bus_register.specs.Tables.{of_some}
 use Rattle.bus_register.specs.Proved.TableLaws.{some_or_none, here_not}
 use Rattle.bus_adoptcommit.specs.declared.verdicts.Verdict.{Verdict}
@@ -124,9 +124,9 @@ module _ {S : Type 0} (op : S → ℕ → Option Op) (fed : S → ℕ → ℕ �
   -- the inputs that count are those of the processes with entries
   entered_is : (n : ℕ) (given : List Bool) (sch : List ℕ) (processes : List S) → length processes ≡ length given → AllFollow op fed P n given sch processes → entered given sch ≡ inputs P (slice_get processes)
   entered_is n given sch processes size f = fun_ext (λ p. elim (some_or_none (slice_get processes p)) [
-    | inl e ↦ entered-none given sch p (slice_get_past given p (elim (cases_lt p (length processes)) [ inl l ↦ absurd (here_not processes p l e) | inr g ↦ omega arith ])) ∙ sym (ap (of_some (counted P)) e)
+    | inl e ↦ entered-none given sch p (slice_get_past given p (elim (cases_lt p (length processes)) [ inl l ↦ absurd (here_not processes p l e) | inr g ↦ omega arith ])) ∙ sym (ap (of_some (counted_input P)) e)
     | inr s ↦ let a = f p s.0 s.1 in
-        ap (λ z. cond (nat_lt 0 (entries sch p)) z None) (a.1 ∙ ap Some (sym a.2.input)) ∙ ap (λ z. cond z (Some (P.input s.0)) None) (sym a.2.begun) ∙ sym (ap (of_some (counted P)) s.1)
+        ap (λ z. cond (nat_lt 0 (entries sch p)) z None) (a.1 ∙ ap Some (sym a.2.input)) ∙ ap (λ z. cond z (Some (P.input s.0)) None) (sym a.2.begun) ∙ sym (ap (of_some (counted_input P)) s.1)
   ])
 
   -- what stands now is legal

@@ -7,7 +7,7 @@ use Rattle.bus_register.specs.Tables.{of_some}
 use Rattle.bus_adoptcommit.specs.declared.verdicts.Verdict.{Verdict}
 use Rattle.bus_adoptcommit.specs.declared.verdicts.Verdict.TheVariants.{Commit, Adopt}
 use Rattle.bus_adoptcommit.specs.Agreement.{value_of, IsValid, IsConvergent, IsCoherent, WeaklyLegal, Legal}
-use Rattle.bus_adoptcommit.specs.Checks.{HasInput, CommitsTo, ConvergesOn, Agrees}
+use Rattle.bus_adoptcommit.specs.Checks.{HasInput, CommitsTo, ConvergesOn, AgreesWith}
 use Rattle.bus_adoptcommit.specs.Schedule.{table_of}
 
 -- ── what a list has at a place ──
@@ -68,11 +68,11 @@ module _ (inputs : List (Option Bool)) (outputs : List (Option Verdict)) where
   converges_on c v alone = All-from (CommitsTo v) outputs (commits_at c v alone)
 
   -- coherence
-  coherent_is : All (λ first. All (Agrees first) outputs) outputs → IsCoherent (table_of outputs)
+  coherent_is : All (λ first. All (AgreesWith first) outputs) outputs → IsCoherent (table_of outputs)
   coherent_is h p q v d e f =
-      All-at (Agrees (Some (Commit v))) outputs q (Some d) (All-at (λ first. All (Agrees first) outputs) outputs p (Some (Commit v)) h (table_is outputs p (Commit v) e)) (table_is outputs q d f)
+      All-at (AgreesWith (Some (Commit v))) outputs q (Some d) (All-at (λ first. All (AgreesWith first) outputs) outputs p (Some (Commit v)) h (table_is outputs p (Commit v) e)) (table_is outputs q d f)
 
-  agrees_at : IsCoherent (table_of outputs) → (p q : ℕ) (a b : Option Verdict) → slice_get outputs p ≡ Some a → slice_get outputs q ≡ Some b → Agrees a b
+  agrees_at : IsCoherent (table_of outputs) → (p q : ℕ) (a b : Option Verdict) → slice_get outputs p ≡ Some a → slice_get outputs q ≡ Some b → AgreesWith a b
   agrees_at c p q None b e f = tt
   agrees_at c p q (Some (Adopt v)) b e f = tt
   agrees_at c p q (Some (Commit v)) None e f = tt
@@ -81,8 +81,8 @@ module _ (inputs : List (Option Bool)) (outputs : List (Option Verdict)) where
   all_valid : IsValid (table_of inputs) (table_of outputs) → All (HasInput inputs) outputs
   all_valid v = All-from (HasInput inputs) outputs (has_input_at v)
 
-  all_agree : IsCoherent (table_of outputs) → All (λ first. All (Agrees first) outputs) outputs
-  all_agree c = All-from _ outputs (λ p a e. All-from (Agrees a) outputs (λ q b f. agrees_at c p q a b e f))
+  all_agree : IsCoherent (table_of outputs) → All (λ first. All (AgreesWith first) outputs) outputs
+  all_agree c = All-from _ outputs (λ p a e. All-from (AgreesWith a) outputs (λ q b f. agrees_at c p q a b e f))
 
   -- ── the whole ──
   pub weakly_legal_is : (All (HasInput inputs) outputs × (ConvergesOn inputs outputs false × ConvergesOn inputs outputs true)) ↔ WeaklyLegal (table_of inputs) (table_of outputs)
@@ -91,7 +91,7 @@ module _ (inputs : List (Option Bool)) (outputs : List (Option Verdict)) where
     λ l. (all_valid l.valid, (converges_on l.convergent false, converges_on l.convergent true)),
   )
 
-  pub legal_is : (WeaklyLegal (table_of inputs) (table_of outputs) × All (λ first. All (Agrees first) outputs) outputs) ↔ Legal (table_of inputs) (table_of outputs)
+  pub legal_is : (WeaklyLegal (table_of inputs) (table_of outputs) × All (λ first. All (AgreesWith first) outputs) outputs) ↔ Legal (table_of inputs) (table_of outputs)
   legal_is = (
     λ h. record { valid = h.0.valid; convergent = h.0.convergent; coherent = coherent_is h.1 },
     λ l. (record { valid = l.valid; convergent = l.convergent }, all_agree l.coherent),

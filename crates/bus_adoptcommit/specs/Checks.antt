@@ -17,7 +17,7 @@ abbrev pub ConvergesOn : List (Option Bool) → List (Option Verdict) → Bool �
 ConvergesOn inputs outputs v = ¬ Contains inputs (Some (not v)) → All (CommitsTo v) outputs
 
 -- the second has the value that the first commits, if there are both
-abbrev pub Agrees : Option Verdict → Option Verdict → Type 0
-Agrees None second = ⊤
-Agrees (Some (Adopt v)) second = ⊤
-Agrees (Some (Commit v)) second = IfSome second (λ d. value_of d ≡ v)
+abbrev pub AgreesWith : Option Verdict → Option Verdict → Type 0
+AgreesWith None second = ⊤
+AgreesWith (Some (Adopt v)) second = ⊤
+AgreesWith (Some (Commit v)) second = IfSome second (λ d. value_of d ≡ v)

@@ -2,7 +2,7 @@
 
 ghost use Rattle.std.specs.Prelude.{◌≡◌, ◌↔◌, true, false, IsTrue, All};
 ghost use Rattle.bus_adoptcommit.specs.Agreement.{WeaklyLegal, Legal};
-ghost use Rattle.bus_adoptcommit.specs.Checks.{HasInput, CommitsTo, ConvergesOn, Agrees};
+ghost use Rattle.bus_adoptcommit.specs.Checks.{HasInput, CommitsTo, ConvergesOn, AgreesWith};
 ghost use Rattle.bus_adoptcommit.specs.Schedule.{table_of};
 
 use super::verdicts::Verdict;
@@ -51,7 +51,7 @@ fn is_convergent(inputs: &[Option<bool>], outputs: &[Option<Verdict>]) -> bool
 
 /// If the first is a commit, the second has its value.
 fn agrees(first: Option<Verdict>, second: Option<Verdict>) -> bool
-    ensures { IsTrue result ↔ Agrees first second }
+    ensures { IsTrue result ↔ AgreesWith first second }
 {
     match (first, second) {
         (Some(Verdict::Commit(value)), Some(verdict)) => verdict.value() == value,
@@ -61,7 +61,7 @@ fn agrees(first: Option<Verdict>, second: Option<Verdict>) -> bool
 
 /// Every output has the value of each commit.
 fn is_coherent(outputs: &[Option<Verdict>]) -> bool
-    ensures { IsTrue result ↔ All (λ first. All (Agrees first) outputs.now) outputs.now }
+    ensures { IsTrue result ↔ All (λ first. All (AgreesWith first) outputs.now) outputs.now }
 {
     outputs.iter().all(|first| outputs.iter().all(|second| agrees(*first, *second)))
 }

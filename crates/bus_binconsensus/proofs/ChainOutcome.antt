@@ -5,7 +5,7 @@ use Rattle.std.proofs.lemmas.Option.{cond_some, same_Some}
 use Rattle.bus_register.specs.declared.registers.Op.{Op}
 use Rattle.bus_register.specs.Tables.{of_some}
 use Rattle.bus_register.specs.Proved.TableLaws.{some_of}
-use Rattle.bus_register.specs.Protocol.{Protocol, Laws, counted, inputs, outputs}
+use Rattle.bus_register.specs.Protocol.{Protocol, Laws, counted_input, inputs, outputs}
 use Rattle.bus_adoptcommit.specs.declared.verdicts.Verdict.{Verdict}
 use Rattle.bus_adoptcommit.specs.declared.verdicts.Verdict.TheVariants.{Commit, Adopt}
 use Rattle.bus_adoptcommit.specs.Agreement.{value_of}
@@ -14,10 +14,10 @@ use Rattle.bus_binconsensus.specs.Chain.{Objects, HandsOn, Link, span, value_tol
 use Rattle.bus_binconsensus.proofs.ChainSteps.{span_within, begun_in, begun_past}
 
 -- an input that counts is that of a local state that has begun
-pub counted_is : {S I O : Type 0} (P : Protocol S I O) (s : S) (v : I) → counted P s ≡ Some v → (P.has_begun s ≡ true) × (P.input s ≡ v)
+pub counted_is : {S I O : Type 0} (P : Protocol S I O) (s : S) (v : I) → counted_input P s ≡ Some v → (P.has_begun s ≡ true) × (P.input s ≡ v)
 counted_is P s v e = cond_some (P.has_begun s) (P.input s) v e
 
-pub is_counted : {S I O : Type 0} (P : Protocol S I O) (s : S) (v : I) → P.has_begun s ≡ true → P.input s ≡ v → counted P s ≡ Some v
+pub is_counted : {S I O : Type 0} (P : Protocol S I O) (s : S) (v : I) → P.has_begun s ≡ true → P.input s ≡ v → counted_input P s ≡ Some v
 is_counted P s v b e = ap (λ z. cond z (Some (P.input s)) None) b ∙ ap Some e
 
 told_is : (x : Option Verdict) (v : Bool) → value_told x ≡ Some v → (d : Verdict) × (x ≡ Some d) × (value_of d ≡ v)
@@ -60,13 +60,13 @@ module _ {X : Type 0} (op : X → ℕ → Option Op) (fed : X → ℕ → ℕ �
 
   source : (i q : ℕ) (v : Bool) → i ≤ top → inputs (objects i) (k.visits i) q ≡ Some v → ((i ≡ top) × (inputs (chain_protocol objects top) locals q ≡ Some v)) ⊎ ((i < top) × Came (i + 1) q v)
   source i q v h e =
-      let a = some_of (counted (objects i)) (k.visits i q) v e in
+      let a = some_of (counted_input (objects i)) (k.visits i q) v e in
       let c = counted_is (objects i) a.0 v a.2 in
       let b = present i q a.0 a.1 in
       elim (cases_eq i top) [
         | inl i' ↦ inl (
           i',
-          ap (of_some (counted (chain_protocol objects top))) b.here ∙ is_counted (chain_protocol objects top) b.local v
+          ap (of_some (counted_input (chain_protocol objects top))) b.here ∙ is_counted (chain_protocol objects top) b.local v
               (elim (cases_eq b.local.after top) [
                 | inl j ↦
                     let x : a.0 ≡ b.local.object = same_Some _ _ (sym a.1 ∙ ap (λ z. k.visits z q) (i' ∙ sym j) ∙ b.walk.here) in

@@ -2,7 +2,7 @@ pub mod ChainLaws
 pub mod ChainMoves
 pub mod ChainOutcome
 pub mod ChainSteps
-pub mod DecideLaws
+pub mod DecideIsLawful
 pub mod FallbackLaws
 pub mod LiftLaws
 pub mod ObjectLaws

@@ -6,7 +6,7 @@ use Rattle.bus_register.specs.declared.registers.Op.{Op}
 use Rattle.bus_register.specs.Words.{register}
 use Rattle.bus_register.specs.Tables.{of_some, Beside, Stepped, put}
 use Rattle.bus_register.specs.Proved.TableLaws.{put_here, put_beside}
-use Rattle.bus_register.specs.Protocol.{Protocol, Laws, Goes, IsStore, counted, inputs, outputs}
+use Rattle.bus_register.specs.Protocol.{Protocol, Laws, Goes, IsStore, counted_input, inputs, outputs}
 use Rattle.bus_adoptcommit.specs.declared.verdicts.Verdict.{Verdict}
 use Rattle.bus_binconsensus.specs.Chain.{HandsOn}
 use Rattle.bus_binconsensus.specs.Lift.{Reads, lifted, LiftBelongs, LiftKeeps, lift}
@@ -89,7 +89,7 @@ module _ {S X M : Type 0} (op : S → ℕ → Option Op) (fed : S → ℕ → �
       }
 
   -- what is counted and told inside
-  inputs_inside : (o : Option S) → of_some (counted (lift reads into P)) (lifted into o) ≡ of_some (counted P) o
+  inputs_inside : (o : Option S) → of_some (counted_input (lift reads into P)) (lifted into o) ≡ of_some (counted_input P) o
   inputs_inside None = refl
   inputs_inside (Some s) = rw (e.begun_is s, e.input_is s)
 
@@ -123,6 +123,6 @@ module _ {S X M : Type 0} (op : S → ℕ → Option Op) (fed : S → ℕ → �
         (b.0, record { inner = a.0; is = a.2; belongs = b.1 });
     outcome = λ n at words locals k.
         tells (inputs P k.inner) (inputs (lift reads into P) locals) (outputs P k.inner) (outputs (lift reads into P) locals) (laws.outcome n at words k.inner k.keeps)
-        (λ p. ap (of_some (counted (lift reads into P))) (k.is p) ∙ inputs_inside (k.inner p))
+        (λ p. ap (of_some (counted_input (lift reads into P))) (k.is p) ∙ inputs_inside (k.inner p))
         (λ p. ap (of_some reads.output) (k.is p) ∙ outputs_inside (k.inner p));
   }

@@ -7,7 +7,7 @@ use Rattle.bus_register.specs.declared.registers.Op.TheVariants.{Load, Store}
 use Rattle.bus_register.specs.Words.{register, after}
 use Rattle.bus_register.specs.Tables.{of_some, Beside, Stepped}
 use Rattle.bus_register.specs.Proved.TableLaws.{some_of}
-use Rattle.bus_register.specs.Protocol.{Laws, Goes, counted, inputs, outputs}
+use Rattle.bus_register.specs.Protocol.{Laws, Goes, counted_input, inputs, outputs}
 use Rattle.bus_binconsensus.specs.Deciding.{Decides}
 use Rattle.bus_binconsensus.proofs.ChainMoves.{put_at, put_at_here, put_at_object, put_at_process}
 use Rattle.bus_binconsensus.proofs.ChainOutcome.{counted_is}
@@ -173,7 +173,7 @@ module _ {S : Type 0} (op : S → ℕ → Option Op) (fed : S → ℕ → ℕ �
     pub fitted : (p k number : ℕ) (bit : Bool) (d : S) → k < bits_of n → Spelled (D rounds) visits (bits_of n) p (suc k) number → visits k p ≡ Some d → (D rounds).output d ≡ Some bit → (c : ℕ) × Fitting n at words k (2 * number + digit bit) c
     fitted p k number bit d h s e f =
         let a = (decides k h).chosen p bit (ap (of_some (D rounds).output) e ∙ f) in
-        let b = some_of (counted (D rounds)) (visits k a.0) bit a.1 in
+        let b = some_of (counted_input (D rounds)) (visits k a.0) bit a.1 in
         let c = counted_is (D rounds) b.0 bit b.2 in
         let w = board.proposed k a.0 b.0 b.1 in
         let same : w.number ≡ number = one_number a.0 p (suc k) w.number number (omega arith) w.spelled s in

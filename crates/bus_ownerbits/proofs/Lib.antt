@@ -1,7 +1,7 @@
 pub mod Owners
 pub mod ElectionCases
 pub mod ElectionGrows
-pub mod ElectionLaws
+pub mod ElectionIsLawful
 pub mod ElectionMoves
 pub mod ElectionSteps
 pub mod NumberLaws

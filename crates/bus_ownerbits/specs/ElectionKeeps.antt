@@ -9,11 +9,6 @@ use Rattle.bus_ownerbits.specs.declared.stages.Stage.TheVariants.{Announce, Prop
 use Rattle.bus_ownerbits.specs.Sizes.{bits_of, bit_at, each_bit, turns_of}
 use Rattle.bus_ownerbits.specs.Election.{Decisions, Electing, fits_bits, owner_of}
 
--- all owners are equal, and the owner is a process that has announced itself
-pub record OneOwner (announced : ℕ → Option (Unit {0})) (owners : ℕ → Option ℕ) : Type 0 where
-  pub equal : (p q v w : ℕ) → owners p ≡ Some v → owners q ≡ Some w → v ≡ w
-  pub announcer : (p v : ℕ) → owners p ≡ Some v → announced v ≡ Some tt
-
 -- the steps that are left, at most
 abbrev pub work_at : {S : Type 0} → Decisions S → (ℕ → ℕ → ℕ) → Stage S → Electing S → ℕ
 work_at D cost Announce s = 1 + s.left * each_bit cost s.rounds s.n

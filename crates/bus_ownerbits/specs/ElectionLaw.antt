@@ -5,7 +5,8 @@ use Rattle.bus_register.specs.Protocol.{Laws, outputs}
 use Rattle.bus_ownerbits.specs.declared.stages.Stage.TheVariants.{Search}
 use Rattle.bus_ownerbits.specs.Election.{Decisions, Electing, fits_bits, election_op, election_fed, owner_of}
 use Rattle.bus_ownerbits.specs.Sizes.{bits_of, turns_of}
-use Rattle.bus_ownerbits.specs.ElectionKeeps.{OneOwner, Fitting, election_protocol}
+use Rattle.bus_ownerbits.specs.OneOwner.{OneOwner}
+use Rattle.bus_ownerbits.specs.ElectionKeeps.{Fitting, election_protocol}
 
 pub record ElectionLaw {S : Type 0} (op : S → ℕ → Option Op) (fed : S → ℕ → ℕ → S) (D : Decisions S) (cost : ℕ → ℕ → ℕ) : Type 0 where
   -- all owners are equal, and the owner has announced itself

@@ -3,6 +3,7 @@ pub mod Election
 pub mod ElectionSized
 pub mod ElectionNames
 pub mod ElectionAsks
+pub mod OneOwner
 pub mod ElectionKeeps
 pub mod Electors
 pub mod ElectionLaw

@@ -15,20 +15,20 @@ use Rattle.bus_batch.specs.Frames.{Frame}
 use Rattle.bus_batch.specs.declared.batches.Phase.{Phase as BatchPhase}
 use Rattle.bus_batch.specs.declared.batches.Phase.TheVariants.{Open, Closing, Closed}
 use Rattle.bus_tenure.specs.Core.{Core, Election, is_closed, is_closing, is_empty, has_room, frame_len}
-use Rattle.bus_tenure.specs.Situations.{queue_after, waits, IsClosed, IsIdle, IsSpent, LooksAtStage, Elects, TakesPage, StoresWord, StoresLength, GivesBack, situation_at, situation_of, op_at, answer_at, answer_of_leaving, answer_of_election, elected}
+use Rattle.bus_tenure.specs.Situations.{queue_after, waits, IsClosed, IsIdle, IsSpent, LooksAtStage, Elects, TakesPage, StoresWord, StoresLength, GivesBack, situation_at, situation_of, op_at, answer_at, answer_of_return, answer_of_election, core_elected}
 use Rattle.bus_tenure.specs.declared.pages.Page.{Page}
-use Rattle.bus_tenure.specs.declared.phases.Leaving.{Leaving}
-use Rattle.bus_tenure.specs.declared.phases.Leaving.TheVariants.{Sent, FoundEnd, NoRoom}
+use Rattle.bus_tenure.specs.declared.phases.Reason.{Reason}
+use Rattle.bus_tenure.specs.declared.phases.Reason.TheVariants.{Sent, FoundEnd, NoRoom}
 use Rattle.bus_tenure.specs.declared.phases.Phase.{Phase}
 use Rattle.bus_tenure.specs.declared.phases.Phase.TheVariants as phase
 use Rattle.bus_tenure.specs.Seen.{tenure_of}
 use Rattle.bus_tenure.specs.declared.turns.Turn.{Turn as Turned}
 use Rattle.bus_tenure.specs.declared.turns.Turn.TheVariants as turn
 use Rattle.bus_world.specs.Bus.{Fits}
-use Rattle.bus_world.specs.Trails.{IsSitting}
-use Rattle.bus_world.specs.Playing.{Sitting, PutRefused, CloseRefused}
+use Rattle.bus_world.specs.Trails.{IsServedBus}
+use Rattle.bus_world.specs.Playing.{SizedBus, PutRefused, CloseRefused}
 use Rattle.bus_world.specs.declared.events.StepFault.{StepFault}
-use Rattle.bus_world.specs.Turning.{Side, found, turned, core_after, laid}
+use Rattle.bus_world.specs.Turning.{Side, number_found, side_after, core_after, core_with_page}
 use Rattle.bus_world.specs.World.{Bus, Put, Close, Turn, Happens, SenderDoes, with_sender, put_in, close_in, is_open, can_put, can_close}
 use Rattle.bus_pageslot.specs.Seats.{Seat, queue_by, may_begin}
 use Rattle.bus_pageslot.specs.InStep.{Owes, IsInStep, TakesMessage, TakesMessages, TakesClose, TakesTold, Answers}
@@ -41,7 +41,7 @@ Whole phase.Resting q = q.busy ≡ false
 Whole (phase.Electing t e) q = q.busy ≡ true
 Whole (phase.Taken t) q = ⊥
 Whole (phase.Holding t page stored published) q = q.busy ≡ true
-Whole (phase.Giving t leaving) q = ⊥
+Whole (phase.Giving t reason) q = ⊥
 
 fits_whole : {E : Type 0} (words : ℕ → ℕ) (frames : List Frame) (c : Core E) (ph : Phase E) → Fits words frames c ph → Whole ph c.queue
 fits_whole words frames c phase.Resting f = f.0
@@ -49,9 +49,9 @@ fits_whole words frames c (phase.Electing t e) f = f.0.busy
 fits_whole words frames c (phase.Taken t) f = f
 fits_whole words frames c (phase.Holding t page stored false) f = f.0.busy
 fits_whole words frames c (phase.Holding t page stored true) f = f.0.busy
-fits_whole words frames c (phase.Giving t leaving) f = f
+fits_whole words frames c (phase.Giving t reason) f = f
 
-pub whole_of : {E : Type 0} {X : Election E} (P : Protocol E (Unit {0}) ℕ) (z : Sitting E) → IsSitting X P z → (p : ℕ) (c : Core E) → slice_get z.bus.side.senders p ≡ Some c → Whole c.phase c.queue × (c.queue.phase ≡ Closing → c.queue.messages ≡ [])
+pub whole_of : {E : Type 0} {X : Election E} (P : Protocol E (Unit {0}) ℕ) (z : SizedBus E) → IsServedBus X P z → (p : ℕ) (c : Core E) → slice_get z.bus.side.senders p ≡ Some c → Whole c.phase c.queue × (c.queue.phase ≡ Closing → c.queue.messages ≡ [])
 whole_of P z h p c e = let part = h.lawful.keeps.sending.parts p c e in (fits_whole _ h.frames c c.phase part.fits, part.queue.alone)
 
 -- ---- batches
@@ -95,7 +95,7 @@ closing_is Open e = absurd (let no : false ≡ true = e in cc)
 closing_is Closing e = refl
 closing_is Closed e = absurd (let no : false ≡ true = e in cc)
 
-leaves : (q : Pending) (t : ℕ) (leaving : Leaving) → q.busy ≡ true → (q.phase ≡ Closing → q.messages ≡ []) → queue_after leaving q ≡ queue_by (answer_of_leaving q t leaving) q
+leaves : (q : Pending) (t : ℕ) (reason : Reason) → q.busy ≡ true → (q.phase ≡ Closing → q.messages ≡ []) → queue_after reason q ≡ queue_by (answer_of_return q t reason) q
 leaves q t Sent busy alone = go (is_closing q.phase) refl
   where
     go : (b : Bool) → is_closing q.phase ≡ b → queue_after Sent q ≡ queue_by (cond b turn.Closed (turn.Delivered t q.first (next_of q - 1))) q
@@ -119,11 +119,11 @@ module _ {E : Type 0} (X : Election E) (c : Core E) (home : Option Page) (got wo
   rests false false true e f idle = refl
   rests false false false e f idle = looks (waits c got) (nat_le c.layout.rows (got / 2)) idle (begins c.queue.phase c.queue refl e f)
 
-  is_laid : (t : ℕ) (h : Option Page) → (laid c t h).queue ≡ c.queue
+  is_laid : (t : ℕ) (h : Option Page) → (core_with_page c t h).queue ≡ c.queue
   is_laid t None = refl
   is_laid t (Some page) = refl
 
-  chooses : (t : ℕ) (e : E) (o : Option ℕ) → c.queue.busy ≡ true → (elected c t e o).queue ≡ queue_by (answer_of_election c t o) c.queue
+  chooses : (t : ℕ) (e : E) (o : Option ℕ) → c.queue.busy ≡ true → (core_elected c t e o).queue ≡ queue_by (answer_of_election c t o) c.queue
   chooses t e None busy = still_busy c.queue busy
   chooses t e (Some o) busy = go (o == c.me)
     where
@@ -149,7 +149,7 @@ module _ {E : Type 0} (X : Election E) (c : Core E) (home : Option Page) (got wo
   follows_at (phase.Electing t e) w = elects t e (is_some (X.owner e)) w
   follows_at (phase.Taken t) w = absurd w
   follows_at (phase.Holding t page stored published) w = holds t page stored published page.ended (has_room c page) (nat_lt stored (frame_len c)) w
-  follows_at (phase.Giving t leaving) w = absurd w
+  follows_at (phase.Giving t reason) w = absurd w
 
   -- the bus's own batch of the sender follows the answer just as the sender's does
   pub follows : Whole c.phase c.queue → (core_after X c (situation_of X c) home got word).queue ≡ queue_by (answer_at X c (situation_of X c) got word) c.queue
@@ -206,9 +206,9 @@ module _ {E : Type 0} (X : Election E) (p : ℕ) (old new : Bus E) (c : Core E) 
       let q : CloseRefused (Some c) why = subst (λ o. CloseRefused o why) here h in
       absurd (let no : true ≡ false = sym can ∙ no_close_fault c.queue q.0 q.1 in cc)
 
-  pub turn_taken : (word : ℕ) → Happens X old (Turn p word) new → slice_get new.side.senders p ≡ Some (core_after X c (situation_of X c) old.side.home (found (slice_index old.side.words) (op_at X c (situation_of X c) word)) word)
+  pub turn_taken : (word : ℕ) → Happens X old (Turn p word) new → slice_get new.side.senders p ≡ Some (core_after X c (situation_of X c) old.side.home (number_found (slice_index old.side.words) (op_at X c (situation_of X c) word)) word)
   turn_taken word d =
-      let side : new.side ≡ turned X old.side p c (situation_of X c) word = subst (λ o. SenderDoes old.side o (λ k. turned X old.side p k (situation_of X k) word) new.side) here d.0 in
+      let side : new.side ≡ side_after X old.side p c (situation_of X c) word = subst (λ o. SenderDoes old.side o (λ k. side_after X old.side p k (situation_of X k) word) new.side) here d.0 in
       ap (λ (z : Side E). slice_get z.senders p) side ∙ get_set_same old.side.senders p _ (slice_get_within old.side.senders p c here)
 
 -- ---- what was told
@@ -260,13 +260,13 @@ whole_same phase.Resting q q' e w = e ∙ w
 whole_same (phase.Electing t x) q q' e w = e ∙ w
 whole_same (phase.Taken t) q q' e w = w
 whole_same (phase.Holding t page stored published) q q' e w = e ∙ w
-whole_same (phase.Giving t leaving) q q' e w = w
+whole_same (phase.Giving t reason) q q' e w = w
 
 true_or_false : (b : Bool) → (b ≡ true) ⊎ (b ≡ false)
 true_or_false true = inl refl
 true_or_false false = inr refl
 
-module _ {E : Type 0} (X : Election E) (P : Protocol E (Unit {0}) ℕ) (old mid new : Sitting E) (p word : ℕ) (s s' : Seat) (told : Bool) (answer : Turned)
+module _ {E : Type 0} (X : Election E) (P : Protocol E (Unit {0}) ℕ) (old mid new : SizedBus E) (p word : ℕ) (s s' : Seat) (told : Bool) (answer : Turned)
     (rests_so : is_resting (slice_get old.bus.side.senders p) ≡ true → s' ≡ record s { fresh = []; closes = false })
     (takes : is_resting (slice_get old.bus.side.senders p) ≡ true → TakesTold old.bus.side.senders mid.bus.side.senders p s.fresh s.closes told)
     (busy : is_resting (slice_get old.bus.side.senders p) ≡ false → (s' ≡ s) × (mid ≡ old) × (told ≡ true)) where
@@ -282,7 +282,7 @@ module _ {E : Type 0} (X : Election E) (P : Protocol E (Unit {0}) ℕ) (old mid 
             let b = busy (r ∙ e) in
             let none = step.told e in
             let same : s.queue ≡ c.queue = subst (λ z. Owes c.queue [] z s.queue) none.1 (subst (λ z. Owes c.queue z s.closes s.queue) none.0 step.owed) in
-            (ap (λ (z : Sitting E). slice_get z.bus.side.senders p) b.1 ∙ here ∙ ap (λ q. Some (record c { queue = q })) (sym same), ap (λ (z : Seat). z.fresh) b.0 ∙ none.0, ap (λ (z : Seat). z.closes) b.0 ∙ none.1)
+            (ap (λ (z : SizedBus E). slice_get z.bus.side.senders p) b.1 ∙ here ∙ ap (λ q. Some (record c { queue = q })) (sym same), ap (λ (z : Seat). z.fresh) b.0 ∙ none.0, ap (λ (z : Seat). z.closes) b.0 ∙ none.1)
       ]
 
   pub answers : Happens X mid.bus (Turn p word) new.bus → answer ≡ answer_in X mid.bus.side.words (slice_get mid.bus.side.senders p) word → Answers X P old new p s answer s'
@@ -291,7 +291,7 @@ module _ {E : Type 0} (X : Election E) (P : Protocol E (Unit {0}) ℕ) (old mid 
         let d = record c { queue = s.queue } in
         let whole = whole_of P old sitting p c here in
         let h = has_told c here step in
-        let got = found (slice_index mid.bus.side.words) (op_at X d (situation_of X d) word) in
+        let got = number_found (slice_index mid.bus.side.words) (op_at X d (situation_of X d) word) in
         let same : answer ≡ answer_at X d (situation_of X d) got word = is ∙ ap (λ o. answer_in X mid.bus.side.words o word) h.0 in
         let f = follows X d mid.bus.side.home got word (owed_alone c.queue s.fresh s.closes s.queue whole.1 step.owed) (whole_same c.phase c.queue s.queue (owed_busy c.queue s.fresh s.closes s.queue step.owed) whole.0) in
         (core_after X d (situation_of X d) mid.bus.side.home got word, turn_taken X p mid.bus new.bus d h.0 word does, f ∙ ap (λ a. queue_by a s.queue) (sym same), h.1, h.2);

@@ -6,14 +6,14 @@ use Rattle.bus_batch.specs.Frames.{order_of, tenure_and_owner}
 use Rattle.bus_tenure.specs.declared.pages.Page.{Page}
 use Rattle.bus_tenure.specs.Core.{Election, log_at}
 use Rattle.bus_world.proofs.LogLaws.{length-read}
-use Rattle.bus_world.specs.Playing.{Sitting, log_of}
-use Rattle.bus_world.specs.Trails.{IsSitting}
+use Rattle.bus_world.specs.Playing.{SizedBus, log_of}
+use Rattle.bus_world.specs.Trails.{IsServedBus}
 use Rattle.bus_world.specs.Tenures.Stage.{Open, Held}
 use Rattle.bus_world.proofs.ViewingLaws.{frames_spell}
 use Rattle.bus_pageslot.specs.Outcomes.{IsOutcome}
 
 -- the page is at home only while a tenure is open, and then it knows the frames
-pub is_outcome : {E : Type 0} {X : Election E} (P : Protocol E (Unit {0}) ℕ) (z : Sitting E) → IsSitting X P z → (page : Page) → z.bus.side.home ≡ Some page → IsOutcome record { senders = z.layout.senders; log = log_of z; page = page }
+pub is_outcome : {E : Type 0} {X : Election E} (P : Protocol E (Unit {0}) ℕ) (z : SizedBus E) → IsServedBus X P z → (page : Page) → z.bus.side.home ≡ Some page → IsOutcome record { senders = z.layout.senders; log = log_of z; page = page }
 is_outcome P z h page home =
     let sending = h.lawful.keeps.sending in
     elim sending.tenures.stage_is [

@@ -6,8 +6,8 @@ use Rattle.bus_batch.specs.declared.batches.Phase.TheVariants.{Closing}
 use Rattle.bus_tenure.specs.Core.{Core, Election}
 use Rattle.bus_tenure.specs.Seen.{tenure_of}
 use Rattle.bus_tenure.specs.declared.turns.Turn.{Turn}
-use Rattle.bus_world.specs.Playing.{Sitting}
-use Rattle.bus_world.specs.Trails.{IsSitting}
+use Rattle.bus_world.specs.Playing.{SizedBus}
+use Rattle.bus_world.specs.Trails.{IsServedBus}
 use Rattle.bus_world.specs.World.{can_put, can_close}
 use Rattle.bus_pageslot.specs.Seats.{Seat, queue_by}
 
@@ -47,9 +47,9 @@ pub record TakesTold {E : Type 0} (old new : List (Core E)) (p : ℕ) (fresh : L
 
 -- A turn of a sender on a lawful bus that it is in step with: the bus's batch is what the answer makes of the sender's own, and
 -- nothing is left to tell.
-pub record Answers {E : Type 0} (X : Election E) (P : Protocol E (Unit {0}) ℕ) (old new : Sitting E) (p : ℕ) (s : Seat) (answer : Turn) (s' : Seat) : Type 0 where
-  pub answered : (c : Core E) → IsSitting X P old → slice_get old.bus.side.senders p ≡ Some c → IsInStep c s → (c' : Core E) × (slice_get new.bus.side.senders p ≡ Some c') × (c'.queue ≡ queue_by answer s.queue) × (s'.fresh ≡ []) × (s'.closes ≡ false)
+pub record Answers {E : Type 0} (X : Election E) (P : Protocol E (Unit {0}) ℕ) (old new : SizedBus E) (p : ℕ) (s : Seat) (answer : Turn) (s' : Seat) : Type 0 where
+  pub answered : (c : Core E) → IsServedBus X P old → slice_get old.bus.side.senders p ≡ Some c → IsInStep c s → (c' : Core E) × (slice_get new.bus.side.senders p ≡ Some c') × (c'.queue ≡ queue_by answer s.queue) × (s'.fresh ≡ []) × (s'.closes ≡ false)
 
 -- a turn of a sender on a lawful bus leaves them in step
-pub record StaysInStep {E : Type 0} (X : Election E) (P : Protocol E (Unit {0}) ℕ) (old new : Sitting E) (p : ℕ) (s s' : Seat) : Type 0 where
-  pub stays : (c : Core E) → IsSitting X P old → slice_get old.bus.side.senders p ≡ Some c → IsInStep c s → (c' : Core E) × (slice_get new.bus.side.senders p ≡ Some c') × IsInStep c' s'
+pub record StaysInStep {E : Type 0} (X : Election E) (P : Protocol E (Unit {0}) ℕ) (old new : SizedBus E) (p : ℕ) (s s' : Seat) : Type 0 where
+  pub stays : (c : Core E) → IsServedBus X P old → slice_get old.bus.side.senders p ≡ Some c → IsInStep c s → (c' : Core E) × (slice_get new.bus.side.senders p ≡ Some c') × IsInStep c' s'

@@ -6,7 +6,7 @@ use Rattle.bus_tenure.specs.Situations.{situation_of, kind_at, op_at, answer_at,
 use Rattle.bus_tenure.specs.Seen.{tenure_of, turns_of}
 use Rattle.bus_tenure.specs.declared.turns.Turn.{Turn}
 use Rattle.bus_tenure.specs.declared.turns.Turn.TheVariants as turn
-use Rattle.bus_world.specs.Turning.{found}
+use Rattle.bus_world.specs.Turning.{number_found}
 use Rattle.bus_world.specs.World.{Bus, Event, Put, Close, IsEvent, Happens}
 use Rattle.bus_pageslot.specs.Seats.{Seat}
 
@@ -23,7 +23,7 @@ kind_in X (Some c) = kind_at X c (situation_of X c)
 -- its answer to a turn on these words
 abbrev pub answer_in : {E : Type 0} → Election E → List ℕ → Option (Core E) → ℕ → Turn
 answer_in X words None word = turn.Closed
-answer_in X words (Some c) word = answer_at X c (situation_of X c) (found (slice_index words) (op_at X c (situation_of X c) word)) word
+answer_in X words (Some c) word = answer_at X c (situation_of X c) (number_found (slice_index words) (op_at X c (situation_of X c) word)) word
 
 -- a sender keeps what its next step is
 abbrev pub seen : {E : Type 0} → Election E → Option (Core E) → Seat → Seat
@@ -35,6 +35,6 @@ abbrev pub tellings : ℕ → List (List ℕ) → Bool → List Event
 tellings p fresh closes = map (Put p) fresh ++ (if closes then Close p ∷ [] else [])
 
 -- these events happen to a bus, one after another
-abbrev pub Runs : {E : Type 0} → Election E → Bus E → List Event → Bus E → Type 0
-Runs X old [] new = new ≡ old
-Runs {E} X old (e ∷ events) new = (mid : Bus E) × IsEvent e × Happens X old e mid × Runs X mid events new
+abbrev pub AllHappen : {E : Type 0} → Election E → Bus E → List Event → Bus E → Type 0
+AllHappen X old [] new = new ≡ old
+AllHappen {E} X old (e ∷ events) new = (mid : Bus E) × IsEvent e × Happens X old e mid × AllHappen X mid events new

@@ -5,7 +5,7 @@ use Rattle.bus_batch.specs.Batches.{Pending}
 use Rattle.bus_batch.specs.declared.batches.Phase.TheVariants.{Open}
 use Rattle.bus_tenure.specs.Core.{is_closing, is_closed, is_empty}
 use Rattle.bus_tenure.specs.Situations.{queue_after}
-use Rattle.bus_tenure.specs.declared.phases.Leaving.TheVariants.{Sent, FoundEnd}
+use Rattle.bus_tenure.specs.declared.phases.Reason.TheVariants.{Sent, FoundEnd}
 use Rattle.bus_tenure.specs.declared.turns.Turn.{Turn}
 use Rattle.bus_tenure.specs.declared.turns.Turn.TheVariants as turn
 

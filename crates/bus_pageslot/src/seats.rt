@@ -9,7 +9,7 @@ ghost use Rattle.bus_batch.specs.declared.batches.Phase.TheVariants as queue_pha
 ghost use Rattle.bus_register.specs.declared.kinds.Kind.TheVariants as kind;
 ghost use Rattle.bus_tenure.specs.Elections.{election_of, elections};
 ghost use Rattle.bus_world.specs.Playing.{log_of};
-ghost use Rattle.bus_pageslot.specs.InWorld.{Runs};
+ghost use Rattle.bus_pageslot.specs.InWorld.{AllHappen};
 ghost use Rattle.bus_tenure.specs.declared.turns.Turn.{Turn as Answered};
 ghost use Rattle.bus_pageslot.specs.InStep.{Owes, TakesTold, Answers, StaysInStep};
 ghost use Rattle.bus_pageslot.specs.InWorld.{is_resting, kind_in, seen, tellings};
@@ -253,7 +253,7 @@ impl Sender {
             ≡ true → self.new ≡ record self.old { fresh = []; closes = false } }
         ensures told { let X = election_of Q.Ratifier in
             is_resting (slice_get world.old.bus.side.senders self.old.queue.sender.0) ≡ true
-            → Runs X world.old.bus
+            → AllHappen X world.old.bus
             (tellings self.old.queue.sender.0 self.old.fresh self.old.closes) world.new.bus }
         ensures takes { is_resting (slice_get world.old.bus.side.senders self.old.queue.sender.0)
             ≡ true → TakesTold world.old.bus.side.senders world.new.bus.side.senders

@@ -5,7 +5,7 @@ ghost use Rattle.std.specs.Prelude.{IsTrue, ◌↔◌};
 ghost use Rattle.bus_tenure.specs.Elections.{election_of};
 ghost use Rattle.bus_world.specs.Playing.{log_of};
 ghost use Rattle.bus_world.specs.World.{Happens, IsEvent, Put, Close, Turn as SenderTurn};
-ghost use Rattle.bus_pageslot.specs.InWorld.{Runs};
+ghost use Rattle.bus_pageslot.specs.InWorld.{AllHappen};
 ghost use Rattle.bus_pageslot.specs.InStep.{TakesMessage, TakesMessages, TakesClose, TakesTold};
 ghost use Rattle.bus_pageslot.specs.InWorld.{is_resting, kind_in, answer_in, tellings};
 

@@ -8,7 +8,7 @@ use Rattle.std.proofs.Math.ListN.{length-set}
 use Rattle.bus_batch.specs.declared.messages.Item.{Item}
 use Rattle.bus_deliverylog.specs.declared.receiving.RecvTurn.{RecvTurn}
 use Rattle.bus_deliverylog.specs.declared.receiving.RecvTurn.TheVariants as turn
-use Rattle.bus_receiver.specs.Hearing.{Hearing, nothing, goes_on, has_room, takes, counted}
+use Rattle.bus_receiver.specs.Hearing.{Hearing, nothing, goes_on, has_room, takes, hearing_after}
 use Rattle.bus_receiver.specs.HearingRuns.{hears, item_taken, heard, items_taken}
 
 -- one answer more
@@ -27,7 +27,7 @@ first : (a b : Bool) → (a && b) ≡ true → a ≡ true
 first true b h = refl
 first false b h = h
 
-one_item : (s : ℕ) (h : Hearing) (item : Item) → length h.counts ≡ 8 → (b : Bool) → takes h (turn.Item item) ≡ b → CountsOne s h (cond b (counted h (turn.Item item)) h) (cond b (item ∷ []) [])
+one_item : (s : ℕ) (h : Hearing) (item : Item) → length h.counts ≡ 8 → (b : Bool) → takes h (turn.Item item) ≡ b → CountsOne s h (cond b (hearing_after h (turn.Item item)) h) (cond b (item ∷ []) [])
 one_item s h item e false is = (omega arith, e, omega arith)
 one_item s h item e true is =
     let fits = both (goes_on h && has_room h) (nat_lt item.sender.0 8 && (item.number == slice_index h.counts item.sender.0)) is in

@@ -30,9 +30,9 @@ takes h (turn.Item item) = goes_on h && has_room h && (nat_lt item.sender.0 MOST
 takes h turn.End = true
 
 -- what is counted with an answer that is taken
-abbrev pub counted : Hearing → RecvTurn → Hearing
-counted h turn.Going = h
-counted h turn.Empty = h
-counted h (turn.Head tenure owner) = h
-counted h (turn.Item item) = record h { counts = slice_set h.counts item.sender.0 (item.number + 1); items = h.items + 1 }
-counted h turn.End = record h { ended = true }
+abbrev pub hearing_after : Hearing → RecvTurn → Hearing
+hearing_after h turn.Going = h
+hearing_after h turn.Empty = h
+hearing_after h (turn.Head tenure owner) = h
+hearing_after h (turn.Item item) = record h { counts = slice_set h.counts item.sender.0 (item.number + 1); items = h.items + 1 }
+hearing_after h turn.End = record h { ended = true }

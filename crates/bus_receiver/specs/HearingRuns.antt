@@ -3,11 +3,11 @@ use Rattle.std.specs.Prelude.{List, [], ◌∷◌, ◌++◌, if◌then◌else◌
 use Rattle.bus_batch.specs.declared.messages.Item.{Item}
 use Rattle.bus_deliverylog.specs.declared.receiving.RecvTurn.{RecvTurn}
 use Rattle.bus_deliverylog.specs.declared.receiving.RecvTurn.TheVariants as turn
-use Rattle.bus_receiver.specs.Hearing.{Hearing, takes, counted}
+use Rattle.bus_receiver.specs.Hearing.{Hearing, takes, hearing_after}
 
 -- after one answer, taken or refused
 abbrev pub hears : Hearing → RecvTurn → Hearing
-hears h t = if takes h t then counted h t else h
+hears h t = if takes h t then hearing_after h t else h
 
 abbrev pub item_in : RecvTurn → List Item
 item_in turn.Going = []

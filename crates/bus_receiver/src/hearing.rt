@@ -29,7 +29,7 @@ impl Model for Heard {
 }
 
 impl Heard {
-    ghost use Rattle.bus_receiver.specs.Hearing.{nothing, goes_on, has_room, takes, counted};
+    ghost use Rattle.bus_receiver.specs.Hearing.{nothing, goes_on, has_room, takes, hearing_after};
 
     /// A listener that has heard nothing.
     pub fn new() -> Heard
@@ -47,7 +47,7 @@ impl Heard {
     /// end. What is refused changes nothing.
     pub fn note(&mut self, turn: &RecvTurn) -> bool
         ensures takes { result ≡ takes self.old turn.now }
-        ensures taken { result ≡ true → self.new ≡ counted self.old turn.now }
+        ensures taken { result ≡ true → self.new ≡ hearing_after self.old turn.now }
         ensures refused { result ≡ false → self.new ≡ self.old }
     {
         match turn {

@@ -30,12 +30,12 @@ pub record Protocol (S I O : Type 0) : Type 1 where
   pub Keeps : ℕ → ℕ → (ℕ → ℕ) → (ℕ → Option S) → Type 0
 
 -- the input, if the process has begun
-abbrev pub counted : {S I O : Type 0} → Protocol S I O → S → Option I
-counted P s = if P.has_begun s then Some (P.input s) else None
+abbrev pub counted_input : {S I O : Type 0} → Protocol S I O → S → Option I
+counted_input P s = if P.has_begun s then Some (P.input s) else None
 
 -- the inputs that count, by process
 abbrev pub inputs : {S I O : Type 0} → Protocol S I O → (ℕ → Option S) → ℕ → Option I
-inputs P locals p = of_some (counted P) (locals p)
+inputs P locals p = of_some (counted_input P) (locals p)
 
 -- the outputs that stand, by process
 abbrev pub outputs : {S I O : Type 0} → Protocol S I O → (ℕ → Option S) → ℕ → Option O

@@ -2,7 +2,7 @@
 use Rattle.std.proofs.Common.{◌≡◌, ℕ, List, [], ◌∷◌, ◌++◌, Some, Result, Ok, Err, IfOk, refl, sym, ap, subst, ◌∙◌, append_assoc, inr}
 use Rattle.bus_tenure.specs.Core.{Election, Layout}
 use Rattle.bus_world.specs.World.{Bus}
-use Rattle.bus_world.specs.Playing.{Sitting, IsMade}
+use Rattle.bus_world.specs.Playing.{SizedBus, IsMade}
 use Rattle.bus_world.specs.declared.shapes.Shape.{Shape}
 use Rattle.bus_script.specs.declared.answers.Outcome.{Outcome}
 use Rattle.bus_script.specs.declared.answers.Outcome.TheVariants as outcome
@@ -67,7 +67,7 @@ on_done (Ok a) P Q h f = f h
 on_done (Err e) P Q h f = tt
 
 -- the closing lines tell of any trails that lead to the bus
-pub closes : {E : Type 0} (X : Election E) (z : Sitting E) (old mid whole : List ℕ) (taken : List ℕ) (order : Order) (owners : List (ℕ × SenderNo)) → Spells z.layout.senders (log_of z) order owners → ((T : Trails) → Reached X z.layout z.bus T → Takers taken T.deeds)
+pub closes : {E : Type 0} (X : Election E) (z : SizedBus E) (old mid whole : List ℕ) (taken : List ℕ) (order : Order) (owners : List (ℕ × SenderNo)) → Spells z.layout.senders (log_of z) order owners → ((T : Trails) → Reached X z.layout z.bus T → Takers taken T.deeds)
     → taken ≡ z.bus.side.owners → (some : Trails) → Reached X z.layout z.bus some → mid ≡ (old ++ owners_line taken) ++ order_text order → ((T : Trails) → Reached X z.layout z.bus T → whole ≡ mid ++ given_text (given_by T z.bus.receivers))
     → (closing : List ℕ) × Closes X z closing × (whole ≡ old ++ closing)
 closes X z old mid whole taken order owners spelled took taken_are some reached mid_is whole_is = (
@@ -87,7 +87,7 @@ closes X z old mid whole taken order owners spelled took taken_are some reached 
 )
 
 -- lines were played to their end, and the closing lines are behind their answers
-pub closed : {E : Type 0} (X : Election E) (x : Layout) (b : Bus E) (z : Sitting E) (lines : List (ℕ × List ℕ)) (o : Outcome) (old mid whole : List ℕ) → o ≡ outcome.Done → old ≡ [] → z.layout ≡ x
+pub closed : {E : Type 0} (X : Election E) (x : Layout) (b : Bus E) (z : SizedBus E) (lines : List (ℕ × List ℕ)) (o : Outcome) (old mid whole : List ℕ) → o ≡ outcome.Done → old ≡ [] → z.layout ≡ x
     → (added : List ℕ) × ArePlayed X b lines o added z.bus × (mid ≡ old ++ added) → (closing : List ℕ) × Closes X z closing × (whole ≡ mid ++ closing)
     → (text : List ℕ) × (end : End E) × Prints X b lines text end × Ends X x end text outcome.Done whole
 closed {E} X x b z lines o old mid whole done none layout played closes = (
@@ -110,7 +110,7 @@ stopped {E} X x b new lines o old whole refused none played =
     (ends.0, Stopped ends.1, ends.2, (refl, played.2 ∙ ap (λ (l : List ℕ). l ++ played.0) none ∙ ends.3))
 
 -- a new bus was made, and the lines behind its shape moved it
-pub opened : {E : Type 0} (of : Shape → Election E × Layout) (input : List ℕ) (line : ℕ × List ℕ) (lines : List (ℕ × List ℕ)) (shape : Shape) (z : Sitting E) (o : Outcome) (whole : List ℕ) → script_lines input ≡ line ∷ lines → shape_of line.1 ≡ Some shape
+pub opened : {E : Type 0} (of : Shape → Election E × Layout) (input : List ℕ) (line : ℕ × List ℕ) (lines : List (ℕ × List ℕ)) (shape : Shape) (z : SizedBus E) (o : Outcome) (whole : List ℕ) → script_lines input ≡ line ∷ lines → shape_of line.1 ≡ Some shape
     → IsMade (of shape).1 shape z → (text : List ℕ) × (end : End E) × Prints (of shape).0 z.bus lines text end × Ends (of shape).0 z.layout end text o whole → IsReplay of input o whole
 opened {E} of input line lines shape z o whole is shape_is made answered =
     let x = (of shape).1 in

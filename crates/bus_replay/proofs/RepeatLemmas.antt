@@ -6,7 +6,7 @@ use Rattle.bus_register.specs.Proved.TableLaws.{get_set_same}
 use Rattle.bus_deliverylog.specs.Receiving.{Receiving}
 use Rattle.bus_tenure.specs.Core.{Core, Election}
 use Rattle.bus_tenure.specs.Situations.{situation_of}
-use Rattle.bus_world.specs.Turning.{Side, turned}
+use Rattle.bus_world.specs.Turning.{Side, side_after}
 use Rattle.bus_world.specs.World.{Bus, Event, Put, Close, Turn, Recv, Happens, SenderDoes}
 use Rattle.bus_world.specs.Playing.{Answers, Refused, TurnAnswers, RecvAnswers, TurnRefused, RecvRefused}
 use Rattle.bus_world.specs.declared.events.Answer.{Answer}
@@ -46,7 +46,7 @@ at_last X e old all (suc left) last new h (inr stops) = h.from_first last new (i
 stops_so : (a b : Answer) → a ≡ b → goes_on b ≡ false → goes_on a ≡ true → ⊥
 stops_so a b e stops goes = true≢false (sym goes ∙ ap goes_on e ∙ stops)
 
-turn_stays : {E : Type 0} (X : Election E) (side side' : Side E) (s word : ℕ) (o : Option (Core E)) (a : Answer) (why : StepFault) → slice_get side.senders s ≡ o → SenderDoes side o (λ c. turned X side s c (situation_of X c) word) side'
+turn_stays : {E : Type 0} (X : Election E) (side side' : Side E) (s word : ℕ) (o : Option (Core E)) (a : Answer) (why : StepFault) → slice_get side.senders s ≡ o → SenderDoes side o (λ c. side_after X side s c (situation_of X c) word) side'
     → TurnAnswers X side.words o word a → TurnRefused (slice_get side'.senders s) why → ⊥
 turn_stays X side side' s word None a why is does answered refused = absurd answered
 turn_stays {E} X side side' s word (Some c) a why is does answered refused =

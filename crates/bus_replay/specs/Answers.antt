@@ -11,7 +11,7 @@ use Rattle.bus_tenure.specs.declared.turns.Turn.TheVariants as turn
 use Rattle.bus_world.specs.Headline.{given}
 use Rattle.bus_world.specs.Trails.{Trails, Reached, Takers}
 use Rattle.bus_world.specs.World.{Bus, Event, Happens}
-use Rattle.bus_world.specs.Playing.{Sitting, Answers, Refused as IsRefused, MakeRefused, IsMade, log_of}
+use Rattle.bus_world.specs.Playing.{SizedBus, Answers, Refused as IsRefused, MakeRefused, IsMade, log_of}
 use Rattle.bus_world.specs.declared.events.Answer.{Answer}
 use Rattle.bus_world.specs.declared.events.Answer.TheVariants as answer
 use Rattle.bus_world.specs.declared.events.StepFault.{StepFault}
@@ -81,7 +81,7 @@ given_by T receivers = map (λ e. given (T.heard e.0)) (enumerate_from 0 receive
 
 -- The closing lines, whatever trails led to the bus, as some have: who took the pages, by tenure; the one order that the words below the length
 -- spell; and of each receiver what it was given.
-pub record Closes {E : Type 0} (X : Election E) (z : Sitting E) (text : List ℕ) : Type 0 where
+pub record Closes {E : Type 0} (X : Election E) (z : SizedBus E) (text : List ℕ) : Type 0 where
   pub order : Order
   pub owners : List (ℕ × SenderNo)
   pub spelled : Spells z.layout.senders (log_of z) order owners

@@ -47,4 +47,4 @@ first_below words frames c (phase.Holding t page stored true) f =
     let more = ap length (ap log_words written.frames_are ∙ log_words-append written.front (frame_of c.queue t)) ∙ length-append (log_words written.front) (frame_words (frame_of c.queue t)) in
     omega arith
 first_below words frames c (phase.Holding t page stored false) f = let short = sent_short c.me frames in let base = f.1.base in omega arith
-first_below words frames c (phase.Giving t leaving) f = absurd f
+first_below words frames c (phase.Giving t reason) f = absurd f

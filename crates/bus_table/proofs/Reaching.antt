@@ -20,9 +20,9 @@ use Rattle.bus_world.specs.Bus.{IsLayout, least_of, standing_of, stands_at}
 use Rattle.bus_world.specs.Headline.{Deed, HasPut, HasClosed, IsPrefix}
 use Rattle.bus_world.specs.Playing.{Answers, PutGives, CloseGives, TurnAnswers}
 use Rattle.bus_world.specs.Tenures.Standing.{Runs}
-use Rattle.bus_world.specs.Trails.{Trails, Reached, extended, turning_deeds}
+use Rattle.bus_world.specs.Trails.{Trails, Reached, trails_after, turning_deeds}
 use Rattle.bus_world.specs.Trails.Reached.{Then}
-use Rattle.bus_world.specs.Turning.{found, stepped, home_after, core_after, turned}
+use Rattle.bus_world.specs.Turning.{number_found, words_after, home_after, core_after, side_after}
 use Rattle.bus_world.specs.World.{Bus, Event, Put, Close, Turn, Happens, IsEvent, SenderDoes, with_sender, put_in, close_in, LawfulBus}
 use Rattle.bus_world.specs.declared.events.Answer.{Answer}
 use Rattle.bus_world.specs.declared.events.Answer.TheVariants as answer
@@ -80,11 +80,11 @@ module _ {E : Type 0} (X : Election E) (P : Protocol E (Unit {0}) ℕ) (x : Layo
 
     -- one event of the sender, with which it is d' in place of d
     one_more : (d d' : Core E) (deeds : List Deed) (m : Reaches b T p d deeds) (e : Event) (a : Answer) (more : List Deed)
-        → IsEvent e → Happens X (with_core b p d) e (with_core b p d') → Answers X (with_core b p d) e a (with_core b p d') → Longer p more m.trails.deeds (extended X (with_core b p d) e a m.trails).deeds → Reaches b T p d' (deeds ++ more)
+        → IsEvent e → Happens X (with_core b p d) e (with_core b p d') → Answers X (with_core b p d) e a (with_core b p d') → Longer p more m.trails.deeds (trails_after X (with_core b p d) e a m.trails).deeds → Reaches b T p d' (deeds ++ more)
     one_more d d' deeds m e a more is does told longer = record {
-      trails = extended X (with_core b p d) e a m.trails;
+      trails = trails_after X (with_core b p d) e a m.trails;
       reached = Then (with_core b p d) (with_core b p d') m.trails e a m.reached is does told;
-      longer = longer_more p deeds more T.deeds m.trails.deeds (extended X (with_core b p d) e a m.trails).deeds m.longer longer;
+      longer = longer_more p deeds more T.deeds m.trails.deeds (trails_after X (with_core b p d) e a m.trails).deeds m.longer longer;
     }
 
     -- the senders with d' in the place of d
@@ -131,22 +131,22 @@ module _ {E : Type 0} (X : Election E) (P : Protocol E (Unit {0}) ℕ) (x : Layo
     z = situation_of X d
 
     abbrev got : ℕ
-    got = found (slice_index b.side.words) (op_at X d z word)
+    got = number_found (slice_index b.side.words) (op_at X d z word)
 
     abbrev bus' : Bus E
-    bus' = record { side = turned X b.side p d z word; receivers = b.receivers }
+    bus' = record { side = side_after X b.side p d z word; receivers = b.receivers }
 
     abbrev told : Answer
     told = answer.Turn (answer_at X d z got word)
 
     turns : Happens X b (Turn p word) bus'
-    turns = (subst (λ c. SenderDoes b.side c (λ c. turned X b.side p c (situation_of X c) word) bus'.side) (sym old) refl, refl)
+    turns = (subst (λ c. SenderDoes b.side c (λ c. side_after X b.side p c (situation_of X c) word) bus'.side) (sym old) refl, refl)
 
     answers : TurnAnswers X b.side.words (slice_get b.side.senders p) word told
     answers = subst (λ c. TurnAnswers X b.side.words c word told) (sym old) refl
 
     deeds_are : turning_deeds X b.side.words (slice_get b.side.senders p) word told ≡ deeds_at X d (slice_index b.side.words (register o)) word
-    deeds_are = ap (λ c. turning_deeds X b.side.words c word told) old ∙ ap (λ w. deeds_at X d (found (slice_index b.side.words) w) word) due
+    deeds_are = ap (λ c. turning_deeds X b.side.words c word told) old ∙ ap (λ w. deeds_at X d (number_found (slice_index b.side.words) w) word) due
 
     front : IsPrefix (log_in_bus x b) (log_in_bus x bus')
     front =
@@ -161,13 +161,13 @@ module _ {E : Type 0} (X : Election E) (P : Protocol E (Unit {0}) ℕ) (x : Layo
     pub steps : Steps b T p d word o
     steps = record {
       bus = bus';
-      trails = extended X b (Turn p word) told T;
+      trails = trails_after X b (Turn p word) told T;
       reached = Then b bus' T (Turn p word) told r tt turns answers;
-      words = ap (stepped b.side.words) due;
+      words = ap (words_after b.side.words) due;
       home = refl;
-      senders = ap (λ w. slice_set b.side.senders p (core_after X d z b.side.home (found (slice_index b.side.words) w) word)) due;
+      senders = ap (λ w. slice_set b.side.senders p (core_after X d z b.side.home (number_found (slice_index b.side.words) w) word)) due;
       receivers = refl;
-      longer = subst (λ ds. Longer p ds T.deeds (extended X b (Turn p word) told T).deeds) deeds_are (longer_by p (turning_deeds X b.side.words (slice_get b.side.senders p) word told) T.deeds);
+      longer = subst (λ ds. Longer p ds T.deeds (trails_after X b (Turn p word) told T).deeds) deeds_are (longer_by p (turning_deeds X b.side.words (slice_get b.side.senders p) word told) T.deeds);
       front = front;
     }
 
@@ -197,8 +197,8 @@ module _ {E : Type 0} (X : Election E) (P : Protocol E (Unit {0}) ℕ) (x : Layo
     sums_at (AwaitsPage t) i u w = absurd (let bad : None ≡ Some u = w in let wrong : ⊥ = cc in wrong)
     sums_at (StoresWord t page stored) i u w = stored_fits u _ _ (same_Some _ _ w)
     sums_at (StoresLength t page stored) i u w = stored_fits u 0 _ (same_Some _ _ w)
-    sums_at (GivesBack t page leaving) i u w = stored_fits u 1 (2 * t + 2) (same_Some _ _ w)
-    sums_at (HasHanded t leaving) i u w = stored_fits u 1 (2 * t + 2) (same_Some _ _ w)
+    sums_at (GivesBack t page reason) i u w = stored_fits u 1 (2 * t + 2) (same_Some _ _ w)
+    sums_at (HasHanded t reason) i u w = stored_fits u 1 (2 * t + 2) (same_Some _ _ w)
 
     -- what it adds to stays in range
     pub sum_fits : SumFits o (W (register o))

@@ -120,8 +120,8 @@ module _ {E : Type 0} (X : Election E) (P : Protocol E (Unit {0}) ℕ) (x : Layo
       let room : 0 < length words = subst (λ (u : Op). register u < length words) (sym o_is) within in
       let is' : now ≡ page.words + frame_len d = is ∙ ap (λ (u : Op). slice_index (slice_set words (register u) (after u (slice_index words (register u)))) 0) (sym o_is) ∙ get_or-set_same words 0 (page.words + frame_len d) 0 room in
       omega arith
-  stored_long d word (GivesBack t page leaving) o words before now w within is l = l
-  stored_long d word (HasHanded t leaving) o words before now w within is l = l
+  stored_long d word (GivesBack t page reason) o words before now w within is l = l
+  stored_long d word (HasHanded t reason) o words before now w within is l = l
 
   -- a step of a sender d, which its seat shows as it was before it accepted more
   module _ (id : ℕ) (m : Sat E) (d : Core E) (word : ℕ) (o : Op) (many : ℕ) (due : IsDue X d word m many o)

@@ -9,14 +9,14 @@ use Rattle.bus_register.specs.declared.registers.Op.TheVariants.{Load, Store}
 use Rattle.bus_register.specs.Words.{register, after, SumFits}
 use Rattle.bus_register.specs.Protocol.{Protocol, Laws}
 use Rattle.bus_tenure.specs.Core.{Core, Election, Layout, words_of}
-use Rattle.bus_tenure.specs.Situations.{Situation, IsClosed, IsIdle, IsSpent, LooksAtStage, Elects, TakesPage, AwaitsPage, StoresWord, StoresLength, GivesBack, HasHanded, situation_of, op_at, fed_at, answer_at, waits, begun, elected, rested, answer_of_election}
+use Rattle.bus_tenure.specs.Situations.{Situation, IsClosed, IsIdle, IsSpent, LooksAtStage, Elects, TakesPage, AwaitsPage, StoresWord, StoresLength, GivesBack, HasHanded, situation_of, op_at, fed_at, answer_at, waits, core_begun, core_elected, core_at_rest, answer_of_election}
 use Rattle.bus_tenure.specs.Seen.{AwaitsItsPage}
 use Rattle.bus_tenure.specs.declared.pages.Page.{Page}
 use Rattle.bus_tenure.specs.declared.phases.Phase.{Phase}
 use Rattle.bus_tenure.specs.declared.phases.Phase.TheVariants as phase
-use Rattle.bus_ownerbits.specs.ElectionKeeps.{OneOwner}
+use Rattle.bus_ownerbits.specs.OneOwner.{OneOwner}
 use Rattle.bus_world.proofs.Serving.{Serves}
-use Rattle.bus_world.specs.Turning.{core_after, laid}
+use Rattle.bus_world.specs.Turning.{core_after, core_with_page}
 use Rattle.bus_table.specs.declared.rule.View.TheVariants.{Sender}
 use Rattle.bus_table.specs.Rule.{Sat, trail_in, stored_in, IsShown}
 use Rattle.bus_table.specs.Steps.{handed, laid_at, carried_of, out_with, carried_by, slot_in, emptied, IsCounted, since_in, deeds_in, deeds_at, stored_at, Told, Gone, GoesOn, Due}
@@ -37,13 +37,13 @@ module _ {E : Type 0} (X : Election E) (P : Protocol E (Unit {0}) ℕ) (laws : L
   store_blind_at d word o r v is IsIdle due got got' home = refl
   store_blind_at d word o r v is IsSpent due got got' home = refl
   store_blind_at d word o r v is LooksAtStage due got got' home = absurd (let bad : Load record { 0 = 1 } ≡ Store record { 0 = r } v = same_Some _ _ due ∙ is in let wrong : ⊥ = cc in wrong)
-  store_blind_at d word o r v is (Elects t e) due got got' home = ap (λ u. elected d t u (X.owner u)) (laws.blind e got got' word o due (r, v, is))
+  store_blind_at d word o r v is (Elects t e) due got got' home = ap (λ u. core_elected d t u (X.owner u)) (laws.blind e got got' word o due (r, v, is))
   store_blind_at d word o r v is (TakesPage t) due got got' home = refl
   store_blind_at d word o r v is (AwaitsPage t) due got got' home = refl
   store_blind_at d word o r v is (StoresWord t page stored) due got got' home = refl
   store_blind_at d word o r v is (StoresLength t page stored) due got got' home = refl
-  store_blind_at d word o r v is (GivesBack t page leaving) due got got' home = refl
-  store_blind_at d word o r v is (HasHanded t leaving) due got got' home = refl
+  store_blind_at d word o r v is (GivesBack t page reason) due got got' home = refl
+  store_blind_at d word o r v is (HasHanded t reason) due got got' home = refl
 
   pub store_blind : (word : ℕ) (o : Op) (r v : ℕ) → o ≡ Store record { 0 = r } v → (d : Core E) → op_at X d (situation_of X d) word ≡ Some o → (got got' : ℕ) (home : Option Page) → core_after X d (situation_of X d) home got word ≡ core_after X d (situation_of X d) home got' word
   store_blind word o r v is d due = store_blind_at d word o r v is (situation_of X d) due
@@ -58,8 +58,8 @@ module _ {E : Type 0} (X : Election E) (P : Protocol E (Unit {0}) ℕ) (laws : L
   answer_blind_at d word o r v is (AwaitsPage t) due got got' = refl
   answer_blind_at d word o r v is (StoresWord t page stored) due got got' = refl
   answer_blind_at d word o r v is (StoresLength t page stored) due got got' = refl
-  answer_blind_at d word o r v is (GivesBack t page leaving) due got got' = refl
-  answer_blind_at d word o r v is (HasHanded t leaving) due got got' = refl
+  answer_blind_at d word o r v is (GivesBack t page reason) due got got' = refl
+  answer_blind_at d word o r v is (HasHanded t reason) due got got' = refl
 
   pub answer_blind : (word : ℕ) (o : Op) (r v : ℕ) → o ≡ Store record { 0 = r } v → (d : Core E) → op_at X d (situation_of X d) word ≡ Some o → (got got' : ℕ) → answer_at X d (situation_of X d) got word ≡ answer_at X d (situation_of X d) got' word
   answer_blind word o r v is d due = answer_blind_at d word o r v is (situation_of X d) due
@@ -82,11 +82,11 @@ module _ {E : Type 0} (X : Election E) (d : Core E) where
   kept_if true s u e f = e
   kept_if false s u e f = f
 
-  kept_elected : (t : ℕ) (e : E) (o : Option ℕ) → (elected d t e o).layout ≡ d.layout
+  kept_elected : (t : ℕ) (e : E) (o : Option ℕ) → (core_elected d t e o).layout ≡ d.layout
   kept_elected t e None = refl
   kept_elected t e (Some o) = kept_if (o == d.me) (record d { phase = phase.Electing t e }) (record d { queue = record d.queue { busy = false }; least = t + 1; phase = phase.Resting }) refl refl
 
-  kept_laid : (t : ℕ) (home : Option Page) → (laid d t home).layout ≡ d.layout
+  kept_laid : (t : ℕ) (home : Option Page) → (core_with_page d t home).layout ≡ d.layout
   kept_laid t None = refl
   kept_laid t (Some page) = refl
 
@@ -94,14 +94,14 @@ module _ {E : Type 0} (X : Election E) (d : Core E) where
   layout_stays IsClosed home got word = refl
   layout_stays IsIdle home got word = refl
   layout_stays IsSpent home got word = refl
-  layout_stays LooksAtStage home got word = kept_if (waits d got) d (cond (nat_le d.layout.rows (got / 2)) (record d { least = got / 2 }) (begun X d (got / 2))) refl (kept_if (nat_le d.layout.rows (got / 2)) (record d { least = got / 2 }) (begun X d (got / 2)) refl refl)
+  layout_stays LooksAtStage home got word = kept_if (waits d got) d (cond (nat_le d.layout.rows (got / 2)) (record d { least = got / 2 }) (core_begun X d (got / 2))) refl (kept_if (nat_le d.layout.rows (got / 2)) (record d { least = got / 2 }) (core_begun X d (got / 2)) refl refl)
   layout_stays (Elects t e) home got word = kept_elected t (X.fed e got word) (X.owner (X.fed e got word))
   layout_stays (TakesPage t) home got word = kept_laid t home
   layout_stays (AwaitsPage t) home got word = kept_laid t home
   layout_stays (StoresWord t page stored) home got word = refl
   layout_stays (StoresLength t page stored) home got word = refl
-  layout_stays (GivesBack t page leaving) home got word = refl
-  layout_stays (HasHanded t leaving) home got word = refl
+  layout_stays (GivesBack t page reason) home got word = refl
+  layout_stays (HasHanded t reason) home got word = refl
 
   -- ---- with the page handed on first
   pub op_handed : (z : Situation E) → situation_of X d ≡ z → (word : ℕ) → op_at X (handed X d z) (situation_of X (handed X d z)) word ≡ op_at X d z word
@@ -114,8 +114,8 @@ module _ {E : Type 0} (X : Election E) (d : Core E) where
   op_handed (AwaitsPage t) i word = ap (λ z. op_at X d z word) i
   op_handed (StoresWord t page stored) i word = ap (λ z. op_at X d z word) i
   op_handed (StoresLength t page stored) i word = ap (λ z. op_at X d z word) i
-  op_handed (GivesBack t page leaving) i word = refl
-  op_handed (HasHanded t leaving) i word = ap (λ z. op_at X d z word) i
+  op_handed (GivesBack t page reason) i word = refl
+  op_handed (HasHanded t reason) i word = ap (λ z. op_at X d z word) i
 
   pub answer_handed : (z : Situation E) → situation_of X d ≡ z → (got word : ℕ) → answer_at X (handed X d z) (situation_of X (handed X d z)) got word ≡ answer_at X d z got word
   answer_handed IsClosed i got word = ap (λ z. answer_at X d z got word) i
@@ -127,8 +127,8 @@ module _ {E : Type 0} (X : Election E) (d : Core E) where
   answer_handed (AwaitsPage t) i got word = ap (λ z. answer_at X d z got word) i
   answer_handed (StoresWord t page stored) i got word = ap (λ z. answer_at X d z got word) i
   answer_handed (StoresLength t page stored) i got word = ap (λ z. answer_at X d z got word) i
-  answer_handed (GivesBack t page leaving) i got word = refl
-  answer_handed (HasHanded t leaving) i got word = ap (λ z. answer_at X d z got word) i
+  answer_handed (GivesBack t page reason) i got word = refl
+  answer_handed (HasHanded t reason) i got word = ap (λ z. answer_at X d z got word) i
 
   fed_handed : (z : Situation E) → situation_of X d ≡ z → (got word : ℕ) → fed_at X (handed X d z) (situation_of X (handed X d z)) got word ≡ fed_at X d z got word
   fed_handed IsClosed i got word = ap (λ z. fed_at X d z got word) i
@@ -140,8 +140,8 @@ module _ {E : Type 0} (X : Election E) (d : Core E) where
   fed_handed (AwaitsPage t) i got word = ap (λ z. fed_at X d z got word) i
   fed_handed (StoresWord t page stored) i got word = ap (λ z. fed_at X d z got word) i
   fed_handed (StoresLength t page stored) i got word = ap (λ z. fed_at X d z got word) i
-  fed_handed (GivesBack t page leaving) i got word = refl
-  fed_handed (HasHanded t leaving) i got word = ap (λ z. fed_at X d z got word) i
+  fed_handed (GivesBack t page reason) i got word = refl
+  fed_handed (HasHanded t reason) i got word = ap (λ z. fed_at X d z got word) i
 
 -- ---- how a turn ends: a sender that was fed the number is s, and is s' once the page has been taken out of the slot
 pub record Ends {E : Type 0} (s s' : Core E) (carried : List (ℕ × Option Page)) : Type 0 where
@@ -155,7 +155,7 @@ module _ {E : Type 0} (X : Election E) (d : Core E) where
   plain s (phase.Electing t e) other home carried = (refl, refl)
   plain s (phase.Taken t) other home carried = absurd (other t refl)
   plain s (phase.Holding t page stored published) other home carried = (refl, refl)
-  plain s (phase.Giving t leaving) other home carried = (refl, refl)
+  plain s (phase.Giving t reason) other home carried = (refl, refl)
 
   ends_plain : (s : Core E) (carried : List (ℕ × Option Page)) → ((t : ℕ) → s.phase ≡ phase.Taken t → ⊥) → carried ≡ carried_of s.phase → Ends s s carried
   ends_plain s carried other same = let p = plain s s.phase other (slot_in carried) carried in record { page = λ a. absurd (other a.tenure a.is); core = p.0; slot = p.1 ∙ same }
@@ -164,12 +164,12 @@ module _ {E : Type 0} (X : Election E) (d : Core E) where
   ends_if true s u carried e f = e
   ends_if false s u carried e f = f
 
-  ends_elected : (t : ℕ) (e : E) (o : Option ℕ) (carried : List (ℕ × Option Page)) → carried ≡ [] → Ends (elected d t e o) (elected d t e o) carried
+  ends_elected : (t : ℕ) (e : E) (o : Option ℕ) (carried : List (ℕ × Option Page)) → carried ≡ [] → Ends (core_elected d t e o) (core_elected d t e o) carried
   ends_elected t e None carried none = ends_plain (record d { phase = phase.Electing t e }) carried (λ t i. absurd cc) none
   ends_elected t e (Some o) carried none = ends_if (o == d.me) (record d { phase = phase.Electing t e }) (record d { queue = record d.queue { busy = false }; least = t + 1; phase = phase.Resting }) carried
       (ends_plain (record d { phase = phase.Electing t e }) carried (λ t i. absurd cc) none) (ends_plain (record d { queue = record d.queue { busy = false }; least = t + 1; phase = phase.Resting }) carried (λ t i. absurd cc) none)
 
-  ends_taken : (t : ℕ) (page : Page) → Ends (record d { phase = phase.Taken t }) (laid d t (Some page)) ((0, Some page) ∷ [])
+  ends_taken : (t : ℕ) (page : Page) → Ends (record d { phase = phase.Taken t }) (core_with_page d t (Some page)) ((0, Some page) ∷ [])
   ends_taken t page = record { page = λ a. (page, refl); core = refl; slot = refl }
 
   pub ends : (z : Situation E) → situation_of X d ≡ z → (word : ℕ) (o : Op) → op_at X d z word ≡ Some o → (home : Option Page) → ((t : ℕ) → z ≡ TakesPage t → (page : Page) × (home ≡ Some page)) → (got : ℕ)
@@ -180,18 +180,18 @@ module _ {E : Type 0} (X : Election E) (d : Core E) where
   ends LooksAtStage i word o due home taken got =
       let rests = tells X d LooksAtStage i in
       let other : (t : ℕ) → d.phase ≡ phase.Taken t → ⊥ = λ t e. let bad : phase.Resting ≡ phase.Taken t = sym rests ∙ e in let wrong : ⊥ = cc in wrong in
-      ends_if (waits d got) d (cond (nat_le d.layout.rows (got / 2)) (record d { least = got / 2 }) (begun X d (got / 2))) (carried_of d.phase) (ends_plain d (carried_of d.phase) other refl)
-      (ends_if (nat_le d.layout.rows (got / 2)) (record d { least = got / 2 }) (begun X d (got / 2)) (carried_of d.phase) (ends_plain (record d { least = got / 2 }) (carried_of d.phase) other refl) (ends_plain (begun X d (got / 2)) (carried_of d.phase) (λ t e. absurd cc) (ap carried_of rests)))
+      ends_if (waits d got) d (cond (nat_le d.layout.rows (got / 2)) (record d { least = got / 2 }) (core_begun X d (got / 2))) (carried_of d.phase) (ends_plain d (carried_of d.phase) other refl)
+      (ends_if (nat_le d.layout.rows (got / 2)) (record d { least = got / 2 }) (core_begun X d (got / 2)) (carried_of d.phase) (ends_plain (record d { least = got / 2 }) (carried_of d.phase) other refl) (ends_plain (core_begun X d (got / 2)) (carried_of d.phase) (λ t e. absurd cc) (ap carried_of rests)))
   ends (Elects t e) i word o due home taken got = ends_elected t (X.fed e got word) (X.owner (X.fed e got word)) (carried_of d.phase) (ap carried_of (tells X d (Elects t e) i))
   ends (TakesPage t) i word o due home taken got =
       let page = taken t refl in
       let none : carried_of d.phase ≡ [] = ap carried_of (tells X d (TakesPage t) i).1 in
-      subst (λ (y : Option Page × List (ℕ × Option Page)). Ends (record d { phase = phase.Taken t }) (laid d t y.0) ((0, y.0) ∷ y.1)) (λ j. (sym page.1 j, sym none j)) (ends_taken t page.0)
+      subst (λ (y : Option Page × List (ℕ × Option Page)). Ends (record d { phase = phase.Taken t }) (core_with_page d t y.0) ((0, y.0) ∷ y.1)) (λ j. (sym page.1 j, sym none j)) (ends_taken t page.0)
   ends (AwaitsPage t) i word o due home taken got = absurd (let bad : None ≡ Some o = due in let wrong : ⊥ = cc in wrong)
   ends (StoresWord t page stored) i word o due home taken got = ends_plain (record d { phase = phase.Holding t page (stored + 1) false }) (carried_of d.phase) (λ t e. absurd cc) (ap carried_of (tells X d (StoresWord t page stored) i).1)
   ends (StoresLength t page stored) i word o due home taken got = ends_plain (record d { phase = phase.Holding t page stored true }) (carried_of d.phase) (λ t e. absurd cc) (ap carried_of (tells X d (StoresLength t page stored) i).1)
-  ends (GivesBack t page leaving) i word o due home taken got = ends_plain (rested d leaving t) (rest (carried_of d.phase)) (λ t e. absurd cc) (ap (λ ph. rest (carried_of ph)) (tells X d (GivesBack t page leaving) i).2)
-  ends (HasHanded t leaving) i word o due home taken got = ends_plain (rested d leaving t) (carried_of d.phase) (λ t e. absurd cc) (ap carried_of (tells X d (HasHanded t leaving) i))
+  ends (GivesBack t page reason) i word o due home taken got = ends_plain (core_at_rest d reason t) (rest (carried_of d.phase)) (λ t e. absurd cc) (ap (λ ph. rest (carried_of ph)) (tells X d (GivesBack t page reason) i).2)
+  ends (HasHanded t reason) i word o due home taken got = ends_plain (core_at_rest d reason t) (carried_of d.phase) (λ t e. absurd cc) (ap carried_of (tells X d (HasHanded t reason) i))
 
   -- ---- the whole turn
   module _ (m m1 m2 : Sat E) (word got : ℕ) (o : Op) (due : op_at X d (situation_of X d) word ≡ Some o) (carried : m.1 ≡ carried_of d.phase) (d1 d2 : Core E)

@@ -22,11 +22,11 @@ use Rattle.bus_ownerbits.specs.declared.stages.Stage.{Stage}
 use Rattle.bus_ownerbits.specs.declared.stages.Stage.TheVariants.{Announce, Propose, Search, Alone}
 use Rattle.bus_ownerbits.specs.Election.{election_kind, kind_at as election_kind_at}
 use Rattle.bus_ownerbits.specs.ElectionKeeps.{StageBelongs, begun_at}
-use Rattle.bus_ownerbits.proofs.ElectionLaws.{searches}
+use Rattle.bus_ownerbits.proofs.ElectionIsLawful.{searches}
 use Rattle.bus_ownerbits.specs.Sizes.{decision_cost}
 use Rattle.bus_tenure.specs.declared.pages.Page.{Page}
-use Rattle.bus_tenure.specs.declared.phases.Leaving.{Leaving}
-use Rattle.bus_tenure.specs.declared.phases.Leaving.TheVariants.{Sent, FoundEnd, NoRoom}
+use Rattle.bus_tenure.specs.declared.phases.Reason.{Reason}
+use Rattle.bus_tenure.specs.declared.phases.Reason.TheVariants.{Sent, FoundEnd, NoRoom}
 use Rattle.bus_tenure.specs.declared.phases.Phase.TheVariants.{Electing, Holding}
 use Rattle.bus_tenure.specs.Core.{Core, row_at, frame_len, has_room}
 use Rattle.bus_tenure.specs.Situations.{Situation, GivesBack, StoresWord, StoresLength, holding}
@@ -53,12 +53,12 @@ module _ {E : Type 0} (t : ℕ) (page : Page) (stored : ℕ) where
   told_length false false true true h = absurd cc
   told_length false false true false h = (refl, refl, refl, refl)
 
-  told_back : (p e r l : Bool) (leaving : Leaving) → told p e r l ≡ GivesBack t page leaving → (p ≡ true) ⊎ ((e ≡ true) ⊎ (r ≡ false))
-  told_back true e r l leaving h = inl refl
-  told_back false true r l leaving h = inr (inl refl)
-  told_back false false false l leaving h = inr (inr refl)
-  told_back false false true true leaving h = absurd cc
-  told_back false false true false leaving h = absurd cc
+  told_back : (p e r l : Bool) (reason : Reason) → told p e r l ≡ GivesBack t page reason → (p ≡ true) ⊎ ((e ≡ true) ⊎ (r ≡ false))
+  told_back true e r l reason h = inl refl
+  told_back false true r l reason h = inr (inl refl)
+  told_back false false false l reason h = inr (inr refl)
+  told_back false false true true reason h = absurd cc
+  told_back false false true false reason h = absurd cc
 
 module _ {E : Type 0} (c : Core E) (t : ℕ) (page : Page) (stored : ℕ) (published : Bool) (at : c.phase ≡ Holding t page stored published) where
   pub word_cause : holding c t page stored published ≡ StoresWord t page stored → HasWordLeft c
@@ -81,14 +81,14 @@ module _ {E : Type 0} (c : Core E) (t : ℕ) (page : Page) (stored : ℕ) (publi
         holds = record { tenure = t; page = page; holds = at ∙ ap (Holding t page stored) q.0 ∙ ap (λ z. Holding t page z false) all; not_ended = q.1; room = leb-true _ _ q.2 };
       }
 
-  pub back_cause : (leaving : Leaving) → holding c t page stored published ≡ GivesBack t page leaving → LeavesPage c
-  back_cause leaving h = record {
+  pub back_cause : (reason : Reason) → holding c t page stored published ≡ GivesBack t page reason → LeavesPage c
+  back_cause reason h = record {
     tenure = t;
     page = page;
     stored = stored;
     published = published;
     holds = at;
-    why = elim (told_back {E = E} t page stored published page.ended (has_room c page) (nat_lt stored (frame_len c)) leaving h) [
+    why = elim (told_back {E = E} t page stored published page.ended (has_room c page) (nat_lt stored (frame_len c)) reason h) [
       | inl x ↦ inl x
       | inr y ↦ elim y [ inl x ↦ inr (inl x) | inr x ↦ inr (inr (leb-false _ _ x)) ]
     ];

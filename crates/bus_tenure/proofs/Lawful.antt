@@ -6,15 +6,15 @@ use Rattle.bus_register.specs.Protocol.{Protocol, Laws}
 use Rattle.bus_adoptcommit.specs.Agreement.{Legal}
 use Rattle.bus_adoptcommit.specs.declared.verdicts.Verdict.{Verdict}
 use Rattle.bus_binconsensus.specs.DecideLaw.{DecideLaw}
-use Rattle.bus_binconsensus.proofs.DecideLaws.{decide_law}
+use Rattle.bus_binconsensus.proofs.DecideIsLawful.{decide_law}
 use Rattle.bus_binconsensus.specs.Objects.{decide_op, decide_fed, decide_protocol}
 use Rattle.bus_coinconc.specs.Conciliation.{Conciles}
 use Rattle.bus_coinconc.specs.Conciliator.{conciliator_op, conciliator_fed}
 use Rattle.bus_coinconc.proofs.ConciliatorLaws.{conciliator_laws}
 use Rattle.bus_coinconc.specs.ConciliatorProtocol.{conciliator_protocol}
 use Rattle.bus_ownerbits.specs.Election.{election_op, election_fed}
-use Rattle.bus_ownerbits.specs.ElectionKeeps.{OneOwner}
-use Rattle.bus_ownerbits.proofs.ElectionLaws.{election_laws}
+use Rattle.bus_ownerbits.specs.OneOwner.{OneOwner}
+use Rattle.bus_ownerbits.proofs.ElectionIsLawful.{election_laws}
 use Rattle.bus_ownerbits.proofs.ElectionSteps.{row_within, turns_after}
 use Rattle.bus_ownerbits.specs.Sizes.{decision_cost}
 use Rattle.bus_tenure.specs.declared.phases.Phase.TheVariants.{Electing}

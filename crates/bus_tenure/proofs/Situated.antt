@@ -3,7 +3,7 @@ use Rattle.std.proofs.Common.{◌≡◌, ℕ, Bool, true, false, cond, ◌&&◌,
 use Rattle.bus_tenure.specs.Core.{Core, Election, frame_len, has_room, is_empty, is_closing, is_closed}
 use Rattle.bus_tenure.specs.Situations.{Situation, IsClosed, IsIdle, IsSpent, LooksAtStage, Elects, TakesPage, AwaitsPage, StoresWord, StoresLength, GivesBack, HasHanded, situation_at, situation_of}
 use Rattle.bus_tenure.specs.declared.pages.Page.{Page}
-use Rattle.bus_tenure.specs.declared.phases.Leaving.TheVariants.{Sent, FoundEnd, NoRoom}
+use Rattle.bus_tenure.specs.declared.phases.Reason.TheVariants.{Sent, FoundEnd, NoRoom}
 use Rattle.bus_tenure.specs.declared.phases.Phase.{Phase}
 use Rattle.bus_tenure.specs.declared.phases.Phase.TheVariants.{Resting, Electing, Taken, Holding, Giving}
 
@@ -18,8 +18,8 @@ module _ {E : Type 0} (X : Election E) where
   Tells (AwaitsPage t) ph = ph ≡ Taken t
   Tells (StoresWord t page stored) ph = (published : Bool) × (ph ≡ Holding t page stored published)
   Tells (StoresLength t page stored) ph = (published : Bool) × (ph ≡ Holding t page stored published)
-  Tells (GivesBack t page leaving) ph = (stored : ℕ) × (published : Bool) × (ph ≡ Holding t page stored published)
-  Tells (HasHanded t leaving) ph = ph ≡ Giving t leaving
+  Tells (GivesBack t page reason) ph = (stored : ℕ) × (published : Bool) × (ph ≡ Holding t page stored published)
+  Tells (HasHanded t reason) ph = ph ≡ Giving t reason
 
   by_rest : (a b d : Bool) → Tells (cond a IsClosed (cond b IsIdle (cond d IsSpent LooksAtStage))) Resting
   by_rest true b d = refl
@@ -43,7 +43,7 @@ module _ {E : Type 0} (X : Election E) where
   tells_at c (Electing t e) = by_owner (is_some (X.owner e)) t e refl
   tells_at c (Taken t) = refl
   tells_at c (Holding t page stored published) = by_hold published page.ended (has_room c page) (nat_lt stored (frame_len c)) published t stored page
-  tells_at c (Giving t leaving) = refl
+  tells_at c (Giving t reason) = refl
 
   pub tells : (c : Core E) (z : Situation E) → situation_of X c ≡ z → Tells z c.phase
   tells c z i = subst (λ s. Tells s c.phase) i (tells_at c c.phase)

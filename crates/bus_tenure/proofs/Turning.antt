@@ -7,7 +7,7 @@ use Rattle.bus_ownerbits.specs.ElectionNames.{sender}
 use Rattle.bus_tenure.specs.declared.phases.Phase.TheVariants.{Resting, Electing}
 use Rattle.bus_tenure.specs.declared.turns.Turn.TheVariants as turn
 use Rattle.bus_tenure.specs.Core.{Core, Election, row_at}
-use Rattle.bus_tenure.specs.Situations.{Elects, TakesPage, situation_of, situation_at, op_at, elected, fed_at, answer_at, answer_of_election}
+use Rattle.bus_tenure.specs.Situations.{Elects, TakesPage, situation_of, situation_at, op_at, core_elected, fed_at, answer_at, answer_of_election}
 use Rattle.bus_tenure.specs.Keeping.{CoreKeeps, PhaseKeeps, IsElecting}
 
 pub sender_some : (x : Option ℕ) (v : SenderNo) → sender x ≡ Some v → x ≡ Some v.0
@@ -42,7 +42,7 @@ module _ {E : Type 0} (X : Election E) (c s : Core E) (same : c ≡ s) (t : ℕ)
     lost_state q back =
         ap (λ z. record c { queue = z; least = t + 1; phase = Resting }) back
         ∙ sym (ap (λ z. cond z (record c { phase = Electing t (X.fed e got word) }) (record c { queue = record c.queue { busy = false }; least = t + 1; phase = Resting })) other)
-        ∙ sym (ap (elected c t (X.fed e got word)) owner_is)
+        ∙ sym (ap (core_elected c t (X.fed e got word)) owner_is)
         ∙ sym (ap (λ z. fed_at X c z got word) here)
         ∙ ap (λ z. fed_at X z (situation_of X z) got word) same
 

@@ -19,7 +19,7 @@ use Rattle.bus_ownerbits.specs.declared.stages.Stage.TheVariants.{Propose, Searc
 use Rattle.bus_ownerbits.specs.Election.{fits_bits}
 use Rattle.bus_ownerbits.specs.Sizes.{bits_of}
 use Rattle.bus_tenure.specs.declared.pages.Page.{Page}
-use Rattle.bus_tenure.specs.declared.phases.Leaving.{Leaving}
+use Rattle.bus_tenure.specs.declared.phases.Reason.{Reason}
 use Rattle.bus_tenure.specs.declared.phases.Phase.TheVariants.{Resting, Electing, Holding, Giving}
 use Rattle.bus_tenure.specs.Core.{Core, Election, row_at, frame_len}
 use Rattle.bus_tenure.specs.Situations.{kind_at, situation_of}
@@ -128,8 +128,8 @@ pub record LeavesPage {E : Type 0} (c : Core E) : Type 0 where
 -- it has handed the page on
 pub record HasHandedOn {E : Type 0} (c : Core E) : Type 0 where
   pub tenure : ℕ
-  pub leaving : Leaving
-  pub gives : c.phase ≡ Giving tenure leaving
+  pub reason : Reason
+  pub gives : c.phase ≡ Giving tenure reason
 
 -- the sender has a cause for a step of this kind; the last two kinds are a receiver's
 abbrev pub HasCause : {S : Type 0} → Protocol S Bool Verdict → Core (Elector S) → Kind → Type 0

@@ -7,8 +7,8 @@ use Rattle.bus_batch.specs.declared.batches.Phase.{Phase as BatchPhase}
 use Rattle.bus_batch.specs.declared.batches.Phase.TheVariants.{Open, Closing, Closed}
 use Rattle.bus_batch.specs.Frames.{frame_words}
 use Rattle.bus_tenure.specs.declared.pages.Page.{Page}
-use Rattle.bus_tenure.specs.declared.phases.Leaving.{Leaving}
-use Rattle.bus_tenure.specs.declared.phases.Leaving.TheVariants.{Sent, FoundEnd, NoRoom}
+use Rattle.bus_tenure.specs.declared.phases.Reason.{Reason}
+use Rattle.bus_tenure.specs.declared.phases.Reason.TheVariants.{Sent, FoundEnd, NoRoom}
 use Rattle.bus_tenure.specs.declared.phases.Phase.{Phase}
 
 -- The words of a bus: the length, the stage, a row of so many words for each tenure, and the log.
@@ -81,7 +81,7 @@ abbrev pub has_room : {E : Type 0} → Core E → Page → Bool
 has_room c page = nat_le (page.words + frame_len c) c.layout.capacity
 
 -- the page as a holder hands it on: the numbers, the end mark, the tenures and the words brought up to date
-abbrev pub page_after : {E : Type 0} → Core E → ℕ → Page → Leaving → Page
+abbrev pub page_after : {E : Type 0} → Core E → ℕ → Page → Reason → Page
 page_after c t page Sent = record { next = slice_set page.next c.me (next_of c.queue); ended = is_closing c.queue.phase; tenures = t + 1; words = page.words + frame_len c }
 page_after c t page FoundEnd = record page { tenures = t + 1 }
 page_after c t page NoRoom = record page { tenures = t + 1 }

@@ -45,7 +45,7 @@ PhaseKeeps Belongs c Resting = c.queue.busy ≡ false
 PhaseKeeps Belongs c (Electing t e) = IsElecting Belongs c t e
 PhaseKeeps Belongs c (Taken t) = IsInTenure c t
 PhaseKeeps Belongs c (Holding t page stored published) = IsHolding c t page.words stored published
-PhaseKeeps Belongs c (Giving t leaving) = IsInTenure c t
+PhaseKeeps Belongs c (Giving t reason) = IsInTenure c t
 
 -- the batch is the sender's own, and as the phase has it
 pub record CoreKeeps {E : Type 0} (width : ℕ) (Belongs : ℕ → E → Type 0) (c : Core E) : Type 0 where

@@ -1,7 +1,7 @@
 -- What is seen of a sender from outside, beside its steps and answers.
 use Rattle.std.specs.Prelude.{◌≡◌, ℕ, Option, Some, None}
 use Rattle.bus_tenure.specs.declared.pages.Page.{Page}
-use Rattle.bus_tenure.specs.declared.phases.Leaving.{Leaving}
+use Rattle.bus_tenure.specs.declared.phases.Reason.{Reason}
 use Rattle.bus_tenure.specs.declared.phases.Phase.{Phase}
 use Rattle.bus_tenure.specs.declared.phases.Phase.TheVariants.{Resting, Electing, Taken, Holding, Giving}
 use Rattle.bus_tenure.specs.declared.holds.Hold.{Hold}
@@ -15,7 +15,7 @@ turns_of X Resting = 0
 turns_of X (Electing t e) = X.turns_left e
 turns_of X (Taken t) = 0
 turns_of X (Holding t page stored published) = 0
-turns_of X (Giving t leaving) = 0
+turns_of X (Giving t reason) = 0
 
 -- the tenure that is begun
 abbrev pub tenure_of : {E : Type 0} → Phase E → Option ℕ
@@ -23,7 +23,7 @@ tenure_of Resting = None
 tenure_of (Electing t e) = Some t
 tenure_of (Taken t) = Some t
 tenure_of (Holding t page stored published) = Some t
-tenure_of (Giving t leaving) = Some t
+tenure_of (Giving t reason) = Some t
 
 -- an election runs, or has chosen the sender
 pub record HasElection {E : Type 0} (phase : Phase E) : Type 0 where
@@ -40,11 +40,11 @@ pub record AwaitsItsPage {E : Type 0} (phase : Phase E) : Type 0 where
 pub record GivesItBack {E : Type 0} (z : Situation E) : Type 0 where
   pub tenure : ℕ
   pub page : Page
-  pub leaving : Leaving
-  pub is : z ≡ GivesBack tenure page leaving
+  pub reason : Reason
+  pub is : z ≡ GivesBack tenure page reason
 
 -- the situation of a holder of the page that goes on so
 abbrev pub held_by : {E : Type 0} → Hold → ℕ → Page → ℕ → Situation E
 held_by Word t page stored = StoresWord t page stored
 held_by Length t page stored = StoresLength t page stored
-held_by (Back leaving) t page stored = GivesBack t page leaving
+held_by (Back reason) t page stored = GivesBack t page reason

@@ -10,8 +10,8 @@ use Rattle.bus_batch.specs.declared.batches.Phase.TheVariants.{Closed}
 use Rattle.bus_batch.specs.Frames.{Frame, frame_words}
 use Rattle.bus_tenure.specs.Core.{Core, Election, length_at, stage_at, row_at, log_at, is_closing, is_closed, is_empty, frame_len, has_room, page_after}
 use Rattle.bus_tenure.specs.declared.pages.Page.{Page}
-use Rattle.bus_tenure.specs.declared.phases.Leaving.{Leaving}
-use Rattle.bus_tenure.specs.declared.phases.Leaving.TheVariants.{Sent, FoundEnd, NoRoom}
+use Rattle.bus_tenure.specs.declared.phases.Reason.{Reason}
+use Rattle.bus_tenure.specs.declared.phases.Reason.TheVariants.{Sent, FoundEnd, NoRoom}
 use Rattle.bus_tenure.specs.declared.phases.Phase.{Phase}
 use Rattle.bus_tenure.specs.declared.phases.Phase.TheVariants.{Resting, Electing, Taken, Holding, Giving}
 use Rattle.bus_tenure.specs.declared.turns.Turn.{Turn}
@@ -38,9 +38,9 @@ pub data Situation (E : Type 0) : Type 0 where
   -- all words of its frame are stored
   StoresLength : (tenure : ℕ) → Page → (stored : ℕ) → Situation E
   -- it gives the page back
-  GivesBack : (tenure : ℕ) → Page → Leaving → Situation E
+  GivesBack : (tenure : ℕ) → Page → Reason → Situation E
   -- it has handed the page on
-  HasHanded : (tenure : ℕ) → Leaving → Situation E
+  HasHanded : (tenure : ℕ) → Reason → Situation E
 
 abbrev pub resting : {E : Type 0} → Core E → Situation E
 resting c =
@@ -62,7 +62,7 @@ situation_at X c Resting = resting c
 situation_at X c (Electing t e) = electing X t e
 situation_at X c (Taken t) = AwaitsPage t
 situation_at X c (Holding t page stored published) = holding c t page stored published
-situation_at X c (Giving t leaving) = HasHanded t leaving
+situation_at X c (Giving t reason) = HasHanded t reason
 
 abbrev pub situation_of : {E : Type 0} → Election E → Core E → Situation E
 situation_of X c = situation_at X c c.phase
@@ -75,7 +75,7 @@ pub data PageMove : Type 0 where
   -- it leaves home and is laid before the sender, which has taken it
   Comes : (tenure : ℕ) → PageMove
   -- it goes home, as the next owner is to have it, from a sender that leaves its tenure so
-  Returns : (tenure : ℕ) → Leaving → Page → PageMove
+  Returns : (tenure : ℕ) → Reason → Page → PageMove
 
 pub record Line (E : Type 0) : Type 0 where
   -- the tenure that is begun
@@ -126,25 +126,25 @@ abbrev pub steps : {E : Type 0} → ℕ → Kind → Op → Core E → Turn → 
 steps t kind op after answer = record (blank after answer) { tenure = Some t; kind = Some kind; op = λ word. Some op }
 
 -- ---- what a step leaves that depends on what it found
-abbrev pub begun : {E : Type 0} → Election E → Core E → ℕ → Core E
-begun X c t = record c { queue = record c.queue { busy = true }; phase = Electing t (X.started c.layout.senders c.me c.layout.rounds (row_at c.layout t)) }
+abbrev pub core_begun : {E : Type 0} → Election E → Core E → ℕ → Core E
+core_begun X c t = record c { queue = record c.queue { busy = true }; phase = Electing t (X.started c.layout.senders c.me c.layout.rounds (row_at c.layout t)) }
 
 -- the stage is that of a held tenure, or of one that it may not enter any more
 abbrev pub waits : {E : Type 0} → Core E → ℕ → Bool
 waits c got = if got % 2 == 0 then nat_lt (got / 2) c.least else true
 
-abbrev pub saw_stage : {E : Type 0} → Election E → Core E → ℕ → Core E
-saw_stage X c got =
+abbrev pub core_after_stage : {E : Type 0} → Election E → Core E → ℕ → Core E
+core_after_stage X c got =
     if waits c got then c else
-    (if nat_le c.layout.rows (got / 2) then record c { least = got / 2 } else begun X c (got / 2))
+    (if nat_le c.layout.rows (got / 2) then record c { least = got / 2 } else core_begun X c (got / 2))
 
 abbrev pub answer_of_stage : {E : Type 0} → Core E → ℕ → Turn
 answer_of_stage c got = if waits c got then turn.Waiting else (if nat_le c.layout.rows (got / 2) then turn.Spent else turn.Going)
 
 -- it lost this tenure to an owner that is not itself
-abbrev pub elected : {E : Type 0} → Core E → ℕ → E → Option ℕ → Core E
-elected c t e None = record c { phase = Electing t e }
-elected c t e (Some o) = if o == c.me then record c { phase = Electing t e } else record c { queue = record c.queue { busy = false }; least = t + 1; phase = Resting }
+abbrev pub core_elected : {E : Type 0} → Core E → ℕ → E → Option ℕ → Core E
+core_elected c t e None = record c { phase = Electing t e }
+core_elected c t e (Some o) = if o == c.me then record c { phase = Electing t e } else record c { queue = record c.queue { busy = false }; least = t + 1; phase = Resting }
 
 abbrev pub answer_of_election : {E : Type 0} → Core E → ℕ → Option ℕ → Turn
 answer_of_election c t None = turn.Going
@@ -152,18 +152,18 @@ answer_of_election c t (Some o) = if o == c.me then turn.Going else turn.Lost t 
 
 -- ---- what the end of a tenure leaves
 -- the queue back from a tenure: its contents kept, or sent, or kept for good
-abbrev pub queue_after : Leaving → Pending → Pending
+abbrev pub queue_after : Reason → Pending → Pending
 queue_after Sent q = record { sender = q.sender; first = next_of q; messages = []; phase = sent q.phase; busy = false }
 queue_after FoundEnd q = record q { phase = Closed; busy = false }
 queue_after NoRoom q = record q { busy = false }
 
-abbrev pub rested : {E : Type 0} → Core E → Leaving → ℕ → Core E
-rested c leaving t = record c { queue = queue_after leaving c.queue; least = t + 1; phase = Resting }
+abbrev pub core_at_rest : {E : Type 0} → Core E → Reason → ℕ → Core E
+core_at_rest c reason t = record c { queue = queue_after reason c.queue; least = t + 1; phase = Resting }
 
-abbrev pub answer_of_leaving : Pending → ℕ → Leaving → Turn
-answer_of_leaving q t Sent = if is_closing q.phase then turn.Closed else turn.Delivered t q.first (next_of q - 1)
-answer_of_leaving q t FoundEnd = turn.Closed
-answer_of_leaving q t NoRoom = turn.Full
+abbrev pub answer_of_return : Pending → ℕ → Reason → Turn
+answer_of_return q t Sent = if is_closing q.phase then turn.Closed else turn.Delivered t q.first (next_of q - 1)
+answer_of_return q t FoundEnd = turn.Closed
+answer_of_return q t NoRoom = turn.Full
 
 -- ---- THE TABLE: one line for each situation
 abbrev pub line_of : {E : Type 0} → Election E → Core E → Situation E → Line E
@@ -173,7 +173,7 @@ line_of X c IsSpent = rests c turn.Spent
 line_of X c LooksAtStage = record (blank c turn.Going) {
   kind = Some kind.LoadStage;
   op = λ word. Some (Load record { 0 = stage_at });
-  fed = λ got word. saw_stage X c got;
+  fed = λ got word. core_after_stage X c got;
   answer = λ got word. answer_of_stage c got;
 }
 line_of X c (Elects t e) = record (blank c turn.Going) {
@@ -181,7 +181,7 @@ line_of X c (Elects t e) = record (blank c turn.Going) {
   kind = X.kind_of e;
   op = X.op e;
   wants_word = X.wants_word e;
-  fed = λ got word. elected c t (X.fed e got word) (X.owner (X.fed e got word));
+  fed = λ got word. core_elected c t (X.fed e got word) (X.owner (X.fed e got word));
   answer = λ got word. answer_of_election c t (X.owner (X.fed e got word));
   chosen = λ got word. X.owner (X.fed e got word);
 }
@@ -191,9 +191,9 @@ line_of X c (StoresWord t page stored) =
     steps t kind.StoreLogWord (Store record { 0 = log_at c.layout + page.words + stored } (slice_index (frame_words (frame_of c.queue t)) stored)) (record c { phase = Holding t page (stored + 1) false }) turn.Going
 line_of X c (StoresLength t page stored) =
     record (steps t kind.StoreLength (Store record { 0 = length_at } (page.words + frame_len c)) (record c { phase = Holding t page stored true }) turn.Going) { publishes = Some (frame_of c.queue t) }
-line_of X c (GivesBack t page leaving) =
-    record (steps t kind.GivePageBack (Store record { 0 = stage_at } (2 * t + 2)) (rested c leaving t) (answer_of_leaving c.queue t leaving)) { move = Returns t leaving (page_after c t page leaving) }
-line_of X c (HasHanded t leaving) = steps t kind.GivePageBack (Store record { 0 = stage_at } (2 * t + 2)) (rested c leaving t) (answer_of_leaving c.queue t leaving)
+line_of X c (GivesBack t page reason) =
+    record (steps t kind.GivePageBack (Store record { 0 = stage_at } (2 * t + 2)) (core_at_rest c reason t) (answer_of_return c.queue t reason)) { move = Returns t reason (page_after c t page reason) }
+line_of X c (HasHanded t reason) = steps t kind.GivePageBack (Store record { 0 = stage_at } (2 * t + 2)) (core_at_rest c reason t) (answer_of_return c.queue t reason)
 
 -- ---- a line, read by its parts
 abbrev pub tenure_at : {E : Type 0} → Election E → Core E → Situation E → Option ℕ

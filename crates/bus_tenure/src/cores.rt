@@ -14,9 +14,10 @@ ghost use Rattle.bus_tenure.specs.Core.{Core, row_at, words_of, is_closing, is_c
 ghost use Rattle.bus_tenure.specs.Core.{frame_len, has_room, page_after};
 ghost use Rattle.bus_tenure.specs.Situations.{line_of, Situation, LooksAtStage, GivesBack, resting};
 ghost use Rattle.bus_tenure.specs.Situations.{electing, holding, situation_at, situation_of};
-ghost use Rattle.bus_tenure.specs.Situations.{kind_at, op_at, rested, saw_stage, elected, fed_at};
+ghost use Rattle.bus_tenure.specs.Situations.{kind_at, op_at, core_at_rest, core_after_stage};
+ghost use Rattle.bus_tenure.specs.Situations.{core_elected, fed_at};
 ghost use Rattle.bus_tenure.specs.Situations.{answer_of_stage, answer_of_election};
-ghost use Rattle.bus_tenure.specs.Situations.{answer_of_leaving, rest_at, answer_at, wants_at};
+ghost use Rattle.bus_tenure.specs.Situations.{answer_of_return, rest_at, answer_at, wants_at};
 ghost use Rattle.bus_tenure.specs.declared.phases.Phase.TheVariants as phase;
 ghost use Rattle.bus_tenure.specs.Elections.{election_of, elections, layout_with};
 ghost use Rattle.bus_tenure.specs.Keeping.{IsUnderWay, IsInTenure, IsHolding, AreSizes};
@@ -25,7 +26,7 @@ ghost use Rattle.bus_tenure.specs.Seen.{GivesItBack, held_by};
 
 use super::holds::Hold;
 use super::pages::Page;
-use super::phases::{Leaving, Phase};
+use super::phases::{Phase, Reason};
 use super::turns::Turn;
 use bus_adoptcommit::Ratifier;
 use bus_batch::{Batch, CloseFault, PutFault};
@@ -273,14 +274,14 @@ impl<Q: Ratifier + Drop> SenderCore<Q> {
             × (stored < frame_len self.now) }
         ensures length { result ≡ Hold.Length
             → page.words + frame_len self.now ≤ self.now.layout.capacity }
-        ensures sent { result ≡ Hold.Back Leaving.Sent → published ≡ true }
+        ensures sent { result ≡ Hold.Back Reason.Sent → published ≡ true }
     {
         if published {
-            Hold::Back(Leaving::Sent)
+            Hold::Back(Reason::Sent)
         } else if page.ended {
-            Hold::Back(Leaving::FoundEnd)
+            Hold::Back(Reason::FoundEnd)
         } else if !self.has_room(page) {
-            Hold::Back(Leaving::NoRoom)
+            Hold::Back(Reason::NoRoom)
         } else if stored < self.frame_len() {
             Hold::Word
         } else {
@@ -424,7 +425,8 @@ impl<Q: Ratifier + Drop> SenderCore<Q> {
     fn see_stage(&mut self, got: u64) -> Turn
         requires rests { self.old.phase ≡ phase.Resting }
         requires looks { resting self.old ≡ LooksAtStage }
-        ensures state { let X = election_of Q.Ratifier in self.new ≡ saw_stage X self.old got }
+        ensures state { let X = election_of Q.Ratifier in
+            self.new ≡ core_after_stage X self.old got }
         ensures answer { result ≡ answer_of_stage self.old got }
     {
         let tenure = got / 2;
@@ -477,18 +479,18 @@ impl<Q: Ratifier + Drop> SenderCore<Q> {
     }
 
     /// Ends the tenure: the contents are sent, or come back, or are never sent.
-    fn finish(&mut self, tenure: u64, leaving: Leaving) -> Turn
+    fn finish(&mut self, tenure: u64, reason: Reason) -> Turn
         requires { IsInTenure self.old tenure }
-        ensures state { self.new ≡ rested self.old leaving tenure }
-        ensures answer { result ≡ answer_of_leaving self.old.queue tenure leaving }
+        ensures state { self.new ≡ core_at_rest self.old reason tenure }
+        ensures answer { result ≡ answer_of_return self.old.queue tenure reason }
     {
         let closing = self.is_closing();
         let next = self.next_number();
         let first = next - self.pending();
         self.least = tenure + 1;
         self.phase = Phase::Resting;
-        match leaving {
-            Leaving::Sent => {
+        match reason {
+            Reason::Sent => {
                 self.batch.done();
                 if closing {
                     Turn::Closed
@@ -500,11 +502,11 @@ impl<Q: Ratifier + Drop> SenderCore<Q> {
                     }
                 }
             }
-            Leaving::FoundEnd => {
+            Reason::FoundEnd => {
                 self.batch.ended();
                 Turn::Closed
             }
-            Leaving::NoRoom => {
+            Reason::NoRoom => {
                 self.batch.back();
                 Turn::Full
             }
@@ -542,7 +544,7 @@ impl<Q: Ratifier + Drop> SenderCore<Q> {
                 };
                 Turn::Going
             }
-            Hold::Back(leaving) => self.finish(tenure, leaving),
+            Hold::Back(reason) => self.finish(tenure, reason),
         }
     }
 
@@ -565,7 +567,7 @@ impl<Q: Ratifier + Drop> SenderCore<Q> {
                 stored,
                 published,
             } => self.hold_on(tenure, page, stored, published),
-            Phase::Giving { tenure, leaving } => self.finish(tenure, leaving),
+            Phase::Giving { tenure, reason } => self.finish(tenure, reason),
         }
     }
 
@@ -616,15 +618,15 @@ impl<Q: Ratifier + Drop> SenderCore<Q> {
 
     /// The page as the next owner is to have it. After a frame the sender's number, the end mark
     /// and the words are brought up to date.
-    fn page_handed(&self, tenure: u64, page: Page, leaving: Leaving) -> Page
+    fn page_handed(&self, tenure: u64, page: Page, reason: Reason) -> Page
         requires below { tenure < 2 ^ 63 }
-        requires room { leaving ≡ Leaving.Sent → page.words + frame_len self.now < 2 ^ 64 }
+        requires room { reason ≡ Reason.Sent → page.words + frame_len self.now < 2 ^ 64 }
         requires something { HasSomething self.now.queue }
-        ensures { result ≡ page_after self.now tenure page leaving }
+        ensures { result ≡ page_after self.now tenure page reason }
     {
         let tenures = tenure + 1;
-        match leaving {
-            Leaving::Sent => {
+        match reason {
+            Reason::Sent => {
                 let mut next = page.next;
                 next[usize::from(self.me.0)] = self.next_number();
                 Page {
@@ -634,7 +636,7 @@ impl<Q: Ratifier + Drop> SenderCore<Q> {
                     words: page.words + self.frame_len(),
                 }
             }
-            Leaving::FoundEnd | Leaving::NoRoom => Page { tenures, ..page },
+            Reason::FoundEnd | Reason::NoRoom => Page { tenures, ..page },
         }
     }
 
@@ -642,13 +644,13 @@ impl<Q: Ratifier + Drop> SenderCore<Q> {
     pub fn hand(&mut self) -> Page
         requires { let X = election_of Q.Ratifier in GivesItBack (situation_of X self.old) }
         ensures page { let X = election_of Q.Ratifier in
-            (t : ℕ) (page : Page) (leaving : Leaving)
-            → situation_of X self.old ≡ GivesBack t page leaving
-            → result ≡ page_after self.old t page leaving }
+            (t : ℕ) (page : Page) (reason : Reason)
+            → situation_of X self.old ≡ GivesBack t page reason
+            → result ≡ page_after self.old t page reason }
         ensures state { let X = election_of Q.Ratifier in
-            (t : ℕ) (page : Page) (leaving : Leaving)
-            → situation_of X self.old ≡ GivesBack t page leaving
-            → self.new ≡ record self.old { phase = phase.Giving t leaving } }
+            (t : ℕ) (page : Page) (reason : Reason)
+            → situation_of X self.old ≡ GivesBack t page reason
+            → self.new ≡ record self.old { phase = phase.Giving t reason } }
     {
         if let Phase::Holding {
             tenure,
@@ -657,9 +659,9 @@ impl<Q: Ratifier + Drop> SenderCore<Q> {
             published,
         } = self.phase
         {
-            if let Hold::Back(leaving) = self.hold(page, stored, published) {
-                self.phase = Phase::Giving { tenure, leaving };
-                return self.page_handed(tenure, page, leaving);
+            if let Hold::Back(reason) = self.hold(page, stored, published) {
+                self.phase = Phase::Giving { tenure, reason };
+                return self.page_handed(tenure, page, reason);
             }
         }
         unreachable!()

@@ -1,6 +1,6 @@
 //! What a holder of the page does next.
 
-use super::phases::Leaving;
+use super::phases::Reason;
 
 /// What a holder of the page does next.
 #[derive(Clone, Copy, Debug, PartialEq, Eq)]
@@ -10,5 +10,5 @@ pub enum Hold {
     /// It stores the length.
     Length,
     /// It gives the page back.
-    Back(Leaving),
+    Back(Reason),
 }

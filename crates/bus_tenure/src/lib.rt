@@ -10,5 +10,5 @@ pub mod turns;
 
 pub use cores::SenderCore;
 pub use pages::Page;
-pub use phases::{Leaving, Phase};
+pub use phases::{Phase, Reason};
 pub use turns::Turn;

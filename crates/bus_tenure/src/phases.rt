@@ -4,7 +4,7 @@ use super::pages::Page;
 
 /// Why a holder gives the page back.
 #[derive(Clone, Copy, Debug, PartialEq, Eq)]
-pub enum Leaving {
+pub enum Reason {
     /// Its frame stands in the log.
     Sent,
     /// It found the order ended.
@@ -37,6 +37,6 @@ pub enum Phase<E> {
     /// It has handed the page on and stores the stage next.
     Giving {
         tenure: u64,
-        leaving: Leaving,
+        reason: Reason,
     },
 }

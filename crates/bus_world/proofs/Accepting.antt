@@ -19,7 +19,7 @@ use Rattle.bus_tenure.specs.Core.{Core, Election, Layout, log_at, is_empty}
 use Rattle.bus_tenure.specs.declared.pages.Page.{Page}
 use Rattle.bus_tenure.specs.declared.phases.Phase.{Phase as SenderPhase}
 use Rattle.bus_tenure.specs.declared.phases.Phase.TheVariants as phase
-use Rattle.bus_ownerbits.specs.ElectionKeeps.{OneOwner}
+use Rattle.bus_ownerbits.specs.OneOwner.{OneOwner}
 use Rattle.bus_world.specs.Log.{sent}
 use Rattle.bus_world.proofs.LogLaws.{length-read, log_words-append}
 use Rattle.bus_world.specs.Bus.{IsLayout, Part, Fits, Sending}
@@ -91,7 +91,7 @@ idle_rests words frames c (phase.Electing t u) f e = absurd (true≢false (sym f
 idle_rests words frames c (phase.Taken t) f e = absurd f
 idle_rests words frames c (phase.Holding t page stored true) f e = absurd (true≢false (sym f.0.busy ∙ e))
 idle_rests words frames c (phase.Holding t page stored false) f e = absurd (true≢false (sym f.0.busy ∙ e))
-idle_rests words frames c (phase.Giving t leaving) f e = absurd f
+idle_rests words frames c (phase.Giving t reason) f e = absurd f
 
 module _ {E : Type 0} (X : Election E) (P : Protocol E (Unit {0}) ℕ) (laws : Laws X.op X.fed P OneOwner) (x : Layout) (ok : IsLayout x) (width : x.width ≡ P.width x.senders)
     (words : ℕ → ℕ) (home : Option Page) (owners : List ℕ) (frames : List Frame) (p : ℕ) where
@@ -109,7 +109,7 @@ module _ {E : Type 0} (X : Election E) (P : Protocol E (Unit {0}) ℕ) (laws : L
         let more = ap length (ap log_words written.frames_are ∙ log_words-append written.front (frame_of c.queue t)) ∙ length-append (log_words written.front) (frame_words (frame_of c.queue t)) in
         omega arith
     first_below (phase.Holding t page stored false) f = let short = sent_short c.me frames in let base = f.1.base in omega arith
-    first_below (phase.Giving t leaving) f = absurd f
+    first_below (phase.Giving t reason) f = absurd f
 
     pub numbers_fit : next_of c.queue < 2 ^ 48
     numbers_fit =

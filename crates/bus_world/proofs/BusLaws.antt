@@ -16,9 +16,9 @@ use Rattle.bus_register.specs.Protocol.{Protocol, Laws}
 use Rattle.bus_batch.specs.Batches.{Pending, IsKept, next_of, frame_of}
 use Rattle.bus_batch.specs.Frames.{Frame, frame_words, IsFrame, items_of, has_end}
 use Rattle.bus_tenure.specs.Core.{Core, Election, Layout, log_at, frame_len, page_after}
-use Rattle.bus_tenure.specs.Situations.{rested, queue_after}
-use Rattle.bus_tenure.specs.declared.phases.Leaving.{Leaving}
-use Rattle.bus_tenure.specs.declared.phases.Leaving.TheVariants.{Sent, FoundEnd, NoRoom}
+use Rattle.bus_tenure.specs.Situations.{core_at_rest, queue_after}
+use Rattle.bus_tenure.specs.declared.phases.Reason.{Reason}
+use Rattle.bus_tenure.specs.declared.phases.Reason.TheVariants.{Sent, FoundEnd, NoRoom}
 use Rattle.bus_tenure.specs.declared.pages.Page.{Page}
 use Rattle.bus_tenure.specs.declared.phases.Phase.{Phase}
 use Rattle.bus_tenure.specs.declared.phases.Phase.TheVariants as phase
@@ -27,8 +27,8 @@ use Rattle.bus_register.specs.Tables.{put}
 use Rattle.bus_register.specs.Proved.TableLaws.{put_here, put_beside, some_or_none, push_beside}
 use Rattle.bus_world.proofs.LogLaws.{read-agree, Logged-agree, Logged-publish, sent-append_other, sent-append_owner, has_end-append, AreEarlier-append, AreEarlier-later}
 use Rattle.bus_batch.proofs.BatchLaws.{is_frame}
-use Rattle.bus_world.proofs.QueueLaws.{counted_frame, length-items, ends-body}
-use Rattle.bus_ownerbits.specs.ElectionKeeps.{OneOwner}
+use Rattle.bus_world.proofs.FrameOfBatch.{counted_frame, length-items, ends-body}
+use Rattle.bus_ownerbits.specs.OneOwner.{OneOwner}
 use Rattle.bus_ownerbits.proofs.ElectionSteps.{row_within}
 use Rattle.bus_world.specs.Tenures.{Standing}
 use Rattle.bus_world.specs.Tenures.Standing.{Runs, Holds}
@@ -68,7 +68,7 @@ module _ {E : Type 0} (x : Layout) (words words' : ℕ → ℕ) (frames : List F
   Fits-agree (phase.Taken t) f = f
   Fits-agree (phase.Holding t page stored false) f = (f.0, writing_stays t page stored f.1)
   Fits-agree (phase.Holding t page stored true) f = (f.0, let h = f.1 in record { front = h.front; frames_are = h.frames_are; base = h.base; page_knows = h.page_knows; earlier = h.earlier; is_open = h.is_open; len_is = len ∙ h.len_is })
-  Fits-agree (phase.Giving t leaving) f = f
+  Fits-agree (phase.Giving t reason) f = f
 
 pub Part-agree : {E : Type 0} (x : Layout) (words words' : ℕ → ℕ) (frames : List Frame) (p : ℕ) (c : Core E) → Agree (log_at x) x.capacity words words' → words' 0 ≡ words 0 → Part x words frames p c → Part x words' frames p c
 Part-agree x words words' frames p c agree len h = record { layout = h.layout; me = h.me; below = h.below; sender = h.sender; queue = h.queue; fits = Fits-agree x words words' frames c h.layout agree len c.phase h.fits }
@@ -79,7 +79,7 @@ Fits-rests words words' frames frames' c phase.Resting free e f = (f.0, f.1 ∙ 
 Fits-rests words words' frames frames' c (phase.Electing t u) free e f = (f.0, f.1 ∙ sym e)
 Fits-rests words words' frames frames' c (phase.Taken t) free e f = absurd (free t refl)
 Fits-rests words words' frames frames' c (phase.Holding t page stored published) free e f = absurd (free t refl)
-Fits-rests words words' frames frames' c (phase.Giving t leaving) free e f = absurd (free t refl)
+Fits-rests words words' frames frames' c (phase.Giving t reason) free e f = absurd (free t refl)
 
 pub Part-rests : {E : Type 0} (x : Layout) (words words' : ℕ → ℕ) (frames frames' : List Frame) (p : ℕ) (c : Core E) → ((t : ℕ) → stands_at c.phase ≡ Holds t → ⊥) → sent p frames' ≡ sent p frames → Part x words frames p c → Part x words' frames' p c
 Part-rests x words words' frames frames' p c free e h = record {
@@ -103,12 +103,12 @@ holding_apart u page k published t e h = cc
 same_electing : {E : Type 0} (t u : ℕ) (e f : E) → phase.Electing t e ≡ phase.Electing u f → e ≡ f
 same_electing t u e f h = cc
 
-not_busy : (leaving : Leaving) (q : Pending) → (queue_after leaving q).busy ≡ false
+not_busy : (reason : Reason) (q : Pending) → (queue_after reason q).busy ≡ false
 not_busy Sent q = refl
 not_busy FoundEnd q = refl
 not_busy NoRoom q = refl
 
-sender_after : (leaving : Leaving) (q : Pending) → (queue_after leaving q).sender ≡ q.sender
+sender_after : (reason : Reason) (q : Pending) → (queue_after reason q).sender ≡ q.sender
 sender_after Sent q = refl
 sender_after FoundEnd q = refl
 sender_after NoRoom q = refl
@@ -117,22 +117,22 @@ none_short : All IsMessage []
 none_short = All-from_recursion IsMessage [] tt
 
 -- the frame was not published
-abbrev pub IsUnsent : Leaving → Type 0
+abbrev pub IsUnsent : Reason → Type 0
 IsUnsent Sent = ⊥
 IsUnsent FoundEnd = Unit {0}
 IsUnsent NoRoom = Unit {0}
 
-unsent_base : (leaving : Leaving) → IsUnsent leaving → (q : Pending) → (queue_after leaving q).first ≡ q.first
+unsent_base : (reason : Reason) → IsUnsent reason → (q : Pending) → (queue_after reason q).first ≡ q.first
 unsent_base Sent u q = absurd u
 unsent_base FoundEnd u q = refl
 unsent_base NoRoom u q = refl
 
-unsent_queue : (leaving : Leaving) → IsUnsent leaving → (q : Pending) → IsKept q → IsKept (queue_after leaving q)
+unsent_queue : (reason : Reason) → IsUnsent reason → (q : Pending) → IsKept q → IsKept (queue_after reason q)
 unsent_queue Sent u q is = absurd u
 unsent_queue FoundEnd u q is = record { few = is.few; each = is.each; numbers = is.numbers; alone = λ e. absurd cc; owner_bits = is.owner_bits }
 unsent_queue NoRoom u q is = record { few = is.few; each = is.each; numbers = is.numbers; alone = is.alone; owner_bits = is.owner_bits }
 
-unsent_knows : {E : Type 0} (leaving : Leaving) → IsUnsent leaving → (c : Core E) (t : ℕ) (page : Page) (frames : List Frame) (len : ℕ) → Knows page frames t len → Knows (page_after c t page leaving) frames (t + 1) len
+unsent_knows : {E : Type 0} (reason : Reason) → IsUnsent reason → (c : Core E) (t : ℕ) (page : Page) (frames : List Frame) (len : ℕ) → Knows page frames t len → Knows (page_after c t page reason) frames (t + 1) len
 unsent_knows Sent u c t page frames len k = absurd u
 unsent_knows FoundEnd u c t page frames len k = record { entries = k.entries; next = k.next; ended = k.ended; tenures = refl; words = k.words }
 unsent_knows NoRoom u c t page frames len k = record { entries = k.entries; next = k.next; ended = k.ended; tenures = refl; words = k.words }
@@ -228,11 +228,11 @@ module _ {E : Type 0} (X : Election E) (P : Protocol E (Unit {0}) ℕ) (laws : L
 
       -- ── a load of the stage that raises the first tenure it may enter ──
       pub spends : c'.phase ≡ phase.Resting → c.phase ≡ phase.Resting → c.least ≤ c'.least → Part x words frames p c' → Sending P x words home senders' owners frames
-      spends rests rested more part = record {
+      spends rests core_at_rest more part = record {
         tenures = tenures.same X.op X.fed P laws x.senders x.rows 2 words (words 1) (is_some home) S L' owners
-            (tenures.raises X.op X.fed P laws x.senders x.rows 2 words (words 1) (is_some home) S L owners h.tenures p L' (stand p c old ∙ ap (λ z. Some (stands_at z)) rested) L-beside
+            (tenures.raises X.op X.fed P laws x.senders x.rows 2 words (words 1) (is_some home) S L owners h.tenures p L' (stand p c old ∙ ap (λ z. Some (stands_at z)) core_at_rest) L-beside
             (let a = least_is p c old in let b = ap least_of new in omega arith))
-            words (words 1) (is_some home) S' L' owners (λ r a b. refl) refl refl (S-same (ap stands_at (rests ∙ sym rested))) (λ q. refl) refl;
+            words (words 1) (is_some home) S' L' owners (λ r a b. refl) refl refl (S-same (ap stands_at (rests ∙ sym core_at_rest))) (λ q. refl) refl;
         log = h.log;
         owned = h.owned;
         page_knows = h.page_knows;
@@ -242,9 +242,9 @@ module _ {E : Type 0} (X : Election E) (P : Protocol E (Unit {0}) ℕ) (laws : L
 
       -- ── a load of the stage that begins a tenure ──
       pub begins : (t : ℕ) → c.phase ≡ phase.Resting → words 1 ≡ 2 * t → c.least ≤ t → t < x.rows → p < x.senders → c'.phase ≡ phase.Electing t (P.started x.senders p tt (2 + t * P.width x.senders)) → c'.least ≡ c.least → Part x words frames p c' → Sending P x words home senders' owners frames
-      begins t rested is_open enters room below began least part = record {
+      begins t core_at_rest is_open enters room below began least part = record {
         tenures = tenures.same X.op X.fed P laws x.senders x.rows 2 words (words 1) (is_some home) S' L owners
-            (tenures.begins X.op X.fed P laws x.senders x.rows 2 words (words 1) (is_some home) S L owners h.tenures p t below (omega (arith, ok.senders)) (stand p c old ∙ ap (λ z. Some (stands_at z)) rested) is_open
+            (tenures.begins X.op X.fed P laws x.senders x.rows 2 words (words 1) (is_some home) S L owners h.tenures p t below (omega (arith, ok.senders)) (stand p c old ∙ ap (λ z. Some (stands_at z)) core_at_rest) is_open
             (let a = least_is p c old in omega arith) room S' (now ∙ ap (λ z. Some (stands_at z)) began) S-beside)
             words (words 1) (is_some home) S' L' owners (λ r a b. refl) refl refl (λ q. refl) (L-same least) refl;
         log = h.log;
@@ -485,12 +485,12 @@ module _ {E : Type 0} (X : Election E) (P : Protocol E (Unit {0}) ℕ) (laws : L
           }
 
         -- ── it gives the page back ──
-        module _ (leaving : Leaving) (words' : ℕ → ℕ) (stage : words' 1 ≡ 2 * t + 2) (elsewhere : (r : ℕ) → r ≢ 1 → words' r ≡ words r) (goes : c' ≡ rested c leaving t)
-            (base_now : (queue_after leaving c.queue).first ≡ sent c.me frames) (queue_now : IsKept (queue_after leaving c.queue)) (knows_now : Knows (page_after c t page leaving) frames (t + 1) (words 0)) (earlier_now : AreEarlier (t + 1) frames) where
-          rests_now : Fits words' frames (rested c leaving t) phase.Resting
-          rests_now = (not_busy leaving c.queue, base_now)
+        module _ (reason : Reason) (words' : ℕ → ℕ) (stage : words' 1 ≡ 2 * t + 2) (elsewhere : (r : ℕ) → r ≢ 1 → words' r ≡ words r) (goes : c' ≡ core_at_rest c reason t)
+            (base_now : (queue_after reason c.queue).first ≡ sent c.me frames) (queue_now : IsKept (queue_after reason c.queue)) (knows_now : Knows (page_after c t page reason) frames (t + 1) (words 0)) (earlier_now : AreEarlier (t + 1) frames) where
+          rests_now : Fits words' frames (core_at_rest c reason t) phase.Resting
+          rests_now = (not_busy reason c.queue, base_now)
 
-          pub gives_back : Sending P x words' (Some (page_after c t page leaving)) senders' owners frames
+          pub gives_back : Sending P x words' (Some (page_after c t page reason)) senders' owners frames
           gives_back = record {
             tenures = tenures.same X.op X.fed P laws x.senders x.rows 2 words (2 * t + 2) true S' L' owners
                 (tenures.gives X.op X.fed P laws x.senders x.rows 2 words (words 1) (is_some home) S L owners h.tenures p t is_holder S' (now ∙ ap (λ z. Some (stands_at z.phase)) goes) S-beside L' (ap least_of new ∙ ap (λ z. z.least) goes) L-beside)
@@ -498,16 +498,16 @@ module _ {E : Type 0} (X : Election E) (P : Protocol E (Unit {0}) ℕ) (laws : L
             log = subst (λ z. Logged x.senders x.capacity (log_at x) words' z frames) (sym (elsewhere 0 (omega arith))) (Logged-agree x.senders x.capacity (log_at x) words (words 0) frames h.log words' (λ r a b. elsewhere r (omega arith)));
             owned = h.owned;
             page_knows = λ g u a b.
-                let g_is : page_after c t page leaving ≡ g = same_Some _ _ a in
+                let g_is : page_after c t page reason ≡ g = same_Some _ _ a in
                 let u_is : t + 1 ≡ u = omega arith in (
-                  subst (λ z. Knows z frames u (words' 0)) g_is (subst (λ z. Knows (page_after c t page leaving) frames z (words' 0)) u_is (Knows-len (page_after c t page leaving) frames (t + 1) (words 0) (words' 0) (elsewhere 0 (omega arith)) knows_now)),
+                  subst (λ z. Knows z frames u (words' 0)) g_is (subst (λ z. Knows (page_after c t page reason) frames z (words' 0)) u_is (Knows-len (page_after c t page reason) frames (t + 1) (words 0) (words' 0) (elsewhere 0 (omega arith)) knows_now)),
                   subst (λ z. AreEarlier z frames) u_is earlier_now,
                 );
             parts = parts_from words' frames (others_agree words' (λ r a b. elsewhere r (omega arith)) (elsewhere 0 (omega arith))) (subst (Part x words' frames p) (sym goes) record {
               layout = own_part.layout;
               me = own_part.me;
               below = own_part.below;
-              sender = ap (λ (z : SenderNo). z.0) (sender_after leaving c.queue) ∙ own_part.sender;
+              sender = ap (λ (z : SenderNo). z.0) (sender_after reason c.queue) ∙ own_part.sender;
               queue = queue_now;
               fits = rests_now;
             });
@@ -516,12 +516,12 @@ module _ {E : Type 0} (X : Election E) (P : Protocol E (Unit {0}) ℕ) (laws : L
 
         -- what was not published changes nothing
         module _ (words' : ℕ → ℕ) (stage : words' 1 ≡ 2 * t + 2) (elsewhere : (r : ℕ) → r ≢ 1 → words' r ≡ words r) where
-          pub gives_unsent : (leaving : Leaving) → IsUnsent leaving → published ≡ false → c' ≡ rested c leaving t → Sending P x words' (Some (page_after c t page leaving)) senders' owners frames
-          gives_unsent leaving unsent none_yet goes =
+          pub gives_unsent : (reason : Reason) → IsUnsent reason → published ≡ false → c' ≡ core_at_rest c reason t → Sending P x words' (Some (page_after c t page reason)) senders' owners frames
+          gives_unsent reason unsent none_yet goes =
               let w = subst (λ z. Fits words frames c (phase.Holding t page stored z)) none_yet (subst (Fits words frames c) holds own_part.fits) in
-              gives_back leaving words' stage elsewhere goes (unsent_base leaving unsent c.queue ∙ w.1.base) (unsent_queue leaving unsent c.queue own_part.queue) (unsent_knows leaving unsent c t page frames (words 0) w.1.page_knows) (AreEarlier-later t (t + 1) frames (omega arith) w.1.earlier)
+              gives_back reason words' stage elsewhere goes (unsent_base reason unsent c.queue ∙ w.1.base) (unsent_queue reason unsent c.queue own_part.queue) (unsent_knows reason unsent c t page frames (words 0) w.1.page_knows) (AreEarlier-later t (t + 1) frames (omega arith) w.1.earlier)
 
-          pub gives_sent : published ≡ true → c' ≡ rested c Sent t → Sending P x words' (Some (page_after c t page Sent)) senders' owners frames
+          pub gives_sent : published ≡ true → c' ≡ core_at_rest c Sent t → Sending P x words' (Some (page_after c t page Sent)) senders' owners frames
           gives_sent sent_yet goes =
               let w = subst (λ z. Fits words frames c (phase.Holding t page stored z)) sent_yet (subst (Fits words frames c) holds own_part.fits) in
               let f = frame_of c.queue t in

@@ -9,13 +9,13 @@ use Rattle.bus_batch.specs.declared.batches.Phase.{Phase as BatchPhase}
 use Rattle.bus_batch.specs.declared.batches.Phase.TheVariants.{Open, Closing, Closed as Shut}
 use Rattle.bus_batch.specs.Frames.{Frame, EndMark}
 use Rattle.bus_tenure.specs.Core.{Core, Election}
-use Rattle.bus_tenure.specs.Situations.{Situation, LooksAtStage, Elects, TakesPage, AwaitsPage, StoresLength, GivesBack, HasHanded, begun, elected, waits, queue_after}
+use Rattle.bus_tenure.specs.Situations.{Situation, LooksAtStage, Elects, TakesPage, AwaitsPage, StoresLength, GivesBack, HasHanded, core_begun, core_elected, waits, queue_after}
 use Rattle.bus_tenure.specs.declared.pages.Page.{Page}
-use Rattle.bus_tenure.specs.declared.phases.Leaving.{Leaving}
-use Rattle.bus_tenure.specs.declared.phases.Leaving.TheVariants.{Sent, FoundEnd, NoRoom}
+use Rattle.bus_tenure.specs.declared.phases.Reason.{Reason}
+use Rattle.bus_tenure.specs.declared.phases.Reason.TheVariants.{Sent, FoundEnd, NoRoom}
 use Rattle.bus_tenure.specs.declared.phases.Phase.TheVariants as phase
 use Rattle.bus_world.specs.Headline.{Deed, HasClosed, Closed}
-use Rattle.bus_world.specs.Turning.{core_after, laid}
+use Rattle.bus_world.specs.Turning.{core_after, core_with_page}
 use Rattle.bus_world.proofs.Waiting.{frames_after}
 use Rattle.bus_world.proofs.Places.{got_before, got_after, got_split}
 
@@ -36,22 +36,22 @@ sent_apart Shut e = cc
 shut_apart : Shut ≡ Closing → ⊥
 shut_apart e = cc
 
-left_closing : (leaving : Leaving) (q : Pending) → (queue_after leaving q).phase ≡ Closing → q.phase ≡ Closing
+left_closing : (reason : Reason) (q : Pending) → (queue_after reason q).phase ≡ Closing → q.phase ≡ Closing
 left_closing Sent q e = absurd (sent_apart q.phase e)
 left_closing FoundEnd q e = absurd (shut_apart e)
 left_closing NoRoom q e = e
 
 module _ {E : Type 0} (X : Election E) (c : Core E) where
-  laid_closing : (t : ℕ) (home : Option Page) → (laid c t home).queue.phase ≡ Closing → c.queue.phase ≡ Closing
+  laid_closing : (t : ℕ) (home : Option Page) → (core_with_page c t home).queue.phase ≡ Closing → c.queue.phase ≡ Closing
   laid_closing t None e = e
   laid_closing t (Some page) e = e
 
-  saw_closing : (a b : Bool) (got : ℕ) → (cond a c (cond b (record c { least = got / 2 }) (begun X c (got / 2)))).queue.phase ≡ Closing → c.queue.phase ≡ Closing
+  saw_closing : (a b : Bool) (got : ℕ) → (cond a c (cond b (record c { least = got / 2 }) (core_begun X c (got / 2)))).queue.phase ≡ Closing → c.queue.phase ≡ Closing
   saw_closing true b got e = e
   saw_closing false true got e = e
   saw_closing false false got e = e
 
-  elected_closing : (t : ℕ) (later : E) (o : Option ℕ) → (elected c t later o).queue.phase ≡ Closing → c.queue.phase ≡ Closing
+  elected_closing : (t : ℕ) (later : E) (o : Option ℕ) → (core_elected c t later o).queue.phase ≡ Closing → c.queue.phase ≡ Closing
   elected_closing t later None e = e
   elected_closing t later (Some o) e = by_test (o == c.me) e
     where
@@ -64,8 +64,8 @@ module _ {E : Type 0} (X : Election E) (c : Core E) where
   turn_closing (Elects t u) home got word e = elected_closing t (X.fed u got word) (X.owner (X.fed u got word)) e
   turn_closing (TakesPage t) home got word e = laid_closing t home e
   turn_closing (AwaitsPage t) home got word e = laid_closing t home e
-  turn_closing (GivesBack t page leaving) home got word e = left_closing leaving c.queue e
-  turn_closing (HasHanded t leaving) home got word e = left_closing leaving c.queue e
+  turn_closing (GivesBack t page reason) home got word e = left_closing reason c.queue e
+  turn_closing (HasHanded t reason) home got word e = left_closing reason c.queue e
   turn_closing z home got word e = e
 
 -- ---- a frame that ends the log is that of a closing batch

@@ -24,7 +24,8 @@ use Rattle.bus_tenure.specs.Core.{Core, Election, Layout, log_at, words_of}
 use Rattle.bus_tenure.specs.Situations.{kind_at, situation_of, op_at, answer_at}
 use Rattle.bus_tenure.specs.declared.turns.Turn.{Turn as Answered}
 use Rattle.bus_tenure.specs.declared.phases.Phase.TheVariants as phase
-use Rattle.bus_ownerbits.specs.ElectionKeeps.{OneOwner, begun_at}
+use Rattle.bus_ownerbits.specs.OneOwner.{OneOwner}
+use Rattle.bus_ownerbits.specs.ElectionKeeps.{begun_at}
 use Rattle.bus_ownerbits.proofs.ElectionSteps.{row_within}
 use Rattle.bus_ownerbits.specs.declared.stages.Stage.{Stage}
 use Rattle.bus_ownerbits.specs.declared.stages.Stage.TheVariants as stage
@@ -44,14 +45,14 @@ use Rattle.bus_world.specs.Headline.{Deed, HasPut, HasClosed, Stepped, puts, Too
 use Rattle.bus_world.specs.Log.{sent, AreCounted}
 use Rattle.bus_world.proofs.LogLaws.{length-read}
 use Rattle.bus_world.proofs.ReceivingLaws.{given_is_prefix}
-use Rattle.bus_world.specs.Turning.{Side, turned, core_after, found}
+use Rattle.bus_world.specs.Turning.{Side, side_after, core_after, number_found}
 use Rattle.bus_world.specs.World.{Bus, Event, Put, Close, Turn, Recv, IsEvent, Happens, SenderDoes, with_sender, can_put, can_close, put_in, close_in, LawfulBus, IsNew, is_open, given_at}
 use Rattle.bus_world.proofs.TurningLaws.{side_of}
 use Rattle.bus_world.proofs.WorldLaws.{event_left, event_puts, counted_at, new_is_lawful}
 use Rattle.bus_world.specs.Playing.{AllAnswered, Answers, PutGives, CloseGives, TurnAnswers, RecvAnswers, log_of}
 use Rattle.bus_world.specs.declared.events.Answer.{Answer}
 use Rattle.bus_world.specs.declared.events.Answer.TheVariants as answer
-use Rattle.bus_world.specs.Trails.{Trails, no_trails, extended, trails_after, deeds_of, put_deeds, close_deeds, turning_deeds, step_deed, heard_of, answer_heard, IsPromisedBy, IsPromised, StaysPromised, Follows, Played, Reached}
+use Rattle.bus_world.specs.Trails.{Trails, no_trails, trails_after, trails_after, deeds_of, put_deeds, close_deeds, turning_deeds, step_deed, heard_of, answer_heard, IsPromisedBy, IsPromised, StaysPromised, Follows, Played, Reached}
 use Rattle.bus_world.specs.Trails.Reached.{New, Then}
 use Rattle.bus_world.proofs.Waiting.{frames_after, put_by, waiting_of, waiting_at, accepted, accepted_by, event_frames, frames_by}
 use Rattle.bus_world.proofs.Tying.{AreNumbered, IsSilent, Hears, Tied}
@@ -175,10 +176,10 @@ module _ {E : Type 0} (X : Election E) (P : Protocol E (Unit {0}) ℕ) (laws : L
         by_test true = batch_ties X P laws x ok width starts owner_is named announces apart b.side frames (side_of h) s c i 0 D T (record c { queue = record c.queue { phase = Closing } }) (HasClosed ∷ []) refl refl plain_close
         by_test false = batch_ties X P laws x ok width starts owner_is named announces apart b.side frames (side_of h) s c i 0 D T c (HasClosed ∷ []) refl refl plain_close
 
-    turning_ties : (s word : ℕ) (o : Option (Core E)) → slice_get b.side.senders s ≡ o → SenderDoes b.side o (λ c. turned X b.side s c (situation_of X c) word) b'.side → (a : Answer) → TurnAnswers X b.side.words o word a → Ties P x b'.side (λ q. D q ++ cond (q == s) (turning_deeds X b.side.words o word a) [])
+    turning_ties : (s word : ℕ) (o : Option (Core E)) → slice_get b.side.senders s ≡ o → SenderDoes b.side o (λ c. side_after X b.side s c (situation_of X c) word) b'.side → (a : Answer) → TurnAnswers X b.side.words o word a → Ties P x b'.side (λ q. D q ++ cond (q == s) (turning_deeds X b.side.words o word a) [])
     turning_ties s word None i d a told = absurd told
     turning_ties s word (Some c) i d a told = subst (λ t. Ties P x b'.side (λ q. D q ++ cond (q == s) (turning_deeds X b.side.words (Some c) word t) [])) (sym told)
-        (subst (λ z. Ties P x z (λ q. D q ++ cond (q == s) (turning_deeds X b.side.words (Some c) word (answer.Turn (answer_at X c (situation_of X c) (found (slice_index b.side.words) (op_at X c (situation_of X c) word)) word))) [])) (sym d) (turn_ties X P laws x ok width starts owner_is named announces apart b.side frames (side_of h) s c i word D T))
+        (subst (λ z. Ties P x z (λ q. D q ++ cond (q == s) (turning_deeds X b.side.words (Some c) word (answer.Turn (answer_at X c (situation_of X c) (number_found (slice_index b.side.words) (op_at X c (situation_of X c) word)) word))) [])) (sym d) (turn_ties X P laws x ok width starts owner_is named announces apart b.side frames (side_of h) s c i word D T))
 
     event_ties : (e : Event) (a : Answer) → Happens X b e b' → Answers X b e a b' → Ties P x b'.side (λ q. D q ++ deeds_of X b e a q)
     event_ties (Put s bytes) a d w = subst (λ t. Ties P x b'.side (λ q. D q ++ cond (q == s) (put_deeds bytes t) [])) (sym w.2) (put_ties s bytes (slice_get b.side.senders s) refl d.0 w.0 w.1)
@@ -205,7 +206,7 @@ module _ {E : Type 0} (X : Election E) (P : Protocol E (Unit {0}) ℕ) (laws : L
     close_closings s None i d gives = absurd gives
     close_closings s (Some c) i d gives = goes_on_closing s c (close_in c) i (HasClosed ∷ []) (λ e. own_closes b.side.senders frames D C s c i (HasClosed ∷ []) (0, refl)) (ap (λ (z : Side E). z.senders) d)
 
-    turn_closings : (s word : ℕ) (o : Option (Core E)) → slice_get b.side.senders s ≡ o → SenderDoes b.side o (λ c. turned X b.side s c (situation_of X c) word) b'.side → (ds : List Deed) → Closings (slice_get b'.side.senders) (frames_by X o frames) (λ q. D q ++ cond (q == s) ds [])
+    turn_closings : (s word : ℕ) (o : Option (Core E)) → slice_get b.side.senders s ≡ o → SenderDoes b.side o (λ c. side_after X b.side s c (situation_of X c) word) b'.side → (ds : List Deed) → Closings (slice_get b'.side.senders) (frames_by X o frames) (λ q. D q ++ cond (q == s) ds [])
     turn_closings s word None i d ds = record {
       closing = λ q c at shut. still_closed (D q) (cond (q == s) ds []) (C.closing q c (ap (λ (z : Side E). slice_get z.senders q) (sym d) ∙ at) shut);
       ended = λ j f at ends. still_closed (D f.owner.0) (cond (f.owner.0 == s) ds []) (C.ended j f at ends);
@@ -214,8 +215,8 @@ module _ {E : Type 0} (X : Election E) (P : Protocol E (Unit {0}) ℕ) (laws : L
         let part = h.keeps.sending.parts s c i in
         let z = situation_of X c in
         subst (λ l. Closings (slice_get l) (frames_after X c z frames) (λ q. D q ++ cond (q == s) ds [])) (sym (ap (λ (l : Side E). l.senders) d))
-        (closings_after b.side.senders frames D C s c i ds (core_after X c z b.side.home (found (slice_index b.side.words) (op_at X c z word)) word) (frames_after X c z frames)
-        (λ e. own_closed b.side.senders frames D C s c i ds (turn_closing X c z b.side.home (found (slice_index b.side.words) (op_at X c z word)) word e))
+        (closings_after b.side.senders frames D C s c i ds (core_after X c z b.side.home (number_found (slice_index b.side.words) (op_at X c z word)) word) (frames_after X c z frames)
+        (λ e. own_closed b.side.senders frames D C s c i ds (turn_closing X c z b.side.home (number_found (slice_index b.side.words) (op_at X c z word)) word e))
         (turn_frames X c z frames (λ f. Closed (D f.owner.0 ++ cond (f.owner.0 == s) ds [])) (frames_later b.side.senders frames D C s c i ds)
         (λ t e. subst (λ q. Closed (D q ++ cond (q == s) ds [])) (sym part.sender) (own_closed b.side.senders frames D C s c i ds e))))
 
@@ -299,7 +300,7 @@ module _ {E : Type 0} (X : Election E) (P : Protocol E (Unit {0}) ℕ) (laws : L
     number_at s c i (phase.Taken t) e fits idle = absurd fits
     number_at s c i (phase.Holding t page stored true) e fits idle = absurd (busy_apart c.queue.busy fits.0.busy idle)
     number_at s c i (phase.Holding t page stored false) e fits idle = absurd (busy_apart c.queue.busy fits.0.busy idle)
-    number_at s c i (phase.Giving t leaving) e fits idle = absurd fits
+    number_at s c i (phase.Giving t reason) e fits idle = absurd fits
 
     put_number : (s : ℕ) (o : Option (Core E)) → slice_get b.side.senders s ≡ o → (len n : ℕ) → PutGives o len n → n ≡ length (put_by b frames s)
     put_number s None i len n gives = absurd gives
@@ -341,7 +342,7 @@ module _ {E : Type 0} (X : Election E) (P : Protocol E (Unit {0}) ℕ) (laws : L
     pub lawful : LawfulBus P x b (frames ++ more)
     pub tied : Tied P x b (frames ++ more) T
 
-  event_on : (b b' : Bus E) (e : Event) (a : Answer) (T : Trails) (k : Kept b T) → IsEvent e → Happens X b e b' → Answers X b e a b' → KeptOn k.frames b' (extended X b e a T)
+  event_on : (b b' : Bus E) (e : Event) (a : Answer) (T : Trails) (k : Kept b T) → IsEvent e → Happens X b e b' → Answers X b e a b' → KeptOn k.frames b' (trails_after X b e a T)
   event_on b b' e a T k is d w =
       let after = event_left X P laws x ok width starts owner_is b k.frames k.lawful b' e is d in
       let more = after.left.continues.more in
@@ -370,14 +371,14 @@ module _ {E : Type 0} (X : Election E) (P : Protocol E (Unit {0}) ℕ) (laws : L
   kept_on : (frames more : List Frame) (b : Bus E) (T : Trails) → KeptOn (frames ++ more) b T → KeptOn frames b T
   kept_on frames more b T k = record { more = more ++ k.more; lawful = subst (LawfulBus P x b) (append_assoc frames more k.more) k.lawful; tied = subst (λ z. Tied P x b z T) (append_assoc frames more k.more) k.tied }
 
-  event_kept : (b b' : Bus E) (e : Event) (a : Answer) (T : Trails) → Kept b T → IsEvent e → Happens X b e b' → Answers X b e a b' → Kept b' (extended X b e a T)
-  event_kept b b' e a T k is d w = kept_of k.frames b' (extended X b e a T) (event_on b b' e a T k is d w)
+  event_kept : (b b' : Bus E) (e : Event) (a : Answer) (T : Trails) → Kept b T → IsEvent e → Happens X b e b' → Answers X b e a b' → Kept b' (trails_after X b e a T)
+  event_kept b b' e a T k is d w = kept_of k.frames b' (trails_after X b e a T) (event_on b b' e a T k is d w)
 
   run_on : (events : List Event) (frames : List Frame) (b b' : Bus E) (T : Trails) → LawfulBus P x b frames → Tied P x b frames T → (run : AllAnswered X b events b') → KeptOn frames b' (trails_after X b events b' run T)
   run_on [] frames b b' T h t run = subst (λ z. KeptOn frames z T) (sym run) record { more = []; lawful = subst (LawfulBus P x b) (sym (append-nil frames)) h; tied = subst (λ z. Tied P x b z T) (sym (append-nil frames)) t }
   run_on (e ∷ events) frames b b' T h t run =
       let m = event_on b run.0 e run.1 T (record { frames = frames; lawful = h; tied = t }) run.2 run.3 run.4 in
-      kept_on frames m.more b' (trails_after X run.0 events b' run.5 (extended X b e run.1 T)) (run_on events (frames ++ m.more) run.0 b' (extended X b e run.1 T) m.lawful m.tied run.5)
+      kept_on frames m.more b' (trails_after X run.0 events b' run.5 (trails_after X b e run.1 T)) (run_on events (frames ++ m.more) run.0 b' (trails_after X b e run.1 T) m.lawful m.tied run.5)
 
   -- ---- a new bus
   module _ (b : Bus E) (new : IsNew x b) where
@@ -534,17 +535,17 @@ module _ {E : Type 0} (X : Election E) (P : Protocol E (Unit {0}) ℕ) (laws : L
   pub follows : (old new : Bus E) (e : Event) (a : Answer) → IsEvent e → Happens X old e new → Answers X old e a new → Follows X x old e a new
   follows old new e a is d w = record {
     reached = λ T r. Then old new T e a r is d w;
-    promised = λ T r. let k = reached_kept old T r in stays old new T (extended X old e a T) k (event_on old new e a T k is d w) (λ q. record { rest = heard_of e a q; together = refl }) (event_takers X old new e d);
+    promised = λ T r. let k = reached_kept old T r in stays old new T (trails_after X old e a T) k (event_on old new e a T k is d w) (λ q. record { rest = heard_of e a q; together = refl }) (event_takers X old new e d);
   }
 
   reached_more : (events : List Event) (old new : Bus E) (T : Trails) → Reached X x old T → (run : AllAnswered X old events new) → Reached X x new (trails_after X old events new run T)
   reached_more [] old new T r run = subst (λ z. Reached X x z T) (sym run) r
-  reached_more (e ∷ events) old new T r run = reached_more events run.0 new (extended X old e run.1 T) (Then old run.0 T e run.1 r run.2 run.3 run.4) run.5
+  reached_more (e ∷ events) old new T r run = reached_more events run.0 new (trails_after X old e run.1 T) (Then old run.0 T e run.1 r run.2 run.3 run.4) run.5
 
   heard_more : (events : List Event) (old new : Bus E) (T : Trails) (run : AllAnswered X old events new) (q : ℕ) → IsPrefix (T.heard q) ((trails_after X old events new run T).heard q)
   heard_more [] old new T run q = record { rest = []; together = append-nil (T.heard q) }
   heard_more (e ∷ events) old new T run q =
-      let later = heard_more events run.0 new (extended X old e run.1 T) run.5 q in
+      let later = heard_more events run.0 new (trails_after X old e run.1 T) run.5 q in
       record { rest = heard_of e run.1 q ++ later.rest; together = sym (append_assoc (T.heard q) (heard_of e run.1 q) later.rest) ∙ later.together }
 
   takers_grow : (events : List Event) (old new : Bus E) → AllAnswered X old events new → IsPrefix old.side.owners new.side.owners

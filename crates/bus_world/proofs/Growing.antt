@@ -7,7 +7,7 @@ use Rattle.std.specs.Option.{option_map}
 use Rattle.bus_tenure.specs.Core.{Core, Election}
 use Rattle.bus_tenure.specs.Situations.{situation_of, line_of}
 use Rattle.bus_world.specs.Headline.{IsPrefix}
-use Rattle.bus_world.specs.Turning.{Side, turned}
+use Rattle.bus_world.specs.Turning.{Side, side_after}
 use Rattle.bus_world.specs.World.{Bus, Event, Put, Close, Turn, Recv, IsEvent, Happens, SenderDoes, with_sender, put_in, close_in}
 use Rattle.bus_world.specs.declared.events.Event.{Event as Told}
 use Rattle.bus_world.specs.Playing.{event_told, Answers, AllAnswered}
@@ -30,7 +30,7 @@ owners_grow : (takes : Bool) (p : ℕ) (owners : List ℕ) → IsPrefix owners (
 owners_grow true p owners = record { rest = p ∷ []; together = refl }
 owners_grow false p owners = nothing_more owners
 
-turn_owners : {E : Type 0} (X : Election E) (side side' : Side E) (s word : ℕ) (o : Option (Core E)) → SenderDoes side o (λ c. turned X side s c (situation_of X c) word) side' → IsPrefix side.owners side'.owners
+turn_owners : {E : Type 0} (X : Election E) (side side' : Side E) (s word : ℕ) (o : Option (Core E)) → SenderDoes side o (λ c. side_after X side s c (situation_of X c) word) side' → IsPrefix side.owners side'.owners
 turn_owners X side side' s word None d = same_prefix side.owners side'.owners (ap (λ (z : Side _). z.owners) d)
 turn_owners X side side' s word (Some c) d = subst (IsPrefix side.owners) (sym (ap (λ (z : Side _). z.owners) d)) (owners_grow (line_of X c (situation_of X c)).takes s side.owners)
 

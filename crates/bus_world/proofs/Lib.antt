@@ -1,7 +1,7 @@
 pub mod Waiting
 pub mod TenuresLaws
 pub mod LogLaws
-pub mod QueueLaws
+pub mod FrameOfBatch
 pub mod BusLaws
 pub mod TurningLaws
 pub mod TurnSteps
@@ -23,5 +23,5 @@ pub mod Growing
 pub mod Serving
 pub mod EventTrails
 pub mod Tellings
-pub mod Sittings
+pub mod SizedBuses
 pub mod Refused

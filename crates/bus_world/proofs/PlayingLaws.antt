@@ -21,26 +21,26 @@ use Rattle.bus_batch.specs.declared.batches.CloseFault.{CloseFault}
 use Rattle.bus_batch.specs.declared.batches.CloseFault.TheVariants as close
 use Rattle.bus_deliverylog.specs.Receiving.{Receiving, receiving_op}
 use Rattle.bus_deliverylog.specs.declared.receiving.RecvTurn.{RecvTurn}
-use Rattle.bus_ownerbits.specs.ElectionKeeps.{OneOwner}
+use Rattle.bus_ownerbits.specs.OneOwner.{OneOwner}
 use Rattle.bus_tenure.specs.Core.{Core, Election, Layout, is_empty, is_closing, words_of}
-use Rattle.bus_tenure.specs.Situations.{waits, Situation, IsClosed, IsIdle, IsSpent, LooksAtStage, Elects, TakesPage, AwaitsPage, StoresWord, StoresLength, GivesBack, HasHanded, situation_of, op_at, answer_at, answer_of_election, answer_of_leaving}
+use Rattle.bus_tenure.specs.Situations.{waits, Situation, IsClosed, IsIdle, IsSpent, LooksAtStage, Elects, TakesPage, AwaitsPage, StoresWord, StoresLength, GivesBack, HasHanded, situation_of, op_at, answer_at, answer_of_election, answer_of_return}
 use Rattle.bus_tenure.specs.declared.pages.Page.{Page}
-use Rattle.bus_tenure.specs.declared.phases.Leaving.{Leaving}
-use Rattle.bus_tenure.specs.declared.phases.Leaving.TheVariants.{Sent, FoundEnd, NoRoom}
+use Rattle.bus_tenure.specs.declared.phases.Reason.{Reason}
+use Rattle.bus_tenure.specs.declared.phases.Reason.TheVariants.{Sent, FoundEnd, NoRoom}
 use Rattle.bus_tenure.specs.declared.turns.Turn.{Turn as Answered}
 use Rattle.bus_tenure.specs.declared.turns.Turn.TheVariants as turn
 use Rattle.bus_world.specs.Bus.{IsLayout, Part, stands_at, standing_of}
 use Rattle.bus_register.specs.Proved.TableLaws.{push_here}
-use Rattle.bus_world.specs.Turning.{Side, turned, stepped, found, home_after, core_after, owners_after, owners_by}
+use Rattle.bus_world.specs.Turning.{Side, side_after, words_after, number_found, home_after, core_after, owners_after, owners_by}
 use Rattle.bus_world.proofs.Waiting.{frames_after}
 use Rattle.bus_world.proofs.TurningLaws.{turn_lawful, IsSide, side_of}
 use Rattle.bus_world.specs.World.{Bus, Event, Put, Close, Turn, Recv, IsEvent, Happens, SenderDoes, ReceiverDoes, RecvDoes, with_sender, put_in, close_in, is_open, can_put, can_close, IsReceiver}
 use Rattle.bus_tenure.proofs.Situated.{tells}
 use Rattle.bus_world.proofs.Accepting.{open_is, not_busy, empty_is}
 use Rattle.bus_world.proofs.WorldLaws.{event_left, numbers_fit}
-use Rattle.bus_world.specs.Trails.{IsSitting, extended}
+use Rattle.bus_world.specs.Trails.{IsServedBus, trails_after}
 use Rattle.bus_world.specs.Trails.Reached.{Then}
-use Rattle.bus_world.specs.Playing.{Sitting, Answers, PutGives, PutRefused, CloseGives, CloseRefused, TurnAnswers, TurnRefused, RecvAnswers, RecvRefused}
+use Rattle.bus_world.specs.Playing.{SizedBus, Answers, PutGives, PutRefused, CloseGives, CloseRefused, TurnAnswers, TurnRefused, RecvAnswers, RecvRefused}
 use Rattle.bus_world.specs.declared.events.StepFault.{StepFault}
 use Rattle.bus_world.specs.declared.events.StepFault.TheVariants as fault
 use Rattle.bus_world.specs.declared.events.Answer.{Answer}
@@ -63,11 +63,11 @@ event_length X b b' (Recv r) d = ap (λ (z : Side _). length z.senders) d.0
 
 module _ {E : Type 0} (X : Election E) (P : Protocol E (Unit {0}) ℕ) (x : Layout) (laws : Laws X.op X.fed P OneOwner) (width : x.width ≡ P.width x.senders)
     (starts : (n me at : ℕ) → X.started n me x.rounds at ≡ P.started n me tt at) (owner_is : (e : E) → X.owner e ≡ P.output e) where
-  pub layout_served : (b : Bus E) → IsSitting X P record { layout = x; bus = b } → IsLayout x
+  pub layout_served : (b : Bus E) → IsServedBus X P record { layout = x; bus = b } → IsLayout x
   layout_served b h = record { senders = h.senders_few; rows = (let z = h.rows_few in omega arith); capacity = (let z = h.capacity_few in omega arith) }
 
   -- whatever happens to it
-  pub sitting_after : (b b' : Bus E) (e : Event) (a : Answer) → IsSitting X P record { layout = x; bus = b } → IsEvent e → Happens X b e b' → Answers X b e a b' → IsSitting X P record { layout = x; bus = b' }
+  pub sitting_after : (b b' : Bus E) (e : Event) (a : Answer) → IsServedBus X P record { layout = x; bus = b } → IsEvent e → Happens X b e b' → Answers X b e a b' → IsServedBus X P record { layout = x; bus = b' }
   sitting_after b b' e a h is d w =
       let l = event_left X P laws x (layout_served b h) width starts owner_is b h.frames h.lawful b' e is d in
       record {
@@ -77,7 +77,7 @@ module _ {E : Type 0} (X : Election E) (P : Protocol E (Unit {0}) ℕ) (x : Layo
         senders = event_length X b b' e d ∙ h.senders;
         frames = l.left.frames_now;
         lawful = l.left.lawful;
-        trails = extended X b e a h.trails;
+        trails = trails_after X b e a h.trails;
         reached = Then b b' h.trails e a h.reached is d w;
       }
 
@@ -129,7 +129,7 @@ module _ {E : Type 0} (X : Election E) (c : Core E) (p : ℕ) (owners : List ℕ
       by_test true = refl
       by_test false = refl
 
-  leaving_told : (t : ℕ) (leaving : Leaving) → owners ≡ owners_by (answer_of_leaving c.queue t leaving) p owners
+  leaving_told : (t : ℕ) (reason : Reason) → owners ≡ owners_by (answer_of_return c.queue t reason) p owners
   leaving_told t Sent = by_test (is_closing c.queue.phase)
     where
       by_test : (a : Bool) → owners ≡ owners_by (cond a turn.Closed (turn.Delivered t c.queue.first (next_of c.queue - 1))) p owners
@@ -141,8 +141,8 @@ module _ {E : Type 0} (X : Election E) (c : Core E) (p : ℕ) (owners : List ℕ
   pub owners_told : (z : Situation E) (got word : ℕ) → owners_after X c z p owners ≡ owners_by (answer_at X c z got word) p owners
   owners_told LooksAtStage got word = stage_told (waits c got) (nat_le c.layout.rows (got / 2))
   owners_told (Elects t e) got word = election_told t (X.owner (X.fed e got word))
-  owners_told (GivesBack t page leaving) got word = leaving_told t leaving
-  owners_told (HasHanded t leaving) got word = leaving_told t leaving
+  owners_told (GivesBack t page reason) got word = leaving_told t reason
+  owners_told (HasHanded t reason) got word = leaving_told t reason
   owners_told z got word = refl
 
 -- as many numbers as senders
@@ -159,7 +159,7 @@ small_bytes bytes f k d l = subst (λ z. z < 256) (same_Some _ _ (sym (slice_get
 
 module _ {E : Type 0} (X : Election E) (P : Protocol E (Unit {0}) ℕ) (x : Layout) (laws : Laws X.op X.fed P OneOwner) (width : x.width ≡ P.width x.senders)
     (starts : (n me at : ℕ) → X.started n me x.rounds at ≡ P.started n me tt at) (owner_is : (e : E) → X.owner e ≡ P.output e)
-    (b : Bus E) (h : IsSitting X P record { layout = x; bus = b }) (now : Sitting E) (is : record { layout = x; bus = b } ≡ now) where
+    (b : Bus E) (h : IsServedBus X P record { layout = x; bus = b }) (now : SizedBus E) (is : record { layout = x; bus = b } ≡ now) where
   served : IsLayout x
   served = layout_served X P x laws width starts owner_is b h
 
@@ -193,7 +193,7 @@ module _ {E : Type 0} (X : Election E) (P : Protocol E (Unit {0}) ℕ) (x : Layo
   close_idle s l = (subst (λ o. SenderDoes now.bus.side o (λ c. with_sender now.bus.side s (close_in c)) now.bus.side) (sym (no_sender s l)) refl, refl)
 
   pub turn_idle : (s word : ℕ) → length b.side.senders ≤ s → Happens X now.bus (Turn s word) now.bus
-  turn_idle s word l = (subst (λ o. SenderDoes now.bus.side o (λ c. turned X now.bus.side s c (situation_of X c) word) now.bus.side) (sym (no_sender s l)) refl, refl)
+  turn_idle s word l = (subst (λ o. SenderDoes now.bus.side o (λ c. side_after X now.bus.side s c (situation_of X c) word) now.bus.side) (sym (no_sender s l)) refl, refl)
 
   pub recv_idle : (r : ℕ) → length b.receivers ≤ r → Happens X now.bus (Recv r) now.bus
   recv_idle r l = (refl, subst (λ o. ReceiverDoes now.bus.side.words now.bus.receivers r o now.bus.receivers) (sym (no_receiver r l)) refl)
@@ -216,10 +216,10 @@ module _ {E : Type 0} (X : Election E) (P : Protocol E (Unit {0}) ℕ) (x : Layo
       pub put_happens : Happens X now.bus (Put s bytes) (with_core s c')
       put_happens = subst (λ z. Happens X z.bus (Put s bytes) (with_core s c')) is put_does
 
-      pub put_sits : All (λ byte. byte < 256) bytes → IsSitting X P record { layout = x; bus = with_core s c' }
+      pub put_sits : All (λ byte. byte < 256) bytes → IsServedBus X P record { layout = x; bus = with_core s c' }
       put_sits small = by_test (can_put c.queue (length bytes)) refl
         where
-          by_test : (t : Bool) → can_put c.queue (length bytes) ≡ t → IsSitting X P record { layout = x; bus = with_core s c' }
+          by_test : (t : Bool) → can_put c.queue (length bytes) ≡ t → IsServedBus X P record { layout = x; bus = with_core s c' }
           by_test true e =
               let opened = and_parts (is_open c.queue.phase) (cond c.queue.busy false true && (nat_le (length bytes) 56 && nat_lt (length c.queue.messages) 16)) e in
               let idled = and_parts (cond c.queue.busy false true) (nat_le (length bytes) 56 && nat_lt (length c.queue.messages) 16) opened.1 in
@@ -229,7 +229,7 @@ module _ {E : Type 0} (X : Election E) (P : Protocol E (Unit {0}) ℕ) (x : Layo
               (next_of c.queue, subst (λ o. PutGives o (length bytes) (next_of c.queue)) (sym old) (can, refl), refl)
           by_test false e =
               let same : c' ≡ c = put_is ∙ ap (λ t. cond t (record c { queue = record c.queue { messages = c.queue.messages ++ bytes ∷ [] } }) c) e in
-              subst (λ z. IsSitting X P record { layout = x; bus = z }) (sym (ap (with_core s) same ∙ same_core)) h
+              subst (λ z. IsServedBus X P record { layout = x; bus = z }) (sym (ap (with_core s) same ∙ same_core)) h
 
       pub put_keeps : (r : Result ℕ StepFault) → IfErr r (PutRefused (Some c) (length bytes)) → OnErr r (record { layout = x; bus = with_core s c' } ≡ now)
       put_keeps r w = refuses r (PutRefused (Some c) (length bytes)) _ w (λ why q.
@@ -250,10 +250,10 @@ module _ {E : Type 0} (X : Election E) (P : Protocol E (Unit {0}) ℕ) (x : Layo
       pub close_happens : Happens X now.bus (Close s) (with_core s c')
       close_happens = subst (λ z. Happens X z.bus (Close s) (with_core s c')) is close_does
 
-      pub close_sits : IsSitting X P record { layout = x; bus = with_core s c' }
+      pub close_sits : IsServedBus X P record { layout = x; bus = with_core s c' }
       close_sits = by_test (can_close c.queue) refl
         where
-          by_test : (t : Bool) → can_close c.queue ≡ t → IsSitting X P record { layout = x; bus = with_core s c' }
+          by_test : (t : Bool) → can_close c.queue ≡ t → IsServedBus X P record { layout = x; bus = with_core s c' }
           by_test true e =
               let opened = and_parts (is_open c.queue.phase) (cond c.queue.busy false true && is_empty c.queue.messages) e in
               let idled = and_parts (cond c.queue.busy false true) (is_empty c.queue.messages) opened.1 in
@@ -261,7 +261,7 @@ module _ {E : Type 0} (X : Election E) (P : Protocol E (Unit {0}) ℕ) (x : Layo
               sitting_after X P x laws width starts owner_is b (with_core s c') (Close s) answer.Closing h tt close_does (subst CloseGives (sym old) can, refl)
           by_test false e =
               let same : c' ≡ c = close_is ∙ ap (λ t. cond t (record c { queue = record c.queue { phase = Closing } }) c) e in
-              subst (λ z. IsSitting X P record { layout = x; bus = z }) (sym (ap (with_core s) same ∙ same_core)) h
+              subst (λ z. IsServedBus X P record { layout = x; bus = z }) (sym (ap (with_core s) same ∙ same_core)) h
 
       pub close_keeps : (r : Result (Unit {0}) StepFault) → IfErr r (CloseRefused (Some c)) → OnErr r (record { layout = x; bus = with_core s c' } ≡ now)
       close_keeps r w = refuses r (CloseRefused (Some c)) _ w (λ why q.
@@ -302,19 +302,19 @@ module _ {E : Type 0} (X : Election E) (P : Protocol E (Unit {0}) ℕ) (x : Layo
       sums_at (AwaitsPage t) i o w = absurd cc
       sums_at (StoresWord t page stored) i o w = kept_below o _ _ (same_Some _ _ w)
       sums_at (StoresLength t page stored) i o w = kept_below o 0 _ (same_Some _ _ w)
-      sums_at (GivesBack t page leaving) i o w = kept_below o 1 (2 * t + 2) (same_Some _ _ w)
-      sums_at (HasHanded t leaving) i o w = kept_below o 1 (2 * t + 2) (same_Some _ _ w)
+      sums_at (GivesBack t page reason) i o w = kept_below o 1 (2 * t + 2) (same_Some _ _ w)
+      sums_at (HasHanded t reason) i o w = kept_below o 1 (2 * t + 2) (same_Some _ _ w)
 
       pub sums_fit : (o : Op) → op_at X c (situation_of X c) word ≡ Some o → SumFits o (slice_index b.side.words (register o))
       sums_fit o w = sums_at (situation_of X c) refl o w
 
       abbrev step_found : ℕ
-      step_found = found (slice_index b.side.words) (op_at X c (situation_of X c) word)
+      step_found = number_found (slice_index b.side.words) (op_at X c (situation_of X c) word)
 
       abbrev answered : Answered
       answered = answer_at X c (situation_of X c) step_found word
 
-      turn_keeps : IsSide P x (turned X b.side s c (situation_of X c) word) (frames_after X c (situation_of X c) h.frames)
+      turn_keeps : IsSide P x (side_after X b.side s c (situation_of X c) word) (frames_after X c (situation_of X c) h.frames)
       turn_keeps = turn_lawful X P laws x served width starts owner_is b.side h.frames (side_of h.lawful) s c old word
 
       -- there is room for one more owner
@@ -325,26 +325,26 @@ module _ {E : Type 0} (X : Election E) (P : Protocol E (Unit {0}) ℕ) (x : Layo
           let below = own.0 in let few = h.rows_few in
           omega arith
 
-      module _ (words : List ℕ) (home : Option Page) (c' : Core E) (owners : List ℕ) (words_are : words ≡ stepped b.side.words (op_at X c (situation_of X c) word)) (home_is : home ≡ home_after X c (situation_of X c) b.side.home)
+      module _ (words : List ℕ) (home : Option Page) (c' : Core E) (owners : List ℕ) (words_are : words ≡ words_after b.side.words (op_at X c (situation_of X c) word)) (home_is : home ≡ home_after X c (situation_of X c) b.side.home)
           (core_is : c' ≡ core_after X c (situation_of X c) b.side.home step_found word) (owners_are : owners ≡ owners_by answered s b.side.owners) where
         abbrev with_turn : Bus E
         with_turn = record { side = record { words = words; home = home; senders = slice_set b.side.senders s c'; owners = owners }; receivers = b.receivers }
 
-        side_is : with_turn.side ≡ turned X b.side s c (situation_of X c) word
+        side_is : with_turn.side ≡ side_after X b.side s c (situation_of X c) word
         side_is =
             ap (λ z. record { words = z; home = home; senders = slice_set b.side.senders s c'; owners = owners }) words_are
-            ∙ ap (λ z. record { words = stepped b.side.words (op_at X c (situation_of X c) word); home = z; senders = slice_set b.side.senders s c'; owners = owners }) home_is
-            ∙ ap (λ z. record { words = stepped b.side.words (op_at X c (situation_of X c) word); home = home_after X c (situation_of X c) b.side.home; senders = slice_set b.side.senders s z; owners = owners }) core_is
-            ∙ ap (λ z. record { words = stepped b.side.words (op_at X c (situation_of X c) word); home = home_after X c (situation_of X c) b.side.home; senders = slice_set b.side.senders s (core_after X c (situation_of X c) b.side.home step_found word); owners = z })
+            ∙ ap (λ z. record { words = words_after b.side.words (op_at X c (situation_of X c) word); home = z; senders = slice_set b.side.senders s c'; owners = owners }) home_is
+            ∙ ap (λ z. record { words = words_after b.side.words (op_at X c (situation_of X c) word); home = home_after X c (situation_of X c) b.side.home; senders = slice_set b.side.senders s z; owners = owners }) core_is
+            ∙ ap (λ z. record { words = words_after b.side.words (op_at X c (situation_of X c) word); home = home_after X c (situation_of X c) b.side.home; senders = slice_set b.side.senders s (core_after X c (situation_of X c) b.side.home step_found word); owners = z })
             (owners_are ∙ sym (owners_told X c s b.side.owners (situation_of X c) step_found word))
 
         turn_does : Happens X b (Turn s word) with_turn
-        turn_does = (subst (λ o. SenderDoes b.side o (λ k. turned X b.side s k (situation_of X k) word) with_turn.side) (sym old) side_is, refl)
+        turn_does = (subst (λ o. SenderDoes b.side o (λ k. side_after X b.side s k (situation_of X k) word) with_turn.side) (sym old) side_is, refl)
 
         pub turn_happens : Happens X now.bus (Turn s word) with_turn
         turn_happens = subst (λ z. Happens X z.bus (Turn s word) with_turn) is turn_does
 
-        pub turn_sits : IsSitting X P record { layout = x; bus = with_turn }
+        pub turn_sits : IsServedBus X P record { layout = x; bus = with_turn }
         turn_sits = sitting_after X P x laws width starts owner_is b with_turn (Turn s word) (answer.Turn answered) h tt turn_does (subst (λ o. TurnAnswers X b.side.words o word (answer.Turn answered)) (sym old) refl)
 
       pub turn_answers : (t : Answered) → t ≡ answered → TurnAnswers X now.bus.side.words (slice_get now.bus.side.senders s) word (answer.Turn t)
@@ -381,7 +381,7 @@ module _ {E : Type 0} (X : Election E) (P : Protocol E (Unit {0}) ℕ) (x : Layo
         pub recv_happens : Happens X now.bus (Recv r) (with_reader words)
         recv_happens = subst (λ z. Happens X z.bus (Recv r) (with_reader words)) is recv_does
 
-        pub recv_sits : IsSitting X P record { layout = x; bus = with_reader words }
+        pub recv_sits : IsServedBus X P record { layout = x; bus = with_reader words }
         recv_sits = sitting_after X P x laws width starts owner_is b (with_reader words) (Recv r) (answer.Recv turn) h tt recv_does (subst (λ o. RecvAnswers b.side.words b.receivers r o (answer.Recv turn) (slice_set b.receivers r next)) (sym old) (next, turn, does, refl, refl))
 
       pub recv_answers : RecvAnswers now.bus.side.words now.bus.receivers r (slice_get now.bus.receivers r) (answer.Recv turn) (slice_set b.receivers r next)

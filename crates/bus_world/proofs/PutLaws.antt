@@ -12,15 +12,15 @@ use Rattle.bus_batch.specs.Messages.{numbered}
 use Rattle.bus_batch.specs.Batches.{Pending, IsKept, frame_of, body_of}
 use Rattle.bus_batch.specs.Frames.{Frame, order_of, items_of, body_items, item_of}
 use Rattle.bus_tenure.specs.Core.{Core, Election, frame_len, has_room, is_empty, is_closing, is_closed}
-use Rattle.bus_tenure.specs.Situations.{Situation, IsClosed, IsIdle, IsSpent, LooksAtStage, Elects, TakesPage, StoresWord, StoresLength, GivesBack, situation_at, situation_of, resting, electing, holding, begun, saw_stage, waits, elected, rested}
+use Rattle.bus_tenure.specs.Situations.{Situation, IsClosed, IsIdle, IsSpent, LooksAtStage, Elects, TakesPage, StoresWord, StoresLength, GivesBack, situation_at, situation_of, resting, electing, holding, core_begun, core_after_stage, waits, core_elected, core_at_rest}
 use Rattle.bus_tenure.specs.declared.pages.Page.{Page}
-use Rattle.bus_tenure.specs.declared.phases.Leaving.{Leaving}
-use Rattle.bus_tenure.specs.declared.phases.Leaving.TheVariants.{Sent, FoundEnd, NoRoom}
+use Rattle.bus_tenure.specs.declared.phases.Reason.{Reason}
+use Rattle.bus_tenure.specs.declared.phases.Reason.TheVariants.{Sent, FoundEnd, NoRoom}
 use Rattle.bus_tenure.specs.declared.phases.Phase.{Phase}
 use Rattle.bus_tenure.specs.declared.phases.Phase.TheVariants as phase
 use Rattle.bus_deliverylog.specs.Orders.{of_sender}
 use Rattle.bus_world.proofs.LogLaws.{of_sender-append, owned_items, others_items}
-use Rattle.bus_world.specs.Turning.{Side, found, laid, turned}
+use Rattle.bus_world.specs.Turning.{Side, number_found, core_with_page, side_after}
 use Rattle.bus_world.proofs.Waiting.{frames_after, waiting_at, waiting_of}
 
 -- the messages of a frame are those of the batch
@@ -41,11 +41,11 @@ module _ {E : Type 0} where
   waits_same true c d ms e f = e
   waits_same false c d ms e f = f
 
-  elected_waits : (c : Core E) (t : ℕ) (e : E) (o : Option ℕ) → waiting_of (Some (elected c t e o)) ≡ c.queue.messages
+  elected_waits : (c : Core E) (t : ℕ) (e : E) (o : Option ℕ) → waiting_of (Some (core_elected c t e o)) ≡ c.queue.messages
   elected_waits c t e None = refl
   elected_waits c t e (Some o) = waits_same (o == c.me) (record c { phase = phase.Electing t e }) (record c { queue = record c.queue { busy = false }; least = t + 1; phase = phase.Resting }) c.queue.messages refl refl
 
-  laid_waits : (c : Core E) (t : ℕ) (home : Option Page) → waiting_of (Some (laid c t home)) ≡ c.queue.messages
+  laid_waits : (c : Core E) (t : ℕ) (home : Option Page) → waiting_of (Some (core_with_page c t home)) ≡ c.queue.messages
   laid_waits c t None = refl
   laid_waits c t (Some page) = refl
 
@@ -54,7 +54,7 @@ module _ {E : Type 0} (X : Election E) (side : Side E) (frames : List Frame) (p 
   sent_of fs q = map (λ (i : Item). i.message) (of_sender q (order_of fs))
 
   abbrev Puts : Situation E → Type 0
-  Puts s = (q : ℕ) → sent_of (frames_after X c s frames) q ++ waiting_of (slice_get (turned X side p c s word).senders q) ≡ sent_of frames q ++ waiting_of (slice_get side.senders q)
+  Puts s = (q : ℕ) → sent_of (frames_after X c s frames) q ++ waiting_of (slice_get (side_after X side p c s word).senders q) ≡ sent_of frames q ++ waiting_of (slice_get side.senders q)
 
   -- where the order stays and the batch keeps its messages
   stays : (c' : Core E) → waiting_of (Some c') ≡ waiting_of (Some c) → (q : ℕ) → sent_of frames q ++ waiting_of (slice_get (slice_set side.senders p c') q) ≡ sent_of frames q ++ waiting_of (slice_get side.senders q)
@@ -73,9 +73,9 @@ module _ {E : Type 0} (X : Election E) (side : Side E) (frames : List Frame) (p 
     resting_waits = ap (waiting_at c) rests
 
     looks_puts : Puts LooksAtStage
-    looks_puts = stays (saw_stage X c (slice_index side.words 1))
-        (waits_same (waits c (slice_index side.words 1)) c (cond (nat_le c.layout.rows (slice_index side.words 1 / 2)) (record c { least = slice_index side.words 1 / 2 }) (begun X c (slice_index side.words 1 / 2))) c.queue.messages resting_waits
-        (waits_same (nat_le c.layout.rows (slice_index side.words 1 / 2)) (record c { least = slice_index side.words 1 / 2 }) (begun X c (slice_index side.words 1 / 2)) c.queue.messages
+    looks_puts = stays (core_after_stage X c (slice_index side.words 1))
+        (waits_same (waits c (slice_index side.words 1)) c (cond (nat_le c.layout.rows (slice_index side.words 1 / 2)) (record c { least = slice_index side.words 1 / 2 }) (core_begun X c (slice_index side.words 1 / 2))) c.queue.messages resting_waits
+        (waits_same (nat_le c.layout.rows (slice_index side.words 1 / 2)) (record c { least = slice_index side.words 1 / 2 }) (core_begun X c (slice_index side.words 1 / 2)) c.queue.messages
         (ap (waiting_at (record c { least = slice_index side.words 1 / 2 })) rests) refl) ∙ sym resting_waits)
 
     rest_puts : Puts (resting c)
@@ -89,8 +89,8 @@ module _ {E : Type 0} (X : Election E) (side : Side E) (frames : List Frame) (p 
     elect_puts = pick' (is_some (X.owner e))
       where
         pick' : (b : Bool) → Puts (cond b (TakesPage t) (Elects t e))
-        pick' true = stays (laid c t side.home) (laid_waits c t side.home ∙ sym electing_waits)
-        pick' false = stays (elected c t (X.fed e (found (slice_index side.words) (X.op e word)) word) (X.owner (X.fed e (found (slice_index side.words) (X.op e word)) word))) (elected_waits c t (X.fed e (found (slice_index side.words) (X.op e word)) word) (X.owner (X.fed e (found (slice_index side.words) (X.op e word)) word)) ∙ sym electing_waits)
+        pick' true = stays (core_with_page c t side.home) (laid_waits c t side.home ∙ sym electing_waits)
+        pick' false = stays (core_elected c t (X.fed e (number_found (slice_index side.words) (X.op e word)) word) (X.owner (X.fed e (number_found (slice_index side.words) (X.op e word)) word))) (elected_waits c t (X.fed e (number_found (slice_index side.words) (X.op e word)) word) (X.owner (X.fed e (number_found (slice_index side.words) (X.op e word)) word)) ∙ sym electing_waits)
 
   module _ (t : ℕ) (page : Page) (stored : ℕ) where
     -- the frame goes into the order, and its messages out of what waits
@@ -111,22 +111,22 @@ module _ {E : Type 0} (X : Election E) (side : Side E) (frames : List Frame) (p 
     ]
 
     hold_puts : (published : Bool) → c.phase ≡ phase.Holding t page stored published → Puts (holding c t page stored published)
-    hold_puts true holds = stays (rested c Sent t) (sym (ap (waiting_at c) holds))
+    hold_puts true holds = stays (core_at_rest c Sent t) (sym (ap (waiting_at c) holds))
     hold_puts false holds =
         let waits_now : waiting_of (Some c) ≡ c.queue.messages = ap (waiting_at c) holds in
-        choose page.ended (GivesBack t page FoundEnd) _ (stays (rested c FoundEnd t) (sym waits_now))
+        choose page.ended (GivesBack t page FoundEnd) _ (stays (core_at_rest c FoundEnd t) (sym waits_now))
         (choose (has_room c page) (cond (nat_lt stored (frame_len c)) (StoresWord t page stored) (StoresLength t page stored)) (GivesBack t page NoRoom)
         (choose (nat_lt stored (frame_len c)) (StoresWord t page stored) (StoresLength t page stored) (stays (record c { phase = phase.Holding t page (stored + 1) false }) (sym waits_now)) (publish_puts holds))
-        (stays (rested c NoRoom t) (sym waits_now)))
+        (stays (core_at_rest c NoRoom t) (sym waits_now)))
 
   -- between events no page is on its way home
-  module _ (at_rest : (t : ℕ) (leaving : Leaving) → c.phase ≡ phase.Giving t leaving → ⊥) where
+  module _ (at_rest : (t : ℕ) (reason : Reason) → c.phase ≡ phase.Giving t reason → ⊥) where
     puts_at : (ph : Phase E) → c.phase ≡ ph → Puts (situation_at X c ph)
     puts_at phase.Resting e = rest_puts e
     puts_at (phase.Electing t u) e = elect_puts t u e
-    puts_at (phase.Taken t) e = stays (laid c t side.home) (laid_waits c t side.home ∙ sym (ap (waiting_at c) e))
+    puts_at (phase.Taken t) e = stays (core_with_page c t side.home) (laid_waits c t side.home ∙ sym (ap (waiting_at c) e))
     puts_at (phase.Holding t page stored published) e = hold_puts t page stored published e
-    puts_at (phase.Giving t leaving) e = absurd (at_rest t leaving e)
+    puts_at (phase.Giving t reason) e = absurd (at_rest t reason e)
 
     pub turn_puts : Puts (situation_of X c)
     turn_puts = puts_at c.phase refl

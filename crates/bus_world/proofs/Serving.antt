@@ -19,7 +19,7 @@ use Rattle.bus_binconsensus.specs.Fallback as fallback
 use Rattle.bus_binconsensus.specs.Proved.ObjectNames.{objects_named}
 use Rattle.bus_binconsensus.specs.Objects.{Decider, object_kind, decide_op}
 use Rattle.bus_ownerbits.specs.Election.{kind_at as election_kind_at}
-use Rattle.bus_ownerbits.specs.ElectionKeeps.{OneOwner}
+use Rattle.bus_ownerbits.specs.OneOwner.{OneOwner}
 use Rattle.bus_ownerbits.specs.Proved.ElectionNamed.{election_named}
 use Rattle.bus_ownerbits.specs.declared.stages.Stage.{Stage}
 use Rattle.bus_ownerbits.specs.declared.stages.Stage.TheVariants as stage

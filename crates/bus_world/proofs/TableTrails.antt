@@ -6,12 +6,12 @@ use Rattle.bus_register.specs.declared.kinds.Kind.{Kind}
 use Rattle.bus_register.specs.declared.kinds.Kind.TheVariants as kind
 use Rattle.bus_register.specs.Tables.{of_some, Beside, put, Agree}
 use Rattle.bus_register.specs.Proved.TableLaws.{put_here, put_beside, push_here, push_beside}
-use Rattle.bus_register.specs.Protocol.{Protocol, Laws, counted}
+use Rattle.bus_register.specs.Protocol.{Protocol, Laws, counted_input}
 use Rattle.bus_tenure.specs.Core.{Core, Election, Layout}
 use Rattle.bus_tenure.specs.declared.phases.Phase.TheVariants as phase
 use Rattle.bus_tenure.specs.declared.turns.Turn.{Turn as Answered}
 use Rattle.bus_tenure.specs.declared.turns.Turn.TheVariants as turn
-use Rattle.bus_ownerbits.specs.ElectionKeeps.{OneOwner}
+use Rattle.bus_ownerbits.specs.OneOwner.{OneOwner}
 use Rattle.bus_ownerbits.proofs.ElectionSteps.{row_within}
 use Rattle.bus_world.proofs.Places.{got_before, got_after, got_split}
 use Rattle.bus_world.specs.Headline.{Deed, HasPut, HasClosed, Stepped, Announced, Elected, Took}
@@ -214,7 +214,7 @@ module _ {E : Type 0} (X : Election E) (P : Protocol E (Unit {0}) ℕ) (laws : L
   module _ (t : ℕ) (room : t < x.rows) (later : E) (kept_now : P.Keeps x.senders (2 + t * P.width x.senders) words' (put p (Some later) (h.elections t)))
       (agree : (u : ℕ) → u < x.rows → u ≢ t → Agree (2 + u * P.width x.senders) (P.width x.senders) words words')
       (past : t < next_tenure c') (phase_is : (u : ℕ) (e : E) → c'.phase ≡ phase.Electing u e → (t ≡ u) × (later ≡ e)) (unended : (o : ℕ) → of_some P.output (h.elections t p) ≡ Some o → ⊥)
-      (announces : counted P later ≡ Some tt → Announced (new p) t) (elects : (o : ℕ) → P.output later ≡ Some o → Elected (new p) t o)
+      (announces : counted_input P later ≡ Some tt → Announced (new p) t) (elects : (o : ℕ) → P.output later ≡ Some o → Elected (new p) t o)
       (elected_so : (u o : ℕ) → Elected ds u o → (t ≡ u) × (P.output later ≡ Some o)) where
     abbrev row : ℕ → Option E
     row = put p (Some later) (h.elections t)
@@ -260,8 +260,8 @@ module _ {E : Type 0} (X : Election E) (P : Protocol E (Unit {0}) ℕ) (laws : L
         ]
       ];
       announced = λ u s e. elim (cell u s) [
-        | inl i ↦ subst (λ z. Announced (new z) u) (sym i.1) (subst (λ z. Announced (new p) z) (sym i.0) (announces (ap (of_some (counted P)) (sym (here_is u s i.0 i.1)) ∙ e)))
-        | inr o ↦ announced_still p ds old new g s u (h.announced u s (ap (of_some (counted P)) (sym o) ∙ e))
+        | inl i ↦ subst (λ z. Announced (new z) u) (sym i.1) (subst (λ z. Announced (new p) z) (sym i.0) (announces (ap (of_some (counted_input P)) (sym (here_is u s i.0 i.1)) ∙ e)))
+        | inr o ↦ announced_still p ds old new g s u (h.announced u s (ap (of_some (counted_input P)) (sym o) ∙ e))
       ];
       elected = λ u s o e. elim (cell u s) [
         | inl i ↦ subst (λ z. Elected (new z) u o) (sym i.1) (subst (λ z. Elected (new p) z o) (sym i.0) (elects o (ap (of_some P.output) (sym (here_is u s i.0 i.1)) ∙ e)))

@@ -11,11 +11,11 @@ use Rattle.bus_batch.specs.Batches.{next_of, frame_of}
 use Rattle.bus_batch.specs.declared.batches.Phase.{Phase as BatchPhase}
 use Rattle.bus_batch.specs.declared.batches.Phase.TheVariants.{Closing}
 use Rattle.bus_batch.specs.Frames.{Frame, AreFrames, order_of, items_of, tenure_and_owner}
-use Rattle.bus_ownerbits.specs.ElectionKeeps.{OneOwner}
+use Rattle.bus_ownerbits.specs.OneOwner.{OneOwner}
 use Rattle.bus_tenure.specs.Core.{Core, Election, Layout, log_at, is_empty, is_closing, is_closed, has_room, frame_len}
 use Rattle.bus_tenure.specs.Situations.{Situation, IsClosed, IsIdle, IsSpent, LooksAtStage, Elects, TakesPage, StoresWord, StoresLength, GivesBack, situation_at, situation_of, resting, electing, holding, waits, op_at, answer_at, answer_of_election}
 use Rattle.bus_tenure.specs.declared.pages.Page.{Page}
-use Rattle.bus_tenure.specs.declared.phases.Leaving.TheVariants.{Sent, FoundEnd, NoRoom}
+use Rattle.bus_tenure.specs.declared.phases.Reason.TheVariants.{Sent, FoundEnd, NoRoom}
 use Rattle.bus_tenure.specs.declared.phases.Phase.{Phase}
 use Rattle.bus_tenure.specs.declared.phases.Phase.TheVariants as phase
 use Rattle.bus_tenure.specs.declared.turns.Turn.{Turn as Answered}
@@ -27,10 +27,10 @@ use Rattle.bus_world.specs.Headline.{Deed, Stepped, Elected, Took, AreFramed}
 use Rattle.bus_world.specs.Log.{read}
 use Rattle.bus_world.proofs.LogLaws.{length-read, items-append}
 use Rattle.bus_world.specs.Playing.{Answers, TurnAnswers, log_of}
-use Rattle.bus_world.proofs.QueueLaws.{counted_frame, length-items}
+use Rattle.bus_world.proofs.FrameOfBatch.{counted_frame, length-items}
 use Rattle.bus_world.specs.Telling.{TurnTells, SenderTells, EventTells}
-use Rattle.bus_world.specs.Trails.{Trails, Reached, extended, turn_deeds, turning_deeds, step_deed}
-use Rattle.bus_world.specs.Turning.{Side, found}
+use Rattle.bus_world.specs.Trails.{Trails, Reached, trails_after, turn_deeds, turning_deeds, step_deed}
+use Rattle.bus_world.specs.Turning.{Side, number_found}
 use Rattle.bus_world.proofs.TurningLaws.{IsSide, side_of}
 use Rattle.bus_world.specs.World.{Bus, Event, Put, Close, Turn, Recv, Happens}
 use Rattle.bus_world.proofs.EventTrails.{reached_kept, follows}
@@ -54,10 +54,10 @@ module _ {E : Type 0} (X : Election E) (P : Protocol E (Unit {0}) ℕ) (laws : L
   part = h.sending.parts p c old
 
   abbrev told : Situation E → Answered
-  told z = answer_at X c z (found (slice_index side.words) (op_at X c z word)) word
+  told z = answer_at X c z (number_found (slice_index side.words) (op_at X c z word)) word
 
   abbrev deeds : Situation E → List Deed
-  deeds z = before ++ turn_deeds X c z (found (slice_index side.words) (op_at X c z word)) word (answer.Turn (told z))
+  deeds z = before ++ turn_deeds X c z (number_found (slice_index side.words) (op_at X c z word)) word (answer.Turn (told z))
 
   abbrev True : Situation E → Type 0
   True z = ((t place : ℕ) → Took (deeds z) t place → Elected (deeds z) t p) → TurnTells x log p c (deeds z) (told z)
@@ -68,7 +68,7 @@ module _ {E : Type 0} (X : Election E) (P : Protocol E (Unit {0}) ℕ) (laws : L
 
   -- ---- at rest
   looks : True LooksAtStage
-  looks own = by_tests (waits c (found (slice_index side.words) (op_at X c LooksAtStage word))) (nat_le c.layout.rows (found (slice_index side.words) (op_at X c LooksAtStage word) / 2)) (deeds LooksAtStage)
+  looks own = by_tests (waits c (number_found (slice_index side.words) (op_at X c LooksAtStage word))) (nat_le c.layout.rows (number_found (slice_index side.words) (op_at X c LooksAtStage word) / 2)) (deeds LooksAtStage)
     where
       by_tests : (a b : Bool) (ds : List Deed) → TurnTells x log p c ds (cond a turn.Waiting (cond b turn.Spent turn.Going))
       by_tests true b ds = tt
@@ -82,7 +82,7 @@ module _ {E : Type 0} (X : Election E) (P : Protocol E (Unit {0}) ℕ) (laws : L
   module _ (t : ℕ) (e : E) where
     takes : True (TakesPage t)
     takes own =
-        let taken : Took (deeds (TakesPage t)) t (length before + 0) = record { found = found (slice_index side.words) (op_at X c (TakesPage t) word); chose = None; answer = turn.Own t; at = got_after before _ 0 _ refl (length before + 0) refl } in
+        let taken : Took (deeds (TakesPage t)) t (length before + 0) = record { found = number_found (slice_index side.words) (op_at X c (TakesPage t) word); chose = None; answer = turn.Own t; at = got_after before _ 0 _ refl (length before + 0) refl } in
         (own t (length before + 0) taken, (length before + 0, taken))
 
     lost_or : (got : ℕ) (k : Kind) (owner : Option ℕ) → TurnTells x log p c (before ++ step_deed (Some k) (Some t) got owner (answer_of_election c t owner)) (answer_of_election c t owner)
@@ -106,7 +106,7 @@ module _ {E : Type 0} (X : Election E) (P : Protocol E (Unit {0}) ℕ) (laws : L
     elects_on : is_some (X.owner e) ≡ false → True (Elects t e)
     elects_on none own =
         let k = has_kind none in
-        let got = found (slice_index side.words) (X.op e word) in
+        let got = number_found (slice_index side.words) (X.op e word) in
         let owner = X.owner (X.fed e got word) in
         subst (λ z. TurnTells x log p c (before ++ step_deed z (Some t) got owner (answer_of_election c t owner)) (answer_of_election c t owner)) (sym k.1) (lost_or got k.0 owner)
 
@@ -121,7 +121,7 @@ module _ {E : Type 0} (X : Election E) (P : Protocol E (Unit {0}) ℕ) (laws : L
         by_closing (is_closing c.queue.phase) refl fits.1.front fits.1.frames_are (some_messages c.queue.phase (length c.queue.messages) fits.0.something)
       where
         by_closing : (b : Bool) → is_closing c.queue.phase ≡ b → (front : List Frame) → frames ≡ front ++ frame_of c.queue t ∷ [] → (is_closing c.queue.phase ≡ false → 0 < length c.queue.messages)
-            → TurnTells x log p c (before ++ turn_deeds X c (GivesBack t page Sent) (found (slice_index side.words) (op_at X c (GivesBack t page Sent) word)) word (answer.Turn (told (GivesBack t page Sent)))) (cond b turn.Closed (turn.Delivered t c.queue.first (next_of c.queue - 1)))
+            → TurnTells x log p c (before ++ turn_deeds X c (GivesBack t page Sent) (number_found (slice_index side.words) (op_at X c (GivesBack t page Sent) word)) word (answer.Turn (told (GivesBack t page Sent)))) (cond b turn.Closed (turn.Delivered t c.queue.first (next_of c.queue - 1)))
         by_closing true i front e some = tt
         by_closing false i front e some = (
           order_of frames,
@@ -163,7 +163,7 @@ module _ {E : Type 0} (X : Election E) (P : Protocol E (Unit {0}) ℕ) (laws : L
   true_at (phase.Electing t e) is = elect_true t e
   true_at (phase.Taken t) is = absurd (subst (Fits W frames c) is part.fits)
   true_at (phase.Holding t page stored published) is = hold_true t page stored published is
-  true_at (phase.Giving t leaving) is = absurd (subst (Fits W frames c) is part.fits)
+  true_at (phase.Giving t reason) is = absurd (subst (Fits W frames c) is part.fits)
 
   -- whatever a turn answers is so
   pub turn_true : True (situation_of X c)
@@ -187,7 +187,7 @@ module _ {E : Type 0} (X : Election E) (P : Protocol E (Unit {0}) ℕ) (laws : L
       → TurnTells x (log_of record { layout = x; bus = old }) s c (T.deeds s ++ turning_deeds X old.side.words (Some c) word (answer.Turn z)) z) (sym is)
       (turn_true X P laws x owner_is named old.side k.frames (side_of k.lawful) s c i word (T.deeds s)) own
 
-  turn_tells : (s word : ℕ) (t : Answered) → Happens X old (Turn s word) new → Answers X old (Turn s word) (answer.Turn t) new → EventTells x old (Turn s word) (answer.Turn t) (extended X old (Turn s word) (answer.Turn t) T)
+  turn_tells : (s word : ℕ) (t : Answered) → Happens X old (Turn s word) new → Answers X old (Turn s word) (answer.Turn t) new → EventTells x old (Turn s word) (answer.Turn t) (trails_after X old (Turn s word) (answer.Turn t) T)
   turn_tells s word t d w =
       let f = (follows X P laws x ok width starts owner_is named announces apart old new (Turn s word) (answer.Turn t) tt d w).promised T r in
       by_same (s == s) (eqb_tells s s) (λ u place. f.after.by.promises.took_own u s place)
@@ -198,7 +198,7 @@ module _ {E : Type 0} (X : Election E) (P : Protocol E (Unit {0}) ℕ) (laws : L
       by_same false (inl y) own = absurd (true≢false (sym y.0))
       by_same false (inr y) own = absurd (y.1 refl)
 
-  pub event_tells : (e : Event) (a : Answer) → Happens X old e new → Answers X old e a new → EventTells x old e a (extended X old e a T)
+  pub event_tells : (e : Event) (a : Answer) → Happens X old e new → Answers X old e a new → EventTells x old e a (trails_after X old e a T)
   event_tells (Put s bytes) a d w = tt
   event_tells (Close s) a d w = tt
   event_tells (Turn s word) (answer.Number n) d w = tt

@@ -9,7 +9,7 @@ use Rattle.bus_register.specs.Words.{register}
 use Rattle.bus_register.specs.Tables.{of_some, Beside, put, Agree, Stepped}
 use Rattle.bus_register.specs.Proved.TableLaws.{put_here, put_beside, some_or_none, here_not, push_here, push_beside}
 use Rattle.bus_register.specs.Protocol.{Protocol, Laws, inputs, outputs}
-use Rattle.bus_ownerbits.specs.ElectionKeeps.{OneOwner}
+use Rattle.bus_ownerbits.specs.OneOwner.{OneOwner}
 use Rattle.bus_ownerbits.proofs.ElectionSteps.{row_within}
 use Rattle.bus_world.specs.Tenures.{Standing, Tenures}
 use Rattle.bus_world.specs.Tenures.Standing.{Rests, Runs, Holds}

@@ -10,22 +10,22 @@ use Rattle.bus_register.specs.declared.registers.Op.{Op}
 use Rattle.bus_register.specs.Words.{register, after}
 use Rattle.bus_register.specs.Tables.{of_some, put, Agree}
 use Rattle.bus_register.specs.Proved.TableLaws.{put_here, put_beside, some_or_none, get_set_same, get_set_other}
-use Rattle.bus_register.specs.Protocol.{Protocol, Laws, Starts, counted}
+use Rattle.bus_register.specs.Protocol.{Protocol, Laws, Starts, counted_input}
 use Rattle.bus_tenure.specs.Core.{Core, Election, Layout, log_at, row_at, frame_len, has_room, is_empty, is_closing, is_closed}
-use Rattle.bus_tenure.specs.Situations.{Situation, IsClosed, IsIdle, IsSpent, LooksAtStage, Elects, TakesPage, StoresWord, StoresLength, GivesBack, situation_at, situation_of, resting, electing, holding, begun, waits, elected, rested, answer_of_stage, answer_of_election, answer_at, op_at}
+use Rattle.bus_tenure.specs.Situations.{Situation, IsClosed, IsIdle, IsSpent, LooksAtStage, Elects, TakesPage, StoresWord, StoresLength, GivesBack, situation_at, situation_of, resting, electing, holding, core_begun, waits, core_elected, core_at_rest, answer_of_stage, answer_of_election, answer_at, op_at}
 use Rattle.bus_tenure.specs.declared.pages.Page.{Page}
-use Rattle.bus_tenure.specs.declared.phases.Leaving.{Leaving}
-use Rattle.bus_tenure.specs.declared.phases.Leaving.TheVariants.{Sent, FoundEnd, NoRoom}
+use Rattle.bus_tenure.specs.declared.phases.Reason.{Reason}
+use Rattle.bus_tenure.specs.declared.phases.Reason.TheVariants.{Sent, FoundEnd, NoRoom}
 use Rattle.bus_tenure.specs.declared.phases.Phase.{Phase}
 use Rattle.bus_tenure.specs.declared.phases.Phase.TheVariants as phase
 use Rattle.bus_tenure.specs.declared.turns.Turn.TheVariants as turn
 use Rattle.bus_batch.specs.Frames.{Frame}
-use Rattle.bus_ownerbits.specs.ElectionKeeps.{OneOwner}
+use Rattle.bus_ownerbits.specs.OneOwner.{OneOwner}
 use Rattle.bus_ownerbits.proofs.ElectionSteps.{row_within}
 use Rattle.bus_world.specs.Tenures.Standing.{Runs}
 use Rattle.bus_world.proofs.TenuresLaws as tenures
 use Rattle.bus_world.specs.Bus.{IsLayout, least_of, Part, Fits, stands_at}
-use Rattle.bus_world.specs.Turning.{Side, stepped, found, laid, turned}
+use Rattle.bus_world.specs.Turning.{Side, words_after, number_found, core_with_page, side_after}
 use Rattle.bus_world.proofs.TurningLaws.{IsSide}
 use Rattle.bus_world.specs.declared.events.Answer.TheVariants as answer
 use Rattle.bus_world.specs.Headline.{Deed, Stepped, Announced, Elected}
@@ -61,7 +61,7 @@ none_some : {A : Type 0} (v : A) → ◌≡◌ {A = Option A} None (Some v) → 
 none_some v e = cc
 
 module _ {E : Type 0} (c : Core E) (t : ℕ) (later : E) where
-  elected_next : (owner : Option ℕ) → next_tenure (elected c t later owner) ≡ t + 1
+  elected_next : (owner : Option ℕ) → next_tenure (core_elected c t later owner) ≡ t + 1
   elected_next None = refl
   elected_next (Some o) = by_test (o == c.me)
     where
@@ -69,7 +69,7 @@ module _ {E : Type 0} (c : Core E) (t : ℕ) (later : E) where
       by_test true = refl
       by_test false = refl
 
-  elected_phase : (owner : Option ℕ) (u : ℕ) (f : E) → (elected c t later owner).phase ≡ phase.Electing u f → (t ≡ u) × (later ≡ f)
+  elected_phase : (owner : Option ℕ) (u : ℕ) (f : E) → (core_elected c t later owner).phase ≡ phase.Electing u f → (t ≡ u) × (later ≡ f)
   elected_phase None u f i = same_phase t u later f i
   elected_phase (Some o) u f i = by_test (o == c.me) i
     where
@@ -88,7 +88,7 @@ module _ {E : Type 0} (X : Election E) (P : Protocol E (Unit {0}) ℕ) (laws : L
   part = h.sending.parts p c old
 
   abbrev Kept : Situation E → Type 0
-  Kept z = Ties P x (turned X side p c z word) (λ q. D q ++ cond (q == p) (turn_deeds X c z (found (slice_index side.words) (op_at X c z word)) word (answer.Turn (answer_at X c z (found (slice_index side.words) (op_at X c z word)) word))) [])
+  Kept z = Ties P x (side_after X side p c z word) (λ q. D q ++ cond (q == p) (turn_deeds X c z (number_found (slice_index side.words) (op_at X c z word)) word (answer.Turn (answer_at X c z (number_found (slice_index side.words) (op_at X c z word)) word))) [])
 
   follows : (c' : Core E) → next_tenure c ≤ next_tenure c' → GoesOn p c c' (slice_get side.senders) (slice_get (slice_set side.senders p c'))
   follows c' l = record { before = old; now = get_set_same side.senders p c' (slice_get_within side.senders p c old); others = get_set_other side.senders p c'; rises = l }
@@ -172,9 +172,9 @@ module _ {E : Type 0} (X : Election E) (P : Protocol E (Unit {0}) ℕ) (laws : L
           (laws.enters x.senders (2 + t * P.width x.senders) W (T.tables.elections t) (put p (Some start) (T.tables.elections t)) p tt (T.tables.kept t room) part.below few absent (put_here p (Some start) (T.tables.elections t)) (put_beside p (Some start) (T.tables.elections t)))
           (λ r a b. get_or-set_other side.words 1 r got 0 (omega arith)) (λ q. refl)
 
-      begins : Ties P x record { words = slice_set side.words 1 (slice_index side.words 1); home = side.home; senders = slice_set side.senders p (begun X c (got / 2)); owners = side.owners } (λ q. D q ++ cond (q == p) looked [])
+      begins : Ties P x record { words = slice_set side.words 1 (slice_index side.words 1); home = side.home; senders = slice_set side.senders p (core_begun X c (got / 2)); owners = side.owners } (λ q. D q ++ cond (q == p) looked [])
       begins = record {
-        tables = tables_step X P laws x W (slice_index (slice_set side.words 1 got)) D (λ q. D q ++ cond (q == p) looked []) p looked (longer_by p looked D) (slice_get side.senders) (slice_get (slice_set side.senders p (begun X c t))) c (begun X c t) (follows (begun X c t) (let a = next_is in let g = enters e in omega arith)) T.tables
+        tables = tables_step X P laws x W (slice_index (slice_set side.words 1 got)) D (λ q. D q ++ cond (q == p) looked []) p looked (longer_by p looked D) (slice_get side.senders) (slice_get (slice_set side.senders p (core_begun X c t))) c (core_begun X c t) (follows (core_begun X c t) (let a = next_is in let g = enters e in omega arith)) T.tables
             t room start kept_now (λ u l ne r a b. get_or-set_other side.words 1 r got 0 (omega arith)) (omega arith) (λ u f i. let s = same_phase t u (X.started c.layout.senders c.me c.layout.rounds (row_at c.layout t)) f i in (s.0, start_is ∙ s.1))
             (λ o i. none_some o (ap (of_some P.output) (sym absent) ∙ i)) (λ i. absurd (not_begun (P.has_begun start) fresh.fresh i)) (λ o i. absurd (none_some o (sym unstarted ∙ i))) (λ u o a. absurd (looked_plain.none_elected u o a));
         takers = takers_stay p looked D (λ q. D q ++ cond (q == p) looked []) (longer_by p looked D) side.owners looked_plain.none_took T.takers;
@@ -183,11 +183,11 @@ module _ {E : Type 0} (X : Election E) (P : Protocol E (Unit {0}) ℕ) (laws : L
     looks : Kept LooksAtStage
     looks = by_waits (waits c got) refl
       where
-        by_waits : (b : Bool) → waits c got ≡ b → Ties P x record { words = slice_set side.words 1 (slice_index side.words 1); home = side.home; senders = slice_set side.senders p (cond b c (cond (nat_le c.layout.rows (got / 2)) (record c { least = got / 2 }) (begun X c (got / 2)))); owners = side.owners } (λ q. D q ++ cond (q == p) looked [])
+        by_waits : (b : Bool) → waits c got ≡ b → Ties P x record { words = slice_set side.words 1 (slice_index side.words 1); home = side.home; senders = slice_set side.senders p (cond b c (cond (nat_le c.layout.rows (got / 2)) (record c { least = got / 2 }) (core_begun X c (got / 2)))); owners = side.owners } (λ q. D q ++ cond (q == p) looked [])
         by_waits true e = calm c (slice_set side.words 1 got) side.home looked (outside 1 got (inl (omega arith))) (omega arith) (λ t f i. i) looked_plain
         by_waits false e = by_room (nat_le c.layout.rows (got / 2)) refl
           where
-            by_room : (b : Bool) → nat_le c.layout.rows (got / 2) ≡ b → Ties P x record { words = slice_set side.words 1 (slice_index side.words 1); home = side.home; senders = slice_set side.senders p (cond b (record c { least = got / 2 }) (begun X c (got / 2))); owners = side.owners } (λ q. D q ++ cond (q == p) looked [])
+            by_room : (b : Bool) → nat_le c.layout.rows (got / 2) ≡ b → Ties P x record { words = slice_set side.words 1 (slice_index side.words 1); home = side.home; senders = slice_set side.senders p (cond b (record c { least = got / 2 }) (core_begun X c (got / 2))); owners = side.owners } (λ q. D q ++ cond (q == p) looked [])
             by_room true d = calm (record c { least = got / 2 }) (slice_set side.words 1 got) side.home looked (outside 1 got (inl (omega arith)))
                 (let a = next_is in let b : next_tenure (record c { least = got / 2 }) ≡ got / 2 = ap (next_at (record c { least = got / 2 })) rests in let g = enters e in omega arith) (λ t f i. i) looked_plain
             by_room false d = begins e d
@@ -212,7 +212,7 @@ module _ {E : Type 0} (X : Election E) (P : Protocol E (Unit {0}) ℕ) (laws : L
     -- it takes the page
     take_kept : (o : ℕ) → X.owner e ≡ Some o → Kept (TakesPage t)
     take_kept o own = record {
-      tables = tables_stay X P laws x W (slice_index (slice_set side.words 1 (2 * t + 1))) D (λ q. D q ++ cond (q == p) taking []) p taking (longer_by p taking D) (slice_get side.senders) (slice_get (slice_set side.senders p (laid c t side.home))) c (laid c t side.home) (follows (laid c t side.home) (let a = next_was in let b = laid_next side.home in omega arith)) T.tables
+      tables = tables_stay X P laws x W (slice_index (slice_set side.words 1 (2 * t + 1))) D (λ q. D q ++ cond (q == p) taking []) p taking (longer_by p taking D) (slice_get side.senders) (slice_get (slice_set side.senders p (core_with_page c t side.home))) c (core_with_page c t side.home) (follows (core_with_page c t side.home) (let a = next_was in let b = laid_next side.home in omega arith)) T.tables
           (outside 1 (2 * t + 1) (inl (omega arith))) (λ u f i. absurd (laid_apart side.home u f i)) (λ u v a. none_some v (one_elected (Some t) kind.TakePage got None (turn.Own t) u v a).1);
       takers = takers_more p taking D (λ q. D q ++ cond (q == p) taking []) (longer_by p taking D) side.owners t got None refl many (T.tables.elected t p p (ap (of_some P.output) local ∙ out ∙ ap Some mine)) T.takers;
     } where
@@ -225,11 +225,11 @@ module _ {E : Type 0} (X : Election E) (P : Protocol E (Unit {0}) ℕ) (laws : L
       many : length side.owners ≡ t
       many = (tenures.finds_home X.op X.fed P laws x.senders x.rows 2 W (W 1) (is_some side.home) (λ q. of_some (λ d. Some (stands_at d.phase)) (slice_get side.senders q)) (λ q. least_of (slice_get side.senders q)) side.owners h.sending.tenures p t e runs (out ∙ ap Some mine)).2
 
-      laid_next : (home : Option Page) → next_tenure (laid c t home) ≡ t + 1
+      laid_next : (home : Option Page) → next_tenure (core_with_page c t home) ≡ t + 1
       laid_next None = refl
       laid_next (Some page) = refl
 
-      laid_apart : (home : Option Page) (u : ℕ) (f : E) → (laid c t home).phase ≡ phase.Electing u f → ⊥
+      laid_apart : (home : Option Page) (u : ℕ) (f : E) → (core_with_page c t home).phase ≡ phase.Electing u f → ⊥
       laid_apart None u f i = taken_apart t u f i
       laid_apart (Some page) u f i = holds_apart t page 0 false u f i
 
@@ -275,11 +275,11 @@ module _ {E : Type 0} (X : Election E) (P : Protocol E (Unit {0}) ℕ) (laws : L
       deed_at : slice_get (now p) (length (D p) + 0) ≡ Some deed
       deed_at = ap (λ z. slice_get z (length (D p) + 0)) (longer_by p ds D).own ∙ got_after (D p) ds 0 deed refl (length (D p) + 0) refl
 
-      announced_now : counted P later ≡ Some tt → Announced (now p) t
+      announced_now : counted_input P later ≡ Some tt → Announced (now p) t
       announced_now i = by_begun (P.has_begun e) refl
         where
           by_begun : (b : Bool) → P.has_begun e ≡ b → Announced (now p) t
-          by_begun true j = announced_still p ds D now (longer_by p ds D) p t (T.tables.announced t p (ap (of_some (counted P)) local ∙ ap (λ b. cond b (Some (P.input e)) None) j))
+          by_begun true j = announced_still p ds D now (longer_by p ds D) p t (T.tables.announced t p (ap (of_some (counted_input P)) local ∙ ap (λ b. cond b (Some (P.input e)) None) j))
           by_begun false j =
               let is : k ≡ kind.Announce = same_Some _ _ (sym kind_is ∙ announces e j) in
               record { place = length (D p) + 0; found = found_now; chose = X.owner later; answer = answer_of_election c t (X.owner later); at = deed_at ∙ ap (λ z. Some (Stepped (Some t) z found_now (X.owner later) (answer_of_election c t (X.owner later)))) is }
@@ -288,9 +288,9 @@ module _ {E : Type 0} (X : Election E) (P : Protocol E (Unit {0}) ℕ) (laws : L
       elected_now v i = record { place = length (D p) + 0; step = k; found = found_now; answer = answer_of_election c t (X.owner later); at = deed_at ∙ ap (λ z. Some (Stepped (Some t) k found_now z (answer_of_election c t (X.owner later)))) (owner_is later ∙ i) }
 
       abbrev c' : Core E
-      c' = elected c t later (X.owner later)
+      c' = core_elected c t later (X.owner later)
 
-      step_kept : Ties P x record { words = words_now; home = side.home; senders = slice_set side.senders p (elected c t later (X.owner later)); owners = side.owners } now
+      step_kept : Ties P x record { words = words_now; home = side.home; senders = slice_set side.senders p (core_elected c t later (X.owner later)); owners = side.owners } now
       step_kept = record {
         tables = tables_step X P laws x W (slice_index words_now) D now p ds (longer_by p ds D) (slice_get side.senders) (slice_get (slice_set side.senders p c')) c c' (follows c' (let a = next_was in let b = elected_next c t later (X.owner later) in omega arith)) T.tables
             t row.0 later kept_then other_row (let b = elected_next c t later (X.owner later) in omega arith) (elected_phase c t later (X.owner later)) (λ v i. none_some v (sym (laws.unended e word o next) ∙ ap (of_some P.output) (sym local) ∙ i))
@@ -320,9 +320,9 @@ module _ {E : Type 0} (X : Election E) (P : Protocol E (Unit {0}) ℕ) (laws : L
             by_step : (o : Op) → X.op e word ≡ Some o → Kept (Elects t e)
             by_step o next =
                 let k = has_kind o next in
-                subst (λ z. Ties P x record { words = stepped side.words z; home = side.home; senders = slice_set side.senders p (elected c t (X.fed e (found (slice_index side.words) z) word) (X.owner (X.fed e (found (slice_index side.words) z) word))); owners = side.owners }
-                (λ q. D q ++ cond (q == p) (step_deed (X.kind_of e) (Some t) (found (slice_index side.words) z) (X.owner (X.fed e (found (slice_index side.words) z) word)) (answer_of_election c t (X.owner (X.fed e (found (slice_index side.words) z) word)))) [])) (sym next)
-                (subst (λ z. Ties P x record { words = words_now o next k.0 k.1; home = side.home; senders = slice_set side.senders p (elected c t (later o next k.0 k.1) (X.owner (later o next k.0 k.1))); owners = side.owners }
+                subst (λ z. Ties P x record { words = words_after side.words z; home = side.home; senders = slice_set side.senders p (core_elected c t (X.fed e (number_found (slice_index side.words) z) word) (X.owner (X.fed e (number_found (slice_index side.words) z) word))); owners = side.owners }
+                (λ q. D q ++ cond (q == p) (step_deed (X.kind_of e) (Some t) (number_found (slice_index side.words) z) (X.owner (X.fed e (number_found (slice_index side.words) z) word)) (answer_of_election c t (X.owner (X.fed e (number_found (slice_index side.words) z) word)))) [])) (sym next)
+                (subst (λ z. Ties P x record { words = words_now o next k.0 k.1; home = side.home; senders = slice_set side.senders p (core_elected c t (later o next k.0 k.1) (X.owner (later o next k.0 k.1))); owners = side.owners }
                 (λ q. D q ++ cond (q == p) (step_deed z (Some t) (slice_index side.words (register o)) (X.owner (later o next k.0 k.1)) (answer_of_election c t (X.owner (later o next k.0 k.1)))) [])) (sym k.1)
                 (step_kept o next k.0 k.1))
 
@@ -331,8 +331,8 @@ module _ {E : Type 0} (X : Election E) (P : Protocol E (Unit {0}) ℕ) (laws : L
     next_held : next_tenure c ≡ t + 1
     next_held = ap (next_at c) holds
 
-    gives : (leaving : Leaving) → Kept (GivesBack t page leaving)
-    gives leaving = calm (rested c leaving t) (slice_set side.words 1 (2 * t + 2)) _ _ (outside 1 (2 * t + 2) (inl (omega arith))) (let a = next_held in omega arith) (λ u f i. absurd (rests_apart u f i)) (plain_step _ _ _ _ (λ e. cc))
+    gives : (reason : Reason) → Kept (GivesBack t page reason)
+    gives reason = calm (core_at_rest c reason t) (slice_set side.words 1 (2 * t + 2)) _ _ (outside 1 (2 * t + 2) (inl (omega arith))) (let a = next_held in omega arith) (λ u f i. absurd (rests_apart u f i)) (plain_step _ _ _ _ (λ e. cc))
 
     stores : Kept (StoresWord t page stored)
     stores = calm (record c { phase = phase.Holding t page (stored + 1) false }) _ _ _ (outside (log_at c.layout + page.words + stored) _ (inr (let l = ap log_at part.layout in let w = ap (λ z. x.rows * z) width in omega arith))) (let a = next_held in omega arith) (λ u f i. absurd (holds_apart t page (stored + 1) false u f i)) (plain_step _ _ _ _ (λ e. cc))
@@ -350,7 +350,7 @@ module _ {E : Type 0} (X : Election E) (P : Protocol E (Unit {0}) ℕ) (laws : L
   turn_at (phase.Electing t u) e = elect_kept t u e
   turn_at (phase.Taken t) e = absurd (subst (Fits W frames c) e part.fits)
   turn_at (phase.Holding t page stored published) e = hold_kept t page stored published e
-  turn_at (phase.Giving t leaving) e = absurd (subst (Fits W frames c) e part.fits)
+  turn_at (phase.Giving t reason) e = absurd (subst (Fits W frames c) e part.fits)
 
   pub turn_ties : Kept (situation_of X c)
   turn_ties = turn_at c.phase refl
@@ -364,4 +364,4 @@ module _ {E : Type 0} (X : Election E) (P : Protocol E (Unit {0}) ℕ) (laws : L
       by_phase (phase.Electing t e) = refl
       by_phase (phase.Taken t) = refl
       by_phase (phase.Holding t page stored published) = refl
-      by_phase (phase.Giving t leaving) = refl
+      by_phase (phase.Giving t reason) = refl

@@ -18,20 +18,20 @@ use Rattle.bus_batch.specs.Batches.{HasSomething, frame_of}
 use Rattle.bus_batch.specs.declared.batches.Phase.{Phase as BatchPhase}
 use Rattle.bus_batch.specs.declared.batches.Phase.TheVariants.{Open, Closing, Closed}
 use Rattle.bus_tenure.specs.Core.{Core, Election, Layout, log_at, row_at, words_of, frame_len, has_room, is_empty, is_closing, is_closed, page_after}
-use Rattle.bus_tenure.specs.Situations.{Situation, IsClosed, IsIdle, IsSpent, LooksAtStage, Elects, TakesPage, StoresWord, StoresLength, GivesBack, situation_at, situation_of, resting, electing, holding, begun, waits, elected, rested, op_at}
+use Rattle.bus_tenure.specs.Situations.{Situation, IsClosed, IsIdle, IsSpent, LooksAtStage, Elects, TakesPage, StoresWord, StoresLength, GivesBack, situation_at, situation_of, resting, electing, holding, core_begun, waits, core_elected, core_at_rest, op_at}
 use Rattle.bus_tenure.specs.declared.pages.Page.{Page}
-use Rattle.bus_tenure.specs.declared.phases.Leaving.{Leaving}
-use Rattle.bus_tenure.specs.declared.phases.Leaving.TheVariants.{Sent, FoundEnd, NoRoom}
+use Rattle.bus_tenure.specs.declared.phases.Reason.{Reason}
+use Rattle.bus_tenure.specs.declared.phases.Reason.TheVariants.{Sent, FoundEnd, NoRoom}
 use Rattle.bus_tenure.specs.declared.phases.Phase.{Phase}
 use Rattle.bus_tenure.specs.declared.phases.Phase.TheVariants as phase
-use Rattle.bus_ownerbits.specs.ElectionKeeps.{OneOwner}
+use Rattle.bus_ownerbits.specs.OneOwner.{OneOwner}
 use Rattle.bus_ownerbits.proofs.ElectionSteps.{row_within}
 use Rattle.bus_world.specs.Tenures.Standing.{Runs}
 use Rattle.bus_world.proofs.TenuresLaws as tenures
 use Rattle.bus_world.specs.Bus.{IsLayout, least_of, standing_of, Part, Fits, HasBegun, Sending, stands_at}
 use Rattle.bus_world.proofs.BusLaws as bus
 use Rattle.bus_world.specs.Log.{sent}
-use Rattle.bus_world.specs.Turning.{Side, stepped, found, laid, home_after, core_after, owners_after, turned}
+use Rattle.bus_world.specs.Turning.{Side, words_after, number_found, core_with_page, home_after, core_after, owners_after, side_after}
 use Rattle.bus_world.specs.World.{Bus, LawfulBus}
 use Rattle.bus_world.proofs.Waiting.{frames_after}
 
@@ -106,7 +106,7 @@ module _ {E : Type 0} (X : Election E) (P : Protocol E (Unit {0}) ℕ) (laws : L
     -- the turn's step is on a word that there is; and once it is taken, and the sender is as it is after it, all is kept
     abbrev pub Kept : Situation E → Type 0
     Kept z = ((o : Op) → op_at X c z word ≡ Some o → register o < words_of x)
-        × (Steps (op_at X c z word) words words' → senders' p ≡ Some (core_after X c z home (found words (op_at X c z word)) word)
+        × (Steps (op_at X c z word) words words' → senders' p ≡ Some (core_after X c z home (number_found words (op_at X c z word)) word)
         → Sending P x words' (home_after X c z home) senders' (owners_after X c z p owners) (frames_after X c z frames))
 
     choose : (b : Bool) (s u : Situation E) → Kept s → Kept u → Kept (cond b s u)
@@ -137,7 +137,7 @@ module _ {E : Type 0} (X : Election E) (P : Protocol E (Unit {0}) ℕ) (laws : L
       part_least : (k : ℕ) → Part x words frames p (record c { least = k })
       part_least k = record { layout = part.layout; me = part.me; below = part.below; sender = part.sender; queue = part.queue; fits = subst (Fits words frames (record c { least = k })) (sym rests) resting_fits }
 
-      part_begun : (t : ℕ) → (c.queue.phase ≡ Closed → ⊥) → HasSomething c.queue → Part x words frames p (begun X c t)
+      part_begun : (t : ℕ) → (c.queue.phase ≡ Closed → ⊥) → HasSomething c.queue → Part x words frames p (core_begun X c t)
       part_begun t is_open something = record {
         layout = part.layout;
         me = part.me;
@@ -159,14 +159,14 @@ module _ {E : Type 0} (X : Election E) (P : Protocol E (Unit {0}) ℕ) (laws : L
           ∙ ap (λ z. X.started x.senders z x.rounds (row_at x (got / 2))) (sym part.me) ∙ ap (λ (z : Layout). X.started z.senders c.me z.rounds (row_at z (got / 2))) (sym part.layout)
 
       module _ (is_open : c.queue.phase ≡ Closed → ⊥) (something : HasSomething c.queue) where
-        by_room : (b : Bool) → nat_le c.layout.rows (got / 2) ≡ b → waits c got ≡ false → senders' p ≡ Some (cond b (record c { least = got / 2 }) (begun X c (got / 2))) → Sending P x words home senders' owners frames
+        by_room : (b : Bool) → nat_le c.layout.rows (got / 2) ≡ b → waits c got ≡ false → senders' p ≡ Some (cond b (record c { least = got / 2 }) (core_begun X c (got / 2))) → Sending P x words home senders' owners frames
         by_room true d e new = let stage = open_stage c got e in bus.spends X P laws x ok width words home senders owners frames h p c (record c { least = got / 2 }) senders' old new beside rests rests stage.1 (part_least (got / 2))
         by_room false d e new =
             let stage = open_stage c got e in
-            bus.begins X P laws x ok width words home senders owners frames h p c (begun X c (got / 2)) senders' old new beside
+            bus.begins X P laws x ok width words home senders owners frames h p c (core_begun X c (got / 2)) senders' old new beside
             (got / 2) rests stage.0 stage.1 (let a = leb-false c.layout.rows (got / 2) d in let b = rows_is in omega arith) part.below (ap (phase.Electing (got / 2)) (sym start_is)) refl (part_begun (got / 2) is_open something)
 
-        by_waits : (b : Bool) → waits c got ≡ b → senders' p ≡ Some (cond b c (cond (nat_le c.layout.rows (got / 2)) (record c { least = got / 2 }) (begun X c (got / 2)))) → Sending P x words home senders' owners frames
+        by_waits : (b : Bool) → waits c got ≡ b → senders' p ≡ Some (cond b c (cond (nat_le c.layout.rows (got / 2)) (record c { least = got / 2 }) (core_begun X c (got / 2)))) → Sending P x words home senders' owners frames
         by_waits true e new = unchanged new
         by_waits false e new = by_room (nat_le c.layout.rows (got / 2)) refl e new
 
@@ -203,8 +203,8 @@ module _ {E : Type 0} (X : Election E) (P : Protocol E (Unit {0}) ℕ) (laws : L
       take_kept : (o : ℕ) → X.owner e ≡ Some o → Kept (TakesPage t)
       take_kept o own = (only (Store record { 0 = 1 } (2 * t + 1)) (omega arith), λ step new. taken step new (at_home t e elects o own).0 (at_home t e elects o own).1)
         where
-          taken : bus.Changes (Store record { 0 = 1 } (2 * t + 1)) words words' → senders' p ≡ Some (laid c t home) → (page : Page) → home ≡ Some page → Sending P x words' None senders' (owners ++ p ∷ []) frames
-          taken step new page i = bus.takes X P laws x ok width words home senders owners frames h p c (record c { phase = phase.Holding t page 0 false }) senders' old (new ∙ ap (λ z. Some (laid c t z)) i) beside
+          taken : bus.Changes (Store record { 0 = 1 } (2 * t + 1)) words words' → senders' p ≡ Some (core_with_page c t home) → (page : Page) → home ≡ Some page → Sending P x words' None senders' (owners ++ p ∷ []) frames
+          taken step new page i = bus.takes X P laws x ok width words home senders owners frames h p c (record c { phase = phase.Holding t page 0 false }) senders' old (new ∙ ap (λ z. Some (core_with_page c t z)) i) beside
               t e page words' elects (own_output t e elects o own) i step.here (λ r ne. step.elsewhere r ne) refl
 
       -- it takes a step of its election
@@ -229,7 +229,7 @@ module _ {E : Type 0} (X : Election E) (P : Protocol E (Unit {0}) ℕ) (laws : L
               fits = (refl, electing_fits.1);
             }
 
-        by_owner : (owner : Option ℕ) → X.owner later ≡ owner → senders' p ≡ Some (elected c t later owner) → Sending P x words' home senders' owners frames
+        by_owner : (owner : Option ℕ) → X.owner later ≡ owner → senders' p ≡ Some (core_elected c t later owner) → Sending P x words' home senders' owners frames
         by_owner None i now = going None i (λ u b. absurd cc) now
         by_owner (Some u) i now = elim (eqb_tells u c.me) [
           | inl y ↦ going (Some u) i (λ v b. sym (same_Some _ _ b) ∙ y.1 ∙ part.me)
@@ -240,7 +240,7 @@ module _ {E : Type 0} (X : Election E) (P : Protocol E (Unit {0}) ℕ) (laws : L
 
       -- whatever its step is
       abbrev KeptBy : Option Op → Type 0
-      KeptBy z = Steps z words words' → senders' p ≡ Some (elected c t (X.fed e (found words z) word) (X.owner (X.fed e (found words z) word))) → Sending P x words' home senders' owners frames
+      KeptBy z = Steps z words words' → senders' p ≡ Some (core_elected c t (X.fed e (number_found words z) word) (X.owner (X.fed e (number_found words z) word))) → Sending P x words' home senders' owners frames
 
       elect_kept : (o : Op) → X.op e word ≡ Some o → Kept (Elects t e)
       elect_kept o next = (in_row t e elects, subst KeptBy (sym next) (λ step now. by_owner o next step (X.owner (X.fed e (words (register o)) word)) refl now))
@@ -260,16 +260,16 @@ module _ {E : Type 0} (X : Election E) (P : Protocol E (Unit {0}) ℕ) (laws : L
       log_is : log_at c.layout ≡ log_at x
       log_is = ap log_at part.layout
 
-      gives : (leaving : Leaving) → (bus.Changes (Store record { 0 = 1 } (2 * t + 2)) words words' → senders' p ≡ Some (rested c leaving t) → Sending P x words' (Some (page_after c t page leaving)) senders' owners frames) → Kept (GivesBack t page leaving)
-      gives leaving kept = (only (Store record { 0 = 1 } (2 * t + 2)) (omega arith), kept)
+      gives : (reason : Reason) → (bus.Changes (Store record { 0 = 1 } (2 * t + 2)) words words' → senders' p ≡ Some (core_at_rest c reason t) → Sending P x words' (Some (page_after c t page reason)) senders' owners frames) → Kept (GivesBack t page reason)
+      gives reason kept = (only (Store record { 0 = 1 } (2 * t + 2)) (omega arith), kept)
 
-      unsent_kept : (leaving : Leaving) → bus.IsUnsent leaving → published ≡ false → Kept (GivesBack t page leaving)
-      unsent_kept leaving unsent none_yet = gives leaving (λ step new.
-          bus.gives_unsent X P laws x ok width words home senders owners frames h p c (rested c leaving t) senders' old new beside t page stored published holds words' step.here (λ r ne. step.elsewhere r ne) leaving unsent none_yet refl)
+      unsent_kept : (reason : Reason) → bus.IsUnsent reason → published ≡ false → Kept (GivesBack t page reason)
+      unsent_kept reason unsent none_yet = gives reason (λ step new.
+          bus.gives_unsent X P laws x ok width words home senders owners frames h p c (core_at_rest c reason t) senders' old new beside t page stored published holds words' step.here (λ r ne. step.elsewhere r ne) reason unsent none_yet refl)
 
       sent_kept : published ≡ true → Kept (GivesBack t page Sent)
       sent_kept out = gives Sent (λ step new.
-          bus.gives_sent X P laws x ok width words home senders owners frames h p c (rested c Sent t) senders' old new beside t page stored published holds words' step.here (λ r ne. step.elsewhere r ne) out refl)
+          bus.gives_sent X P laws x ok width words home senders owners frames h p c (core_at_rest c Sent t) senders' old new beside t page stored published holds words' step.here (λ r ne. step.elsewhere r ne) out refl)
 
       module _ (none_yet : published ≡ false) (is_open : page.ended ≡ false) (room : page.words + frame_len c ≤ c.layout.capacity) where
         store_kept : stored < frame_len c → Kept (StoresWord t page stored)
@@ -311,7 +311,7 @@ module _ {E : Type 0} (X : Election E) (P : Protocol E (Unit {0}) ℕ) (laws : L
     turn_at (phase.Electing t u) e = election_kept t u e
     turn_at (phase.Taken t) e = absurd (subst (Fits words frames c) e part.fits)
     turn_at (phase.Holding t page stored published) e = hold_kept t page stored published e
-    turn_at (phase.Giving t leaving) e = absurd (subst (Fits words frames c) e part.fits)
+    turn_at (phase.Giving t reason) e = absurd (subst (Fits words frames c) e part.fits)
 
     abbrev due : Option Op
     due = op_at X c (situation_of X c) word
@@ -321,7 +321,7 @@ module _ {E : Type 0} (X : Election E) (P : Protocol E (Unit {0}) ℕ) (laws : L
     turn_within = (turn_at c.phase refl).0
 
     -- a turn of a sender keeps what senders, words, page and owners keep
-    pub turn_keeps : Steps due words words' → senders' p ≡ Some (core_after X c (situation_of X c) home (found words due) word)
+    pub turn_keeps : Steps due words words' → senders' p ≡ Some (core_after X c (situation_of X c) home (number_found words due) word)
         → Sending P x words' (home_after X c (situation_of X c) home) senders' (owners_after X c (situation_of X c) p owners) (frames_after X c (situation_of X c) frames)
     turn_keeps = (turn_at c.phase refl).1
 
@@ -335,11 +335,11 @@ pub side_of : {E : Type 0} {P : Protocol E (Unit {0}) ℕ} {x : Layout} {b : Bus
 side_of h = record { words = h.words; sending = h.keeps.sending }
 
 module _ (words : List ℕ) where
-  length-stepped : (o : Option Op) → length (stepped words o) ≡ length words
+  length-stepped : (o : Option Op) → length (words_after words o) ≡ length words
   length-stepped None = refl
   length-stepped (Some o) = length-set words (register o) (after o (slice_index words (register o)))
 
-  stepped-steps : (o : Option Op) → ((u : Op) → o ≡ Some u → register u < length words) → Steps o (slice_index words) (slice_index (stepped words o))
+  stepped-steps : (o : Option Op) → ((u : Op) → o ≡ Some u → register u < length words) → Steps o (slice_index words) (slice_index (words_after words o))
   stepped-steps None within = λ r. refl
   stepped-steps (Some o) within = record {
     here = get_or-set_same words (register o) (after o (slice_index words (register o))) 0 (within o refl);
@@ -350,12 +350,12 @@ module _ (words : List ℕ) where
 module _ {E : Type 0} (X : Election E) (P : Protocol E (Unit {0}) ℕ) (laws : Laws X.op X.fed P OneOwner) (x : Layout) (ok : IsLayout x) (width : x.width ≡ P.width x.senders)
     (starts : (n me at : ℕ) → X.started n me x.rounds at ≡ P.started n me tt at) (owner_is : (e : E) → X.owner e ≡ P.output e)
     (side : Side E) (frames : List Frame) (h : IsSide P x side frames) (p : ℕ) (c : Core E) (old : slice_get side.senders p ≡ Some c) (word : ℕ) where
-  pub turn_lawful : IsSide P x (turned X side p c (situation_of X c) word) (frames_after X c (situation_of X c) frames)
+  pub turn_lawful : IsSide P x (side_after X side p c (situation_of X c) word) (frames_after X c (situation_of X c) frames)
   turn_lawful =
       let W = slice_index side.words in
       let op = op_at X c (situation_of X c) word in
-      let c' = core_after X c (situation_of X c) side.home (found W op) word in
-      let words' = slice_index (stepped side.words op) in
+      let c' = core_after X c (situation_of X c) side.home (number_found W op) word in
+      let words' = slice_index (words_after side.words op) in
       let senders' = slice_get (slice_set side.senders p c') in
       let others = get_set_other side.senders p c' in
       let within = turn_within X P laws x ok width starts owner_is W side.home (slice_get side.senders) side.owners frames h.sending p c old word words' senders' others in

@@ -20,7 +20,7 @@ next_at c phase.Resting = c.least
 next_at c (phase.Electing t e) = t + 1
 next_at c (phase.Taken t) = t + 1
 next_at c (phase.Holding t page stored published) = t + 1
-next_at c (phase.Giving t leaving) = t + 1
+next_at c (phase.Giving t reason) = t + 1
 
 abbrev pub next_tenure : {E : Type 0} → Core E → ℕ
 next_tenure c = next_at c c.phase

@@ -27,19 +27,19 @@ use Rattle.bus_world.specs.Receiving.{Receives}
 use Rattle.bus_batch.specs.Reading.{HasRead}
 use Rattle.bus_deliverylog.specs.declared.receiving.RecvTurn.{RecvTurn}
 use Rattle.bus_deliverylog.specs.Receiving.{Receiving, HasReceived}
-use Rattle.bus_ownerbits.specs.ElectionKeeps.{OneOwner}
+use Rattle.bus_ownerbits.specs.OneOwner.{OneOwner}
 use Rattle.bus_world.specs.Tenures.{Standing}
 use Rattle.bus_world.specs.Tenures.Standing.{Rests}
 use Rattle.bus_world.proofs.TenuresLaws as tenures
 use Rattle.bus_world.specs.Bus.{IsLayout, Part, Fits, Sending, least_of, stands_at, standing_of}
 use Rattle.bus_world.proofs.BusLaws as bus
-use Rattle.bus_world.specs.Turning.{Side, turned}
+use Rattle.bus_world.specs.Turning.{Side, side_after}
 use Rattle.bus_world.proofs.TurningLaws.{IsSide, side_of}
 use Rattle.bus_world.proofs.TurningLaws as turning
 use Rattle.bus_world.proofs.PutLaws as puts
 use Rattle.bus_world.proofs.Accepting as accepting
 use Rattle.bus_world.proofs.Accepting.{Accepted, Puts, Closes, accept, AreAccepted, open_is, not_busy, empty_is, idle_rests}
-use Rattle.bus_tenure.specs.declared.phases.Leaving.{Leaving}
+use Rattle.bus_tenure.specs.declared.phases.Reason.{Reason}
 use Rattle.bus_register.specs.Proved.TableLaws.{get_set_same, get_set_other, some_of}
 use Rattle.bus_world.specs.World.{Event, Put, Close, Turn, Recv, IsEvent, Happens, SenderDoes, ReceiverDoes, recv_found, Bus, is_open, can_put, can_close, put_in, close_in, with_sender, LawfulBus, IsReceiver, RecvStep, IsNew, new_page}
 use Rattle.bus_world.proofs.Waiting.{with_frame, frames_after, frames_by, event_frames, accepted_by, accepted, waiting_at, put_by, waiting_of}
@@ -199,7 +199,7 @@ module _ {E : Type 0} (X : Election E) (P : Protocol E (Unit {0}) ℕ) (laws : L
     close_left s None i d same = record { left = quiet (same_side P x frames b.side b'.side d (side_of h)) same; now_is = refl }
     close_left s (Some c) i d same = record { left = quiet (same_side P x frames (with_sender b.side s (close_in c)) b'.side d (accept_lawful X P laws x ok width starts owner_is b.side frames (side_of h) s c i Closes tt)) same; now_is = refl }
 
-    turn_left : (s word : ℕ) (o : Option (Core E)) → slice_get b.side.senders s ≡ o → SenderDoes b.side o (λ c. turned X b.side s c (situation_of X c) word) b'.side → b'.receivers ≡ b.receivers → After frames (frames_by X o frames) b'
+    turn_left : (s word : ℕ) (o : Option (Core E)) → slice_get b.side.senders s ≡ o → SenderDoes b.side o (λ c. side_after X b.side s c (situation_of X c) word) b'.side → b'.receivers ≡ b.receivers → After frames (frames_by X o frames) b'
     unfolding quiet longer
     turn_left s word None i d same = record { left = quiet (same_side P x frames b.side b'.side d (side_of h)) same; now_is = refl }
     turn_left s word (Some c) i d same =
@@ -303,15 +303,15 @@ module _ {E : Type 0} (X : Election E) (P : Protocol E (Unit {0}) ℕ) (laws : L
       | inr ne ↦ at_other s c (close_in c) i (ap (λ (z : Side E). z.senders) d) [] (close_waits c (own_part s c i).fits) q ne ∙ sym (append-nil (put_by b frames q))
     ]
 
-    never_giving : (c : Core E) (ph : SenderPhase E) → c.phase ≡ ph → Fits (slice_index b.side.words) frames c ph → (t : ℕ) (leaving : Leaving) → ph ≡ phase.Giving t leaving → ⊥
-    never_giving c ph e fits t leaving g = subst (Fits (slice_index b.side.words) frames c) g fits
+    never_giving : (c : Core E) (ph : SenderPhase E) → c.phase ≡ ph → Fits (slice_index b.side.words) frames c ph → (t : ℕ) (reason : Reason) → ph ≡ phase.Giving t reason → ⊥
+    never_giving c ph e fits t reason g = subst (Fits (slice_index b.side.words) frames c) g fits
 
-    turn_event_puts : (s word : ℕ) (o : Option (Core E)) → slice_get b.side.senders s ≡ o → SenderDoes b.side o (λ c. turned X b.side s c (situation_of X c) word) b'.side → (q : ℕ) → put_by b' (frames_by X o frames) q ≡ put_by b frames q ++ []
+    turn_event_puts : (s word : ℕ) (o : Option (Core E)) → slice_get b.side.senders s ≡ o → SenderDoes b.side o (λ c. side_after X b.side s c (situation_of X c) word) b'.side → (q : ℕ) → put_by b' (frames_by X o frames) q ≡ put_by b frames q ++ []
     turn_event_puts s word None i d q = bus_same d frames q ∙ sym (append-nil (put_by b frames q))
     turn_event_puts s word (Some c) i d q =
         let part = own_part s c i in
         ap (λ (z : Side E). map (λ (v : Item). v.message) (of_sender q (order_of (frames_after X c (situation_of X c) frames))) ++ waiting_of (slice_get z.senders q)) d
-        ∙ puts.turn_puts X b.side frames s c i part.queue part.sender word (λ t leaving g. never_giving c c.phase refl part.fits t leaving g) q ∙ sym (append-nil (put_by b frames q))
+        ∙ puts.turn_puts X b.side frames s c i part.queue part.sender word (λ t reason g. never_giving c c.phase refl part.fits t reason g) q ∙ sym (append-nil (put_by b frames q))
 
     pub event_puts : (e : Event) → Happens X b e b' → (q : ℕ) → put_by b' (event_frames X b e frames) q ≡ put_by b frames q ++ accepted b e q
     event_puts (Put s bytes) d q = put_puts s bytes (slice_get b.side.senders s) refl d.0 q

@@ -26,7 +26,7 @@ stands_at phase.Resting = Rests
 stands_at (phase.Electing t e) = Runs t e
 stands_at (phase.Taken t) = Holds t
 stands_at (phase.Holding t page stored published) = Holds t
-stands_at (phase.Giving t leaving) = Holds t
+stands_at (phase.Giving t reason) = Holds t
 
 abbrev pub standing_of : {E : Type 0} → Core E → Option (Standing E)
 standing_of c = Some (stands_at c.phase)
@@ -66,7 +66,7 @@ Fits words frames c (phase.Electing t e) = HasBegun c.queue × (c.queue.first �
 Fits words frames c (phase.Taken t) = ⊥
 Fits words frames c (phase.Holding t page stored false) = HasBegun c.queue × IsWriting words frames c t page stored
 Fits words frames c (phase.Holding t page stored true) = HasBegun c.queue × HasWritten words frames c t page
-Fits words frames c (phase.Giving t leaving) = ⊥
+Fits words frames c (phase.Giving t reason) = ⊥
 
 -- one sender's part
 pub record Part {E : Type 0} (x : Layout) (words : ℕ → ℕ) (frames : List Frame) (p : ℕ) (c : Core E) : Type 0 where

@@ -13,7 +13,7 @@ use Rattle.bus_tenure.specs.declared.pages.Page.{Page}
 use Rattle.bus_register.specs.Protocol.{Protocol}
 use Rattle.bus_adoptcommit.specs.declared.verdicts.Verdict.{Verdict}
 use Rattle.bus_world.specs.Log.{read}
-use Rattle.bus_world.specs.Turning.{found}
+use Rattle.bus_world.specs.Turning.{number_found}
 use Rattle.bus_world.specs.World.{Bus, Event, Put, Close, Turn, Recv, Happens, RecvDoes, IsNew, IsEvent}
 use Rattle.bus_world.specs.declared.events.Event.{Event as Told}
 use Rattle.bus_world.specs.declared.events.Event.TheVariants as told
@@ -26,16 +26,16 @@ use Rattle.bus_world.specs.declared.shapes.MakeFault.{MakeFault}
 use Rattle.bus_world.specs.declared.shapes.MakeFault.TheVariants as make
 
 -- a bus with its sizes
-pub record Sitting (E : Type 0) : Type 0 where
+pub record SizedBus (E : Type 0) : Type 0 where
   pub layout : Layout
   pub bus : Bus E
 
 -- the bus of these parts
-abbrev pub sitting_of : {E : Type 0} → Layout → List ℕ → Option Page → List (Core E) → List ℕ → List Receiving → Sitting E
-sitting_of x words home senders owners receivers = record { layout = x; bus = record { side = record { words = words; home = home; senders = senders; owners = owners }; receivers = receivers } }
+abbrev pub sized_bus : {E : Type 0} → Layout → List ℕ → Option Page → List (Core E) → List ℕ → List Receiving → SizedBus E
+sized_bus x words home senders owners receivers = record { layout = x; bus = record { side = record { words = words; home = home; senders = senders; owners = owners }; receivers = receivers } }
 
 -- the words of its log below the length
-abbrev pub log_of : {E : Type 0} → Sitting E → List ℕ
+abbrev pub log_of : {E : Type 0} → SizedBus E → List ℕ
 log_of z = read (slice_index z.bus.side.words) (log_at z.layout) (slice_index z.bus.side.words 0)
 
 -- ---- shapes
@@ -67,7 +67,7 @@ MakeRefused shape make.LogWords = Within 1 MOST_SENDERS shape.senders × Within 
 MakeRefused shape make.NoMemory = IsServed shape
 
 -- a new bus of this shape
-pub record IsMade {E : Type 0} (x : Layout) (shape : Shape) (z : Sitting E) : Type 0 where
+pub record IsMade {E : Type 0} (x : Layout) (shape : Shape) (z : SizedBus E) : Type 0 where
   pub served : IsServed shape
   pub layout : z.layout ≡ x
   pub new : IsNew x z.bus
@@ -95,7 +95,7 @@ CloseGives (Some c) = CanClose c.queue
 -- a turn of a sender gives the answer of its situation and of what its step found
 abbrev pub TurnAnswers : {E : Type 0} → Election E → List ℕ → Option (Core E) → ℕ → Answer → Type 0
 TurnAnswers X words None word a = ⊥
-TurnAnswers X words (Some c) word a = a ≡ answer.Turn (answer_at X c (situation_of X c) (found (slice_index words) (op_at X c (situation_of X c) word)) word)
+TurnAnswers X words (Some c) word a = a ≡ answer.Turn (answer_at X c (situation_of X c) (number_found (slice_index words) (op_at X c (situation_of X c) word)) word)
 
 -- a turn of a receiver gives the answer of the step that it took
 abbrev pub RecvAnswers : List ℕ → List Receiving → ℕ → Option Receiving → Answer → List Receiving → Type 0

@@ -11,9 +11,9 @@ use Rattle.bus_tenure.specs.Core.{Core, Election, Layout}
 use Rattle.bus_tenure.specs.Situations.{Situation, situation_of, tenure_at, kind_at, op_at, chosen_at}
 use Rattle.bus_tenure.specs.declared.turns.Turn.{Turn as Answered}
 use Rattle.bus_world.specs.Headline.{Deed, HasPut, HasClosed, Stepped, Took, given, IsPrefix, Promises}
-use Rattle.bus_world.specs.Turning.{found}
+use Rattle.bus_world.specs.Turning.{number_found}
 use Rattle.bus_world.specs.World.{Bus, Event, Put, Close, Turn, Recv, IsEvent, Happens, IsNew, LawfulBus}
-use Rattle.bus_world.specs.Playing.{Sitting, AllAnswered, Answers, Refused, log_of}
+use Rattle.bus_world.specs.Playing.{SizedBus, AllAnswered, Answers, Refused, log_of}
 use Rattle.bus_world.specs.declared.events.Answer.{Answer}
 use Rattle.bus_world.specs.declared.events.Answer.TheVariants as answer
 use Rattle.bus_world.specs.declared.events.StepFault.{StepFault}
@@ -32,7 +32,7 @@ turn_deeds X c z got word (answer.Recv t) = []
 -- of the sender that there is
 abbrev pub turning_deeds : {E : Type 0} → Election E → List ℕ → Option (Core E) → ℕ → Answer → List Deed
 turning_deeds X words None word a = []
-turning_deeds X words (Some c) word a = turn_deeds X c (situation_of X c) (found (slice_index words) (op_at X c (situation_of X c) word)) word a
+turning_deeds X words (Some c) word a = turn_deeds X c (situation_of X c) (number_found (slice_index words) (op_at X c (situation_of X c) word)) word a
 
 -- what a put of these bytes adds, by its answer
 abbrev pub put_deeds : List ℕ → Answer → List Deed
@@ -76,13 +76,13 @@ pub record Trails : Type 0 where
 abbrev pub no_trails : Trails
 no_trails = record { deeds = λ s. []; heard = λ r. [] }
 
-abbrev pub extended : {E : Type 0} → Election E → Bus E → Event → Answer → Trails → Trails
-extended X b e a T = record { deeds = λ s. T.deeds s ++ deeds_of X b e a s; heard = λ r. T.heard r ++ heard_of e a r }
+abbrev pub trails_after : {E : Type 0} → Election E → Bus E → Event → Answer → Trails → Trails
+trails_after X b e a T = record { deeds = λ s. T.deeds s ++ deeds_of X b e a s; heard = λ r. T.heard r ++ heard_of e a r }
 
 -- these trails lead to this bus: from a new one, of which nothing has happened, by one event after another
 pub data Reached {E : Type 0} (X : Election E) (x : Layout) : Bus E → Trails → Type 0 where
   New : (b : Bus E) → IsNew x b → Reached X x b no_trails
-  Then : (b b' : Bus E) (T : Trails) (e : Event) (a : Answer) → Reached X x b T → IsEvent e → Happens X b e b' → Answers X b e a b' → Reached X x b' (extended X b e a T)
+  Then : (b b' : Bus E) (T : Trails) (e : Event) (a : Answer) → Reached X x b T → IsEvent e → Happens X b e b' → Answers X b e a b' → Reached X x b' (trails_after X b e a T)
 
 -- ---- what is promised of a bus
 -- who took the pages, by tenure
@@ -113,13 +113,13 @@ pub record StaysPromised {E : Type 0} (x : Layout) (old : Bus E) (T : Trails) (n
 
 -- Whatever trails led to the old bus, with what this event and its answer add they lead to the new one, and the promise stays.
 pub record Follows {E : Type 0} (X : Election E) (x : Layout) (old : Bus E) (e : Event) (a : Answer) (new : Bus E) : Type 0 where
-  pub reached : (T : Trails) → Reached X x old T → Reached X x new (extended X old e a T)
-  pub promised : (T : Trails) → Reached X x old T → StaysPromised x old T new (extended X old e a T)
+  pub reached : (T : Trails) → Reached X x old T → Reached X x new (trails_after X old e a T)
+  pub promised : (T : Trails) → Reached X x old T → StaysPromised x old T new (trails_after X old e a T)
 
 -- the trails after a list of events with their answers
 abbrev pub trails_after : {E : Type 0} (X : Election E) (old : Bus E) (events : List Event) (new : Bus E) → AllAnswered X old events new → Trails → Trails
 trails_after X old [] new run T = T
-trails_after X old (e ∷ events) new run T = trails_after X run.0 events new run.5 (extended X old e run.1 T)
+trails_after X old (e ∷ events) new run T = trails_after X run.0 events new run.5 (trails_after X old e run.1 T)
 
 -- All events were answered, one after another. Whatever trails led to the old bus, with what the events and their answers add
 -- they lead to the new one, and the promise stays.
@@ -136,7 +136,7 @@ pub record Stops {E : Type 0} (X : Election E) (x : Layout) (old : Bus E) (event
   pub refused : Refused new event why
 
 -- what every bus that a program holds keeps: some trails lead to it
-pub record IsSitting {E : Type 0} (X : Election E) (P : Protocol E (Unit {0}) ℕ) (z : Sitting E) : Type 0 where
+pub record IsServedBus {E : Type 0} (X : Election E) (P : Protocol E (Unit {0}) ℕ) (z : SizedBus E) : Type 0 where
   pub senders_few : z.layout.senders ≤ MOST_SENDERS
   pub rows_few : z.layout.rows ≤ MOST_ROWS
   pub capacity_few : z.layout.capacity ≤ MOST_LOG_WORDS

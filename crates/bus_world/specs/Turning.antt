@@ -19,37 +19,37 @@ pub record Side (E : Type 0) : Type 0 where
   pub owners : List ℕ
 
 -- the words after a step
-abbrev pub stepped : List ℕ → Option Op → List ℕ
-stepped words None = words
-stepped words (Some o) = slice_set words (register o) (after o (slice_index words (register o)))
+abbrev pub words_after : List ℕ → Option Op → List ℕ
+words_after words None = words
+words_after words (Some o) = slice_set words (register o) (after o (slice_index words (register o)))
 
 -- what a step finds
-abbrev pub found : (ℕ → ℕ) → Option Op → ℕ
-found words None = 0
-found words (Some o) = words (register o)
+abbrev pub number_found : (ℕ → ℕ) → Option Op → ℕ
+number_found words None = 0
+number_found words (Some o) = words (register o)
 
 -- ---- the page
 -- where it is at home, after it has moved so
 abbrev pub home_moved : PageMove → Option Page → Option Page
 home_moved Stays home = home
 home_moved (Comes t) home = None
-home_moved (Returns t leaving page) home = Some page
+home_moved (Returns t reason page) home = Some page
 
-abbrev pub laid : {E : Type 0} → Core E → ℕ → Option Page → Core E
-laid c t None = record c { phase = phase.Taken t }
-laid c t (Some page) = record c { phase = phase.Holding t page 0 false }
+abbrev pub core_with_page : {E : Type 0} → Core E → ℕ → Option Page → Core E
+core_with_page c t None = record c { phase = phase.Taken t }
+core_with_page c t (Some page) = record c { phase = phase.Holding t page 0 false }
 
 -- the sender, after the page has moved so, which was at home or not
 abbrev pub core_moved : {E : Type 0} → PageMove → Option Page → Core E → Core E
 core_moved Stays home c = c
-core_moved (Comes t) home c = laid c t home
-core_moved (Returns t leaving page) home c = record c { phase = phase.Giving t leaving }
+core_moved (Comes t) home c = core_with_page c t home
+core_moved (Returns t reason page) home c = record c { phase = phase.Giving t reason }
 
 -- of a turn's move the part before its step: a page that is given back goes home, out of the hands of the sender
 abbrev pub before_step : PageMove → PageMove
 before_step Stays = Stays
 before_step (Comes t) = Stays
-before_step (Returns t leaving page) = Returns t leaving page
+before_step (Returns t reason page) = Returns t reason page
 
 -- that part of the turn that a sender takes
 abbrev pub handing : {E : Type 0} → Election E → Core E → PageMove
@@ -59,7 +59,7 @@ handing X c = before_step (line_of X c (situation_of X c)).move
 abbrev pub after_step : PageMove → PageMove
 after_step Stays = Stays
 after_step (Comes t) = Comes t
-after_step (Returns t leaving page) = Stays
+after_step (Returns t reason page) = Stays
 
 -- that part, as the phase shows it that the step has left
 abbrev pub laying : {E : Type 0} → Phase E → PageMove
@@ -67,7 +67,7 @@ laying phase.Resting = Stays
 laying (phase.Electing t e) = Stays
 laying (phase.Taken t) = Comes t
 laying (phase.Holding t page stored published) = Stays
-laying (phase.Giving t leaving) = Stays
+laying (phase.Giving t reason) = Stays
 
 -- ---- after a turn in a situation
 abbrev pub home_after : {E : Type 0} → Election E → Core E → Situation E → Option Page → Option Page
@@ -81,12 +81,12 @@ abbrev pub owners_after : {E : Type 0} → Election E → Core E → Situation E
 owners_after X c z p owners = if (line_of X c z).takes then owners ++ p ∷ [] else owners
 
 -- after a turn of sender p, which held c and was in this situation
-abbrev pub turned : {E : Type 0} → Election E → Side E → ℕ → Core E → Situation E → ℕ → Side E
-turned X side p c situation word =
+abbrev pub side_after : {E : Type 0} → Election E → Side E → ℕ → Core E → Situation E → ℕ → Side E
+side_after X side p c situation word =
     record {
-      words = stepped side.words (op_at X c situation word);
+      words = words_after side.words (op_at X c situation word);
       home = home_after X c situation side.home;
-      senders = slice_set side.senders p (core_after X c situation side.home (found (slice_index side.words) (op_at X c situation word)) word);
+      senders = slice_set side.senders p (core_after X c situation side.home (number_found (slice_index side.words) (op_at X c situation word)) word);
       owners = owners_after X c situation p side.owners;
     }
 

@@ -10,7 +10,7 @@ waiting_at c (phase.Electing t e) = c.queue.messages
 waiting_at c (phase.Taken t) = c.queue.messages
 waiting_at c (phase.Holding t page stored true) = []
 waiting_at c (phase.Holding t page stored false) = c.queue.messages
-waiting_at c (phase.Giving t leaving) = []
+waiting_at c (phase.Giving t reason) = []
 
 abbrev pub waiting_of : {E : Type 0} → Option (Core E) → List (List ℕ)
 waiting_of None = []

@@ -16,7 +16,7 @@ use Rattle.bus_world.specs.Receiving.{Receives}
 use Rattle.bus_batch.specs.Reading.{HasRead}
 use Rattle.bus_tenure.specs.declared.pages.Page.{Page}
 use Rattle.bus_world.specs.Bus.{Sending}
-use Rattle.bus_world.specs.Turning.{Side, turned}
+use Rattle.bus_world.specs.Turning.{Side, side_after}
 
 -- the senders' side, and the receivers
 pub record Bus (E : Type 0) : Type 0 where
@@ -86,7 +86,7 @@ ReceiverDoes words old r (Some v) new = (next : Receiving) × (answer : RecvTurn
 abbrev pub Happens : {E : Type 0} → Election E → Bus E → Event → Bus E → Type 0
 Happens X old (Put s bytes) new = SenderDoes old.side (slice_get old.side.senders s) (λ c. with_sender old.side s (put_in c bytes)) new.side × (new.receivers ≡ old.receivers)
 Happens X old (Close s) new = SenderDoes old.side (slice_get old.side.senders s) (λ c. with_sender old.side s (close_in c)) new.side × (new.receivers ≡ old.receivers)
-Happens X old (Turn s word) new = SenderDoes old.side (slice_get old.side.senders s) (λ c. turned X old.side s c (situation_of X c) word) new.side × (new.receivers ≡ old.receivers)
+Happens X old (Turn s word) new = SenderDoes old.side (slice_get old.side.senders s) (λ c. side_after X old.side s c (situation_of X c) word) new.side × (new.receivers ≡ old.receivers)
 Happens X old (Recv r) new = (new.side ≡ old.side) × ReceiverDoes old.side.words old.receivers r (slice_get old.receivers r) new.receivers
 
 -- ---- what the bus always keeps

@@ -7,7 +7,8 @@ ghost use Rattle.bus_register.specs.Words.{register, SumFits};
 ghost use Rattle.bus_tenure.specs.Core.{words_of};
 ghost use Rattle.bus_tenure.specs.Situations.{Elects, situation_of, op_at, fed_at, answer_at};
 ghost use Rattle.bus_tenure.specs.Elections.{Elector, election_of};
-ghost use Rattle.bus_world.specs.Turning.{stepped, found, home_moved, core_moved, handing, laying};
+ghost use Rattle.bus_world.specs.Turning.{words_after, number_found, home_moved, core_moved};
+ghost use Rattle.bus_world.specs.Turning.{handing, laying};
 ghost use Rattle.bus_world.specs.Turning.{home_after, core_after, owners_by};
 ghost use Rattle.bus_deliverylog.specs.Receiving.{receiving_op};
 ghost use Rattle.bus_batch.specs.Batches.{next_of};
@@ -44,13 +45,13 @@ fn take_step<Q: Ratifier + Drop>(cells: &mut Cells, core: &mut SenderCore<Q>, wo
         (t : ℕ) (e : Elector Q) → situation_of X core.old ≡ Elects t e
         → IsSome (X.op e word) }
     ensures words { let X = election_of Q.Ratifier in
-        cells.new ≡ stepped cells.old (op_at X core.old (situation_of X core.old) word) }
+        cells.new ≡ words_after cells.old (op_at X core.old (situation_of X core.old) word) }
     ensures core { let X = election_of Q.Ratifier in
         core.new ≡ fed_at X core.old (situation_of X core.old)
-        (found (slice_index cells.old) (op_at X core.old (situation_of X core.old) word)) word }
+        (number_found (slice_index cells.old) (op_at X core.old (situation_of X core.old) word)) word }
     ensures answer { let X = election_of Q.Ratifier in
         result ≡ answer_at X core.old (situation_of X core.old)
-        (found (slice_index cells.old) (op_at X core.old (situation_of X core.old) word)) word }
+        (number_found (slice_index cells.old) (op_at X core.old (situation_of X core.old) word)) word }
 {
     let Some(op) = core.next(word) else {
         return core.rest();
@@ -87,15 +88,15 @@ pub fn turn_sender<Q: Ratifier + Drop>(
         (t : ℕ) (e : Elector Q) → situation_of X core.old ≡ Elects t e
         → IsSome (X.op e word) }
     ensures words { let X = election_of Q.Ratifier in
-        cells.new ≡ stepped cells.old (op_at X core.old (situation_of X core.old) word) }
+        cells.new ≡ words_after cells.old (op_at X core.old (situation_of X core.old) word) }
     ensures home { let X = election_of Q.Ratifier in
         home.new ≡ home_after X core.old (situation_of X core.old) home.old }
     ensures core { let X = election_of Q.Ratifier in
         core.new ≡ core_after X core.old (situation_of X core.old) home.old
-        (found (slice_index cells.old) (op_at X core.old (situation_of X core.old) word)) word }
+        (number_found (slice_index cells.old) (op_at X core.old (situation_of X core.old) word)) word }
     ensures answer { let X = election_of Q.Ratifier in
         result ≡ answer_at X core.old (situation_of X core.old)
-        (found (slice_index cells.old) (op_at X core.old (situation_of X core.old) word)) word }
+        (number_found (slice_index cells.old) (op_at X core.old (situation_of X core.old) word)) word }
 {
     hand_home(home, core);
     let turn = take_step(cells, core, word);

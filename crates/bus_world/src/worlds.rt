@@ -48,17 +48,17 @@ pub struct World<Q: Ratifier> {
 impl<Q: Ratifier> Model for World<Q> {
     ghost use Rattle.std.specs.Prelude.{map};
     ghost use Rattle.bus_tenure.specs.Elections.{Elector, election_with, elections};
-    ghost use Rattle.bus_world.specs.Playing.{Sitting, layout_of, sitting_of};
-    ghost use Rattle.bus_world.specs.Trails.{IsSitting};
+    ghost use Rattle.bus_world.specs.Playing.{SizedBus, layout_of, sized_bus};
+    ghost use Rattle.bus_world.specs.Trails.{IsServedBus};
 
-    ghost Value = { Sitting (Elector Q) };
+    ghost Value = { SizedBus (Elector Q) };
 
-    ghost view = { λ w. sitting_of (layout_of Q.protocol w.shape) w.cells w.home w.senders.items
+    ghost view = { λ w. sized_bus (layout_of Q.protocol w.shape) w.cells w.home w.senders.items
         (map (λ s. s.0) w.owners.items) w.receivers.items };
 
-    ghost invariant = { λ w. IsSitting (election_with Q.kind_of Q.op Q.fed Q.protocol)
+    ghost invariant = { λ w. IsServedBus (election_with Q.kind_of Q.op Q.fed Q.protocol)
         (elections Q.protocol w.shape.rounds)
-        (sitting_of (layout_of Q.protocol w.shape) w.cells w.home w.senders.items
+        (sized_bus (layout_of Q.protocol w.shape) w.cells w.home w.senders.items
         (map (λ s. s.0) w.owners.items) w.receivers.items) };
 }
 

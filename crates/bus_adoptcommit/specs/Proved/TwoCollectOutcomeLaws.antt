@@ -9,7 +9,7 @@ use Rattle.bus_adoptcommit.specs.declared.phases.Phase.TheVariants.{StoreProposa
 use Rattle.bus_adoptcommit.specs.declared.verdicts.Verdict.{Verdict}
 use Rattle.bus_adoptcommit.specs.declared.verdicts.Verdict.TheVariants.{Commit}
 use Rattle.bus_adoptcommit.specs.Agreement.{value_of, IsValid, IsConvergent, IsCoherent, Legal}
-use Rattle.bus_register.specs.Protocol.{counted, inputs, outputs}
+use Rattle.bus_register.specs.Protocol.{counted_input, inputs, outputs}
 use Rattle.bus_register.specs.Proved.TableLaws.{some_of}
 use Rattle.bus_register.specs.Tables.{of_some}
 use Rattle.bus_adoptcommit.specs.TwoCollect.{Local, taken_at, output_at, output_of, verdict_from}
@@ -69,7 +69,7 @@ output_ended (ReadVerdict of) s d e = absurd cc
 output_ended Ended s d e = (refl, same_Some _ _ e)
 
 -- a process that has taken a step counts with its input
-counts : (o : Option Local) (w : Bool) → 0 < (mark o).taken → (mark o).value ≡ digit w → of_some (counted two_collect) o ≡ Some w
+counts : (o : Option Local) (w : Bool) → 0 < (mark o).taken → (mark o).value ≡ digit w → of_some (counted_input two_collect) o ≡ Some w
 counts None w l e = absurd (omega arith)
 counts (Some s) w l e = ap (λ b. cond b (Some s.input) None) (lt-ltb 0 (taken_at s.n s.phase) l) ∙ ap Some (digit_same s.input w e)
 

@@ -3,7 +3,7 @@ use Rattle.bus_coinconc.specs.Conciliation.{Conciles}
 use Rattle.bus_coinconc.specs.Conciliator.{conciliator_op, conciliator_fed}
 use Rattle.bus_coinconc.proofs.ConciliatorLaws.{conciliator_laws}
 use Rattle.bus_coinconc.specs.ConciliatorProtocol.{conciliator_protocol}
-use Rattle.bus_binconsensus.proofs.DecideLaws.{decide_law}
+use Rattle.bus_binconsensus.proofs.DecideIsLawful.{decide_law}
 use Rattle.bus_binconsensus.proofs.laws.decide_is_lawful.Goals as goal
 
 pub returns : goal.returns

@@ -1,13 +1,13 @@
 use Rattle.std.proofs.Common.{subst, arith, refl}
 use Rattle.bus_binconsensus.specs.DecideLaw.{DecideLaw}
-use Rattle.bus_binconsensus.proofs.DecideLaws.{decide_law}
+use Rattle.bus_binconsensus.proofs.DecideIsLawful.{decide_law}
 use Rattle.bus_binconsensus.specs.Objects.{decide_op, decide_fed, decide_protocol}
 use Rattle.bus_coinconc.specs.Conciliation.{Conciles}
 use Rattle.bus_coinconc.specs.Conciliator.{conciliator_op, conciliator_fed}
 use Rattle.bus_coinconc.proofs.ConciliatorLaws.{conciliator_laws}
 use Rattle.bus_coinconc.specs.ConciliatorProtocol.{conciliator_protocol}
 use Rattle.bus_ownerbits.specs.ElectionKeeps.{StageStands}
-use Rattle.bus_ownerbits.proofs.ElectionLaws.{election_laws, owner_below, searches, last_bit}
+use Rattle.bus_ownerbits.proofs.ElectionIsLawful.{election_laws, owner_below, searches, last_bit}
 use Rattle.bus_ownerbits.proofs.ElectionSteps.{turns_after, busy}
 use Rattle.bus_ownerbits.proofs.ElectionAsking.{asks_as_told}
 use Rattle.bus_ownerbits.specs.Sizes.{decision_cost}

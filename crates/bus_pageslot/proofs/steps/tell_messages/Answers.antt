@@ -3,7 +3,7 @@ use Rattle.std.proofs.lemmas.Option.{slice_get_read}
 use Rattle.std.proofs.lemmas.List.{take_all}
 use Rattle.bus_tenure.specs.Elections.{election_with}
 use Rattle.bus_world.specs.World.{Put}
-use Rattle.bus_pageslot.specs.InWorld.{Runs}
+use Rattle.bus_pageslot.specs.InWorld.{AllHappen}
 use Rattle.bus_pageslot.proofs.InWorldLaws.{one_more_put}
 use Rattle.bus_pageslot.proofs.InStepLaws.{one_more_told}
 use Rattle.std.specs.Prelude.{true, false, slice_get}
@@ -23,7 +23,7 @@ loop-message-preserved g c =
 pub returns-clause-runs : goal.returns-clause-runs
 returns-clause-runs g c =
     let X = election_with g.Q.Machine.kind_of g.Q.Machine.op g.Q.Machine.fed g.Q.Ratifier.protocol in
-    subst (λ z. Runs X c.args.world.now.bus (map (Put c.args.me.0) z) c.loop-message.world.bus) (take_all c.loop-message.message-index c.args.fresh.now c.loop-message-test.false) c.loop-message.invariant.1
+    subst (λ z. AllHappen X c.args.world.now.bus (map (Put c.args.me.0) z) c.loop-message.world.bus) (take_all c.loop-message.message-index c.args.fresh.now c.loop-message-test.false) c.loop-message.invariant.1
 
 pub returns-clause-takes : goal.returns-clause-takes
 returns-clause-takes g c =

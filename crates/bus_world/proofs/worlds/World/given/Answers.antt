@@ -1,6 +1,6 @@
 use Rattle.bus_tenure.specs.Elections.{elections, election_with, layout_with}
 use Rattle.bus_world.proofs.Serving.{serves}
-use Rattle.bus_world.proofs.Sittings.{heard, on_ok}
+use Rattle.bus_world.proofs.SizedBuses.{heard, on_ok}
 use Rattle.bus_deliverylog.specs.Orders.{order_held}
 use Rattle.bus_world.proofs.worlds.World.given.Goals as goal
 

@@ -1,7 +1,7 @@
 use Rattle.bus_tenure.specs.Elections.{elections, election_with, layout_with}
 use Rattle.bus_world.proofs.Serving.{serves}
 use Rattle.std.proofs.Common.{sym, ap, ◌∙◌, map, subst}
-use Rattle.bus_world.proofs.Sittings.{took}
+use Rattle.bus_world.proofs.SizedBuses.{took}
 use Rattle.bus_world.specs.Trails.{Takers}
 use Rattle.bus_world.proofs.worlds.World.owners.Goals as goal
 

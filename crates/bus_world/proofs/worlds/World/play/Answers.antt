@@ -3,7 +3,7 @@ use Rattle.bus_world.proofs.Serving.{serves}
 use Rattle.std.proofs.Common.{take, map, sym, ◌∙◌, ap, subst, arith}
 use Rattle.std.proofs.lemmas.List.{take-map}
 use Rattle.bus_world.proofs.Growing.{answered_more, told_more, told_at, all_told}
-use Rattle.bus_world.proofs.Sittings.{played}
+use Rattle.bus_world.proofs.SizedBuses.{played}
 use Rattle.bus_world.specs.Playing.{event_told, AllAnswered, Refused}
 use Rattle.bus_world.proofs.worlds.World.play.Goals as goal
 

@@ -1,7 +1,7 @@
 use Rattle.bus_tenure.specs.Elections.{elections, election_with, layout_with}
 use Rattle.bus_world.proofs.Serving.{serves}
 use Rattle.std.proofs.Common.{subst}
-use Rattle.bus_world.proofs.Sittings.{promised}
+use Rattle.bus_world.proofs.SizedBuses.{promised}
 use Rattle.bus_world.specs.Trails.{Trails, Reached}
 use Rattle.bus_world.proofs.worlds.World.promises.Goals as goal
 

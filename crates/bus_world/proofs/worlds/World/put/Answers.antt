@@ -4,7 +4,7 @@ use Rattle.std.proofs.Common.{refl, subst}
 use Rattle.std.specs.Prelude.{IfOk}
 use Rattle.bus_world.specs.Trails.{Follows}
 use Rattle.bus_world.specs.World.{Put}
-use Rattle.bus_world.proofs.Sittings.{follows, on_ok}
+use Rattle.bus_world.proofs.SizedBuses.{follows, on_ok}
 use Rattle.bus_world.specs.declared.events.Answer.TheVariants as answer
 use Rattle.bus_world.proofs.worlds.World.put.Goals as goal
 

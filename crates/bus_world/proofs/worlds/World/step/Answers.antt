@@ -1,6 +1,6 @@
 use Rattle.bus_tenure.specs.Elections.{elections, election_with, layout_with}
 use Rattle.bus_world.proofs.Serving.{serves}
-use Rattle.bus_world.proofs.Sittings.{follows, tells, on_ok}
+use Rattle.bus_world.proofs.SizedBuses.{follows, tells, on_ok}
 use Rattle.bus_world.proofs.worlds.World.step.Goals as goal
 
 pub returns-clause-follows : goal.returns-clause-follows

@@ -6,14 +6,15 @@ use Rattle.bus_register.specs.declared.registers.Op.{Op}
 use Rattle.bus_register.specs.Words.{register, SumFits}
 use Rattle.bus_register.specs.Tables.{of_some, Beside, Agree}
 use Rattle.bus_register.specs.Proved.TableLaws.{some_of}
-use Rattle.bus_register.specs.Protocol.{Protocol, Laws, Starts, IsStore, counted, inputs, outputs}
+use Rattle.bus_register.specs.Protocol.{Protocol, Laws, Starts, IsStore, counted_input, inputs, outputs}
 use Rattle.bus_binconsensus.specs.Deciding.{Decides}
 use Rattle.bus_register.specs.Digits.{digit}
 use Rattle.bus_ownerbits.specs.declared.stages.Stage.{Stage}
 use Rattle.bus_ownerbits.specs.declared.stages.Stage.TheVariants.{Announce, Propose, Search, Alone}
 use Rattle.bus_ownerbits.specs.Sizes.{bits_of}
 use Rattle.bus_ownerbits.specs.Election.{Decisions, Electing, fits_bits, decided_by, fed_at, election_op, election_fed, op_at, bit_told, owner_at, owner_of}
-use Rattle.bus_ownerbits.specs.ElectionKeeps.{OneOwner, Spelled, Standing, StageStands, ElectionKeeps, announcement, begun_at, wants_at, spelled_of, StageBelongs, ElectionBelongs, election_started, election_protocol}
+use Rattle.bus_ownerbits.specs.OneOwner.{OneOwner}
+use Rattle.bus_ownerbits.specs.ElectionKeeps.{Spelled, Standing, StageStands, ElectionKeeps, announcement, begun_at, wants_at, spelled_of, StageBelongs, ElectionBelongs, election_started, election_protocol}
 use Rattle.bus_ownerbits.proofs.ElectionGrows.{Grows, proposed_stays, standing_stays}
 use Rattle.bus_ownerbits.proofs.ElectionMoves.{Board, one_number, fitted, spelled_more, election_moves}
 use Rattle.bus_ownerbits.proofs.ElectionSteps.{row_within, election_goes}
@@ -143,7 +144,7 @@ module _ {S : Type 0} (op : S → ℕ → Option Op) (fed : S → ℕ → ℕ �
   fits_at n at words locals p s word o k here (Search i) e q = subst (λ z. SumFits z (words (register o))) (same_Some _ _ q) tt
   fits_at n at words locals p s word o k here Alone e q = absurd cc
 
-  announced_counts : (o : Option (Electing S)) → announcement o ≡ 1 → of_some (counted E) o ≡ Some tt
+  announced_counts : (o : Option (Electing S)) → announcement o ≡ 1 → of_some (counted_input E) o ≡ Some tt
   announced_counts None e = absurd (omega arith)
   announced_counts (Some s) e =
       let by : (b : Bool) → cond {A = ℕ} b 1 0 ≡ 1 → cond b (Some (tt {0})) None ≡ Some (tt {0}) = λ b. elim b as (λ z. cond {A = ℕ} z 1 0 ≡ 1 → cond z (Some (tt {0})) None ≡ Some (tt {0})) [ true ↦ λ f. refl | false ↦ λ f. absurd (omega arith) ] in

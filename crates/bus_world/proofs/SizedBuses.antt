@@ -7,10 +7,10 @@ use Rattle.bus_deliverylog.specs.Receiving.{Receiving}
 use Rattle.bus_tenure.specs.Core.{Election, Layout}
 use Rattle.bus_world.specs.Bus.{IsLayout}
 use Rattle.bus_world.specs.Headline.{given}
-use Rattle.bus_world.specs.Playing.{Sitting, AllAnswered, Answers, log_of}
+use Rattle.bus_world.specs.Playing.{SizedBus, AllAnswered, Answers, log_of}
 use Rattle.bus_world.proofs.PlayingLaws.{layout_served}
 use Rattle.bus_world.specs.Telling.{Tells}
-use Rattle.bus_world.specs.Trails.{Trails, Reached, IsPromised, Takers, Follows, Played, IsSitting}
+use Rattle.bus_world.specs.Trails.{Trails, Reached, IsPromised, Takers, Follows, Played, IsServedBus}
 use Rattle.bus_world.specs.World.{Bus, Event, IsEvent, Happens, given_at}
 use Rattle.bus_world.specs.declared.events.Answer.{Answer}
 use Rattle.bus_world.proofs.EventTrails as trails
@@ -22,7 +22,7 @@ one_there [] r l = absurd (omega arith)
 one_there (x ∷ xs) zero l = (x, refl)
 one_there (x ∷ xs) (suc r) l = one_there xs r (omega arith)
 
-module _ {E : Type 0} (X : Election E) (P : Protocol E (Unit {0}) ℕ) (x : Layout) (s : Serves X P x) (b : Bus E) (h : IsSitting X P record { layout = x; bus = b }) (now : Sitting E) (is : record { layout = x; bus = b } ≡ now) where
+module _ {E : Type 0} (X : Election E) (P : Protocol E (Unit {0}) ℕ) (x : Layout) (s : Serves X P x) (b : Bus E) (h : IsServedBus X P record { layout = x; bus = b }) (now : SizedBus E) (is : record { layout = x; bus = b } ≡ now) where
   served : IsLayout x
   served = layout_served X P x s.laws s.width s.starts s.owner_is b h
 
