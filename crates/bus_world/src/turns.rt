@@ -48,10 +48,12 @@ fn take_step<Q: Ratifier + Drop>(cells: &mut Cells, core: &mut SenderCore<Q>, wo
         cells.new ≡ words_after cells.old (op_at X core.old (situation_of X core.old) word) }
     ensures core { let X = election_of Q.Ratifier in
         core.new ≡ fed_at X core.old (situation_of X core.old)
-        (number_found (slice_index cells.old) (op_at X core.old (situation_of X core.old) word)) word }
+        (number_found (slice_index cells.old)
+        (op_at X core.old (situation_of X core.old) word)) word }
     ensures answer { let X = election_of Q.Ratifier in
         result ≡ answer_at X core.old (situation_of X core.old)
-        (number_found (slice_index cells.old) (op_at X core.old (situation_of X core.old) word)) word }
+        (number_found (slice_index cells.old)
+        (op_at X core.old (situation_of X core.old) word)) word }
 {
     let Some(op) = core.next(word) else {
         return core.rest();
@@ -93,10 +95,12 @@ pub fn turn_sender<Q: Ratifier + Drop>(
         home.new ≡ home_after X core.old (situation_of X core.old) home.old }
     ensures core { let X = election_of Q.Ratifier in
         core.new ≡ core_after X core.old (situation_of X core.old) home.old
-        (number_found (slice_index cells.old) (op_at X core.old (situation_of X core.old) word)) word }
+        (number_found (slice_index cells.old)
+        (op_at X core.old (situation_of X core.old) word)) word }
     ensures answer { let X = election_of Q.Ratifier in
         result ≡ answer_at X core.old (situation_of X core.old)
-        (number_found (slice_index cells.old) (op_at X core.old (situation_of X core.old) word)) word }
+        (number_found (slice_index cells.old)
+        (op_at X core.old (situation_of X core.old) word)) word }
 {
     hand_home(home, core);
     let turn = take_step(cells, core, word);
