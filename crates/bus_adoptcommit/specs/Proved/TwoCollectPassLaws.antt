@@ -10,15 +10,9 @@ use Rattle.bus_adoptcommit.specs.declared.phases.Phase.{Phase}
 use Rattle.bus_adoptcommit.specs.declared.phases.Phase.TheVariants.{StoreProposal, ReadProposal, StoreVerdict, ReadVerdict, Ended}
 use Rattle.bus_adoptcommit.specs.TwoCollect.{Local, PhaseFits, op_at, fed_at, taken_at}
 use Rattle.bus_adoptcommit.specs.TwoCollectKeeps.{Mark, mark_of, commit_number, proposal_word, verdict_word, Holds}
-<<<<<<< HEAD:crates/bus_adoptcommit/specs/Proved/TwoCollectPassLaws.antt
-use Rattle.bus_adoptcommit.specs.Proved.TwoCollectMarkLaws.{Pass, verdict_none, verdict_some}
-use Rattle.bus_adoptcommit.specs.Proved.TwoCollectWordLaws.{bit_le, agreed_less, agreed_saw, agreed_missed, reads}
-use Rattle.bus_adoptcommit.specs.Proved.TwoCollectStepLaws.{advances_at}
-=======
 use Rattle.bus_adoptcommit.specs.Proved.TwoCollectMarkLaws.{Pass, verdict_none, verdict_some}
 use Rattle.bus_adoptcommit.specs.Proved.TwoCollectWordLaws.{agreed_less, agreed_saw, agreed_missed, reads}
 use Rattle.bus_adoptcommit.specs.Proved.TwoCollectStepLaws.{advances_at}
->>>>>>> e1803bb0d4c42c158edf0191b30b648f9df0c604:crates/bus_adoptcommit/specs/TwoCollectPassLaws.antt
 
 -- the mark of s, were it at this phase
 abbrev pub mark_at : Phase → Local → Mark

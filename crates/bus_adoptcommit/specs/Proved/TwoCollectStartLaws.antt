@@ -6,12 +6,7 @@ use Rattle.bus_register.specs.Tables.{Beside, Agree}
 use Rattle.bus_register.proofs.DigitLaws.{digit_le}
 use Rattle.bus_adoptcommit.specs.TwoCollect.{Local, start_of}
 use Rattle.bus_adoptcommit.specs.TwoCollectKeeps.{Belongs, Mark, mark, proposal_word, verdict_word, Split, Committed, AgreeAlike, MeetsCommit, SeesOwn, Holds, Keeps}
-<<<<<<< HEAD:crates/bus_adoptcommit/specs/Proved/TwoCollectStartLaws.antt
 use Rattle.bus_adoptcommit.specs.Proved.TwoCollectMarkLaws.{proposal_none, verdict_none, at_each_of, each_of, pairs_of}
-use Rattle.bus_adoptcommit.specs.Proved.TwoCollectWordLaws.{bit_le}
-=======
-use Rattle.bus_adoptcommit.specs.Proved.TwoCollectMarkLaws.{proposal_none, verdict_none, at_each_of, each_of, pairs_of}
->>>>>>> e1803bb0d4c42c158edf0191b30b648f9df0c604:crates/bus_adoptcommit/specs/TwoCollectStartLaws.antt
 
 -- nobody has taken a step
 blank_holds : (n : ℕ) → Holds n (λ _. mark None)
