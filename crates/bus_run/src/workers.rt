@@ -1,11 +1,12 @@
 //! What the worker of a sender does, and that of a receiver.
 
-ghost use Rattle.std.specs.Prelude.{◌≡◌, ◌++◌, ◌∷◌, [], ◌<◌, ◌≤◌};
-ghost use Rattle.std.specs.Prelude.{◌⊎◌, ◌^◌, true, false, None, Some, replicate};
+ghost use Rattle.std.specs.Prelude.{◌≡◌, ◌++◌, ◌∷◌, [], ◌<◌, ◌≤◌, length};
+ghost use Rattle.std.specs.Prelude.{◌⊎◌, ◌^◌, true, false, None, Some, replicate, IfOk, map, All};
 ghost use Rattle.std.specs.Int.{w64, to_le_bytes, to_be_bytes};
 ghost use Rattle.rand_chacha.specs.ChaCha.{of_seed};
 ghost use Rattle.bus_batch.specs.Batches.{next_of, IsPutFault};
 ghost use Rattle.bus_batch.specs.declared.batches.PutFault.{PutFault};
+ghost use Rattle.bus_receiver.specs.Hearing.{nothing};
 ghost use Rattle.bus_run.specs.declared.faults.SenderFault.TheVariants.{Stopped as stopped};
 
 use crate::crews::Work;
@@ -101,7 +102,9 @@ pub fn desks_of<F: Drop>(
     alloc: Global,
     senders: Vec<Sender>,
     seed: u64,
-) -> Result<Vec<Desk<F>>, AllocError> {
+) -> Result<Vec<Desk<F>>, AllocError>
+    ensures { IfOk result (λ desks. map (λ desk. desk.sender) desks.items ≡ senders.items) }
+{
     let mut desks = Vec::with_capacity(alloc, senders.len())?;
     for sender in senders {
         desks.push(Desk::new(sender, seed))?;
@@ -110,7 +113,10 @@ pub fn desks_of<F: Drop>(
 }
 
 /// An ear for each receiver, in order.
-pub fn ears_of(alloc: Global, taps: Vec<Tap>) -> Result<Vec<Ear>, AllocError> {
+pub fn ears_of(alloc: Global, taps: Vec<Tap>) -> Result<Vec<Ear>, AllocError>
+    ensures each { IfOk result (λ ears. length ears.items ≡ length taps.items) }
+    ensures fresh { IfOk result (λ ears. All (λ ear. ear.heard ≡ nothing) ears.items) }
+{
     let mut ears = Vec::with_capacity(alloc, taps.len())?;
     for tap in taps {
         let (receiver, heard) = (Receiver::new(tap), Heard::new());
