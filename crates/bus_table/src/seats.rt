@@ -1,8 +1,9 @@
 //! A sender with its seat.
 
-ghost use Rattle.std.specs.Prelude.{◌≡◌, ℕ, ◌<◌, List, [], ◌∷◌, ◌++◌, None, Some, IfOk, IfErr, OnOk, OnErr, length};
+ghost use Rattle.std.specs.Prelude.{◌≡◌, ℕ, ◌<◌, List, [], ◌∷◌, ◌++◌, None, Some, IfSome, IfOk, IfErr, OnOk, OnErr, length};
 ghost use Rattle.bus_batch.specs.Batches.{next_of, CanPut, IsPutFault, CanClose, IsCloseFault};
 ghost use Rattle.bus_tenure.specs.Core.{situation_of, kind_at, op_at, rest_at};
+ghost use Rattle.bus_tenure.specs.Causes.{HasCause};
 ghost use Rattle.bus_tenure.specs.Elections.{election_of};
 ghost use Rattle.bus_tenure.specs.Seen.{wants_at, turns_of};
 ghost use Rattle.bus_register.specs.declared.registers.Op.{Op};
@@ -88,7 +89,8 @@ impl<Q: Ratifier + Drop> Sender<Q> {
 
     /// What its next step is for; none where none is due.
     pub fn kind(&self) -> Option<Kind>
-        ensures { let X = election_of Q.Ratifier in result ≡ kind_at X (situation_of X self.now.core) }
+        ensures kind { let X = election_of Q.Ratifier in result ≡ kind_at X (situation_of X self.now.core) }
+        ensures cause { IfSome result (λ k. HasCause Q.protocol self.now.core k) }
     {
         self.core.kind()
     }
@@ -100,8 +102,8 @@ impl<Q: Ratifier + Drop> Sender<Q> {
         self.core.wants_word()
     }
 
-    /// How many turns its election takes at most, with the one that takes the page; 0 where none is
-    /// begun.
+    /// How many turns its election takes at most, with the one that takes the page; 0 where none
+    /// is begun.
     pub fn turns_left(&self) -> u64
         ensures { let X = election_of Q.Ratifier in result ≡ turns_of X self.now.core.phase }
     {
@@ -134,10 +136,10 @@ impl<Q: Ratifier + Drop> Sender<Q> {
         self.core.close()
     }
 
-    /// One turn: at most one step on one word of the bus that it is a sender of. `word` is the random
-    /// word of a vote; other steps do not look at it.
+    /// One turn: at most one step on one word of the bus that it is a sender of. `word` is the
+    /// random word of a vote; other steps do not look at it.
     pub fn turn(&mut self, bus: &Bus<Q>, word: u32) -> Turn
-        requires { table_of self.old ≡ bus.now.table.shared.table_id }
+        requires { table_of self.old ≡ bus.now.table }
         ensures table { table_of self.new ≡ table_of self.old }
         ensures rests { let X = election_of Q.Ratifier in op_at X self.old.core (situation_of X self.old.core) word ≡ None → (self.new ≡ self.old) × (result ≡ rest_at (situation_of X self.old.core)) }
         ensures steps { let X = election_of Q.Ratifier in (op : Op) → op_at X self.old.core (situation_of X self.old.core) word ≡ Some op → Took X self.old word result self.new }
@@ -150,10 +152,10 @@ impl<Q: Ratifier + Drop> Sender<Q> {
         walk::<Q, Brand>(top, &mut self.seat, &mut self.core, op, word)
     }
 
-    /// A receiver's seat is joined to its own, which then loads the length; and the two are cut apart
-    /// again.
+    /// A receiver's seat is joined to its own, which then loads the length; and the two are cut
+    /// apart again.
     pub(crate) fn tell(&mut self, bus: &Bus<Q>, tap: Place<Q>) -> (u64, Place<Q>)
-        requires table { (table_of self.old ≡ bus.now.table.shared.table_id) × (tap.table_id ≡ bus.now.table.shared.table_id) }
+        requires table { (table_of self.old ≡ bus.now.table) × (tap.table_id ≡ bus.now.table) }
         requires tap { (d : _) × (known : List ℕ) × (tap.me ≡ (Tap d known, [])) }
         ensures table { (table_of self.new ≡ table_of self.old) × (result.1.table_id ≡ tap.table_id) }
         ensures same { (self.new.core ≡ self.old.core) × (self.new.seat.me ≡ self.old.seat.me) }

@@ -93,8 +93,8 @@ pub(crate) fn walk<Q: Ratifier + Drop, K: Told<SenderCore<Q>>>(
     turn
 }
 
-/// The last length that a sender has stored, once this step of it is taken. `before` is the one that
-/// it had stored until then.
+/// The last length that a sender has stored, once this step of it is taken. `before` is the one
+/// that it had stored until then.
 pub(crate) fn length_after<Q: Ratifier + Drop>(
     core: &SenderCore<Q>,
     op: Op,
