@@ -19,6 +19,7 @@ use bus_adoptcommit::Ratifier;
 use bus_register::NoMemory;
 use bus_world::{MakeFault, Shape};
 use std::alloc::Global;
+use std::marker::Model;
 
 /// A bus that threads share by `&`, without a lock: each step of a sender or of a receiver is one
 /// atomic step on one word of its table.
@@ -27,27 +28,36 @@ pub struct Bus<Q: Ratifier> {
     pub(crate) table: Board<Q>,
     log_words: u64,
     room: Vec<u64>,
-    ghost sized: { log_words ≡ table.shared.key.log_words },
-    ghost empty: { (room.items ≡ []) × (vec_len room ≡ 0) },
-    ghost roomy: { log_words ≤ vec_capacity room },
+}
+
+impl<Q: Ratifier> Model for Bus<Q> {
+    ghost use Rattle.std.specs.Prelude.{◌≡◌, ◌≤◌, []};
+    ghost use Rattle.std.specs.Vec.{vec_len, vec_capacity};
+    ghost use Rattle.bus_table.specs.Buses.{Site};
+
+    ghost Value = { Site };
+
+    ghost view = { λ b. record { table = b.table.shared.table_id; shape = b.table.shared.key } };
+
+    ghost invariant = { λ b. (b.log_words ≡ b.table.shared.key.log_words)
+        × (b.room.items ≡ []) × (vec_len b.room ≡ 0)
+        × (b.log_words ≤ vec_capacity b.room) };
 }
 
 impl<Q: Ratifier + Drop> Bus<Q> {
     /// A new bus of this shape, with its words at zero and its page at home, and each of its
-    /// senders and of its receivers, in order. All memory is taken here: no later call takes any.
+    /// senders and receivers, in order. All memory is taken here: no later call takes any.
     pub fn new(
         alloc: Global,
         shape: Shape,
     ) -> Result<(Bus<Q>, Vec<Sender<Q>>, Vec<Tap<Q>>), MakeFault>
-        ensures shape { IfOk result (λ made. made.0.table.shared.key ≡ shape) }
+        ensures shape { IfOk result (λ made. made.0.shape ≡ shape) }
         ensures senders { IfOk result
-            (λ made. AreNewSeats (layout_of Q.protocol shape) made.0.table.shared.table_id
-            shape.senders made.1.items) }
-        ensures taps { IfOk result
-            (λ made. AreNewTaps made.0.table.shared.table_id shape.receivers made.2.items) }
-        ensures table { IfOk result
-            (λ made. All (λ s. table_of s ≡ made.0.table.shared.table_id) made.1.items
-            × All (λ t. t.table_id ≡ made.0.table.shared.table_id) made.2.items) }
+            (λ made. AreNewSeats (layout_of Q.protocol shape) made.0.table shape.senders
+            made.1.items) }
+        ensures taps { IfOk result (λ made. AreNewTaps made.0.table shape.receivers made.2.items) }
+        ensures table { IfOk result (λ made. All (λ s. table_of s ≡ made.0.table) made.1.items
+            × All (λ t. t.table_id ≡ made.0.table) made.2.items) }
         ensures served { IfOk result (λ _. IsServed shape) }
         ensures fault { IfErr result (MakeRefused shape) }
     {
@@ -71,13 +81,13 @@ impl<Q: Ratifier + Drop> Bus<Q> {
     /// PageOut where a sender that took it has not given it back. Bus and receiver are gone in
     /// either case.
     pub fn end(self, tap: Tap<Q>) -> Result<Ended, EndFault>
-        requires { tap.table_id ≡ self.table.shared.table_id }
+        requires { tap.table_id ≡ self.table }
         ensures ended { let X = election_of Q.Ratifier in
-            IfOk result (λ left. IsLeft X (layout_of Q.protocol self.table.shared.key)
-            (known_in tap.me.0) left.log.items (Some left.page)) }
+            IfOk result (λ left. IsLeft X (layout_of Q.protocol self.shape) (known_in tap.me.0)
+            left.log.items (Some left.page)) }
         ensures out { let X = election_of Q.Ratifier in
             OnErr result ((log : List ℕ)
-            × IsLeft X (layout_of Q.protocol self.table.shared.key) (known_in tap.me.0) log None) }
+            × IsLeft X (layout_of Q.protocol self.shape) (known_in tap.me.0) log None) }
     {
         let Bus {
             table,

@@ -14,9 +14,9 @@ ghost use Rattle.bus_table.specs.Promised.{IsPromised};
 use bus_adoptcommit::Ratifier;
 use bus_ownerbits::laws::election_is_lawful;
 
-/// Whenever the rule of the table holds, which is between any two steps of any threads, the page of
-/// promises holds of what the seats show: of the deeds of all senders, and of the order and the
-/// owners that the words below the length spell; and what a receiver knows is a beginning of these.
+/// Whenever the rule of the table holds, which is between any two steps of any threads, the page
+/// of promises holds of what the seats show: of the deeds of all senders, with the order and the
+/// owners that the words below the length spell. What a receiver knows is a beginning of these.
 pub fn seats_keep_promises<Q: Ratifier>()
     ensures { (shape : Shape) (s : State (Option Page) (View (Core (Elector Q))))
         → IsShown (election_of Q.Ratifier) (layout_of Q.protocol shape) s

@@ -1,4 +1,4 @@
-//! The rule of the table: its words, its slot and the views of its seats are a lawful bus.
+//! The rule of the table: its words, its slot and the views of its seats are a run of the machine.
 
 use atomic_table::{Join, Play, Seat, Shared, Split, Table, TableRule};
 use bus_adoptcommit::Ratifier;
@@ -26,8 +26,8 @@ impl Model for Trail {
 pub enum View<C> {
     /// The senders from this one on have no seat yet.
     Maker(C),
-    /// A sender as it was after its last step, all that it did until then, and the last length that
-    /// it has stored.
+    /// A sender as it was after its last step, all that it did until then, and the last length
+    /// that it has stored.
     Sender(C, Trail, u64),
     /// A receiver, with the words of the log that it knows, on a bus of such senders.
     Tap(C, LinkedList<u64>),
@@ -35,9 +35,11 @@ pub enum View<C> {
     Meeting(C, LinkedList<u64>, C, LinkedList<u64>),
     /// A sender and a receiver, joined while the one tells the other.
     Telling(C, Trail, u64, C, LinkedList<u64>),
+    /// A seat that went into another.
     Spent,
 }
 
+/// The rule: some events lead to the bus that the table is, with the deeds that its seats show.
 pub struct BusRule<Q> {
     of: PhantomData<Q>,
 }

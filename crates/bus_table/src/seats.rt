@@ -1,9 +1,10 @@
 //! A sender with its seat.
 
 ghost use Rattle.std.specs.Prelude.{◌≡◌, ℕ, ◌<◌, List, [], ◌∷◌, ◌++◌, None};
-ghost use Rattle.std.specs.Prelude.{Some, IfOk, IfErr, OnOk, OnErr, length};
+ghost use Rattle.std.specs.Prelude.{Some, IfSome, IfOk, IfErr, OnOk, OnErr, length};
 ghost use Rattle.bus_batch.specs.Batches.{next_of, CanPut, IsPutFault, CanClose, IsCloseFault};
 ghost use Rattle.bus_tenure.specs.Situations.{situation_of, kind_at, op_at, rest_at};
+ghost use Rattle.bus_tenure.specs.Causes.{HasCause};
 ghost use Rattle.bus_tenure.specs.Elections.{election_of};
 ghost use Rattle.bus_tenure.specs.Seen.{turns_of};
 ghost use Rattle.bus_tenure.specs.Situations.{wants_at};
@@ -90,8 +91,9 @@ impl<Q: Ratifier + Drop> Sender<Q> {
 
     /// What its next step is for; none where none is due.
     pub fn kind(&self) -> Option<Kind>
-        ensures { let X = election_of Q.Ratifier in
+        ensures kind { let X = election_of Q.Ratifier in
             result ≡ kind_at X self.now.core (situation_of X self.now.core) }
+        ensures cause { IfSome result (λ k. HasCause Q.protocol self.now.core k) }
     {
         self.core.kind()
     }
@@ -104,8 +106,8 @@ impl<Q: Ratifier + Drop> Sender<Q> {
         self.core.wants_word()
     }
 
-    /// How many turns its election takes at most, with the one that takes the page; 0 where none is
-    /// begun.
+    /// How many turns its election takes at most, with the one that takes the page; 0 where none
+    /// is begun.
     pub fn turns_left(&self) -> u64
         ensures { let X = election_of Q.Ratifier in result ≡ turns_of X self.now.core.phase }
     {
@@ -142,7 +144,7 @@ impl<Q: Ratifier + Drop> Sender<Q> {
     /// One turn: at most one step on one word of the bus that it is a sender of. `word` is the
     /// random word of a vote; other steps do not look at it.
     pub fn turn(&mut self, bus: &Bus<Q>, word: u32) -> Turn
-        requires { table_of self.old ≡ bus.now.table.shared.table_id }
+        requires { table_of self.old ≡ bus.now.table }
         ensures table { table_of self.new ≡ table_of self.old }
         ensures rests { let X = election_of Q.Ratifier in
             op_at X self.old.core (situation_of X self.old.core) word ≡ None
@@ -163,8 +165,7 @@ impl<Q: Ratifier + Drop> Sender<Q> {
     /// A receiver's seat is joined to its own, which then loads the length; and the two are cut
     /// apart again.
     pub(crate) fn tell(&mut self, bus: &Bus<Q>, tap: Place<Q>) -> (u64, Place<Q>)
-        requires table { (table_of self.old ≡ bus.now.table.shared.table_id)
-            × (tap.table_id ≡ bus.now.table.shared.table_id) }
+        requires table { (table_of self.old ≡ bus.now.table) × (tap.table_id ≡ bus.now.table) }
         requires tap { (d : _) × (known : List ℕ) × (tap.me ≡ (Tap d known, [])) }
         ensures table { (table_of self.new ≡ table_of self.old)
             × (result.1.table_id ≡ tap.table_id) }

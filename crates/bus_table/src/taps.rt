@@ -14,7 +14,8 @@ use bus_adoptcommit::Ratifier;
 use bus_ownerbits::laws::election_is_lawful;
 use std::marker::Model;
 
-/// A receiver's seat.
+/// A receiver's right to load from a bus: its seat, and how much of the log it knows. One thread
+/// at a time has it, and no load waits or takes memory.
 #[derive(Drop)]
 pub struct Tap<Q: Ratifier> {
     seat: Option<Place<Q>>,
@@ -54,16 +55,16 @@ impl<Q: Ratifier + Drop> Tap<Q> {
         seat.unwrap()
     }
 
-    /// How many words of the log it knows.
+    /// How many words of the log it knows; 0 before its first load.
     pub fn known(&self) -> u64
         ensures { result ≡ length (known_in self.now.me.0) }
     {
         self.known
     }
 
-    /// Loads the length: it knows the log up to it from then on.
+    /// Loads the length, in words, and gives it: it knows the log up to it from then on.
     pub fn load_length(&mut self, bus: &Bus<Q>) -> u64
-        requires { self.old.table_id ≡ bus.now.table.shared.table_id }
+        requires { self.old.table_id ≡ bus.now.table }
         ensures table { self.new.table_id ≡ self.old.table_id }
         ensures learns { Learns self.old.me result self.new.me }
     {
@@ -75,9 +76,9 @@ impl<Q: Ratifier + Drop> Tap<Q> {
         length
     }
 
-    /// Loads a word of the log that it knows.
+    /// Loads a word of the log that it knows; `place` counts the words of the log from 0 on.
     pub fn load_word(&mut self, bus: &Bus<Q>, place: u64) -> u64
-        requires table { self.old.table_id ≡ bus.now.table.shared.table_id }
+        requires table { self.old.table_id ≡ bus.now.table }
         requires below { place < length (known_in self.old.me.0) }
         ensures table { self.new.table_id ≡ self.old.table_id }
         ensures same { self.new.me ≡ self.old.me }
@@ -92,10 +93,11 @@ impl<Q: Ratifier + Drop> Tap<Q> {
         word
     }
 
-    /// Two receivers meet: each knows the log up to the length that is loaded.
+    /// Two receivers of one bus meet: each knows the log up to the length that is loaded, which is
+    /// given.
     pub fn meet(&mut self, other: &mut Tap<Q>, bus: &Bus<Q>) -> u64
-        requires table { (self.old.table_id ≡ bus.now.table.shared.table_id)
-            × (other.old.table_id ≡ bus.now.table.shared.table_id) }
+        requires table { (self.old.table_id ≡ bus.now.table)
+            × (other.old.table_id ≡ bus.now.table) }
         ensures table { (self.new.table_id ≡ self.old.table_id)
             × (other.new.table_id ≡ other.old.table_id) }
         ensures learns { Learns self.old.me result self.new.me
@@ -112,11 +114,11 @@ impl<Q: Ratifier + Drop> Tap<Q> {
         length
     }
 
-    /// A sender tells: what is known then has all that the sender has published, and nothing else
-    /// of that sender.
+    /// A sender tells, by one load of the length: what is known then has of this sender exactly
+    /// the messages that it has put and that do not wait in its batch any more. Gives the length.
     pub fn told(&mut self, sender: &mut Sender<Q>, bus: &Bus<Q>) -> u64
-        requires table { (self.old.table_id ≡ bus.now.table.shared.table_id)
-            × (table_of sender.old ≡ bus.now.table.shared.table_id) }
+        requires table { (self.old.table_id ≡ bus.now.table)
+            × (table_of sender.old ≡ bus.now.table) }
         ensures table { (self.new.table_id ≡ self.old.table_id)
             × (table_of sender.new ≡ table_of sender.old) }
         ensures sender { (sender.new.core ≡ sender.old.core)
