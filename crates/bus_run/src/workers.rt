@@ -1,7 +1,8 @@
 //! What the worker of a sender does, and that of a receiver.
 
-ghost use Rattle.std.specs.Prelude.{◌≡◌, ◌++◌, ◌∷◌, [], ◌<◌, ◌≤◌, length};
-ghost use Rattle.std.specs.Prelude.{◌⊎◌, ◌^◌, true, false, None, Some, replicate, IfOk, map, All};
+ghost use Rattle.std.specs.Prelude.{◌≡◌, ◌++◌, ◌∷◌, [], ◌<◌, ◌≤◌};
+ghost use Rattle.std.specs.Prelude.{◌⊎◌, ◌^◌, true, false, None, Some, replicate};
+ghost use Rattle.std.specs.Prelude.{length, IfOk, map, All};
 ghost use Rattle.std.specs.Int.{w64, to_le_bytes, to_be_bytes};
 ghost use Rattle.rand_chacha.specs.ChaCha.{of_seed};
 ghost use Rattle.bus_batch.specs.Batches.{next_of, IsPutFault};
