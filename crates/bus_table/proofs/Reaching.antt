@@ -20,7 +20,7 @@ use Rattle.bus_world.specs.Bus.{IsLayout, least_of, standing_of, stands_at}
 use Rattle.bus_world.specs.Headline.{Deed, HasPut, HasClosed, IsPrefix}
 use Rattle.bus_world.specs.Playing.{Answers, PutGives, CloseGives, TurnAnswers}
 use Rattle.bus_world.specs.Tenures.Standing.{Runs}
-use Rattle.bus_world.specs.Trails.{Trails, Reached, trails_after, turning_deeds}
+use Rattle.bus_world.specs.Trails.{Trails, Reached, trails_grown, turning_deeds}
 use Rattle.bus_world.specs.Trails.Reached.{Then}
 use Rattle.bus_world.specs.Turning.{number_found, words_after, home_after, core_after, side_after}
 use Rattle.bus_world.specs.World.{Bus, Event, Put, Close, Turn, Happens, IsEvent, SenderDoes, with_sender, put_in, close_in, LawfulBus}
@@ -80,11 +80,11 @@ module _ {E : Type 0} (X : Election E) (P : Protocol E (Unit {0}) ℕ) (x : Layo
 
     -- one event of the sender, with which it is d' in place of d
     one_more : (d d' : Core E) (deeds : List Deed) (m : Reaches b T p d deeds) (e : Event) (a : Answer) (more : List Deed)
-        → IsEvent e → Happens X (with_core b p d) e (with_core b p d') → Answers X (with_core b p d) e a (with_core b p d') → Longer p more m.trails.deeds (trails_after X (with_core b p d) e a m.trails).deeds → Reaches b T p d' (deeds ++ more)
+        → IsEvent e → Happens X (with_core b p d) e (with_core b p d') → Answers X (with_core b p d) e a (with_core b p d') → Longer p more m.trails.deeds (trails_grown X (with_core b p d) e a m.trails).deeds → Reaches b T p d' (deeds ++ more)
     one_more d d' deeds m e a more is does told longer = record {
-      trails = trails_after X (with_core b p d) e a m.trails;
+      trails = trails_grown X (with_core b p d) e a m.trails;
       reached = Then (with_core b p d) (with_core b p d') m.trails e a m.reached is does told;
-      longer = longer_more p deeds more T.deeds m.trails.deeds (trails_after X (with_core b p d) e a m.trails).deeds m.longer longer;
+      longer = longer_more p deeds more T.deeds m.trails.deeds (trails_grown X (with_core b p d) e a m.trails).deeds m.longer longer;
     }
 
     -- the senders with d' in the place of d
@@ -161,13 +161,13 @@ module _ {E : Type 0} (X : Election E) (P : Protocol E (Unit {0}) ℕ) (x : Layo
     pub steps : Steps b T p d word o
     steps = record {
       bus = bus';
-      trails = trails_after X b (Turn p word) told T;
+      trails = trails_grown X b (Turn p word) told T;
       reached = Then b bus' T (Turn p word) told r tt turns answers;
       words = ap (words_after b.side.words) due;
       home = refl;
       senders = ap (λ w. slice_set b.side.senders p (core_after X d z b.side.home (number_found (slice_index b.side.words) w) word)) due;
       receivers = refl;
-      longer = subst (λ ds. Longer p ds T.deeds (trails_after X b (Turn p word) told T).deeds) deeds_are (longer_by p (turning_deeds X b.side.words (slice_get b.side.senders p) word told) T.deeds);
+      longer = subst (λ ds. Longer p ds T.deeds (trails_grown X b (Turn p word) told T).deeds) deeds_are (longer_by p (turning_deeds X b.side.words (slice_get b.side.senders p) word told) T.deeds);
       front = front;
     }
 

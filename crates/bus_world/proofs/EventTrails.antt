@@ -52,7 +52,7 @@ use Rattle.bus_world.proofs.WorldLaws.{event_left, event_puts, counted_at, new_i
 use Rattle.bus_world.specs.Playing.{AllAnswered, Answers, PutGives, CloseGives, TurnAnswers, RecvAnswers, log_of}
 use Rattle.bus_world.specs.declared.events.Answer.{Answer}
 use Rattle.bus_world.specs.declared.events.Answer.TheVariants as answer
-use Rattle.bus_world.specs.Trails.{Trails, no_trails, trails_after, trails_after, deeds_of, put_deeds, close_deeds, turning_deeds, step_deed, heard_of, answer_heard, IsPromisedBy, IsPromised, StaysPromised, Follows, Played, Reached}
+use Rattle.bus_world.specs.Trails.{Trails, no_trails, trails_grown, trails_after, deeds_of, put_deeds, close_deeds, turning_deeds, step_deed, heard_of, answer_heard, IsPromisedBy, IsPromised, StaysPromised, Follows, Played, Reached}
 use Rattle.bus_world.specs.Trails.Reached.{New, Then}
 use Rattle.bus_world.proofs.Waiting.{frames_after, put_by, waiting_of, waiting_at, accepted, accepted_by, event_frames, frames_by}
 use Rattle.bus_world.proofs.Tying.{AreNumbered, IsSilent, Hears, Tied}
@@ -342,7 +342,7 @@ module _ {E : Type 0} (X : Election E) (P : Protocol E (Unit {0}) ℕ) (laws : L
     pub lawful : LawfulBus P x b (frames ++ more)
     pub tied : Tied P x b (frames ++ more) T
 
-  event_on : (b b' : Bus E) (e : Event) (a : Answer) (T : Trails) (k : Kept b T) → IsEvent e → Happens X b e b' → Answers X b e a b' → KeptOn k.frames b' (trails_after X b e a T)
+  event_on : (b b' : Bus E) (e : Event) (a : Answer) (T : Trails) (k : Kept b T) → IsEvent e → Happens X b e b' → Answers X b e a b' → KeptOn k.frames b' (trails_grown X b e a T)
   event_on b b' e a T k is d w =
       let after = event_left X P laws x ok width starts owner_is b k.frames k.lawful b' e is d in
       let more = after.left.continues.more in
@@ -371,14 +371,14 @@ module _ {E : Type 0} (X : Election E) (P : Protocol E (Unit {0}) ℕ) (laws : L
   kept_on : (frames more : List Frame) (b : Bus E) (T : Trails) → KeptOn (frames ++ more) b T → KeptOn frames b T
   kept_on frames more b T k = record { more = more ++ k.more; lawful = subst (LawfulBus P x b) (append_assoc frames more k.more) k.lawful; tied = subst (λ z. Tied P x b z T) (append_assoc frames more k.more) k.tied }
 
-  event_kept : (b b' : Bus E) (e : Event) (a : Answer) (T : Trails) → Kept b T → IsEvent e → Happens X b e b' → Answers X b e a b' → Kept b' (trails_after X b e a T)
-  event_kept b b' e a T k is d w = kept_of k.frames b' (trails_after X b e a T) (event_on b b' e a T k is d w)
+  event_kept : (b b' : Bus E) (e : Event) (a : Answer) (T : Trails) → Kept b T → IsEvent e → Happens X b e b' → Answers X b e a b' → Kept b' (trails_grown X b e a T)
+  event_kept b b' e a T k is d w = kept_of k.frames b' (trails_grown X b e a T) (event_on b b' e a T k is d w)
 
   run_on : (events : List Event) (frames : List Frame) (b b' : Bus E) (T : Trails) → LawfulBus P x b frames → Tied P x b frames T → (run : AllAnswered X b events b') → KeptOn frames b' (trails_after X b events b' run T)
   run_on [] frames b b' T h t run = subst (λ z. KeptOn frames z T) (sym run) record { more = []; lawful = subst (LawfulBus P x b) (sym (append-nil frames)) h; tied = subst (λ z. Tied P x b z T) (sym (append-nil frames)) t }
   run_on (e ∷ events) frames b b' T h t run =
       let m = event_on b run.0 e run.1 T (record { frames = frames; lawful = h; tied = t }) run.2 run.3 run.4 in
-      kept_on frames m.more b' (trails_after X run.0 events b' run.5 (trails_after X b e run.1 T)) (run_on events (frames ++ m.more) run.0 b' (trails_after X b e run.1 T) m.lawful m.tied run.5)
+      kept_on frames m.more b' (trails_after X run.0 events b' run.5 (trails_grown X b e run.1 T)) (run_on events (frames ++ m.more) run.0 b' (trails_grown X b e run.1 T) m.lawful m.tied run.5)
 
   -- ---- a new bus
   module _ (b : Bus E) (new : IsNew x b) where
@@ -535,17 +535,17 @@ module _ {E : Type 0} (X : Election E) (P : Protocol E (Unit {0}) ℕ) (laws : L
   pub follows : (old new : Bus E) (e : Event) (a : Answer) → IsEvent e → Happens X old e new → Answers X old e a new → Follows X x old e a new
   follows old new e a is d w = record {
     reached = λ T r. Then old new T e a r is d w;
-    promised = λ T r. let k = reached_kept old T r in stays old new T (trails_after X old e a T) k (event_on old new e a T k is d w) (λ q. record { rest = heard_of e a q; together = refl }) (event_takers X old new e d);
+    promised = λ T r. let k = reached_kept old T r in stays old new T (trails_grown X old e a T) k (event_on old new e a T k is d w) (λ q. record { rest = heard_of e a q; together = refl }) (event_takers X old new e d);
   }
 
   reached_more : (events : List Event) (old new : Bus E) (T : Trails) → Reached X x old T → (run : AllAnswered X old events new) → Reached X x new (trails_after X old events new run T)
   reached_more [] old new T r run = subst (λ z. Reached X x z T) (sym run) r
-  reached_more (e ∷ events) old new T r run = reached_more events run.0 new (trails_after X old e run.1 T) (Then old run.0 T e run.1 r run.2 run.3 run.4) run.5
+  reached_more (e ∷ events) old new T r run = reached_more events run.0 new (trails_grown X old e run.1 T) (Then old run.0 T e run.1 r run.2 run.3 run.4) run.5
 
   heard_more : (events : List Event) (old new : Bus E) (T : Trails) (run : AllAnswered X old events new) (q : ℕ) → IsPrefix (T.heard q) ((trails_after X old events new run T).heard q)
   heard_more [] old new T run q = record { rest = []; together = append-nil (T.heard q) }
   heard_more (e ∷ events) old new T run q =
-      let later = heard_more events run.0 new (trails_after X old e run.1 T) run.5 q in
+      let later = heard_more events run.0 new (trails_grown X old e run.1 T) run.5 q in
       record { rest = heard_of e run.1 q ++ later.rest; together = sym (append_assoc (T.heard q) (heard_of e run.1 q) later.rest) ∙ later.together }
 
   takers_grow : (events : List Event) (old new : Bus E) → AllAnswered X old events new → IsPrefix old.side.owners new.side.owners

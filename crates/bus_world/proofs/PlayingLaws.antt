@@ -38,7 +38,7 @@ use Rattle.bus_world.specs.World.{Bus, Event, Put, Close, Turn, Recv, IsEvent, H
 use Rattle.bus_tenure.proofs.Situated.{tells}
 use Rattle.bus_world.proofs.Accepting.{open_is, not_busy, empty_is}
 use Rattle.bus_world.proofs.WorldLaws.{event_left, numbers_fit}
-use Rattle.bus_world.specs.Trails.{IsServedBus, trails_after}
+use Rattle.bus_world.specs.Trails.{IsServedBus, trails_grown}
 use Rattle.bus_world.specs.Trails.Reached.{Then}
 use Rattle.bus_world.specs.Playing.{SizedBus, Answers, PutGives, PutRefused, CloseGives, CloseRefused, TurnAnswers, TurnRefused, RecvAnswers, RecvRefused}
 use Rattle.bus_world.specs.declared.events.StepFault.{StepFault}
@@ -77,7 +77,7 @@ module _ {E : Type 0} (X : Election E) (P : Protocol E (Unit {0}) ℕ) (x : Layo
         senders = event_length X b b' e d ∙ h.senders;
         frames = l.left.frames_now;
         lawful = l.left.lawful;
-        trails = trails_after X b e a h.trails;
+        trails = trails_grown X b e a h.trails;
         reached = Then b b' h.trails e a h.reached is d w;
       }
 

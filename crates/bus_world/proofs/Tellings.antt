@@ -29,7 +29,7 @@ use Rattle.bus_world.proofs.LogLaws.{length-read, items-append}
 use Rattle.bus_world.specs.Playing.{Answers, TurnAnswers, log_of}
 use Rattle.bus_world.proofs.FrameOfBatch.{counted_frame, length-items}
 use Rattle.bus_world.specs.Telling.{TurnTells, SenderTells, EventTells}
-use Rattle.bus_world.specs.Trails.{Trails, Reached, trails_after, turn_deeds, turning_deeds, step_deed}
+use Rattle.bus_world.specs.Trails.{Trails, Reached, trails_grown, turn_deeds, turning_deeds, step_deed}
 use Rattle.bus_world.specs.Turning.{Side, number_found}
 use Rattle.bus_world.proofs.TurningLaws.{IsSide, side_of}
 use Rattle.bus_world.specs.World.{Bus, Event, Put, Close, Turn, Recv, Happens}
@@ -187,7 +187,7 @@ module _ {E : Type 0} (X : Election E) (P : Protocol E (Unit {0}) ℕ) (laws : L
       → TurnTells x (log_of record { layout = x; bus = old }) s c (T.deeds s ++ turning_deeds X old.side.words (Some c) word (answer.Turn z)) z) (sym is)
       (turn_true X P laws x owner_is named old.side k.frames (side_of k.lawful) s c i word (T.deeds s)) own
 
-  turn_tells : (s word : ℕ) (t : Answered) → Happens X old (Turn s word) new → Answers X old (Turn s word) (answer.Turn t) new → EventTells x old (Turn s word) (answer.Turn t) (trails_after X old (Turn s word) (answer.Turn t) T)
+  turn_tells : (s word : ℕ) (t : Answered) → Happens X old (Turn s word) new → Answers X old (Turn s word) (answer.Turn t) new → EventTells x old (Turn s word) (answer.Turn t) (trails_grown X old (Turn s word) (answer.Turn t) T)
   turn_tells s word t d w =
       let f = (follows X P laws x ok width starts owner_is named announces apart old new (Turn s word) (answer.Turn t) tt d w).promised T r in
       by_same (s == s) (eqb_tells s s) (λ u place. f.after.by.promises.took_own u s place)
@@ -198,7 +198,7 @@ module _ {E : Type 0} (X : Election E) (P : Protocol E (Unit {0}) ℕ) (laws : L
       by_same false (inl y) own = absurd (true≢false (sym y.0))
       by_same false (inr y) own = absurd (y.1 refl)
 
-  pub event_tells : (e : Event) (a : Answer) → Happens X old e new → Answers X old e a new → EventTells x old e a (trails_after X old e a T)
+  pub event_tells : (e : Event) (a : Answer) → Happens X old e new → Answers X old e a new → EventTells x old e a (trails_grown X old e a T)
   event_tells (Put s bytes) a d w = tt
   event_tells (Close s) a d w = tt
   event_tells (Turn s word) (answer.Number n) d w = tt

@@ -13,7 +13,7 @@ use Rattle.bus_tenure.specs.declared.turns.Turn.TheVariants as turn
 use Rattle.bus_world.specs.Headline.{Deed, Elected, Took, AreFramed}
 use Rattle.bus_world.specs.Log.{AreCounted}
 use Rattle.bus_world.specs.Playing.{log_of}
-use Rattle.bus_world.specs.Trails.{Trails, Reached, trails_after}
+use Rattle.bus_world.specs.Trails.{Trails, Reached, trails_grown}
 use Rattle.bus_world.specs.World.{Bus, Event, Put, Close, Turn, Recv}
 use Rattle.bus_world.specs.declared.events.Answer.{Answer}
 use Rattle.bus_world.specs.declared.events.Answer.TheVariants as answer
@@ -63,7 +63,7 @@ EventTells x old (Turn s word) (answer.Recv r) T' = Unit {0}
 EventTells x old (Recv r) a T' = Unit {0}
 
 pub record Tells {E : Type 0} (X : Election E) (x : Layout) (old : Bus E) (e : Event) (a : Answer) : Type 0 where
-  pub truth : (T : Trails) → Reached X x old T → EventTells x old e a (trails_after X old e a T)
+  pub truth : (T : Trails) → Reached X x old T → EventTells x old e a (trails_grown X old e a T)
 
 -- ---- why a sender takes its step
 abbrev pub SenderCauses : {S : Type 0} → Election (Elector S) → Protocol S Bool Verdict → Option (Core (Elector S)) → Type 0

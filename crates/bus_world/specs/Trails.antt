@@ -76,13 +76,13 @@ pub record Trails : Type 0 where
 abbrev pub no_trails : Trails
 no_trails = record { deeds = λ s. []; heard = λ r. [] }
 
-abbrev pub trails_after : {E : Type 0} → Election E → Bus E → Event → Answer → Trails → Trails
-trails_after X b e a T = record { deeds = λ s. T.deeds s ++ deeds_of X b e a s; heard = λ r. T.heard r ++ heard_of e a r }
+abbrev pub trails_grown : {E : Type 0} → Election E → Bus E → Event → Answer → Trails → Trails
+trails_grown X b e a T = record { deeds = λ s. T.deeds s ++ deeds_of X b e a s; heard = λ r. T.heard r ++ heard_of e a r }
 
 -- these trails lead to this bus: from a new one, of which nothing has happened, by one event after another
 pub data Reached {E : Type 0} (X : Election E) (x : Layout) : Bus E → Trails → Type 0 where
   New : (b : Bus E) → IsNew x b → Reached X x b no_trails
-  Then : (b b' : Bus E) (T : Trails) (e : Event) (a : Answer) → Reached X x b T → IsEvent e → Happens X b e b' → Answers X b e a b' → Reached X x b' (trails_after X b e a T)
+  Then : (b b' : Bus E) (T : Trails) (e : Event) (a : Answer) → Reached X x b T → IsEvent e → Happens X b e b' → Answers X b e a b' → Reached X x b' (trails_grown X b e a T)
 
 -- ---- what is promised of a bus
 -- who took the pages, by tenure
@@ -113,13 +113,13 @@ pub record StaysPromised {E : Type 0} (x : Layout) (old : Bus E) (T : Trails) (n
 
 -- Whatever trails led to the old bus, with what this event and its answer add they lead to the new one, and the promise stays.
 pub record Follows {E : Type 0} (X : Election E) (x : Layout) (old : Bus E) (e : Event) (a : Answer) (new : Bus E) : Type 0 where
-  pub reached : (T : Trails) → Reached X x old T → Reached X x new (trails_after X old e a T)
-  pub promised : (T : Trails) → Reached X x old T → StaysPromised x old T new (trails_after X old e a T)
+  pub reached : (T : Trails) → Reached X x old T → Reached X x new (trails_grown X old e a T)
+  pub promised : (T : Trails) → Reached X x old T → StaysPromised x old T new (trails_grown X old e a T)
 
 -- the trails after a list of events with their answers
 abbrev pub trails_after : {E : Type 0} (X : Election E) (old : Bus E) (events : List Event) (new : Bus E) → AllAnswered X old events new → Trails → Trails
 trails_after X old [] new run T = T
-trails_after X old (e ∷ events) new run T = trails_after X run.0 events new run.5 (trails_after X old e run.1 T)
+trails_after X old (e ∷ events) new run T = trails_after X run.0 events new run.5 (trails_grown X old e run.1 T)
 
 -- All events were answered, one after another. Whatever trails led to the old bus, with what the events and their answers add
 -- they lead to the new one, and the promise stays.
