@@ -66,7 +66,7 @@ fn tell_message<Q: Ratifier + Drop>(world: &mut World<Q>, me: SenderNo, bytes: &
 fn tell_messages<Q: Ratifier + Drop>(world: &mut World<Q>, me: SenderNo, fresh: &[Message]) -> bool
     ensures layout { world.new.layout ≡ world.old.layout }
     ensures runs { let X = election_of Q.Ratifier in
-        Runs X world.old.bus (map (Put me.0) fresh.now) world.new.bus }
+        AllHappen X world.old.bus (map (Put me.0) fresh.now) world.new.bus }
     ensures takes { TakesMessages world.old.bus.side.senders world.new.bus.side.senders me.0
         fresh.now [] result }
 {
@@ -97,7 +97,7 @@ pub fn tell<Q: Ratifier + Drop>(
 ) -> bool
     ensures layout { world.new.layout ≡ world.old.layout }
     ensures runs { let X = election_of Q.Ratifier in
-        Runs X world.old.bus (tellings me.0 fresh.now closes) world.new.bus }
+        AllHappen X world.old.bus (tellings me.0 fresh.now closes) world.new.bus }
     ensures takes { TakesTold world.old.bus.side.senders world.new.bus.side.senders me.0 fresh.now
         closes result }
 {
