@@ -217,7 +217,7 @@ module _ {E : Type 0} (X : Election E) (P : Protocol E (Unit {0}) ℕ) (x : Layo
         done.longer.own ∙ ap (λ l. l ++ deeds_at X d (slice_index b.side.words (register o)) word) (grown.longer.own ∙ ap (λ l. l ++ due.deeds) seated.deeds ∙ ap (λ l. trail_in m.0 ++ l) (sym since))
         ∙ ap (λ k. deeds_in m.0 d ++ deeds_at X d k word) (sym n_is)
 
-    moved : Moved d (situation_of X d) r.bus.side.home s.homes m.1
+    moved : Moved X d (situation_of X d) r.bus.side.home s.homes m.1
     moved = moves X d r.bus.side.home s.homes m.1 _ r.slot (situation_of X d) word o due.due (ap (λ (y : Sat E). y.1) due.me) (taken X P x y r.served b grown.trails grown.reached p d old word o due.due)
 
     abbrev stored : ℕ
