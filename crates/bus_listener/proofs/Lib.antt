@@ -1,0 +1,2 @@
+pub mod ListeningLaws
+pub mod OrderLaws

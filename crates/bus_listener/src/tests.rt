@@ -1,0 +1,136 @@
+//! Two receivers of one small bus.
+
+ghost use Rattle.std.specs.Prelude.{◌≡◌};
+ghost use Rattle.bus_table.specs.Seats.{table_of};
+
+use super::*;
+use bus_adoptcommit::TwoCollect;
+use bus_batch::{Item, Message};
+use bus_deliverylog::RecvTurn;
+use bus_register::SenderNo;
+use bus_table::{Bus, Sender};
+use bus_tenure::Turn;
+use bus_world::Shape;
+use std::alloc::Global;
+use std::cmp::Ordering;
+use std::process::Abort;
+
+/// One sender, two receivers, two tenures.
+const SMALL: Shape = Shape {
+    senders: 1,
+    receivers: 2,
+    rounds: 1,
+    rows: 2,
+    log_words: 64,
+};
+
+/// A bus, a sender and a receiver over the ratifier at work.
+type Few = Bus<TwoCollect>;
+
+type One = Sender<TwoCollect>;
+
+type Ear = Receiver<TwoCollect>;
+
+/// Turns of the sender, up to the one that is answered so.
+fn turns_to(rt: &impl Abort, bus: &Few, sender: &mut One, want: Turn)
+    requires { table_of sender.old ≡ bus.now.table }
+    ensures { table_of sender.new ≡ bus.now.table }
+{
+    for _ in 0..20 {
+        if sender.turn(bus, 0) == want {
+            return;
+        }
+    }
+    panic!(rt; "{want:?} is not answered");
+}
+
+/// Sees what the receiver's next turns answer.
+fn hears(rt: &impl Abort, bus: &Few, ear: &mut Ear, want: &[RecvTurn])
+    requires { ear.old.seat.table_id ≡ bus.now.table }
+    ensures { ear.new.seat.table_id ≡ bus.now.table }
+{
+    for (i, turn) in want.iter().enumerate() {
+        let got = ear.turn(bus);
+        assert_eq!(rt; got, *turn, "turn {i}");
+    }
+}
+
+/// The first item of the bus below, which carries an a.
+fn item_a(rt: &impl Abort) -> RecvTurn {
+    RecvTurn::Item(Item {
+        sender: SenderNo(0),
+        number: 0,
+        message: Message::of_bytes(b"a").expect(rt, "short"),
+    })
+}
+
+/// A frame of sender 0.
+fn head(tenure: u64) -> RecvTurn {
+    RecvTurn::Head {
+        tenure,
+        owner: SenderNo(0),
+    }
+}
+
+/// The small bus with its sender and its receivers.
+fn small(rt: &impl Abort, alloc: Global) -> (Few, One, Ear, Ear)
+    ensures sender { table_of result.1 ≡ result.0.table }
+    ensures first { result.2.seat.table_id ≡ result.0.table }
+    ensures second { result.3.seat.table_id ≡ result.0.table }
+{
+    let (bus, mut senders, mut taps) = Bus::new(alloc, SMALL).expect(rt, "memory");
+    let second = Receiver::new(taps.pop().expect(rt, "a seat"), 1);
+    let first = Receiver::new(taps.pop().expect(rt, "a seat"), 1);
+    (bus, senders.pop().expect(rt, "a sender"), first, second)
+}
+
+/// The same once the a stands in the log. The first receiver has read it, the second has taken no
+/// turn.
+fn with_an_a(rt: &impl Abort, alloc: Global) -> (Few, One, Ear, Ear)
+    ensures sender { table_of result.1 ≡ result.0.table }
+    ensures first { result.2.seat.table_id ≡ result.0.table }
+    ensures second { result.3.seat.table_id ≡ result.0.table }
+{
+    let (bus, mut sender, mut first, second) = small(rt, alloc);
+    assert_eq!(rt; sender.put(b"a"), Ok(0));
+    turns_to(rt, &bus, &mut sender, Turn::Own { tenure: 0 });
+    hears(rt, &bus, &mut first, &[RecvTurn::Empty]);
+    let delivered = Turn::Delivered {
+        tenure: 0,
+        first: 0,
+        last: 0,
+    };
+    turns_to(rt, &bus, &mut sender, delivered);
+    let answers = [RecvTurn::Going, head(0), RecvTurn::Going, item_a(rt)];
+    hears(rt, &bus, &mut first, &answers);
+    (bus, sender, first, second)
+}
+
+#[test]
+fn told_and_meet(rt: HostRuntime) {
+    let (bus, mut sender, mut first, mut second) = with_an_a(&rt, rt.alloc());
+    assert_eq!(&rt; (first.place(), second.place()), (3, 0));
+    second.told(&mut sender, &bus);
+    hears(&rt, &bus, &mut second, &[head(0), RecvTurn::Going]);
+    assert_eq!(&rt; first.meet(&mut second, &bus), Ordering::Greater);
+    hears(&rt, &bus, &mut second, &[item_a(&rt), RecvTurn::Empty]);
+    assert_eq!(&rt; first.meet(&mut second, &bus), Ordering::Equal);
+}
+
+#[test]
+fn to_the_end(rt: HostRuntime) {
+    let (bus, mut sender, mut first, mut second) = with_an_a(&rt, rt.alloc());
+    assert_eq!(&rt; sender.close(), Ok(()));
+    turns_to(&rt, &bus, &mut sender, Turn::Own { tenure: 1 });
+    turns_to(&rt, &bus, &mut sender, Turn::Closed);
+    assert_eq!(&rt; second.meet(&mut first, &bus), Ordering::Less);
+    hears(
+        &rt,
+        &bus,
+        &mut first,
+        &[head(1), RecvTurn::End, RecvTurn::End],
+    );
+    assert_eq!(&rt; (first.has_ended(), second.has_ended()), (true, false));
+    let ended = bus.end(second.into_tap()).expect(&rt, "the page is home");
+    assert_eq!(&rt; (ended.log.len(), ended.page.ended), (5, true));
+}
