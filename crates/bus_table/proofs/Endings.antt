@@ -1,10 +1,10 @@
 -- What the close of a table tells of the bus that it was.
-use Rattle.std.proofs.Common.{◌≡◌, ◌≢◌, ℕ, zero, suc, ◌+◌, ◌*◌, ◌-◌, ◌%◌, ◌<◌, ◌≤◌, Bool, true, false, Option, Some, None, is_some, List, [], ◌∷◌, ◌++◌, length, slice_index, arith, refl, sym, ◌∙◌, ap, subst}
+use Rattle.std.proofs.Common.{◌≡◌, ◌≢◌, ℕ, zero, suc, ◌+◌, ◌%◌, ◌≤◌, Bool, true, false, Option, Some, None, is_some, List, [], ◌∷◌, ◌++◌, length, slice_index, arith, refl, sym, ◌∙◌, ap, subst}
 use mathlib.Core.Option.{some, none, some-injective, some-ne-none}
 use mathlib.Core.Option as maybe
 use lib.ListN.{get_elem?}
 use Rattle.std.proofs.lemmas.Bool.{true≢false}
-use Rattle.atomic_table.specs.Table.{State, Final, Seen}
+use Rattle.atomic_table.specs.Table.{Final, Seen}
 use Rattle.bus_register.specs.Protocol.{Protocol}
 use Rattle.bus_tenure.specs.Core.{Core, Election, Layout, words_of, log_at}
 use Rattle.bus_tenure.specs.declared.pages.Page.{Page}
@@ -12,8 +12,6 @@ use Rattle.bus_world.specs.Headline.{IsPrefix}
 use Rattle.bus_world.specs.Log.{read}
 use Rattle.bus_world.specs.Tenures.{Stage}
 use Rattle.bus_world.specs.Tenures.Stage.{Open, Held}
-use Rattle.bus_world.specs.Trails.{Trails, Reached}
-use Rattle.bus_world.specs.World.{Bus}
 use Rattle.bus_world.proofs.EventTrails as events
 use Rattle.bus_world.proofs.Serving.{Serves}
 use Rattle.bus_table.specs.declared.rule.View.{View}

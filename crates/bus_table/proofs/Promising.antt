@@ -1,13 +1,12 @@
 -- The page of promises holds of what the seats show, since events lead to the bus that the table is.
-use Rattle.std.proofs.Common.{◌≡◌, ℕ, Option, None, List, [], slice_get, slice_index, refl, sym, ◌∙◌, ap, subst}
+use Rattle.std.proofs.Common.{◌≡◌, ℕ, Option, None, slice_get, sym, ap, subst}
 use mathlib.Core.Path.{fun_ext}
 use Rattle.atomic_table.specs.Table.{State}
 use Rattle.bus_register.specs.Protocol.{Protocol}
 use Rattle.bus_batch.specs.Frames.{Spells}
-use Rattle.bus_tenure.specs.Core.{Core, Election, Layout, log_at}
+use Rattle.bus_tenure.specs.Core.{Core, Election, Layout}
 use Rattle.bus_tenure.specs.declared.pages.Page.{Page}
-use Rattle.bus_world.specs.Headline.{IsPrefix, Promises}
-use Rattle.bus_world.specs.Log.{read}
+use Rattle.bus_world.specs.Headline.{Promises}
 use Rattle.bus_world.specs.Trails.{Trails}
 use Rattle.bus_world.specs.World.{Bus}
 use Rattle.bus_world.proofs.EventTrails as events

@@ -1,7 +1,7 @@
-use Rattle.std.proofs.Common.{rules, ◌≡◌, ℕ, ◌+◌, ◌-◌, ◌<◌, ◌≤◌, ◌%◌, List, [], Some, None, slice_index, refl, arith, sym, ◌∙◌, ap, subst}
+use Rattle.std.proofs.Common.{◌≡◌, ◌-◌, ◌≤◌, Some, slice_index, refl, arith, sym, ◌∙◌, ap, subst}
 use Rattle.std.proofs.lemmas.Option.{same_Some}
 use Rattle.std.specs.Prelude.{IsSome}
-use Rattle.std.specs.Slots.{slots_items, slots_len, slots_counts}
+use Rattle.std.specs.Slots.{slots_items, slots_counts}
 use Rattle.bus_tenure.specs.Core.{log_at}
 use Rattle.bus_tenure.specs.Elections.{elections, election_with, layout_with}
 use Rattle.bus_world.specs.Log.{read}

@@ -1,6 +1,5 @@
-use Rattle.std.proofs.Common.{rules, ◌≡◌, ℕ, ◌+◌, ◌<◌, ◌++◌, [], ◌∷◌, slice_index, arith, sym, ◌∙◌, ap, subst}
+use Rattle.std.proofs.Common.{◌+◌, ◌++◌, [], ◌∷◌, slice_index, arith, ◌∙◌, ap}
 use Rattle.std.specs.Slots.{slots_items}
-use Rattle.bus_world.specs.Log.{read}
 use Rattle.bus_table.proofs.Endings.{word_at, read-next}
 use Rattle.bus_table.proofs.outcomes.words_from.Goals as goal
 

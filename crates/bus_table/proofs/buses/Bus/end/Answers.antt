@@ -1,4 +1,4 @@
-use Rattle.std.proofs.Common.{◌≡◌, ℕ, List, Some, None, ap, subst}
+use Rattle.std.proofs.Common.{ℕ, List, Some, None, ap, subst}
 use Rattle.std.specs.Prelude.{IfOk, OnErr}
 use Rattle.bus_tenure.specs.Elections.{election_with}
 use Rattle.bus_world.specs.Playing.{layout_of}
