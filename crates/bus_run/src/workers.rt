@@ -28,7 +28,7 @@ use std::sync::atomic::{AtomicBool, Ordering};
 const BATCH: usize = 16;
 
 /// How many messages a sender sends at most in a run.
-const MOST_MESSAGES: u64 = 400;
+const MOST_EACH: u64 = 400;
 
 /// How much each sender sends, and what its random words come from.
 #[derive(Clone, Copy, Debug)]
@@ -194,7 +194,7 @@ fn put_number(sender: &mut Sender, number: u64) -> bool
     ensures refused { result ≡ false → (400 ≤ next_of sender.old.queue)
         ⊎ ((why : PutFault) × IsPutFault sender.old.queue 8 why) }
 {
-    sender.next_number() < MOST_MESSAGES && sender.put(&number.to_be_bytes()).is_ok()
+    sender.next_number() < MOST_EACH && sender.put(&number.to_be_bytes()).is_ok()
 }
 
 /// The work of the receivers of a run.
