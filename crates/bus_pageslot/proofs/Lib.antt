@@ -1,4 +1,13 @@
-pub mod InStepLaws
-pub mod InWorldLaws
-pub mod OutcomeLaws
-pub mod SeatLaws
+pub mod Taking
+pub mod Accepting
+pub mod Situations
+pub mod Counting
+pub mod Reaching
+pub mod Ties
+pub mod Walks
+pub mod Openings
+pub mod Puts
+pub mod Loads
+pub mod Joining
+pub mod Endings
+pub mod Promising

@@ -1,5 +1,6 @@
+pub mod Rule
+pub mod Steps
 pub mod Seats
-pub mod Taps
-pub mod InWorld
-pub mod InStep
-pub mod Outcomes
+pub mod Buses
+pub mod Endings
+pub mod Promised

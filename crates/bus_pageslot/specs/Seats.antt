@@ -1,69 +1,82 @@
--- A sender's side of a bus: its own batch, and what it has kept of its turns.
-use Rattle.std.specs.Prelude.{◌≡◌, ℕ, Bool, true, false, Option, Some, None, List, [], ◌∷◌, length, slice_get, All, if◌then◌else◌}
-use Rattle.bus_register.specs.declared.kinds.Kind.{Kind}
-use Rattle.bus_batch.specs.Batches.{Pending}
-use Rattle.bus_batch.specs.declared.batches.Phase.TheVariants.{Open}
-use Rattle.bus_tenure.specs.Core.{is_closing, is_closed, is_empty}
-use Rattle.bus_tenure.specs.Situations.{queue_after}
-use Rattle.bus_tenure.specs.declared.phases.Reason.TheVariants.{Sent, FoundEnd}
+-- What a sender and a receiver of a bus show of their seats.
+use Rattle.std.specs.Prelude.{◌≡◌, ℕ, ◌≤◌, ◌^◌, length, Option, Some, None, List, [], ◌++◌}
+use Rattle.atomic_table.specs.declared.shared.Seat.{Seat}
+use Rattle.atomic_table.specs.Seated.{TableId}
+use Rattle.bus_register.specs.declared.registers.Op.{Op}
+use Rattle.bus_tenure.specs.Core.{Core, Election, words_of, log_at}
+use Rattle.bus_tenure.specs.Situations.{TakesPage, situation_of, op_at, answer_at}
 use Rattle.bus_tenure.specs.declared.turns.Turn.{Turn}
-use Rattle.bus_tenure.specs.declared.turns.Turn.TheVariants as turn
+use Rattle.bus_world.specs.Headline.{Deed}
+use Rattle.bus_world.specs.Turning.{core_after}
+use Rattle.bus_tenure.specs.declared.pages.Page.{Page}
+use Rattle.bus_pageslot.specs.declared.rule.View.{View}
+use Rattle.bus_pageslot.specs.declared.rule.View.TheVariants.{Sender, Tap, Spent}
+use Rattle.bus_pageslot.specs.Rule.{Sat, trail_in, stored_in}
+use Rattle.bus_pageslot.specs.Steps.{Accepts, IsCounted, carried_of, deeds_in, deeds_at, stored_at, Told}
 
--- its batch; the messages and the close that it accepted since it last looked at the stage; a log length that it knows; and
--- what its next step was after its last turn
-pub record Seat : Type 0 where
-  pub queue : Pending
-  pub fresh : List (List ℕ)
-  pub closes : Bool
-  pub words : ℕ
-  pub kind : Option Kind
-  pub wants_word : Bool
-  pub turns_left : ℕ
+-- a sender: what it holds, and its seat
+pub record Seated (E : Type 0) : Type 0 where
+  pub core : Core E
+  pub seat : Seat (Option Page) (View (Core E))
 
--- the batch may go on its way
-abbrev pub may_begin : Pending → Bool
-may_begin q = if is_closed q.phase then false else (if is_closing q.phase then true else (if is_empty q.messages then false else true))
+-- its table
+abbrev pub table_of : {E : Type 0} → Seated E → TableId
+table_of s = s.seat.table_id
 
--- the batch after a turn that was answered so
-abbrev pub queue_by : Turn → Pending → Pending
-queue_by turn.Idle q = q
-queue_by turn.Waiting q = q
-queue_by turn.Going q = if may_begin q then record q { busy = true } else q
-queue_by (turn.Lost t owner) q = record q { busy = false }
-queue_by (turn.Own t) q = q
-queue_by (turn.Delivered t first last) q = if q.busy then queue_after Sent q else q
-queue_by turn.Full q = record q { busy = false }
-queue_by turn.Closed q = if q.busy then queue_after FoundEnd q else q
-queue_by turn.Spent q = q
+-- all that it did
+abbrev pub deeds_of : {E : Type 0} → Seated E → List Deed
+deeds_of s = deeds_in s.seat.me.0 s.core
 
--- the batch after turns that were answered so
-abbrev pub queue_through : List Turn → Pending → Pending
-queue_through [] q = q
-queue_through (t ∷ turns) q = queue_through turns (queue_by t q)
+-- the last length that it has stored
+abbrev pub stored_of : {E : Type 0} → Seated E → ℕ
+stored_of s = stored_in s.seat.me.0
 
--- there is nothing more to do, or nothing more that can be done
-abbrev pub is_last : Turn → Bool
-is_last turn.Idle = true
-is_last turn.Waiting = false
-is_last turn.Going = false
-is_last (turn.Lost t owner) = false
-is_last (turn.Own t) = false
-is_last (turn.Delivered t first last) = true
-is_last turn.Full = true
-is_last turn.Closed = true
-is_last turn.Spent = true
+-- its seat shows it as it was after its last step
+pub record Shows {E : Type 0} (d : Core E) (s : Seat (Option Page) (View (Core E))) : Type 0 where
+  pub shown : Core E
+  pub deeds : List Deed
+  pub accepts : Accepts shown d deeds
+  pub counted : IsCounted d
+  pub me : s.me ≡ (Sender shown (trail_in s.me.0) (stored_in s.me.0), carried_of d.phase)
+  pub words : s.table_id.words ≡ words_of d.layout
+  pub slots : s.table_id.slots ≡ 1
 
--- turns, none of them a last one, led from one batch to another
-pub record GoesOn (old new : Pending) : Type 0 where
-  pub turns : List Turn
-  pub go_on : All (λ t. is_last t ≡ false) turns
-  pub queue : new ≡ queue_through turns old
+-- A sender took the step that was due of it. It and its answer are those of its turn for the number that the step found; and it
+-- has one deed more, the step, with the number that its word had, which a store does not tell.
+pub record Took {E : Type 0} (X : Election E) (old : Seated E) (word : ℕ) (turn : Turn) (new : Seated E) : Type 0 where
+  pub got : ℕ
+  pub found : ℕ
+  pub told : (o : Op) → op_at X old.core (situation_of X old.core) word ≡ Some o → Told o found got
+  -- what was at home before: the page, where it was taken
+  pub home : Option Page
+  pub taken : (t : ℕ) → situation_of X old.core ≡ TakesPage t → (page : Page) × (home ≡ Some page)
+  pub core : new.core ≡ core_after X old.core (situation_of X old.core) home got word
+  pub answer : turn ≡ answer_at X old.core (situation_of X old.core) got word
+  pub deeds : deeds_of new ≡ deeds_of old ++ deeds_at X old.core found word
+  pub stored : stored_of new ≡ stored_at old.core (situation_of X old.core) (stored_of old)
 
--- sender p before its first turn
-abbrev pub new_seat : ℕ → Seat
-new_seat p = record { queue = record { sender = record { 0 = p }; first = 0; messages = []; phase = Open; busy = false }; fresh = []; closes = false; words = 0; kind = None; wants_word = false; turns_left = 0 }
+-- where a receiver sits, and what it sees there
+pub record Spot (E : Type 0) : Type 0 where
+  pub table_id : TableId
+  pub me : Sat E
 
--- so many senders before their first turns, in order
-pub record AreNewSeats (many : ℕ) (seats : List Seat) : Type 0 where
-  pub many_are : length seats ≡ many
-  pub each : (p : ℕ) (s : Seat) → slice_get seats p ≡ Some s → s ≡ new_seat p
+abbrev pub nowhere : TableId
+nowhere = record { words = 0; slots = 0; views_name = 0; atom = 0; block = 0; offset = 0; slot_names = [] }
+
+abbrev pub spot : {E : Type 0} → Seat (Option Page) (View (Core E)) → Spot E
+spot s = record { table_id = s.table_id; me = s.me }
+
+abbrev pub spot_of : {E : Type 0} → Option (Seat (Option Page) (View (Core E))) → Spot E
+spot_of (Some s) = spot s
+spot_of None = record { table_id = nowhere; me = (Spent, []) }
+
+-- a receiver shows its seat: where the log is, and how much of it it knows
+pub record IsTap {E : Type 0} (s : Spot E) (log known : ℕ) : Type 0 where
+  pub core : Core E
+  pub words : List ℕ
+  pub me : s.me ≡ (Tap core words, [])
+  pub log_is : log ≡ log_at core.layout
+  pub known_is : known ≡ length words
+  pub within : known ≤ core.layout.capacity
+  pub room : words_of core.layout ≤ 2 ^ 63
+  pub wide : s.table_id.words ≡ words_of core.layout

@@ -1,72 +1,107 @@
-//! The bus and its lock.
+//! The bus: how it is made, and how it ends.
 
-ghost use Rattle.std.specs.Prelude.{◌≡◌, ℕ, ◌≤◌, IfOk, OnOk, IfErr};
-ghost use Rattle.bus_world.specs.Playing.{IsServed, MakeRefused};
-ghost use Rattle.bus_pageslot.specs.Seats.{AreNewSeats};
-ghost use Rattle.bus_pageslot.specs.Taps.{AreNewPasses};
+ghost use Rattle.std.specs.Prelude.{All, ◌≡◌, ℕ, List, Some, None, IfOk, OnErr, IfErr, []};
+ghost use Rattle.std.specs.Prelude.{◌≤◌};
+ghost use Rattle.std.specs.Vec.{vec_len, vec_capacity};
+ghost use Rattle.bus_tenure.specs.Elections.{election_of};
+ghost use Rattle.bus_world.specs.Playing.{layout_of, IsServed, MakeRefused};
+ghost use Rattle.bus_pageslot.specs.Rule.{known_in};
+ghost use Rattle.bus_pageslot.specs.Buses.{AreNewSeats, AreNewTaps};
+ghost use Rattle.bus_pageslot.specs.Seats.{table_of};
+ghost use Rattle.bus_pageslot.specs.Endings.{IsLeft};
 
-use crate::outcomes::{EndFault, Ended};
+use crate::outcomes::{EndFault, Ended, leave};
+use crate::rule::Board;
+use crate::seating::{board, seat_all, tap_all};
 use crate::seats::Sender;
 use crate::taps::Tap;
-use bus_adoptcommit::TwoCollect;
-use bus_register::limits::MOST_SENDERS;
-use bus_register::{NoMemory, SenderNo};
-use bus_world::{MakeFault, Shape, World};
+use bus_adoptcommit::Ratifier;
+use bus_register::NoMemory;
+use bus_world::{MakeFault, Shape};
 use std::alloc::Global;
-use std::sync::Mutex;
+use std::marker::Model;
 
-/// A bus that threads share. What lies behind its lock is a `World`, which by its type is a lawful
-/// bus: so it is one whenever the lock is free.
+/// A bus that threads share by `&`, without a lock: each step of a sender or of a receiver is one
+/// atomic step on one word of its table.
 #[derive(Drop)]
-pub struct Bus {
-    pub(crate) world: Mutex<World<TwoCollect>>,
+pub struct Bus<Q: Ratifier> {
+    pub(crate) table: Board<Q>,
+    log_words: u64,
+    room: Vec<u64>,
 }
 
-impl Bus {
-    /// A new bus, with each of its senders and of its receivers' passes, in order. All memory is
-    /// taken here: no later call takes any.
-    pub fn new(alloc: Global, shape: Shape) -> Result<(Bus, Vec<Sender>, Vec<Tap>), MakeFault>
-        ensures senders { IfOk result (λ made. AreNewSeats shape.senders made.1.items) }
-        ensures taps { IfOk result
-            (λ made. AreNewPasses shape.senders shape.receivers made.2.items) }
-        ensures served { OnOk result (IsServed shape) }
+impl<Q: Ratifier> Model for Bus<Q> {
+    ghost use Rattle.std.specs.Prelude.{◌≡◌, ◌≤◌, []};
+    ghost use Rattle.std.specs.Vec.{vec_len, vec_capacity};
+    ghost use Rattle.bus_pageslot.specs.Buses.{Site};
+
+    ghost Value = { Site };
+
+    ghost view = { λ b. record { table = b.table.shared.table_id; shape = b.table.shared.key } };
+
+    ghost invariant = { λ b. (b.log_words ≡ b.table.shared.key.log_words)
+        × (b.room.items ≡ []) × (vec_len b.room ≡ 0)
+        × (b.log_words ≤ vec_capacity b.room) };
+}
+
+impl<Q: Ratifier + Drop> Bus<Q> {
+    /// A new bus of this shape, with its words at zero and its page at home, and each of its
+    /// senders and receivers, in order. All memory is taken here: no later call takes any.
+    pub fn new(
+        alloc: Global,
+        shape: Shape,
+    ) -> Result<(Bus<Q>, Vec<Sender<Q>>, Vec<Tap<Q>>), MakeFault>
+        ensures shape { IfOk result (λ made. made.0.shape ≡ shape) }
+        ensures senders { IfOk result
+            (λ made. AreNewSeats (layout_of Q.protocol shape) made.0.table shape.senders
+            made.1.items) }
+        ensures taps { IfOk result (λ made. AreNewTaps made.0.table shape.receivers made.2.items) }
+        ensures table { IfOk result (λ made. All (λ s. table_of s ≡ made.0.table) made.1.items
+            × All (λ t. t.table_id ≡ made.0.table) made.2.items) }
+        ensures served { IfOk result (λ _. IsServed shape) }
         ensures fault { IfErr result (MakeRefused shape) }
     {
-        let world = World::new(alloc, shape)?;
-        let senders = new_senders(alloc, shape.senders)?;
-        let taps = new_taps(alloc, shape.senders, shape.receivers)?;
+        if let Some(fault) = shape.fault() {
+            return Err(fault);
+        }
+        let (table, maker) = board(alloc, shape)?;
+        let log = table.word_count() as u64 - shape.log_words;
+        let (senders, maker) = seat_all(alloc, shape, &table.shared, maker)?;
+        let taps = tap_all(alloc, shape, &table.shared, maker, log)?;
+        let room = roomy(alloc, shape.log_words)?;
         let bus = Bus {
-            world: Mutex::new(world),
+            table,
+            log_words: shape.log_words,
+            room,
         };
         Ok((bus, senders, taps))
     }
 
-    /// Ends the bus, by the pass of a receiver. Bus and pass are gone in either case.
-    pub fn end(self, tap: Tap) -> Result<Ended, EndFault> {
-        drop(tap);
-        Ended::of(self.world.into_inner())
+    /// Ends the bus, by a receiver of it: its log and its page, where the page is at home, and
+    /// PageOut where a sender that took it has not given it back. Bus and receiver are gone in
+    /// either case.
+    pub fn end(self, tap: Tap<Q>) -> Result<Ended, EndFault>
+        requires { tap.table_id ≡ self.table }
+        ensures ended { let X = election_of Q.Ratifier in
+            IfOk result (λ left. IsLeft X (layout_of Q.protocol self.shape) (known_in tap.me.0)
+            left.log.items (Some left.page)) }
+        ensures out { let X = election_of Q.Ratifier in
+            OnErr result ((log : List ℕ)
+            × IsLeft X (layout_of Q.protocol self.shape) (known_in tap.me.0) log None) }
+    {
+        let Bus {
+            table,
+            log_words,
+            room,
+        } = self;
+        leave(table, tap.into_seat(), log_words, room)
     }
 }
 
-/// A sender of each number.
-fn new_senders(alloc: Global, many: u64) -> Result<Vec<Sender>, NoMemory>
-    requires { many ≤ MOST_SENDERS }
-    ensures { IfOk result (λ senders. AreNewSeats many senders.items) }
+/// Room for so many words.
+fn roomy(alloc: Global, words: u64) -> Result<Vec<u64>, NoMemory>
+    ensures { IfOk result (λ room. (room.items ≡ []) × (vec_len room ≡ 0)
+        × (words ≤ vec_capacity room)) }
 {
-    let mut senders = Vec::new(alloc);
-    for number in 0..many {
-        senders.push(Sender::new(SenderNo(number as u8)))?;
-    }
-    Ok(senders)
-}
-
-/// So many passes for a bus of so many senders.
-fn new_taps(alloc: Global, senders: u64, many: u64) -> Result<Vec<Tap>, NoMemory>
-    ensures { IfOk result (λ taps. AreNewPasses senders many taps.items) }
-{
-    let mut taps = Vec::new(alloc);
-    for _ in 0..many {
-        taps.push(Tap::new(senders))?;
-    }
-    Ok(taps)
+    Ok(Vec::with_capacity(alloc, words as usize)?)
 }

@@ -1,15 +1,19 @@
-//! The bus over one lock: a world that senders and receivers of any threads take their steps on,
-//! one at a time.
+//! A bus on a table of words, with no lock.
 #![tactic(auto)]
 
-pub mod buses;
-pub mod outcomes;
-pub mod seats;
+mod buses;
+pub mod laws;
+mod meetings;
+mod outcomes;
+mod rule;
+mod seating;
+mod seats;
 mod steps;
-pub mod taps;
+mod taps;
 
 pub use buses::Bus;
 pub use outcomes::{EndFault, Ended};
+pub use rule::{BusRule, Told, Trail, View};
 pub use seats::Sender;
 pub use taps::Tap;
 

@@ -1,21 +1,25 @@
 //! What a bus leaves behind.
 
-ghost use Rattle.std.specs.Prelude.{◌≡◌, ℕ, ◌<◌, List, length, None, Some, codes, IfOk};
-ghost use Rattle.std.specs.Prelude.{OnErr};
-ghost use Rattle.bus_register.specs.declared.registers.SenderNo.{SenderNo as Number};
-ghost use Rattle.bus_batch.specs.Frames.{Order, Spells};
-ghost use Rattle.bus_deliverylog.specs.Orders.{of_sender};
-ghost use Rattle.bus_world.specs.Playing.{log_of};
+ghost use Rattle.std.specs.Prelude.{◌≡◌, ℕ, ◌+◌, ◌≤◌, List, [], Some, None};
+ghost use Rattle.std.specs.Prelude.{codes, slice_index, IfOk, OnErr};
+ghost use Rattle.std.specs.Vec.{vec_len, vec_capacity};
+ghost use Rattle.std.specs.Slots.{slots_items, slots_len, IsFull};
+ghost use Rattle.bus_tenure.specs.Elections.{election_of};
+ghost use Rattle.bus_tenure.specs.Core.{log_at};
+ghost use Rattle.bus_world.specs.Log.{read};
+ghost use Rattle.bus_world.specs.Playing.{layout_of};
+ghost use Rattle.bus_pageslot.specs.declared.rule.View.TheVariants.{Tap};
+ghost use Rattle.bus_pageslot.specs.Rule.{known_in};
+ghost use Rattle.bus_pageslot.specs.Endings.{IsLeft};
 
-use bus_adoptcommit::TwoCollect;
-use bus_batch::laws::spells_one;
-use bus_register::SenderNo;
-use bus_register::limits::MOST_SENDERS;
+use crate::rule::{Board, Place};
+use atomic_table::Closed;
+use bus_adoptcommit::Ratifier;
+use bus_ownerbits::laws::election_is_lawful;
 use bus_tenure::Page;
-use bus_world::World;
+use std::alloc::Global;
 use std::error::Error;
 use std::fmt;
-use std::marker::Model;
 
 /// Why a bus leaves nothing behind.
 #[derive(Clone, Copy, Debug, PartialEq, Eq)]
@@ -34,76 +38,66 @@ impl fmt::Display for EndFault {
     }
 }
 
-/// What a bus leaves behind: its log and its page.
+/// What a bus leaves behind.
 #[derive(Drop)]
 pub struct Ended {
-    world: World<TwoCollect>,
-    page: Page,
-}
-
-impl Model for Ended {
-    ghost use Rattle.bus_world.specs.Playing.{log_of};
-    ghost use Rattle.bus_pageslot.specs.Outcomes.{Outcome, IsOutcome};
-
-    ghost Value = { Outcome };
-
-    ghost view = { λ e. record {
-      senders = e.world.layout.senders;
-      log = log_of e.world;
-      page = e.page;
-    } };
-
-    ghost invariant = { λ e. IsOutcome (record {
-      senders = e.world.layout.senders;
-      log = log_of e.world;
-      page = e.page;
-    }) };
-}
-
-impl Ended {
-    /// What this world leaves behind.
-    pub(crate) fn of(world: World<TwoCollect>) -> Result<Ended, EndFault>
-        ensures ended { IfOk result (λ e. (e.senders ≡ world.layout.senders)
-            × (e.log ≡ log_of world) × (world.bus.side.home ≡ Some e.page)) }
-        ensures out { OnErr result (world.bus.side.home ≡ None) }
-    {
-        let Some(page) = world.page() else {
-            return Err(EndFault::PageOut);
-        };
-        let page = *page;
-        Ok(Ended { world, page })
-    }
-
     /// The words of the log below the length.
-    pub fn log(&self) -> &[u64]
-        ensures { result.now ≡ self.now.log }
-    {
-        self.world.log()
-    }
+    pub log: Vec<u64>,
+    /// The page, as its last owner gave it back.
+    pub page: Page,
+}
 
-    /// The page. It has the number of the log's words, and whether the order that they spell has
-    /// ended.
-    pub fn page(&self) -> &Page
-        ensures page { result.now ≡ self.now.page }
-        ensures words { result.now.words ≡ length self.now.log }
-        ensures ended { (order : Order) (owners : List (ℕ × Number))
-            → Spells self.now.senders self.now.log order owners
-            → result.now.ended ≡ order.ended }
-    {
-        spells_one();
-        &self.page
+/// What this table, of which this is the seat of a receiver, leaves behind.
+pub(crate) fn leave<Q: Ratifier + Drop>(
+    table: Board<Q>,
+    seat: Place<Q>,
+    log_words: u64,
+    room: Vec<u64>,
+) -> Result<Ended, EndFault>
+    requires table { seat.table_id ≡ table.shared.table_id }
+    requires tap { (d : _) × (known : List ℕ) × (seat.me ≡ (Tap d known, [])) }
+    requires empty { (room.items ≡ []) × (vec_len room ≡ 0) }
+    requires log_words { log_words ≡ table.shared.key.log_words }
+    requires roomy { log_words ≤ vec_capacity room }
+    ensures ended { let X = election_of Q.Ratifier in
+        IfOk result (λ left. IsLeft X (layout_of Q.protocol table.shared.key) (known_in seat.me.0)
+        left.log.items (Some left.page)) }
+    ensures out { let X = election_of Q.Ratifier in
+        OnErr result ((log : List ℕ)
+        × IsLeft X (layout_of Q.protocol table.shared.key) (known_in seat.me.0) log None) }
+{
+    election_is_lawful::<Q>();
+    let mut closed = table.close_with(seat);
+    let stage = closed.word(1);
+    let length = closed.word(0);
+    let first = closed.words.len() as u64 - log_words;
+    let log = words_from(&closed, first, length, room);
+    let page = closed.take(0);
+    closed.free();
+    if stage % 2 == 1 {
+        return Err(EndFault::PageOut);
     }
+    Ok(Ended {
+        log,
+        page: page.unwrap(),
+    })
+}
 
-    /// How many items the sender has in the order that the log spells. It spells one alone.
-    pub fn count(&self, sender: SenderNo) -> u64
-        requires { sender.0 < MOST_SENDERS }
-        ensures counts { (order : Order) (owners : List (ℕ × Number))
-            → Spells self.now.senders self.now.log order owners
-            → result ≡ length (of_sender sender.0 order) }
-        ensures spelled { (order : Order) × (owners : List (ℕ × Number))
-            × Spells self.now.senders self.now.log order owners }
-    {
-        spells_one();
-        self.page.next[usize::from(sender.0)]
+/// So many words, from a place on.
+fn words_from(
+    closed: &Closed<Option<Page>, Global>,
+    first: u64,
+    many: u64,
+    mut room: Vec<u64>,
+) -> Vec<u64>
+    requires full { IsFull closed.now.words }
+    requires within { first + many ≤ slots_len closed.now.words }
+    requires empty { (room.items ≡ []) × (vec_len room ≡ 0) }
+    requires roomy { many ≤ vec_capacity room }
+    ensures { result.items ≡ read (slice_index (slots_items closed.now.words)) first many }
+{
+    for place in 0..many {
+        room.push_reserved(closed.word((first + place) as usize));
     }
+    room
 }

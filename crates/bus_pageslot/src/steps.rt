@@ -1,128 +1,130 @@
-//! Single steps on a world that its caller holds.
+//! One step of a sender on one word, with which the page comes to it or goes home.
 
-ghost use Rattle.std.specs.Prelude.{◌≡◌, ℕ, [], length, map, slice_get, slice_index};
-ghost use Rattle.std.specs.Prelude.{IsTrue, ◌↔◌};
+ghost use Rattle.std.specs.Prelude.{◌≡◌, ℕ, ◌+◌, ◌<◌, List, [], ◌∷◌};
+ghost use Rattle.std.specs.Prelude.{◌++◌, Option, Some};
+ghost use Rattle.atomic_table.specs.Table.{rest};
+ghost use Rattle.bus_register.specs.Words.{register};
+ghost use Rattle.bus_tenure.specs.Core.{words_of};
+ghost use Rattle.bus_tenure.specs.Situations.{situation_of, op_at};
 ghost use Rattle.bus_tenure.specs.Elections.{election_of};
-ghost use Rattle.bus_world.specs.Playing.{log_of};
-ghost use Rattle.bus_world.specs.World.{Happens, IsEvent, Put, Close, Turn as SenderTurn};
-ghost use Rattle.bus_pageslot.specs.InWorld.{AllHappen};
-ghost use Rattle.bus_pageslot.specs.InStep.{TakesMessage, TakesMessages, TakesClose, TakesTold};
-ghost use Rattle.bus_pageslot.specs.InWorld.{is_resting, kind_in, answer_in, tellings};
+ghost use Rattle.bus_tenure.specs.Seen.{AwaitsItsPage};
+ghost use Rattle.bus_pageslot.specs.Steps.{handed, laid_at, carried_of, out_with, stored_at, GoesOn};
+ghost use Rattle.bus_pageslot.specs.Steps.{Due, slot_in, emptied};
+ghost use Rattle.bus_pageslot.specs.Seats.{Shows, Took};
 
+use crate::rule::{Goes, Place, Told, Top};
 use bus_adoptcommit::Ratifier;
-use bus_batch::Message;
-use bus_register::{Kind, SenderNo};
-use bus_tenure::Turn;
-use bus_world::{Answer, Event, World};
+use bus_ownerbits::laws::election_is_lawful;
+use bus_register::{Kind, Op};
+use bus_tenure::{SenderCore, Turn};
 
-/// The length of the log.
-pub fn length_of<Q: Ratifier + Drop>(world: &World<Q>) -> u64
-    ensures { result ≡ length (log_of world.now) }
+/// A sender that is to give the page back puts it into its slot.
+fn put_out<Q: Ratifier + Drop>(top: &Top<Q>, seat: &mut Place<Q>, core: &mut SenderCore<Q>)
+    requires table { seat.old.table_id ≡ top.now.table_id }
+    requires carried { seat.old.me.1 ≡ carried_of core.old.phase }
+    ensures core { let X = election_of Q.Ratifier in
+        core.new ≡ handed X core.old (situation_of X core.old) }
+    ensures table { (seat.new.table_id ≡ seat.old.table_id) × (seat.new.id ≡ seat.old.id) }
+    ensures me { let X = election_of Q.Ratifier in
+        seat.new.me ≡ (seat.old.me.0, out_with core.old (situation_of X core.old) seat.old.me.1) }
 {
-    world.log().len() as u64
-}
-
-/// The word of the log at `place`; 0 at and past its length.
-pub fn word_of<Q: Ratifier + Drop>(world: &World<Q>, place: u64) -> u64
-    ensures { result ≡ slice_index (log_of world.now) place }
-{
-    world.log().get(place as usize).copied().unwrap_or(0)
-}
-
-/// The sender has begun no tenure.
-pub fn rests<Q: Ratifier + Drop>(world: &World<Q>, me: SenderNo) -> bool
-    ensures { result ≡ is_resting (slice_get world.now.bus.side.senders me.0) }
-{
-    match world.core(me) {
-        Some(core) => core.tenure().is_none(),
-        None => true,
+    if core.gives_back() {
+        let page = core.hand();
+        let _none = top.exchange(seat, 0, Some(page));
     }
 }
 
-/// What the sender's next step is for.
-pub fn kind_of<Q: Ratifier + Drop>(world: &World<Q>, me: SenderNo) -> Option<Kind>
+/// The step itself. At a store it gives what was stored.
+fn step<Q: Ratifier + Drop, K: Told<SenderCore<Q>>>(
+    top: &Top<Q>,
+    seat: &mut Place<Q>,
+    op: Op,
+) -> u64
+    requires table { seat.old.table_id ≡ top.now.table_id }
+    requires due { let X = election_of Q.Ratifier in
+        Due X K.core K.word seat.old.me seat.old.table_id.words op }
+    ensures table { (seat.new.table_id ≡ seat.old.table_id) × (seat.new.id ≡ seat.old.id) }
+    ensures goes { let X = election_of Q.Ratifier in
+        GoesOn X K.core K.word seat.old.me result seat.new.me }
+{
+    election_is_lawful::<Q>();
+    match op {
+        Op::Load(at) => top.load::<Goes<Q, K>>(seat, at.0 as usize),
+        Op::Store(at, value) => {
+            top.store::<Goes<Q, K>>(seat, at.0 as usize, value);
+            value
+        }
+        Op::Add(at, value) => top.fetch_add::<Goes<Q, K>>(seat, at.0 as usize, value),
+        Op::Cas(at, expected, value) => {
+            top.compare_exchange::<Goes<Q, K>>(seat, at.0 as usize, expected, value)
+        }
+    }
+}
+
+/// A sender that has taken the page takes it out of its slot.
+fn take_in<Q: Ratifier + Drop>(top: &Top<Q>, seat: &mut Place<Q>, core: &mut SenderCore<Q>)
+    requires table { seat.old.table_id ≡ top.now.table_id }
+    requires page { AwaitsItsPage core.old.phase → (page : _)
+        × (seat.old.me.1 ≡ (0, Some page) ∷ []) }
+    ensures core { core.new ≡ laid_at core.old core.old.phase (slot_in seat.old.me.1) }
+    ensures table { (seat.new.table_id ≡ seat.old.table_id) × (seat.new.id ≡ seat.old.id) }
+    ensures me { seat.new.me ≡ (seat.old.me.0, emptied core.old.phase seat.old.me.1) }
+{
+    if core.awaits_page() {
+        let page = top.exchange(seat, 0, None).unwrap();
+        core.lay(page);
+    }
+}
+
+/// The turn of a sender of which a step is due.
+pub(crate) fn walk<Q: Ratifier + Drop, K: Told<SenderCore<Q>>>(
+    top: &Top<Q>,
+    seat: &mut Place<Q>,
+    core: &mut SenderCore<Q>,
+    op: Op,
+    word: u32,
+) -> Turn
+    requires table { seat.old.table_id ≡ top.now.table_id }
+    requires told { (K.core ≡ Some core.old) × (K.word ≡ word) }
+    requires shows { Shows core.old seat.old }
+    requires due { let X = election_of Q.Ratifier in
+        op_at X core.old (situation_of X core.old) word ≡ Some op }
+    requires below { register op < words_of core.old.layout }
+    ensures table { (seat.new.table_id ≡ seat.old.table_id) × (seat.new.id ≡ seat.old.id) }
+    ensures shows { Shows core.new seat.new }
+    ensures took { let X = election_of Q.Ratifier in
+        Took X (record { core = core.old; seat = seat.old }) word result (record {
+          core = core.new;
+          seat = seat.new;
+        }) }
+{
+    put_out(top, seat, core);
+    let got = step::<Q, K>(top, seat, op);
+    let turn = core.feed(got, word);
+    take_in(top, seat, core);
+    turn
+}
+
+/// The last length that a sender has stored, once this step of it is taken. `before` is the one
+/// that it had stored until then.
+pub(crate) fn length_after<Q: Ratifier + Drop>(
+    core: &SenderCore<Q>,
+    op: Op,
+    word: u32,
+    before: u64,
+) -> u64
+    requires { let X = election_of Q.Ratifier in
+        op_at X core.now (situation_of X core.now) word ≡ Some op }
     ensures { let X = election_of Q.Ratifier in
-        result ≡ kind_in X (slice_get world.now.bus.side.senders me.0) }
+        result ≡ stored_at core.now (situation_of X core.now) before }
 {
-    match world.core(me) {
-        Some(core) => core.kind(),
-        None => None,
-    }
-}
-
-/// Puts one message for the sender. Says whether the world took it.
-fn tell_message<Q: Ratifier + Drop>(world: &mut World<Q>, me: SenderNo, bytes: &[u8]) -> bool
-    ensures layout { world.new.layout ≡ world.old.layout }
-    ensures bytes { IsEvent (Put me.0 bytes.now) }
-    ensures happens { let X = election_of Q.Ratifier in
-        Happens X world.old.bus (Put me.0 bytes.now) world.new.bus }
-    ensures takes { TakesMessage world.old.bus.side.senders world.new.bus.side.senders me.0
-        bytes.now result }
-{
-    world.put(me, bytes).is_ok()
-}
-
-/// Puts messages for the sender, one after another. Says whether the world took all.
-fn tell_messages<Q: Ratifier + Drop>(world: &mut World<Q>, me: SenderNo, fresh: &[Message]) -> bool
-    ensures layout { world.new.layout ≡ world.old.layout }
-    ensures runs { let X = election_of Q.Ratifier in
-        AllHappen X world.old.bus (map (Put me.0) fresh.now) world.new.bus }
-    ensures takes { TakesMessages world.old.bus.side.senders world.new.bus.side.senders me.0
-        fresh.now [] result }
-{
-    let mut takes_all = true;
-    for message in fresh {
-        let takes = tell_message(world, me, message.as_slice());
-        takes_all = takes && takes_all;
-    }
-    takes_all
-}
-
-/// Closes for the sender. Says whether the world took it.
-fn tell_close<Q: Ratifier + Drop>(world: &mut World<Q>, me: SenderNo) -> bool
-    ensures layout { world.new.layout ≡ world.old.layout }
-    ensures happens { let X = election_of Q.Ratifier in
-        Happens X world.old.bus (Close me.0) world.new.bus }
-    ensures takes { TakesClose world.old.bus.side.senders world.new.bus.side.senders me.0 result }
-{
-    world.close(me).is_ok()
-}
-
-/// Plays the messages and the close that the sender has accepted. Says whether the world took all.
-pub fn tell<Q: Ratifier + Drop>(
-    world: &mut World<Q>,
-    me: SenderNo,
-    fresh: &[Message],
-    closes: bool,
-) -> bool
-    ensures layout { world.new.layout ≡ world.old.layout }
-    ensures runs { let X = election_of Q.Ratifier in
-        AllHappen X world.old.bus (tellings me.0 fresh.now closes) world.new.bus }
-    ensures takes { TakesTold world.old.bus.side.senders world.new.bus.side.senders me.0 fresh.now
-        closes result }
-{
-    let takes_all = tell_messages(world, me, fresh);
-    if closes {
-        return tell_close(world, me) && takes_all;
-    }
-    takes_all
-}
-
-/// One turn of the sender. Where there is none of this number the answer is Closed.
-pub fn take_turn<Q: Ratifier + Drop>(world: &mut World<Q>, me: SenderNo, word: u32) -> Turn
-    ensures layout { world.new.layout ≡ world.old.layout }
-    ensures happens { let X = election_of Q.Ratifier in
-        Happens X world.old.bus (SenderTurn me.0 word) world.new.bus }
-    ensures answer { let X = election_of Q.Ratifier in
-        result ≡ answer_in X world.old.bus.side.words
-        (slice_get world.old.bus.side.senders me.0) word }
-{
-    let event = Event::Turn {
-        sender: u64::from(me.0),
-        word,
+    let _ = word;
+    let Op::Store(_, value) = op else {
+        return before;
     };
-    match world.step(&event) {
-        Ok(Answer::Turn(turn)) => turn,
-        _ => Turn::Closed,
+    if core.kind() == Some(Kind::StoreLength) && core.turns_left() == 0 {
+        value
+    } else {
+        before
     }
 }

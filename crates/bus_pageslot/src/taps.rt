@@ -1,84 +1,136 @@
-//! A receiver's pass to a bus.
+//! A receiver's seat, and its loads.
 
-ghost use Rattle.std.specs.Prelude.{◌≡◌, ◌<◌, max};
+ghost use Rattle.std.specs.Prelude.{◌≡◌, ℕ, ◌<◌, List, [], length, slice_index};
+ghost use Rattle.bus_pageslot.specs.declared.rule.View.TheVariants as View;
+ghost use Rattle.bus_pageslot.specs.Rule.{known_in};
+ghost use Rattle.bus_pageslot.specs.Steps.{Learns, KnowsSent};
+ghost use Rattle.bus_pageslot.specs.Seats.{IsTap, spot, table_of, deeds_of, stored_of};
 
 use crate::buses::Bus;
+use crate::meetings::meeting;
+use crate::rule::{LoadsLength, LoadsWord, Place};
 use crate::seats::Sender;
-use crate::steps::{length_of, word_of};
+use bus_adoptcommit::Ratifier;
+use bus_ownerbits::laws::election_is_lawful;
 use std::marker::Model;
-use std::sync::Wait;
 
-/// A receiver's pass to a bus. It knows a length of the log: so many words stand in it.
+/// A receiver's right to load from a bus: its seat, and how much of the log it knows. One thread
+/// at a time has it, and no load waits or takes memory.
 #[derive(Drop)]
-pub struct Tap {
-    senders: u64,
+pub struct Tap<Q: Ratifier> {
+    seat: Option<Place<Q>>,
+    log: u64,
     known: u64,
 }
 
-impl Model for Tap {
-    ghost use Rattle.bus_pageslot.specs.Taps.{Pass};
+impl<Q: Ratifier> Model for Tap<Q> {
+    ghost use Rattle.bus_tenure.specs.Elections.{Elector};
+    ghost use Rattle.bus_pageslot.specs.Seats.{Spot, spot_of, IsTap};
 
-    ghost Value = { Pass };
+    ghost Value = { Spot (Elector Q) };
 
-    ghost view = { λ t. record { senders = t.senders; known = t.known } };
+    ghost view = { λ t. spot_of t.seat };
+
+    ghost invariant = { λ t. IsTap (spot_of t.seat) t.log t.known };
 }
 
-impl Tap {
-    /// A pass that knows no word.
-    pub(crate) fn new(senders: u64) -> Tap
-        ensures { result ≡ record { senders = senders; known = 0 } }
+impl<Q: Ratifier + Drop> Tap<Q> {
+    pub(crate) fn seated(seat: Place<Q>, log: u64) -> Tap<Q>
+        requires { IsTap (spot seat) log 0 }
+        ensures { result ≡ spot seat }
     {
-        Tap { senders, known: 0 }
+        Tap {
+            seat: Some(seat),
+            log,
+            known: 0,
+        }
     }
 
-    /// How many senders the bus has.
-    pub fn senders(&self) -> u64
-        ensures { result ≡ self.now.senders }
+    /// Its seat.
+    pub(crate) fn into_seat(self) -> Place<Q>
+        ensures spot { spot result ≡ self }
+        ensures tap { (d : _) × (known : List ℕ) × (result.me ≡ (View.Tap d known, [])) }
     {
-        self.senders
+        let Tap { seat, .. } = self;
+        seat.unwrap()
     }
 
-    /// The largest length that it knows.
+    /// How many words of the log it knows; 0 before its first load.
     pub fn known(&self) -> u64
-        ensures { result ≡ self.now.known }
+        ensures { result ≡ length (known_in self.now.me.0) }
     {
         self.known
     }
 
-    /// Loads the length, which it knows from then on.
-    pub fn load_length<W: Wait>(&mut self, wait: &W, bus: &Bus) -> u64
-        ensures { self.new ≡ record self.old { known = max self.old.known result } }
+    /// Loads the length, in words, and gives it: it knows the log up to it from then on.
+    pub fn load_length(&mut self, bus: &Bus<Q>) -> u64
+        requires { self.old.table_id ≡ bus.now.table }
+        ensures table { self.new.table_id ≡ self.old.table_id }
+        ensures learns { Learns self.old.me result self.new.me }
     {
-        let world = bus.world.lock(wait);
-        let length = length_of(&world);
-        self.known = self.known.max(length);
+        election_is_lawful::<Q>();
+        let mut seat = self.seat.take().unwrap();
+        let length = bus.table.shared.load::<LoadsLength<Q>>(&mut seat, 0);
+        self.seat = Some(seat);
+        self.known = length;
         length
     }
 
-    /// Loads the word of the log at `place`. A word past the log reads 0.
-    pub fn load_word<W: Wait>(&mut self, wait: &W, bus: &Bus, place: u64) -> u64
-        requires { place < self.old.known }
-        ensures { self.new ≡ self.old }
+    /// Loads a word of the log that it knows; `place` counts the words of the log from 0 on.
+    pub fn load_word(&mut self, bus: &Bus<Q>, place: u64) -> u64
+        requires table { self.old.table_id ≡ bus.now.table }
+        requires below { place < length (known_in self.old.me.0) }
+        ensures table { self.new.table_id ≡ self.old.table_id }
+        ensures same { self.new.me ≡ self.old.me }
+        ensures word { result ≡ slice_index (known_in self.old.me.0) place }
     {
-        let world = bus.world.lock(wait);
-        word_of(&world, place)
+        let mut seat = self.seat.take().unwrap();
+        let word = bus
+            .table
+            .shared
+            .load::<LoadsWord<Q>>(&mut seat, (self.log + place) as usize);
+        self.seat = Some(seat);
+        word
     }
 
-    /// Two receivers meet: the length is loaded once, and both know it from then on.
-    pub fn meet<W: Wait>(&mut self, wait: &W, other: &mut Tap, bus: &Bus) -> u64
-        ensures this { self.new ≡ record self.old { known = max self.old.known result } }
-        ensures that { other.new ≡ record other.old { known = max other.old.known result } }
+    /// Two receivers of one bus meet: each knows the log up to the length that is loaded, which is
+    /// given.
+    pub fn meet(&mut self, other: &mut Tap<Q>, bus: &Bus<Q>) -> u64
+        requires table { (self.old.table_id ≡ bus.now.table)
+            × (other.old.table_id ≡ bus.now.table) }
+        ensures table { (self.new.table_id ≡ self.old.table_id)
+            × (other.new.table_id ≡ other.old.table_id) }
+        ensures learns { Learns self.old.me result self.new.me
+            × Learns other.old.me result other.new.me }
+        ensures same { known_in other.new.me.0 ≡ known_in self.new.me.0 }
     {
-        let length = self.load_length(wait, bus);
-        other.known = other.known.max(length);
+        let mut mine = self.seat.take().unwrap();
+        let theirs = other.seat.take().unwrap();
+        let (length, theirs) = meeting(&bus.table.shared, &mut mine, theirs);
+        self.seat = Some(mine);
+        self.known = length;
+        other.seat = Some(theirs);
+        other.known = length;
         length
     }
 
-    /// A sender tells the receiver of the log: the length is loaded once, and known from then on.
-    pub fn told<W: Wait>(&mut self, wait: &W, _sender: &mut Sender, bus: &Bus) -> u64
-        ensures this { self.new ≡ record self.old { known = max self.old.known result } }
-        ensures sender { _sender.new ≡ _sender.old }
+    /// A sender tells, by one load of the length: what is known then has of this sender exactly
+    /// the messages that it has put and that do not wait in its batch any more. Gives the length.
+    pub fn told(&mut self, sender: &mut Sender<Q>, bus: &Bus<Q>) -> u64
+        requires table { (self.old.table_id ≡ bus.now.table)
+            × (table_of sender.old ≡ bus.now.table) }
+        ensures table { (self.new.table_id ≡ self.old.table_id)
+            × (table_of sender.new ≡ table_of sender.old) }
+        ensures sender { (sender.new.core ≡ sender.old.core)
+            × (sender.new.seat.me ≡ sender.old.seat.me) }
+        ensures learns { Learns self.old.me result self.new.me }
+        ensures sent { KnowsSent sender.old.core (deeds_of sender.old) (stored_of sender.old)
+            (known_in self.new.me.0) }
     {
-        self.load_length(wait, bus)
+        let mine = self.seat.take().unwrap();
+        let (length, mine) = sender.tell(bus, mine);
+        self.seat = Some(mine);
+        self.known = length;
+        length
     }
 }

@@ -1,2 +1,3 @@
 pub mod HearingLaws
-pub mod ReceivingLaws
+pub mod ListeningLaws
+pub mod OrderLaws

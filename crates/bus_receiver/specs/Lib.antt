@@ -1,3 +1,3 @@
 pub mod Hearing
 pub mod HearingRuns
-pub mod Receiving
+pub mod Listening

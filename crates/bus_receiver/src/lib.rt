@@ -1,11 +1,13 @@
-//! A receiver of a bus, and a listener that counts what it was given. What a program needs of the
+//! Receivers of a bus, and a listener that counts what one was given. What a program needs of the
 //! crates below stands here too.
 #![tactic(auto)]
 
 pub mod hearing;
 pub mod laws;
-pub mod receivers;
+mod listening;
+mod receivers;
 
+pub use bus_adoptcommit::TwoCollect;
 pub use bus_batch::{CloseFault, Item, Message, PutFault};
 pub use bus_deliverylog::RecvTurn;
 pub use bus_pageslot::{Bus, EndFault, Ended, Sender, Tap};

@@ -1,144 +1,119 @@
-//! A receiver of a bus.
+//! A receiver of a bus without a lock.
 
-ghost use Rattle.std.specs.Prelude.{◌≡◌, ◌≢◌, ℕ, ◌-◌, ◌≤◌, ◌^◌, max};
-ghost use Rattle.std.specs.Prelude.{true, false, []};
+ghost use Rattle.std.specs.Prelude.{◌≡◌, ℕ, List, [], Option};
 ghost use Rattle.std.specs.Ordering.{nat_cmp};
-ghost use Rattle.bus_deliverylog.specs.Receiving.{Receiving as Reached, HasReceived};
-ghost use Rattle.bus_receiver.specs.Receiving.{knows, Hears, HearsOn, is_found};
+ghost use Rattle.bus_batch.specs.declared.messages.Piece.{Piece};
+ghost use Rattle.bus_receiver.specs.Listening.{HasHeard, Hears, HaveMet, IsTold};
+ghost use Rattle.bus_pageslot.specs.Seats.{table_of, deeds_of, stored_of};
 
+use crate::listening::{catch_up, hear_length, hear_word};
+use bus_adoptcommit::Ratifier;
 use bus_deliverylog::{Reader, RecvTurn};
-use bus_pageslot::{Bus, EndFault, Ended, Sender, Tap};
 use bus_register::Reg;
-use crossbeam_utils::Backoff;
+use bus_pageslot::{Bus, Sender, Tap};
 use std::cmp::Ordering;
 use std::marker::Model;
-use std::sync::Wait;
 
-/// A receiver of a bus: it reads the log word by word, from the first one on.
+/// A receiver of a bus: it reads the log word by word, from the first one on. One thread at a time
+/// has it; no call of it waits or takes memory.
 #[derive(Drop)]
-pub struct Receiver {
-    tap: Tap,
-    /// It may know a shorter length than the pass.
+pub struct Receiver<Q: Ratifier> {
+    tap: Tap<Q>,
+    /// It may know a shorter length than the seat.
     reader: Reader,
 }
 
-impl Model for Receiver {
-    ghost use Rattle.bus_deliverylog.specs.Receiving.{Receiving};
-    ghost use Rattle.bus_receiver.specs.Receiving.{IsFit};
+impl<Q: Ratifier> Model for Receiver<Q> {
+    ghost use Rattle.bus_tenure.specs.Elections.{Elector};
+    ghost use Rattle.bus_receiver.specs.Listening.{Listening, IsFit, seen, shown};
 
-    ghost Value = { Receiving };
+    ghost Value = { Listening (Elector Q) };
 
-    ghost view = { λ r. record r.reader { known = r.tap.known } };
+    ghost view = { λ r. shown r.tap r.reader };
 
-    ghost invariant = { λ r. IsFit r.tap.known r.reader };
+    ghost invariant = { λ r. IsFit (seen r.tap) r.reader };
 }
 
-impl Receiver {
-    /// A receiver at the first word of the log. It knows the length that its pass knows.
-    pub fn new(tap: Tap) -> Receiver
-        ensures known { result.known ≡ tap.known }
-        ensures place { result.place ≡ 0 }
-        ensures ended { result.ended ≡ false }
-        ensures senders { result.frames.senders ≡ tap.senders }
-        ensures received { HasReceived [] [] result }
+impl<Q: Ratifier + Drop> Receiver<Q> {
+    /// A receiver at the first word of the log of so many senders.
+    pub fn new(tap: Tap<Q>, senders: u64) -> Receiver<Q>
+        ensures seat { result.seat ≡ tap }
+        ensures senders { result.reader.frames.senders ≡ senders }
+        ensures place { result.reader.place ≡ 0 }
+        ensures heard { HasHeard [] result }
     {
-        let reader = Reader::new(tap.senders(), Reg(0), Reg(0), u64::MAX);
+        let reader = Reader::new(senders, Reg(0), Reg(0), u64::MAX);
         Receiver { tap, reader }
     }
 
     /// How many words it has read.
     pub fn place(&self) -> u64
-        ensures { result ≡ self.now.place }
+        ensures place { result ≡ self.now.reader.place }
+        ensures heard { (pieces : List (Option Piece)) × HasHeard pieces self.now }
     {
         self.reader.place()
     }
 
-    /// One turn: a load of the length where its place is the length that it knows, else a load of
-    /// the word at its place. After the end it takes no step.
-    pub fn turn<W: Wait>(&mut self, wait: &W, bus: &Bus) -> RecvTurn
-        ensures { Hears self.old result self.new }
+    /// The end was among what it was given.
+    pub fn has_ended(&self) -> bool
+        ensures { result ≡ self.now.reader.ended }
+    {
+        self.reader.has_ended()
+    }
+
+    /// One turn: a load of the length where it has read all that it knows, else a load of the word
+    /// at its place. After the end it takes no step.
+    pub fn turn(&mut self, bus: &Bus<Q>) -> RecvTurn
+        requires { self.old.seat.table_id ≡ bus.now.table }
+        ensures table { self.new.seat.table_id ≡ self.old.seat.table_id }
+        ensures hears { (pieces : List (Option Piece)) → HasHeard pieces self.old
+            → Hears pieces self.old result self.new }
     {
         if self.reader.has_ended() {
             return RecvTurn::End;
         }
         catch_up(&mut self.reader, self.tap.known());
-        let place = self.reader.place();
-        if place == self.reader.known() {
-            let length = self.tap.load_length(wait, bus);
-            self.reader.feed(length)
+        if self.reader.place() == self.reader.known() {
+            hear_length(&mut self.tap, &mut self.reader, bus)
         } else {
-            let word = self.tap.load_word(wait, bus, place);
-            self.reader.feed(word)
+            hear_word(&mut self.tap, &mut self.reader, bus)
         }
     }
 
-    /// Turns, until one finds a head, an item or the end.
-    pub fn take<W: Wait>(&mut self, wait: &W, bus: &Bus) -> RecvTurn
-        ensures found { is_found result ≡ true }
-        ensures turns { (mid : Reached) × HearsOn self.old mid × Hears mid result self.new }
+    /// A sender tells it of the log: it knows from then on all that the sender has published.
+    pub fn told(&mut self, sender: &mut Sender<Q>, bus: &Bus<Q>)
+        requires table { (self.old.seat.table_id ≡ bus.now.table)
+            × (table_of sender.old ≡ bus.now.table) }
+        ensures table { (self.new.seat.table_id ≡ self.old.seat.table_id)
+            × (table_of sender.new ≡ table_of sender.old) }
+        ensures told { IsTold sender.old.core (deeds_of sender.old) (stored_of sender.old) self.old
+            self.new }
+        ensures sender { (sender.new.core ≡ sender.old.core)
+            × (sender.new.seat.me ≡ sender.old.seat.me) }
     {
-        let backoff = Backoff::new();
-        for _ in wait.forever() {
-            let turn = self.turn(wait, bus);
-            if finds(&turn) {
-                return turn;
-            }
-            if turn == RecvTurn::Empty {
-                backoff.snooze();
-            } else {
-                backoff.reset();
-            }
-        }
-        unreachable!()
+        self.tap.told(sender, bus);
     }
 
-    /// Two receivers meet: the length is loaded once, both know it from then on, and their places
-    /// are compared.
-    pub fn meet<W: Wait>(&mut self, wait: &W, other: &mut Receiver, bus: &Bus) -> Ordering
-        ensures order { result ≡ nat_cmp self.old.place other.old.place }
-        ensures length { (got : ℕ) × (self.new ≡ knows (max self.old.known got) self.old)
-            × (other.new ≡ knows (max other.old.known got) other.old) }
+    /// Two receivers meet: the length is loaded once, both know the log up to it from then on, and
+    /// their places are compared.
+    pub fn meet(&mut self, other: &mut Receiver<Q>, bus: &Bus<Q>) -> Ordering
+        requires table { (self.old.seat.table_id ≡ bus.now.table)
+            × (other.old.seat.table_id ≡ bus.now.table) }
+        ensures table { (self.new.seat.table_id ≡ self.old.seat.table_id)
+            × (other.new.seat.table_id ≡ other.old.seat.table_id) }
+        ensures order { result ≡ nat_cmp self.old.reader.place other.old.reader.place }
+        ensures met { HaveMet self.old other.old self.new other.new }
     {
-        self.tap.meet(wait, &mut other.tap, bus);
+        self.tap.meet(&mut other.tap, bus);
         self.reader.place().cmp(&other.reader.place())
     }
 
-    /// A sender tells it of the log: the length is loaded once, and known from then on.
-    pub fn told<W: Wait>(&mut self, wait: &W, sender: &mut Sender, bus: &Bus)
-        ensures length { (got : ℕ) × (self.new ≡ knows (max self.old.known got) self.old) }
-        ensures sender { sender.new ≡ sender.old }
+    /// Its seat, by which a bus is ended.
+    pub fn into_tap(self) -> Tap<Q>
+        ensures { result ≡ self.seat }
     {
-        self.tap.told(wait, sender, bus);
-    }
-
-    /// Ends the bus, by the receiver's pass. Both are gone in either case.
-    pub fn end(bus: Bus, receiver: Receiver) -> Result<Ended, EndFault> {
-        let Receiver { tap, reader } = receiver;
+        let Receiver { tap, reader } = self;
         drop(reader);
-        bus.end(tap)
-    }
-}
-
-/// A reader that has read all that it knows is told the length that the pass knows.
-fn catch_up(reader: &mut Reader, known: u64)
-    requires going { reader.old.ended ≡ false }
-    requires known { reader.old.known ≤ known }
-    requires words { reader.old.log_words ≡ 2 ^ 64 - 1 }
-    ensures at_length { reader.old.place ≡ reader.old.known
-        → reader.new ≡ knows known reader.old }
-    ensures at_word { reader.old.place ≢ reader.old.known → reader.new ≡ reader.old }
-{
-    if reader.place() == reader.known() {
-        let _ = reader.feed(known);
-    }
-}
-
-/// It is a head, an item or the end.
-fn finds(turn: &RecvTurn) -> bool
-    ensures { result ≡ is_found turn.now }
-{
-    match turn {
-        RecvTurn::Head { .. } | RecvTurn::Item(_) | RecvTurn::End => true,
-        RecvTurn::Going | RecvTurn::Empty => false,
+        tap
     }
 }

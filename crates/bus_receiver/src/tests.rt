@@ -1,16 +1,19 @@
-//! Two receivers of one bus, and what a listener refuses.
+//! Two receivers of one small bus, and what a listener refuses.
+
+ghost use Rattle.std.specs.Prelude.{◌≡◌};
+ghost use Rattle.bus_pageslot.specs.Seats.{table_of};
 
 use super::*;
+use bus_adoptcommit::TwoCollect;
 use bus_batch::{Item, Message};
 use bus_deliverylog::RecvTurn;
-use bus_pageslot::{Bus, Sender};
 use bus_register::SenderNo;
+use bus_pageslot::{Bus, Sender};
 use bus_tenure::Turn;
 use bus_world::Shape;
 use std::alloc::Global;
 use std::cmp::Ordering;
 use std::process::Abort;
-use std::sync::Wait;
 
 /// One sender, two receivers, two tenures.
 const SMALL: Shape = Shape {
@@ -21,10 +24,20 @@ const SMALL: Shape = Shape {
     log_words: 64,
 };
 
+/// A bus, a sender and a receiver over the ratifier at work.
+type Few = Bus<TwoCollect>;
+
+type One = Sender<TwoCollect>;
+
+type Ear = Receiver<TwoCollect>;
+
 /// Turns of the sender, up to the one that is answered so.
-fn turns_to<R: Abort + Wait>(rt: &R, bus: &Bus, sender: &mut Sender, want: Turn) {
-    for _ in 0..10 {
-        if sender.turn(rt, bus, 0) == want {
+fn turns_to(rt: &impl Abort, bus: &Few, sender: &mut One, want: Turn)
+    requires { table_of sender.old ≡ bus.now.table }
+    ensures { table_of sender.new ≡ bus.now.table }
+{
+    for _ in 0..20 {
+        if sender.turn(bus, 0) == want {
             return;
         }
     }
@@ -32,9 +45,12 @@ fn turns_to<R: Abort + Wait>(rt: &R, bus: &Bus, sender: &mut Sender, want: Turn)
 }
 
 /// Sees what the receiver's next turns answer.
-fn hears<R: Abort + Wait>(rt: &R, bus: &Bus, receiver: &mut Receiver, want: &[RecvTurn]) {
+fn hears(rt: &impl Abort, bus: &Few, ear: &mut Ear, want: &[RecvTurn])
+    requires { ear.old.seat.table_id ≡ bus.now.table }
+    ensures { ear.new.seat.table_id ≡ bus.now.table }
+{
     for (i, turn) in want.iter().enumerate() {
-        let got = receiver.turn(rt, bus);
+        let got = ear.turn(bus);
         assert_eq!(rt; got, *turn, "turn {i}");
     }
 }
@@ -65,14 +81,26 @@ fn head(tenure: u64) -> RecvTurn {
     }
 }
 
-/// The small bus with its sender and its receivers, once the a stands in the log. The first
-/// receiver has read it, the second has taken no turn.
-fn with_an_a<R: Abort + Wait>(rt: &R, alloc: Global) -> (Bus, Sender, Receiver, Receiver) {
+/// The small bus with its sender and its receivers.
+fn small(rt: &impl Abort, alloc: Global) -> (Few, One, Ear, Ear)
+    ensures sender { table_of result.1 ≡ result.0.table }
+    ensures first { result.2.seat.table_id ≡ result.0.table }
+    ensures second { result.3.seat.table_id ≡ result.0.table }
+{
     let (bus, mut senders, mut taps) = Bus::new(alloc, SMALL).expect(rt, "memory");
-    let mut sender = senders.pop().expect(rt, "a sender");
-    let second = Receiver::new(taps.pop().expect(rt, "a pass"));
-    let mut first = Receiver::new(taps.pop().expect(rt, "a pass"));
-    assert!(rt; sender.next_number() < 1000);
+    let second = Receiver::new(taps.pop().expect(rt, "a seat"), 1);
+    let first = Receiver::new(taps.pop().expect(rt, "a seat"), 1);
+    (bus, senders.pop().expect(rt, "a sender"), first, second)
+}
+
+/// The same once the a stands in the log. The first receiver has read it, the second has taken no
+/// turn.
+fn with_an_a(rt: &impl Abort, alloc: Global) -> (Few, One, Ear, Ear)
+    ensures sender { table_of result.1 ≡ result.0.table }
+    ensures first { result.2.seat.table_id ≡ result.0.table }
+    ensures second { result.3.seat.table_id ≡ result.0.table }
+{
+    let (bus, mut sender, mut first, second) = small(rt, alloc);
     assert_eq!(rt; sender.put(b"a"), Ok(0));
     turns_to(rt, &bus, &mut sender, Turn::Own { tenure: 0 });
     hears(rt, &bus, &mut first, &[RecvTurn::Empty]);
@@ -82,37 +110,38 @@ fn with_an_a<R: Abort + Wait>(rt: &R, alloc: Global) -> (Bus, Sender, Receiver, 
         last: 0,
     };
     turns_to(rt, &bus, &mut sender, delivered);
-    hears(
-        rt,
-        &bus,
-        &mut first,
-        &[RecvTurn::Going, head(0), RecvTurn::Going, item_a(rt)],
-    );
+    let answers = [RecvTurn::Going, head(0), RecvTurn::Going, item_a(rt)];
+    hears(rt, &bus, &mut first, &answers);
     (bus, sender, first, second)
 }
 
 #[test]
 fn told_and_meet(rt: HostRuntime) {
     let (bus, mut sender, mut first, mut second) = with_an_a(&rt, rt.alloc());
-    assert_eq!(rt; (first.place(), second.place()), (3, 0));
-    second.told(&rt, &mut sender, &bus);
+    assert_eq!(&rt; (first.place(), second.place()), (3, 0));
+    second.told(&mut sender, &bus);
     hears(&rt, &bus, &mut second, &[head(0), RecvTurn::Going]);
-    assert_eq!(rt; first.meet(&rt, &mut second, &bus), Ordering::Greater);
+    assert_eq!(&rt; first.meet(&mut second, &bus), Ordering::Greater);
     hears(&rt, &bus, &mut second, &[item_a(&rt), RecvTurn::Empty]);
-    assert_eq!(rt; first.meet(&rt, &mut second, &bus), Ordering::Equal);
+    assert_eq!(&rt; first.meet(&mut second, &bus), Ordering::Equal);
 }
 
 #[test]
 fn to_the_end(rt: HostRuntime) {
     let (bus, mut sender, mut first, mut second) = with_an_a(&rt, rt.alloc());
-    assert_eq!(rt; sender.close(), Ok(()));
+    assert_eq!(&rt; sender.close(), Ok(()));
     turns_to(&rt, &bus, &mut sender, Turn::Own { tenure: 1 });
     turns_to(&rt, &bus, &mut sender, Turn::Closed);
-    assert_eq!(rt; first.take(&rt, &bus), head(1));
-    assert_eq!(rt; second.meet(&rt, &mut first, &bus), Ordering::Less);
-    hears(&rt, &bus, &mut first, &[RecvTurn::End, RecvTurn::End]);
-    let ended = Receiver::end(bus, second).expect(&rt, "the page is home");
-    assert_eq!(rt; ended.count(SenderNo(0)), 1);
+    assert_eq!(&rt; second.meet(&mut first, &bus), Ordering::Less);
+    hears(
+        &rt,
+        &bus,
+        &mut first,
+        &[head(1), RecvTurn::End, RecvTurn::End],
+    );
+    assert_eq!(&rt; (first.has_ended(), second.has_ended()), (true, false));
+    let ended = bus.end(second.into_tap()).expect(&rt, "the page is home");
+    assert_eq!(&rt; (ended.log.len(), ended.page.ended), (5, true));
 }
 
 /// Notes an answer, and sees whether it is taken.

@@ -1,14 +1,20 @@
-use Rattle.std.proofs.Common.{◌≡◌, ◌∙◌, [], ◌∷◌, ◌++◌, sym, ap, subst}
-use Rattle.bus_pageslot.specs.Seats.{Seat}
-use Rattle.bus_pageslot.specs.InStep.{Owes}
-use Rattle.bus_pageslot.proofs.InStepLaws.{owes_after_put}
+use Rattle.std.proofs.Common.{◌≡◌, arith, subst}
+use Rattle.std.specs.Prelude.{◌++◌, [], ◌∷◌, IfOk}
+use Rattle.bus_world.proofs.PlayingLaws.{small_bytes}
+use Rattle.bus_world.specs.Headline.{HasPut}
+use Rattle.bus_pageslot.specs.Seats.{deeds_of}
+use Rattle.bus_pageslot.proofs.Puts.{number_fits, shows_put, put_done}
 use Rattle.bus_pageslot.proofs.seats.Sender.put.Goals as goal
 
-pub returns-in-Some-clause-owed : goal.returns-in-Some-clause-owed
-returns-in-Some-clause-owed c told h =
-    let s = c.self.inside in
-    let bytes = c.args.bytes.now in
-    let base : Owes told s.fresh.items s.closes s.batch = subst (λ (z : Seat). Owes told z.fresh z.closes z.queue) (sym c.self.view_is) h in
-    let r = owes_after_put told s.batch s.fresh.items s.closes bytes base c.in_ok-number.ensures.could in
-    let fresh : s.fresh.items ++ bytes ∷ [] ≡ c.push.new.self.items = ap (λ m. s.fresh.items ++ m ∷ []) (sym c.in-Some.ensures.same) ∙ sym c.push.ensures.items in
-    (subst (λ q. Owes told c.push.new.self.items s.closes q) (sym c.in_ok-number.ensures.taken) (subst (λ f. Owes told f s.closes (record s.batch { messages = s.batch.messages ++ bytes ∷ [] })) fresh r.0), r.1)
+pub put-requires : goal.put-requires
+put-requires g c = number_fits c.self.inside.core c.self.inside.seat c.self.invariant.0
+
+pub invariant_of-self : goal.invariant_of-self
+invariant_of-self g c = (
+  shows_put c.self.inside.core c.self.inside.seat c.self.invariant.0 c.put.new.self c.args.bytes.now c.put.result (small_bytes c.args.bytes.now (λ i. omega (arith, c.type_inv.bytes i))) c.put.ensures.taken c.put.ensures.could c.put.ensures.refused,
+  c.self.invariant.1,
+)
+
+pub returns-clause-deed : goal.returns-clause-deed
+returns-clause-deed g c = subst (λ z. IfOk c.put.result (λ number. deeds_of (record { core = c.put.new.self; seat = c.self.inside.seat }) ≡ deeds_of z ++ HasPut number c.args.bytes.now ∷ [])) c.self.view_is
+    (put_done c.self.inside.core c.self.inside.seat c.self.invariant.0 c.put.new.self c.args.bytes.now c.put.result (small_bytes c.args.bytes.now (λ i. omega (arith, c.type_inv.bytes i))) c.put.ensures.number c.put.ensures.taken c.put.ensures.could)

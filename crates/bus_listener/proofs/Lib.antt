@@ -1,2 +1,0 @@
-pub mod ListeningLaws
-pub mod OrderLaws

@@ -1,0 +1,107 @@
+-- A receiver's loads are allowed.
+use Rattle.std.proofs.Common.{◌≡◌, ◌≢◌, ℕ, zero, suc, ◌+◌, ◌-◌, ◌<◌, ◌≤◌, Option, List, [], ◌∷◌, ◌++◌, length, set, slice_index, slice_set, arith, sym, ◌∙◌, ap, subst, ⊎_elim, inl, inr}
+use mathlib.Core.Option.{some}
+use lib.ListN.{get_elem?}
+use Rattle.std.proofs.lemmas.Bool.{cases_lt}
+use Rattle.std.proofs.lemmas.Grind.{common_steps}
+use Rattle.std.proofs.lemmas.List.{append-nil, length-append, get_or_append_left, set-get_or}
+use Rattle.atomic_table.specs.Table.{State, keeps, Allows}
+use Rattle.atomic_table.proofs.Lists.{at_set}
+use Rattle.bus_register.specs.Protocol.{Protocol}
+use Rattle.bus_tenure.specs.Core.{Core, Election, Layout, log_at}
+use Rattle.bus_tenure.specs.declared.pages.Page.{Page}
+use Rattle.bus_world.specs.World.{Bus}
+use Rattle.bus_world.proofs.Serving.{Serves}
+use Rattle.bus_world.specs.Headline.{IsPrefix}
+use Rattle.bus_world.specs.Log.{read}
+use Rattle.bus_world.proofs.LogLaws.{length-read}
+use Rattle.bus_pageslot.specs.declared.rule.View.{View}
+use Rattle.bus_pageslot.specs.declared.rule.View.TheVariants.{Tap}
+use Rattle.bus_pageslot.specs.Rule.{Sat, KnowsLog, Knows, IsShown, known_in, knowing, log_in, log_in_bus, capacity_in}
+use Rattle.bus_pageslot.specs.Steps.{Learns, Reads}
+use Rattle.bus_pageslot.proofs.Reaching.{kept}
+
+index-read : (words : ℕ → ℕ) (at k i : ℕ) → i < k → slice_index (read words at k) i ≡ words (at + i)
+index-read words at zero i l = absurd (omega arith)
+index-read words at (suc k) i l = elim (cases_lt i k) [
+  | inl below ↦ get_or_append_left (read words at k) (words (at + k) ∷ []) 0 i (let z = length-read words at k in omega arith) ∙ index-read words at k i below
+  | inr past ↦
+      let size = length-read words at k in
+      let e : i ≡ length (read words at k) = omega arith in
+      ap (slice_index (read words at k ++ words (at + k) ∷ [])) e ∙ last (read words at k) (words (at + k)) ∙ ap words (omega arith)
+] where
+  last : (xs : List ℕ) (w : ℕ) → slice_index (xs ++ w ∷ []) (length xs) ≡ w
+  last xs w = grind (arith, common_steps)
+
+-- one view replaced, after a load
+pub reloaded : {E : Type 0} (X : Election E) (x : Layout) (s : State (Option Page) (View (Core E))) (r : IsShown X x s) (i id : ℕ) (w : View (Core E)) → Knows x r.bus r.trails r.seat id w → IsShown X x record { words = slice_set s.words i (slice_index s.words i); homes = s.homes; views = set s.views id w }
+reloaded {E} X x s r i id w fits = record {
+  served = r.served;
+  bus = r.bus;
+  trails = r.trails;
+  reached = r.reached;
+  alone = r.alone;
+  words = set-get_or s.words i 0 ∙ r.words;
+  slot = r.slot;
+  seat = r.seat;
+  views = λ j v e. ⊎_elim
+      (λ (u : (j ≡ id) × (w ≡ v)). subst (λ (y : ℕ × View (Core E)). Knows x r.bus r.trails r.seat y.0 y.1) (λ i. (sym u.0 i, u.1 i)) fits)
+      (λ (u : (j ≢ id) × (get_elem? s.views j ≡ some v)). r.views j v u.1)
+      (at_set s.views id j w v e);
+}
+
+pub whole : {E : Type 0} (x : Layout) (b : Bus E) (c : Core E) → c.layout ≡ x → KnowsLog x b c (log_in_bus x b)
+whole x b c layout = record { layout = layout; front = record { rest = []; together = append-nil (log_in_bus x b) } }
+
+-- the log is as long as the length that is found
+pub size : {E : Type 0} (X : Election E) (x : Layout) (s : State (Option Page) (View (Core E))) (r : IsShown X x s) → length (log_in_bus x r.bus) ≡ slice_index s.words 0
+size X x s r = length-read (slice_index r.bus.side.words) (log_at x) (slice_index r.bus.side.words 0) ∙ ap (λ w. slice_index w 0) (sym r.words)
+
+module _ {E : Type 0} (X : Election E) (P : Protocol E (Unit {0}) ℕ) (x : Layout) (y : Serves X P x) where
+  -- and fits the log's words
+  pub fits : (s : State (Option Page) (View (Core E))) (r : IsShown X x s) (c : Core E) → c.layout ≡ x → length (log_in_bus x r.bus) ≤ c.layout.capacity
+  fits s r c layout =
+      let k = kept X P x y r.served r.bus r.trails r.reached in
+      let most = k.lawful.keeps.sending.log.fits in
+      let l = length-read (slice_index r.bus.side.words) (log_at x) (slice_index r.bus.side.words 0) in
+      let capacity = ap (λ (z : Layout). z.capacity) layout in
+      omega arith
+
+  pub length_allowed : (slots id : ℕ) (m : Sat E) (c : Core E) (known : List ℕ) → m.0 ≡ Tap c known → Allows (IsShown X x) slots id m 0 (λ n. n) (λ n. Learns m n)
+  length_allowed slots id m c known is s r count at range =
+      let h : KnowsLog x r.bus c known = r.views id (Tap c known) (at ∙ ap (λ (v : View (Core E)). some v) is) in
+      let all : List ℕ = log_in_bus x r.bus in (
+        Tap c all,
+        keeps,
+        tt,
+        reloaded X x s r 0 id (Tap c all) (whole x r.bus c h.layout),
+        record {
+          known = all;
+          now = λ i. (knowing (sym is i) all, m.1);
+          grows = subst (λ (v : View (Core E)). IsPrefix (known_in v) all) (sym is) h.front;
+          length_is = size X x s r;
+          within = subst (λ (v : View (Core E)). length all ≤ capacity_in v) (sym is) (fits s r c h.layout);
+        },
+      )
+
+pub word_allowed : {E : Type 0} (X : Election E) (x : Layout) (slots id : ℕ) (m : Sat E) (c : Core E) (known : List ℕ) (place : ℕ) → m.0 ≡ Tap c known → place < length known
+    → Allows (IsShown X x) slots id m (log_at c.layout + place) (λ n. n) (λ n. Reads m (log_at c.layout + place) n)
+word_allowed {E} X x slots id m c known place is below s r count at range =
+    let h : KnowsLog x r.bus c known = r.views id (Tap c known) (at ∙ ap (λ (v : View (Core E)). some v) is) in
+    let W : ℕ → ℕ = slice_index r.bus.side.words in
+    let long = length-read W (log_at x) (W 0) in
+    let log : log_at c.layout ≡ log_at x = ap log_at h.layout in
+    let more = ap length h.front.together in let parts = length-append known h.front.rest in
+    let low : place < W 0 = omega arith in
+    let word_is : slice_index s.words (log_at c.layout + place) ≡ slice_index known place =
+    ap (λ w. slice_index w (log_at c.layout + place)) r.words ∙ ap (λ z. W (z + place)) log ∙ sym (index-read W (log_at x) (W 0) place low) ∙ ap (λ z. slice_index z place) (sym h.front.together) ∙ get_or_append_left known h.front.rest 0 place below in
+    let here : log_at c.layout + place - log_at c.layout ≡ place = omega arith in (
+      Tap c known,
+      keeps,
+      tt,
+      reloaded X x s r (log_at c.layout + place) id (Tap c known) h,
+      record {
+        same = λ i. (sym is i, m.1);
+        got_is = word_is ∙ ap (slice_index known) (sym here) ∙ ap (λ (v : View (Core E)). slice_index (known_in v) (log_at c.layout + place - log_in v)) (sym is);
+      },
+    )

@@ -1,0 +1,24 @@
+use Rattle.std.proofs.Common.{◌≡◌, ◌+◌, arith, subst, sym, ◌∙◌, ap}
+use Rattle.atomic_table.specs.Seated.{TableId}
+use Rattle.bus_pageslot.specs.Buses.{IsNewTap, AreNewTaps}
+use Rattle.bus_pageslot.proofs.Openings.{one_more_tap}
+use Rattle.bus_pageslot.proofs.seating.tap_all.Goals as goal
+
+pub tap_next-tap-requires-clause-wide : goal.tap_next-tap-requires-clause-wide
+tap_next-tap-requires-clause-wide g c = ap (λ (z : TableId). z.words) c.loop.invariant.table ∙ c.requires.wide
+
+pub loop-preserved : goal.loop-preserved
+loop-preserved g c =
+    let table = c.args.top.now.table_id in
+    record {
+      below = omega arith;
+      taps = subst (AreNewTaps table (c.loop.counter + 1)) (sym c.in_ok-push.ensures.items) (one_more_tap table c.loop.counter c.loop.taps.items c.tap_next-tap.result c.loop.invariant.taps
+          (subst (λ z. IsNewTap z c.tap_next-tap.result) c.loop.invariant.table c.tap_next-tap.ensures.tap));
+      table = c.tap_next-tap.ensures.table ∙ c.loop.invariant.table;
+      maker = c.tap_next-tap.ensures.maker ∙ c.loop.invariant.maker;
+    }
+
+pub returns : goal.returns
+returns g c =
+    let all : c.loop.counter ≡ c.args.shape.receivers = let b = c.loop.invariant.below in omega arith in
+    subst (λ n. AreNewTaps c.args.top.now.table_id n c.loop.taps.items) all c.loop.invariant.taps

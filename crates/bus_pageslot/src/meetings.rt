@@ -1,0 +1,31 @@
+//! Two seats that are joined, load the length, and are cut apart again.
+
+ghost use Rattle.std.specs.Prelude.{◌≡◌, ℕ, ◌<◌, List, []};
+ghost use Rattle.bus_pageslot.specs.declared.rule.View.TheVariants.{Tap};
+ghost use Rattle.bus_pageslot.specs.Rule.{IsFirst};
+ghost use Rattle.bus_pageslot.specs.Steps.{Met};
+
+use crate::rule::{LoadsJoined, Meet, Part, Place, Top};
+use bus_adoptcommit::Ratifier;
+use bus_ownerbits::laws::election_is_lawful;
+
+/// Three loads of the length, of which the second is the one that tells.
+pub(crate) fn meeting<Q: Ratifier + Drop>(
+    top: &Top<Q>,
+    seat: &mut Place<Q>,
+    other: Place<Q>,
+) -> (u64, Place<Q>)
+    requires table { (seat.old.table_id ≡ top.now.table_id)
+        × (other.table_id ≡ top.now.table_id) × (0 < top.now.table_id.words) }
+    requires first { IsFirst seat.old.me.0 }
+    requires second { (d : _) × (known : List ℕ) × (other.me ≡ (Tap d known, [])) }
+    ensures table { (seat.new.table_id ≡ seat.old.table_id) × (seat.new.id ≡ seat.old.id)
+        × (result.1.table_id ≡ seat.old.table_id) }
+    ensures met { Met seat.old.me other.me result.0 seat.new.me result.1.me }
+{
+    election_is_lawful::<Q>();
+    top.join_seat::<Meet<Q>>(seat, other);
+    let length = top.load::<LoadsJoined<Q>>(seat, 0);
+    let part = top.split_seat::<Part<Q>>(seat);
+    (length, part)
+}

@@ -1,0 +1,178 @@
+//! The rule of the table: its words, its slot and the views of its seats are a run of the machine.
+
+use atomic_table::{Join, Play, Seat, Shared, Split, Table, TableRule};
+use bus_adoptcommit::Ratifier;
+use bus_tenure::{Page, SenderCore};
+use bus_world::Shape;
+use std::alloc::Global;
+use std::collections::LinkedList;
+use std::marker::{Brand, Model, PhantomData};
+
+/// What a sender did, as the page of promises lists it. No value of it is made.
+pub struct Trail {
+    of: PhantomData<()>,
+}
+
+impl Model for Trail {
+    ghost use Rattle.std.specs.Prelude.{List, []};
+    ghost use Rattle.bus_world.specs.Headline.{Deed};
+
+    ghost Value = { List Deed };
+
+    ghost view = { λ _. [] };
+}
+
+/// What a seat shows, of a bus whose senders are of type C. No value of it is made.
+pub enum View<C> {
+    /// The senders from this one on have no seat yet.
+    Maker(C),
+    /// A sender as it was after its last step, all that it did until then, and the last length
+    /// that it has stored.
+    Sender(C, Trail, u64),
+    /// A receiver, with the words of the log that it knows, on a bus of such senders.
+    Tap(C, LinkedList<u64>),
+    /// Two receivers, joined while they meet.
+    Meeting(C, LinkedList<u64>, C, LinkedList<u64>),
+    /// A sender and a receiver, joined while the one tells the other.
+    Telling(C, Trail, u64, C, LinkedList<u64>),
+    /// A seat that went into another.
+    Spent,
+}
+
+/// The rule: some events lead to the bus that the table is, with the deeds that its seats show.
+pub struct BusRule<Q> {
+    of: PhantomData<Q>,
+}
+
+impl<Q: Ratifier> TableRule<Option<Page>, View<SenderCore<Q>>, Shape> for BusRule<Q> {
+    ghost use Rattle.bus_tenure.specs.Elections.{election_of};
+    ghost use Rattle.bus_world.specs.Playing.{layout_of};
+    ghost use Rattle.bus_world.specs.World.{new_core};
+    ghost use Rattle.bus_pageslot.specs.declared.rule.View.TheVariants.{Maker};
+    ghost use Rattle.bus_pageslot.specs.Rule.{IsShown};
+
+    ghost holds = { λ key. IsShown (election_of Q.Ratifier) (layout_of Q.protocol key) };
+
+    ghost first = { λ key. Maker (new_core (layout_of Q.protocol key) 0) };
+}
+
+/// What a call of a step picks: the sender as its caller has it, and the random word.
+pub trait Told<C> {
+    ghost use Rattle.std.specs.Prelude.{ℕ, Option};
+
+    ghost core: { Option C };
+
+    ghost word: { ℕ };
+}
+
+impl<C> Told<C> for Brand {
+    ghost use Rattle.std.specs.Prelude.{None};
+
+    ghost core = { None };
+
+    ghost word = { 0 };
+}
+
+/// The seat shows the sender that was picked, with the turn that it took.
+pub(crate) struct Goes<Q, K> {
+    of: PhantomData<(Q, K)>,
+}
+
+impl<Q: Ratifier, K: Told<SenderCore<Q>>> Play<Option<Page>, View<SenderCore<Q>>> for Goes<Q, K> {
+    ghost use Rattle.bus_tenure.specs.Elections.{election_of};
+    ghost use Rattle.bus_pageslot.specs.Steps.{GoesOn};
+
+    ghost then = { λ _ m got m'. GoesOn (election_of Q.Ratifier) K.core K.word m got m' };
+}
+
+/// The next sender's seat is made.
+pub(crate) struct Cut<Q> {
+    of: PhantomData<Q>,
+}
+
+impl<Q: Ratifier> Split<View<SenderCore<Q>>> for Cut<Q> {
+    ghost use Rattle.bus_pageslot.specs.Rule.{cut_left, cut_right};
+
+    ghost left = { cut_left };
+
+    ghost right = { cut_right };
+}
+
+/// A receiver's seat is made.
+pub(crate) struct CutTap<Q> {
+    of: PhantomData<Q>,
+}
+
+impl<Q: Ratifier> Split<View<SenderCore<Q>>> for CutTap<Q> {
+    ghost use Rattle.bus_pageslot.specs.Rule.{tap_left, tap_right};
+
+    ghost left = { tap_left };
+
+    ghost right = { tap_right };
+}
+
+/// A receiver's seat loaded the length.
+pub(crate) struct LoadsLength<Q> {
+    of: PhantomData<Q>,
+}
+
+impl<Q: Ratifier> Play<Option<Page>, View<SenderCore<Q>>> for LoadsLength<Q> {
+    ghost use Rattle.bus_pageslot.specs.Steps.{Learns};
+
+    ghost then = { λ _ m got m'. Learns m got m' };
+}
+
+/// A receiver's seat loaded a word that it knows.
+pub(crate) struct LoadsWord<Q> {
+    of: PhantomData<Q>,
+}
+
+impl<Q: Ratifier> Play<Option<Page>, View<SenderCore<Q>>> for LoadsWord<Q> {
+    ghost use Rattle.bus_pageslot.specs.Steps.{Reads};
+
+    ghost then = { λ step m got m'. Reads m step.word got m' };
+}
+
+/// A receiver's seat goes into another seat.
+pub(crate) struct Meet<Q> {
+    of: PhantomData<Q>,
+}
+
+impl<Q: Ratifier> Join<View<SenderCore<Q>>> for Meet<Q> {
+    ghost use Rattle.bus_pageslot.specs.declared.rule.View.TheVariants.{Spent};
+    ghost use Rattle.bus_pageslot.specs.Rule.{joined};
+
+    ghost both = { joined };
+
+    ghost spent = { Spent };
+}
+
+/// It comes out of it again.
+pub(crate) struct Part<Q> {
+    of: PhantomData<Q>,
+}
+
+impl<Q: Ratifier> Split<View<SenderCore<Q>>> for Part<Q> {
+    ghost use Rattle.bus_pageslot.specs.Rule.{first_of, second_of};
+
+    ghost left = { first_of };
+
+    ghost right = { second_of };
+}
+
+/// Two joined seats loaded the length.
+pub(crate) struct LoadsJoined<Q> {
+    of: PhantomData<Q>,
+}
+
+impl<Q: Ratifier> Play<Option<Page>, View<SenderCore<Q>>> for LoadsJoined<Q> {
+    ghost use Rattle.bus_pageslot.specs.Steps.{Meets};
+
+    ghost then = { λ _ m got m'. Meets m got m' };
+}
+
+pub(crate) type Board<Q> = Table<Option<Page>, View<SenderCore<Q>>, Shape, BusRule<Q>, Global>;
+
+pub(crate) type Top<Q> = Shared<Option<Page>, View<SenderCore<Q>>, Shape, BusRule<Q>>;
+
+pub(crate) type Place<Q> = Seat<Option<Page>, View<SenderCore<Q>>>;

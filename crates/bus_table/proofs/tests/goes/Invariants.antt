@@ -1,6 +1,0 @@
-use Rattle.std.proofs.Common.{◌≡◌}
-use Rattle.bus_table.specs.Seats.{table_of}
-use Rattle.bus_table.proofs.tests.goes.Given as goal
-
-abbrev pub invariant-loop-turn : goal.invariant-loop-turn
-invariant-loop-turn l = table_of l.sender ≡ l.bus.table
