@@ -1,5 +1,5 @@
 -- What the close of a table tells of the bus that it was.
-use Rattle.std.proofs.Common.{◌≡◌, ◌≢◌, ℕ, zero, suc, ◌+◌, ◌%◌, ◌≤◌, Bool, true, false, Option, Some, None, is_some, List, [], ◌∷◌, ◌++◌, length, slice_index, arith, refl, sym, ◌∙◌, ap, subst}
+use Rattle.std.proofs.Common.{◌≡◌, ◌≢◌, ℕ, zero, suc, ◌+◌, ◌%◌, ◌≤◌, Bool, true, false, Option, Some, None, is_some, List, [], ◌∷◌, ◌++◌, length, map, slice_index, arith, refl, sym, ◌∙◌, ap, subst}
 use mathlib.Core.Option.{some, none, some-injective, some-ne-none}
 use mathlib.Core.Option as maybe
 use lib.ListN.{get_elem?}
@@ -9,7 +9,11 @@ use Rattle.bus_register.specs.Protocol.{Protocol}
 use Rattle.bus_tenure.specs.Core.{Core, Election, Layout, words_of, log_at}
 use Rattle.bus_tenure.specs.declared.pages.Page.{Page}
 use Rattle.bus_world.specs.Headline.{IsPrefix}
+use Rattle.bus_batch.specs.Frames.{order_of, tenure_and_owner}
+use Rattle.bus_world.specs.Bus.{IsLayout}
 use Rattle.bus_world.specs.Log.{read}
+use Rattle.bus_world.proofs.LogLaws.{length-read}
+use Rattle.bus_world.proofs.ViewingLaws.{frames_spell}
 use Rattle.bus_world.specs.Tenures.{Stage}
 use Rattle.bus_world.specs.Tenures.Stage.{Open, Held}
 use Rattle.bus_world.proofs.EventTrails as events
@@ -18,6 +22,7 @@ use Rattle.bus_pageslot.specs.declared.rule.View.{View}
 use Rattle.bus_pageslot.specs.declared.rule.View.TheVariants.{Tap}
 use Rattle.bus_pageslot.specs.Rule.{slot_of, known_in, log_in_bus, KnowsLog, IsShown}
 use Rattle.bus_pageslot.specs.Endings.{IsLeft}
+use Rattle.bus_pageslot.specs.Outcomes.{IsOutcome}
 use Rattle.bus_pageslot.proofs.Reaching.{kept}
 
 -- a word of a list
@@ -43,6 +48,25 @@ module _ {E : Type 0} (X : Election E) (P : Protocol E (Unit {0}) ℕ) (x : Layo
   some_of : (home : Option Page) → is_some home ≡ true → (page : Page) × (home ≡ Some page)
   some_of None e = absurd (true≢false (sym e))
   some_of (Some page) e = (page, refl)
+
+  -- the page is at home only while a tenure is open, and then it knows the frames
+  pub outcome_of : IsLayout x → (known log : List ℕ) (page : Page) → IsLeft X x known log (Some page) → IsOutcome record { senders = x.senders; log = log; page = page }
+  outcome_of served known log page h =
+      let k = kept X P x y served h.bus h.trails h.reached in
+      let sending = k.lawful.keeps.sending in
+      elim sending.tenures.stage_is [
+        | Open stage at_home many ↦
+            let knows = (sending.page_knows page _ h.home_is stage).0 in
+            record {
+              order = order_of k.frames;
+              owners = map tenure_and_owner k.frames;
+              spells = frames_spell x.senders k.frames log sending.log.lawful (sym h.log_is ∙ sending.log.words_are);
+              counts = knows.next;
+              ended = knows.ended;
+              words = knows.words ∙ sym (length-read (slice_index h.bus.side.words) (log_at x) (slice_index h.bus.side.words 0)) ∙ ap length h.log_is;
+            }
+        | Held holder stage away many holds ↦ absurd (true≢false (sym (ap is_some h.home_is) ∙ away))
+      ]
 
   module _ (id : ℕ) (v : View (Core E)) (c : Core E) (known : List ℕ) (is : v ≡ Tap c known) (ws : List ℕ) (xs : List (Option Page)) (f : Final (Seen (IsShown X x) id v) ws xs) where
     shown : IsShown X x f.0

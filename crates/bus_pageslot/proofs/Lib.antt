@@ -1,4 +1,5 @@
 pub mod Taking
+pub mod Sending
 pub mod Accepting
 pub mod Situations
 pub mod Counting

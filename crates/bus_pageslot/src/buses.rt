@@ -26,6 +26,7 @@ use std::marker::Model;
 #[derive(Drop)]
 pub struct Bus<Q: Ratifier> {
     pub(crate) table: Board<Q>,
+    senders: u64,
     log_words: u64,
     room: Vec<u64>,
 }
@@ -39,7 +40,8 @@ impl<Q: Ratifier> Model for Bus<Q> {
 
     ghost view = { λ b. record { table = b.table.shared.table_id; shape = b.table.shared.key } };
 
-    ghost invariant = { λ b. (b.log_words ≡ b.table.shared.key.log_words)
+    ghost invariant = { λ b. (b.senders ≡ b.table.shared.key.senders)
+        × (b.log_words ≡ b.table.shared.key.log_words)
         × (b.room.items ≡ []) × (vec_len b.room ≡ 0)
         × (b.log_words ≤ vec_capacity b.room) };
 }
@@ -71,6 +73,7 @@ impl<Q: Ratifier + Drop> Bus<Q> {
         let room = roomy(alloc, shape.log_words)?;
         let bus = Bus {
             table,
+            senders: shape.senders,
             log_words: shape.log_words,
             room,
         };
@@ -84,17 +87,19 @@ impl<Q: Ratifier + Drop> Bus<Q> {
         requires { tap.table_id ≡ self.table }
         ensures ended { let X = election_of Q.Ratifier in
             IfOk result (λ left. IsLeft X (layout_of Q.protocol self.shape) (known_in tap.me.0)
-            left.log.items (Some left.page)) }
+            left.log (Some left.page)) }
+        ensures senders { IfOk result (λ left. left.senders ≡ self.shape.senders) }
         ensures out { let X = election_of Q.Ratifier in
             OnErr result ((log : List ℕ)
             × IsLeft X (layout_of Q.protocol self.shape) (known_in tap.me.0) log None) }
     {
         let Bus {
             table,
+            senders,
             log_words,
             room,
         } = self;
-        leave(table, tap.into_seat(), log_words, room)
+        leave(table, tap.into_seat(), senders, log_words, room)
     }
 }
 

@@ -13,7 +13,7 @@ mod taps;
 
 pub use buses::Bus;
 pub use outcomes::{EndFault, Ended};
-pub use rule::{BusRule, Told, Trail, View};
+pub use rule::{BusRule, OfBus, Told, Trail, View};
 pub use seats::Sender;
 pub use taps::Tap;
 

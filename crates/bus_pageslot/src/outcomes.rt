@@ -1,9 +1,12 @@
 //! What a bus leaves behind.
 
-ghost use Rattle.std.specs.Prelude.{◌≡◌, ℕ, ◌+◌, ◌≤◌, List, [], Some, None};
-ghost use Rattle.std.specs.Prelude.{codes, slice_index, IfOk, OnErr};
+ghost use Rattle.std.specs.Prelude.{◌≡◌, ℕ, ◌+◌, ◌<◌, ◌≤◌, List, [], Some, None};
+ghost use Rattle.std.specs.Prelude.{codes, length, slice_index, IfOk, OnErr};
 ghost use Rattle.std.specs.Vec.{vec_len, vec_capacity};
 ghost use Rattle.std.specs.Slots.{slots_items, slots_len, IsFull};
+ghost use Rattle.bus_register.specs.declared.registers.SenderNo.{SenderNo as Number};
+ghost use Rattle.bus_batch.specs.Frames.{Order, Spells};
+ghost use Rattle.bus_deliverylog.specs.Orders.{of_sender};
 ghost use Rattle.bus_tenure.specs.Elections.{election_of};
 ghost use Rattle.bus_tenure.specs.Core.{log_at};
 ghost use Rattle.bus_world.specs.Log.{read};
@@ -15,11 +18,15 @@ ghost use Rattle.bus_pageslot.specs.Endings.{IsLeft};
 use crate::rule::{Board, Place};
 use atomic_table::Closed;
 use bus_adoptcommit::Ratifier;
+use bus_batch::laws::spells_one;
 use bus_ownerbits::laws::election_is_lawful;
+use bus_register::SenderNo;
+use bus_register::limits::MOST_SENDERS;
 use bus_tenure::Page;
 use std::alloc::Global;
 use std::error::Error;
 use std::fmt;
+use std::marker::Model;
 
 /// Why a bus leaves nothing behind.
 #[derive(Clone, Copy, Debug, PartialEq, Eq)]
@@ -38,30 +45,81 @@ impl fmt::Display for EndFault {
     }
 }
 
-/// What a bus leaves behind.
+/// What a bus leaves behind: its log and its page.
 #[derive(Drop)]
 pub struct Ended {
+    senders: u64,
+    log: Vec<u64>,
+    page: Page,
+}
+
+impl Model for Ended {
+    ghost use Rattle.bus_pageslot.specs.Outcomes.{Outcome, IsOutcome};
+
+    ghost Value = { Outcome };
+
+    ghost view = { λ e. record { senders = e.senders; log = e.log.items; page = e.page } };
+
+    ghost invariant = { λ e. IsOutcome (record {
+      senders = e.senders;
+      log = e.log.items;
+      page = e.page;
+    }) };
+}
+
+impl Ended {
     /// The words of the log below the length.
-    pub log: Vec<u64>,
-    /// The page, as its last owner gave it back.
-    pub page: Page,
+    pub fn log(&self) -> &[u64]
+        ensures { result.now ≡ self.now.log }
+    {
+        self.log.as_slice()
+    }
+
+    /// The page, as its last owner gave it back. It has the number of the log's words, and whether
+    /// the order that they spell has ended.
+    pub fn page(&self) -> &Page
+        ensures page { result.now ≡ self.now.page }
+        ensures words { result.now.words ≡ length self.now.log }
+        ensures ended { (order : Order) (owners : List (ℕ × Number))
+            → Spells self.now.senders self.now.log order owners
+            → result.now.ended ≡ order.ended }
+    {
+        spells_one();
+        &self.page
+    }
+
+    /// How many items the sender has in the order that the log spells. It spells one alone.
+    pub fn count(&self, sender: SenderNo) -> u64
+        requires { sender.0 < MOST_SENDERS }
+        ensures counts { (order : Order) (owners : List (ℕ × Number))
+            → Spells self.now.senders self.now.log order owners
+            → result ≡ length (of_sender sender.0 order) }
+        ensures spelled { (order : Order) × (owners : List (ℕ × Number))
+            × Spells self.now.senders self.now.log order owners }
+    {
+        spells_one();
+        self.page.next[usize::from(sender.0)]
+    }
 }
 
 /// What this table, of which this is the seat of a receiver, leaves behind.
 pub(crate) fn leave<Q: Ratifier + Drop>(
     table: Board<Q>,
     seat: Place<Q>,
+    senders: u64,
     log_words: u64,
     room: Vec<u64>,
 ) -> Result<Ended, EndFault>
     requires table { seat.table_id ≡ table.shared.table_id }
     requires tap { (d : _) × (known : List ℕ) × (seat.me ≡ (Tap d known, [])) }
     requires empty { (room.items ≡ []) × (vec_len room ≡ 0) }
+    requires senders { senders ≡ table.shared.key.senders }
     requires log_words { log_words ≡ table.shared.key.log_words }
     requires roomy { log_words ≤ vec_capacity room }
     ensures ended { let X = election_of Q.Ratifier in
         IfOk result (λ left. IsLeft X (layout_of Q.protocol table.shared.key) (known_in seat.me.0)
-        left.log.items (Some left.page)) }
+        left.log (Some left.page)) }
+    ensures senders { IfOk result (λ left. left.senders ≡ senders) }
     ensures out { let X = election_of Q.Ratifier in
         OnErr result ((log : List ℕ)
         × IsLeft X (layout_of Q.protocol table.shared.key) (known_in seat.me.0) log None) }
@@ -78,6 +136,7 @@ pub(crate) fn leave<Q: Ratifier + Drop>(
         return Err(EndFault::PageOut);
     }
     Ok(Ended {
+        senders,
         log,
         page: page.unwrap(),
     })

@@ -56,6 +56,20 @@ impl<Q: Ratifier> TableRule<Option<Page>, View<SenderCore<Q>>, Shape> for BusRul
     ghost first = { λ key. Maker (new_core (layout_of Q.protocol key) 0) };
 }
 
+/// Which bus it is: the table of one, which whoever makes it picks. A struct that is generic in it
+/// can say of its senders and receivers that they are of one bus, whatever threads it goes through.
+pub trait OfBus {
+    ghost use Rattle.atomic_table.specs.Seated.{TableId};
+
+    ghost table: { TableId };
+}
+
+impl OfBus for Brand {
+    ghost use Rattle.bus_pageslot.specs.Seats.{nowhere};
+
+    ghost table = { nowhere };
+}
+
 /// What a call of a step picks: the sender as its caller has it, and the random word.
 pub trait Told<C> {
     ghost use Rattle.std.specs.Prelude.{ℕ, Option};

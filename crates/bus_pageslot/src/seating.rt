@@ -108,9 +108,9 @@ fn tap_next<Q: Ratifier + Drop>(
     ensures maker { maker.new.me ≡ maker.old.me }
     ensures tap { IsNewTap maker.old.table_id result }
 {
-    let _ = (shape, made);
+    let _ = made;
     let seat = top.split_seat::<CutTap<Q>>(maker);
-    Tap::seated(seat, log)
+    Tap::seated(seat, shape.senders, log)
 }
 
 /// All receivers, in order. `log` is the place of the log's first word.

@@ -9,11 +9,12 @@ ghost use Rattle.bus_tenure.specs.Elections.{election_of};
 ghost use Rattle.bus_tenure.specs.Seen.{turns_of};
 ghost use Rattle.bus_tenure.specs.Situations.{wants_at};
 ghost use Rattle.bus_register.specs.declared.registers.Op.{Op};
-ghost use Rattle.bus_world.specs.Headline.{HasPut, HasClosed};
+ghost use Rattle.bus_world.specs.Headline.{HasPut, HasClosed, puts};
 ghost use Rattle.bus_pageslot.specs.declared.rule.View.TheVariants.{Tap};
 ghost use Rattle.bus_pageslot.specs.Rule.{known_in, stored_in};
 ghost use Rattle.bus_pageslot.specs.Steps.{with_message, with_close, Learns, KnowsSent};
 ghost use Rattle.bus_pageslot.specs.Seats.{Shows, Took, table_of, deeds_of, stored_of};
+ghost use Rattle.bus_pageslot.specs.Turns.{Sends, is_last};
 
 use crate::buses::Bus;
 use crate::meetings::meeting;
@@ -23,7 +24,10 @@ use bus_adoptcommit::Ratifier;
 use bus_batch::{CloseFault, PutFault};
 use bus_register::{Kind, SenderNo};
 use bus_tenure::{SenderCore, Turn};
+use crossbeam_utils::Backoff;
+use rand_core::Rng;
 use std::marker::{Brand, Model};
+use std::sync::Wait;
 
 /// A sender of a bus: what it holds, and the seat that it steps with. One thread at a time has it.
 ///
@@ -162,6 +166,31 @@ impl<Q: Ratifier + Drop> Sender<Q> {
         walk::<Q, Brand>(top, &mut self.seat, &mut self.core, op, word)
     }
 
+    /// Turns, until there is nothing more to do, or nothing more that can be done: Idle, Delivered,
+    /// Full, Closed or Spent. Each vote takes one word of `rng`. It waits for nothing but its own
+    /// next turn, and that it ends is not promised.
+    pub fn send<W: Wait, R: Rng>(&mut self, wait: &W, bus: &Bus<Q>, rng: &mut R) -> Turn
+        requires { table_of self.old ≡ bus.now.table }
+        ensures table { table_of self.new ≡ table_of self.old }
+        ensures sends { let X = election_of Q.Ratifier in Sends X self.old result self.new }
+        ensures puts { puts (deeds_of self.new) ≡ puts (deeds_of self.old) }
+    {
+        let backoff = Backoff::new();
+        for _ in wait.forever() {
+            let word = if self.wants_word() { rng.next_u32() } else { 0 };
+            let turn = self.turn(bus, word);
+            if ends_sending(turn) {
+                return turn;
+            }
+            if turn == Turn::Waiting {
+                backoff.snooze();
+            } else {
+                backoff.reset();
+            }
+        }
+        unreachable!()
+    }
+
     /// A receiver's seat is joined to its own, which then loads the length; and the two are cut
     /// apart again.
     pub(crate) fn tell(&mut self, bus: &Bus<Q>, tap: Place<Q>) -> (u64, Place<Q>)
@@ -176,5 +205,15 @@ impl<Q: Ratifier + Drop> Sender<Q> {
             (known_in result.1.me.0) }
     {
         meeting(&bus.table.shared, &mut self.seat, tap)
+    }
+}
+
+/// After this answer there is nothing more to do, or nothing more that can be done.
+fn ends_sending(turn: Turn) -> bool
+    ensures { result ≡ is_last turn }
+{
+    match turn {
+        Turn::Idle | Turn::Delivered { .. } | Turn::Full | Turn::Closed | Turn::Spent => true,
+        Turn::Waiting | Turn::Going | Turn::Lost { .. } | Turn::Own { .. } => false,
     }
 }

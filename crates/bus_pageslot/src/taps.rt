@@ -19,6 +19,7 @@ use std::marker::Model;
 #[derive(Drop)]
 pub struct Tap<Q: Ratifier> {
     seat: Option<Place<Q>>,
+    senders: u64,
     log: u64,
     known: u64,
 }
@@ -35,12 +36,13 @@ impl<Q: Ratifier> Model for Tap<Q> {
 }
 
 impl<Q: Ratifier + Drop> Tap<Q> {
-    pub(crate) fn seated(seat: Place<Q>, log: u64) -> Tap<Q>
+    pub(crate) fn seated(seat: Place<Q>, senders: u64, log: u64) -> Tap<Q>
         requires { IsTap (spot seat) log 0 }
         ensures { result ≡ spot seat }
     {
         Tap {
             seat: Some(seat),
+            senders,
             log,
             known: 0,
         }
@@ -53,6 +55,11 @@ impl<Q: Ratifier + Drop> Tap<Q> {
     {
         let Tap { seat, .. } = self;
         seat.unwrap()
+    }
+
+    /// How many senders the bus has.
+    pub fn senders(&self) -> u64 {
+        self.senders
     }
 
     /// How many words of the log it knows; 0 before its first load.

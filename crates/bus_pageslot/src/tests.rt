@@ -179,8 +179,8 @@ fn closed_and_ended(rt: HostRuntime) {
         0x4000_0100_0000_0001,
         0xC000_0000_0000_0000,
     ];
-    assert_eq!(&rt; ended.log.as_slice(), log.as_slice());
-    let page = ended.page;
+    assert_eq!(&rt; ended.log(), log.as_slice());
+    let page = *ended.page();
     assert_eq!(&rt; (page.next[0], page.next[1]), (1, 0));
     assert_eq!(&rt; (page.ended, page.tenures, page.words), (true, 2, 5));
 }
@@ -227,7 +227,11 @@ fn two_senders_take_turns(rt: HostRuntime) {
     assert_eq!(&rt; (first_sent, second_sent), (true, true));
     let ended = bus.end(tap).expect(&rt, "the page is home");
     assert_eq!(&rt;
-        (ended.page.next[0], ended.page.next[1], ended.log.len()),
+        (
+            ended.page().next[0],
+            ended.page().next[1],
+            ended.log().len()
+        ),
         (1, 1, 6)
     );
 }
@@ -284,7 +288,11 @@ fn two_threads_send(rt: HostRuntime) {
     assert_eq!(&rt; sent, (true, true));
     let ended = bus.end(tap).expect(&rt, "the page is home");
     assert_eq!(&rt;
-        (ended.page.next[0], ended.page.next[1], ended.log.len()),
+        (
+            ended.page().next[0],
+            ended.page().next[1],
+            ended.log().len()
+        ),
         (3, 3, 18)
     );
 }

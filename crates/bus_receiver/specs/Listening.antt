@@ -1,6 +1,7 @@
 -- A receiver of a bus without a lock: what it knows of the log, what it has read of that, and what each call makes of it.
-use Rattle.std.specs.Prelude.{◌≡◌, ℕ, ◌+◌, ◌<◌, ◌≤◌, ◌^◌, ◌-◌, ◌⊎◌, List, [], ◌∷◌, ◌++◌, length, take, slice_index, true, false, Option}
+use Rattle.std.specs.Prelude.{◌≡◌, ℕ, ◌+◌, ◌<◌, ◌≤◌, ◌^◌, ◌-◌, ◌⊎◌, List, [], ◌∷◌, ◌++◌, length, take, slice_index, Bool, true, false, Option}
 use Rattle.std.specs.List.{list_any}
+use Rattle.atomic_table.specs.Seated.{TableId}
 use Rattle.bus_batch.specs.declared.messages.Piece.{Piece}
 use Rattle.bus_batch.specs.Frames.{IsBadWord, GivesPiece, is_end}
 use Rattle.bus_deliverylog.specs.declared.receiving.RecvTurn.{RecvTurn}
@@ -16,6 +17,18 @@ use Rattle.bus_pageslot.specs.Seats.{Spot}
 pub record Listening (E : Type 0) : Type 0 where
   pub seat : Spot E
   pub reader : Receiving
+
+-- the bus that it is of
+abbrev pub bus_of : {E : Type 0} → Listening E → TableId
+bus_of r = r.seat.table_id
+
+-- a frame's head, an item or the end
+abbrev pub is_found : RecvTurn → Bool
+is_found turn.Going = false
+is_found turn.Empty = false
+is_found (turn.Head tenure owner) = true
+is_found (turn.Item item) = true
+is_found turn.End = true
 
 -- the words that a seat knows
 abbrev pub seen : {E : Type 0} → Spot E → List ℕ

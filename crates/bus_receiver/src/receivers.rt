@@ -1,18 +1,24 @@
 //! A receiver of a bus without a lock.
 
-ghost use Rattle.std.specs.Prelude.{◌≡◌, ℕ, List, [], Option};
+ghost use Rattle.std.specs.Prelude.{◌≡◌, ℕ, List, [], Option, Some, None, IfOk, OnErr, true};
 ghost use Rattle.std.specs.Ordering.{nat_cmp};
 ghost use Rattle.bus_batch.specs.declared.messages.Piece.{Piece};
 ghost use Rattle.bus_receiver.specs.Listening.{HasHeard, Hears, HaveMet, IsTold};
+ghost use Rattle.bus_receiver.specs.Listening.{bus_of, known_of, is_found};
+ghost use Rattle.bus_pageslot.specs.Endings.{IsLeft};
+ghost use Rattle.bus_tenure.specs.Elections.{election_of};
+ghost use Rattle.bus_world.specs.Playing.{layout_of};
 ghost use Rattle.bus_pageslot.specs.Seats.{table_of, deeds_of, stored_of};
 
 use crate::listening::{catch_up, hear_length, hear_word};
 use bus_adoptcommit::Ratifier;
 use bus_deliverylog::{Reader, RecvTurn};
+use bus_pageslot::{Bus, EndFault, Ended, Sender, Tap};
 use bus_register::Reg;
-use bus_pageslot::{Bus, Sender, Tap};
+use crossbeam_utils::Backoff;
 use std::cmp::Ordering;
 use std::marker::Model;
+use std::sync::Wait;
 
 /// A receiver of a bus: it reads the log word by word, from the first one on. One thread at a time
 /// has it; no call of it waits or takes memory.
@@ -35,14 +41,13 @@ impl<Q: Ratifier> Model for Receiver<Q> {
 }
 
 impl<Q: Ratifier + Drop> Receiver<Q> {
-    /// A receiver at the first word of the log of so many senders.
-    pub fn new(tap: Tap<Q>, senders: u64) -> Receiver<Q>
+    /// A receiver at the first word of the log.
+    pub fn new(tap: Tap<Q>) -> Receiver<Q>
         ensures seat { result.seat ≡ tap }
-        ensures senders { result.reader.frames.senders ≡ senders }
         ensures place { result.reader.place ≡ 0 }
         ensures heard { HasHeard [] result }
     {
-        let reader = Reader::new(senders, Reg(0), Reg(0), u64::MAX);
+        let reader = Reader::new(tap.senders(), Reg(0), Reg(0), u64::MAX);
         Receiver { tap, reader }
     }
 
@@ -64,8 +69,8 @@ impl<Q: Ratifier + Drop> Receiver<Q> {
     /// One turn: a load of the length where it has read all that it knows, else a load of the word
     /// at its place. After the end it takes no step.
     pub fn turn(&mut self, bus: &Bus<Q>) -> RecvTurn
-        requires { self.old.seat.table_id ≡ bus.now.table }
-        ensures table { self.new.seat.table_id ≡ self.old.seat.table_id }
+        requires { bus_of self.old ≡ bus.now.table }
+        ensures table { bus_of self.new ≡ bus_of self.old }
         ensures hears { (pieces : List (Option Piece)) → HasHeard pieces self.old
             → Hears pieces self.old result self.new }
     {
@@ -80,11 +85,32 @@ impl<Q: Ratifier + Drop> Receiver<Q> {
         }
     }
 
+    /// Turns, until one finds a head, an item or the end. That it ends is not promised.
+    pub fn take<W: Wait>(&mut self, wait: &W, bus: &Bus<Q>) -> RecvTurn
+        requires { bus_of self.old ≡ bus.now.table }
+        ensures table { bus_of self.new ≡ bus_of self.old }
+        ensures found { is_found result ≡ true }
+    {
+        let backoff = Backoff::new();
+        for _ in wait.forever() {
+            let turn = self.turn(bus);
+            if finds(&turn) {
+                return turn;
+            }
+            if turn == RecvTurn::Empty {
+                backoff.snooze();
+            } else {
+                backoff.reset();
+            }
+        }
+        unreachable!()
+    }
+
     /// A sender tells it of the log: it knows from then on all that the sender has published.
     pub fn told(&mut self, sender: &mut Sender<Q>, bus: &Bus<Q>)
-        requires table { (self.old.seat.table_id ≡ bus.now.table)
+        requires table { (bus_of self.old ≡ bus.now.table)
             × (table_of sender.old ≡ bus.now.table) }
-        ensures table { (self.new.seat.table_id ≡ self.old.seat.table_id)
+        ensures table { (bus_of self.new ≡ bus_of self.old)
             × (table_of sender.new ≡ table_of sender.old) }
         ensures told { IsTold sender.old.core (deeds_of sender.old) (stored_of sender.old) self.old
             self.new }
@@ -97,10 +123,10 @@ impl<Q: Ratifier + Drop> Receiver<Q> {
     /// Two receivers meet: the length is loaded once, both know the log up to it from then on, and
     /// their places are compared.
     pub fn meet(&mut self, other: &mut Receiver<Q>, bus: &Bus<Q>) -> Ordering
-        requires table { (self.old.seat.table_id ≡ bus.now.table)
-            × (other.old.seat.table_id ≡ bus.now.table) }
-        ensures table { (self.new.seat.table_id ≡ self.old.seat.table_id)
-            × (other.new.seat.table_id ≡ other.old.seat.table_id) }
+        requires table { (bus_of self.old ≡ bus.now.table)
+            × (bus_of other.old ≡ bus.now.table) }
+        ensures table { (bus_of self.new ≡ bus_of self.old)
+            × (bus_of other.new ≡ bus_of other.old) }
         ensures order { result ≡ nat_cmp self.old.reader.place other.old.reader.place }
         ensures met { HaveMet self.old other.old self.new other.new }
     {
@@ -108,12 +134,37 @@ impl<Q: Ratifier + Drop> Receiver<Q> {
         self.reader.place().cmp(&other.reader.place())
     }
 
-    /// Its seat, by which a bus is ended.
-    pub fn into_tap(self) -> Tap<Q>
+    /// Its seat.
+    pub(crate) fn into_tap(self) -> Tap<Q>
         ensures { result ≡ self.seat }
     {
         let Receiver { tap, reader } = self;
         drop(reader);
         tap
+    }
+
+    /// Ends the bus, by a receiver of it: its log and its page, where the page is at home, and
+    /// PageOut where a sender that took it has not given it back. Both are gone in either case.
+    pub fn end(bus: Bus<Q>, receiver: Receiver<Q>) -> Result<Ended, EndFault>
+        requires { bus_of receiver ≡ bus.table }
+        ensures ended { let X = election_of Q.Ratifier in
+            IfOk result (λ left. IsLeft X (layout_of Q.protocol bus.shape) (known_of receiver)
+            left.log (Some left.page)) }
+        ensures senders { IfOk result (λ left. left.senders ≡ bus.shape.senders) }
+        ensures out { let X = election_of Q.Ratifier in
+            OnErr result ((log : List ℕ)
+            × IsLeft X (layout_of Q.protocol bus.shape) (known_of receiver) log None) }
+    {
+        bus.end(receiver.into_tap())
+    }
+}
+
+/// It is a head, an item or the end.
+fn finds(turn: &RecvTurn) -> bool
+    ensures { result ≡ is_found turn.now }
+{
+    match turn {
+        RecvTurn::Head { .. } | RecvTurn::Item(_) | RecvTurn::End => true,
+        RecvTurn::Going | RecvTurn::Empty => false,
     }
 }

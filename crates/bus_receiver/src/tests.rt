@@ -2,13 +2,14 @@
 
 ghost use Rattle.std.specs.Prelude.{◌≡◌};
 ghost use Rattle.bus_pageslot.specs.Seats.{table_of};
+ghost use Rattle.bus_receiver.specs.Listening.{bus_of};
 
 use super::*;
 use bus_adoptcommit::TwoCollect;
 use bus_batch::{Item, Message};
 use bus_deliverylog::RecvTurn;
-use bus_register::SenderNo;
 use bus_pageslot::{Bus, Sender};
+use bus_register::SenderNo;
 use bus_tenure::Turn;
 use bus_world::Shape;
 use std::alloc::Global;
@@ -46,8 +47,8 @@ fn turns_to(rt: &impl Abort, bus: &Few, sender: &mut One, want: Turn)
 
 /// Sees what the receiver's next turns answer.
 fn hears(rt: &impl Abort, bus: &Few, ear: &mut Ear, want: &[RecvTurn])
-    requires { ear.old.seat.table_id ≡ bus.now.table }
-    ensures { ear.new.seat.table_id ≡ bus.now.table }
+    requires { bus_of ear.old ≡ bus.now.table }
+    ensures { bus_of ear.new ≡ bus.now.table }
 {
     for (i, turn) in want.iter().enumerate() {
         let got = ear.turn(bus);
@@ -84,12 +85,12 @@ fn head(tenure: u64) -> RecvTurn {
 /// The small bus with its sender and its receivers.
 fn small(rt: &impl Abort, alloc: Global) -> (Few, One, Ear, Ear)
     ensures sender { table_of result.1 ≡ result.0.table }
-    ensures first { result.2.seat.table_id ≡ result.0.table }
-    ensures second { result.3.seat.table_id ≡ result.0.table }
+    ensures first { bus_of result.2 ≡ result.0.table }
+    ensures second { bus_of result.3 ≡ result.0.table }
 {
     let (bus, mut senders, mut taps) = Bus::new(alloc, SMALL).expect(rt, "memory");
-    let second = Receiver::new(taps.pop().expect(rt, "a seat"), 1);
-    let first = Receiver::new(taps.pop().expect(rt, "a seat"), 1);
+    let second = Receiver::new(taps.pop().expect(rt, "a seat"));
+    let first = Receiver::new(taps.pop().expect(rt, "a seat"));
     (bus, senders.pop().expect(rt, "a sender"), first, second)
 }
 
@@ -97,8 +98,8 @@ fn small(rt: &impl Abort, alloc: Global) -> (Few, One, Ear, Ear)
 /// turn.
 fn with_an_a(rt: &impl Abort, alloc: Global) -> (Few, One, Ear, Ear)
     ensures sender { table_of result.1 ≡ result.0.table }
-    ensures first { result.2.seat.table_id ≡ result.0.table }
-    ensures second { result.3.seat.table_id ≡ result.0.table }
+    ensures first { bus_of result.2 ≡ result.0.table }
+    ensures second { bus_of result.3 ≡ result.0.table }
 {
     let (bus, mut sender, mut first, second) = small(rt, alloc);
     assert_eq!(rt; sender.put(b"a"), Ok(0));
@@ -133,15 +134,11 @@ fn to_the_end(rt: HostRuntime) {
     turns_to(&rt, &bus, &mut sender, Turn::Own { tenure: 1 });
     turns_to(&rt, &bus, &mut sender, Turn::Closed);
     assert_eq!(&rt; second.meet(&mut first, &bus), Ordering::Less);
-    hears(
-        &rt,
-        &bus,
-        &mut first,
-        &[head(1), RecvTurn::End, RecvTurn::End],
-    );
+    assert_eq!(&rt; first.take(&rt, &bus), head(1));
+    hears(&rt, &bus, &mut first, &[RecvTurn::End, RecvTurn::End]);
     assert_eq!(&rt; (first.has_ended(), second.has_ended()), (true, false));
-    let ended = bus.end(second.into_tap()).expect(&rt, "the page is home");
-    assert_eq!(&rt; (ended.log.len(), ended.page.ended), (5, true));
+    let ended = Receiver::end(bus, second).expect(&rt, "the page is home");
+    assert_eq!(&rt; (ended.log().len(), ended.page().ended), (5, true));
 }
 
 /// Notes an answer, and sees whether it is taken.

@@ -14,7 +14,7 @@ returns-clause-ended g c =
     let X = election_with g.Q.Machine.kind_of g.Q.Machine.op g.Q.Machine.fed Q in
     let shape_is = ap (λ (b : Site). b.shape) c.self.view_is in
     let known_is = ap (λ t. known_in t.me.0) c.into_seat.ensures.spot in
-    subst (λ (z : Shape × List ℕ). IfOk c.leave.result (λ left. IsLeft X (layout_of Q z.0) z.1 left.log.items (Some left.page))) (λ i. (shape_is i, known_is i)) c.leave.ensures.ended
+    subst (λ (z : Shape × List ℕ). IfOk c.leave.result (λ left. IsLeft X (layout_of Q z.0) z.1 left.log (Some left.page))) (λ i. (shape_is i, known_is i)) c.leave.ensures.ended
 
 pub returns-clause-out : goal.returns-clause-out
 returns-clause-out g c =
