@@ -4,7 +4,6 @@
 
 pub mod hearing;
 pub mod laws;
-mod listening;
 mod receivers;
 
 pub use bus_adoptcommit::TwoCollect;

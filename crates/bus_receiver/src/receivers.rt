@@ -1,15 +1,14 @@
-//! A receiver of a bus without a lock.
+//! A receiver of a bus, with its places compared.
 
-ghost use Rattle.std.specs.Prelude.{◌≡◌, ℕ, List, [], Option};
+ghost use Rattle.std.specs.Prelude.{◌≡◌, ◌≤◌, length};
 ghost use Rattle.std.specs.Ordering.{nat_cmp};
-ghost use Rattle.bus_batch.specs.declared.messages.Piece.{Piece};
-ghost use Rattle.bus_receiver.specs.Listening.{HasHeard, Hears, HaveMet, IsTold};
+ghost use Rattle.bus_pageslot.specs.Rule.{ear_in, known_in};
+ghost use Rattle.bus_pageslot.specs.Listening.{Hears};
 ghost use Rattle.bus_pageslot.specs.Seats.{table_of, deeds_of, stored_of};
+ghost use Rattle.bus_receiver.specs.Listening.{HaveMet, IsTold};
 
-use crate::listening::{catch_up, hear_length, hear_word};
 use bus_adoptcommit::Ratifier;
-use bus_deliverylog::{Reader, RecvTurn};
-use bus_register::Reg;
+use bus_deliverylog::RecvTurn;
 use bus_pageslot::{Bus, Sender, Tap};
 use std::cmp::Ordering;
 use std::marker::Model;
@@ -19,75 +18,58 @@ use std::marker::Model;
 #[derive(Drop)]
 pub struct Receiver<Q: Ratifier> {
     tap: Tap<Q>,
-    /// It may know a shorter length than the seat.
-    reader: Reader,
 }
 
 impl<Q: Ratifier> Model for Receiver<Q> {
     ghost use Rattle.bus_tenure.specs.Elections.{Elector};
-    ghost use Rattle.bus_receiver.specs.Listening.{Listening, IsFit, seen, shown};
+    ghost use Rattle.bus_pageslot.specs.Seats.{Spot};
 
-    ghost Value = { Listening (Elector Q) };
+    ghost Value = { Spot (Elector Q) };
 
-    ghost view = { λ r. shown r.tap r.reader };
-
-    ghost invariant = { λ r. IsFit (seen r.tap) r.reader };
+    ghost view = { λ r. r.tap };
 }
 
 impl<Q: Ratifier + Drop> Receiver<Q> {
-    /// A receiver at the first word of the log of so many senders.
-    pub fn new(tap: Tap<Q>, senders: u64) -> Receiver<Q>
-        ensures seat { result.seat ≡ tap }
-        ensures senders { result.reader.frames.senders ≡ senders }
-        ensures place { result.reader.place ≡ 0 }
-        ensures heard { HasHeard [] result }
+    /// The receiver with this seat.
+    pub fn new(tap: Tap<Q>) -> Receiver<Q>
+        ensures { result ≡ tap }
     {
-        let reader = Reader::new(senders, Reg(0), Reg(0), u64::MAX);
-        Receiver { tap, reader }
+        Receiver { tap }
     }
 
     /// How many words it has read.
     pub fn place(&self) -> u64
-        ensures place { result ≡ self.now.reader.place }
-        ensures heard { (pieces : List (Option Piece)) × HasHeard pieces self.now }
+        ensures place { result ≡ (ear_in self.now.me.0).place }
+        ensures within { result ≤ length (known_in self.now.me.0) }
     {
-        self.reader.place()
+        self.tap.place()
     }
 
-    /// The end was among what it was given.
+    /// The end was among what it was answered.
     pub fn has_ended(&self) -> bool
-        ensures { result ≡ self.now.reader.ended }
+        ensures { result ≡ (ear_in self.now.me.0).ended }
     {
-        self.reader.has_ended()
+        self.tap.has_ended()
     }
 
     /// One turn: a load of the length where it has read all that it knows, else a load of the word
     /// at its place. After the end it takes no step.
     pub fn turn(&mut self, bus: &Bus<Q>) -> RecvTurn
-        requires { self.old.seat.table_id ≡ bus.now.table }
-        ensures table { self.new.seat.table_id ≡ self.old.seat.table_id }
-        ensures hears { (pieces : List (Option Piece)) → HasHeard pieces self.old
-            → Hears pieces self.old result self.new }
+        requires { self.old.table_id ≡ bus.now.table }
+        ensures table { self.new.table_id ≡ self.old.table_id }
+        ensures hears { Hears self.old.me result self.new.me }
     {
-        if self.reader.has_ended() {
-            return RecvTurn::End;
-        }
-        catch_up(&mut self.reader, self.tap.known());
-        if self.reader.place() == self.reader.known() {
-            hear_length(&mut self.tap, &mut self.reader, bus)
-        } else {
-            hear_word(&mut self.tap, &mut self.reader, bus)
-        }
+        self.tap.turn(bus)
     }
 
     /// A sender tells it of the log: it knows from then on all that the sender has published.
     pub fn told(&mut self, sender: &mut Sender<Q>, bus: &Bus<Q>)
-        requires table { (self.old.seat.table_id ≡ bus.now.table)
+        requires table { (self.old.table_id ≡ bus.now.table)
             × (table_of sender.old ≡ bus.now.table) }
-        ensures table { (self.new.seat.table_id ≡ self.old.seat.table_id)
+        ensures table { (self.new.table_id ≡ self.old.table_id)
             × (table_of sender.new ≡ table_of sender.old) }
-        ensures told { IsTold sender.old.core (deeds_of sender.old) (stored_of sender.old) self.old
-            self.new }
+        ensures told { IsTold sender.old.core (deeds_of sender.old) (stored_of sender.old)
+            self.old.me self.new.me }
         ensures sender { (sender.new.core ≡ sender.old.core)
             × (sender.new.seat.me ≡ sender.old.seat.me) }
     {
@@ -97,23 +79,22 @@ impl<Q: Ratifier + Drop> Receiver<Q> {
     /// Two receivers meet: the length is loaded once, both know the log up to it from then on, and
     /// their places are compared.
     pub fn meet(&mut self, other: &mut Receiver<Q>, bus: &Bus<Q>) -> Ordering
-        requires table { (self.old.seat.table_id ≡ bus.now.table)
-            × (other.old.seat.table_id ≡ bus.now.table) }
-        ensures table { (self.new.seat.table_id ≡ self.old.seat.table_id)
-            × (other.new.seat.table_id ≡ other.old.seat.table_id) }
-        ensures order { result ≡ nat_cmp self.old.reader.place other.old.reader.place }
-        ensures met { HaveMet self.old other.old self.new other.new }
+        requires table { (self.old.table_id ≡ bus.now.table)
+            × (other.old.table_id ≡ bus.now.table) }
+        ensures table { (self.new.table_id ≡ self.old.table_id)
+            × (other.new.table_id ≡ other.old.table_id) }
+        ensures order { result
+            ≡ nat_cmp (ear_in self.old.me.0).place (ear_in other.old.me.0).place }
+        ensures met { HaveMet self.old.me other.old.me self.new.me other.new.me }
     {
         self.tap.meet(&mut other.tap, bus);
-        self.reader.place().cmp(&other.reader.place())
+        self.tap.place().cmp(&other.tap.place())
     }
 
     /// Its seat, by which a bus is ended.
     pub fn into_tap(self) -> Tap<Q>
-        ensures { result ≡ self.seat }
+        ensures { result ≡ self }
     {
-        let Receiver { tap, reader } = self;
-        drop(reader);
-        tap
+        self.tap
     }
 }

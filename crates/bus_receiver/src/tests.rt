@@ -7,8 +7,8 @@ use super::*;
 use bus_adoptcommit::TwoCollect;
 use bus_batch::{Item, Message};
 use bus_deliverylog::RecvTurn;
-use bus_register::SenderNo;
 use bus_pageslot::{Bus, Sender};
+use bus_register::SenderNo;
 use bus_tenure::Turn;
 use bus_world::Shape;
 use std::alloc::Global;
@@ -46,8 +46,8 @@ fn turns_to(rt: &impl Abort, bus: &Few, sender: &mut One, want: Turn)
 
 /// Sees what the receiver's next turns answer.
 fn hears(rt: &impl Abort, bus: &Few, ear: &mut Ear, want: &[RecvTurn])
-    requires { ear.old.seat.table_id ≡ bus.now.table }
-    ensures { ear.new.seat.table_id ≡ bus.now.table }
+    requires { ear.old.table_id ≡ bus.now.table }
+    ensures { ear.new.table_id ≡ bus.now.table }
 {
     for (i, turn) in want.iter().enumerate() {
         let got = ear.turn(bus);
@@ -84,12 +84,12 @@ fn head(tenure: u64) -> RecvTurn {
 /// The small bus with its sender and its receivers.
 fn small(rt: &impl Abort, alloc: Global) -> (Few, One, Ear, Ear)
     ensures sender { table_of result.1 ≡ result.0.table }
-    ensures first { result.2.seat.table_id ≡ result.0.table }
-    ensures second { result.3.seat.table_id ≡ result.0.table }
+    ensures first { result.2.table_id ≡ result.0.table }
+    ensures second { result.3.table_id ≡ result.0.table }
 {
     let (bus, mut senders, mut taps) = Bus::new(alloc, SMALL).expect(rt, "memory");
-    let second = Receiver::new(taps.pop().expect(rt, "a seat"), 1);
-    let first = Receiver::new(taps.pop().expect(rt, "a seat"), 1);
+    let second = Receiver::new(taps.pop().expect(rt, "a seat"));
+    let first = Receiver::new(taps.pop().expect(rt, "a seat"));
     (bus, senders.pop().expect(rt, "a sender"), first, second)
 }
 
@@ -97,8 +97,8 @@ fn small(rt: &impl Abort, alloc: Global) -> (Few, One, Ear, Ear)
 /// turn.
 fn with_an_a(rt: &impl Abort, alloc: Global) -> (Few, One, Ear, Ear)
     ensures sender { table_of result.1 ≡ result.0.table }
-    ensures first { result.2.seat.table_id ≡ result.0.table }
-    ensures second { result.3.seat.table_id ≡ result.0.table }
+    ensures first { result.2.table_id ≡ result.0.table }
+    ensures second { result.3.table_id ≡ result.0.table }
 {
     let (bus, mut sender, mut first, second) = small(rt, alloc);
     assert_eq!(rt; sender.put(b"a"), Ok(0));
