@@ -261,3 +261,10 @@ hears_end {E} m words log r h over =
       at_length = λ goes here. absurd (let bad : true ≡ false = sym off ∙ goes in cc);
       at_word = λ goes l. absurd (let bad : true ≡ false = sym off ∙ goes in cc);
     }
+
+-- a turn that takes no step is none, but after the end
+pub no_still_turn : {E : Type 0} (c : Core E) (e : Ear) (answer : RecvTurn) → e.ended ≡ false → e.place ≤ length e.known → Hears (Tap c e, []) answer (Tap c e, []) → ⊥
+no_still_turn {E} c e answer going within h = elim (cases_lt e.place (length e.known)) [
+  | inl l ↦ (let more : e.loads ≡ e.loads + 1 = ap (λ (y : Sat E). (ear_in y.0).loads) (h.at_word going l).now in omega arith)
+  | inr l ↦ (let more : e.loads ≡ e.loads + 1 = ap (λ (y : Sat E). (ear_in y.0).loads) (h.at_length going (omega arith)).now in omega arith)
+]
