@@ -1,21 +1,20 @@
 -- What a receiver's reader keeps beside its seat, and what each load makes of it.
-use Rattle.std.proofs.Common.{◌≡◌, ◌≢◌, ℕ, ◌+◌, ◌<◌, ◌≤◌, ◌^◌, ◌==◌, cond, true, false, List, [], ◌∷◌, ◌++◌, length, take, drop, slice_get, slice_index, inl, inr, arith, refl, sym, ◌∙◌, ap, subst, append_assoc}
+use Rattle.std.proofs.Common.{◌≡◌, ◌≢◌, ℕ, ◌+◌, ◌<◌, ◌≤◌, ◌^◌, cond, true, false, List, [], ◌∷◌, ◌++◌, length, take, drop, slice_get, slice_index, inl, inr, arith, refl, sym, ◌∙◌, ap, subst, append_assoc}
 use Rattle.std.specs.Prelude.{Option}
 use Rattle.std.proofs.lemmas.Bool.{cases_eq, cases_lt}
 use Rattle.std.proofs.lemmas.Bool.Decides.{eqb_tells}
 use Rattle.std.proofs.lemmas.List.{length-append, length-take, take-append-drop, take-append-le, take_more}
 use Rattle.std.proofs.lemmas.Option.{same_Some}
 use Rattle.bus_batch.specs.declared.messages.Piece.{Piece}
-use Rattle.bus_batch.specs.Frames.{Frame, AreFrames, IsBadWord, GivesPiece, log_words, log_pieces, is_end}
+use Rattle.bus_batch.specs.Frames.{AreFrames, GivesPiece, log_words, log_pieces}
 use Rattle.bus_deliverylog.specs.declared.receiving.RecvTurn.{RecvTurn}
 use Rattle.bus_deliverylog.specs.declared.receiving.RecvTurn.TheVariants as turn
 use Rattle.bus_deliverylog.specs.Receiving.{Receiving, HasReceived, TakesLength, TakesWord, TakesGood, turn_of}
 use Rattle.bus_tenure.specs.Core.{Core}
 use Rattle.bus_world.specs.Headline.{IsPrefix}
-use Rattle.bus_pageslot.specs.Ears.{Ear, new_ear, learnt, heard_length, heard_word, length_turn}
-use Rattle.bus_pageslot.specs.declared.rule.View.{View}
+use Rattle.bus_pageslot.specs.Ears.{Ear, heard_length, heard_word, length_turn}
 use Rattle.bus_pageslot.specs.declared.rule.View.TheVariants.{Tap}
-use Rattle.bus_pageslot.specs.Rule.{Sat, ear_in, known_in, with_ear, senders_in, capacity_in}
+use Rattle.bus_pageslot.specs.Rule.{Sat, ear_in, known_in}
 use Rattle.bus_pageslot.specs.Seats.{knows, IsFit, IsEar}
 use Rattle.bus_pageslot.specs.Listening.{FindsLength, FindsWord, HearsLength, HearsWord, Hears}
 
