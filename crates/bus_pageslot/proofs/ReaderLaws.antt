@@ -1,21 +1,20 @@
 -- What a receiver's reader keeps beside its seat, and what each load makes of it.
-use Rattle.std.proofs.Common.{◌≡◌, ◌≢◌, ℕ, ◌+◌, ◌<◌, ◌≤◌, ◌^◌, ◌==◌, cond, true, false, List, [], ◌∷◌, ◌++◌, length, take, drop, slice_get, slice_index, inl, inr, arith, refl, sym, ◌∙◌, ap, subst, append_assoc}
+use Rattle.std.proofs.Common.{◌≡◌, ◌≢◌, ℕ, ◌+◌, ◌<◌, ◌≤◌, ◌^◌, cond, true, false, List, [], ◌∷◌, ◌++◌, length, take, drop, slice_get, slice_index, inl, inr, arith, refl, sym, ◌∙◌, ap, subst, append_assoc}
 use Rattle.std.specs.Prelude.{Option}
 use Rattle.std.proofs.lemmas.Bool.{cases_eq, cases_lt}
 use Rattle.std.proofs.lemmas.Bool.Decides.{eqb_tells}
 use Rattle.std.proofs.lemmas.List.{length-append, length-take, take-append-drop, take-append-le, take_more}
 use Rattle.std.proofs.lemmas.Option.{same_Some}
 use Rattle.bus_batch.specs.declared.messages.Piece.{Piece}
-use Rattle.bus_batch.specs.Frames.{Frame, AreFrames, IsBadWord, GivesPiece, log_words, log_pieces, is_end}
+use Rattle.bus_batch.specs.Frames.{AreFrames, GivesPiece, log_words, log_pieces}
 use Rattle.bus_deliverylog.specs.declared.receiving.RecvTurn.{RecvTurn}
 use Rattle.bus_deliverylog.specs.declared.receiving.RecvTurn.TheVariants as turn
 use Rattle.bus_deliverylog.specs.Receiving.{Receiving, HasReceived, TakesLength, TakesWord, TakesGood, turn_of}
 use Rattle.bus_tenure.specs.Core.{Core}
 use Rattle.bus_world.specs.Headline.{IsPrefix}
-use Rattle.bus_pageslot.specs.Ears.{Ear, new_ear, learnt, heard_length, heard_word, length_turn}
-use Rattle.bus_pageslot.specs.declared.rule.View.{View}
+use Rattle.bus_pageslot.specs.Ears.{Ear, heard_length, heard_word, length_turn}
 use Rattle.bus_pageslot.specs.declared.rule.View.TheVariants.{Tap}
-use Rattle.bus_pageslot.specs.Rule.{Sat, ear_in, known_in, with_ear, senders_in, capacity_in}
+use Rattle.bus_pageslot.specs.Rule.{Sat, ear_in, known_in}
 use Rattle.bus_pageslot.specs.Seats.{knows, IsFit, IsEar}
 use Rattle.bus_pageslot.specs.Listening.{FindsLength, FindsWord, HearsLength, HearsWord, Hears}
 
@@ -261,3 +260,10 @@ hears_end {E} m words log r h over =
       at_length = λ goes here. absurd (let bad : true ≡ false = sym off ∙ goes in cc);
       at_word = λ goes l. absurd (let bad : true ≡ false = sym off ∙ goes in cc);
     }
+
+-- a turn that takes no step is none, but after the end
+pub no_still_turn : {E : Type 0} (c : Core E) (e : Ear) (answer : RecvTurn) → e.ended ≡ false → e.place ≤ length e.known → Hears (Tap c e, []) answer (Tap c e, []) → ⊥
+no_still_turn {E} c e answer going within h = elim (cases_lt e.place (length e.known)) [
+  | inl l ↦ (let more : e.loads ≡ e.loads + 1 = ap (λ (y : Sat E). (ear_in y.0).loads) (h.at_word going l).now in omega arith)
+  | inr l ↦ (let more : e.loads ≡ e.loads + 1 = ap (λ (y : Sat E). (ear_in y.0).loads) (h.at_length going (omega arith)).now in omega arith)
+]

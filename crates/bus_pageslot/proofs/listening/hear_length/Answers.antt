@@ -1,4 +1,4 @@
-use Rattle.std.proofs.Common.{◌≡◌, ◌<◌, ◌^◌, arith, subst, sym, ◌∙◌, ap}
+use Rattle.std.proofs.Common.{◌<◌, ◌^◌, arith, subst, sym, ◌∙◌, ap}
 use Rattle.atomic_table.specs.Seated.{TableId}
 use Rattle.bus_tenure.specs.Elections.{elections, election_with, layout_with}
 use Rattle.bus_world.proofs.Serving.{serves}
