@@ -19,3 +19,5 @@ pub use receivers::Receiver;
 
 #[cfg(test)]
 mod tests;
+#[cfg(test)]
+mod tests_world;
