@@ -1,3 +1,4 @@
 pub mod AuditLemmas
 pub mod RunTextLemmas
 pub mod StopLemmas
+pub mod ToldLemmas

@@ -2,3 +2,5 @@ pub mod Printed
 pub mod Audit
 pub mod RunText
 pub mod Stops
+pub mod Numbers
+pub mod Told

@@ -10,23 +10,22 @@ ghost use Rattle.bus_run.specs.declared.faults.SenderFault.{SenderFault};
 ghost use Rattle.bus_run.specs.declared.faults.RunFault.TheVariants.{Stopped as stopped};
 
 use crate::audits::audit;
+use crate::buses::{Receiver, TheBus};
 use crate::crews::Crew;
 use crate::faults::{RunFault, SenderFault};
 use crate::reports::Report;
 use crate::workers::{Desk, Ear};
-use bus_pageslot::{Bus, Ended};
-use bus_receiver::{Heard, Receiver};
+use bus_pageslot::{Ended, OfBus};
+use bus_receiver::Heard;
 use bus_register::SenderNo;
 use bus_register::limits::MOST_SENDERS;
 use bus_world::Shape;
-use std::sync::Wait;
 
 /// Ends the bus that the crew has closed, unless a worker failed, and holds what it left behind
 /// against what each sender was to send and each receiver noted.
-pub fn end_and_audit<W: Wait>(
-    wait: &W,
-    bus: Bus,
-    crew: Crew<Desk<SenderFault>, Ear>,
+pub fn end_and_audit<B: OfBus>(
+    the: TheBus<B>,
+    crew: Crew<Desk<B, SenderFault>, Ear<B>>,
     mut heards: Vec<Heard>,
     shape: Shape,
     messages: u64,
@@ -60,7 +59,7 @@ pub fn end_and_audit<W: Wait>(
     if let Some(fault) = first_fault(desks.as_slice()) {
         return Err(fault.into());
     }
-    let ended = end_bus(wait, bus, &mut desks, ears, &mut heards)?;
+    let ended = end_bus(the, &mut desks, ears, &mut heards)?;
     all_sent(&ended, shape.senders, messages)?;
     audit(&ended, heards.as_slice())?;
     if heards.len() as u64 != shape.receivers {
@@ -70,7 +69,7 @@ pub fn end_and_audit<W: Wait>(
 }
 
 /// What stopped a sender: a gate before all else, and then what stopped the lowest.
-fn first_fault(desks: &[Desk<SenderFault>]) -> Option<SenderFault>
+fn first_fault<B: OfBus>(desks: &[Desk<B, SenderFault>]) -> Option<SenderFault>
     ensures { result ≡ first_stop (λ desk. desk.fault) desks.now }
 {
     if gate_refused(desks) {
@@ -81,7 +80,7 @@ fn first_fault(desks: &[Desk<SenderFault>]) -> Option<SenderFault>
 }
 
 /// A gate let a sender's worker not through.
-fn gate_refused(desks: &[Desk<SenderFault>]) -> bool
+fn gate_refused<B: OfBus>(desks: &[Desk<B, SenderFault>]) -> bool
     ensures { result ≡ list_any (λ desk. is_gate desk.fault) desks.now }
 {
     for desk in desks {
@@ -93,7 +92,7 @@ fn gate_refused(desks: &[Desk<SenderFault>]) -> bool
 }
 
 /// What stopped the lowest sender that was stopped.
-fn lowest_fault(desks: &[Desk<SenderFault>]) -> Option<SenderFault>
+fn lowest_fault<B: OfBus>(desks: &[Desk<B, SenderFault>]) -> Option<SenderFault>
     ensures { result ≡ lowest (λ desk. desk.fault) desks.now }
 {
     for desk in desks {
@@ -106,11 +105,10 @@ fn lowest_fault(desks: &[Desk<SenderFault>]) -> Option<SenderFault>
 
 /// Each sender tells the first receiver of the log, by whose pass the bus is ended, and sees that
 /// its order has ended. What each receiver noted is put behind `heards`.
-fn end_bus<W: Wait>(
-    wait: &W,
-    bus: Bus,
-    desks: &mut [Desk<SenderFault>],
-    ears: Vec<Ear>,
+fn end_bus<B: OfBus>(
+    the: TheBus<B>,
+    desks: &mut [Desk<B, SenderFault>],
+    ears: Vec<Ear<B>>,
     heards: &mut Vec<Heard>,
 ) -> Result<Ended, RunFault>
     ensures closed { IfOk result (λ ended. OfOrder ended IsClosed) }
@@ -118,7 +116,7 @@ fn end_bus<W: Wait>(
 {
     let mut first = None;
     for ear in ears {
-        let Ear { receiver, heard } = ear;
+        let Ear { receiver, heard, .. } = ear;
         if heards.push(heard).is_err() {
             return Err(RunFault::NoMemory);
         }
@@ -130,9 +128,9 @@ fn end_bus<W: Wait>(
         return Err(RunFault::Spawn);
     };
     for desk in desks.iter_mut() {
-        first.told(wait, &mut desk.sender, &bus);
+        first.told(&mut desk.sender, &the.bus);
     }
-    match Receiver::end(bus, first) {
+    match Receiver::end(the.into_bus(), first) {
         Ok(ended) if ended.page().ended => Ok(ended),
         _ => Err(RunFault::Stopped { sender: 0 }),
     }

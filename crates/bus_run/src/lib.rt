@@ -3,6 +3,7 @@
 #![tactic(auto)]
 
 pub mod audits;
+pub mod buses;
 pub mod closing;
 pub mod crews;
 pub mod faults;

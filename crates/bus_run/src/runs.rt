@@ -4,18 +4,21 @@ ghost use Rattle.std.specs.Prelude.{◌≡◌, ◌≤◌, All, length, IfOk, OnO
 ghost use Rattle.bus_world.specs.Playing.{IsServed};
 ghost use Rattle.bus_run.specs.Audit.{OfOrder, IsSpelled, IsFair, SendsEach, IsClosed};
 ghost use Rattle.bus_run.specs.Audit.{shape_of_run};
-ghost use Rattle.bus_run.specs.Stops.{IsRunFault};
+ghost use Rattle.bus_run.specs.Stops.{IsStop, IsRunFault};
+ghost use Rattle.bus_pageslot.specs.Seats.{table_of};
 
+use crate::buses::{Bus, Sender, Tap, TheBus};
 use crate::closing::end_and_audit;
 use crate::crews::Crew;
 use crate::faults::{RunFault, SenderFault};
 use crate::gates::Gate;
 use crate::reports::Report;
 use crate::workers::{Desk, Ear, HearAll, Load, SendAll, desks_of, ears_of};
-use bus_pageslot::Bus;
+use bus_pageslot::OfBus;
 use bus_register::limits::{MOST_LOG_WORDS, MOST_ROWS};
 use bus_world::Shape;
 use std::alloc::Global;
+use std::marker::Brand;
 use std::sync::Wait;
 use std::sync::atomic::{AtomicBool, Ordering};
 use std::thread;
@@ -49,39 +52,65 @@ pub fn run<R: Threads + Wait + Sync, G: Gate + Sync>(
         rows: MOST_ROWS as u64,
         log_words: MOST_LOG_WORDS,
     };
-    let (bus, seats, taps) = Bus::new(alloc, shape)?;
+    let made = Bus::new(alloc, shape)?;
+    run_on::<Brand, R, G>(rt, alloc, made, shape, Load { messages, seed }, gate)
+}
+
+/// Runs the bus B, of this shape, to its end.
+fn run_on<B: OfBus + Send + Sync, R: Threads + Wait + Sync, G: Gate + Sync>(
+    rt: &R,
+    alloc: Global,
+    made: (Bus, Vec<Sender>, Vec<Tap>),
+    shape: Shape,
+    load: Load,
+    gate: &G,
+) -> Result<Report, RunFault>
+    requires bus { made.0.table ≡ B.table }
+    requires senders { All (λ sender. table_of sender ≡ B.table) made.1.items }
+    requires taps { All (λ tap. tap.table_id ≡ B.table) made.2.items }
+    requires served { IsServed shape }
+    ensures sent { IfOk result
+        (λ report. OfOrder report.ended (SendsEach shape.senders load.messages)) }
+    ensures closed { IfOk result (λ report. OfOrder report.ended IsClosed) }
+    ensures heard { IfOk result
+        (λ report. OfOrder report.ended (λ order. All (IsFair order) report.heards.items)) }
+    ensures each { IfOk result (λ report. length report.heards.items ≡ shape.receivers) }
+    ensures spelled { IfOk result (λ report. IsSpelled report.ended) }
+    ensures fault { IfErr result IsStop }
+{
+    let (bus, senders, taps) = made;
     let heards = Vec::with_capacity(alloc, taps.len())?;
-    let load = Load { messages, seed };
     let crew = Crew::new(
         alloc,
-        desks_of(alloc, seats, load.seed)?,
-        ears_of(alloc, taps)?,
+        desks_of::<B, SenderFault>(alloc, senders, load.seed)?,
+        ears_of::<B>(alloc, taps)?,
     )?;
-    let crew = man(rt, &bus, gate, load, crew);
-    end_and_audit(rt, bus, crew, heards, shape, messages)
+    let the = TheBus::<B>::new(bus);
+    let crew = man(rt, &the, gate, load, crew);
+    end_and_audit(the, crew, heards, shape, load.messages)
 }
 
 /// Lets each sender and each receiver work in a thread of its own, until all have ended. Who could
 /// not be started is no longer in the crew.
-fn man<R: Threads + Wait + Sync, G: Gate + Sync>(
+fn man<B: OfBus + Send + Sync, R: Threads + Wait + Sync, G: Gate + Sync>(
     rt: &R,
-    bus: &Bus,
+    the: &TheBus<B>,
     gate: &G,
     load: Load,
-    crew: Crew<Desk<SenderFault>, Ear>,
-) -> Crew<Desk<SenderFault>, Ear> {
+    crew: Crew<Desk<B, SenderFault>, Ear<B>>,
+) -> Crew<Desk<B, SenderFault>, Ear<B>> {
     let given_up = AtomicBool::new(false);
     let given_up = &given_up;
     let wait = rt;
     let sending = SendAll {
         wait,
-        bus,
+        the,
         gate,
         load,
     };
     let hearing = HearAll {
         wait,
-        bus,
+        the,
         given_up,
     };
     let (sending, hearing) = (&sending, &hearing);
@@ -91,7 +120,7 @@ fn man<R: Threads + Wait + Sync, G: Gate + Sync>(
             crew.start_receivers(scope, hearing);
         }
         crew.join_senders(rt);
-        let is_closed = close(rt, bus, &mut crew.desks);
+        let is_closed = close(rt, the, &mut crew.desks);
         given_up.store(!is_closed, Ordering::SeqCst);
         crew.join_receivers(rt);
         crew
@@ -99,11 +128,15 @@ fn man<R: Threads + Wait + Sync, G: Gate + Sync>(
 }
 
 /// The first sender closes the bus. Says whether it is closed.
-fn close<W: Wait>(wait: &W, bus: &Bus, desks: &mut [Desk<SenderFault>]) -> bool {
+fn close<B: OfBus, W: Wait>(
+    wait: &W,
+    the: &TheBus<B>,
+    desks: &mut [Desk<B, SenderFault>],
+) -> bool {
     let Some(desk) = desks.first_mut() else {
         return false;
     };
-    let closed = desk.close(wait, bus);
+    let closed = desk.close(wait, the);
     if !closed {
         desk.stop();
     }

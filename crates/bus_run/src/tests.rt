@@ -1,14 +1,17 @@
 //! A bus that threads share, and what is said of what it left behind.
 
 use super::audits::{AuditFault, audit};
+use super::buses::Bus;
 use super::faults::RunFault;
 use super::gates::{Gate, OpenGate};
 use super::runs::run;
+use super::workers::generator;
 use bus_batch::{Item, Message};
 use bus_deliverylog::RecvTurn;
-use bus_pageslot::{Bus, Ended};
+use bus_pageslot::Ended;
 use bus_receiver::Heard;
 use bus_register::SenderNo;
+use bus_tenure::Turn;
 use bus_world::{MakeFault, Shape};
 use std::process::Abort;
 use std::sync::Wait;
@@ -27,11 +30,9 @@ fn ended_with_one<R: Abort + Wait + AllocGlobal>(rt: &R) -> Ended {
     let (bus, mut senders, mut taps) = Bus::new(rt.alloc(), shape).expect(rt, "memory");
     let mut sender = senders.pop().expect(rt, "a sender");
     let tap = taps.pop().expect(rt, "a pass");
-    assert!(rt; sender.next_number() < 1000);
     assert_eq!(rt; sender.put(b"a"), Ok(0));
-    for _ in 0..20 {
-        let _ = sender.turn(rt, &bus, 0);
-    }
+    let sent = sender.send(rt, &bus, &mut generator(7, 0));
+    assert!(rt; matches!(sent, Turn::Delivered { .. }));
     bus.end(tap).expect(rt, "the page is home")
 }
 

@@ -7,20 +7,24 @@ ghost use Rattle.std.specs.Int.{w64, to_le_bytes, to_be_bytes};
 ghost use Rattle.rand_chacha.specs.ChaCha.{of_seed};
 ghost use Rattle.bus_batch.specs.Batches.{next_of, IsPutFault};
 ghost use Rattle.bus_batch.specs.declared.batches.PutFault.{PutFault};
+ghost use Rattle.bus_pageslot.specs.Seats.{table_of};
 ghost use Rattle.bus_receiver.specs.Hearing.{nothing};
+ghost use Rattle.bus_receiver.specs.Listening.{bus_of};
 ghost use Rattle.bus_run.specs.declared.faults.SenderFault.TheVariants.{Stopped as stopped};
 
+use crate::buses::{Receiver, Sender, Tap, TheBus};
 use crate::crews::Work;
 use crate::faults::SenderFault;
 use crate::gates::Gate;
 use bus_deliverylog::RecvTurn;
-use bus_pageslot::{Bus, Sender, Tap};
-use bus_receiver::{Heard, Receiver};
+use bus_pageslot::OfBus;
+use bus_receiver::Heard;
 use bus_tenure::Turn;
 use crossbeam_utils::Backoff;
 use rand_chacha::ChaCha8Rng;
 use rand_core::SeedableRng;
 use std::alloc::{AllocError, Global};
+use std::marker::PhantomData;
 use std::sync::Wait;
 use std::sync::atomic::{AtomicBool, Ordering};
 
@@ -37,26 +41,52 @@ pub struct Load {
     pub seed: u64,
 }
 
-/// A sender with its random words, and what stopped it.
+/// A sender of the bus B with its random words, and what stopped it.
 #[derive(Drop)]
-pub struct Desk<F: Drop> {
+pub struct Desk<B: OfBus, F: Drop> {
     pub sender: Sender,
     pub rng: ChaCha8Rng,
     pub fault: Option<F>,
+    of: PhantomData<B>,
+    ghost of_bus: { table_of sender ≡ B.table },
 }
 
-/// A receiver with what was noted of its answers.
+/// A receiver of the bus B with what was noted of its answers.
 #[derive(Drop)]
-pub struct Ear {
+pub struct Ear<B: OfBus> {
     pub receiver: Receiver,
     pub heard: Heard,
+    of: PhantomData<B>,
+    ghost of_bus: { bus_of receiver ≡ B.table },
 }
 
-impl<F: Drop> Desk<F> {
+impl<B: OfBus> Ear<B> {
+    /// The ear of a receiver that has not begun.
+    pub fn new(tap: Tap) -> Ear<B>
+        requires { tap.table_id ≡ B.table }
+        ensures { result.heard ≡ nothing }
+    {
+        Ear {
+            receiver: Receiver::new(tap),
+            heard: Heard::new(),
+            of: PhantomData,
+        }
+    }
+
+    /// A turn of its receiver, which is noted.
+    pub fn hear(&mut self, the: &TheBus<B>) -> RecvTurn {
+        let turn = self.receiver.turn(&the.bus);
+        let _ = self.heard.note(&turn);
+        turn
+    }
+}
+
+impl<B: OfBus, F: Drop> Desk<B, F> {
     /// The desk of a sender that has not begun.
-    pub fn new(sender: Sender, seed: u64) -> Desk<F>
+    pub fn new(sender: Sender, seed: u64) -> Desk<B, F>
+        requires { table_of sender ≡ B.table }
         ensures sender { result.sender ≡ sender }
-        ensures stream { result.rng.stream ≡ sender.queue.sender.0 }
+        ensures stream { result.rng.stream ≡ sender.core.me }
         ensures fault { result.fault ≡ None }
     {
         let rng = generator(seed, u64::from(sender.number().0));
@@ -64,30 +94,38 @@ impl<F: Drop> Desk<F> {
             sender,
             rng,
             fault: None,
+            of: PhantomData,
         }
     }
 
     /// The number of its sender.
     pub fn number(&self) -> u64
-        ensures { result ≡ self.now.sender.queue.sender.0 }
+        ensures { result ≡ self.now.sender.core.me }
     {
         u64::from(self.sender.number().0)
     }
 
     /// Its sender closes the bus. Says whether the bus is closed.
-    pub fn close<W: Wait>(&mut self, wait: &W, bus: &Bus) -> bool
+    pub fn close<W: Wait>(&mut self, wait: &W, the: &TheBus<B>) -> bool
         ensures { self.new.fault ≡ self.old.fault }
     {
-        self.sender.close().is_ok() && self.sender.send(wait, bus, &mut self.rng) == Turn::Closed
+        self.sender.close().is_ok() && self.send(wait, the) == Turn::Closed
+    }
+
+    /// Its sender sends what waits in its batch.
+    pub fn send<W: Wait>(&mut self, wait: &W, the: &TheBus<B>) -> Turn
+        ensures { self.new.fault ≡ self.old.fault }
+    {
+        self.sender.send(wait, &the.bus, &mut self.rng)
     }
 }
 
-impl Desk<SenderFault> {
+impl<B: OfBus> Desk<B, SenderFault> {
     /// Says that its sender was stopped, unless it had a fault before.
     pub fn stop(&mut self)
         ensures sender { self.new.sender ≡ self.old.sender }
         ensures stopped { self.old.fault ≡ None
-            → self.new.fault ≡ Some (stopped self.old.sender.queue.sender.0) }
+            → self.new.fault ≡ Some (stopped self.old.sender.core.me) }
         ensures before { (self.old.fault ≡ None → ⊥) → self.new.fault ≡ self.old.fault }
     {
         if self.fault.is_none() {
@@ -96,14 +134,25 @@ impl Desk<SenderFault> {
             });
         }
     }
+
+    /// Puts the messages from `first` up to `end`. Says whether all were taken.
+    fn put_all(&mut self, first: u64, end: u64) -> bool {
+        for number in first..end {
+            if !put_number(&mut self.sender, number) {
+                return false;
+            }
+        }
+        true
+    }
 }
 
 /// A desk for each sender, in order.
-pub fn desks_of<F: Drop>(
+pub fn desks_of<B: OfBus, F: Drop>(
     alloc: Global,
     senders: Vec<Sender>,
     seed: u64,
-) -> Result<Vec<Desk<F>>, AllocError>
+) -> Result<Vec<Desk<B, F>>, AllocError>
+    requires { All (λ sender. table_of sender ≡ B.table) senders.items }
     ensures { IfOk result (λ desks. map (λ desk. desk.sender) desks.items ≡ senders.items) }
 {
     let mut desks = Vec::with_capacity(alloc, senders.len())?;
@@ -114,14 +163,14 @@ pub fn desks_of<F: Drop>(
 }
 
 /// An ear for each receiver, in order.
-pub fn ears_of(alloc: Global, taps: Vec<Tap>) -> Result<Vec<Ear>, AllocError>
+pub fn ears_of<B: OfBus>(alloc: Global, taps: Vec<Tap>) -> Result<Vec<Ear<B>>, AllocError>
+    requires { All (λ tap. tap.table_id ≡ B.table) taps.items }
     ensures each { IfOk result (λ ears. length ears.items ≡ length taps.items) }
     ensures fresh { IfOk result (λ ears. All (λ ear. ear.heard ≡ nothing) ears.items) }
 {
     let mut ears = Vec::with_capacity(alloc, taps.len())?;
     for tap in taps {
-        let (receiver, heard) = (Receiver::new(tap), Heard::new());
-        ears.push(Ear { receiver, heard })?;
+        ears.push(Ear::new(tap))?;
     }
     Ok(ears)
 }
@@ -138,18 +187,18 @@ pub fn generator(seed: u64, sender: u64) -> ChaCha8Rng
     rng
 }
 
-/// The work of the senders of a run.
+/// The work of the senders of a run, on the bus B.
 #[derive(Drop)]
-pub struct SendAll<'a, W, G> {
+pub struct SendAll<'a, B: OfBus, W, G> {
     pub wait: &'a W,
-    pub bus: &'a Bus,
+    pub the: &'a TheBus<B>,
     pub gate: &'a G,
     pub load: Load,
 }
 
-impl<W: Wait, G: Gate> Work<Desk<SenderFault>> for SendAll<'_, W, G> {
+impl<B: OfBus, W: Wait, G: Gate> Work<Desk<B, SenderFault>> for SendAll<'_, B, W, G> {
     /// Sends the numbers below `load.messages`, in batches.
-    fn work(&self, mut desk: Desk<SenderFault>) -> Desk<SenderFault> {
+    fn work(&self, mut desk: Desk<B, SenderFault>) -> Desk<B, SenderFault> {
         let messages = self.load.messages;
         for first in (0..messages).step_by(BATCH) {
             if !self.gate.arrive(desk.number()) {
@@ -157,7 +206,7 @@ impl<W: Wait, G: Gate> Work<Desk<SenderFault>> for SendAll<'_, W, G> {
                 return desk;
             }
             let end = messages.min(first.saturating_add(BATCH as u64));
-            if !put_all(&mut desk.sender, first, end) || !self.send_batch(&mut desk) {
+            if !desk.put_all(first, end) || !self.send_batch(&mut desk) {
                 desk.stop();
                 return desk;
             }
@@ -166,54 +215,43 @@ impl<W: Wait, G: Gate> Work<Desk<SenderFault>> for SendAll<'_, W, G> {
     }
 }
 
-impl<W: Wait, G> SendAll<'_, W, G> {
+impl<B: OfBus, W: Wait, G> SendAll<'_, B, W, G> {
     /// Sends the messages that wait. Says whether the sender can go on.
-    fn send_batch(&self, desk: &mut Desk<SenderFault>) -> bool {
+    fn send_batch(&self, desk: &mut Desk<B, SenderFault>) -> bool {
         !matches!(
-            desk.sender.send(self.wait, self.bus, &mut desk.rng),
+            desk.send(self.wait, self.the),
             Turn::Full | Turn::Closed | Turn::Spent
         )
     }
 }
 
-/// Puts the messages from `first` up to `end`. Says whether all were taken.
-fn put_all(sender: &mut Sender, first: u64, end: u64) -> bool {
-    for number in first..end {
-        if !put_number(sender, number) {
-            return false;
-        }
-    }
-    true
-}
-
 /// Puts a number as a message of 8 bytes, the highest first. Says whether it was taken.
 fn put_number(sender: &mut Sender, number: u64) -> bool
     ensures taken { result ≡ true
-        → sender.new.queue.messages ≡ sender.old.queue.messages ++ to_be_bytes w64
+        → sender.new.core.queue.messages ≡ sender.old.core.queue.messages ++ to_be_bytes w64
         number ∷ [] }
-    ensures refused { result ≡ false → (400 ≤ next_of sender.old.queue)
-        ⊎ ((why : PutFault) × IsPutFault sender.old.queue 8 why) }
+    ensures refused { result ≡ false → (400 ≤ next_of sender.old.core.queue)
+        ⊎ ((why : PutFault) × IsPutFault sender.old.core.queue 8 why) }
+    ensures table { table_of sender.new ≡ table_of sender.old }
 {
     sender.next_number() < MOST_EACH && sender.put(&number.to_be_bytes()).is_ok()
 }
 
-/// The work of the receivers of a run.
+/// The work of the receivers of a run, on the bus B.
 #[derive(Drop)]
-pub struct HearAll<'a, W> {
+pub struct HearAll<'a, B: OfBus, W> {
     pub wait: &'a W,
-    pub bus: &'a Bus,
+    pub the: &'a TheBus<B>,
     pub given_up: &'a AtomicBool,
 }
 
-impl<W: Wait> Work<Ear> for HearAll<'_, W> {
+impl<B: OfBus, W: Wait> Work<Ear<B>> for HearAll<'_, B, W> {
     /// Takes until the end and notes each answer, or until the bus was given up and has nothing
     /// more.
-    fn work(&self, mut ear: Ear) -> Ear {
+    fn work(&self, mut ear: Ear<B>) -> Ear<B> {
         let backoff = Backoff::new();
         for _ in self.wait.forever() {
-            let turn = ear.receiver.turn(self.wait, self.bus);
-            let _ = ear.heard.note(&turn);
-            match turn {
+            match ear.hear(self.the) {
                 RecvTurn::End => return ear,
                 RecvTurn::Empty => {
                     if self.given_up.load(Ordering::SeqCst) {

@@ -4,4 +4,4 @@ use Rattle.bus_receiver.specs.Hearing.{nothing}
 use Rattle.bus_run.proofs.workers.ears_of.Given as goal
 
 abbrev pub invariant-loop-tap : goal.invariant-loop-tap
-invariant-loop-tap l = (length l.ears.items ≡ length l.yielded) × All (λ ear. ear.heard ≡ nothing) l.ears.items
+invariant-loop-tap g l = (length l.ears.items ≡ length l.yielded) × All (λ ear. ear.heard ≡ nothing) l.ears.items
