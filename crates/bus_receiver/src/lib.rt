@@ -18,3 +18,5 @@ pub use receivers::Receiver;
 
 #[cfg(test)]
 mod tests;
+#[cfg(test)]
+mod tests_world;
