@@ -2,3 +2,4 @@ pub mod AuditLemmas
 pub mod RunTextLemmas
 pub mod StopLemmas
 pub mod ToldLemmas
+pub mod PutLemmas

@@ -1,7 +1,9 @@
 -- What receivers noted, against the order of items that a bus left behind.
 use Rattle.std.specs.Prelude.{◌≡◌, ◌≢◌, ℕ, ◌<◌, true, false, List, length, take, All, slice_index, slice_get, Some}
+use Rattle.std.specs.Int.{w64, to_be_bytes}
 use Rattle.bus_register.specs.declared.limits.TheConstants.{MOST_SENDERS, MOST_ROWS, MOST_LOG_WORDS}
 use Rattle.bus_register.specs.declared.registers.SenderNo.{SenderNo}
+use Rattle.bus_batch.specs.declared.messages.Item.{Item}
 use Rattle.bus_batch.specs.Frames.{Order, Spells}
 use Rattle.bus_deliverylog.specs.Orders.{of_sender}
 use Rattle.bus_world.specs.declared.shapes.Shape.{Shape}
@@ -38,6 +40,10 @@ IsFirstFault order heards (NotEnded receiver) = All (IsFair order) (take receive
 -- so many items of each of so many senders
 abbrev pub SendsEach : ℕ → ℕ → Order → Type 0
 SendsEach senders messages order = (s : ℕ) → s < senders → length (of_sender s order) ≡ messages
+
+-- the items of each of so many senders carry the numbers from 0 on, in order, each in 8 bytes, the highest first
+abbrev pub CarriesNumbers : ℕ → Order → Type 0
+CarriesNumbers senders order = (s k : ℕ) (item : Item) → s < senders → slice_get (of_sender s order) k ≡ Some item → item.message ≡ to_be_bytes w64 k
 
 -- the order has ended
 abbrev pub IsClosed : Order → Type 0

@@ -1,9 +1,13 @@
 //! What a run leaves behind, once all its workers have ended.
 
 ghost use Rattle.std.specs.Prelude.{◌≡◌, ◌≢◌, ◌≤◌, ◌<◌, ◌+◌, ◌⊎◌};
-ghost use Rattle.std.specs.Prelude.{ℕ, All, length, Some, IfOk, OnOk, IfErr, IsErrOf};
+ghost use Rattle.std.specs.Prelude.{ℕ, All, length, Some, IfOk, OnOk, IfErr, IsErrOf, true};
 ghost use Rattle.std.specs.List.{list_any};
 ghost use Rattle.bus_run.specs.Audit.{OfOrder, IsSpelled, IsFair, SendsEach, IsClosed};
+ghost use Rattle.bus_run.specs.Audit.{CarriesNumbers};
+ghost use Rattle.bus_run.specs.Told.{HasTold};
+ghost use Rattle.bus_receiver.specs.Listening.{bus_of, known_of};
+ghost use Rattle.bus_world.specs.Headline.{IsPrefix};
 ghost use Rattle.bus_run.specs.Stops.{is_gate, lowest, first_stop, fault_of, IsStop};
 ghost use Rattle.bus_deliverylog.specs.Orders.{of_sender};
 ghost use Rattle.bus_run.specs.declared.faults.SenderFault.{SenderFault};
@@ -25,7 +29,7 @@ use bus_world::Shape;
 /// against what each sender was to send and each receiver noted.
 pub fn end_and_audit<B: OfBus>(
     the: TheBus<B>,
-    crew: Crew<Desk<B, SenderFault>, Ear<B>>,
+    crew: Crew<Desk<B>, Ear<B>>,
     mut heards: Vec<Heard>,
     shape: Shape,
     messages: u64,
@@ -33,6 +37,8 @@ pub fn end_and_audit<B: OfBus>(
     requires { shape.senders ≤ MOST_SENDERS }
     ensures sent { IfOk result
         (λ report. OfOrder report.ended (SendsEach shape.senders messages)) }
+    ensures carried { IfOk result
+        (λ report. OfOrder report.ended (CarriesNumbers shape.senders)) }
     ensures closed { IfOk result (λ report. OfOrder report.ended IsClosed) }
     ensures heard { IfOk result
         (λ report. OfOrder report.ended (λ order. All (IsFair order) report.heards.items)) }
@@ -59,7 +65,7 @@ pub fn end_and_audit<B: OfBus>(
     if let Some(fault) = first_fault(desks.as_slice()) {
         return Err(fault.into());
     }
-    let ended = end_bus(the, &mut desks, ears, &mut heards)?;
+    let ended = end_bus(the, &mut desks, ears, &mut heards, messages)?;
     all_sent(&ended, shape.senders, messages)?;
     audit(&ended, heards.as_slice())?;
     if heards.len() as u64 != shape.receivers {
@@ -69,7 +75,7 @@ pub fn end_and_audit<B: OfBus>(
 }
 
 /// What stopped a sender: a gate before all else, and then what stopped the lowest.
-fn first_fault<B: OfBus>(desks: &[Desk<B, SenderFault>]) -> Option<SenderFault>
+fn first_fault<B: OfBus>(desks: &[Desk<B>]) -> Option<SenderFault>
     ensures { result ≡ first_stop (λ desk. desk.fault) desks.now }
 {
     if gate_refused(desks) {
@@ -80,7 +86,7 @@ fn first_fault<B: OfBus>(desks: &[Desk<B, SenderFault>]) -> Option<SenderFault>
 }
 
 /// A gate let a sender's worker not through.
-fn gate_refused<B: OfBus>(desks: &[Desk<B, SenderFault>]) -> bool
+fn gate_refused<B: OfBus>(desks: &[Desk<B>]) -> bool
     ensures { result ≡ list_any (λ desk. is_gate desk.fault) desks.now }
 {
     for desk in desks {
@@ -92,7 +98,7 @@ fn gate_refused<B: OfBus>(desks: &[Desk<B, SenderFault>]) -> bool
 }
 
 /// What stopped the lowest sender that was stopped.
-fn lowest_fault<B: OfBus>(desks: &[Desk<B, SenderFault>]) -> Option<SenderFault>
+fn lowest_fault<B: OfBus>(desks: &[Desk<B>]) -> Option<SenderFault>
     ensures { result ≡ lowest (λ desk. desk.fault) desks.now }
 {
     for desk in desks {
@@ -104,14 +110,18 @@ fn lowest_fault<B: OfBus>(desks: &[Desk<B, SenderFault>]) -> Option<SenderFault>
 }
 
 /// Each sender tells the first receiver of the log, by whose pass the bus is ended, and sees that
-/// its order has ended. What each receiver noted is put behind `heards`.
+/// it has put so many messages, and that its order has ended. What each receiver noted is put
+/// behind `heards`.
 fn end_bus<B: OfBus>(
     the: TheBus<B>,
-    desks: &mut [Desk<B, SenderFault>],
+    desks: &mut [Desk<B>],
     ears: Vec<Ear<B>>,
     heards: &mut Vec<Heard>,
+    messages: u64,
 ) -> Result<Ended, RunFault>
     ensures closed { IfOk result (λ ended. OfOrder ended IsClosed) }
+    ensures told { IfOk result (λ ended. (s : ℕ) → s < length desks.old
+        → HasTold s messages ended.log) }
     ensures fault { IfErr result IsStop }
 {
     let mut first = None;
@@ -127,13 +137,35 @@ fn end_bus<B: OfBus>(
     let Some(mut first) = first else {
         return Err(RunFault::Spawn);
     };
-    for desk in desks.iter_mut() {
-        first.told(&mut desk.sender, &the.bus);
+    for (place, desk) in desks.iter_mut().enumerate() {
+        let sender = place as u64;
+        if !tell(&mut first, desk, &the, sender, messages) {
+            return Err(RunFault::Stopped { sender });
+        }
     }
     match Receiver::end(the.into_bus(), first) {
         Ok(ended) if ended.page().ended => Ok(ended),
         _ => Err(RunFault::Stopped { sender: 0 }),
     }
+}
+
+/// A desk's sender tells a receiver of the log. Says whether it is the sender of this number and
+/// has put so many messages, of which none waits.
+fn tell<B: OfBus>(
+    receiver: &mut Receiver,
+    desk: &mut Desk<B>,
+    the: &TheBus<B>,
+    number: u64,
+    messages: u64,
+) -> bool
+    requires { bus_of receiver.old ≡ B.table }
+    ensures table { bus_of receiver.new ≡ B.table }
+    ensures grows { IsPrefix (known_of receiver.old) (known_of receiver.new) }
+    ensures told { result ≡ true → HasTold number messages (known_of receiver.new) }
+{
+    let is_done = desk.number() == number && desk.has_put(messages);
+    receiver.told(&mut desk.sender, &the.bus);
+    is_done
 }
 
 /// Sees that each sender has so many items in the order that the bus left behind.

@@ -1,16 +1,17 @@
 //! A run: a bus that a worker of each sender and of each receiver takes its steps on.
 
-ghost use Rattle.std.specs.Prelude.{◌≡◌, ◌≤◌, All, length, IfOk, OnOk, IfErr};
+ghost use Rattle.std.specs.Prelude.{◌≡◌, ◌≤◌, [], All, length, IfOk, OnOk, IfErr};
 ghost use Rattle.bus_world.specs.Playing.{IsServed};
 ghost use Rattle.bus_run.specs.Audit.{OfOrder, IsSpelled, IsFair, SendsEach, IsClosed};
-ghost use Rattle.bus_run.specs.Audit.{shape_of_run};
+ghost use Rattle.bus_run.specs.Audit.{shape_of_run, CarriesNumbers};
 ghost use Rattle.bus_run.specs.Stops.{IsStop, IsRunFault};
-ghost use Rattle.bus_pageslot.specs.Seats.{table_of};
+ghost use Rattle.bus_pageslot.specs.Seats.{table_of, deeds_of};
+ghost use Rattle.bus_world.specs.Headline.{puts};
 
 use crate::buses::{Bus, Sender, Tap, TheBus};
 use crate::closing::end_and_audit;
 use crate::crews::Crew;
-use crate::faults::{RunFault, SenderFault};
+use crate::faults::RunFault;
 use crate::gates::Gate;
 use crate::reports::Report;
 use crate::workers::{Desk, Ear, HearAll, Load, SendAll, desks_of, ears_of};
@@ -38,6 +39,7 @@ pub fn run<R: Threads + Wait + Sync, G: Gate + Sync>(
     requires { messages ≤ 400 }
     ensures served { OnOk result (IsServed (shape_of_run senders receivers)) }
     ensures sent { IfOk result (λ report. OfOrder report.ended (SendsEach senders messages)) }
+    ensures carried { IfOk result (λ report. OfOrder report.ended (CarriesNumbers senders)) }
     ensures closed { IfOk result (λ report. OfOrder report.ended IsClosed) }
     ensures heard { IfOk result
         (λ report. OfOrder report.ended (λ order. All (IsFair order) report.heards.items)) }
@@ -67,10 +69,13 @@ fn run_on<B: OfBus + Send + Sync, R: Threads + Wait + Sync, G: Gate + Sync>(
 ) -> Result<Report, RunFault>
     requires bus { made.0.table ≡ B.table }
     requires senders { All (λ sender. table_of sender ≡ B.table) made.1.items }
+    requires put { All (λ sender. puts (deeds_of sender) ≡ []) made.1.items }
     requires taps { All (λ tap. tap.table_id ≡ B.table) made.2.items }
     requires served { IsServed shape }
     ensures sent { IfOk result
         (λ report. OfOrder report.ended (SendsEach shape.senders load.messages)) }
+    ensures carried { IfOk result
+        (λ report. OfOrder report.ended (CarriesNumbers shape.senders)) }
     ensures closed { IfOk result (λ report. OfOrder report.ended IsClosed) }
     ensures heard { IfOk result
         (λ report. OfOrder report.ended (λ order. All (IsFair order) report.heards.items)) }
@@ -82,7 +87,7 @@ fn run_on<B: OfBus + Send + Sync, R: Threads + Wait + Sync, G: Gate + Sync>(
     let heards = Vec::with_capacity(alloc, taps.len())?;
     let crew = Crew::new(
         alloc,
-        desks_of::<B, SenderFault>(alloc, senders, load.seed)?,
+        desks_of::<B>(alloc, senders, load.seed)?,
         ears_of::<B>(alloc, taps)?,
     )?;
     let the = TheBus::<B>::new(bus);
@@ -97,8 +102,8 @@ fn man<B: OfBus + Send + Sync, R: Threads + Wait + Sync, G: Gate + Sync>(
     the: &TheBus<B>,
     gate: &G,
     load: Load,
-    crew: Crew<Desk<B, SenderFault>, Ear<B>>,
-) -> Crew<Desk<B, SenderFault>, Ear<B>> {
+    crew: Crew<Desk<B>, Ear<B>>,
+) -> Crew<Desk<B>, Ear<B>> {
     let given_up = AtomicBool::new(false);
     let given_up = &given_up;
     let wait = rt;
@@ -131,7 +136,7 @@ fn man<B: OfBus + Send + Sync, R: Threads + Wait + Sync, G: Gate + Sync>(
 fn close<B: OfBus, W: Wait>(
     wait: &W,
     the: &TheBus<B>,
-    desks: &mut [Desk<B, SenderFault>],
+    desks: &mut [Desk<B>],
 ) -> bool {
     let Some(desk) = desks.first_mut() else {
         return false;

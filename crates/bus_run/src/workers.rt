@@ -7,7 +7,9 @@ ghost use Rattle.std.specs.Int.{w64, to_le_bytes, to_be_bytes};
 ghost use Rattle.rand_chacha.specs.ChaCha.{of_seed};
 ghost use Rattle.bus_batch.specs.Batches.{next_of, IsPutFault};
 ghost use Rattle.bus_batch.specs.declared.batches.PutFault.{PutFault};
-ghost use Rattle.bus_pageslot.specs.Seats.{table_of};
+ghost use Rattle.bus_pageslot.specs.Seats.{table_of, deeds_of};
+ghost use Rattle.bus_run.specs.Numbers.{numbers_below};
+ghost use Rattle.bus_world.specs.Headline.{puts};
 ghost use Rattle.bus_receiver.specs.Hearing.{nothing};
 ghost use Rattle.bus_receiver.specs.Listening.{bus_of};
 ghost use Rattle.bus_run.specs.declared.faults.SenderFault.TheVariants.{Stopped as stopped};
@@ -41,14 +43,17 @@ pub struct Load {
     pub seed: u64,
 }
 
-/// A sender of the bus B with its random words, and what stopped it.
+/// A sender of the bus B with its random words, and what stopped it. It has put the numbers below
+/// `put`, and nothing else.
 #[derive(Drop)]
-pub struct Desk<B: OfBus, F: Drop> {
+pub struct Desk<B: OfBus> {
     pub sender: Sender,
     pub rng: ChaCha8Rng,
-    pub fault: Option<F>,
+    pub fault: Option<SenderFault>,
+    put: u64,
     of: PhantomData<B>,
     ghost of_bus: { table_of sender ≡ B.table },
+    ghost has_put: { puts (deeds_of sender) ≡ numbers_below put },
 }
 
 /// A receiver of the bus B with what was noted of its answers.
@@ -81,10 +86,11 @@ impl<B: OfBus> Ear<B> {
     }
 }
 
-impl<B: OfBus, F: Drop> Desk<B, F> {
+impl<B: OfBus> Desk<B> {
     /// The desk of a sender that has not begun.
-    pub fn new(sender: Sender, seed: u64) -> Desk<B, F>
-        requires { table_of sender ≡ B.table }
+    pub fn new(sender: Sender, seed: u64) -> Desk<B>
+        requires table { table_of sender ≡ B.table }
+        requires put { puts (deeds_of sender) ≡ [] }
         ensures sender { result.sender ≡ sender }
         ensures stream { result.rng.stream ≡ sender.core.me }
         ensures fault { result.fault ≡ None }
@@ -94,6 +100,7 @@ impl<B: OfBus, F: Drop> Desk<B, F> {
             sender,
             rng,
             fault: None,
+            put: 0,
             of: PhantomData,
         }
     }
@@ -103,6 +110,14 @@ impl<B: OfBus, F: Drop> Desk<B, F> {
         ensures { result ≡ self.now.sender.core.me }
     {
         u64::from(self.sender.number().0)
+    }
+
+    /// It has put so many messages, the numbers from 0 on, and none of them waits.
+    pub fn has_put(&self, messages: u64) -> bool
+        ensures { result ≡ true → (length self.now.sender.core.queue.messages ≡ 0)
+            × (puts (deeds_of self.now.sender) ≡ numbers_below messages) }
+    {
+        self.sender.pending() == 0 && self.put == messages
     }
 
     /// Its sender closes the bus. Says whether the bus is closed.
@@ -118,9 +133,7 @@ impl<B: OfBus, F: Drop> Desk<B, F> {
     {
         self.sender.send(wait, &the.bus, &mut self.rng)
     }
-}
 
-impl<B: OfBus> Desk<B, SenderFault> {
     /// Says that its sender was stopped, unless it had a fault before.
     pub fn stop(&mut self)
         ensures sender { self.new.sender ≡ self.old.sender }
@@ -135,24 +148,34 @@ impl<B: OfBus> Desk<B, SenderFault> {
         }
     }
 
-    /// Puts the messages from `first` up to `end`. Says whether all were taken.
-    fn put_all(&mut self, first: u64, end: u64) -> bool {
-        for number in first..end {
-            if !put_number(&mut self.sender, number) {
+    /// Puts so many of the next numbers. Says whether all were taken.
+    fn put_all(&mut self, many: u64) -> bool {
+        for _ in 0..many {
+            if !self.put_next() {
                 return false;
             }
         }
         true
     }
+
+    /// Puts the next number. Says whether it was taken.
+    fn put_next(&mut self) -> bool {
+        let taken = self.put < MOST_EACH && put_number(&mut self.sender, self.put);
+        if taken {
+            self.put += 1;
+        }
+        taken
+    }
 }
 
 /// A desk for each sender, in order.
-pub fn desks_of<B: OfBus, F: Drop>(
+pub fn desks_of<B: OfBus>(
     alloc: Global,
     senders: Vec<Sender>,
     seed: u64,
-) -> Result<Vec<Desk<B, F>>, AllocError>
-    requires { All (λ sender. table_of sender ≡ B.table) senders.items }
+) -> Result<Vec<Desk<B>>, AllocError>
+    requires table { All (λ sender. table_of sender ≡ B.table) senders.items }
+    requires put { All (λ sender. puts (deeds_of sender) ≡ []) senders.items }
     ensures { IfOk result (λ desks. map (λ desk. desk.sender) desks.items ≡ senders.items) }
 {
     let mut desks = Vec::with_capacity(alloc, senders.len())?;
@@ -196,17 +219,17 @@ pub struct SendAll<'a, B: OfBus, W, G> {
     pub load: Load,
 }
 
-impl<B: OfBus, W: Wait, G: Gate> Work<Desk<B, SenderFault>> for SendAll<'_, B, W, G> {
+impl<B: OfBus, W: Wait, G: Gate> Work<Desk<B>> for SendAll<'_, B, W, G> {
     /// Sends the numbers below `load.messages`, in batches.
-    fn work(&self, mut desk: Desk<B, SenderFault>) -> Desk<B, SenderFault> {
+    fn work(&self, mut desk: Desk<B>) -> Desk<B> {
         let messages = self.load.messages;
         for first in (0..messages).step_by(BATCH) {
             if !self.gate.arrive(desk.number()) {
                 desk.fault = Some(SenderFault::Gate);
                 return desk;
             }
-            let end = messages.min(first.saturating_add(BATCH as u64));
-            if !desk.put_all(first, end) || !self.send_batch(&mut desk) {
+            let many = messages.saturating_sub(first).min(BATCH as u64);
+            if !desk.put_all(many) || !self.send_batch(&mut desk) {
                 desk.stop();
                 return desk;
             }
@@ -217,7 +240,7 @@ impl<B: OfBus, W: Wait, G: Gate> Work<Desk<B, SenderFault>> for SendAll<'_, B, W
 
 impl<B: OfBus, W: Wait, G> SendAll<'_, B, W, G> {
     /// Sends the messages that wait. Says whether the sender can go on.
-    fn send_batch(&self, desk: &mut Desk<B, SenderFault>) -> bool {
+    fn send_batch(&self, desk: &mut Desk<B>) -> bool {
         !matches!(
             desk.send(self.wait, self.the),
             Turn::Full | Turn::Closed | Turn::Spent
@@ -233,6 +256,9 @@ fn put_number(sender: &mut Sender, number: u64) -> bool
     ensures refused { result ≡ false → (400 ≤ next_of sender.old.core.queue)
         ⊎ ((why : PutFault) × IsPutFault sender.old.core.queue 8 why) }
     ensures table { table_of sender.new ≡ table_of sender.old }
+    ensures put { result ≡ true → puts (deeds_of sender.new)
+        ≡ puts (deeds_of sender.old) ++ to_be_bytes w64 number ∷ [] }
+    ensures kept { result ≡ false → puts (deeds_of sender.new) ≡ puts (deeds_of sender.old) }
 {
     sender.next_number() < MOST_EACH && sender.put(&number.to_be_bytes()).is_ok()
 }

@@ -1,5 +1,25 @@
-use Rattle.std.proofs.Common.{sym, ◌∙◌}
+use Rattle.std.proofs.Common.{◌≡◌, ◌<◌, inl, inr, sym, ◌∙◌, subst, arith}
+use Rattle.std.proofs.lemmas.Bool.{cases_lt}
+use Rattle.bus_receiver.specs.Listening.{known_of}
+use Rattle.bus_run.specs.Told.{HasTold}
+use Rattle.bus_run.proofs.ToldLemmas.{still_told}
 use Rattle.bus_run.proofs.closing.end_bus.Goals as goal
+
+pub loop-place-preserved : goal.loop-place-preserved
+loop-place-preserved g c = (
+  c.tell.ensures.table,
+  λ s lt. elim (cases_lt s c.loop-place.place) [
+    | inl l ↦ still_told s c.args.messages (known_of c.loop-place.first) (known_of c.tell.new.receiver) (c.loop-place.invariant.1 s l) c.tell.ensures.grows
+    | inr ge ↦
+        let at : s ≡ c.loop-place.place = omega arith in
+        subst (λ n. HasTold n c.args.messages (known_of c.tell.new.receiver)) (sym at) (c.tell.ensures.told c.if-not-tell.false)
+  ],
+)
 
 pub returns-in-Ok-clause-closed : goal.returns-in-Ok-clause-closed
 returns-in-Ok-clause-closed g c = λ order owners spells. sym (c.page.ensures.ended order owners spells) ∙ c.if-page.true
+
+pub returns-in-Ok-clause-told : goal.returns-in-Ok-clause-told
+returns-in-Ok-clause-told g c = λ s lt.
+    let below : s < c.loop-place.place = omega arith in
+    still_told s c.args.messages (known_of c.loop-place.first) c.in-Ok.ended.log (c.loop-place.invariant.1 s below) c.in-Ok.ensures.ended.front
