@@ -10,13 +10,11 @@ use Rattle.bus_tenure.specs.Core.{Core, Election, Layout, words_of, log_at}
 use Rattle.bus_tenure.specs.declared.pages.Page.{Page}
 use Rattle.bus_world.specs.Headline.{IsPrefix}
 use Rattle.bus_batch.specs.Frames.{order_of, tenure_and_owner}
-use Rattle.bus_world.specs.Bus.{IsLayout}
 use Rattle.bus_world.specs.Log.{read}
 use Rattle.bus_world.proofs.LogLaws.{length-read}
 use Rattle.bus_world.proofs.ViewingLaws.{frames_spell}
 use Rattle.bus_world.specs.Tenures.{Stage}
 use Rattle.bus_world.specs.Tenures.Stage.{Open, Held}
-use Rattle.bus_world.proofs.EventTrails as events
 use Rattle.bus_world.proofs.Serving.{Serves}
 use Rattle.bus_pageslot.specs.Ears.{Ear}
 use Rattle.bus_pageslot.specs.declared.rule.View.{View}
@@ -24,6 +22,8 @@ use Rattle.bus_pageslot.specs.declared.rule.View.TheVariants.{Tap}
 use Rattle.bus_pageslot.specs.Rule.{slot_of, known_in, log_in_bus, KnowsLog, IsShown}
 use Rattle.bus_pageslot.specs.Endings.{IsLeft}
 use Rattle.bus_pageslot.specs.Outcomes.{IsOutcome}
+use Rattle.bus_pageslot.specs.Promised.{log_below}
+use Rattle.bus_pageslot.proofs.Promising.{seats_promised}
 use Rattle.bus_pageslot.proofs.Reaching.{kept}
 
 -- a word of a list
@@ -50,23 +50,32 @@ module _ {E : Type 0} (X : Election E) (P : Protocol E (Unit {0}) ℕ) (x : Layo
   some_of None e = absurd (true≢false (sym e))
   some_of (Some page) e = (page, refl)
 
+  -- what is in the slot
+  slot_is : (home : Option Page) (page : Page) → slot_of home ≡ slot_of (Some page) → home ≡ Some page
+  slot_is None page e = absurd (some-ne-none (Some page) (sym e))
+  slot_is (Some other) page e = some-injective (Some other) (Some page) e
+
   -- the page is at home only while a tenure is open, and then it knows the frames
-  pub outcome_of : IsLayout x → (known log : List ℕ) (page : Page) → IsLeft X x known log (Some page) → IsOutcome record { senders = x.senders; log = log; page = page }
-  outcome_of served known log page h =
-      let k = kept X P x y served h.bus h.trails h.reached in
+  pub outcome_of : (v : View (Core E)) (log : List ℕ) (page : Page) → IsLeft X x v log (Some page) → IsOutcome record { senders = x.senders; log = log; page = page }
+  outcome_of v log page h =
+      let b = h.shown.bus in
+      let k = kept X P x y h.shown.served b h.shown.trails h.shown.reached in
       let sending = k.lawful.keeps.sending in
+      let log_is : log_in_bus x b ≡ log = ap (λ (ws : List ℕ). log_below x ws) (sym h.shown.words) ∙ h.log_is in
+      let same : slot_of b.side.home ∷ [] ≡ slot_of (Some page) ∷ [] = sym h.shown.slot ∙ h.home_is in
+      let home : b.side.home ≡ Some page = slot_is b.side.home page (some-injective _ _ (ap (λ (hs : List (maybe.Option (Option Page))). get_elem? hs 0) same)) in
       elim sending.tenures.stage_is [
         | Open stage at_home many ↦
-            let knows = (sending.page_knows page _ h.home_is stage).0 in
+            let knows = (sending.page_knows page _ home stage).0 in
             record {
               order = order_of k.frames;
               owners = map tenure_and_owner k.frames;
-              spells = frames_spell x.senders k.frames log sending.log.lawful (sym h.log_is ∙ sending.log.words_are);
+              spells = frames_spell x.senders k.frames log sending.log.lawful (sym log_is ∙ sending.log.words_are);
               counts = knows.next;
               ended = knows.ended;
-              words = knows.words ∙ sym (length-read (slice_index h.bus.side.words) (log_at x) (slice_index h.bus.side.words 0)) ∙ ap length h.log_is;
+              words = knows.words ∙ sym (length-read (slice_index b.side.words) (log_at x) (slice_index b.side.words 0)) ∙ ap length log_is;
             }
-        | Held holder stage away many holds ↦ absurd (true≢false (sym (ap is_some h.home_is) ∙ away))
+        | Held holder stage away many holds ↦ absurd (true≢false (sym (ap is_some home) ∙ away))
       ]
 
   module _ (id : ℕ) (v : View (Core E)) (c : Core E) (e : Ear) (is : v ≡ Tap c e) (ws : List ℕ) (xs : List (Option Page)) (f : Final (Seen (IsShown X x) id v) ws xs) where
@@ -89,27 +98,24 @@ module _ {E : Type 0} (X : Election E) (P : Protocol E (Unit {0}) ℕ) (x : Layo
         subst (λ n. ((n % 2 ≡ 1) → is_some shown.bus.side.home ≡ false) × ((n % 2 ≢ 1) → is_some shown.bus.side.home ≡ true)) (ap (λ l. slice_index l 1) words_are ∙ at) t
 
     -- what is left, with what is home
-    left : (home : Option Page) → shown.bus.side.home ≡ home → (log : List ℕ) → log ≡ read (slice_index ws) (log_at x) (slice_index ws 0) → IsLeft X x (known_in v) log home
+    left : (home : Option Page) → shown.bus.side.home ≡ home → (log : List ℕ) → log ≡ read (slice_index ws) (log_at x) (slice_index ws 0) → IsLeft X x v log home
     left home at log log_is =
         let k : KnowsLog x shown.bus c e = shown.views id (Tap c e) (f.1.1 ∙ ap (λ (u : View (Core E)). some u) is) in
-        let p = events.promised X P y.laws x shown.served y.width y.starts y.owner_is y.named y.announces y.apart shown.bus shown.trails shown.reached in
         let same : log_in_bus x shown.bus ≡ log = ap (λ l. read (slice_index l) (log_at x) (slice_index l 0)) words_are ∙ sym log_is in
         record {
-          bus = shown.bus;
-          trails = shown.trails;
-          reached = shown.reached;
-          log_is = same;
-          home_is = at;
-          order = p.order;
-          owners = p.owners;
-          promised = p.by;
+          table = f.0;
+          shown = shown;
+          here = (id, f.1.1);
+          log_is = ap (λ (ws : List ℕ). log_below x ws) f.2 ∙ sym log_is;
+          home_is = shown.slot ∙ ap (λ (u : Option Page). slot_of u ∷ []) at;
+          promised = seats_promised X P x y f.0 shown;
           front = subst (λ (u : View (Core E)). IsPrefix (known_in u) log) (sym is) (subst (IsPrefix e.known) same k.front);
         }
 
-    pub left_out : (stage : ℕ) → slice_index ws 1 ≡ stage → stage % 2 ≡ 1 → (log : List ℕ) × IsLeft X x (known_in v) log None
+    pub left_out : (stage : ℕ) → slice_index ws 1 ≡ stage → stage % 2 ≡ 1 → (log : List ℕ) × IsLeft X x v log None
     left_out stage at odd = (_, left None (none_of shown.bus.side.home ((tells_of stage at).0 odd)) (read (slice_index ws) (log_at x) (slice_index ws 0)) refl)
 
-    pub left_home : (stage : ℕ) → slice_index ws 1 ≡ stage → stage % 2 ≢ 1 → (slot : Option Page) → get_elem? xs 0 ≡ some slot → (log : List ℕ) → log ≡ read (slice_index ws) (log_at x) (slice_index ws 0) → (page : Page) × (slot ≡ Some page) × IsLeft X x (known_in v) log (Some page)
+    pub left_home : (stage : ℕ) → slice_index ws 1 ≡ stage → stage % 2 ≢ 1 → (slot : Option Page) → get_elem? xs 0 ≡ some slot → (log : List ℕ) → log ≡ read (slice_index ws) (log_at x) (slice_index ws 0) → (page : Page) × (slot ≡ Some page) × IsLeft X x v log (Some page)
     left_home stage at even slot in_slot log log_is =
         let h = some_of shown.bus.side.home ((tells_of stage at).1 even) in
         let there : get_elem? f.0.homes 0 ≡ some (some (Some h.0)) = ap (λ (hs : List (maybe.Option (Option Page))). get_elem? hs 0) (shown.slot ∙ ap (λ (u : Option Page). slot_of u ∷ []) h.1) in

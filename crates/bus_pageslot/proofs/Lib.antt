@@ -12,5 +12,5 @@ pub mod Puts
 pub mod Loads
 pub mod ReaderLaws
 pub mod Joining
-pub mod Endings
 pub mod Promising
+pub mod Endings

@@ -196,8 +196,8 @@ one_more x table many senders s h new = record {
       ];
 }
 
-pub one_more_tap : {E : Type 0} (senders : ℕ) (table : TableId) (many : ℕ) (taps : List (Spot E)) (t : Spot E) → AreNewTaps senders table many taps → IsNewTap senders table t → AreNewTaps senders table (many + 1) (taps ++ t ∷ [])
-one_more_tap senders table many taps t h new = record {
+pub one_more_tap : {E : Type 0} (x : Layout) (table : TableId) (many : ℕ) (taps : List (Spot E)) (t : Spot E) → AreNewTaps x table many taps → IsNewTap x table t → AreNewTaps x table (many + 1) (taps ++ t ∷ [])
+one_more_tap x table many taps t h new = record {
   many_are = length-append taps (t ∷ []) ∙ (let z = h.many_are in omega arith);
   each = λ r y e.
       let within = slice_get_within (taps ++ t ∷ []) r y e in let size = length-append taps (t ∷ []) in
@@ -205,7 +205,7 @@ one_more_tap senders table many taps t h new = record {
         | inl l ↦ h.each r y (sym (push_beside taps t r (λ i. absurd (omega arith))) ∙ e)
         | inr l ↦
             let here : r ≡ length taps = omega arith in
-            subst (IsNewTap senders table) (same_Some _ _ (sym (push_here taps t (length taps) refl) ∙ ap (slice_get (taps ++ t ∷ [])) (sym here) ∙ e)) new
+            subst (IsNewTap x table) (same_Some _ _ (sym (push_here taps t (length taps) refl) ∙ ap (slice_get (taps ++ t ∷ [])) (sym here) ∙ e)) new
       ];
 }
 
@@ -217,5 +217,5 @@ by_each P (x ∷ xs) each = All-cons P x xs (each 0 x refl) (by_each P xs (λ p.
 pub all_here : {E : Type 0} (x : Layout) (table : TableId) (many : ℕ) (senders : List (Seated E)) → AreNewSeats x table many senders → All (λ s. table_of s ≡ table) senders
 all_here x table many senders h = by_each (λ s. table_of s ≡ table) senders (λ p s e. (h.each p s e).table_is)
 
-pub all_taps_here : {E : Type 0} (senders : ℕ) (table : TableId) (many : ℕ) (taps : List (Spot E)) → AreNewTaps senders table many taps → All (λ t. t.table_id ≡ table) taps
-all_taps_here senders table many taps h = by_each (λ t. t.table_id ≡ table) taps (λ r t e. (h.each r t e).table_is)
+pub all_taps_here : {E : Type 0} (x : Layout) (table : TableId) (many : ℕ) (taps : List (Spot E)) → AreNewTaps x table many taps → All (λ t. t.table_id ≡ table) taps
+all_taps_here x table many taps h = by_each (λ t. t.table_id ≡ table) taps (λ r t e. (h.each r t e).table_is)

@@ -182,6 +182,7 @@ module _ {E : Type 0} (c : Core E) (e : Ear) (r r' : Receiving) (got : ℕ) (ans
     got = got;
     got_is = f.got_is;
     found = good.found;
+    log = (f.frames, f.rest, f.lawful, f.words_are);
     gives = subst (λ (y : ℕ × ℕ). GivesPiece y.0 (take y.1 e.known) got good.found) (λ i. (fit.senders_are i, fit.place i)) good.gives;
     answer_is = good.answer_is;
     now = word_now;

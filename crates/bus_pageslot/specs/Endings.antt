@@ -1,23 +1,22 @@
 -- What a bus leaves behind.
-use Rattle.std.specs.Prelude.{◌≡◌, ℕ, List, Option}
-use Rattle.bus_register.specs.declared.registers.SenderNo.{SenderNo}
-use Rattle.bus_batch.specs.Frames.{Order}
-use Rattle.bus_tenure.specs.Core.{Election, Layout}
+use Rattle.std.specs.Prelude.{◌≡◌, ℕ, List, [], ◌∷◌, Option}
+use mathlib.Core.Option.{some}
+use lib.ListN.{get_elem?}
+use Rattle.atomic_table.specs.Table.{State}
+use Rattle.bus_tenure.specs.Core.{Core, Election, Layout}
 use Rattle.bus_tenure.specs.declared.pages.Page.{Page}
 use Rattle.bus_world.specs.Headline.{IsPrefix}
-use Rattle.bus_world.specs.Trails.{Trails, Reached, IsPromisedBy}
-use Rattle.bus_world.specs.World.{Bus}
-use Rattle.bus_pageslot.specs.Rule.{log_in_bus}
+use Rattle.bus_pageslot.specs.declared.rule.View.{View}
+use Rattle.bus_pageslot.specs.Rule.{slot_of, known_in, IsShown}
+use Rattle.bus_pageslot.specs.Promised.{log_below, IsPromised}
 
--- Some events led to the bus that was left, with this log and this page at home; the page of promises holds of its trails, with the
--- order and the owners that the log spells; and what a receiver knew is the beginning of the log.
-pub record IsLeft {E : Type 0} (X : Election E) (x : Layout) (known log : List ℕ) (home : Option Page) : Type 0 where
-  pub bus : Bus E
-  pub trails : Trails
-  pub reached : Reached X x bus trails
-  pub log_is : log_in_bus x bus ≡ log
-  pub home_is : bus.side.home ≡ home
-  pub order : Order
-  pub owners : List (ℕ × SenderNo)
-  pub promised : IsPromisedBy x bus trails order owners
-  pub front : IsPrefix known log
+-- A table of which the rule holds, with this log below the length and this page at home, where a receiver's seat shows what it showed
+-- when the bus was ended. So the headline's page holds of what its seats show, and what that receiver knew begins the log.
+pub record IsLeft {E : Type 0} (X : Election E) (x : Layout) (seen : View (Core E)) (log : List ℕ) (home : Option Page) : Type 0 where
+  pub table : State (Option Page) (View (Core E))
+  pub shown : IsShown X x table
+  pub here : (seat : ℕ) × (get_elem? table.views seat ≡ some seen)
+  pub log_is : log_below x table.words ≡ log
+  pub home_is : table.homes ≡ slot_of home ∷ []
+  pub promised : IsPromised x table
+  pub front : IsPrefix (known_in seen) log

@@ -46,6 +46,8 @@ pub record HearsWord {E : Type 0} (m : Sat E) (answer : RecvTurn) (m' : Sat E) :
   pub got : ℕ
   pub got_is : got ≡ slice_index (known_in m.0) (ear_in m.0).place
   pub found : Option Piece
+  -- what it knows begins the words of a log
+  pub log : (frames : List Frame) × (rest : List ℕ) × AreFrames (senders_in m.0) frames × (log_words frames ≡ known_in m.0 ++ rest)
   pub gives : GivesPiece (senders_in m.0) (take (ear_in m.0).place (known_in m.0)) got found
   pub answer_is : answer ≡ turn_of found
   pub now : m' ≡ (with_ear m.0 (heard_word (ear_in m.0) found answer), m.1)

@@ -55,6 +55,9 @@ pub record Took {E : Type 0} (X : Election E) (old : Seated E) (word : ℕ) (tur
   pub taken : (t : ℕ) → situation_of X old.core ≡ TakesPage t → (page : Page) × (home ≡ Some page)
   pub core : new.core ≡ core_after X old.core (situation_of X old.core) home got word
   pub answer : turn ≡ answer_at X old.core (situation_of X old.core) got word
+  -- what a store found makes no difference
+  pub same_core : core_after X old.core (situation_of X old.core) home got word ≡ core_after X old.core (situation_of X old.core) home found word
+  pub same_answer : answer_at X old.core (situation_of X old.core) got word ≡ answer_at X old.core (situation_of X old.core) found word
   pub deeds : deeds_of new ≡ deeds_of old ++ deeds_at X old.core found word
   pub stored : stored_of new ≡ stored_at old.core (situation_of X old.core) (stored_of old)
 

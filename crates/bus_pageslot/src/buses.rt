@@ -5,7 +5,6 @@ ghost use Rattle.std.specs.Prelude.{◌≤◌};
 ghost use Rattle.std.specs.Vec.{vec_len, vec_capacity};
 ghost use Rattle.bus_tenure.specs.Elections.{election_of};
 ghost use Rattle.bus_world.specs.Playing.{layout_of, IsServed, MakeRefused};
-ghost use Rattle.bus_pageslot.specs.Rule.{known_in};
 ghost use Rattle.bus_pageslot.specs.Buses.{AreNewSeats, AreNewTaps};
 ghost use Rattle.bus_pageslot.specs.Seats.{table_of};
 ghost use Rattle.bus_pageslot.specs.Endings.{IsLeft};
@@ -58,7 +57,8 @@ impl<Q: Ratifier + Drop> Bus<Q> {
             (λ made. AreNewSeats (layout_of Q.protocol shape) made.0.table shape.senders
             made.1.items) }
         ensures taps { IfOk result
-            (λ made. AreNewTaps shape.senders made.0.table shape.receivers made.2.items) }
+            (λ made. AreNewTaps (layout_of Q.protocol shape) made.0.table shape.receivers
+            made.2.items) }
         ensures table { IfOk result (λ made. All (λ s. table_of s ≡ made.0.table) made.1.items
             × All (λ t. t.table_id ≡ made.0.table) made.2.items) }
         ensures served { IfOk result (λ _. IsServed shape) }
@@ -87,12 +87,12 @@ impl<Q: Ratifier + Drop> Bus<Q> {
     pub fn end(self, tap: Tap<Q>) -> Result<Ended, EndFault>
         requires { tap.table_id ≡ self.table }
         ensures ended { let X = election_of Q.Ratifier in
-            IfOk result (λ left. IsLeft X (layout_of Q.protocol self.shape) (known_in tap.me.0)
+            IfOk result (λ left. IsLeft X (layout_of Q.protocol self.shape) tap.me.0
             left.log (Some left.page)) }
         ensures senders { IfOk result (λ left. left.senders ≡ self.shape.senders) }
         ensures out { let X = election_of Q.Ratifier in
             OnErr result ((log : List ℕ)
-            × IsLeft X (layout_of Q.protocol self.shape) (known_in tap.me.0) log None) }
+            × IsLeft X (layout_of Q.protocol self.shape) tap.me.0 log None) }
     {
         let Bus {
             table,

@@ -13,7 +13,6 @@ ghost use Rattle.bus_world.specs.Log.{read};
 ghost use Rattle.bus_world.specs.Playing.{layout_of};
 ghost use Rattle.bus_pageslot.specs.declared.rule.View.TheVariants.{Tap};
 ghost use Rattle.bus_pageslot.specs.Ears.{Ear};
-ghost use Rattle.bus_pageslot.specs.Rule.{known_in};
 ghost use Rattle.bus_pageslot.specs.Endings.{IsLeft};
 
 use crate::rule::{Board, Place};
@@ -118,12 +117,12 @@ pub(crate) fn leave<Q: Ratifier + Drop>(
     requires log_words { log_words ≡ table.shared.key.log_words }
     requires roomy { log_words ≤ vec_capacity room }
     ensures ended { let X = election_of Q.Ratifier in
-        IfOk result (λ left. IsLeft X (layout_of Q.protocol table.shared.key) (known_in seat.me.0)
+        IfOk result (λ left. IsLeft X (layout_of Q.protocol table.shared.key) seat.me.0
         left.log (Some left.page)) }
     ensures senders { IfOk result (λ left. left.senders ≡ senders) }
     ensures out { let X = election_of Q.Ratifier in
         OnErr result ((log : List ℕ)
-        × IsLeft X (layout_of Q.protocol table.shared.key) (known_in seat.me.0) log None) }
+        × IsLeft X (layout_of Q.protocol table.shared.key) seat.me.0 log None) }
 {
     election_is_lawful::<Q>();
     let mut closed = table.close_with(seat);

@@ -107,7 +107,7 @@ fn tap_next<Q: Ratifier + Drop>(
     requires maker { maker.old.me ≡ (Maker (new_core (layout_of Q.protocol shape) made), []) }
     ensures table { maker.new.table_id ≡ maker.old.table_id }
     ensures maker { maker.new.me ≡ maker.old.me }
-    ensures tap { IsNewTap shape.senders maker.old.table_id result }
+    ensures tap { IsNewTap (layout_of Q.protocol shape) maker.old.table_id result }
 {
     let _ = made;
     election_is_lawful::<Q>();
@@ -130,7 +130,8 @@ pub(crate) fn tap_all<Q: Ratifier + Drop>(
     requires maker { maker.me
         ≡ (Maker (new_core (layout_of Q.protocol shape) shape.senders), []) }
     ensures { IfOk result
-        (λ taps. AreNewTaps shape.senders top.now.table_id shape.receivers taps.items) }
+        (λ taps. AreNewTaps (layout_of Q.protocol shape) top.now.table_id shape.receivers
+        taps.items) }
 {
     let mut taps = Vec::new(alloc);
     for _ in 0..shape.receivers {

@@ -122,12 +122,12 @@ impl<Q: Ratifier + Drop> Receiver<Q> {
     pub fn end(bus: Bus<Q>, receiver: Receiver<Q>) -> Result<Ended, EndFault>
         requires { bus_of receiver ≡ bus.table }
         ensures ended { let X = election_of Q.Ratifier in
-            IfOk result (λ left. IsLeft X (layout_of Q.protocol bus.shape) (known_in receiver.me.0)
+            IfOk result (λ left. IsLeft X (layout_of Q.protocol bus.shape) receiver.me.0
             left.log (Some left.page)) }
         ensures senders { IfOk result (λ left. left.senders ≡ bus.shape.senders) }
         ensures out { let X = election_of Q.Ratifier in
             OnErr result ((log : List ℕ)
-            × IsLeft X (layout_of Q.protocol bus.shape) (known_in receiver.me.0) log None) }
+            × IsLeft X (layout_of Q.protocol bus.shape) receiver.me.0 log None) }
     {
         bus.end(receiver.tap)
     }

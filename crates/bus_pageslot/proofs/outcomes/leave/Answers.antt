@@ -6,7 +6,6 @@ use Rattle.bus_tenure.specs.Core.{log_at}
 use Rattle.bus_tenure.specs.Elections.{elections, election_with, layout_with}
 use Rattle.bus_world.specs.Log.{read}
 use Rattle.bus_world.proofs.Serving.{serves}
-use Rattle.bus_pageslot.specs.Rule.{known_in}
 use Rattle.bus_pageslot.specs.Endings.{IsLeft}
 use Rattle.bus_pageslot.specs.Outcomes.{IsOutcome}
 use Rattle.bus_pageslot.proofs.Endings.{word_at, wide, fits, left_out, left_home, outcome_of}
@@ -137,7 +136,7 @@ returns-clause-ended g c =
     let read_is = c.words_from-log.ensures ∙ ap (λ k. read (slice_index ws) (c.len.result - c.args.log_words) k) (sym (word_at ws 0 c.word-length.result c.word-length.ensures))
     ∙ ap (λ k. read (slice_index ws) k (slice_index ws 0)) (let a = c.len.ensures in let b = c.requires.log_words in let e : c.len.result - c.args.log_words ≡ log_at x = omega arith in e) in
     let home = left_home X P x y seat.id seat.me.0 n.0 n.1 is ws xs f c.word-stage.result (word_at ws 1 c.word-stage.result c.word-stage.ensures) c.if-stage-eq1.false c.take-page.result c.take-page.ensures.value c.words_from-log.result.items read_is in
-    subst (λ page. IsLeft X x (known_in seat.me.0) c.words_from-log.result.items (Some page)) (same_Some _ _ (sym home.1 ∙ c.unwrap.ensures)) home.2
+    subst (λ page. IsLeft X x seat.me.0 c.words_from-log.result.items (Some page)) (same_Some _ _ (sym home.1 ∙ c.unwrap.ensures)) home.2
 
 pub invariant_of-result : goal.invariant_of-result
 invariant_of-result g c =
@@ -157,5 +156,5 @@ invariant_of-result g c =
     let read_is = c.words_from-log.ensures ∙ ap (λ k. read (slice_index ws) (c.len.result - c.args.log_words) k) (sym (word_at ws 0 c.word-length.result c.word-length.ensures))
     ∙ ap (λ k. read (slice_index ws) k (slice_index ws 0)) (let a = c.len.ensures in let b = c.requires.log_words in let e : c.len.result - c.args.log_words ≡ log_at x = omega arith in e) in
     let home = left_home X P x y seat.id seat.me.0 n.0 n.1 is ws xs f c.word-stage.result (word_at ws 1 c.word-stage.result c.word-stage.ensures) c.if-stage-eq1.false c.take-page.result c.take-page.ensures.value c.words_from-log.result.items read_is in
-    let left = subst (λ page. IsLeft X x (known_in seat.me.0) c.words_from-log.result.items (Some page)) (same_Some _ _ (sym home.1 ∙ c.unwrap.ensures)) home.2 in
-    subst (λ n. IsOutcome record { senders = n; log = c.words_from-log.result.items; page = c.unwrap.result }) (sym c.requires.senders) (outcome_of X P x y f.1.0.served (known_in seat.me.0) c.words_from-log.result.items c.unwrap.result left)
+    let left = subst (λ page. IsLeft X x seat.me.0 c.words_from-log.result.items (Some page)) (same_Some _ _ (sym home.1 ∙ c.unwrap.ensures)) home.2 in
+    subst (λ n. IsOutcome record { senders = n; log = c.words_from-log.result.items; page = c.unwrap.result }) (sym c.requires.senders) (outcome_of X P x y seat.me.0 c.words_from-log.result.items c.unwrap.result left)

@@ -6,7 +6,7 @@ use Rattle.bus_tenure.specs.Elections.{Elector, elections, election_with, layout
 use Rattle.bus_world.proofs.Serving.{serves}
 use Rattle.bus_world.specs.World.{new_core}
 use Rattle.bus_pageslot.specs.declared.rule.View.{View}
-use Rattle.bus_pageslot.specs.Rule.{tap_left, tap_right, ear_in, senders_in, IsShown}
+use Rattle.bus_pageslot.specs.Rule.{tap_left, tap_right, ear_in, senders_in, capacity_in, IsShown}
 use Rattle.bus_pageslot.proofs.Openings.{tap_allowed}
 use Rattle.bus_pageslot.proofs.seating.tap_next.Goals as goal
 
@@ -44,4 +44,5 @@ returns-clause-tap g c =
       table_is = ap (λ s. s.table_id) c.seated.ensures ∙ split.3;
       ear = ap (λ s. ear_in s.me.0) c.seated.ensures ∙ ap (λ m. ear_in m.0) split.4 ∙ ap (λ m. ear_in (tap_right m.0)) c.requires.maker;
       senders_are = ap (λ s. senders_in s.me.0) c.seated.ensures ∙ ap (λ m. senders_in m.0) split.4 ∙ ap (λ m. senders_in (tap_right m.0)) c.requires.maker;
+      capacity = ap (λ s. capacity_in s.me.0) c.seated.ensures ∙ ap (λ m. capacity_in m.0) split.4 ∙ ap (λ m. capacity_in (tap_right m.0)) c.requires.maker;
     }

@@ -51,6 +51,8 @@ returns-clause-took g c =
       told = gone.told;
       home = gone.home;
       taken = gone.taken;
+      same_core = gone.core;
+      same_answer = gone.answer;
       core = core_is X d c.args.seat.now.me c.put_out.new.seat.me c.step-got.new.seat.me c.args.word c.step-got.result c.args.op c.requires.due (ap (λ x. x.1) c.requires.shows.me) c.put_out.new.core c.feed-turn.new.self c.put_out.ensures.core c.put_out.ensures.me gone c.feed-turn.ensures.state
           c.take_in.new.seat.me c.take_in.new.core c.take_in.ensures.core c.take_in.ensures.me;
       answer = c.feed-turn.ensures.answer ∙ ap (λ k. answer_at X k (situation_of X k) c.step-got.result c.args.word) c.put_out.ensures.core ∙ answer_handed X d (situation_of X d) refl c.step-got.result c.args.word;
