@@ -7,14 +7,15 @@ ghost use Rattle.bus_bench.specs.Checks.{HasEach};
 use crate::faults::Fault;
 use crate::needs::Load;
 use crate::workers::{Desk, Ear, Got};
-use bus_pageslot::Bus;
-use bus_receiver::{Heard, Receiver};
+use bus_pageslot::OfBus;
+use bus_receiver::Heard;
 use bus_register::SenderNo;
+use bus_run::buses::{Receiver, TheBus};
 use bus_run::crews::Crew;
 use std::sync::Wait;
 
 /// Sees that each receiver has all items of each sender, and all the same order.
-pub fn check(ears: &[Ear], load: Load) -> Result<(), Fault>
+pub fn check<B: OfBus>(ears: &[Ear<B>], load: Load) -> Result<(), Fault>
     ensures counts { OnOk result
         (All (λ ear. HasEach load.senders load.messages ear.heard) ears.now) }
     ensures order { OnOk result ((order : List Item)
@@ -28,7 +29,7 @@ pub fn check(ears: &[Ear], load: Load) -> Result<(), Fault>
 }
 
 /// Sees that each receiver has all items of each sender.
-fn check_counts(ears: &[Ear], load: Load) -> Result<(), Fault>
+fn check_counts<B: OfBus>(ears: &[Ear<B>], load: Load) -> Result<(), Fault>
     ensures { OnOk result (All (λ ear. HasEach load.senders load.messages ear.heard) ears.now) }
 {
     for ear in ears {
@@ -53,7 +54,7 @@ fn first_miscount(heard: &Heard, load: Load) -> Option<u64>
 }
 
 /// Sees that each receiver has this order.
-fn check_orders(ears: &[Ear], order: &[Got]) -> Result<(), Fault>
+fn check_orders<B: OfBus>(ears: &[Ear<B>], order: &[Got]) -> Result<(), Fault>
     ensures { OnOk result (All (λ ear. ear.order.items ≡ order.now) ears.now) }
 {
     for ear in ears {
@@ -75,10 +76,10 @@ fn is_same(order: &[Got], other: &[Got]) -> bool
 
 /// The first sender closes the bus, and the bus is ended. Sees that it has all items of each
 /// sender.
-pub fn close_and_end<W: Wait>(
+pub fn close_and_end<B: OfBus, W: Wait>(
     wait: &W,
-    bus: Bus,
-    crew: Crew<Desk, Ear>,
+    the: TheBus<B>,
+    crew: Crew<Desk<B>, Ear<B>>,
     load: Load,
 ) -> Result<(), Fault> {
     let Crew {
@@ -89,13 +90,13 @@ pub fn close_and_end<W: Wait>(
     let Some(closer) = desks.first_mut() else {
         return Err(Fault::End);
     };
-    if !closer.close(wait, &bus) {
+    if !closer.close(wait, &the) {
         return Err(Fault::End);
     }
     let Some(first) = ears.into_iter().next() else {
         return Err(Fault::Spawn);
     };
-    let Ok(ended) = Receiver::end(bus, first.receiver) else {
+    let Ok(ended) = Receiver::end(the.into_bus(), first.into_receiver()) else {
         return Err(Fault::End);
     };
     for number in 0..load.senders {

@@ -1,13 +1,15 @@
 //! The workers of a round, from their start until all have ended.
 
+ghost use Rattle.std.specs.Prelude.{◌≡◌, All};
+ghost use Rattle.bus_pageslot.specs.Seats.{table_of};
+
 use crate::faults::Fault;
 use crate::gates::Gate;
 use crate::needs::Load;
-use crate::workers::{Desk, Ear, HearAll, SendAll};
-use bus_pageslot::{Bus, Sender, Tap};
-use bus_receiver::Receiver;
+use crate::workers::{Desk, Ear, HearAll, SendAll, desks_of, ears_of};
+use bus_pageslot::OfBus;
+use bus_run::buses::{Sender, Tap, TheBus};
 use bus_run::crews::Crew;
-use bus_run::workers::desks_of;
 use std::alloc::{AllocError, Global};
 use std::sync::Wait;
 use std::thread;
@@ -16,8 +18,8 @@ use std::time::{Clock, Instant};
 
 /// A crew that has done its work, and when it began.
 #[derive(Drop)]
-pub struct Worked {
-    pub crew: Crew<Desk, Ear>,
+pub struct Worked<B: OfBus> {
+    pub crew: Crew<Desk<B>, Ear<B>>,
     /// The instant before the first thread was started.
     pub started: Option<Instant>,
     /// The instant before the gate was opened.
@@ -25,24 +27,24 @@ pub struct Worked {
 }
 
 /// A crew that has not begun. All its memory is taken here.
-pub fn crew_of(
+pub fn crew_of<B: OfBus + Send>(
     alloc: Global,
     senders: Vec<Sender>,
     taps: Vec<Tap>,
     load: Load,
     seed: u64,
-) -> Result<Crew<Desk, Ear>, AllocError> {
-    let mut ears = Vec::with_capacity(alloc, taps.len())?;
-    for tap in taps {
-        let number = ears.len() as u64;
-        ears.push(Ear::new(alloc, number, Receiver::new(tap), load.items())?)?;
-    }
-    Crew::new(alloc, desks_of(alloc, senders, seed)?, ears)
+) -> Result<Crew<Desk<B>, Ear<B>>, AllocError>
+    requires senders { All (λ sender. table_of sender ≡ B.table) senders.items }
+    requires taps { All (λ tap. tap.table_id ≡ B.table) taps.items }
+{
+    let desks = desks_of::<B>(alloc, senders, seed)?;
+    let ears = ears_of::<B>(alloc, taps, load.items())?;
+    Crew::new(alloc, desks, ears)
 }
 
 /// What stopped a worker: that not all are there, or what stopped the lowest sender, or the lowest
 /// receiver.
-pub fn fault_of(crew: &Crew<Desk, Ear>, load: Load) -> Option<Fault> {
+pub fn fault_of<B: OfBus>(crew: &Crew<Desk<B>, Ear<B>>, load: Load) -> Option<Fault> {
     if crew.desks.len() as u64 != load.senders || crew.ears.len() as u64 != load.receivers {
         return Some(Fault::Spawn);
     }
@@ -61,23 +63,23 @@ pub fn fault_of(crew: &Crew<Desk, Ear>, load: Load) -> Option<Fault> {
 
 /// Lets each sender and each receiver work in a thread of its own, until all have ended. Who could
 /// not be started is no longer in the crew, and then none sends.
-pub fn man<R: Threads + Wait + Clock + Sync>(
+pub fn man<B: OfBus + Send + Sync, R: Threads + Wait + Clock + Sync>(
     rt: &R,
-    bus: &Bus,
+    the: &TheBus<B>,
     load: Load,
-    crew: Crew<Desk, Ear>,
-) -> Worked {
+    crew: Crew<Desk<B>, Ear<B>>,
+) -> Worked<B> {
     let gate = Gate::new();
     let gate = &gate;
     let sending = SendAll {
         wait: rt,
-        bus,
+        the,
         gate,
         load,
     };
     let hearing = HearAll {
         rt,
-        bus,
+        the,
         gate,
         load,
     };

@@ -1,13 +1,18 @@
 //! One round: a new bus, all messages, and how long they took.
 
+ghost use Rattle.std.specs.Prelude.{◌≡◌, All};
+ghost use Rattle.bus_pageslot.specs.Seats.{table_of};
+
 use crate::checks::{check, close_and_end};
 use crate::crews::{Worked, crew_of, fault_of, man};
 use crate::faults::Fault;
 use crate::needs::{LOG_WORDS, Load, TENURES};
 use crate::workers::Ear;
-use bus_pageslot::Bus;
+use bus_pageslot::OfBus;
+use bus_run::buses::{Bus, Sender, Tap, TheBus};
 use bus_world::Shape;
 use std::alloc::Global;
+use std::marker::Brand;
 use std::sync::Wait;
 use std::thread::Threads;
 use std::time::{Clock, Instant};
@@ -39,25 +44,42 @@ pub fn round<R: Threads + Wait + Clock + Sync>(
     load: Load,
     seed: u64,
 ) -> Result<Times, Fault> {
-    let (bus, senders, taps) = Bus::new(alloc, shape_of(load))?;
-    let crew = crew_of(alloc, senders, taps, load, seed)?;
+    let made = Bus::new(alloc, shape_of(load))?;
+    round_on::<Brand, R>(rt, alloc, made, load, seed)
+}
+
+/// The same on this bus, which is B, with its senders and its receivers' passes.
+fn round_on<B: OfBus + Send + Sync, R: Threads + Wait + Clock + Sync>(
+    rt: &R,
+    alloc: Global,
+    made: (Bus, Vec<Sender>, Vec<Tap>),
+    load: Load,
+    seed: u64,
+) -> Result<Times, Fault>
+    requires bus { made.0.table ≡ B.table }
+    requires senders { All (λ sender. table_of sender ≡ B.table) made.1.items }
+    requires taps { All (λ tap. tap.table_id ≡ B.table) made.2.items }
+{
+    let (bus, senders, taps) = made;
+    let the = TheBus::<B>::new(bus);
+    let crew = crew_of::<B>(alloc, senders, taps, load, seed)?;
     let Worked {
         crew,
         started,
         opened,
-    } = man(rt, &bus, load, crew);
+    } = man(rt, &the, load, crew);
     if let Some(fault) = fault_of(&crew, load) {
         return Err(fault);
     }
     let times = times_of(&crew.ears, started, opened)?;
     check(&crew.ears, load)?;
-    close_and_end(rt, bus, crew, load)?;
+    close_and_end(rt, the, crew, load)?;
     Ok(times)
 }
 
 /// How long the last receiver took.
-fn times_of(
-    ears: &[Ear],
+fn times_of<B: OfBus>(
+    ears: &[Ear<B>],
     started: Option<Instant>,
     opened: Option<Instant>,
 ) -> Result<Times, Fault> {

@@ -1,28 +1,83 @@
 //! What the worker of a sender does, and that of a receiver.
 
-ghost use Rattle.std.specs.Prelude.{◌≡◌, ◌++◌, ◌≤◌, replicate};
+ghost use Rattle.std.specs.Prelude.{◌≡◌, ◌++◌, ◌≤◌, ◌<◌, All, replicate};
 ghost use Rattle.std.specs.Int.{w64, to_be_bytes};
+ghost use Rattle.bus_pageslot.specs.Seats.{table_of};
+ghost use Rattle.bus_receiver.specs.Listening.{bus_of};
 
 use crate::faults::Fault;
 use crate::gates::Gate;
 use crate::needs::{BATCH, Load};
 use bus_deliverylog::RecvTurn;
-use bus_pageslot::Bus;
-use bus_receiver::{Heard, Receiver};
+use bus_pageslot::OfBus;
+use bus_receiver::Heard;
 use bus_register::SenderNo;
+use bus_run::buses::{Receiver, Sender, Tap, TheBus};
 use bus_run::crews::Work;
-use bus_run::workers;
+use bus_run::workers::generator;
 use bus_tenure::Turn;
 use crossbeam_utils::Backoff;
+use rand_chacha::ChaCha8Rng;
 use std::alloc::{AllocError, Global};
+use std::marker::PhantomData;
 use std::sync::Wait;
 use std::time::{Clock, Instant};
 
-/// More messages than a sender sends in a round.
-const TOO_MANY_MESSAGES: u64 = 4096;
+/// A sender of the bus B with its random words, and what stopped it.
+#[derive(Drop)]
+pub struct Desk<B: OfBus> {
+    pub sender: Sender,
+    pub fault: Option<Fault>,
+    rng: ChaCha8Rng,
+    of: PhantomData<B>,
+    ghost of_bus: { table_of sender ≡ B.table },
+}
 
-/// A sender with its random words, and what stopped it.
-pub type Desk = workers::Desk<Fault>;
+impl<B: OfBus> Desk<B> {
+    /// The desk of a sender that has not begun.
+    pub fn new(sender: Sender, seed: u64) -> Desk<B>
+        requires { table_of sender ≡ B.table }
+        ensures { result.sender ≡ sender }
+    {
+        let rng = generator(seed, u64::from(sender.number().0));
+        Desk {
+            sender,
+            fault: None,
+            rng,
+            of: PhantomData,
+        }
+    }
+
+    /// The number of its sender.
+    pub fn number(&self) -> u64 {
+        u64::from(self.sender.number().0)
+    }
+
+    /// Its sender sends what waits in its batch.
+    pub fn send<W: Wait>(&mut self, wait: &W, the: &TheBus<B>) -> Turn {
+        self.sender.send(wait, &the.bus, &mut self.rng)
+    }
+
+    /// Its sender closes the bus. Says whether the bus is closed.
+    pub fn close<W: Wait>(&mut self, wait: &W, the: &TheBus<B>) -> bool {
+        self.sender.close().is_ok() && self.send(wait, the) == Turn::Closed
+    }
+}
+
+/// A desk for each sender, in order.
+pub fn desks_of<B: OfBus>(
+    alloc: Global,
+    senders: Vec<Sender>,
+    seed: u64,
+) -> Result<Vec<Desk<B>>, AllocError>
+    requires { All (λ sender. table_of sender ≡ B.table) senders.items }
+{
+    let mut desks = Vec::with_capacity(alloc, senders.len())?;
+    for sender in senders {
+        desks.push(Desk::new(sender, seed))?;
+    }
+    Ok(desks)
+}
 
 /// One item that a receiver was given.
 #[derive(Clone, Copy, Debug, PartialEq, Eq)]
@@ -31,9 +86,9 @@ pub struct Got {
     pub number: u64,
 }
 
-/// A receiver with what was noted of its answers, in order.
+/// A receiver of the bus B with what was noted of its answers, in order.
 #[derive(Drop)]
-pub struct Ear {
+pub struct Ear<B: OfBus> {
     pub number: u64,
     pub receiver: Receiver,
     pub heard: Heard,
@@ -41,39 +96,63 @@ pub struct Ear {
     /// When it had all items.
     pub done: Option<Instant>,
     pub fault: Option<Fault>,
+    of: PhantomData<B>,
+    ghost of_bus: { bus_of receiver ≡ B.table },
 }
 
-impl Ear {
+impl<B: OfBus> Ear<B> {
     /// The ear of a receiver that has not begun, with room for so many items.
-    pub fn new(
-        alloc: Global,
-        number: u64,
-        receiver: Receiver,
-        items: u64,
-    ) -> Result<Ear, AllocError> {
+    pub fn new(alloc: Global, number: u64, tap: Tap, items: u64) -> Result<Ear<B>, AllocError>
+        requires { tap.table_id ≡ B.table }
+    {
         Ok(Ear {
             number,
-            receiver,
+            receiver: Receiver::new(tap),
             heard: Heard::new(),
             order: Vec::with_capacity(alloc, items as usize)?,
             done: None,
             fault: None,
+            of: PhantomData,
         })
     }
+
+    /// Its receiver.
+    pub fn into_receiver(self) -> Receiver
+        ensures { bus_of result ≡ B.table }
+    {
+        let Ear { receiver, .. } = self;
+        receiver
+    }
+}
+
+/// An ear for each receiver, in order, with room for so many items.
+pub fn ears_of<B: OfBus>(
+    alloc: Global,
+    taps: Vec<Tap>,
+    items: u64,
+) -> Result<Vec<Ear<B>>, AllocError>
+    requires { All (λ tap. tap.table_id ≡ B.table) taps.items }
+{
+    let mut ears = Vec::with_capacity(alloc, taps.len())?;
+    for tap in taps {
+        let number = ears.len() as u64;
+        ears.push(Ear::new(alloc, number, tap, items)?)?;
+    }
+    Ok(ears)
 }
 
 /// The work of the senders of a round.
 #[derive(Drop)]
-pub struct SendAll<'a, W> {
+pub struct SendAll<'a, B: OfBus, W> {
     pub wait: &'a W,
-    pub bus: &'a Bus,
+    pub the: &'a TheBus<B>,
     pub gate: &'a Gate,
     pub load: Load,
 }
 
-impl<W: Wait> Work<Desk> for SendAll<'_, W> {
+impl<B: OfBus, W: Wait> Work<Desk<B>> for SendAll<'_, B, W> {
     /// Waits at the gate, and sends all messages of a sender.
-    fn work(&self, mut desk: Desk) -> Desk {
+    fn work(&self, mut desk: Desk<B>) -> Desk<B> {
         if !self.gate.pass(self.wait) {
             return desk;
         }
@@ -85,9 +164,9 @@ impl<W: Wait> Work<Desk> for SendAll<'_, W> {
     }
 }
 
-impl<W: Wait> SendAll<'_, W> {
+impl<B: OfBus, W: Wait> SendAll<'_, B, W> {
     /// Sends the numbers below `load.messages`, a batch at a time, or until the round was given up.
-    fn send_batches(&self, desk: &mut Desk) -> Result<(), Fault> {
+    fn send_batches(&self, desk: &mut Desk<B>) -> Result<(), Fault> {
         let messages = self.load.messages;
         for first in (0..messages).step_by(BATCH as usize) {
             if self.gate.is_given_up() {
@@ -95,7 +174,7 @@ impl<W: Wait> SendAll<'_, W> {
             }
             let end = messages.min(first.saturating_add(BATCH));
             put_all(desk, first, end, self.load.size.bytes())?;
-            let turn = desk.sender.send(self.wait, self.bus, &mut desk.rng);
+            let turn = desk.send(self.wait, self.the);
             if !matches!(turn, Turn::Delivered { .. }) {
                 let sender = desk.number();
                 return Err(Fault::Answer { sender, turn });
@@ -106,14 +185,17 @@ impl<W: Wait> SendAll<'_, W> {
 }
 
 /// Puts the messages from `first` up to `end`, of so many bytes each.
-fn put_all(desk: &mut Desk, first: u64, end: u64, bytes: usize) -> Result<(), Fault>
+fn put_all<B: OfBus>(
+    desk: &mut Desk<B>,
+    first: u64,
+    end: u64,
+    bytes: usize,
+) -> Result<(), Fault>
     requires { bytes ≤ 56 }
 {
     for number in first..end {
         let message = message_of(number);
-        if desk.sender.next_number() >= TOO_MANY_MESSAGES
-            || desk.sender.put(&message[..bytes]).is_err()
-        {
+        if desk.sender.put(&message[..bytes]).is_err() {
             let sender = desk.number();
             return Err(Fault::Put { sender });
         }
@@ -132,16 +214,16 @@ fn message_of(number: u64) -> [u8; 56]
 
 /// The work of the receivers of a round.
 #[derive(Drop)]
-pub struct HearAll<'a, R> {
+pub struct HearAll<'a, B: OfBus, R> {
     pub rt: &'a R,
-    pub bus: &'a Bus,
+    pub the: &'a TheBus<B>,
     pub gate: &'a Gate,
     pub load: Load,
 }
 
-impl<R: Wait + Clock> Work<Ear> for HearAll<'_, R> {
+impl<B: OfBus, R: Wait + Clock> Work<Ear<B>> for HearAll<'_, B, R> {
     /// Waits at the gate, takes all items, and notes the instant.
-    fn work(&self, mut ear: Ear) -> Ear {
+    fn work(&self, mut ear: Ear<B>) -> Ear<B> {
         if !self.gate.pass(self.rt) {
             return ear;
         }
@@ -160,16 +242,16 @@ impl<R: Wait + Clock> Work<Ear> for HearAll<'_, R> {
     }
 }
 
-impl<R: Wait> HearAll<'_, R> {
+impl<B: OfBus, R: Wait> HearAll<'_, B, R> {
     /// Takes turns until it has all items. On false the round was given up before.
-    fn take_all(&self, ear: &mut Ear) -> Result<bool, Fault> {
+    fn take_all(&self, ear: &mut Ear<B>) -> Result<bool, Fault> {
         let (items, receiver) = (self.load.items(), ear.number);
         let backoff = Backoff::new();
         for _ in self.rt.forever() {
             if ear.heard.items() >= items {
                 return Ok(true);
             }
-            let turn = ear.receiver.turn(self.rt, self.bus);
+            let turn = ear.receiver.turn(&self.the.bus);
             if !ear.heard.note(&turn) {
                 return Err(Fault::Heard { receiver });
             }

@@ -18,6 +18,7 @@ use Rattle.bus_world.specs.Tenures.{Stage}
 use Rattle.bus_world.specs.Tenures.Stage.{Open, Held}
 use Rattle.bus_world.proofs.EventTrails as events
 use Rattle.bus_world.proofs.Serving.{Serves}
+use Rattle.bus_pageslot.specs.Ears.{Ear}
 use Rattle.bus_pageslot.specs.declared.rule.View.{View}
 use Rattle.bus_pageslot.specs.declared.rule.View.TheVariants.{Tap}
 use Rattle.bus_pageslot.specs.Rule.{slot_of, known_in, log_in_bus, KnowsLog, IsShown}
@@ -68,7 +69,7 @@ module _ {E : Type 0} (X : Election E) (P : Protocol E (Unit {0}) ℕ) (x : Layo
         | Held holder stage away many holds ↦ absurd (true≢false (sym (ap is_some h.home_is) ∙ away))
       ]
 
-  module _ (id : ℕ) (v : View (Core E)) (c : Core E) (known : List ℕ) (is : v ≡ Tap c known) (ws : List ℕ) (xs : List (Option Page)) (f : Final (Seen (IsShown X x) id v) ws xs) where
+  module _ (id : ℕ) (v : View (Core E)) (c : Core E) (e : Ear) (is : v ≡ Tap c e) (ws : List ℕ) (xs : List (Option Page)) (f : Final (Seen (IsShown X x) id v) ws xs) where
     shown : IsShown X x f.0
     shown = f.1.0
 
@@ -90,7 +91,7 @@ module _ {E : Type 0} (X : Election E) (P : Protocol E (Unit {0}) ℕ) (x : Layo
     -- what is left, with what is home
     left : (home : Option Page) → shown.bus.side.home ≡ home → (log : List ℕ) → log ≡ read (slice_index ws) (log_at x) (slice_index ws 0) → IsLeft X x (known_in v) log home
     left home at log log_is =
-        let k : KnowsLog x shown.bus c known = shown.views id (Tap c known) (f.1.1 ∙ ap (λ (u : View (Core E)). some u) is) in
+        let k : KnowsLog x shown.bus c e = shown.views id (Tap c e) (f.1.1 ∙ ap (λ (u : View (Core E)). some u) is) in
         let p = events.promised X P y.laws x shown.served y.width y.starts y.owner_is y.named y.announces y.apart shown.bus shown.trails shown.reached in
         let same : log_in_bus x shown.bus ≡ log = ap (λ l. read (slice_index l) (log_at x) (slice_index l 0)) words_are ∙ sym log_is in
         record {
@@ -102,7 +103,7 @@ module _ {E : Type 0} (X : Election E) (P : Protocol E (Unit {0}) ℕ) (x : Layo
           order = p.order;
           owners = p.owners;
           promised = p.by;
-          front = subst (λ (u : View (Core E)). IsPrefix (known_in u) log) (sym is) (subst (IsPrefix known) same k.front);
+          front = subst (λ (u : View (Core E)). IsPrefix (known_in u) log) (sym is) (subst (IsPrefix e.known) same k.front);
         }
 
     pub left_out : (stage : ℕ) → slice_index ws 1 ≡ stage → stage % 2 ≡ 1 → (log : List ℕ) × IsLeft X x (known_in v) log None

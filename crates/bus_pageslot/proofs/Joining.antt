@@ -12,19 +12,24 @@ use Rattle.bus_register.specs.Protocol.{Protocol}
 use Rattle.bus_register.specs.Proved.TableLaws.{get_set_same}
 use Rattle.bus_batch.specs.declared.messages.Item.{Item}
 use Rattle.bus_batch.specs.Frames.{AreFrames, order_of, tenure_and_owner}
+use Rattle.bus_batch.proofs.FrameLaws.{same_log}
 use Rattle.bus_deliverylog.specs.Orders.{of_sender}
+use Rattle.bus_deliverylog.specs.Receiving.{Receiving}
 use Rattle.bus_tenure.specs.Core.{Core, Election, Layout}
 use Rattle.bus_tenure.specs.declared.pages.Page.{Page}
-use Rattle.bus_world.specs.Headline.{Deed, puts}
+use Rattle.bus_world.specs.Headline.{Deed, puts, IsPrefix}
 use Rattle.bus_world.specs.World.{Bus, with_sender}
 use Rattle.bus_world.specs.Waiting.{waiting_at, waiting_of}
 use Rattle.bus_world.proofs.Serving.{Serves}
+use Rattle.bus_pageslot.specs.Ears.{Ear, learnt, HasHeard, Agree}
 use Rattle.bus_pageslot.specs.declared.rule.View.{View}
 use Rattle.bus_pageslot.specs.declared.rule.View.TheVariants.{Maker, Sender, Tap, Meeting, Telling, Spent}
-use Rattle.bus_pageslot.specs.Rule.{Sat, log_in_bus, IsSeated, KnowsLog, Knows, IsShown, joined, first_of, second_of, all_knowing, knowing, known_in, capacity_in, IsFirst, IsPair}
+use Rattle.bus_pageslot.specs.Rule.{Sat, log_in_bus, IsSeated, KnowsLog, Knows, IsShown, joined, first_of, second_of, all_knowing, ear_in, with_ear, known_in, capacity_in, IsFirst, IsPair}
 use Rattle.bus_pageslot.specs.Steps.{Accepts, Meets, Met, Learns, KnowsSent}
 use Rattle.bus_pageslot.specs.Seats.{Spot, spot_of, IsTap}
 use Rattle.bus_pageslot.proofs.Accepting.{stays}
+use Rattle.bus_pageslot.proofs.Hearing.{agree}
+use Rattle.bus_pageslot.proofs.ReaderLaws.{fits_learnt}
 use Rattle.bus_pageslot.proofs.Loads.{reloaded, whole, size, fits}
 use Rattle.bus_pageslot.proofs.Reaching.{kept, log_is, accepts}
 
@@ -47,7 +52,7 @@ module _ {E : Type 0} (X : Election E) (x : Layout) where
   }
 
   -- a receiver's seat goes into another
-  pub joins_allowed : (v : View (Core E)) → IsFirst v → (d : Core E) (l : List ℕ) (id other : ℕ) → Joins (IsShown X x) id v other (Tap d l) (joined v (Tap d l)) Spent
+  pub joins_allowed : (v : View (Core E)) → IsFirst v → (d : Core E) (l : Ear) (id other : ℕ) → Joins (IsShown X x) id v other (Tap d l) (joined v (Tap d l)) Spent
   joins_allowed (Maker c) is d l id other = absurd is
   joins_allowed (Sender c t stored) is d l id other = λ s r at apart there.
       let w : View (Core E) = Telling c t stored d l in
@@ -64,7 +69,7 @@ module _ {E : Type 0} (X : Election E) (x : Layout) where
   joins_allowed Spent is d l id other = absurd is
 
   -- one view replaced, and a receiver's added
-  parted : (s : State (Option Page) (View (Core E))) (r : IsShown X x s) (id : ℕ) (w : View (Core E)) → Knows x r.bus r.trails r.seat id w → (d : Core E) (l : List ℕ) → KnowsLog x r.bus d l
+  parted : (s : State (Option Page) (View (Core E))) (r : IsShown X x s) (id : ℕ) (w : View (Core E)) → Knows x r.bus r.trails r.seat id w → (d : Core E) (l : Ear) → KnowsLog x r.bus d l
       → IsShown X x record { words = s.words; homes = s.homes; views = set s.views id w ++ Tap d l ∷ [] }
   parted s r id w fits d l log =
       let one = reviewed s r id w fits in
@@ -92,7 +97,7 @@ module _ {E : Type 0} (X : Election E) (x : Layout) where
   parts_allowed (Telling c t stored d l) is id = λ s r at. let h = r.views id (Telling c t stored d l) at in parted s r id (Sender c t stored) h.0 d l h.1
   parts_allowed Spent is id = absurd is
 
-  pub pairs : (v : View (Core E)) → IsFirst v → (d : Core E) (l : List ℕ) → IsPair (joined v (Tap d l))
+  pub pairs : (v : View (Core E)) → IsFirst v → (d : Core E) (l : Ear) → IsPair (joined v (Tap d l))
   pairs (Maker c) is d l = absurd is
   pairs (Sender c t stored) is d l = tt
   pairs (Tap c k) is d l = tt
@@ -107,6 +112,12 @@ module _ {E : Type 0} (X : Election E) (x : Layout) where
   still_pair (Meeting c k d l) known is = tt
   still_pair (Telling c t stored d l) known is = tt
   still_pair Spent known is = absurd is
+
+-- two receivers of one bus agree
+both_agree : {E : Type 0} (x : Layout) (b : Bus E) (c d : Core E) (e f : Ear) → KnowsLog x b c e → KnowsLog x b d f → Agree e f
+both_agree x b c d e f h k =
+    let same : k.frames ≡ h.frames = same_log x.senders 0 0 k.frames h.frames k.lawful h.lawful (k.words_are ∙ sym h.words_are) in
+    agree x.senders h.frames h.lawful e f h.heard (subst (λ fs. HasHeard fs f) same k.heard)
 
 module _ {E : Type 0} (X : Election E) (P : Protocol E (Unit {0}) ℕ) (x : Layout) (y : Serves X P x) where
   -- what the log holds of a sender, with all that it has accepted
@@ -143,26 +154,26 @@ module _ {E : Type 0} (X : Election E) (P : Protocol E (Unit {0}) ℕ) (x : Layo
   meets_allowed (Meeting c k d l) carried is slots id = λ s r count at range.
       let h = r.views id (Meeting c k d l) at in
       let all : List ℕ = log_in_bus x r.bus in (
-        Meeting c all d all,
+        Meeting c (learnt k all) d (learnt l all),
         keeps,
         tt,
-        reloaded X x s r 0 id (Meeting c all d all) (whole x r.bus c h.0.layout, whole x r.bus d h.1.layout),
-        record { known = all; now = refl; length_is = size X x s r; grows = (h.0.front, h.1.front, fits X P x y s r c h.0.layout, fits X P x y s r d h.1.layout) },
+        reloaded X x s r 0 id (Meeting c (learnt k all) d (learnt l all)) (whole x r.bus c k h.0, whole x r.bus d l h.1),
+        record { known = all; now = refl; length_is = size X x s r; grows = (h.0.front, h.1.front, fits X P x y s r c h.0.layout, fits X P x y s r d h.1.layout, both_agree x r.bus c d k l h.0 h.1) },
       )
   meets_allowed (Telling c t stored d l) carried is slots id = λ s r count at range.
       let h = r.views id (Telling c t stored d l) at in
       let all : List ℕ = log_in_bus x r.bus in (
-        Telling c t stored d all,
+        Telling c t stored d (learnt l all),
         keeps,
         tt,
-        reloaded X x s r 0 id (Telling c t stored d all) (h.0, whole x r.bus d h.1.layout),
+        reloaded X x s r 0 id (Telling c t stored d (learnt l all)) (h.0, whole x r.bus d l h.1),
         record { known = all; now = refl; length_is = size X x s r; grows = (h.1.front, fits X P x y s r d h.1.layout, knows_sent s r id c t stored h.0) },
       )
   meets_allowed Spent carried is slots id = absurd is
 
 -- what a receiver is told, and what two that meet learn
 module _ {E : Type 0} where
-  told_at : (c : Core E) (t : List Deed) (stored : ℕ) (carried : List (ℕ × Option Page)) (d : Core E) (l : List ℕ) (got : ℕ) (m' n' : Sat E) → Met (Sender c t stored, carried) (Tap d l, []) got m' n'
+  told_at : (c : Core E) (t : List Deed) (stored : ℕ) (carried : List (ℕ × Option Page)) (d : Core E) (l : Ear) (got : ℕ) (m' n' : Sat E) → Met (Sender c t stored, carried) (Tap d l, []) got m' n'
       → (m' ≡ (Sender c t stored, carried)) × Learns (Tap d l, []) got n' × ((e : Core E) (deeds : List Deed) → Accepts c e deeds → KnowsSent e (t ++ deeds) stored (known_in n'.0))
   told_at c t stored carried d l got m' n' h = (
     h.first,
@@ -170,42 +181,42 @@ module _ {E : Type 0} where
     subst (λ (y : Sat E). (e : Core E) (deeds : List Deed) → Accepts c e deeds → KnowsSent e (t ++ deeds) stored (known_in y.0)) (sym h.second) h.grows.2,
   )
 
-  pub told_of : (c : Core E) (t : List Deed) (stored : ℕ) (carried : List (ℕ × Option Page)) (d : Core E) (l : List ℕ) (m n : Sat E) (got : ℕ) (m' n' : Sat E) → m ≡ (Sender c t stored, carried) → n ≡ (Tap d l, []) → Met m n got m' n'
+  pub told_of : (c : Core E) (t : List Deed) (stored : ℕ) (carried : List (ℕ × Option Page)) (d : Core E) (l : Ear) (m n : Sat E) (got : ℕ) (m' n' : Sat E) → m ≡ (Sender c t stored, carried) → n ≡ (Tap d l, []) → Met m n got m' n'
       → (m' ≡ m) × Learns n got n' × ((e : Core E) (deeds : List Deed) → Accepts c e deeds → KnowsSent e (t ++ deeds) stored (known_in n'.0))
   told_of c t stored carried d l m n got m' n' em en h =
       subst (λ (y : Sat E × Sat E). (m' ≡ y.0) × Learns y.1 got n' × ((e : Core E) (deeds : List Deed) → Accepts c e deeds → KnowsSent e (t ++ deeds) stored (known_in n'.0))) (λ i. (sym em i, sym en i))
       (told_at c t stored carried d l got m' n' (subst (λ (y : Sat E × Sat E). Met y.0 y.1 got m' n') (λ i. (em i, en i)) h))
 
-  met_at : (c : Core E) (k : List ℕ) (d : Core E) (l : List ℕ) (got : ℕ) (m' n' : Sat E) → Met (Tap c k, []) (Tap d l, []) got m' n' → Learns (Tap c k, []) got m' × Learns (Tap d l, []) got n' × (known_in n'.0 ≡ known_in m'.0)
+  met_at : (c : Core E) (k : Ear) (d : Core E) (l : Ear) (got : ℕ) (m' n' : Sat E) → Met (Tap c k, []) (Tap d l, []) got m' n' → Learns (Tap c k, []) got m' × Learns (Tap d l, []) got n' × (known_in n'.0 ≡ known_in m'.0) × Agree k l
   met_at c k d l got m' n' h = (
     record { known = h.known; now = h.first; grows = h.grows.0; length_is = h.length_is; within = h.grows.2 },
     record { known = h.known; now = h.second; grows = h.grows.1; length_is = h.length_is; within = h.grows.3 },
     ap (λ (y : Sat E). known_in y.0) h.second ∙ sym (ap (λ (y : Sat E). known_in y.0) h.first),
+    h.grows.4,
   )
 
-  pub met_of : (c : Core E) (k : List ℕ) (d : Core E) (l : List ℕ) (m n : Sat E) (got : ℕ) (m' n' : Sat E) → m ≡ (Tap c k, []) → n ≡ (Tap d l, []) → Met m n got m' n' → Learns m got m' × Learns n got n' × (known_in n'.0 ≡ known_in m'.0)
+  pub met_of : (c : Core E) (k : Ear) (d : Core E) (l : Ear) (m n : Sat E) (got : ℕ) (m' n' : Sat E) → m ≡ (Tap c k, []) → n ≡ (Tap d l, []) → Met m n got m' n' → Learns m got m' × Learns n got n' × (known_in n'.0 ≡ known_in m'.0) × Agree (ear_in m.0) (ear_in n.0)
   met_of c k d l m n got m' n' em en h =
-      subst (λ (y : Sat E × Sat E). Learns y.0 got m' × Learns y.1 got n' × (known_in n'.0 ≡ known_in m'.0)) (λ i. (sym em i, sym en i))
+      subst (λ (y : Sat E × Sat E). Learns y.0 got m' × Learns y.1 got n' × (known_in n'.0 ≡ known_in m'.0) × Agree (ear_in y.0.0) (ear_in y.1.0)) (λ i. (sym em i, sym en i))
       (met_at c k d l got m' n' (subst (λ (y : Sat E × Sat E). Met y.0 y.1 got m' n') (λ i. (em i, en i)) h))
 
   -- a receiver after it has learnt
-  pub learned : (s : Spot E) (log known got : ℕ) (m' : Sat E) (table : TableId) → IsTap s log known → Learns s.me got m' → table.words ≡ s.table_id.words → IsTap (record { table_id = table; me = m' }) log got
-  learned s log known got m' table h l wide = record {
-    core = h.core;
-    words = l.known;
-    me = l.now ∙ (λ i. (knowing (h.me i).0 l.known, (h.me i).1));
-    log_is = h.log_is;
-    room = h.room;
-    known_is = sym l.length_is;
-    within = let a = l.length_is in let b : length l.known ≤ h.core.layout.capacity = subst (λ (v : View (Core E)). length l.known ≤ capacity_in v) (ap (λ (y : Sat E). y.0) h.me) l.within in omega arith;
-    wide = wide ∙ h.wide;
-  }
+  pub learned : (s : Spot E) (log known got : ℕ) (r : Receiving) (m' : Sat E) (table : TableId) → IsTap s log known r → Learns s.me got m' → table.words ≡ s.table_id.words → IsTap (record { table_id = table; me = m' }) log got r
+  learned s log known got r m' table h l wide =
+      let t = h.sits in
+      let now : m' ≡ (Tap t.core (learnt t.ear l.known), []) = l.now ∙ (λ i. (with_ear (t.me i).0 (learnt (ear_in (t.me i).0) l.known), (t.me i).1)) in
+      let grows : IsPrefix t.ear.known l.known = subst (λ (y : Sat E). IsPrefix (known_in y.0) l.known) t.me l.grows in
+      let within : length l.known ≤ t.core.layout.capacity = subst (λ (y : Sat E). length l.known ≤ capacity_in y.0) t.me l.within in
+      record {
+        sits = record { core = t.core; ear = learnt t.ear l.known; me = now; log_is = t.log_is; within = within; room = t.room; wide = wide ∙ t.wide; fit = fits_learnt t.core.layout.senders t.ear (learnt t.ear l.known) r t.fit refl refl grows };
+        known_is = sym l.length_is ∙ ap (λ (y : Sat E). length (known_in y.0)) (sym now);
+      }
 
-  pub is_here : (s : Option (Seat (Option Page) (View (Core E)))) (log known : ℕ) → IsTap (spot_of s) log known → IsSome s
-  is_here (Some s) log known h = refl
-  is_here None log known h = absurd (let bad : Spent ≡ Tap h.core h.words = ap (λ (y : Sat E). y.0) h.me in let wrong : ⊥ = cc in wrong)
+  pub is_here : (s : Option (Seat (Option Page) (View (Core E)))) (log known : ℕ) (r : Receiving) → IsTap (spot_of s) log known r → IsSome s
+  is_here (Some s) log known r h = refl
+  is_here None log known r h = absurd (let bad : Spent ≡ Tap h.sits.core h.sits.ear = ap (λ (y : Sat E). y.0) h.sits.me in let wrong : ⊥ = cc in wrong)
 
-  pub first_of_tap : (m : Sat E) (c : Core E) (k : List ℕ) → m ≡ (Tap c k, []) → IsFirst m.0
+  pub first_of_tap : (m : Sat E) (c : Core E) (k : Ear) → m ≡ (Tap c k, []) → IsFirst m.0
   first_of_tap m c k e = subst (λ (y : Sat E). IsFirst y.0) (sym e) tt
 
   pub first_of_sender : (m : Sat E) (c : Core E) (t : List Deed) (stored : ℕ) (carried : List (ℕ × Option Page)) → m ≡ (Sender c t stored, carried) → IsFirst m.0

@@ -4,11 +4,13 @@ pub mod Accepting
 pub mod Situations
 pub mod Counting
 pub mod Reaching
+pub mod Hearing
 pub mod Ties
 pub mod Walks
 pub mod Openings
 pub mod Puts
 pub mod Loads
+pub mod ReaderLaws
 pub mod Joining
 pub mod Endings
 pub mod Promising

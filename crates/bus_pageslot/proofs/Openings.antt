@@ -11,21 +11,27 @@ use Rattle.atomic_table.specs.declared.shared.Seat.{Seat}
 use Rattle.atomic_table.specs.Table.{Splits, opening}
 use Rattle.atomic_table.proofs.Lists.{at_set}
 use Rattle.bus_register.specs.Proved.TableLaws.{some_or_none, here_not, push_here, push_beside}
+use Rattle.bus_register.specs.Protocol.{Protocol}
+use Rattle.bus_batch.specs.Frames.{Frame, AreFrames, log_words}
 use Rattle.bus_tenure.specs.Core.{Core, Election, Layout, words_of}
 use Rattle.bus_tenure.specs.declared.pages.Page.{Page}
 use Rattle.bus_world.specs.Bus.{IsLayout}
+use Rattle.bus_world.proofs.Serving.{Serves}
 use Rattle.bus_world.specs.Starting.{AreNewCores}
 use Rattle.bus_world.proofs.StartingLaws.{one_more_core}
 use Rattle.bus_world.specs.World.{Bus, IsNew, new_core, new_page}
 use Rattle.bus_world.specs.Trails.{Trails, no_trails}
 use Rattle.bus_world.specs.Trails.Reached.{New}
+use Rattle.bus_pageslot.specs.Ears.{new_ear}
 use Rattle.bus_pageslot.specs.declared.rule.View.{View}
 use Rattle.bus_pageslot.specs.declared.rule.View.TheVariants.{Maker, Sender, Tap, Meeting, Telling, Spent}
-use Rattle.bus_pageslot.specs.Rule.{tap_left, tap_right, trail_in, stored_in, next_core, cut_left, cut_right, log_in_bus, Knows, IsShown}
+use Rattle.bus_pageslot.specs.Rule.{tap_left, tap_right, trail_in, stored_in, next_core, cut_left, cut_right, log_in_bus, KnowsLog, Knows, IsShown}
 use Rattle.bus_pageslot.specs.Steps.{carried_of, IsCounted}
 use Rattle.bus_pageslot.specs.Steps.Accepts.{Nothing}
 use Rattle.bus_pageslot.specs.Seats.{Seated, Spot, Shows, table_of}
 use Rattle.bus_pageslot.specs.Buses.{IsNewSeat, AreNewSeats, IsNewTap, AreNewTaps}
+use Rattle.bus_pageslot.proofs.Hearing.{heard_new}
+use Rattle.bus_pageslot.proofs.Reaching.{kept, log_is}
 use Rattle.atomic_table.specs.Seated.{TableId}
 
 -- one seat replaced
@@ -61,6 +67,10 @@ crowd_has {E = E} x k p l = let h = crowd_new {E = E} x k in elim (some_or_none 
   | inr c ↦ c.1 ∙ ap Some (h.each p c.0 c.1).1
   | inl nobody ↦ absurd (here_not (crowd {E = E} x k) p (let z = h.many_are in omega arith) nobody)
 ]
+
+-- a receiver that knows nothing, of a log with these frames
+knows_new : {E : Type 0} (x : Layout) (b : Bus E) (c : Core E) → c.layout ≡ x → (frames : List Frame) → AreFrames x.senders frames → log_words frames ≡ log_in_bus x b → KnowsLog x b c new_ear
+knows_new x b c layout frames lawful words = record { layout = layout; front = record { rest = log_in_bus x b; together = refl }; below = omega arith; frames = frames; lawful = lawful; words_are = words; heard = heard_new frames }
 
 module _ {E : Type 0} (X : Election E) (x : Layout) where
   abbrev first : View (Core E)
@@ -102,9 +112,9 @@ module _ {E : Type 0} (X : Election E) (x : Layout) where
     cut_others : (v : View (Core E)) → Knows x b T seat j v → Knows x b T (sit seat k count) j v
     cut_others (Maker c) h = (h.0, λ q low high. let u = h.1 q low high in record { here = seats_still q u.here; core = u.core; deeds = u.deeds })
     cut_others (Sender c t stored) h = record { here = seats_still c.me h.here; core = h.core; deeds = h.deeds; reached = h.reached }
-    cut_others (Tap c known) h = h
-    cut_others (Meeting c known d told) h = h
-    cut_others (Telling c t stored d known) h = (record { here = seats_still c.me h.0.here; core = h.0.core; deeds = h.0.deeds; reached = h.0.reached }, h.1)
+    cut_others (Tap c e) h = h
+    cut_others (Meeting c e d f) h = h
+    cut_others (Telling c t stored d e) h = (record { here = seats_still c.me h.0.here; core = h.0.core; deeds = h.0.deeds; reached = h.0.reached }, h.1)
     cut_others Spent h = tt
 
   -- a seat for one more sender
@@ -139,8 +149,8 @@ module _ {E : Type 0} (X : Election E) (x : Layout) where
       }
 
   -- a seat for one more receiver
-  pub tap_allowed : (id : ℕ) (c : Core E) → Splits (IsShown X x) id (Maker c) (tap_left (Maker c)) (tap_right (Maker c))
-  tap_allowed id c s r at = record {
+  pub tap_allowed : (P : Protocol E (Unit {0}) ℕ) → Serves X P x → (id : ℕ) (c : Core E) → Splits (IsShown X x) id (Maker c) (tap_left (Maker c)) (tap_right (Maker c))
+  tap_allowed P y id c s r at = let k = kept X P x y r.served r.bus r.trails r.reached in record {
     served = r.served;
     bus = r.bus;
     trails = r.trails;
@@ -149,12 +159,12 @@ module _ {E : Type 0} (X : Election E) (x : Layout) where
     words = r.words;
     slot = r.slot;
     seat = r.seat;
-    views = λ j v e. elim (at_end (set s.views id (Maker c)) (Tap c []) v j e) [
+    views = λ j v e. elim (at_end (set s.views id (Maker c)) (Tap c new_ear) v j e) [
       | inl u ↦ ⊎_elim
           (λ (y : (j ≡ id) × (Maker c ≡ v)). subst (λ (z : ℕ × View (Core E)). Knows x r.bus r.trails r.seat z.0 z.1) (λ i. (sym y.0 i, y.1 i)) (r.views id (Maker c) at))
           (λ (y : (j ≢ id) × (get_elem? s.views j ≡ some v)). r.views j v y.1)
           (at_set s.views id j (Maker c) v u)
-      | inr u ↦ subst (Knows x r.bus r.trails r.seat j) u.1 (record { layout = ap (λ (z : Core E). z.layout) (r.views id (Maker c) at).0; front = record { rest = log_in_bus x r.bus; together = refl } })
+      | inr u ↦ subst (Knows x r.bus r.trails r.seat j) u.1 (knows_new x r.bus c (ap (λ (z : Core E). z.layout) (r.views id (Maker c) at).0) k.frames k.lawful.keeps.sending.log.lawful (sym (log_is X P x y r.served r.bus r.trails k)))
     ];
   }
 
@@ -186,8 +196,8 @@ one_more x table many senders s h new = record {
       ];
 }
 
-pub one_more_tap : {E : Type 0} (table : TableId) (many : ℕ) (taps : List (Spot E)) (t : Spot E) → AreNewTaps table many taps → IsNewTap table t → AreNewTaps table (many + 1) (taps ++ t ∷ [])
-one_more_tap table many taps t h new = record {
+pub one_more_tap : {E : Type 0} (senders : ℕ) (table : TableId) (many : ℕ) (taps : List (Spot E)) (t : Spot E) → AreNewTaps senders table many taps → IsNewTap senders table t → AreNewTaps senders table (many + 1) (taps ++ t ∷ [])
+one_more_tap senders table many taps t h new = record {
   many_are = length-append taps (t ∷ []) ∙ (let z = h.many_are in omega arith);
   each = λ r y e.
       let within = slice_get_within (taps ++ t ∷ []) r y e in let size = length-append taps (t ∷ []) in
@@ -195,7 +205,7 @@ one_more_tap table many taps t h new = record {
         | inl l ↦ h.each r y (sym (push_beside taps t r (λ i. absurd (omega arith))) ∙ e)
         | inr l ↦
             let here : r ≡ length taps = omega arith in
-            subst (IsNewTap table) (same_Some _ _ (sym (push_here taps t (length taps) refl) ∙ ap (slice_get (taps ++ t ∷ [])) (sym here) ∙ e)) new
+            subst (IsNewTap senders table) (same_Some _ _ (sym (push_here taps t (length taps) refl) ∙ ap (slice_get (taps ++ t ∷ [])) (sym here) ∙ e)) new
       ];
 }
 
@@ -207,5 +217,5 @@ by_each P (x ∷ xs) each = All-cons P x xs (each 0 x refl) (by_each P xs (λ p.
 pub all_here : {E : Type 0} (x : Layout) (table : TableId) (many : ℕ) (senders : List (Seated E)) → AreNewSeats x table many senders → All (λ s. table_of s ≡ table) senders
 all_here x table many senders h = by_each (λ s. table_of s ≡ table) senders (λ p s e. (h.each p s e).table_is)
 
-pub all_taps_here : {E : Type 0} (table : TableId) (many : ℕ) (taps : List (Spot E)) → AreNewTaps table many taps → All (λ t. t.table_id ≡ table) taps
-all_taps_here table many taps h = by_each (λ t. t.table_id ≡ table) taps (λ r t e. (h.each r t e).table_is)
+pub all_taps_here : {E : Type 0} (senders : ℕ) (table : TableId) (many : ℕ) (taps : List (Spot E)) → AreNewTaps senders table many taps → All (λ t. t.table_id ≡ table) taps
+all_taps_here senders table many taps h = by_each (λ t. t.table_id ≡ table) taps (λ r t e. (h.each r t e).table_is)

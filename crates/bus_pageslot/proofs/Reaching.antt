@@ -11,7 +11,7 @@ use Rattle.bus_register.specs.Tables.{of_some}
 use Rattle.bus_register.specs.Proved.TableLaws.{some_or_none, get_set_same}
 use Rattle.bus_register.specs.Protocol.{Protocol}
 use Rattle.bus_batch.specs.Batches.{next_of}
-use Rattle.bus_batch.specs.Frames.{Frame, frame_words, log_words}
+use Rattle.bus_batch.specs.Frames.{Frame, AreFrames, frame_words, log_words}
 use Rattle.bus_tenure.specs.Core.{Core, Election, Layout, log_at}
 use Rattle.bus_tenure.specs.Situations.{Situation, IsClosed, IsIdle, IsSpent, LooksAtStage, Elects, TakesPage, AwaitsPage, StoresWord, StoresLength, GivesBack, HasHanded, situation_of, op_at, answer_at}
 use Rattle.bus_tenure.specs.declared.pages.Page.{Page}
@@ -39,6 +39,15 @@ use Rattle.bus_pageslot.specs.Steps.{with_message, with_close, Accepts, deeds_at
 use Rattle.bus_pageslot.specs.Steps.Accepts.{Nothing, Message, Close as Closes}
 use Rattle.bus_pageslot.proofs.Situations.{tells}
 use Rattle.bus_pageslot.proofs.Taking.{put_taken, close_taken, set_there}
+
+-- the frames of a log, and those of the log that it has become
+pub record LogGrows {E : Type 0} (x : Layout) (b b' : Bus E) : Type 0 where
+  pub frames : List Frame
+  pub more : List Frame
+  pub lawful : AreFrames x.senders frames
+  pub lawful_now : AreFrames x.senders (frames ++ more)
+  pub words_are : log_words frames ≡ log_in_bus x b
+  pub words_now : log_words (frames ++ more) ≡ log_in_bus x b'
 
 -- ---- trails that grow
 same_longer : (p : ℕ) (D : ℕ → List Deed) → Longer p [] D D
@@ -125,6 +134,7 @@ module _ {E : Type 0} (X : Election E) (P : Protocol E (Unit {0}) ℕ) (x : Layo
     pub receivers : bus.receivers ≡ b.receivers
     pub longer : Longer p (deeds_at X d (slice_index b.side.words (register o)) word) T.deeds trails.deeds
     pub front : IsPrefix (log_in_bus x b) (log_in_bus x bus)
+    pub grows : LogGrows x b bus
 
   module _ (b : Bus E) (T : Trails) (r : Reached X x b T) (p : ℕ) (d : Core E) (old : slice_get b.side.senders p ≡ Some d) (word : ℕ) (o : Op) (due : op_at X d (situation_of X d) word ≡ Some o) where
     abbrev z : Situation E
@@ -158,6 +168,19 @@ module _ {E : Type 0} (X : Election E) (P : Protocol E (Unit {0}) ℕ) (x : Layo
           together = ap (λ l. l ++ log_words after.left.continues.more) (log_is b T k) ∙ sym (flat_map-append frame_words k.frames after.left.continues.more) ∙ ap log_words after.left.continues.together ∙ sym now;
         }
 
+    grows : LogGrows x b bus'
+    grows =
+        let k = kept b T r in
+        let after = event_left X P s.laws x ok s.width s.starts s.owner_is b k.frames k.lawful bus' (Turn p word) tt turns in
+        record {
+          frames = k.frames;
+          more = after.left.continues.more;
+          lawful = k.lawful.keeps.sending.log.lawful;
+          lawful_now = subst (AreFrames x.senders) (sym after.left.continues.together) after.left.lawful.keeps.sending.log.lawful;
+          words_are = sym (log_is b T k);
+          words_now = ap log_words after.left.continues.together ∙ sym after.left.lawful.keeps.sending.log.words_are;
+        }
+
     pub steps : Steps b T p d word o
     steps = record {
       bus = bus';
@@ -169,6 +192,7 @@ module _ {E : Type 0} (X : Election E) (P : Protocol E (Unit {0}) ℕ) (x : Layo
       receivers = refl;
       longer = subst (λ ds. Longer p ds T.deeds (trails_grown X b (Turn p word) told T).deeds) deeds_are (longer_by p (turning_deeds X b.side.words (slice_get b.side.senders p) word told) T.deeds);
       front = front;
+      grows = grows;
     }
 
     -- ---- what is so before it

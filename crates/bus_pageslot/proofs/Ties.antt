@@ -14,6 +14,7 @@ use Rattle.bus_register.specs.Tables.{Beside}
 use Rattle.bus_register.specs.Proved.TableLaws.{get_set_same, get_set_other}
 use Rattle.bus_register.specs.Protocol.{Protocol}
 use Rattle.bus_batch.specs.Frames.{log_words}
+use Rattle.bus_batch.proofs.FrameLaws.{same_log}
 use Rattle.bus_tenure.specs.Core.{Core, Election, Layout, words_of, frame_len}
 use Rattle.bus_tenure.specs.Situations.{Situation, IsClosed, IsIdle, IsSpent, LooksAtStage, Elects, TakesPage, AwaitsPage, StoresWord, StoresLength, GivesBack, HasHanded, situation_of, op_at, answer_at}
 use Rattle.bus_tenure.specs.declared.pages.Page.{Page}
@@ -25,13 +26,15 @@ use Rattle.bus_world.specs.World.{Bus, with_sender}
 use Rattle.bus_world.proofs.Growing.{prefix_after}
 use Rattle.bus_world.proofs.Serving.{Serves}
 use Rattle.bus_world.proofs.TableTrails.{Longer}
+use Rattle.bus_pageslot.specs.Ears.{Ear, HasHeard}
 use Rattle.bus_pageslot.specs.declared.rule.View.{View}
 use Rattle.bus_pageslot.specs.declared.rule.View.TheVariants.{Maker, Sender, Tap, Meeting, Telling, Spent}
 use Rattle.bus_pageslot.specs.Rule.{slot_of, Sat, trail_in, stored_in, log_in_bus, IsSeated, IsUnseated, KnowsLog, Knows, IsShown}
 use Rattle.bus_pageslot.specs.Steps.{IsCounted, deeds_in, since_in, deeds_at, stored_at, Told, Gone, IsDue}
 use Rattle.bus_pageslot.proofs.Accepting.{since_is}
 use Rattle.bus_pageslot.proofs.Counting.{first_below}
-use Rattle.bus_pageslot.proofs.Reaching.{Kept, kept, log_is, log_size, Reaches, accepts, Steps, steps, sum_fits, taken}
+use Rattle.bus_pageslot.proofs.Hearing.{heard_later}
+use Rattle.bus_pageslot.proofs.Reaching.{LogGrows, Kept, kept, log_is, log_size, Reaches, accepts, Steps, steps, sum_fits, taken}
 use Rattle.bus_pageslot.proofs.Situations.{Moved, moves}
 
 no_shorter : (xs ys : List ℕ) → IsPrefix xs ys → length xs ≤ length ys
@@ -40,6 +43,7 @@ no_shorter xs ys p = let a = length-append xs p.rest in let b = ap length p.toge
 -- a bus that goes on from another: what its log says stays, and of its senders p alone is another, with more deeds
 pub record GoesOnTo {E : Type 0} (x : Layout) (p : ℕ) (more : List Deed) (b : Bus E) (T : Trails) (b' : Bus E) (T' : Trails) : Type 0 where
   pub front : IsPrefix (log_in_bus x b) (log_in_bus x b')
+  pub grows : LogGrows x b b'
   pub length : slice_index b.side.words 0 ≤ slice_index b'.side.words 0
   pub senders : Beside p (slice_get b.side.senders) (slice_get b'.side.senders)
   pub deeds : Longer p more T.deeds T'.deeds
@@ -60,15 +64,27 @@ module _ {E : Type 0} (x : Layout) (b b' : Bus E) (T T' : Trails) (seat : ℕ �
   unseated_still : (q : ℕ) → IsUnseated x b T seat j q → IsUnseated x b' T' seat j q
   unseated_still q h = record { here = h.here; core = on.senders q (apart q h.here) ∙ h.core; deeds = on.deeds.others q (apart q h.here) ∙ h.deeds }
 
-  log_still : (c : Core E) (known : List ℕ) → KnowsLog x b c known → KnowsLog x b' c known
-  log_still c known h = record { layout = h.layout; front = prefix_after known (log_in_bus x b) (log_in_bus x b') h.front on.front }
+  log_still : (c : Core E) (e : Ear) → KnowsLog x b c e → KnowsLog x b' c e
+  log_still c e h =
+      let g = on.grows in
+      let same : h.frames ≡ g.frames = same_log x.senders 0 0 h.frames g.frames h.lawful g.lawful (h.words_are ∙ sym g.words_are) in
+      let read : e.place ≤ length (log_words g.frames) = (let a = h.below in let l = no_shorter e.known (log_in_bus x b) h.front in let w = ap length g.words_are in omega arith) in
+      record {
+        layout = h.layout;
+        front = prefix_after e.known (log_in_bus x b) (log_in_bus x b') h.front on.front;
+        below = h.below;
+        frames = g.frames ++ g.more;
+        lawful = g.lawful_now;
+        words_are = g.words_now;
+        heard = heard_later g.frames e (subst (λ fs. HasHeard fs e) same h.heard) g.more read;
+      }
 
   pub others_know : (v : View (Core E)) → Knows x b T seat j v → Knows x b' T' seat j v
   others_know (Maker c) h = (h.0, λ q low high. unseated_still q (h.1 q low high))
   others_know (Sender c t stored) h = seated_still c t stored h
-  others_know (Tap c known) h = log_still c known h
-  others_know (Meeting c known d told) h = (log_still c known h.0, log_still d told h.1)
-  others_know (Telling c t stored d known) h = (seated_still c t stored h.0, log_still d known h.1)
+  others_know (Tap c e) h = log_still c e h
+  others_know (Meeting c e d f) h = (log_still c e h.0, log_still d f h.1)
+  others_know (Telling c t stored d e) h = (seated_still c t stored h.0, log_still d e h.1)
   others_know Spent h = tt
 
 -- The tie: where events lead on to a bus with the new words, page and sender, the rule holds of the new table
@@ -200,6 +216,7 @@ module _ {E : Type 0} (X : Election E) (P : Protocol E (Unit {0}) ℕ) (x : Layo
     goes_on : GoesOnTo x p (due.deeds ++ deeds_at X d (slice_index b.side.words (register o)) word) r.bus r.trails done.bus done.trails
     goes_on = record {
       front = done.front;
+      grows = record { frames = done.grows.frames; more = done.grows.more; lawful = done.grows.lawful; lawful_now = done.grows.lawful_now; words_are = done.grows.words_are; words_now = done.grows.words_now };
       length = longer;
       senders = λ q ne. ap (λ l. slice_get l q) done.senders ∙ get_set_other b.side.senders p _ q ne ∙ get_set_other r.bus.side.senders p d q ne;
       deeds = record {

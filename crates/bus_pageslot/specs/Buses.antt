@@ -9,7 +9,8 @@ use Rattle.bus_world.specs.declared.shapes.Shape.{Shape}
 use Rattle.bus_pageslot.specs.declared.rule.View.{View}
 use Rattle.bus_pageslot.specs.declared.rule.View.TheVariants.{Maker}
 use Rattle.bus_pageslot.specs.Seats.{Seated, Spot, table_of, deeds_of, stored_of}
-use Rattle.bus_pageslot.specs.Rule.{known_in}
+use Rattle.bus_pageslot.specs.Ears.{new_ear}
+use Rattle.bus_pageslot.specs.Rule.{ear_in, senders_in}
 
 -- a bus: its table, and the sizes that were asked for
 pub record Site : Type 0 where
@@ -36,12 +37,13 @@ pub record AreNewSeats {E : Type 0} (x : Layout) (table : TableId) (many : ℕ) 
   pub many_are : length senders ≡ many
   pub each : (p : ℕ) (s : Seated E) → slice_get senders p ≡ Some s → IsNewSeat x table p s
 
--- a receiver of this table before its first turn
-pub record IsNewTap {E : Type 0} (table : TableId) (t : Spot E) : Type 0 where
+-- a receiver of this table, of a bus of so many senders, before its first turn
+pub record IsNewTap {E : Type 0} (senders : ℕ) (table : TableId) (t : Spot E) : Type 0 where
   pub table_is : t.table_id ≡ table
-  pub known : known_in t.me.0 ≡ []
+  pub ear : ear_in t.me.0 ≡ new_ear
+  pub senders_are : senders_in t.me.0 ≡ senders
 
 -- so many of them, in order
-pub record AreNewTaps {E : Type 0} (table : TableId) (many : ℕ) (taps : List (Spot E)) : Type 0 where
+pub record AreNewTaps {E : Type 0} (senders : ℕ) (table : TableId) (many : ℕ) (taps : List (Spot E)) : Type 0 where
   pub many_are : length taps ≡ many
-  pub each : (r : ℕ) (t : Spot E) → slice_get taps r ≡ Some t → IsNewTap table t
+  pub each : (r : ℕ) (t : Spot E) → slice_get taps r ≡ Some t → IsNewTap senders table t

@@ -1,5 +1,7 @@
+pub mod Ears
 pub mod Rule
 pub mod Steps
+pub mod Listening
 pub mod Seats
 pub mod Turns
 pub mod Buses

@@ -5,6 +5,7 @@ use mathlib.Core.Option.{some, none}
 use mathlib.Core.Option as maybe
 use lib.ListN.{get_elem?}
 use Rattle.atomic_table.specs.Table.{State, Me}
+use Rattle.bus_batch.specs.Frames.{Frame, AreFrames, log_words}
 use Rattle.bus_tenure.specs.Core.{Core, Election, Layout, log_at}
 use Rattle.bus_tenure.specs.declared.pages.Page.{Page}
 use Rattle.bus_world.specs.Bus.{IsLayout}
@@ -12,6 +13,7 @@ use Rattle.bus_world.specs.Headline.{Deed, IsPrefix}
 use Rattle.bus_world.specs.Playing.{log_of}
 use Rattle.bus_world.specs.Trails.{Trails, Reached}
 use Rattle.bus_world.specs.World.{Bus, new_core}
+use Rattle.bus_pageslot.specs.Ears.{Ear, new_ear, learnt, HasHeard}
 use Rattle.bus_pageslot.specs.declared.rule.View.{View}
 use Rattle.bus_pageslot.specs.declared.rule.View.TheVariants.{Maker, Sender, Tap, Meeting, Telling, Spent}
 
@@ -26,18 +28,18 @@ Sat E = Me (Option Page) (View (Core E))
 abbrev pub trail_in : {E : Type 0} → View (Core E) → List Deed
 trail_in (Maker c) = []
 trail_in (Sender c trail stored) = trail
-trail_in (Tap c known) = []
-trail_in (Meeting c known d other) = []
-trail_in (Telling c trail stored d known) = trail
+trail_in (Tap c e) = []
+trail_in (Meeting c e d f) = []
+trail_in (Telling c trail stored d e) = trail
 trail_in Spent = []
 
 -- the last length that its sender has stored; 0 before the first
 abbrev pub stored_in : {E : Type 0} → View (Core E) → ℕ
 stored_in (Maker c) = 0
 stored_in (Sender c trail stored) = stored
-stored_in (Tap c known) = 0
-stored_in (Meeting c known d other) = 0
-stored_in (Telling c trail stored d known) = stored
+stored_in (Tap c e) = 0
+stored_in (Meeting c e d f) = 0
+stored_in (Telling c trail stored d e) = stored
 stored_in Spent = 0
 
 -- a sender with another number
@@ -48,17 +50,17 @@ next_core c = new_core c.layout (c.me + 1)
 abbrev pub cut_left : {E : Type 0} → View (Core E) → View (Core E)
 cut_left (Maker c) = Maker (next_core c)
 cut_left (Sender c trail stored) = Sender c trail stored
-cut_left (Tap c known) = Tap c known
-cut_left (Meeting c known d other) = Meeting c known d other
-cut_left (Telling c trail stored d known) = Telling c trail stored d known
+cut_left (Tap c e) = Tap c e
+cut_left (Meeting c e d f) = Meeting c e d f
+cut_left (Telling c trail stored d e) = Telling c trail stored d e
 cut_left Spent = Spent
 
 abbrev pub cut_right : {E : Type 0} → View (Core E) → View (Core E)
 cut_right (Maker c) = Sender c [] 0
 cut_right (Sender c trail stored) = Spent
-cut_right (Tap c known) = Spent
-cut_right (Meeting c known d other) = Spent
-cut_right (Telling c trail stored d known) = Spent
+cut_right (Tap c e) = Spent
+cut_right (Meeting c e d f) = Spent
+cut_right (Telling c trail stored d e) = Spent
 cut_right Spent = Spent
 
 -- the view of the maker of seats, before and after a receiver's seat is made
@@ -66,106 +68,117 @@ abbrev pub tap_left : {E : Type 0} → View (Core E) → View (Core E)
 tap_left v = v
 
 abbrev pub tap_right : {E : Type 0} → View (Core E) → View (Core E)
-tap_right (Maker c) = Tap c []
+tap_right (Maker c) = Tap c new_ear
 tap_right (Sender c trail stored) = Spent
-tap_right (Tap c known) = Spent
-tap_right (Meeting c known d other) = Spent
-tap_right (Telling c trail stored d known) = Spent
+tap_right (Tap c e) = Spent
+tap_right (Meeting c e d f) = Spent
+tap_right (Telling c trail stored d e) = Spent
 tap_right Spent = Spent
 
--- what a receiver's seat knows of the log, and of where it is
-abbrev pub known_in : {E : Type 0} → View (Core E) → List ℕ
-known_in (Maker c) = []
-known_in (Sender c trail stored) = []
-known_in (Tap c known) = known
-known_in (Meeting c known d other) = known
-known_in (Telling c trail stored d known) = known
-known_in Spent = []
+-- what a receiver's seat knows, has read and was answered, and where its log is
+abbrev pub ear_in : {E : Type 0} → View (Core E) → Ear
+ear_in (Maker c) = new_ear
+ear_in (Sender c trail stored) = new_ear
+ear_in (Tap c e) = e
+ear_in (Meeting c e d f) = e
+ear_in (Telling c trail stored d e) = e
+ear_in Spent = new_ear
 
-abbrev pub knowing : {E : Type 0} → View (Core E) → List ℕ → View (Core E)
-knowing (Maker c) known = Maker c
-knowing (Sender c trail stored) known = Sender c trail stored
-knowing (Tap c old) known = Tap c known
-knowing (Meeting c old d other) known = Meeting c known d other
-knowing (Telling c trail stored d old) known = Telling c trail stored d known
-knowing Spent known = Spent
+abbrev pub known_in : {E : Type 0} → View (Core E) → List ℕ
+known_in v = (ear_in v).known
+
+abbrev pub with_ear : {E : Type 0} → View (Core E) → Ear → View (Core E)
+with_ear (Maker c) e = Maker c
+with_ear (Sender c trail stored) e = Sender c trail stored
+with_ear (Tap c old) e = Tap c e
+with_ear (Meeting c old d f) e = Meeting c e d f
+with_ear (Telling c trail stored d old) e = Telling c trail stored d e
+with_ear Spent e = Spent
+
+abbrev pub senders_in : {E : Type 0} → View (Core E) → ℕ
+senders_in (Maker c) = 0
+senders_in (Sender c trail stored) = 0
+senders_in (Tap c e) = c.layout.senders
+senders_in (Meeting c e d f) = c.layout.senders
+senders_in (Telling c trail stored d e) = d.layout.senders
+senders_in Spent = 0
 
 abbrev pub log_in : {E : Type 0} → View (Core E) → ℕ
 log_in (Maker c) = 0
 log_in (Sender c trail stored) = 0
-log_in (Tap c known) = log_at c.layout
-log_in (Meeting c known d other) = log_at c.layout
-log_in (Telling c trail stored d known) = log_at d.layout
+log_in (Tap c e) = log_at c.layout
+log_in (Meeting c e d f) = log_at c.layout
+log_in (Telling c trail stored d e) = log_at d.layout
 log_in Spent = 0
 
 abbrev pub capacity_in : {E : Type 0} → View (Core E) → ℕ
 capacity_in (Maker c) = 0
 capacity_in (Sender c trail stored) = 0
-capacity_in (Tap c known) = c.layout.capacity
-capacity_in (Meeting c known d other) = c.layout.capacity
-capacity_in (Telling c trail stored d known) = d.layout.capacity
+capacity_in (Tap c e) = c.layout.capacity
+capacity_in (Meeting c e d f) = c.layout.capacity
+capacity_in (Telling c trail stored d e) = d.layout.capacity
 capacity_in Spent = 0
 
 -- two seats joined: of two receivers, or of a sender and a receiver
 abbrev pub joined : {E : Type 0} → View (Core E) → View (Core E) → View (Core E)
-joined (Tap c known) (Tap d other) = Meeting c known d other
-joined (Sender c trail stored) (Tap d known) = Telling c trail stored d known
+joined (Tap c e) (Tap d f) = Meeting c e d f
+joined (Sender c trail stored) (Tap d e) = Telling c trail stored d e
 joined (Maker c) w = Spent
 joined (Sender c trail stored) (Maker d) = Spent
 joined (Sender c trail stored) (Sender d other length) = Spent
-joined (Sender c trail stored) (Meeting d known e other) = Spent
-joined (Sender c trail stored) (Telling d other length e known) = Spent
+joined (Sender c trail stored) (Meeting d e a f) = Spent
+joined (Sender c trail stored) (Telling d other length a e) = Spent
 joined (Sender c trail stored) Spent = Spent
-joined (Tap c known) (Maker d) = Spent
-joined (Tap c known) (Sender d trail stored) = Spent
-joined (Tap c known) (Meeting d more e other) = Spent
-joined (Tap c known) (Telling d trail length e more) = Spent
-joined (Tap c known) Spent = Spent
-joined (Meeting c known d other) w = Spent
-joined (Telling c trail stored d known) w = Spent
+joined (Tap c e) (Maker d) = Spent
+joined (Tap c e) (Sender d trail stored) = Spent
+joined (Tap c e) (Meeting d f a g) = Spent
+joined (Tap c e) (Telling d trail length a f) = Spent
+joined (Tap c e) Spent = Spent
+joined (Meeting c e d f) w = Spent
+joined (Telling c trail stored d e) w = Spent
 joined Spent w = Spent
 
 -- a seat that another may go into
 abbrev pub IsFirst : {E : Type 0} → View (Core E) → Type 0
 IsFirst (Maker c) = ⊥
 IsFirst (Sender c trail stored) = Unit {0}
-IsFirst (Tap c known) = Unit {0}
-IsFirst (Meeting c known d other) = ⊥
-IsFirst (Telling c trail stored d known) = ⊥
+IsFirst (Tap c e) = Unit {0}
+IsFirst (Meeting c e d f) = ⊥
+IsFirst (Telling c trail stored d e) = ⊥
 IsFirst Spent = ⊥
 
 abbrev pub IsPair : {E : Type 0} → View (Core E) → Type 0
 IsPair (Maker c) = ⊥
 IsPair (Sender c trail stored) = ⊥
-IsPair (Tap c known) = ⊥
-IsPair (Meeting c known d other) = Unit {0}
-IsPair (Telling c trail stored d known) = Unit {0}
+IsPair (Tap c e) = ⊥
+IsPair (Meeting c e d f) = Unit {0}
+IsPair (Telling c trail stored d e) = Unit {0}
 IsPair Spent = ⊥
 
 -- and cut apart again
 abbrev pub first_of : {E : Type 0} → View (Core E) → View (Core E)
 first_of (Maker c) = Maker c
 first_of (Sender c trail stored) = Sender c trail stored
-first_of (Tap c known) = Tap c known
-first_of (Meeting c known d other) = Tap c known
-first_of (Telling c trail stored d known) = Sender c trail stored
+first_of (Tap c e) = Tap c e
+first_of (Meeting c e d f) = Tap c e
+first_of (Telling c trail stored d e) = Sender c trail stored
 first_of Spent = Spent
 
 abbrev pub second_of : {E : Type 0} → View (Core E) → View (Core E)
 second_of (Maker c) = Spent
 second_of (Sender c trail stored) = Spent
-second_of (Tap c known) = Spent
-second_of (Meeting c known d other) = Tap d other
-second_of (Telling c trail stored d known) = Tap d known
+second_of (Tap c e) = Spent
+second_of (Meeting c e d f) = Tap d f
+second_of (Telling c trail stored d e) = Tap d e
 second_of Spent = Spent
 
--- the receivers that are joined know this
+-- the receivers that are joined have loaded the length, and know this
 abbrev pub all_knowing : {E : Type 0} → View (Core E) → List ℕ → View (Core E)
 all_knowing (Maker c) known = Maker c
 all_knowing (Sender c trail stored) known = Sender c trail stored
-all_knowing (Tap c old) known = Tap c known
-all_knowing (Meeting c old d other) known = Meeting c known d known
-all_knowing (Telling c trail stored d old) known = Telling c trail stored d known
+all_knowing (Tap c e) known = Tap c (learnt e known)
+all_knowing (Meeting c e d f) known = Meeting c (learnt e known) d (learnt f known)
+all_knowing (Telling c trail stored d e) known = Telling c trail stored d (learnt e known)
 all_knowing Spent known = Spent
 
 -- ---- what the views say of a bus
@@ -186,17 +199,22 @@ pub record IsUnseated {E : Type 0} (x : Layout) (b : Bus E) (T : Trails) (seat :
   pub core : slice_get b.side.senders p ≡ Some (new_core x p)
   pub deeds : T.deeds p ≡ []
 
--- a receiver knows a beginning of the log
-pub record KnowsLog {E : Type 0} (x : Layout) (b : Bus E) (c : Core E) (known : List ℕ) : Type 0 where
+-- A receiver knows a beginning of the log, which has some frames; and its turns have answered just what these give, up to its place.
+pub record KnowsLog {E : Type 0} (x : Layout) (b : Bus E) (c : Core E) (e : Ear) : Type 0 where
   pub layout : c.layout ≡ x
-  pub front : IsPrefix known (log_in_bus x b)
+  pub front : IsPrefix e.known (log_in_bus x b)
+  pub below : e.place ≤ length e.known
+  pub frames : List Frame
+  pub lawful : AreFrames x.senders frames
+  pub words_are : log_words frames ≡ log_in_bus x b
+  pub heard : HasHeard frames e
 
 abbrev pub Knows : {E : Type 0} → Layout → Bus E → Trails → (ℕ → ℕ) → ℕ → View (Core E) → Type 0
 Knows x b T seat j (Maker c) = (c ≡ new_core x c.me) × ((p : ℕ) → c.me ≤ p → p < x.senders → IsUnseated x b T seat j p)
 Knows x b T seat j (Sender c trail stored) = IsSeated b T seat j c trail stored
-Knows x b T seat j (Tap c known) = KnowsLog x b c known
-Knows x b T seat j (Meeting c known d other) = KnowsLog x b c known × KnowsLog x b d other
-Knows x b T seat j (Telling c trail stored d known) = IsSeated b T seat j c trail stored × KnowsLog x b d known
+Knows x b T seat j (Tap c e) = KnowsLog x b c e
+Knows x b T seat j (Meeting c e d f) = KnowsLog x b c e × KnowsLog x b d f
+Knows x b T seat j (Telling c trail stored d e) = IsSeated b T seat j c trail stored × KnowsLog x b d e
 Knows x b T seat j Spent = Unit {0}
 
 -- Some events lead to a bus with these words, with its page in the slot where that is at home, and without receivers of its own;

@@ -1,8 +1,10 @@
 -- What a sender and a receiver of a bus show of their seats.
-use Rattle.std.specs.Prelude.{◌≡◌, ℕ, ◌≤◌, ◌^◌, length, Option, Some, None, List, [], ◌++◌}
+use Rattle.std.specs.Prelude.{◌≡◌, ℕ, ◌-◌, ◌≤◌, ◌^◌, length, take, Option, Some, None, List, [], ◌++◌}
 use Rattle.atomic_table.specs.declared.shared.Seat.{Seat}
 use Rattle.atomic_table.specs.Seated.{TableId}
 use Rattle.bus_register.specs.declared.registers.Op.{Op}
+use Rattle.bus_batch.specs.declared.messages.Piece.{Piece}
+use Rattle.bus_deliverylog.specs.Receiving.{Receiving, HasReceived}
 use Rattle.bus_tenure.specs.Core.{Core, Election, words_of, log_at}
 use Rattle.bus_tenure.specs.Situations.{TakesPage, situation_of, op_at, answer_at}
 use Rattle.bus_tenure.specs.declared.turns.Turn.{Turn}
@@ -11,7 +13,8 @@ use Rattle.bus_world.specs.Turning.{core_after}
 use Rattle.bus_tenure.specs.declared.pages.Page.{Page}
 use Rattle.bus_pageslot.specs.declared.rule.View.{View}
 use Rattle.bus_pageslot.specs.declared.rule.View.TheVariants.{Sender, Tap, Spent}
-use Rattle.bus_pageslot.specs.Rule.{Sat, trail_in, stored_in}
+use Rattle.bus_pageslot.specs.Ears.{Ear, new_ear}
+use Rattle.bus_pageslot.specs.Rule.{Sat, trail_in, stored_in, known_in}
 use Rattle.bus_pageslot.specs.Steps.{Accepts, IsCounted, carried_of, deeds_in, deeds_at, stored_at, Told}
 
 -- a sender: what it holds, and its seat
@@ -70,13 +73,43 @@ abbrev pub spot_of : {E : Type 0} → Option (Seat (Option Page) (View (Core E))
 spot_of (Some s) = spot s
 spot_of None = record { table_id = nowhere; me = (Spent, []) }
 
--- a receiver shows its seat: where the log is, and how much of it it knows
-pub record IsTap {E : Type 0} (s : Spot E) (log known : ℕ) : Type 0 where
+-- a reader that knows this length
+abbrev pub knows : ℕ → Receiving → Receiving
+knows k r = record r { known = k }
+
+-- A reader beside a seat: it stands where the seat shows, and has read the first words that are known. It may know fewer of them,
+-- and believes any length.
+pub record IsFit (senders : ℕ) (e : Ear) (r : Receiving) : Type 0 where
+  pub place : r.place ≡ e.place
+  pub ended : r.ended ≡ e.ended
+  pub senders_are : r.frames.senders ≡ senders
+  pub within : r.place ≤ r.known
+  pub below : r.known ≤ length e.known
+  pub believes : r.log_words ≡ 2 ^ 64 - 1
+  pub pieces : List (Option Piece)
+  pub received : HasReceived (take r.place e.known) pieces r
+
+-- a receiver's seat on a table of so many words, with its reader
+pub record IsEar {E : Type 0} (m : Sat E) (words log : ℕ) (r : Receiving) : Type 0 where
   pub core : Core E
-  pub words : List ℕ
-  pub me : s.me ≡ (Tap core words, [])
+  pub ear : Ear
+  pub me : m ≡ (Tap core ear, [])
   pub log_is : log ≡ log_at core.layout
-  pub known_is : known ≡ length words
-  pub within : known ≤ core.layout.capacity
+  pub within : length ear.known ≤ core.layout.capacity
+  pub room : words_of core.layout ≤ 2 ^ 63
+  pub wide : words ≡ words_of core.layout
+  pub fit : IsFit core.layout.senders ear r
+
+-- a receiver shows its seat: where the log is, and how much of it it knows
+pub record IsTap {E : Type 0} (s : Spot E) (log known : ℕ) (r : Receiving) : Type 0 where
+  pub sits : IsEar s.me s.table_id.words log r
+  pub known_is : known ≡ length (known_in s.me.0)
+
+-- the seat of a receiver that has taken no step
+pub record IsFresh {E : Type 0} (s : Spot E) (log senders : ℕ) : Type 0 where
+  pub core : Core E
+  pub me : s.me ≡ (Tap core new_ear, [])
+  pub log_is : log ≡ log_at core.layout
+  pub senders_are : senders ≡ core.layout.senders
   pub room : words_of core.layout ≤ 2 ^ 63
   pub wide : s.table_id.words ≡ words_of core.layout

@@ -20,9 +20,10 @@ use Rattle.bus_world.specs.Trails.{turn_deeds}
 use Rattle.bus_world.specs.Turning.{core_after, core_moved, before_step, laying}
 use Rattle.bus_world.specs.Waiting.{waiting_at}
 use Rattle.bus_world.specs.declared.events.Answer.TheVariants as answer
+use Rattle.bus_pageslot.specs.Ears.{loaded, learnt, Agree}
 use Rattle.bus_pageslot.specs.declared.rule.View.{View}
 use Rattle.bus_pageslot.specs.declared.rule.View.TheVariants.{Maker, Sender, Tap, Meeting, Telling, Spent}
-use Rattle.bus_pageslot.specs.Rule.{Sat, trail_in, stored_in, known_in, knowing, joined, first_of, second_of, all_knowing, log_in, capacity_in}
+use Rattle.bus_pageslot.specs.Rule.{Sat, trail_in, stored_in, ear_in, known_in, with_ear, joined, first_of, second_of, all_knowing, log_in, capacity_in}
 
 -- ---- the parts of a turn
 -- a sender, with the page out of its hands where its turn gives the page back
@@ -62,9 +63,9 @@ accepted_since before now = puts_from (next_of before) (drop (length before.mess
 abbrev pub since_in : {E : Type 0} → View (Core E) → Core E → List Deed
 since_in (Maker c) d = []
 since_in (Sender c trail stored) d = accepted_since c.queue d.queue
-since_in (Tap c known) d = []
-since_in (Meeting c known e other) d = []
-since_in (Telling c trail stored e known) d = []
+since_in (Tap c e) d = []
+since_in (Meeting c e a f) d = []
+since_in (Telling c trail stored a e) d = []
 since_in Spent d = []
 
 -- all deeds of a sender d with this view
@@ -185,10 +186,10 @@ Due X None word m words o = ⊥
 Due X (Some d) word m words o = IsDue X d word m words o
 
 -- ---- a receiver's loads
--- of the length: what it knows of the log grows, up to the length that it found
+-- of the length, out of turn: what it knows of the log grows, up to the length that it found
 pub record Learns {E : Type 0} (m : Sat E) (got : ℕ) (m' : Sat E) : Type 0 where
   pub known : List ℕ
-  pub now : m' ≡ (knowing m.0 known, m.1)
+  pub now : m' ≡ (with_ear m.0 (learnt (ear_in m.0) known), m.1)
   pub grows : IsPrefix (known_in m.0) known
   pub length_is : length known ≡ got
   pub within : length known ≤ capacity_in m.0
@@ -202,13 +203,13 @@ pub record KnowsSent {E : Type 0} (c : Core E) (deeds : List Deed) (stored : ℕ
   pub sent : map (λ (i : Item). i.message) (of_sender c.me order) ++ waiting_at c c.phase ≡ puts deeds
   pub long : stored ≤ length known
 
--- what the joined seats know of the log grows to this; a sender may have accepted more since its last step
+-- what the joined seats know of the log grows to this; a sender may have accepted more since its last step; and two receivers agree
 abbrev pub GrowsTo : {E : Type 0} → View (Core E) → List ℕ → Type 0
 GrowsTo (Maker c) known = Unit {0}
 GrowsTo (Sender c trail stored) known = Unit {0}
-GrowsTo (Tap c old) known = Unit {0}
-GrowsTo (Meeting c old d other) known = IsPrefix old known × IsPrefix other known × (length known ≤ c.layout.capacity) × (length known ≤ d.layout.capacity)
-GrowsTo {E} (Telling c trail stored d old) known = IsPrefix old known × (length known ≤ d.layout.capacity) × ((e : Core E) (deeds : List Deed) → Accepts c e deeds → KnowsSent e (trail ++ deeds) stored known)
+GrowsTo (Tap c e) known = Unit {0}
+GrowsTo (Meeting c e d f) known = IsPrefix e.known known × IsPrefix f.known known × (length known ≤ c.layout.capacity) × (length known ≤ d.layout.capacity) × Agree e f
+GrowsTo {E} (Telling c trail stored d e) known = IsPrefix e.known known × (length known ≤ d.layout.capacity) × ((a : Core E) (deeds : List Deed) → Accepts c a deeds → KnowsSent a (trail ++ deeds) stored known)
 GrowsTo Spent known = Unit {0}
 
 -- of the length, by two joined seats
@@ -226,7 +227,7 @@ pub record Met {E : Type 0} (m n : Sat E) (got : ℕ) (m' n' : Sat E) : Type 0 w
   pub length_is : length known ≡ got
   pub grows : GrowsTo (joined m.0 n.0) known
 
--- of a word of the log below the length that it knows
+-- of a word of the log below the length that it knows, out of turn
 pub record Reads {E : Type 0} (m : Sat E) (word got : ℕ) (m' : Sat E) : Type 0 where
-  pub same : m' ≡ m
+  pub now : m' ≡ (with_ear m.0 (loaded (ear_in m.0)), m.1)
   pub got_is : got ≡ slice_index (known_in m.0) (word - log_in m.0)

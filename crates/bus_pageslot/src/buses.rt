@@ -57,7 +57,8 @@ impl<Q: Ratifier + Drop> Bus<Q> {
         ensures senders { IfOk result
             (λ made. AreNewSeats (layout_of Q.protocol shape) made.0.table shape.senders
             made.1.items) }
-        ensures taps { IfOk result (λ made. AreNewTaps made.0.table shape.receivers made.2.items) }
+        ensures taps { IfOk result
+            (λ made. AreNewTaps shape.senders made.0.table shape.receivers made.2.items) }
         ensures table { IfOk result (λ made. All (λ s. table_of s ≡ made.0.table) made.1.items
             × All (λ t. t.table_id ≡ made.0.table) made.2.items) }
         ensures served { IfOk result (λ _. IsServed shape) }

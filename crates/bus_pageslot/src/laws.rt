@@ -1,13 +1,17 @@
 //! What holds of every bus without a lock, between any two steps.
 
-ghost use Rattle.std.specs.Prelude.{ℕ, Option};
+ghost use Rattle.std.specs.Prelude.{◌≡◌, ℕ, ◌≤◌, Option, [], false, length};
 ghost use Rattle.atomic_table.specs.Table.{State};
+ghost use Rattle.bus_deliverylog.specs.declared.receiving.RecvTurn.{RecvTurn};
 ghost use Rattle.bus_tenure.specs.Core.{Core, Layout};
 ghost use Rattle.bus_tenure.specs.Elections.{Elector, election_of};
 ghost use Rattle.bus_tenure.specs.declared.pages.Page.{Page};
 ghost use Rattle.bus_world.specs.Playing.{layout_of};
 ghost use Rattle.bus_world.specs.declared.shapes.Shape.{Shape};
+ghost use Rattle.bus_pageslot.specs.Ears.{Ear};
 ghost use Rattle.bus_pageslot.specs.declared.rule.View.{View};
+ghost use Rattle.bus_pageslot.specs.declared.rule.View.TheVariants.{Tap};
+ghost use Rattle.bus_pageslot.specs.Listening.{Hears};
 ghost use Rattle.bus_pageslot.specs.Rule.{IsShown};
 ghost use Rattle.bus_pageslot.specs.Promised.{IsPromised};
 
@@ -15,8 +19,9 @@ use bus_adoptcommit::Ratifier;
 use bus_ownerbits::laws::election_is_lawful;
 
 /// Whenever the rule of the table holds, which is between any two steps of any threads, the page
-/// of promises holds of what the seats show: of the deeds of all senders, with the order and the
-/// owners that the words below the length spell. What a receiver knows is a beginning of these.
+/// of promises holds of what the seats show: of the deeds of all senders and of what receivers were
+/// answered, however these are numbered, with the order and the owners that the words below the
+/// length spell. What a receiver knows is a beginning of these words.
 pub fn seats_keep_promises<Q: Ratifier>()
     ensures { (shape : Shape) (s : State (Option Page) (View (Core (Elector Q))))
         → IsShown (election_of Q.Ratifier) (layout_of Q.protocol shape) s
@@ -24,3 +29,10 @@ pub fn seats_keep_promises<Q: Ratifier>()
 {
     election_is_lawful::<Q>();
 }
+
+/// No turn of a receiver, but after the end, leaves its seat as it was: so none answers without a
+/// load.
+pub fn no_turn_without_a_load<Q: Ratifier>()
+    ensures { (c : Core (Elector Q)) (e : Ear) (answer : RecvTurn) → e.ended ≡ false
+        → e.place ≤ length e.known → ¬ Hears (Tap c e, []) answer (Tap c e, []) }
+{}

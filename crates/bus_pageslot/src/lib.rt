@@ -3,6 +3,7 @@
 
 mod buses;
 pub mod laws;
+mod listening;
 mod meetings;
 mod outcomes;
 mod rule;
@@ -13,7 +14,7 @@ mod taps;
 
 pub use buses::Bus;
 pub use outcomes::{EndFault, Ended};
-pub use rule::{BusRule, OfBus, Told, Trail, View};
+pub use rule::{BusRule, Ear, OfBus, Told, Trail, View};
 pub use seats::Sender;
 pub use taps::Tap;
 

@@ -1,7 +1,8 @@
 //! Two seats that are joined, load the length, and are cut apart again.
 
-ghost use Rattle.std.specs.Prelude.{◌≡◌, ℕ, ◌<◌, List, []};
+ghost use Rattle.std.specs.Prelude.{◌≡◌, ◌<◌, []};
 ghost use Rattle.bus_pageslot.specs.declared.rule.View.TheVariants.{Tap};
+ghost use Rattle.bus_pageslot.specs.Ears.{Ear};
 ghost use Rattle.bus_pageslot.specs.Rule.{IsFirst};
 ghost use Rattle.bus_pageslot.specs.Steps.{Met};
 
@@ -18,7 +19,7 @@ pub(crate) fn meeting<Q: Ratifier + Drop>(
     requires table { (seat.old.table_id ≡ top.now.table_id)
         × (other.table_id ≡ top.now.table_id) × (0 < top.now.table_id.words) }
     requires first { IsFirst seat.old.me.0 }
-    requires second { (d : _) × (known : List ℕ) × (other.me ≡ (Tap d known, [])) }
+    requires second { (d : _) × (e : Ear) × (other.me ≡ (Tap d e, [])) }
     ensures table { (seat.new.table_id ≡ seat.old.table_id) × (seat.new.id ≡ seat.old.id)
         × (result.1.table_id ≡ seat.old.table_id) }
     ensures met { Met seat.old.me other.me result.0 seat.new.me result.1.me }

@@ -12,6 +12,7 @@ ghost use Rattle.bus_tenure.specs.Core.{log_at};
 ghost use Rattle.bus_world.specs.Log.{read};
 ghost use Rattle.bus_world.specs.Playing.{layout_of};
 ghost use Rattle.bus_pageslot.specs.declared.rule.View.TheVariants.{Tap};
+ghost use Rattle.bus_pageslot.specs.Ears.{Ear};
 ghost use Rattle.bus_pageslot.specs.Rule.{known_in};
 ghost use Rattle.bus_pageslot.specs.Endings.{IsLeft};
 
@@ -111,7 +112,7 @@ pub(crate) fn leave<Q: Ratifier + Drop>(
     room: Vec<u64>,
 ) -> Result<Ended, EndFault>
     requires table { seat.table_id ≡ table.shared.table_id }
-    requires tap { (d : _) × (known : List ℕ) × (seat.me ≡ (Tap d known, [])) }
+    requires tap { (d : _) × (e : Ear) × (seat.me ≡ (Tap d e, [])) }
     requires empty { (room.items ≡ []) × (vec_len room ≡ 0) }
     requires senders { senders ≡ table.shared.key.senders }
     requires log_words { log_words ≡ table.shared.key.log_words }

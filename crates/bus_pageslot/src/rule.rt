@@ -5,7 +5,6 @@ use bus_adoptcommit::Ratifier;
 use bus_tenure::{Page, SenderCore};
 use bus_world::Shape;
 use std::alloc::Global;
-use std::collections::LinkedList;
 use std::marker::{Brand, Model, PhantomData};
 
 /// What a sender did, as the page of promises lists it. No value of it is made.
@@ -22,6 +21,20 @@ impl Model for Trail {
     ghost view = { λ _. [] };
 }
 
+/// What a receiver knows of the log, what it has read of that, and what it was answered. No value
+/// of it is made.
+pub struct Ear {
+    of: PhantomData<()>,
+}
+
+impl Model for Ear {
+    ghost use Rattle.bus_pageslot.specs.Ears.{Ear, new_ear};
+
+    ghost Value = { Ear };
+
+    ghost view = { λ _. new_ear };
+}
+
 /// What a seat shows, of a bus whose senders are of type C. No value of it is made.
 pub enum View<C> {
     /// The senders from this one on have no seat yet.
@@ -29,12 +42,12 @@ pub enum View<C> {
     /// A sender as it was after its last step, all that it did until then, and the last length
     /// that it has stored.
     Sender(C, Trail, u64),
-    /// A receiver, with the words of the log that it knows, on a bus of such senders.
-    Tap(C, LinkedList<u64>),
+    /// A receiver as it was after its last load, on a bus of such senders.
+    Tap(C, Ear),
     /// Two receivers, joined while they meet.
-    Meeting(C, LinkedList<u64>, C, LinkedList<u64>),
+    Meeting(C, Ear, C, Ear),
     /// A sender and a receiver, joined while the one tells the other.
-    Telling(C, Trail, u64, C, LinkedList<u64>),
+    Telling(C, Trail, u64, C, Ear),
     /// A seat that went into another.
     Spent,
 }
@@ -145,6 +158,28 @@ impl<Q: Ratifier> Play<Option<Page>, View<SenderCore<Q>>> for LoadsWord<Q> {
     ghost use Rattle.bus_pageslot.specs.Steps.{Reads};
 
     ghost then = { λ step m got m'. Reads m step.word got m' };
+}
+
+/// By a turn of it a receiver's seat loaded the length.
+pub(crate) struct LoadsLengthInTurn<Q> {
+    of: PhantomData<Q>,
+}
+
+impl<Q: Ratifier> Play<Option<Page>, View<SenderCore<Q>>> for LoadsLengthInTurn<Q> {
+    ghost use Rattle.bus_pageslot.specs.Listening.{FindsLength};
+
+    ghost then = { λ _ m got m'. FindsLength m got m' };
+}
+
+/// By a turn of it a receiver's seat loaded the word at its place.
+pub(crate) struct LoadsWordInTurn<Q> {
+    of: PhantomData<Q>,
+}
+
+impl<Q: Ratifier> Play<Option<Page>, View<SenderCore<Q>>> for LoadsWordInTurn<Q> {
+    ghost use Rattle.bus_pageslot.specs.Listening.{FindsWord};
+
+    ghost then = { λ _ m got m'. FindsWord m got m' };
 }
 
 /// A receiver's seat goes into another seat.

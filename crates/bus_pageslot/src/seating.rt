@@ -14,6 +14,7 @@ use crate::taps::Tap;
 use atomic_table::Table;
 use bus_adoptcommit::Ratifier;
 use bus_ownerbits::Election;
+use bus_ownerbits::laws::election_is_lawful;
 use bus_register::{NoMemory, SenderNo};
 use bus_tenure::{Page, SenderCore};
 use bus_world::Shape;
@@ -106,11 +107,12 @@ fn tap_next<Q: Ratifier + Drop>(
     requires maker { maker.old.me ≡ (Maker (new_core (layout_of Q.protocol shape) made), []) }
     ensures table { maker.new.table_id ≡ maker.old.table_id }
     ensures maker { maker.new.me ≡ maker.old.me }
-    ensures tap { IsNewTap maker.old.table_id result }
+    ensures tap { IsNewTap shape.senders maker.old.table_id result }
 {
     let _ = made;
+    election_is_lawful::<Q>();
     let seat = top.split_seat::<CutTap<Q>>(maker);
-    Tap::seated(seat, shape.senders, log)
+    Tap::seated(seat, log, shape.senders)
 }
 
 /// All receivers, in order. `log` is the place of the log's first word.
@@ -127,7 +129,8 @@ pub(crate) fn tap_all<Q: Ratifier + Drop>(
     requires log { log ≡ log_at (layout_of Q.protocol shape) }
     requires maker { maker.me
         ≡ (Maker (new_core (layout_of Q.protocol shape) shape.senders), []) }
-    ensures { IfOk result (λ taps. AreNewTaps top.now.table_id shape.receivers taps.items) }
+    ensures { IfOk result
+        (λ taps. AreNewTaps shape.senders top.now.table_id shape.receivers taps.items) }
 {
     let mut taps = Vec::new(alloc);
     for _ in 0..shape.receivers {

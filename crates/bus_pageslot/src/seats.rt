@@ -11,6 +11,7 @@ ghost use Rattle.bus_tenure.specs.Situations.{wants_at};
 ghost use Rattle.bus_register.specs.declared.registers.Op.{Op};
 ghost use Rattle.bus_world.specs.Headline.{HasPut, HasClosed, puts};
 ghost use Rattle.bus_pageslot.specs.declared.rule.View.TheVariants.{Tap};
+ghost use Rattle.bus_pageslot.specs.Ears.{Ear};
 ghost use Rattle.bus_pageslot.specs.Rule.{known_in, stored_in};
 ghost use Rattle.bus_pageslot.specs.Steps.{with_message, with_close, Learns, KnowsSent};
 ghost use Rattle.bus_pageslot.specs.Seats.{Shows, Took, table_of, deeds_of, stored_of};
@@ -195,7 +196,7 @@ impl<Q: Ratifier + Drop> Sender<Q> {
     /// apart again.
     pub(crate) fn tell(&mut self, bus: &Bus<Q>, tap: Place<Q>) -> (u64, Place<Q>)
         requires table { (table_of self.old ≡ bus.now.table) × (tap.table_id ≡ bus.now.table) }
-        requires tap { (d : _) × (known : List ℕ) × (tap.me ≡ (Tap d known, [])) }
+        requires tap { (d : _) × (e : Ear) × (tap.me ≡ (Tap d e, [])) }
         ensures table { (table_of self.new ≡ table_of self.old)
             × (result.1.table_id ≡ tap.table_id) }
         ensures same { (self.new.core ≡ self.old.core)

@@ -1,27 +1,36 @@
 //! A receiver's seat, and its loads.
 
-ghost use Rattle.std.specs.Prelude.{◌≡◌, ℕ, ◌<◌, List, [], length, slice_index};
+ghost use Rattle.std.specs.Prelude.{◌≡◌, ◌<◌, ◌≤◌, [], length, slice_index};
+ghost use Rattle.bus_pageslot.specs.Ears.{Ear, Agree, loaded};
 ghost use Rattle.bus_pageslot.specs.declared.rule.View.TheVariants as View;
-ghost use Rattle.bus_pageslot.specs.Rule.{known_in};
+ghost use Rattle.bus_pageslot.specs.Rule.{ear_in, known_in, with_ear};
 ghost use Rattle.bus_pageslot.specs.Steps.{Learns, KnowsSent};
-ghost use Rattle.bus_pageslot.specs.Seats.{IsTap, spot, table_of, deeds_of, stored_of};
+ghost use Rattle.bus_pageslot.specs.Seats.{IsFresh, spot, table_of, deeds_of, stored_of};
+ghost use Rattle.bus_pageslot.specs.Listening.{Hears};
 
 use crate::buses::Bus;
+use crate::listening::hear;
 use crate::meetings::meeting;
 use crate::rule::{LoadsLength, LoadsWord, Place};
 use crate::seats::Sender;
 use bus_adoptcommit::Ratifier;
+use bus_deliverylog::{Reader, RecvTurn};
 use bus_ownerbits::laws::election_is_lawful;
+use bus_register::Reg;
 use std::marker::Model;
 
-/// A receiver's right to load from a bus: its seat, and how much of the log it knows. One thread
-/// at a time has it, and no load waits or takes memory.
+/// A receiver of a bus: its seat, how much of the log it knows, and what it has read of that. One
+/// thread at a time has it, and no call of it waits or takes memory.
+///
+/// Its seat shows what its turns have answered and how many loads it has taken; only a step on the
+/// table adds to either.
 #[derive(Drop)]
 pub struct Tap<Q: Ratifier> {
     seat: Option<Place<Q>>,
-    senders: u64,
     log: u64,
     known: u64,
+    /// It may know a shorter length than the seat.
+    reader: Reader,
 }
 
 impl<Q: Ratifier> Model for Tap<Q> {
@@ -32,34 +41,29 @@ impl<Q: Ratifier> Model for Tap<Q> {
 
     ghost view = { λ t. spot_of t.seat };
 
-    ghost invariant = { λ t. IsTap (spot_of t.seat) t.log t.known };
+    ghost invariant = { λ t. IsTap (spot_of t.seat) t.log t.known t.reader };
 }
 
 impl<Q: Ratifier + Drop> Tap<Q> {
-    pub(crate) fn seated(seat: Place<Q>, senders: u64, log: u64) -> Tap<Q>
-        requires { IsTap (spot seat) log 0 }
+    pub(crate) fn seated(seat: Place<Q>, log: u64, senders: u64) -> Tap<Q>
+        requires { IsFresh (spot seat) log senders }
         ensures { result ≡ spot seat }
     {
         Tap {
             seat: Some(seat),
-            senders,
             log,
             known: 0,
+            reader: Reader::new(senders, Reg(0), Reg(0), u64::MAX),
         }
     }
 
     /// Its seat.
     pub(crate) fn into_seat(self) -> Place<Q>
         ensures spot { spot result ≡ self }
-        ensures tap { (d : _) × (known : List ℕ) × (result.me ≡ (View.Tap d known, [])) }
+        ensures tap { (d : _) × (e : Ear) × (result.me ≡ (View.Tap d e, [])) }
     {
         let Tap { seat, .. } = self;
         seat.unwrap()
-    }
-
-    /// How many senders the bus has.
-    pub fn senders(&self) -> u64 {
-        self.senders
     }
 
     /// How many words of the log it knows; 0 before its first load.
@@ -67,6 +71,38 @@ impl<Q: Ratifier + Drop> Tap<Q> {
         ensures { result ≡ length (known_in self.now.me.0) }
     {
         self.known
+    }
+
+    /// How many words of the log it has read.
+    pub fn place(&self) -> u64
+        ensures place { result ≡ (ear_in self.now.me.0).place }
+        ensures within { result ≤ length (known_in self.now.me.0) }
+    {
+        self.reader.place()
+    }
+
+    /// The end was among what it was answered.
+    pub fn has_ended(&self) -> bool
+        ensures { result ≡ (ear_in self.now.me.0).ended }
+    {
+        self.reader.has_ended()
+    }
+
+    /// One turn: a load of the length where it has read all that it knows, else a load of the word
+    /// at its place. After the end it takes no step.
+    pub fn turn(&mut self, bus: &Bus<Q>) -> RecvTurn
+        requires { self.old.table_id ≡ bus.now.table }
+        ensures table { self.new.table_id ≡ self.old.table_id }
+        ensures hears { Hears self.old.me result self.new.me }
+    {
+        if self.reader.has_ended() {
+            return RecvTurn::End;
+        }
+        let top = &bus.table.shared;
+        let mut seat = self.seat.take().unwrap();
+        let answer = hear(top, &mut seat, self.log, &mut self.known, &mut self.reader);
+        self.seat = Some(seat);
+        answer
     }
 
     /// Loads the length, in words, and gives it: it knows the log up to it from then on.
@@ -88,7 +124,8 @@ impl<Q: Ratifier + Drop> Tap<Q> {
         requires table { self.old.table_id ≡ bus.now.table }
         requires below { place < length (known_in self.old.me.0) }
         ensures table { self.new.table_id ≡ self.old.table_id }
-        ensures same { self.new.me ≡ self.old.me }
+        ensures loads { self.new.me
+            ≡ (with_ear self.old.me.0 (loaded (ear_in self.old.me.0)), self.old.me.1) }
         ensures word { result ≡ slice_index (known_in self.old.me.0) place }
     {
         let mut seat = self.seat.take().unwrap();
@@ -101,7 +138,7 @@ impl<Q: Ratifier + Drop> Tap<Q> {
     }
 
     /// Two receivers of one bus meet: each knows the log up to the length that is loaded, which is
-    /// given.
+    /// given. What the one behind was answered begins what the other was answered.
     pub fn meet(&mut self, other: &mut Tap<Q>, bus: &Bus<Q>) -> u64
         requires table { (self.old.table_id ≡ bus.now.table)
             × (other.old.table_id ≡ bus.now.table) }
@@ -110,6 +147,7 @@ impl<Q: Ratifier + Drop> Tap<Q> {
         ensures learns { Learns self.old.me result self.new.me
             × Learns other.old.me result other.new.me }
         ensures same { known_in other.new.me.0 ≡ known_in self.new.me.0 }
+        ensures agree { Agree (ear_in self.old.me.0) (ear_in other.old.me.0) }
     {
         let mut mine = self.seat.take().unwrap();
         let theirs = other.seat.take().unwrap();

@@ -1,18 +1,21 @@
 //! A bus as its callers use it, in one thread and in two.
 
-ghost use Rattle.std.specs.Prelude.{◌≡◌, ◌<◌, length};
+ghost use Rattle.std.specs.Prelude.{◌≡◌, ◌<◌, All, length};
 ghost use Rattle.bus_pageslot.specs.Rule.{known_in};
 ghost use Rattle.bus_pageslot.specs.Seats.{table_of};
 
 use super::*;
 use bus_adoptcommit::TwoCollect;
-use bus_batch::{CloseFault, PutFault};
+use bus_batch::{CloseFault, Item, Message, PutFault};
+use bus_deliverylog::read_log;
 use bus_register::{Kind, SenderNo};
 use bus_tenure::Turn;
 use bus_world::{MakeFault, Shape};
+use rand_pcg::Pcg32;
 use std::alloc::Global;
 use std::process::Abort;
-use std::thread::join;
+use std::sync::Wait;
+use std::thread::{Threads, join, map_vec};
 
 /// One sender, two receivers, two tenures.
 const SMALL: Shape = Shape {
@@ -295,6 +298,189 @@ fn two_threads_send(rt: HostRuntime) {
         ),
         (3, 3, 18)
     );
+}
+
+/// Sends 20 messages, each in a tenure of its own, and says how many were delivered.
+fn sends_twenty<W: Wait>(wait: &W, bus: &Bus<TwoCollect>, mut sender: One) -> u32
+    requires { table_of sender ≡ bus.now.table }
+{
+    let mut rng = Pcg32::new(0, u64::from(sender.number().0));
+    let mut delivered = 0u32;
+    for _ in 0..20 {
+        let put = sender.put(b"abc");
+        let sent = sender.send(wait, bus, &mut rng);
+        if put.is_ok() && matches!(sent, Turn::Delivered { .. }) {
+            delivered = delivered.saturating_add(1);
+        }
+    }
+    delivered
+}
+
+/// Each of these senders sends so in a thread of its own.
+fn send_at_once<R: Threads + Wait + Abort + Sync>(
+    rt: &R,
+    bus: &Bus<TwoCollect>,
+    senders: Vec<One>,
+) -> Vec<u32>
+    requires { All (λ s. table_of s ≡ bus.now.table) senders.items }
+{
+    map_vec(rt, senders, &|sender| sends_twenty(rt, bus, sender)).expect(rt, "memory")
+}
+
+#[test]
+fn three_threads(rt: HostRuntime) {
+    let shape = Shape {
+        senders: 3,
+        receivers: 1,
+        rounds: 2,
+        rows: 60,
+        log_words: 1024,
+    };
+    let (bus, senders, mut taps) = Bus::new(rt.alloc(), shape).expect(&rt, "memory");
+    let tap = taps.pop().expect(&rt, "a receiver");
+    let sent = send_at_once(&rt, &bus, senders);
+    assert_eq!(&rt; sent.as_slice(), [20, 20, 20].as_slice());
+    let ended = bus.end(tap).expect(&rt, "the page is home");
+    for sender in 0..3 {
+        assert_eq!(&rt; ended.count(SenderNo(sender)), 20, "of sender {sender}");
+    }
+    let page = ended.page();
+    assert_eq!(&rt; page.next, [20, 20, 20, 0, 0, 0, 0, 0]);
+    assert_eq!(&rt; (page.ended, page.tenures, page.words), (false, 60, 180));
+    assert_eq!(&rt; ended.log().len(), 180);
+}
+
+/// Turns at word 0 up to the first that is not going, at most so many, and sees what it answers.
+fn ends_in(rt: &impl Abort, bus: &Bus<TwoCollect>, sender: &mut One, most: u32, want: Turn)
+    requires { table_of sender.old ≡ bus.now.table }
+    ensures { table_of sender.new ≡ bus.now.table }
+{
+    let mut answer = Turn::Going;
+    for _ in 0..most {
+        if answer == Turn::Going {
+            answer = sender.turn(bus, 0);
+        }
+    }
+    assert_eq!(rt; answer, want);
+}
+
+/// Sees the items of an ended bus and the owners of its frames.
+fn leaves<R: Abort + AllocGlobal>(
+    rt: &R,
+    ended: &Ended,
+    senders: u64,
+    items: &[Item],
+    owners: &[(u64, SenderNo)],
+) {
+    let read = read_log(rt.alloc(), ended.log(), senders).expect(rt, "a log");
+    assert_eq!(rt; read.order.items.as_slice(), items);
+    assert_eq!(rt; read.owners.as_slice(), owners);
+    assert!(rt; !read.order.ended);
+}
+
+/// The item of this sender and number, which carries one byte.
+fn item(rt: &impl Abort, sender: u8, number: u64, byte: u8) -> Item {
+    Item {
+        sender: SenderNo(sender),
+        number,
+        message: Message::of_bytes(&[byte]).expect(rt, "short"),
+    }
+}
+
+/// The tenure delivered one message of this number.
+fn delivered(tenure: u64, number: u64) -> Turn {
+    Turn::Delivered {
+        tenure,
+        first: number,
+        last: number,
+    }
+}
+
+/// Tenure 0 is lost to this sender.
+fn lost(owner: u8) -> Turn {
+    Turn::Lost {
+        tenure: 0,
+        owner: SenderNo(owner),
+    }
+}
+
+/// Takes the last sender off.
+fn last_of(rt: &impl Abort, bus: &Bus<TwoCollect>, senders: &mut Vec<One>) -> One
+    requires { All (λ s. table_of s ≡ bus.now.table) senders.old.items }
+    ensures sender { table_of result ≡ bus.now.table }
+    ensures rest { All (λ s. table_of s ≡ bus.now.table) senders.new.items }
+{
+    let _ = bus;
+    senders.pop().expect(rt, "a sender")
+}
+
+/// A bus of five senders with one tenure, its senders 1 and 4, and a receiver.
+fn one_and_four(rt: &impl Abort, alloc: Global) -> (Bus<TwoCollect>, One, One, Pass)
+    ensures senders { (table_of result.1 ≡ result.0.table)
+        × (table_of result.2 ≡ result.0.table) }
+    ensures tap { result.3.table_id ≡ result.0.table }
+{
+    let shape = Shape {
+        senders: 5,
+        receivers: 1,
+        rows: 1,
+        ..SMALL
+    };
+    let (bus, mut senders, mut taps) = Bus::new(alloc, shape).expect(rt, "memory");
+    let tap = taps.pop().expect(rt, "a receiver");
+    let four = last_of(rt, &bus, &mut senders);
+    drop(last_of(rt, &bus, &mut senders));
+    drop(last_of(rt, &bus, &mut senders));
+    let one = last_of(rt, &bus, &mut senders);
+    (bus, one, four, tap)
+}
+
+#[test]
+fn candidate_changes(rt: HostRuntime) {
+    let (bus, mut one, mut four, tap) = one_and_four(&rt, rt.alloc());
+    assert_eq!(&rt; (one.number(), four.number()), (SenderNo(1), SenderNo(4)));
+    assert_eq!(&rt; (one.put(b"a"), four.put(b"b")), (Ok(0), Ok(0)));
+    ends_in(&rt, &bus, &mut four, 14, Turn::Going);
+    ends_in(&rt, &bus, &mut one, 99, lost(4));
+    ends_in(&rt, &bus, &mut four, 99, Turn::Own { tenure: 0 });
+    ends_in(&rt, &bus, &mut four, 99, delivered(0, 0));
+    let ended = bus.end(tap).expect(&rt, "the page is home");
+    leaves(
+        &rt,
+        &ended,
+        5,
+        &[item(&rt, 4, 0, b'b')],
+        &[(0, SenderNo(4))],
+    );
+}
+
+#[test]
+fn late_to_an_old_tenure(rt: HostRuntime) {
+    let shape = Shape {
+        senders: 2,
+        receivers: 1,
+        rows: 4,
+        ..SMALL
+    };
+    let (bus, mut zero, mut one, tap) = pair(&rt, rt.alloc(), shape);
+    assert_eq!(&rt; (zero.put(b"a"), one.put(b"b")), (Ok(0), Ok(0)));
+    ends_in(&rt, &bus, &mut one, 1, Turn::Going);
+    ends_in(&rt, &bus, &mut zero, 99, Turn::Own { tenure: 0 });
+    ends_in(&rt, &bus, &mut zero, 99, delivered(0, 0));
+    assert_eq!(&rt; zero.put(b"c"), Ok(1));
+    ends_in(&rt, &bus, &mut zero, 99, Turn::Own { tenure: 1 });
+    ends_in(&rt, &bus, &mut zero, 99, delivered(1, 1));
+    ends_in(&rt, &bus, &mut one, 99, lost(0));
+    ends_in(&rt, &bus, &mut one, 99, Turn::Own { tenure: 2 });
+    ends_in(&rt, &bus, &mut one, 99, delivered(2, 0));
+    let ended = bus.end(tap).expect(&rt, "the page is home");
+    let items = [
+        item(&rt, 0, 0, b'a'),
+        item(&rt, 0, 1, b'c'),
+        item(&rt, 1, 0, b'b'),
+    ];
+    let owners = [(0, SenderNo(0)), (1, SenderNo(0)), (2, SenderNo(1))];
+    leaves(&rt, &ended, 2, &items, &owners);
 }
 
 #[test]

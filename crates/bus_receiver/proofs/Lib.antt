@@ -1,3 +1,1 @@
 pub mod HearingLaws
-pub mod ListeningLaws
-pub mod OrderLaws

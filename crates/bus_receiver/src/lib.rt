@@ -4,13 +4,12 @@
 
 pub mod hearing;
 pub mod laws;
-mod listening;
 mod receivers;
 
 pub use bus_adoptcommit::TwoCollect;
 pub use bus_batch::{CloseFault, Item, Message, PutFault};
 pub use bus_deliverylog::RecvTurn;
-pub use bus_pageslot::{Bus, EndFault, Ended, Sender, Tap};
+pub use bus_pageslot::{Bus, EndFault, Ended, OfBus, Sender, Tap};
 pub use bus_register::SenderNo;
 pub use bus_tenure::{Page, Turn};
 pub use bus_world::{MakeFault, Shape};
@@ -19,3 +18,5 @@ pub use receivers::Receiver;
 
 #[cfg(test)]
 mod tests;
+#[cfg(test)]
+mod tests_world;

@@ -1,69 +1,60 @@
-//! A receiver of a bus without a lock.
+//! A receiver of a bus, with its places compared.
 
-ghost use Rattle.std.specs.Prelude.{◌≡◌, ℕ, List, [], Option, Some, None, IfOk, OnErr, true};
+ghost use Rattle.std.specs.Prelude.{◌≡◌, ℕ, ◌≤◌, List, length, Some, None, IfOk, OnErr};
 ghost use Rattle.std.specs.Ordering.{nat_cmp};
-ghost use Rattle.bus_batch.specs.declared.messages.Piece.{Piece};
-ghost use Rattle.bus_receiver.specs.Listening.{HasHeard, Hears, HaveMet, IsTold};
-ghost use Rattle.bus_receiver.specs.Listening.{bus_of, known_of, is_found};
-ghost use Rattle.bus_pageslot.specs.Endings.{IsLeft};
 ghost use Rattle.bus_tenure.specs.Elections.{election_of};
 ghost use Rattle.bus_world.specs.Playing.{layout_of};
+ghost use Rattle.bus_pageslot.specs.Endings.{IsLeft};
+ghost use Rattle.bus_pageslot.specs.Rule.{ear_in, known_in};
+ghost use Rattle.bus_pageslot.specs.Listening.{Hears};
 ghost use Rattle.bus_pageslot.specs.Seats.{table_of, deeds_of, stored_of};
+ghost use Rattle.bus_receiver.specs.Listening.{bus_of, is_found, Takes, HaveMet, IsTold};
 
-use crate::listening::{catch_up, hear_length, hear_word};
 use bus_adoptcommit::Ratifier;
-use bus_deliverylog::{Reader, RecvTurn};
+use bus_deliverylog::RecvTurn;
 use bus_pageslot::{Bus, EndFault, Ended, Sender, Tap};
-use bus_register::Reg;
 use crossbeam_utils::Backoff;
 use std::cmp::Ordering;
 use std::marker::Model;
 use std::sync::Wait;
 
 /// A receiver of a bus: it reads the log word by word, from the first one on. One thread at a time
-/// has it; no call of it waits or takes memory.
+/// has it. No call of it takes memory, and none but `take` waits.
 #[derive(Drop)]
 pub struct Receiver<Q: Ratifier> {
     tap: Tap<Q>,
-    /// It may know a shorter length than the seat.
-    reader: Reader,
 }
 
 impl<Q: Ratifier> Model for Receiver<Q> {
     ghost use Rattle.bus_tenure.specs.Elections.{Elector};
-    ghost use Rattle.bus_receiver.specs.Listening.{Listening, IsFit, seen, shown};
+    ghost use Rattle.bus_pageslot.specs.Seats.{Spot};
 
-    ghost Value = { Listening (Elector Q) };
+    ghost Value = { Spot (Elector Q) };
 
-    ghost view = { λ r. shown r.tap r.reader };
-
-    ghost invariant = { λ r. IsFit (seen r.tap) r.reader };
+    ghost view = { λ r. r.tap };
 }
 
 impl<Q: Ratifier + Drop> Receiver<Q> {
-    /// A receiver at the first word of the log.
+    /// The receiver with this seat.
     pub fn new(tap: Tap<Q>) -> Receiver<Q>
-        ensures seat { result.seat ≡ tap }
-        ensures place { result.reader.place ≡ 0 }
-        ensures heard { HasHeard [] result }
+        ensures { result ≡ tap }
     {
-        let reader = Reader::new(tap.senders(), Reg(0), Reg(0), u64::MAX);
-        Receiver { tap, reader }
+        Receiver { tap }
     }
 
     /// How many words it has read.
     pub fn place(&self) -> u64
-        ensures place { result ≡ self.now.reader.place }
-        ensures heard { (pieces : List (Option Piece)) × HasHeard pieces self.now }
+        ensures place { result ≡ (ear_in self.now.me.0).place }
+        ensures within { result ≤ length (known_in self.now.me.0) }
     {
-        self.reader.place()
+        self.tap.place()
     }
 
-    /// The end was among what it was given.
+    /// The end was among what it was answered.
     pub fn has_ended(&self) -> bool
-        ensures { result ≡ self.now.reader.ended }
+        ensures { result ≡ (ear_in self.now.me.0).ended }
     {
-        self.reader.has_ended()
+        self.tap.has_ended()
     }
 
     /// One turn: a load of the length where it has read all that it knows, else a load of the word
@@ -71,25 +62,16 @@ impl<Q: Ratifier + Drop> Receiver<Q> {
     pub fn turn(&mut self, bus: &Bus<Q>) -> RecvTurn
         requires { bus_of self.old ≡ bus.now.table }
         ensures table { bus_of self.new ≡ bus_of self.old }
-        ensures hears { (pieces : List (Option Piece)) → HasHeard pieces self.old
-            → Hears pieces self.old result self.new }
+        ensures hears { Hears self.old.me result self.new.me }
     {
-        if self.reader.has_ended() {
-            return RecvTurn::End;
-        }
-        catch_up(&mut self.reader, self.tap.known());
-        if self.reader.place() == self.reader.known() {
-            hear_length(&mut self.tap, &mut self.reader, bus)
-        } else {
-            hear_word(&mut self.tap, &mut self.reader, bus)
-        }
+        self.tap.turn(bus)
     }
 
     /// Turns, until one finds a head, an item or the end. That it ends is not promised.
     pub fn take<W: Wait>(&mut self, wait: &W, bus: &Bus<Q>) -> RecvTurn
         requires { bus_of self.old ≡ bus.now.table }
         ensures table { bus_of self.new ≡ bus_of self.old }
-        ensures found { is_found result ≡ true }
+        ensures takes { Takes self.old.me result self.new.me }
     {
         let backoff = Backoff::new();
         for _ in wait.forever() {
@@ -112,8 +94,8 @@ impl<Q: Ratifier + Drop> Receiver<Q> {
             × (table_of sender.old ≡ bus.now.table) }
         ensures table { (bus_of self.new ≡ bus_of self.old)
             × (table_of sender.new ≡ table_of sender.old) }
-        ensures told { IsTold sender.old.core (deeds_of sender.old) (stored_of sender.old) self.old
-            self.new }
+        ensures told { IsTold sender.old.core (deeds_of sender.old) (stored_of sender.old)
+            self.old.me self.new.me }
         ensures sender { (sender.new.core ≡ sender.old.core)
             × (sender.new.seat.me ≡ sender.old.seat.me) }
     {
@@ -127,20 +109,12 @@ impl<Q: Ratifier + Drop> Receiver<Q> {
             × (bus_of other.old ≡ bus.now.table) }
         ensures table { (bus_of self.new ≡ bus_of self.old)
             × (bus_of other.new ≡ bus_of other.old) }
-        ensures order { result ≡ nat_cmp self.old.reader.place other.old.reader.place }
-        ensures met { HaveMet self.old other.old self.new other.new }
+        ensures order { result
+            ≡ nat_cmp (ear_in self.old.me.0).place (ear_in other.old.me.0).place }
+        ensures met { HaveMet self.old.me other.old.me self.new.me other.new.me }
     {
         self.tap.meet(&mut other.tap, bus);
-        self.reader.place().cmp(&other.reader.place())
-    }
-
-    /// Its seat.
-    pub(crate) fn into_tap(self) -> Tap<Q>
-        ensures { result ≡ self.seat }
-    {
-        let Receiver { tap, reader } = self;
-        drop(reader);
-        tap
+        self.tap.place().cmp(&other.tap.place())
     }
 
     /// Ends the bus, by a receiver of it: its log and its page, where the page is at home, and
@@ -148,14 +122,14 @@ impl<Q: Ratifier + Drop> Receiver<Q> {
     pub fn end(bus: Bus<Q>, receiver: Receiver<Q>) -> Result<Ended, EndFault>
         requires { bus_of receiver ≡ bus.table }
         ensures ended { let X = election_of Q.Ratifier in
-            IfOk result (λ left. IsLeft X (layout_of Q.protocol bus.shape) (known_of receiver)
+            IfOk result (λ left. IsLeft X (layout_of Q.protocol bus.shape) (known_in receiver.me.0)
             left.log (Some left.page)) }
         ensures senders { IfOk result (λ left. left.senders ≡ bus.shape.senders) }
         ensures out { let X = election_of Q.Ratifier in
             OnErr result ((log : List ℕ)
-            × IsLeft X (layout_of Q.protocol bus.shape) (known_of receiver) log None) }
+            × IsLeft X (layout_of Q.protocol bus.shape) (known_in receiver.me.0) log None) }
     {
-        bus.end(receiver.into_tap())
+        bus.end(receiver.tap)
     }
 }
 

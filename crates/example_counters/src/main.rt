@@ -4,11 +4,13 @@
 #![tactic(auto)]
 
 ghost use Rattle.std.specs.Prelude.{◌≡◌};
+ghost use Rattle.bus_pageslot.specs.Seats.{table_of};
 ghost use Rattle.example_counters.specs.Commands.{changed, message_of};
 
 use anyhow::{Context, ensure};
-use bus_receiver::{Bus, Receiver, RecvTurn, Sender, Shape, Turn};
+use bus_receiver::{Bus, Receiver, RecvTurn, Sender, Shape, Tap, Turn, TwoCollect};
 use rand_pcg::Pcg32;
+use std::marker::Model;
 use std::sync::Wait;
 use std::thread;
 
@@ -44,41 +46,76 @@ fn apply(message: &[u8], counters: &mut [u64; 4])
     }
 }
 
-/// A worker's ends of the bus, and its replica of the counters.
+/// A worker: a bus, a sender and a receiver of it, and its replica of the counters.
 #[derive(Drop)]
-struct Worker {
-    sender: Sender,
-    receiver: Receiver,
+struct Worker<'b> {
+    bus: &'b Bus<TwoCollect>,
+    sender: Sender<TwoCollect>,
+    receiver: Receiver<TwoCollect>,
+    rng: Pcg32,
     counters: [u64; 4],
 }
 
-impl Worker {
+impl<'b> Model for Worker<'b> {
+    ghost use Rattle.std.specs.Prelude.{◌≡◌, ℕ, List};
+    ghost use Rattle.bus_pageslot.specs.Seats.{table_of};
+    ghost use Rattle.bus_receiver.specs.Listening.{bus_of};
+
+    ghost Value = { List ℕ };
+
+    ghost view = { λ w. w.counters };
+
+    ghost invariant = { λ w. (table_of w.sender ≡ w.bus.now.table)
+        × (bus_of w.receiver ≡ w.bus.now.table) };
+}
+
+impl<'b> Worker<'b> {
+    /// A worker with this sender and a receiver of this bus.
+    fn new(bus: &'b Bus<TwoCollect>, sender: Sender<TwoCollect>, tap: Tap<TwoCollect>) -> Worker<'b>
+        requires sender { table_of sender ≡ bus.now.table }
+        requires tap { tap.table_id ≡ bus.now.table }
+    {
+        let rng = Pcg32::new(0, u64::from(sender.number().0));
+        Worker {
+            bus,
+            sender,
+            rng,
+            receiver: Receiver::new(tap),
+            counters: [0; 4],
+        }
+    }
+
     /// Sends two batches, each a reset of its own counter and an addition to all, and catches up.
-    fn work<W: Wait>(mut self, wait: &W, bus: &Bus) -> anyhow::Result<Worker> {
+    fn work<W: Wait>(mut self, wait: &W) -> anyhow::Result<Worker<'b>> {
         let own = self.sender.number().0;
-        let mut rng = Pcg32::new(0, u64::from(own));
         for amount in [5, 7] {
             self.put(Command::Reset { counter: own })?;
             for counter in 0..4 {
                 self.put(Command::Add { counter, amount })?;
             }
-            let sent = self.sender.send(wait, bus, &mut rng);
-            ensure!(matches!(sent, Turn::Delivered { .. }), "stopped: {sent:?}");
-            self.catch_up(wait, bus);
+            self.send(wait)?;
+            self.catch_up(wait);
         }
         Ok(self)
     }
 
     /// Puts a command into the next batch, and gives its number.
     fn put(&mut self, command: Command) -> anyhow::Result<u64> {
-        ensure!(self.sender.next_number() < 10, "too many commands");
         Ok(self.sender.put(&encode(command))?)
     }
 
+    /// Sends the batch.
+    fn send<W: Wait>(&mut self, wait: &W) -> anyhow::Result<()> {
+        let bus = self.bus;
+        let sent = self.sender.send(wait, bus, &mut self.rng);
+        ensure!(matches!(sent, Turn::Delivered { .. }), "stopped: {sent:?}");
+        Ok(())
+    }
+
     /// Applies all that has come by now.
-    fn catch_up<W: Wait>(&mut self, wait: &W, bus: &Bus) {
+    fn catch_up<W: Wait>(&mut self, wait: &W) {
         for _ in wait.forever() {
-            match self.receiver.turn(wait, bus) {
+            match self.receiver.turn(self.bus) {
                 RecvTurn::Item(item) => apply(item.message.as_slice(), &mut self.counters),
                 RecvTurn::Empty | RecvTurn::End => return,
                 RecvTurn::Going | RecvTurn::Head { .. } => {}
@@ -98,16 +135,12 @@ fn main(rt: HostRuntime) -> anyhow::Result<()> {
     let (bus, senders, taps) = Bus::new(rt.alloc(), shape)?;
     let mut workers = Vec::new(rt.alloc());
     for (sender, tap) in senders.into_iter().zip(taps) {
-        workers.push(Worker {
-            sender,
-            receiver: Receiver::new(tap),
-            counters: [0; 4],
-        })?;
+        workers.push(Worker::new(&bus, sender, tap))?;
     }
     let mut first = None;
-    for worker in thread::map_vec(&rt, workers, &|worker| worker.work(&rt, &bus))? {
+    for worker in thread::map_vec(&rt, workers, &|worker| worker.work(&rt))? {
         let mut worker = worker?;
-        worker.catch_up(&rt, &bus);
+        worker.catch_up(&rt);
         let counters = worker.counters;
         eprintln!(&rt; "replica {}: {counters:?}", worker.sender.number().0)?;
         ensure!(counters == *first.get_or_insert(counters), "they differ");

@@ -9,11 +9,12 @@ tap_next-tap-requires-clause-wide g c = ap (λ (z : TableId). z.words) c.loop.in
 
 pub loop-preserved : goal.loop-preserved
 loop-preserved g c =
+    let n = c.args.shape.senders in
     let table = c.args.top.now.table_id in
     record {
       below = omega arith;
-      taps = subst (AreNewTaps table (c.loop.counter + 1)) (sym c.in_ok-push.ensures.items) (one_more_tap table c.loop.counter c.loop.taps.items c.tap_next-tap.result c.loop.invariant.taps
-          (subst (λ z. IsNewTap z c.tap_next-tap.result) c.loop.invariant.table c.tap_next-tap.ensures.tap));
+      taps = subst (AreNewTaps n table (c.loop.counter + 1)) (sym c.in_ok-push.ensures.items) (one_more_tap n table c.loop.counter c.loop.taps.items c.tap_next-tap.result c.loop.invariant.taps
+          (subst (λ z. IsNewTap n z c.tap_next-tap.result) c.loop.invariant.table c.tap_next-tap.ensures.tap));
       table = c.tap_next-tap.ensures.table ∙ c.loop.invariant.table;
       maker = c.tap_next-tap.ensures.maker ∙ c.loop.invariant.maker;
     }
@@ -21,4 +22,4 @@ loop-preserved g c =
 pub returns : goal.returns
 returns g c =
     let all : c.loop.counter ≡ c.args.shape.receivers = let b = c.loop.invariant.below in omega arith in
-    subst (λ n. AreNewTaps c.args.top.now.table_id n c.loop.taps.items) all c.loop.invariant.taps
+    subst (λ n. AreNewTaps c.args.shape.senders c.args.top.now.table_id n c.loop.taps.items) all c.loop.invariant.taps

@@ -24,9 +24,9 @@ returns-clause-sender g c =
 pub returns-clause-first : goal.returns-clause-first
 returns-clause-first g c =
     let taps = rw c.expect-bus.ensures at c.new.ensures.taps in
-    ap (λ s. s.table_id) c.new-first.ensures.seat ∙ (taps.each _ _ (next_was _ _ _ _ _ _ c.pop.ensures.items c.pop-2.ensures.items c.expect-2.ensures)).table_is
+    ap (λ s. s.table_id) c.new-first.ensures ∙ (taps.each _ _ (next_was _ _ _ _ _ _ c.pop.ensures.items c.pop-2.ensures.items c.expect-2.ensures)).table_is
 
 pub returns-clause-second : goal.returns-clause-second
 returns-clause-second g c =
     let taps = rw c.expect-bus.ensures at c.new.ensures.taps in
-    ap (λ s. s.table_id) c.new-second.ensures.seat ∙ (taps.each _ _ (last_was _ _ _ _ c.pop.ensures.items c.expect.ensures)).table_is
+    ap (λ s. s.table_id) c.new-second.ensures ∙ (taps.each _ _ (last_was _ _ _ _ c.pop.ensures.items c.expect.ensures)).table_is

@@ -15,15 +15,15 @@ load-word-requires g c =
     let key = c.bus.inside.table.shared.key in
     let X = election_with g.Q.Machine.kind_of g.Q.Machine.op g.Q.Machine.fed g.Q.Ratifier.protocol in
     let x = layout_with g.Q.Ratifier.protocol key.senders key.rounds key.rows key.log_words in
-    let h = c.self.invariant in
+    let h = c.self.invariant.sits in
     let seat = c.unwrap-seat.result in
     let S : Type 0 = Spot (Elector g.row.Q.Denot) in
     let there : spot_of c.self.inside.seat ≡ spot seat = ap spot_of (sym c.take.ensures.value ∙ c.unwrap-seat.ensures) in
     let table : seat.table_id ≡ c.bus.inside.table.shared.table_id = ap (λ (s : S). s.table_id) (sym there ∙ c.self.view_is) ∙ c.requires.table ∙ sym (ap (λ (b : Site). b.table) c.bus.view_is) in
     let wide : seat.table_id.words ≡ words_of h.core.layout = ap (λ (s : S). s.table_id.words) (sym there) ∙ h.wide in
-    let here : c.args.place < length h.words = subst (λ k. c.args.place < length (known_in k)) (ap (λ (s : S). s.me.0) (sym c.self.view_is) ∙ ap (λ m. m.0) h.me) c.requires.below in (
+    let here : c.args.place < length h.ear.known = subst (λ k. c.args.place < length (known_in k)) (ap (λ (s : S). s.me.0) (sym c.self.view_is) ∙ ap (λ m. m.0) h.me) c.requires.below in (
       table,
-      subst (λ (z : TableId). c.self.inside.log + c.args.place < z.words) table (let a = h.log_is in let b = h.known_is in let d = h.within in omega arith),
+      subst (λ (z : TableId). c.self.inside.log + c.args.place < z.words) table (let a = h.log_is in let d = h.within in omega arith),
       subst (λ l. Allows (IsShown X x) c.bus.inside.table.shared.table_id.slots seat.id seat.me (l + c.args.place) (λ n. n) (λ n. Reads seat.me (l + c.args.place) n)) (sym h.log_is)
-          (word_allowed X x c.bus.inside.table.shared.table_id.slots seat.id seat.me h.core h.words c.args.place (ap (λ (s : S). s.me.0) (sym there) ∙ ap (λ m. m.0) h.me) here),
+          (word_allowed X x c.bus.inside.table.shared.table_id.slots seat.id seat.me h.core h.ear c.args.place (ap (λ (s : S). s.me.0) (sym there) ∙ ap (λ m. m.0) h.me) here),
     )

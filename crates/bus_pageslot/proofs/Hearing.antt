@@ -1,0 +1,188 @@
+-- What a receiver was answered is what the first pieces of the log say, and stays so.
+use Rattle.std.proofs.Common.{◌≡◌, ℕ, zero, suc, ◌+◌, ◌≤◌, Bool, true, false, cond, ◌==◌, ◌||◌, Option, Some, None, inl, inr, List, [], ◌∷◌, ◌++◌, length, map, flat_map, take, drop, slice_get, arith, refl, sym, ◌∙◌, ap, subst}
+use Rattle.std.specs.List.{list_any}
+use Rattle.std.proofs.Math.Bool.{or-false}
+use Rattle.std.proofs.lemmas.Grind.{flat_map-append}
+use Rattle.std.proofs.lemmas.List.{append-nil, length-append, take-append-drop, take-append-le, take-take, take_all, take_more}
+use Rattle.std.proofs.lemmas.List.Folds.{list_any-append}
+use Rattle.std.proofs.lemmas.Option.{same_Some, slice_get_within, get_or_from_slice_get}
+use Rattle.bus_batch.specs.declared.messages.Item.{Item}
+use Rattle.bus_batch.specs.declared.messages.Piece.{Piece}
+use Rattle.bus_batch.specs.declared.messages.Piece.TheVariants as piece
+use Rattle.bus_batch.specs.Frames.{Frame, Order, AreFrames, log_words, log_pieces, frame_pieces, order_of, tenure_and_owner, order_in, owners_in, piece_items, piece_owners, is_end}
+use Rattle.bus_batch.proofs.PieceLaws.{owners_in-log}
+use Rattle.bus_deliverylog.specs.Orders.{IsPrefixOfOrder}
+use Rattle.bus_deliverylog.specs.Receiving.{turn_of}
+use Rattle.bus_deliverylog.specs.declared.receiving.RecvTurn.{RecvTurn}
+use Rattle.bus_deliverylog.specs.declared.receiving.RecvTurn.TheVariants as turn
+use Rattle.bus_deliverylog.proofs.PrefixLaws.{end_last}
+use Rattle.bus_world.specs.Headline.{IsPrefix, item_heard, end_heard, head_heard, given, heads}
+use Rattle.bus_world.proofs.Places.{got_split}
+use Rattle.bus_world.proofs.ReceivingLaws.{length-log_pieces, given_is_prefix}
+use Rattle.bus_pageslot.specs.Ears.{Ear, new_ear, loaded, learnt, heard_length, heard_word, length_turn, IsSilent, HasHeard, Begins, Agree}
+
+-- ---- what one answer adds
+abbrev more_order : Order → List Item → Bool → Order
+more_order o items ended = record { items = o.items ++ items; ended = o.ended || ended }
+
+order_so : (items items' : List Item) (a b : Bool) → items ≡ items' → a ≡ b → ◌≡◌ {A = Order} (record { items = items; ended = a }) (record { items = items'; ended = b })
+order_so items items' a b e f = ap (λ z. record { items = z; ended = a }) e ∙ ap (λ z. record { items = items'; ended = z }) f
+
+given_more : (trail : List RecvTurn) (a : RecvTurn) → given (trail ++ a ∷ []) ≡ more_order (given trail) (item_heard a) (end_heard a)
+given_more trail a = order_so _ _ _ _ (flat_map-append item_heard trail (a ∷ []) ∙ ap (λ z. flat_map item_heard trail ++ z) (append-nil (item_heard a)))
+    (list_any-append end_heard trail (a ∷ []) ∙ ap (λ z. list_any end_heard trail || z) (or-false (end_heard a)))
+
+heads_more : (trail : List RecvTurn) (a : RecvTurn) → heads (trail ++ a ∷ []) ≡ heads trail ++ head_heard a
+heads_more trail a = flat_map-append head_heard trail (a ∷ []) ∙ ap (λ z. flat_map head_heard trail ++ z) (append-nil (head_heard a))
+
+order_more : (pieces : List (Option Piece)) (p : Option Piece) → order_in (pieces ++ p ∷ []) ≡ more_order (order_in pieces) (piece_items p) (is_end p)
+order_more pieces p = order_so _ _ _ _ (flat_map-append piece_items pieces (p ∷ []) ∙ ap (λ z. flat_map piece_items pieces ++ z) (append-nil (piece_items p)))
+    (list_any-append is_end pieces (p ∷ []) ∙ ap (λ z. list_any is_end pieces || z) (or-false (is_end p)))
+
+owners_more : (pieces : List (Option Piece)) (p : Option Piece) → owners_in (pieces ++ p ∷ []) ≡ owners_in pieces ++ piece_owners p
+owners_more pieces p = flat_map-append piece_owners pieces (p ∷ []) ∙ ap (λ z. flat_map piece_owners pieces ++ z) (append-nil (piece_owners p))
+
+-- an answer tells its piece
+item_told : (p : Option Piece) → item_heard (turn_of p) ≡ piece_items p
+item_told None = refl
+item_told (Some (piece.Head t o)) = refl
+item_told (Some (piece.Item i)) = refl
+item_told (Some piece.End) = refl
+
+end_told : (p : Option Piece) → end_heard (turn_of p) ≡ is_end p
+end_told None = refl
+end_told (Some (piece.Head t o)) = refl
+end_told (Some (piece.Item i)) = refl
+end_told (Some piece.End) = refl
+
+head_told : (p : Option Piece) → head_heard (turn_of p) ≡ piece_owners p
+head_told None = refl
+head_told (Some (piece.Head t o)) = refl
+head_told (Some (piece.Item i)) = refl
+head_told (Some piece.End) = refl
+
+or_true : (a b : Bool) → b ≡ true → (a || b) ≡ true
+or_true true b e = refl
+or_true false b e = e
+
+-- ---- after the end
+end_given : (trail : List RecvTurn) (j : ℕ) → slice_get trail j ≡ Some turn.End → (given trail).ended ≡ true
+end_given [] j e = absurd cc
+end_given (x ∷ trail) zero e = ap (λ z. end_heard z || list_any end_heard trail) (same_Some _ _ e)
+end_given (x ∷ trail) (suc j) e = or_true (end_heard x) (list_any end_heard trail) (end_given trail j e)
+
+-- a trail without the end, and one answer more
+silent_more : (trail : List RecvTurn) (answer : RecvTurn) → (given trail).ended ≡ false → IsSilent (trail ++ answer ∷ [])
+silent_more trail answer goes j k a at l here = elim (got_split trail (answer ∷ []) j turn.End at) [
+  | inl first ↦ absurd (let z = sym (end_given trail j first) ∙ goes in cc)
+  | inr r ↦
+      let within = slice_get_within (trail ++ answer ∷ []) k a here in
+      let size = length-append trail (answer ∷ []) in
+      let p = r.1 in
+      absurd (omega arith)
+]
+
+-- ---- one receiver
+module _ (frames : List Frame) where
+  pub heard_new : HasHeard frames new_ear
+  heard_new = record { given_is = refl; heads_are = refl; ended_is = refl; silent = λ j k a at l here. absurd (let bad : None ≡ Some turn.End = at in let wrong : ⊥ = cc in wrong) }
+
+  module _ (e : Ear) (h : HasHeard frames e) where
+    pub heard_loaded : HasHeard frames (loaded e)
+    heard_loaded = record { given_is = h.given_is; heads_are = h.heads_are; ended_is = h.ended_is; silent = h.silent }
+
+    pub heard_learnt : (known : List ℕ) → HasHeard frames (learnt e known)
+    heard_learnt known = record { given_is = h.given_is; heads_are = h.heads_are; ended_is = h.ended_is; silent = h.silent }
+
+    -- an answer that tells nothing
+    quiet : (known : List ℕ) (answer : RecvTurn) → e.ended ≡ false → item_heard answer ≡ [] → end_heard answer ≡ false → head_heard answer ≡ [] → HasHeard frames (heard_length e known answer)
+    quiet known answer going items ends head =
+        let same : given (e.answers ++ answer ∷ []) ≡ given e.answers =
+        given_more e.answers answer ∙ ap (λ z. more_order (given e.answers) z (end_heard answer)) items ∙ ap (more_order (given e.answers) []) ends ∙ order_so _ _ _ _ (append-nil (given e.answers).items) (or-false (given e.answers).ended) in
+        record {
+          given_is = same ∙ h.given_is;
+          heads_are = heads_more e.answers answer ∙ ap (λ z. heads e.answers ++ z) head ∙ append-nil (heads e.answers) ∙ h.heads_are;
+          ended_is = h.ended_is ∙ ap (λ (z : Order). z.ended) (sym same);
+          silent = silent_more e.answers answer (sym h.ended_is ∙ going);
+        }
+
+    quiet_if : (b : Bool) (known : List ℕ) → e.ended ≡ false → HasHeard frames (heard_length e known (cond b turn.Empty turn.Going))
+    quiet_if true known going = quiet known turn.Empty going refl refl refl
+    quiet_if false known going = quiet known turn.Going going refl refl refl
+
+    pub heard_quiet : (known : List ℕ) (got : ℕ) → e.ended ≡ false → HasHeard frames (heard_length e known (length_turn e.place got))
+    heard_quiet known got going = quiet_if (got == e.place) known going
+
+    -- it has the next piece
+    pub heard_good : (found : Option Piece) → e.ended ≡ false → slice_get (log_pieces frames) e.place ≡ Some found → HasHeard frames (heard_word e found (turn_of found))
+    heard_good found going at =
+        let all = log_pieces frames in
+        let pieces : take (e.place + 1) all ≡ take e.place all ++ found ∷ [] =
+        take_more all e.place found (slice_get_within all e.place found at) ∙ ap (λ z. take e.place all ++ z ∷ []) (get_or_from_slice_get all e.place found found at) in
+        let none : (given e.answers).ended ≡ false = sym h.ended_is ∙ going in
+        let more = given_more e.answers (turn_of found) in
+        record {
+          given_is = more ∙ ap (λ z. more_order z (item_heard (turn_of found)) (end_heard (turn_of found))) h.given_is ∙ ap (λ z. more_order (order_in (take e.place all)) z (end_heard (turn_of found))) (item_told found)
+              ∙ ap (more_order (order_in (take e.place all)) (piece_items found)) (end_told found) ∙ sym (order_more (take e.place all) found) ∙ ap order_in (sym pieces);
+          heads_are = heads_more e.answers (turn_of found) ∙ ap (λ z. z ++ head_heard (turn_of found)) h.heads_are ∙ ap (λ z. owners_in (take e.place all) ++ z) (head_told found) ∙ sym (owners_more (take e.place all) found) ∙ ap owners_in (sym pieces);
+          ended_is = sym (end_told found) ∙ ap (λ z. z || end_heard (turn_of found)) (sym none) ∙ ap (λ (z : Order). z.ended) (sym more);
+          silent = silent_more e.answers (turn_of found) none;
+        }
+
+    -- a log that has grown
+    pub heard_later : (more : List Frame) → e.place ≤ length (log_words frames) → HasHeard (frames ++ more) e
+    heard_later more l =
+        let size = length-log_pieces frames in
+        let front : take e.place (log_pieces (frames ++ more)) ≡ take e.place (log_pieces frames) =
+        ap (take e.place) (flat_map-append frame_pieces frames more) ∙ take-append-le e.place (log_pieces frames) (log_pieces more) (omega arith) in
+        record { given_is = h.given_is ∙ ap order_in (sym front); heads_are = h.heads_are ∙ ap owners_in (sym front); ended_is = h.ended_is; silent = h.silent }
+
+none_past : {A : Type 0} (k : ℕ) (xs : List A) → drop k xs ≡ [] → length xs ≤ k
+none_past zero [] d = omega arith
+none_past zero (x ∷ xs) d = absurd cc
+none_past (suc k) [] d = omega arith
+none_past (suc k) (x ∷ xs) d = let l = none_past k xs d in omega arith
+
+-- where nothing is left past a place, more words say no more
+past : {A : Type 0} (p q : ℕ) (xs : List A) → p ≤ q → drop p xs ≡ [] → take q xs ≡ take p xs
+past p q xs le none = let short = none_past p xs none in take_all q xs (omega arith) ∙ sym (take_all p xs short)
+
+-- ---- a receiver and the whole order
+module _ (n : ℕ) (frames : List Frame) (lawful : AreFrames n frames) where
+  pub begins_order : (e : Ear) → HasHeard frames e → IsPrefixOfOrder (given e.answers) (order_of frames)
+  begins_order e h = subst (λ o. IsPrefixOfOrder o (order_of frames)) (sym h.given_is) (given_is_prefix n frames e.place lawful)
+
+  pub begins_owners : (e : Ear) → HasHeard frames e → IsPrefix (heads e.answers) (map tenure_and_owner frames)
+  begins_owners e h =
+      let all = log_pieces frames in
+      record {
+        rest = owners_in (drop e.place all);
+        together = ap (λ z. z ++ owners_in (drop e.place all)) h.heads_are ∙ sym (flat_map-append piece_owners (take e.place all) (drop e.place all)) ∙ ap owners_in (take-append-drop e.place all) ∙ owners_in-log frames;
+      }
+
+  -- ---- two receivers
+  begins : (e f : Ear) → HasHeard frames e → HasHeard frames f → e.place ≤ f.place → Begins e f
+  begins e f h k le =
+      let all = log_pieces frames in
+      let p = e.place in
+      let q = f.place in
+      let rest = drop p (take q all) in
+      let front : take q all ≡ take p all ++ rest = sym (ap (λ z. z ++ rest) (sym (take-take p q all le)) ∙ take-append-drop p (take q all)) in
+      let order_is : given f.answers ≡ order_in (take p all ++ rest) = k.given_is ∙ ap order_in front in
+      record {
+        order = record {
+          later = flat_map piece_items rest;
+          items = ap (λ (z : Order). z.items) order_is ∙ flat_map-append piece_items (take p all) rest ∙ ap (λ (z : Order). z.items ++ flat_map piece_items rest) (sym h.given_is);
+          ended = λ d.
+              let over : list_any is_end (take p all) ≡ true = ap (λ (z : Order). z.ended) (sym h.given_is) ∙ d in
+              let none : drop p all ≡ [] = end_last n 0 frames (take p all) (drop p all) lawful (sym (take-append-drop p all)) over in
+              h.given_is ∙ ap order_in (sym (past p q all le none)) ∙ sym k.given_is;
+        };
+        owners = record {
+          rest = owners_in rest;
+          together = ap (λ z. z ++ owners_in rest) h.heads_are ∙ sym (flat_map-append piece_owners (take p all) rest) ∙ ap owners_in (sym front) ∙ sym k.heads_are;
+        };
+      }
+
+  pub agree : (e f : Ear) → HasHeard frames e → HasHeard frames f → Agree e f
+  agree e f h k = record { behind = begins e f h k; ahead = begins f e k h }

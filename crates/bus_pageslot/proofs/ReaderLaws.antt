@@ -1,0 +1,269 @@
+-- What a receiver's reader keeps beside its seat, and what each load makes of it.
+use Rattle.std.proofs.Common.{◌≡◌, ◌≢◌, ℕ, ◌+◌, ◌<◌, ◌≤◌, ◌^◌, cond, true, false, List, [], ◌∷◌, ◌++◌, length, take, drop, slice_get, slice_index, inl, inr, arith, refl, sym, ◌∙◌, ap, subst, append_assoc}
+use Rattle.std.specs.Prelude.{Option}
+use Rattle.std.proofs.lemmas.Bool.{cases_eq, cases_lt}
+use Rattle.std.proofs.lemmas.Bool.Decides.{eqb_tells}
+use Rattle.std.proofs.lemmas.List.{length-append, length-take, take-append-drop, take-append-le, take_more}
+use Rattle.std.proofs.lemmas.Option.{same_Some}
+use Rattle.bus_batch.specs.declared.messages.Piece.{Piece}
+use Rattle.bus_batch.specs.Frames.{AreFrames, GivesPiece, log_words, log_pieces}
+use Rattle.bus_deliverylog.specs.declared.receiving.RecvTurn.{RecvTurn}
+use Rattle.bus_deliverylog.specs.declared.receiving.RecvTurn.TheVariants as turn
+use Rattle.bus_deliverylog.specs.Receiving.{Receiving, HasReceived, TakesLength, TakesWord, TakesGood, turn_of}
+use Rattle.bus_tenure.specs.Core.{Core}
+use Rattle.bus_world.specs.Headline.{IsPrefix}
+use Rattle.bus_pageslot.specs.Ears.{Ear, heard_length, heard_word, length_turn}
+use Rattle.bus_pageslot.specs.declared.rule.View.TheVariants.{Tap}
+use Rattle.bus_pageslot.specs.Rule.{Sat, ear_in, known_in}
+use Rattle.bus_pageslot.specs.Seats.{knows, IsFit, IsEar}
+use Rattle.bus_pageslot.specs.Listening.{FindsLength, FindsWord, HearsLength, HearsWord, Hears}
+
+-- ---- a reader beside an ear that knows more
+not_longer : (known more : List ℕ) → IsPrefix known more → length known ≤ length more
+not_longer known more h = let a = length-append known h.rest in let b = ap length h.together in omega arith
+
+front_of : (known more : List ℕ) (p : ℕ) → IsPrefix known more → p ≤ length known → take p more ≡ take p known
+front_of known more p h l = ap (take p) (sym h.together) ∙ take-append-le p known h.rest l
+
+pub fits_learnt : (senders : ℕ) (e e' : Ear) (r : Receiving) → IsFit senders e r → e'.place ≡ e.place → e'.ended ≡ e.ended → IsPrefix e.known e'.known → IsFit senders e' r
+fits_learnt senders e e' r h place ended grows =
+    let read : r.place ≤ length e.known = (let a = h.within in let b = h.below in omega arith) in
+    record {
+      place = h.place ∙ sym place;
+      ended = h.ended ∙ sym ended;
+      senders_are = h.senders_are;
+      within = h.within;
+      below = (let a = h.below in let b = not_longer e.known e'.known grows in omega arith);
+      believes = h.believes;
+      pieces = h.pieces;
+      received = subst (λ z. HasReceived z h.pieces r) (sym (front_of e.known e'.known r.place grows read)) h.received;
+    }
+
+-- a reader that knows another length
+pub fits_knowing : (senders k : ℕ) (e : Ear) (r : Receiving) → IsFit senders e r → r.place ≤ k → k ≤ length e.known → IsFit senders e (knows k r)
+fits_knowing senders k e r h a b = record {
+  place = h.place;
+  ended = h.ended;
+  senders_are = h.senders_are;
+  within = a;
+  below = b;
+  believes = h.believes;
+  pieces = h.pieces;
+  received = record { read = h.received.read; place = h.received.place };
+}
+
+-- at the length that its reader knows it knows all that its seat knows
+pub caught_up : (senders : ℕ) (e : Ear) (old new : Receiving) → IsFit senders e old → (old.place ≡ old.known → new ≡ knows (length e.known) old) → (old.place ≢ old.known → new ≡ old) → IsFit senders e new
+caught_up senders e old new h here there = elim (cases_lt old.place old.known) [
+  | inl l ↦ subst (IsFit senders e) (sym (there (λ i. absurd (omega arith)))) h
+  | inr l ↦ (let w = h.within in let b = h.below in subst (IsFit senders e) (sym (here (omega arith))) (fits_knowing senders (length e.known) e old h (omega arith) (omega arith)))
+]
+
+pub caught_at : (k : ℕ) (old new : Receiving) → (old.place ≡ old.known → new ≡ knows k old) → (old.place ≢ old.known → new ≡ old) → new.place ≡ new.known → new.known ≡ k
+caught_at k old new here there at = elim (cases_eq old.place old.known) [
+  | inl e ↦ ap (λ (z : Receiving). z.known) (here e)
+  | inr ne ↦ absurd (ne (ap (λ (z : Receiving). z.place) (sym (there ne)) ∙ at ∙ ap (λ (z : Receiving). z.known) (there ne)))
+]
+
+pub caught_going : (k : ℕ) (old new : Receiving) → (old.place ≡ old.known → new ≡ knows k old) → (old.place ≢ old.known → new ≡ old) → new.ended ≡ old.ended
+caught_going k old new here there = elim (cases_eq old.place old.known) [
+  | inl e ↦ ap (λ (z : Receiving). z.ended) (here e)
+  | inr ne ↦ ap (λ (z : Receiving). z.ended) (there ne)
+]
+
+-- ---- a load of the length, by a turn
+at_length : (place known got : ℕ) (answer : RecvTurn) → place ≡ known → (got ≡ known → answer ≡ turn.Empty) → (got ≢ known → answer ≡ turn.Going) → answer ≡ length_turn place got
+at_length place known got answer at same other = elim (eqb_tells got place) [
+  | inl y ↦ same (y.1 ∙ at) ∙ ap (λ b. cond b turn.Empty turn.Going) (sym y.0)
+  | inr n ↦ other (λ e. n.1 (e ∙ sym at)) ∙ ap (λ b. cond b turn.Empty turn.Going) (sym n.0)
+]
+
+module _ {E : Type 0} (c : Core E) (e : Ear) (r r' : Receiving) (got : ℕ) (answer : RecvTurn) (fit : IsFit c.layout.senders e r) (known : r.known ≡ length e.known) (at : r.place ≡ r.known) (small : got < 2 ^ 64) (takes : TakesLength r got answer r') where
+  more_known : (ws : List ℕ) → IsPrefix e.known ws → length ws ≡ got → r.known ≤ got
+  more_known ws grows long = let l = not_longer e.known ws grows in omega arith
+
+  taken : r.known ≤ got → (r' ≡ knows got r) × (answer ≡ length_turn e.place got)
+  taken more =
+      let believes = fit.believes in (
+        elim (cases_eq got r.known) [ inl same ↦ (takes.same same).1 ∙ ap (λ k. knows k r) (sym same) | inr other ↦ (takes.more (omega arith) (omega arith)).1 ],
+        at_length e.place r.known got answer (sym fit.place ∙ at) (λ same. (takes.same same).0) (λ other. (takes.more (omega arith) (omega arith)).0),
+      )
+
+  pub length_heard_at : (m' : Sat E) → (f : FindsLength (Tap c e, []) got m')
+      → (m' ≡ (Tap c (heard_length e f.known answer), [])) × IsFit c.layout.senders (heard_length e f.known answer) r' × HearsLength (Tap c e, []) answer m' × (r'.known ≡ length f.known) × (length f.known ≤ c.layout.capacity)
+  length_heard_at m' f =
+      let t = taken (more_known f.known f.grows f.length_is) in
+      let e' : Ear = heard_length e f.known answer in
+      let now : m' ≡ (Tap c e', []) = f.now ∙ ap (λ a. (Tap c (heard_length e f.known a), [])) (sym t.1) in
+      let reads : r'.known ≡ length f.known = ap (λ (z : Receiving). z.known) t.0 ∙ sym f.length_is in
+      let kept = fits_learnt c.layout.senders e e' r fit refl refl f.grows in
+      let a = more_known f.known f.grows f.length_is in
+      let b = f.length_is in
+      let d = fit.within in (
+        now,
+        subst (IsFit c.layout.senders e') (sym t.0) (fits_knowing c.layout.senders got e' r kept (omega arith) (omega arith)),
+        record { got = got; known = f.known; grows = f.grows; length_is = f.length_is; within = f.within; answer_is = t.1; now = now },
+        reads,
+        f.within,
+      )
+
+-- the same of a seat
+module _ {E : Type 0} (m m' : Sat E) (words words' : ℕ) (r r' : Receiving) (got : ℕ) (answer : RecvTurn) (f : FindsLength m got m') (same : words' ≡ words) (known : r.known ≡ length (known_in m.0)) (at : r.place ≡ r.known) (small : got < 2 ^ 64) (takes : TakesLength r got answer r') where
+  module _ (log : ℕ) (h : IsEar m words log r) where
+    found : FindsLength (Tap h.core h.ear, []) got m'
+    found = subst (λ (y : Sat E). FindsLength y got m') h.me f
+
+    heard : (m' ≡ (Tap h.core (heard_length h.ear found.known answer), [])) × IsFit h.core.layout.senders (heard_length h.ear found.known answer) r' × HearsLength (Tap h.core h.ear, []) answer m' × (r'.known ≡ length found.known) × (length found.known ≤ h.core.layout.capacity)
+    heard = length_heard_at h.core h.ear r r' got answer h.fit (known ∙ ap (λ (y : Sat E). length (known_in y.0)) h.me) at small takes m' found
+
+    pub length_ear : IsEar m' words' log r'
+    length_ear = record { core = h.core; ear = heard_length h.ear found.known answer; me = heard.0; log_is = h.log_is; within = heard.4; room = h.room; wide = same ∙ h.wide; fit = heard.1 }
+
+    pub length_known : r'.known ≡ length (known_in m'.0)
+    length_known = heard.3 ∙ ap (λ (y : Sat E). length (known_in y.0)) (sym heard.0)
+
+    pub length_is_heard : HearsLength m answer m'
+    length_is_heard = subst (λ (y : Sat E). HearsLength y answer m') (sym h.me) heard.2
+
+-- ---- a load of the word at its place, by a turn
+module _ {E : Type 0} (c : Core E) (e : Ear) (r r' : Receiving) (got : ℕ) (answer : RecvTurn) (m' : Sat E) (fit : IsFit c.layout.senders e r) (unread : r.place ≢ r.known) (senders : r'.frames.senders ≡ r.frames.senders) (takes : TakesWord (take r.place e.known) fit.pieces r got answer r')
+    (f : FindsWord (Tap c e, []) got m') where
+  below : r.place < length e.known
+  below = let a = fit.within in let b = fit.below in omega arith
+
+  -- the words that it has read, this one, and the others
+  parts : log_words f.frames ≡ take r.place e.known ++ got ∷ (drop (r.place + 1) e.known ++ f.rest)
+  parts =
+      let place : e.place ≡ r.place = sym fit.place in
+      let word : slice_index e.known r.place ≡ got = ap (slice_index e.known) fit.place ∙ sym f.got_is in
+      let front : take (r.place + 1) e.known ≡ take r.place e.known ++ got ∷ [] = take_more e.known r.place 0 below ∙ ap (λ w. take r.place e.known ++ w ∷ []) word in
+      f.words_are ∙ ap (λ z. z ++ f.rest) (sym (take-append-drop (r.place + 1) e.known)) ∙ append_assoc (take (r.place + 1) e.known) (drop (r.place + 1) e.known) f.rest
+      ∙ ap (λ z. z ++ (drop (r.place + 1) e.known ++ f.rest)) front ∙ append_assoc (take r.place e.known) (got ∷ []) (drop (r.place + 1) e.known ++ f.rest)
+
+  lawful : AreFrames r.frames.senders f.frames
+  lawful = subst (λ n. AreFrames n f.frames) (sym fit.senders_are) f.lawful
+
+  pub good : TakesGood (take r.place e.known) fit.pieces r got answer r'
+  good = elim takes [
+    | inl bad ↦ absurd (bad.0 (
+      drop (r.place + 1) e.known ++ f.rest,
+      record { frames = f.frames; lawful = lawful; words_are = parts ∙ sym (append_assoc (take r.place e.known) (got ∷ []) (drop (r.place + 1) e.known ++ f.rest)) },
+    ))
+    | inr g ↦ g
+  ]
+
+  same : f.found ≡ good.found
+  same =
+      let a = good.gives f.frames (drop (r.place + 1) e.known ++ f.rest) lawful parts in
+      let size : length (take r.place e.known) ≡ e.place = (let l = length-take r.place e.known in let b = below in let p = fit.place in omega arith) in
+      same_Some _ _ (sym f.at ∙ ap (slice_get (log_pieces f.frames)) (sym size) ∙ a)
+
+  pub word_now : m' ≡ (Tap c (heard_word e good.found answer), [])
+  word_now = f.now ∙ ap (λ u. (Tap c (heard_word e u (turn_of u)), [])) same ∙ ap (λ a. (Tap c (heard_word e good.found a), [])) (sym good.answer_is)
+
+  pub word_fits : IsFit c.layout.senders (heard_word e good.found answer) r'
+  word_fits =
+      let p : r'.place ≡ r.place + 1 = ap (λ (z : Receiving). z.place) good.new_is in
+      let q : r'.known ≡ r.known = ap (λ (z : Receiving). z.known) good.new_is in
+      let front : take (r.place + 1) e.known ≡ take r.place e.known ++ got ∷ [] = take_more e.known r.place 0 below ∙ ap (λ w. take r.place e.known ++ w ∷ []) (ap (slice_index e.known) fit.place ∙ sym f.got_is) in
+      record {
+        place = p ∙ ap (λ k. k + 1) fit.place;
+        ended = ap (λ (z : Receiving). z.ended) good.new_is;
+        senders_are = senders ∙ fit.senders_are;
+        within = (let a = fit.within in omega arith);
+        below = (let b = fit.below in omega arith);
+        believes = ap (λ (z : Receiving). z.log_words) good.new_is ∙ fit.believes;
+        pieces = fit.pieces ++ good.found ∷ [];
+        received = subst (λ z. HasReceived z (fit.pieces ++ good.found ∷ []) r') (sym front ∙ ap (λ k. take k e.known) (sym p)) good.received;
+      }
+
+  pub word_is_heard : HearsWord (Tap c e, []) answer m'
+  word_is_heard = record {
+    got = got;
+    got_is = f.got_is;
+    found = good.found;
+    gives = subst (λ (y : ℕ × ℕ). GivesPiece y.0 (take y.1 e.known) got good.found) (λ i. (fit.senders_are i, fit.place i)) good.gives;
+    answer_is = good.answer_is;
+    now = word_now;
+  }
+
+-- the same of a seat
+module _ {E : Type 0} (m m' : Sat E) (words words' log : ℕ) (r r' : Receiving) (got : ℕ) (answer : RecvTurn) (h : IsEar m words log r) (f : FindsWord m got m') (same_words : words' ≡ words) (unread : r.place ≢ r.known) (senders : r'.frames.senders ≡ r.frames.senders)
+    (takes : (ws : List ℕ) (pieces : List (Option Piece)) → HasReceived ws pieces r → TakesWord ws pieces r got answer r') where
+  there : FindsWord (Tap h.core h.ear, []) got m'
+  there = subst (λ (y : Sat E). FindsWord y got m') h.me f
+
+  takes_it : TakesWord (take r.place h.ear.known) h.fit.pieces r got answer r'
+  takes_it = takes (take r.place h.ear.known) h.fit.pieces h.fit.received
+
+  pub word_ear : IsEar m' words' log r'
+  word_ear = record {
+    core = h.core;
+    ear = heard_word h.ear _ answer;
+    me = word_now h.core h.ear r r' got answer m' h.fit unread senders takes_it there;
+    log_is = h.log_is;
+    within = h.within;
+    room = h.room;
+    wide = same_words ∙ h.wide;
+    fit = word_fits h.core h.ear r r' got answer m' h.fit unread senders takes_it there;
+  }
+
+  pub word_known : known_in m'.0 ≡ known_in m.0
+  word_known = ap (λ (y : Sat E). known_in y.0) (word_now h.core h.ear r r' got answer m' h.fit unread senders takes_it there) ∙ ap (λ (y : Sat E). known_in y.0) (sym h.me)
+
+  pub word_heard : HearsWord m answer m'
+  word_heard = subst (λ (y : Sat E). HearsWord y answer m') (sym h.me) (word_is_heard h.core h.ear r r' got answer m' h.fit unread senders takes_it there)
+
+-- ---- a turn, once its reader has caught up
+pub caught_ear : {E : Type 0} (m : Sat E) (words log k : ℕ) (old new : Receiving) → IsEar m words log old → k ≡ length (known_in m.0) → (old.place ≡ old.known → new ≡ knows k old) → (old.place ≢ old.known → new ≡ old) → IsEar m words log new
+caught_ear {E} m words log k old new h known here there =
+    let k_is : k ≡ length h.ear.known = known ∙ ap (λ (y : Sat E). length (known_in y.0)) h.me in
+    record {
+      core = h.core;
+      ear = h.ear;
+      me = h.me;
+      log_is = h.log_is;
+      within = h.within;
+      room = h.room;
+      wide = h.wide;
+      fit = caught_up h.core.layout.senders h.ear old new h.fit (λ e. here e ∙ ap (λ n. knows n old) k_is) there;
+    }
+
+pub hears_length : {E : Type 0} (m m' : Sat E) (words log : ℕ) (r : Receiving) (answer : RecvTurn) → IsEar m words log r → r.ended ≡ false → r.place ≡ length (known_in m.0) → HearsLength m answer m' → Hears m answer m'
+hears_length {E} m m' words log r answer h going at heard =
+    let on : (ear_in m.0).ended ≡ false = ap (λ (y : Sat E). (ear_in y.0).ended) h.me ∙ sym h.fit.ended ∙ going in
+    let place : (ear_in m.0).place ≡ r.place = ap (λ (y : Sat E). (ear_in y.0).place) h.me ∙ sym h.fit.place in
+    record {
+      ended = λ e. absurd (let bad : true ≡ false = sym e ∙ on in cc);
+      at_length = λ goes here. heard;
+      at_word = λ goes l. absurd (omega arith);
+    }
+
+pub hears_word : {E : Type 0} (m m' : Sat E) (words log : ℕ) (r : Receiving) (answer : RecvTurn) → IsEar m words log r → r.ended ≡ false → r.place ≢ r.known → HearsWord m answer m' → Hears m answer m'
+hears_word {E} m m' words log r answer h going unread heard =
+    let on : (ear_in m.0).ended ≡ false = ap (λ (y : Sat E). (ear_in y.0).ended) h.me ∙ sym h.fit.ended ∙ going in
+    let place : (ear_in m.0).place ≡ r.place = ap (λ (y : Sat E). (ear_in y.0).place) h.me ∙ sym h.fit.place in
+    let size : length (known_in m.0) ≡ length h.ear.known = ap (λ (y : Sat E). length (known_in y.0)) h.me in
+    let a = h.fit.within in
+    let b = h.fit.below in
+    record {
+      ended = λ e. absurd (let bad : true ≡ false = sym e ∙ on in cc);
+      at_length = λ goes here. absurd (unread (omega arith));
+      at_word = λ goes l. heard;
+    }
+
+pub hears_end : {E : Type 0} (m : Sat E) (words log : ℕ) (r : Receiving) → IsEar m words log r → r.ended ≡ true → Hears m turn.End m
+hears_end {E} m words log r h over =
+    let off : (ear_in m.0).ended ≡ true = ap (λ (y : Sat E). (ear_in y.0).ended) h.me ∙ sym h.fit.ended ∙ over in
+    record {
+      ended = λ e. (refl, refl);
+      at_length = λ goes here. absurd (let bad : true ≡ false = sym off ∙ goes in cc);
+      at_word = λ goes l. absurd (let bad : true ≡ false = sym off ∙ goes in cc);
+    }
+
+-- a turn that takes no step is none, but after the end
+pub no_still_turn : {E : Type 0} (c : Core E) (e : Ear) (answer : RecvTurn) → e.ended ≡ false → e.place ≤ length e.known → Hears (Tap c e, []) answer (Tap c e, []) → ⊥
+no_still_turn {E} c e answer going within h = elim (cases_lt e.place (length e.known)) [
+  | inl l ↦ (let more : e.loads ≡ e.loads + 1 = ap (λ (y : Sat E). (ear_in y.0).loads) (h.at_word going l).now in omega arith)
+  | inr l ↦ (let more : e.loads ≡ e.loads + 1 = ap (λ (y : Sat E). (ear_in y.0).loads) (h.at_length going (omega arith)).now in omega arith)
+]

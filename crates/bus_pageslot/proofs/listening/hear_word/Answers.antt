@@ -1,0 +1,39 @@
+use Rattle.std.proofs.Common.{◌≡◌, ◌+◌, ◌<◌, length, arith, subst, sym, ◌∙◌, ap}
+use Rattle.atomic_table.specs.Seated.{TableId}
+use Rattle.atomic_table.specs.Table.{Allows}
+use Rattle.bus_tenure.specs.Elections.{election_with, layout_with}
+use Rattle.bus_pageslot.specs.Rule.{IsShown}
+use Rattle.bus_pageslot.specs.Listening.{FindsWord}
+use Rattle.bus_pageslot.proofs.Loads.{word_heard_allowed}
+use Rattle.bus_pageslot.proofs.ReaderLaws.{word_ear, word_known, word_heard}
+use Rattle.bus_pageslot.proofs.listening.hear_word.Goals as goal
+
+pub load-word-requires : goal.load-word-requires
+load-word-requires g c =
+    let key = c.args.top.now.key in
+    let X = election_with g.Q.Machine.kind_of g.Q.Machine.op g.Q.Machine.fed g.Q.Ratifier.protocol in
+    let x = layout_with g.Q.Ratifier.protocol key.senders key.rounds key.rows key.log_words in
+    let h = c.requires.ear in
+    let seat = c.args.seat.now in
+    let place : c.place.result ≡ h.ear.place = c.place.ensures.place ∙ h.fit.place in
+    let below : h.ear.place < length h.ear.known = (let a = h.fit.within in let b = h.fit.below in let p = h.fit.place in let n = c.requires.below in omega (arith, n)) in (
+      c.requires.table,
+      subst (λ (z : TableId). c.args.log + c.place.result < z.words) c.requires.table (let a = h.log_is in let d = h.within in let w = h.wide in omega arith),
+      subst (λ n. Allows (IsShown X x) c.args.top.now.table_id.slots seat.id seat.me n (λ n. n) (λ n. FindsWord seat.me n)) (λ i. sym h.log_is i + sym place i)
+          (word_heard_allowed X x c.args.top.now.table_id.slots seat.id seat.me h.core h.ear (ap (λ m. m.0) h.me) (sym h.fit.ended ∙ c.requires.going) below),
+    )
+
+pub returns-clause-ear : goal.returns-clause-ear
+returns-clause-ear g c =
+    let load = c.load-word in
+    word_ear c.args.seat.now.me load.new.seat.me c.args.seat.now.table_id.words load.new.seat.table_id.words c.args.log c.args.reader.now c.feed.new.self load.result c.feed.result c.requires.ear load.ensures.2 (ap (λ (z : TableId). z.words) load.ensures.0) c.requires.below c.feed.ensures.senders (c.feed.ensures.word c.requires.below)
+
+pub returns-clause-known : goal.returns-clause-known
+returns-clause-known g c =
+    let load = c.load-word in
+    word_known c.args.seat.now.me load.new.seat.me c.args.seat.now.table_id.words load.new.seat.table_id.words c.args.log c.args.reader.now c.feed.new.self load.result c.feed.result c.requires.ear load.ensures.2 (ap (λ (z : TableId). z.words) load.ensures.0) c.requires.below c.feed.ensures.senders (c.feed.ensures.word c.requires.below)
+
+pub returns-clause-hears : goal.returns-clause-hears
+returns-clause-hears g c =
+    let load = c.load-word in
+    word_heard c.args.seat.now.me load.new.seat.me c.args.seat.now.table_id.words load.new.seat.table_id.words c.args.log c.args.reader.now c.feed.new.self load.result c.feed.result c.requires.ear load.ensures.2 (ap (λ (z : TableId). z.words) load.ensures.0) c.requires.below c.feed.ensures.senders (c.feed.ensures.word c.requires.below)

@@ -1,0 +1,58 @@
+-- A receiver's turns: what one load makes of its seat, and what is answered.
+use Rattle.std.specs.Prelude.{◌≡◌, ℕ, ◌<◌, ◌≤◌, true, false, Option, Some, List, ◌++◌, length, take, slice_get, slice_index}
+use Rattle.bus_batch.specs.declared.messages.Piece.{Piece}
+use Rattle.bus_batch.specs.Frames.{Frame, AreFrames, GivesPiece, log_words, log_pieces}
+use Rattle.bus_deliverylog.specs.declared.receiving.RecvTurn.{RecvTurn}
+use Rattle.bus_deliverylog.specs.declared.receiving.RecvTurn.TheVariants as turn
+use Rattle.bus_deliverylog.specs.Receiving.{turn_of}
+use Rattle.bus_world.specs.Headline.{IsPrefix}
+use Rattle.bus_pageslot.specs.Ears.{heard_length, heard_word, length_turn}
+use Rattle.bus_pageslot.specs.Rule.{Sat, ear_in, known_in, with_ear, senders_in, capacity_in}
+
+-- ---- what the step tells
+-- of the length: what the receiver knows of the log grows, up to the length that was found
+pub record FindsLength {E : Type 0} (m : Sat E) (got : ℕ) (m' : Sat E) : Type 0 where
+  pub known : List ℕ
+  pub grows : IsPrefix (known_in m.0) known
+  pub length_is : length known ≡ got
+  pub within : length known ≤ capacity_in m.0
+  pub now : m' ≡ (with_ear m.0 (heard_length (ear_in m.0) known (length_turn (ear_in m.0).place got)), m.1)
+
+-- of the word at the receiver's place: it is the one that it knows there, and gives what it gives in some log that goes on so
+pub record FindsWord {E : Type 0} (m : Sat E) (got : ℕ) (m' : Sat E) : Type 0 where
+  pub got_is : got ≡ slice_index (known_in m.0) (ear_in m.0).place
+  pub found : Option Piece
+  pub frames : List Frame
+  pub rest : List ℕ
+  pub lawful : AreFrames (senders_in m.0) frames
+  pub words_are : log_words frames ≡ known_in m.0 ++ rest
+  pub at : slice_get (log_pieces frames) (ear_in m.0).place ≡ Some found
+  pub now : m' ≡ (with_ear m.0 (heard_word (ear_in m.0) found (turn_of found)), m.1)
+
+-- ---- what the turn tells
+-- One load of the length: the receiver knows the log up to it, and has this answer more, which is Empty exactly where the length is
+-- its place.
+pub record HearsLength {E : Type 0} (m : Sat E) (answer : RecvTurn) (m' : Sat E) : Type 0 where
+  pub got : ℕ
+  pub known : List ℕ
+  pub grows : IsPrefix (known_in m.0) known
+  pub length_is : length known ≡ got
+  pub within : length known ≤ capacity_in m.0
+  pub answer_is : answer ≡ length_turn (ear_in m.0).place got
+  pub now : m' ≡ (with_ear m.0 (heard_length (ear_in m.0) known answer), m.1)
+
+-- one load of the word at its place: it has this answer more, which is what the word gives after those that it has read
+pub record HearsWord {E : Type 0} (m : Sat E) (answer : RecvTurn) (m' : Sat E) : Type 0 where
+  pub got : ℕ
+  pub got_is : got ≡ slice_index (known_in m.0) (ear_in m.0).place
+  pub found : Option Piece
+  pub gives : GivesPiece (senders_in m.0) (take (ear_in m.0).place (known_in m.0)) got found
+  pub answer_is : answer ≡ turn_of found
+  pub now : m' ≡ (with_ear m.0 (heard_word (ear_in m.0) found answer), m.1)
+
+-- One turn of a receiver. After the end it answers so for good, and takes no step. Where it has read all that it knows it loads the
+-- length, and else the word at its place.
+pub record Hears {E : Type 0} (m : Sat E) (answer : RecvTurn) (m' : Sat E) : Type 0 where
+  pub ended : (ear_in m.0).ended ≡ true → (answer ≡ turn.End) × (m' ≡ m)
+  pub at_length : (ear_in m.0).ended ≡ false → (ear_in m.0).place ≡ length (known_in m.0) → HearsLength m answer m'
+  pub at_word : (ear_in m.0).ended ≡ false → (ear_in m.0).place < length (known_in m.0) → HearsWord m answer m'

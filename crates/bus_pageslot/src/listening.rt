@@ -1,0 +1,95 @@
+//! A receiver's turn: one load, and what its reader makes of it.
+
+ghost use Rattle.std.specs.Prelude.{◌≡◌, ◌≢◌, ℕ, ◌-◌, ◌≤◌, ◌^◌, length};
+ghost use Rattle.std.specs.Prelude.{false};
+ghost use Rattle.bus_pageslot.specs.Rule.{known_in};
+ghost use Rattle.bus_pageslot.specs.Seats.{IsEar, knows};
+ghost use Rattle.bus_pageslot.specs.Listening.{Hears, HearsLength, HearsWord};
+
+use crate::rule::{LoadsLengthInTurn, LoadsWordInTurn, Place, Top};
+use bus_adoptcommit::Ratifier;
+use bus_deliverylog::{Reader, RecvTurn};
+use bus_ownerbits::laws::election_is_lawful;
+
+/// A reader that has read all that it knows is told the length that its seat knows.
+fn catch_up(reader: &mut Reader, known: u64)
+    requires going { reader.old.ended ≡ false }
+    requires known { reader.old.known ≤ known }
+    requires words { reader.old.log_words ≡ 2 ^ 64 - 1 }
+    ensures at_length { reader.old.place ≡ reader.old.known
+        → reader.new ≡ knows known reader.old }
+    ensures at_word { reader.old.place ≢ reader.old.known → reader.new ≡ reader.old }
+{
+    if reader.place() == reader.known() {
+        let _ = reader.feed(known);
+    }
+}
+
+/// The length is loaded.
+fn hear_length<Q: Ratifier + Drop>(
+    top: &Top<Q>,
+    seat: &mut Place<Q>,
+    reader: &mut Reader,
+) -> RecvTurn
+    requires table { seat.old.table_id ≡ top.now.table_id }
+    requires ear { (log : ℕ) × IsEar seat.old.me seat.old.table_id.words log reader.old }
+    requires going { reader.old.ended ≡ false }
+    requires known { reader.old.known ≡ length (known_in seat.old.me.0) }
+    requires at { reader.old.place ≡ reader.old.known }
+    ensures table { seat.new.table_id ≡ seat.old.table_id }
+    ensures ear { (log : ℕ) → IsEar seat.old.me seat.old.table_id.words log reader.old
+        → IsEar seat.new.me seat.new.table_id.words log reader.new }
+    ensures known { reader.new.known ≡ length (known_in seat.new.me.0) }
+    ensures hears { HearsLength seat.old.me result seat.new.me }
+{
+    election_is_lawful::<Q>();
+    let length = top.load::<LoadsLengthInTurn<Q>>(seat, 0);
+    reader.feed(length)
+}
+
+/// The word at the reader's place is loaded.
+fn hear_word<Q: Ratifier + Drop>(
+    top: &Top<Q>,
+    seat: &mut Place<Q>,
+    log: u64,
+    reader: &mut Reader,
+) -> RecvTurn
+    requires table { seat.old.table_id ≡ top.now.table_id }
+    requires ear { IsEar seat.old.me seat.old.table_id.words log reader.old }
+    requires going { reader.old.ended ≡ false }
+    requires below { reader.old.place ≢ reader.old.known }
+    ensures table { seat.new.table_id ≡ seat.old.table_id }
+    ensures ear { IsEar seat.new.me seat.new.table_id.words log reader.new }
+    ensures known { known_in seat.new.me.0 ≡ known_in seat.old.me.0 }
+    ensures hears { HearsWord seat.old.me result seat.new.me }
+{
+    let word = top.load::<LoadsWordInTurn<Q>>(seat, (log + reader.place()) as usize);
+    reader.feed(word)
+}
+
+/// The turn of a receiver that has not ended. `log` is the place of the log's first word, and
+/// `known` is how many words of it the receiver knows.
+pub(crate) fn hear<Q: Ratifier + Drop>(
+    top: &Top<Q>,
+    seat: &mut Place<Q>,
+    log: u64,
+    known: &mut u64,
+    reader: &mut Reader,
+) -> RecvTurn
+    requires table { seat.old.table_id ≡ top.now.table_id }
+    requires ear { IsEar seat.old.me seat.old.table_id.words log reader.old }
+    requires going { reader.old.ended ≡ false }
+    requires known { known.old ≡ length (known_in seat.old.me.0) }
+    ensures table { seat.new.table_id ≡ seat.old.table_id }
+    ensures ear { IsEar seat.new.me seat.new.table_id.words log reader.new }
+    ensures known { known.new ≡ length (known_in seat.new.me.0) }
+    ensures hears { Hears seat.old.me result seat.new.me }
+{
+    catch_up(reader, *known);
+    if reader.place() == reader.known() {
+        let answer = hear_length(top, seat, reader);
+        *known = reader.known();
+        return answer;
+    }
+    hear_word(top, seat, log, reader)
+}
