@@ -126,7 +126,11 @@ fn end_bus<B: OfBus>(
 {
     let mut first = None;
     for ear in ears {
-        let Ear { receiver, heard, .. } = ear;
+        let Ear {
+            receiver,
+            heard,
+            ..
+        } = ear;
         if heards.push(heard).is_err() {
             return Err(RunFault::NoMemory);
         }

@@ -133,11 +133,7 @@ fn man<B: OfBus + Send + Sync, R: Threads + Wait + Sync, G: Gate + Sync>(
 }
 
 /// The first sender closes the bus. Says whether it is closed.
-fn close<B: OfBus, W: Wait>(
-    wait: &W,
-    the: &TheBus<B>,
-    desks: &mut [Desk<B>],
-) -> bool {
+fn close<B: OfBus, W: Wait>(wait: &W, the: &TheBus<B>, desks: &mut [Desk<B>]) -> bool {
     let Some(desk) = desks.first_mut() else {
         return false;
     };
