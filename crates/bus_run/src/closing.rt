@@ -6,7 +6,8 @@ ghost use Rattle.std.specs.List.{list_any};
 ghost use Rattle.bus_run.specs.Audit.{OfOrder, IsSpelled, IsFair, SendsEach, IsClosed};
 ghost use Rattle.bus_run.specs.Audit.{CarriesNumbers};
 ghost use Rattle.bus_run.specs.Told.{HasTold};
-ghost use Rattle.bus_receiver.specs.Listening.{bus_of, known_of};
+ghost use Rattle.bus_pageslot.specs.Rule.{known_in};
+ghost use Rattle.bus_receiver.specs.Listening.{bus_of};
 ghost use Rattle.bus_world.specs.Headline.{IsPrefix};
 ghost use Rattle.bus_run.specs.Stops.{is_gate, lowest, first_stop, fault_of, IsStop};
 ghost use Rattle.bus_deliverylog.specs.Orders.{of_sender};
@@ -164,8 +165,8 @@ fn tell<B: OfBus>(
 ) -> bool
     requires { bus_of receiver.old ≡ B.table }
     ensures table { bus_of receiver.new ≡ B.table }
-    ensures grows { IsPrefix (known_of receiver.old) (known_of receiver.new) }
-    ensures told { result ≡ true → HasTold number messages (known_of receiver.new) }
+    ensures grows { IsPrefix (known_in receiver.old.me.0) (known_in receiver.new.me.0) }
+    ensures told { result ≡ true → HasTold number messages (known_in receiver.new.me.0) }
 {
     let is_done = desk.number() == number && desk.has_put(messages);
     receiver.told(&mut desk.sender, &the.bus);

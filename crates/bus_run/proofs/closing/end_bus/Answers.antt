@@ -1,6 +1,6 @@
 use Rattle.std.proofs.Common.{◌≡◌, ◌<◌, inl, inr, sym, ◌∙◌, subst, arith}
 use Rattle.std.proofs.lemmas.Bool.{cases_lt}
-use Rattle.bus_receiver.specs.Listening.{known_of}
+use Rattle.bus_pageslot.specs.Rule.{known_in}
 use Rattle.bus_run.specs.Told.{HasTold}
 use Rattle.bus_run.proofs.ToldLemmas.{still_told}
 use Rattle.bus_run.proofs.closing.end_bus.Goals as goal
@@ -9,10 +9,10 @@ pub loop-place-preserved : goal.loop-place-preserved
 loop-place-preserved g c = (
   c.tell.ensures.table,
   λ s lt. elim (cases_lt s c.loop-place.place) [
-    | inl l ↦ still_told s c.args.messages (known_of c.loop-place.first) (known_of c.tell.new.receiver) (c.loop-place.invariant.1 s l) c.tell.ensures.grows
+    | inl l ↦ still_told s c.args.messages (known_in c.loop-place.first.me.0) (known_in c.tell.new.receiver.me.0) (c.loop-place.invariant.1 s l) c.tell.ensures.grows
     | inr ge ↦
         let at : s ≡ c.loop-place.place = omega arith in
-        subst (λ n. HasTold n c.args.messages (known_of c.tell.new.receiver)) (sym at) (c.tell.ensures.told c.if-not-tell.false)
+        subst (λ n. HasTold n c.args.messages (known_in c.tell.new.receiver.me.0)) (sym at) (c.tell.ensures.told c.if-not-tell.false)
   ],
 )
 
@@ -22,4 +22,4 @@ returns-in-Ok-clause-closed g c = λ order owners spells. sym (c.page.ensures.en
 pub returns-in-Ok-clause-told : goal.returns-in-Ok-clause-told
 returns-in-Ok-clause-told g c = λ s lt.
     let below : s < c.loop-place.place = omega arith in
-    still_told s c.args.messages (known_of c.loop-place.first) c.in-Ok.ended.log (c.loop-place.invariant.1 s below) c.in-Ok.ensures.ended.front
+    still_told s c.args.messages (known_in c.loop-place.first.me.0) c.in-Ok.ended.log (c.loop-place.invariant.1 s below) c.in-Ok.ensures.ended.front
