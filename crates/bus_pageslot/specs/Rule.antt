@@ -42,7 +42,7 @@ stored_in (Meeting c e d f) = 0
 stored_in (Telling c trail stored d e) = stored
 stored_in Spent = 0
 
--- a sender with another number
+-- the next sender, which has done nothing
 abbrev pub next_core : {E : Type 0} → Core E → Core E
 next_core c = new_core c.layout (c.me + 1)
 
@@ -75,7 +75,7 @@ tap_right (Meeting c e d f) = Spent
 tap_right (Telling c trail stored d e) = Spent
 tap_right Spent = Spent
 
--- what a receiver's seat knows, has read and was answered, and where its log is
+-- what a receiver's seat knows, has read and was answered
 abbrev pub ear_in : {E : Type 0} → View (Core E) → Ear
 ear_in (Maker c) = new_ear
 ear_in (Sender c trail stored) = new_ear

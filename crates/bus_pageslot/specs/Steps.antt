@@ -148,7 +148,7 @@ Told (Store at value) found got = Unit {0}
 Told (Add at value) found got = got ≡ found
 Told (Cas at expected value) found got = got ≡ found
 
--- the numbers of a sender's messages are those of items that fit a log, and of its batch
+-- the numbers of a sender's messages stay far below 2^64: each item has a word of the log, and a batch has few messages
 pub record IsCounted {E : Type 0} (c : Core E) : Type 0 where
   pub first : c.queue.first ≤ c.layout.capacity
   pub few : length c.queue.messages ≤ 16

@@ -1,4 +1,4 @@
-//! What holds of every bus without a lock, between any two steps.
+//! What holds of every bus, between any two steps.
 
 ghost use Rattle.std.specs.Prelude.{◌≡◌, ℕ, ◌≤◌, Option, [], false, length};
 ghost use Rattle.atomic_table.specs.Table.{State};
@@ -19,7 +19,7 @@ use bus_adoptcommit::Ratifier;
 use bus_ownerbits::laws::election_is_lawful;
 
 /// Whenever the rule of the table holds, which is between any two steps of any threads, the page
-/// of promises holds of what the seats show: of the deeds of all senders and of what receivers were
+/// of promises holds of what the seats show: of the deeds of senders and of what receivers were
 /// answered, however these are numbered, with the order and the owners that the words below the
 /// length spell. What a receiver knows is a beginning of these words.
 pub fn seats_keep_promises<Q: Ratifier>()
@@ -31,7 +31,7 @@ pub fn seats_keep_promises<Q: Ratifier>()
 }
 
 /// No turn of a receiver, but after the end, leaves its seat as it was: so none answers without a
-/// load.
+/// step on the table.
 pub fn no_turn_without_a_load<Q: Ratifier>()
     ensures { (c : Core (Elector Q)) (e : Ear) (answer : RecvTurn) → e.ended ≡ false
         → e.place ≤ length e.known → ¬ Hears (Tap c e, []) answer (Tap c e, []) }

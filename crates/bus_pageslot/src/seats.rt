@@ -119,8 +119,8 @@ impl<Q: Ratifier + Drop> Sender<Q> {
         self.core.turns_left()
     }
 
-    /// Appends a message of at most 56 bytes to its batch of at most 16, and gives its number: how
-    /// many it had put before. Takes no step. A fault changes nothing.
+    /// Appends a message of at most 56 bytes to its batch of at most 16, and gives its number,
+    /// which counts the messages of this sender from 0 on. Takes no step. A fault changes nothing.
     pub fn put(&mut self, bytes: &[u8]) -> Result<u64, PutFault>
         ensures number { IfOk result (λ number. number ≡ next_of self.old.core.queue) }
         ensures taken { OnOk result (self.new.core ≡ with_message self.old.core bytes.now) }

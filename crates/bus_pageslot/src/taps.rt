@@ -22,8 +22,8 @@ use std::marker::Model;
 /// A receiver of a bus: its seat, how much of the log it knows, and what it has read of that. One
 /// thread at a time has it, and no call of it waits or takes memory.
 ///
-/// Its seat shows what its turns have answered and how many loads it has taken; only a step on the
-/// table adds to either.
+/// Its seat shows what its turns have answered, and counts a load for each call that loads; only a
+/// step on the table adds to either.
 #[derive(Drop)]
 pub struct Tap<Q: Ratifier> {
     seat: Option<Place<Q>>,

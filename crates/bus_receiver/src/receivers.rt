@@ -102,7 +102,7 @@ impl<Q: Ratifier + Drop> Receiver<Q> {
         self.tap.told(sender, bus);
     }
 
-    /// Two receivers meet: the length is loaded once, both know the log up to it from then on, and
+    /// Two receivers meet: both know the log up to the length that is loaded from then on, and
     /// their places are compared.
     pub fn meet(&mut self, other: &mut Receiver<Q>, bus: &Bus<Q>) -> Ordering
         requires table { (bus_of self.old ≡ bus.now.table)
