@@ -185,12 +185,7 @@ impl<B: OfBus, W: Wait> SendAll<'_, B, W> {
 }
 
 /// Puts the messages from `first` up to `end`, of so many bytes each.
-fn put_all<B: OfBus>(
-    desk: &mut Desk<B>,
-    first: u64,
-    end: u64,
-    bytes: usize,
-) -> Result<(), Fault>
+fn put_all<B: OfBus>(desk: &mut Desk<B>, first: u64, end: u64, bytes: usize) -> Result<(), Fault>
     requires { bytes ≤ 56 }
 {
     for number in first..end {
