@@ -35,7 +35,9 @@ pub fn end_and_audit<B: OfBus>(
     shape: Shape,
     messages: u64,
 ) -> Result<Report, RunFault>
-    requires { shape.senders ≤ MOST_SENDERS }
+    requires senders { shape.senders ≤ MOST_SENDERS }
+    requires bus { the.bus.shape ≡ shape }
+    ensures of { IfOk result (λ report. report.ended.senders ≡ shape.senders) }
     ensures sent { IfOk result
         (λ report. OfOrder report.ended (SendsEach shape.senders messages)) }
     ensures carried { IfOk result
@@ -120,6 +122,7 @@ fn end_bus<B: OfBus>(
     heards: &mut Vec<Heard>,
     messages: u64,
 ) -> Result<Ended, RunFault>
+    ensures of { IfOk result (λ ended. ended.senders ≡ the.bus.shape.senders) }
     ensures closed { IfOk result (λ ended. OfOrder ended IsClosed) }
     ensures told { IfOk result (λ ended. (s : ℕ) → s < length desks.old
         → HasTold s messages ended.log) }

@@ -38,6 +38,7 @@ pub fn run<R: Threads + Wait + Sync, G: Gate + Sync>(
 ) -> Result<Report, RunFault>
     requires { messages ≤ 400 }
     ensures served { OnOk result (IsServed (shape_of_run senders receivers)) }
+    ensures of { IfOk result (λ report. report.ended.senders ≡ senders) }
     ensures sent { IfOk result (λ report. OfOrder report.ended (SendsEach senders messages)) }
     ensures carried { IfOk result (λ report. OfOrder report.ended (CarriesNumbers senders)) }
     ensures closed { IfOk result (λ report. OfOrder report.ended IsClosed) }
@@ -67,11 +68,12 @@ fn run_on<B: OfBus + Send + Sync, R: Threads + Wait + Sync, G: Gate + Sync>(
     load: Load,
     gate: &G,
 ) -> Result<Report, RunFault>
-    requires bus { made.0.table ≡ B.table }
+    requires bus { (made.0.table ≡ B.table) × (made.0.shape ≡ shape) }
     requires senders { All (λ sender. table_of sender ≡ B.table) made.1.items }
     requires put { All (λ sender. puts (deeds_of sender) ≡ []) made.1.items }
     requires taps { All (λ tap. tap.table_id ≡ B.table) made.2.items }
     requires served { IsServed shape }
+    ensures of { IfOk result (λ report. report.ended.senders ≡ shape.senders) }
     ensures sent { IfOk result
         (λ report. OfOrder report.ended (SendsEach shape.senders load.messages)) }
     ensures carried { IfOk result
