@@ -1,6 +1,7 @@
 //! What a bus leaves behind.
 
-ghost use Rattle.std.specs.Prelude.{◌≡◌, ℕ, ◌+◌, ◌<◌, ◌≤◌, List, [], Some, None};
+ghost use Rattle.std.specs.Prelude.{◌≡◌, ℕ, ◌+◌, ◌<◌, ◌≤◌, List, [], Some};
+ghost use Rattle.std.specs.Prelude.{None};
 ghost use Rattle.std.specs.Prelude.{codes, length, slice_index, IfOk, OnErr};
 ghost use Rattle.std.specs.Vec.{vec_len, vec_capacity};
 ghost use Rattle.std.specs.Slots.{slots_items, slots_len, IsFull};

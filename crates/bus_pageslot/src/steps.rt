@@ -8,7 +8,8 @@ ghost use Rattle.bus_tenure.specs.Core.{words_of};
 ghost use Rattle.bus_tenure.specs.Situations.{situation_of, op_at};
 ghost use Rattle.bus_tenure.specs.Elections.{election_of};
 ghost use Rattle.bus_tenure.specs.Seen.{AwaitsItsPage};
-ghost use Rattle.bus_pageslot.specs.Steps.{handed, laid_at, carried_of, out_with, stored_at, GoesOn};
+ghost use Rattle.bus_pageslot.specs.Steps.{handed, laid_at, carried_of, out_with, stored_at};
+ghost use Rattle.bus_pageslot.specs.Steps.{GoesOn};
 ghost use Rattle.bus_pageslot.specs.Steps.{Due, slot_in, emptied};
 ghost use Rattle.bus_pageslot.specs.Seats.{Shows, Took};
 

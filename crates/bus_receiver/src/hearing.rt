@@ -8,8 +8,8 @@ use bus_register::SenderNo;
 use bus_register::limits::MOST_SENDERS;
 use std::marker::Model;
 
-/// A listener: it counts the items of each sender, and refuses an answer that no receiver of a bus
-/// can have been given next.
+/// A listener: it counts the items of each sender, and refuses an item that is not the next of its
+/// sender or cannot be counted, and after the end all but the end.
 #[derive(Debug, Drop)]
 pub struct Heard {
     counts: [u64; MOST_SENDERS],

@@ -1,6 +1,7 @@
 //! What a listener counts: the function does nothing, and its contract is the law.
 
-ghost use Rattle.std.specs.Prelude.{◌≡◌, ℕ, ◌<◌, ◌==◌, List, length, slice_index, count_by};
+ghost use Rattle.std.specs.Prelude.{◌≡◌, ℕ, ◌<◌, ◌==◌, List, length, slice_index};
+ghost use Rattle.std.specs.Prelude.{count_by};
 ghost use Rattle.bus_deliverylog.specs.declared.receiving.RecvTurn.{RecvTurn};
 ghost use Rattle.bus_receiver.specs.Hearing.{nothing};
 ghost use Rattle.bus_receiver.specs.HearingRuns.{heard, items_taken};

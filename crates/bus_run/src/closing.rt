@@ -112,7 +112,7 @@ fn lowest_fault<B: OfBus>(desks: &[Desk<B>]) -> Option<SenderFault>
     None
 }
 
-/// Each sender tells the first receiver of the log, by whose pass the bus is ended, and sees that
+/// Each sender tells the first receiver of the log, by whose seat the bus is ended, and sees that
 /// it has put so many messages, and that its order has ended. What each receiver noted is put
 /// behind `heards`.
 fn end_bus<B: OfBus>(
