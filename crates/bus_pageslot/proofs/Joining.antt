@@ -24,10 +24,11 @@ use Rattle.bus_world.proofs.Serving.{Serves}
 use Rattle.bus_pageslot.specs.Ears.{Ear, learnt, HasHeard, Agree}
 use Rattle.bus_pageslot.specs.declared.rule.View.{View}
 use Rattle.bus_pageslot.specs.declared.rule.View.TheVariants.{Maker, Sender, Tap, Meeting, Telling, Spent}
-use Rattle.bus_pageslot.specs.Rule.{Sat, log_in_bus, IsSeated, KnowsLog, Knows, IsShown, joined, first_of, second_of, all_knowing, ear_in, with_ear, known_in, capacity_in, IsFirst, IsPair}
+use Rattle.bus_pageslot.specs.Rule.{Sat, Seats, log_in_bus, IsSeated, KnowsLog, Knows, IsShown, joined, first_of, second_of, all_knowing, ear_in, with_ear, known_in, capacity_in, IsFirst, IsPair}
 use Rattle.bus_pageslot.specs.Steps.{Accepts, Meets, Met, Learns, KnowsSent}
 use Rattle.bus_pageslot.specs.Seats.{Spot, spot_of, IsTap}
 use Rattle.bus_pageslot.proofs.Accepting.{stays}
+use Rattle.bus_pageslot.proofs.AllSeats.{still_seen, seen_longer}
 use Rattle.bus_pageslot.proofs.Hearing.{agree}
 use Rattle.bus_pageslot.proofs.ReaderLaws.{fits_learnt}
 use Rattle.bus_pageslot.proofs.Loads.{reloaded, whole, size, fits}
@@ -35,8 +36,9 @@ use Rattle.bus_pageslot.proofs.Reaching.{kept, log_is, accepts}
 
 module _ {E : Type 0} (X : Election E) (x : Layout) where
   -- one view replaced
-  abbrev reviewed : (s : State (Option Page) (View (Core E))) (r : IsShown X x s) (id : ℕ) (w : View (Core E)) → Knows x r.bus r.trails r.seat id w → IsShown X x record { words = s.words; homes = s.homes; views = set s.views id w }
-  reviewed s r id w fits = record {
+  abbrev reviewed : (s : State (Option Page) (View (Core E))) (r : IsShown X x s) (id : ℕ) (v w : View (Core E)) → get_elem? s.views id ≡ some v → ((p : ℕ) → Seats p v → Seats p w) → Knows x r.bus r.trails r.seat id w
+      → IsShown X x record { words = s.words; homes = s.homes; views = set s.views id w }
+  reviewed s r id v w at still fits = record {
     served = r.served;
     bus = r.bus;
     trails = r.trails;
@@ -49,6 +51,7 @@ module _ {E : Type 0} (X : Election E) (x : Layout) where
         (λ (u : (j ≡ id) × (w ≡ v)). subst (λ (y : ℕ × View (Core E)). Knows x r.bus r.trails r.seat y.0 y.1) (λ i. (sym u.0 i, u.1 i)) fits)
         (λ (u : (j ≢ id) × (get_elem? s.views j ≡ some v)). r.views j v u.1)
         (at_set s.views id j w v e);
+    all = λ p below. still_seen s.views id v w at p (still p) (r.all p below);
   }
 
   -- a receiver's seat goes into another
@@ -58,21 +61,21 @@ module _ {E : Type 0} (X : Election E) (x : Layout) where
       let w : View (Core E) = Telling c t stored d l in
       let h = r.views id (Sender c t stored) at in
       let k = r.views other (Tap d l) (sym (set_else s.views id other w apart) ∙ there) in
-      reviewed (record { words = s.words; homes = s.homes; views = set s.views id w }) (reviewed s r id w (h, k)) other Spent tt
-  joins_allowed (Tap c k) is d l id other = λ s r at apart there.
-      let w : View (Core E) = Meeting c k d l in
-      let h = r.views id (Tap c k) at in
+      reviewed (record { words = s.words; homes = s.homes; views = set s.views id w }) (reviewed s r id (Sender c t stored) w at (λ p is. is) (h, k)) other (Tap d l) Spent there (λ p is. is) tt
+  joins_allowed (Tap c e) is d l id other = λ s r at apart there.
+      let w : View (Core E) = Meeting c e d l in
+      let h = r.views id (Tap c e) at in
       let k = r.views other (Tap d l) (sym (set_else s.views id other w apart) ∙ there) in
-      reviewed (record { words = s.words; homes = s.homes; views = set s.views id w }) (reviewed s r id w (h, k)) other Spent tt
+      reviewed (record { words = s.words; homes = s.homes; views = set s.views id w }) (reviewed s r id (Tap c e) w at (λ p is. is) (h, k)) other (Tap d l) Spent there (λ p is. is) tt
   joins_allowed (Meeting c k e m) is d l id other = absurd is
   joins_allowed (Telling c t stored e m) is d l id other = absurd is
   joins_allowed Spent is d l id other = absurd is
 
   -- one view replaced, and a receiver's added
-  parted : (s : State (Option Page) (View (Core E))) (r : IsShown X x s) (id : ℕ) (w : View (Core E)) → Knows x r.bus r.trails r.seat id w → (d : Core E) (l : Ear) → KnowsLog x r.bus d l
+  parted : (s : State (Option Page) (View (Core E))) (r : IsShown X x s) (id : ℕ) (v w : View (Core E)) → get_elem? s.views id ≡ some v → ((p : ℕ) → Seats p v → Seats p w) → Knows x r.bus r.trails r.seat id w → (d : Core E) (l : Ear) → KnowsLog x r.bus d l
       → IsShown X x record { words = s.words; homes = s.homes; views = set s.views id w ++ Tap d l ∷ [] }
-  parted s r id w fits d l log =
-      let one = reviewed s r id w fits in
+  parted s r id v w at still fits d l log =
+      let one = reviewed s r id v w at still fits in
       record {
         served = r.served;
         bus = r.bus;
@@ -86,6 +89,7 @@ module _ {E : Type 0} (X : Election E) (x : Layout) where
             (λ (u : get_elem? (set s.views id w) j ≡ some v). one.views j v u)
             (λ (u : Tap d l ≡ v). subst (Knows x r.bus r.trails r.seat j) u log)
             (at_snoc (set s.views id w) (Tap d l) v j e);
+        all = λ p below. seen_longer (set s.views id w) (Tap d l) p (one.all p below);
       }
 
   -- joined seats are cut apart
@@ -93,8 +97,8 @@ module _ {E : Type 0} (X : Election E) (x : Layout) where
   parts_allowed (Maker c) is id = absurd is
   parts_allowed (Sender c t stored) is id = absurd is
   parts_allowed (Tap c k) is id = absurd is
-  parts_allowed (Meeting c k d l) is id = λ s r at. let h = r.views id (Meeting c k d l) at in parted s r id (Tap c k) h.0 d l h.1
-  parts_allowed (Telling c t stored d l) is id = λ s r at. let h = r.views id (Telling c t stored d l) at in parted s r id (Sender c t stored) h.0 d l h.1
+  parts_allowed (Meeting c k d l) is id = λ s r at. let h = r.views id (Meeting c k d l) at in parted s r id (Meeting c k d l) (Tap c k) at (λ p is. is) h.0 d l h.1
+  parts_allowed (Telling c t stored d l) is id = λ s r at. let h = r.views id (Telling c t stored d l) at in parted s r id (Telling c t stored d l) (Sender c t stored) at (λ p is. is) h.0 d l h.1
   parts_allowed Spent is id = absurd is
 
   pub pairs : (v : View (Core E)) → IsFirst v → (d : Core E) (l : Ear) → IsPair (joined v (Tap d l))
@@ -157,7 +161,7 @@ module _ {E : Type 0} (X : Election E) (P : Protocol E (Unit {0}) ℕ) (x : Layo
         Meeting c (learnt k all) d (learnt l all),
         keeps,
         tt,
-        reloaded X x s r 0 id (Meeting c (learnt k all) d (learnt l all)) (whole x r.bus c k h.0, whole x r.bus d l h.1),
+        reloaded X x s r 0 id (Meeting c k d l) (Meeting c (learnt k all) d (learnt l all)) at (λ p is. is) (whole x r.bus c k h.0, whole x r.bus d l h.1),
         record { known = all; now = refl; length_is = size X x s r; grows = (h.0.front, h.1.front, fits X P x y s r c h.0.layout, fits X P x y s r d h.1.layout, both_agree x r.bus c d k l h.0 h.1) },
       )
   meets_allowed (Telling c t stored d l) carried is slots id = λ s r count at range.
@@ -166,7 +170,7 @@ module _ {E : Type 0} (X : Election E) (P : Protocol E (Unit {0}) ℕ) (x : Layo
         Telling c t stored d (learnt l all),
         keeps,
         tt,
-        reloaded X x s r 0 id (Telling c t stored d (learnt l all)) (h.0, whole x r.bus d l h.1),
+        reloaded X x s r 0 id (Telling c t stored d l) (Telling c t stored d (learnt l all)) at (λ p is. is) (h.0, whole x r.bus d l h.1),
         record { known = all; now = refl; length_is = size X x s r; grows = (h.1.front, fits X P x y s r d h.1.layout, knows_sent s r id c t stored h.0) },
       )
   meets_allowed Spent carried is slots id = absurd is

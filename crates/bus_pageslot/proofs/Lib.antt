@@ -1,4 +1,5 @@
 pub mod Taking
+pub mod AllSeats
 pub mod Sending
 pub mod Accepting
 pub mod Situations
@@ -13,4 +14,5 @@ pub mod Loads
 pub mod ReaderLaws
 pub mod Joining
 pub mod Promising
+pub mod OnePage
 pub mod Endings

@@ -22,9 +22,10 @@ use Rattle.bus_world.proofs.ReceivingLaws.{length-log_pieces}
 use Rattle.bus_pageslot.specs.Ears.{Ear, loaded, learnt, heard_length, heard_word, length_turn, HasHeard}
 use Rattle.bus_pageslot.specs.declared.rule.View.{View}
 use Rattle.bus_pageslot.specs.declared.rule.View.TheVariants.{Tap}
-use Rattle.bus_pageslot.specs.Rule.{Sat, KnowsLog, Knows, IsShown, ear_in, known_in, with_ear, senders_in, log_in, log_in_bus, capacity_in}
+use Rattle.bus_pageslot.specs.Rule.{Sat, Seats, KnowsLog, Knows, IsShown, ear_in, known_in, with_ear, senders_in, log_in, log_in_bus, capacity_in}
 use Rattle.bus_pageslot.specs.Steps.{Learns, Reads}
 use Rattle.bus_pageslot.specs.Listening.{FindsLength, FindsWord}
+use Rattle.bus_pageslot.proofs.AllSeats.{still_seen}
 use Rattle.bus_pageslot.proofs.Hearing.{heard_loaded, heard_learnt, heard_quiet, heard_good}
 use Rattle.bus_pageslot.proofs.Reaching.{kept}
 
@@ -41,8 +42,9 @@ index-read words at (suc k) i l = elim (cases_lt i k) [
   last xs w = grind (arith, common_steps)
 
 -- one view replaced, after a load
-pub reloaded : {E : Type 0} (X : Election E) (x : Layout) (s : State (Option Page) (View (Core E))) (r : IsShown X x s) (i id : ℕ) (w : View (Core E)) → Knows x r.bus r.trails r.seat id w → IsShown X x record { words = slice_set s.words i (slice_index s.words i); homes = s.homes; views = set s.views id w }
-reloaded {E} X x s r i id w fits = record {
+pub reloaded : {E : Type 0} (X : Election E) (x : Layout) (s : State (Option Page) (View (Core E))) (r : IsShown X x s) (i id : ℕ) (v w : View (Core E)) → get_elem? s.views id ≡ some v → ((p : ℕ) → Seats p v → Seats p w) → Knows x r.bus r.trails r.seat id w
+    → IsShown X x record { words = slice_set s.words i (slice_index s.words i); homes = s.homes; views = set s.views id w }
+reloaded {E} X x s r i id v w at still fits = record {
   served = r.served;
   bus = r.bus;
   trails = r.trails;
@@ -55,6 +57,7 @@ reloaded {E} X x s r i id w fits = record {
       (λ (u : (j ≡ id) × (w ≡ v)). subst (λ (y : ℕ × View (Core E)). Knows x r.bus r.trails r.seat y.0 y.1) (λ i. (sym u.0 i, u.1 i)) fits)
       (λ (u : (j ≢ id) × (get_elem? s.views j ≡ some v)). r.views j v u.1)
       (at_set s.views id j w v e);
+  all = λ p below. still_seen s.views id v w at p (still p) (r.all p below);
 }
 
 -- a receiver that knows the whole log, and has read what it had read
@@ -88,12 +91,13 @@ module _ {E : Type 0} (X : Election E) (P : Protocol E (Unit {0}) ℕ) (x : Layo
 
   pub length_allowed : (slots id : ℕ) (m : Sat E) (c : Core E) (e : Ear) → m.0 ≡ Tap c e → Allows (IsShown X x) slots id m 0 (λ n. n) (λ n. Learns m n)
   length_allowed slots id m c e is s r count at range =
-      let h : KnowsLog x r.bus c e = r.views id (Tap c e) (at ∙ ap (λ (v : View (Core E)). some v) is) in
+      let here : get_elem? s.views id ≡ some (Tap c e) = at ∙ ap (λ (v : View (Core E)). some v) is in
+      let h : KnowsLog x r.bus c e = r.views id (Tap c e) here in
       let all : List ℕ = log_in_bus x r.bus in (
         Tap c (learnt e all),
         keeps,
         tt,
-        reloaded X x s r 0 id (Tap c (learnt e all)) (whole x r.bus c e h),
+        reloaded X x s r 0 id (Tap c e) (Tap c (learnt e all)) here (λ p is. is) (whole x r.bus c e h),
         record {
           known = all;
           now = λ i. (with_ear (sym is i) (learnt (ear_in (sym is i)) all), m.1);
@@ -106,14 +110,15 @@ module _ {E : Type 0} (X : Election E) (P : Protocol E (Unit {0}) ℕ) (x : Layo
   -- by a turn
   pub length_heard_allowed : (slots id : ℕ) (m : Sat E) (c : Core E) (e : Ear) → m.0 ≡ Tap c e → e.ended ≡ false → Allows (IsShown X x) slots id m 0 (λ n. n) (λ n. FindsLength m n)
   length_heard_allowed slots id m c e is going s r count at range =
-      let h : KnowsLog x r.bus c e = r.views id (Tap c e) (at ∙ ap (λ (v : View (Core E)). some v) is) in
+      let here : get_elem? s.views id ≡ some (Tap c e) = at ∙ ap (λ (v : View (Core E)). some v) is in
+      let h : KnowsLog x r.bus c e = r.views id (Tap c e) here in
       let all : List ℕ = log_in_bus x r.bus in
       let got : ℕ = slice_index s.words 0 in
       let e' : Ear = heard_length e all (length_turn e.place got) in (
         Tap c e',
         keeps,
         tt,
-        reloaded X x s r 0 id (Tap c e') (knows_all x r.bus c e e' h refl refl (heard_quiet h.frames e h.heard all got going)),
+        reloaded X x s r 0 id (Tap c e) (Tap c e') here (λ p is. is) (knows_all x r.bus c e e' h refl refl (heard_quiet h.frames e h.heard all got going)),
         record {
           known = all;
           now = λ i. (with_ear (sym is i) (heard_length (ear_in (sym is i)) all (length_turn (ear_in (sym is i)).place got)), m.1);
@@ -136,12 +141,13 @@ known_word {E} X x s r c e h place below =
 pub word_allowed : {E : Type 0} (X : Election E) (x : Layout) (slots id : ℕ) (m : Sat E) (c : Core E) (e : Ear) (place : ℕ) → m.0 ≡ Tap c e → place < length e.known
     → Allows (IsShown X x) slots id m (log_at c.layout + place) (λ n. n) (λ n. Reads m (log_at c.layout + place) n)
 word_allowed {E} X x slots id m c e place is below s r count at range =
-    let h : KnowsLog x r.bus c e = r.views id (Tap c e) (at ∙ ap (λ (v : View (Core E)). some v) is) in
+    let at_view : get_elem? s.views id ≡ some (Tap c e) = at ∙ ap (λ (v : View (Core E)). some v) is in
+    let h : KnowsLog x r.bus c e = r.views id (Tap c e) at_view in
     let here : log_at c.layout + place - log_at c.layout ≡ place = omega arith in (
       Tap c (loaded e),
       keeps,
       tt,
-      reloaded X x s r (log_at c.layout + place) id (Tap c (loaded e)) (record { layout = h.layout; front = h.front; below = h.below; frames = h.frames; lawful = h.lawful; words_are = h.words_are; heard = heard_loaded h.frames e h.heard }),
+      reloaded X x s r (log_at c.layout + place) id (Tap c e) (Tap c (loaded e)) at_view (λ p is. is) (record { layout = h.layout; front = h.front; below = h.below; frames = h.frames; lawful = h.lawful; words_are = h.words_are; heard = heard_loaded h.frames e h.heard }),
       record {
         now = λ i. (with_ear (sym is i) (loaded (ear_in (sym is i))), m.1);
         got_is = known_word X x s r c e h place below ∙ ap (slice_index e.known) (sym here) ∙ ap (λ (v : View (Core E)). slice_index (known_in v) (log_at c.layout + place - log_in v)) (sym is);
@@ -152,7 +158,8 @@ word_allowed {E} X x slots id m c e place is below s r count at range =
 pub word_heard_allowed : {E : Type 0} (X : Election E) (x : Layout) (slots id : ℕ) (m : Sat E) (c : Core E) (e : Ear) → m.0 ≡ Tap c e → e.ended ≡ false → e.place < length e.known
     → Allows (IsShown X x) slots id m (log_at c.layout + e.place) (λ n. n) (λ n. FindsWord m n)
 word_heard_allowed {E} X x slots id m c e is going below s r count at range =
-    let h : KnowsLog x r.bus c e = r.views id (Tap c e) (at ∙ ap (λ (v : View (Core E)). some v) is) in
+    let here : get_elem? s.views id ≡ some (Tap c e) = at ∙ ap (λ (v : View (Core E)). some v) is in
+    let h : KnowsLog x r.bus c e = r.views id (Tap c e) here in
     let more = ap length h.front.together in let parts = length-append e.known h.front.rest in let words = ap length h.words_are in let pieces = length-log_pieces h.frames in
     let there : e.place < length (log_pieces h.frames) = omega arith in
     elim (some_or_none (slice_get (log_pieces h.frames) e.place)) [
@@ -162,7 +169,7 @@ word_heard_allowed {E} X x slots id m c e is going below s r count at range =
             Tap c e',
             keeps,
             tt,
-            reloaded X x s r (log_at c.layout + e.place) id (Tap c e')
+            reloaded X x s r (log_at c.layout + e.place) id (Tap c e) (Tap c e') here (λ p is. is)
                 (record { layout = h.layout; front = h.front; below = (omega arith); frames = h.frames; lawful = h.lawful; words_are = h.words_are; heard = heard_good h.frames e h.heard found.0 going found.1 }),
             record {
               got_is = known_word X x s r c e h e.place below ∙ ap (λ (v : View (Core E)). slice_index (known_in v) (ear_in v).place) (sym is);

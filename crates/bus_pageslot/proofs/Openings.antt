@@ -2,14 +2,14 @@
 use Rattle.std.proofs.Common.{◌≡◌, ◌≢◌, ℕ, zero, suc, ◌+◌, ◌<◌, ◌^◌, eqb, cond, Bool, eq-eqb, ne_eqb, length-set, Option, Some, None, List, [], ◌∷◌, ◌++◌, length, set, slice_get, replicate, arith, refl, sym, ◌∙◌, ap, subst, ⊎_elim, inl, inr, ◌⊎◌}
 use mathlib.Core.Option.{some, some-injective, some-ne-none}
 use lib.ListN.{get_elem?}
-use Rattle.std.proofs.lemmas.Bool.{cases_lt}
+use Rattle.std.proofs.lemmas.Bool.{cases_eq, cases_lt}
 use Rattle.std.proofs.lemmas.List.{length-append}
 use Rattle.std.proofs.lemmas.Option.{same_Some, slice_get_within}
 use Rattle.std.specs.Prelude.{All}
 use Rattle.std.proofs.lemmas.List.Elements.{All-nil, All-cons}
 use Rattle.atomic_table.specs.declared.shared.Seat.{Seat}
 use Rattle.atomic_table.specs.Table.{Splits, opening}
-use Rattle.atomic_table.proofs.Lists.{at_set}
+use Rattle.atomic_table.proofs.Lists.{at_set, at_last}
 use Rattle.bus_register.specs.Proved.TableLaws.{some_or_none, here_not, push_here, push_beside}
 use Rattle.bus_register.specs.Protocol.{Protocol}
 use Rattle.bus_batch.specs.Frames.{Frame, AreFrames, log_words}
@@ -30,6 +30,7 @@ use Rattle.bus_pageslot.specs.Steps.{carried_of, IsCounted}
 use Rattle.bus_pageslot.specs.Steps.Accepts.{Nothing}
 use Rattle.bus_pageslot.specs.Seats.{Seated, Spot, Shows, table_of}
 use Rattle.bus_pageslot.specs.Buses.{IsNewSeat, AreNewSeats, IsNewTap, AreNewTaps}
+use Rattle.bus_pageslot.proofs.AllSeats.{still_seen, seen_longer}
 use Rattle.bus_pageslot.proofs.Hearing.{heard_new}
 use Rattle.bus_pageslot.proofs.Reaching.{kept, log_is}
 use Rattle.atomic_table.specs.Seated.{TableId}
@@ -103,6 +104,7 @@ module _ {E : Type 0} (X : Election E) (x : Layout) where
     slot = refl;
     seat = λ p. 0;
     views = only ws;
+    all = λ p below. (0, first, refl, omega arith);
   }
 
   module _ (b : Bus E) (T : Trails) (seat : ℕ → ℕ) (k id count : ℕ) (mine : seat k ≡ id) (j : ℕ) (other : j ≢ id) where
@@ -137,6 +139,10 @@ module _ {E : Type 0} (X : Election E) (x : Layout) where
         words = r.words;
         slot = r.slot;
         seat = seat;
+        all = λ p in_range. elim (cases_eq p c.me) [
+          | inl e ↦ (count, right, at_last (set s.views id left) right count (length-set s.views id left), sym e)
+          | inr n ↦ seen_longer (set s.views id left) right p (still_seen s.views id (Maker c) left at p (λ is. omega arith) (r.all p in_range))
+        ];
         views = λ j v e. elim (at_end (set s.views id left) right v j e) [
           | inl u ↦ ⊎_elim
               (λ (y : (j ≡ id) × (left ≡ v)). subst (λ (z : ℕ × View (Core E)). Knows x r.bus r.trails seat z.0 z.1) (λ i. (sym y.0 i, y.1 i))
@@ -159,6 +165,7 @@ module _ {E : Type 0} (X : Election E) (x : Layout) where
     words = r.words;
     slot = r.slot;
     seat = r.seat;
+    all = λ p below. seen_longer (set s.views id (Maker c)) (Tap c new_ear) p (still_seen s.views id (Maker c) (Maker c) at p (λ is. is) (r.all p below));
     views = λ j v e. elim (at_end (set s.views id (Maker c)) (Tap c new_ear) v j e) [
       | inl u ↦ ⊎_elim
           (λ (y : (j ≡ id) × (Maker c ≡ v)). subst (λ (z : ℕ × View (Core E)). Knows x r.bus r.trails r.seat z.0 z.1) (λ i. (sym y.0 i, y.1 i)) (r.views id (Maker c) at))

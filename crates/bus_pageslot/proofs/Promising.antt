@@ -1,7 +1,8 @@
 -- The page of promises holds of what the seats show, since events lead to the bus that the table is.
-use Rattle.std.proofs.Common.{◌≡◌, ℕ, false, true, Option, Some, None, List, [], map, refl, sym, ap, subst, ⊎_elim}
+use Rattle.std.proofs.Common.{◌≡◌, ℕ, ◌<◌, ◌≤◌, false, true, Option, Some, None, List, [], map, inl, inr, refl, sym, ◌∙◌, ap, subst, ⊎_elim}
 use mathlib.Core.Option.{some}
 use lib.ListN.{get_elem?}
+use Rattle.std.proofs.lemmas.Bool.{cases_lt}
 use Rattle.atomic_table.specs.Table.{State}
 use Rattle.bus_register.specs.Protocol.{Protocol}
 use Rattle.bus_register.specs.declared.registers.SenderNo.{SenderNo}
@@ -20,17 +21,30 @@ use Rattle.bus_world.proofs.Serving.{Serves}
 use Rattle.bus_pageslot.specs.Ears.{Ear, IsSilent}
 use Rattle.bus_pageslot.specs.declared.rule.View.{View}
 use Rattle.bus_pageslot.specs.declared.rule.View.TheVariants.{Maker, Sender, Tap, Meeting, Telling, Spent}
-use Rattle.bus_pageslot.specs.Rule.{log_in_bus, KnowsLog, Knows, IsShown}
-use Rattle.bus_pageslot.specs.Promised.{log_below, Fits, ShowsTrail, IsShownTrail, IsPromised}
+use Rattle.bus_pageslot.specs.Rule.{log_in_bus, KnowsLog, Knows, Seats, IsShown}
+use Rattle.bus_pageslot.specs.Promised.{log_below, Fits, ShowsDeeds, ShowsTrail, IsShownTrail, IsPromised}
 use Rattle.bus_pageslot.proofs.Hearing.{begins_order, begins_owners}
+use Rattle.bus_pageslot.proofs.Reaching.{nobody_did}
 
-view_fits : {E : Type 0} (x : Layout) (b : Bus E) (T : Trails) (seat : ℕ → ℕ) (j : ℕ) (v : View (Core E)) → Knows x b T seat j v → Fits T.deeds (log_in_bus x b) v
-view_fits x b T seat j (Maker c) h = tt
-view_fits x b T seat j (Sender c t stored) h = h.deeds
-view_fits x b T seat j (Tap c e) h = h.front
-view_fits x b T seat j (Meeting c e d f) h = (h.0.front, h.1.front)
-view_fits x b T seat j (Telling c t stored d e) h = (h.0.deeds, h.1.front)
-view_fits x b T seat j Spent h = tt
+-- ---- deeds
+module _ {E : Type 0} (x : Layout) (b : Bus E) (T : Trails) (seat : ℕ → ℕ) (j : ℕ) where
+  view_fits : ((p : ℕ) → x.senders ≤ p → T.deeds p ≡ []) → (v : View (Core E)) → Knows x b T seat j v → Fits T.deeds (log_in_bus x b) v
+  view_fits nobody (Maker c) h = λ p past. elim (cases_lt p x.senders) [ inl below ↦ (h.1 p past below).deeds | inr none ↦ nobody p none ]
+  view_fits nobody (Sender c t stored) h = h.deeds
+  view_fits nobody (Tap c e) h = h.front
+  view_fits nobody (Meeting c e d f) h = (h.0.front, h.1.front)
+  view_fits nobody (Telling c t stored d e) h = (h.0.deeds, h.1.front)
+  view_fits nobody Spent h = tt
+
+  view_shows : (v : View (Core E)) → Knows x b T seat j v → (p : ℕ) → p < x.senders → Seats p v → ShowsDeeds p (T.deeds p) v
+  view_shows (Maker c) h p below is = (is, (h.1 p is below).deeds)
+  view_shows (Sender c t stored) h p below is = (is, ap T.deeds (sym is) ∙ h.deeds)
+  view_shows (Tap c e) h p below is = is
+  view_shows (Meeting c e d f) h p below is = is
+  view_shows (Telling c t stored d e) h p below is = (is, ap T.deeds (sym is) ∙ h.0.deeds)
+  view_shows Spent h p below is = is
+
+-- ---- answers
 
 -- a trail that the page has room for
 record IsGood (order : Order) (owners : List (ℕ × SenderNo)) (trail : List RecvTurn) : Type 0 where
@@ -77,8 +91,11 @@ seats_promised {E} X P x y s r =
     (λ (z : (j : ℕ) × (v : View (Core E)) × (get_elem? s.views j ≡ some v) × ShowsTrail trail v). view_good x r.bus p.order p.owners p.by.spelled r.trails r.seat z.0 z.1 (r.views z.0 z.1 z.2) trail z.3)
     is in
     let q = p.by.promises in
+    let nobody = nobody_did X P x y r.served r.bus r.trails r.reached in
     record {
       deeds = r.trails.deeds;
+      shown = λ p below. let h = r.all p below in (h.0, h.1, h.2, view_shows x r.bus r.trails r.seat h.0 h.1 (r.views h.0 h.1 h.2) p below h.3);
+      nobody = nobody;
       order = p.order;
       owners = p.owners;
       spelled = subst (λ l. Spells x.senders l p.order p.owners) same p.by.spelled;
@@ -97,5 +114,5 @@ seats_promised {E} X P x y s r =
         closed = q.closed;
         framed = q.framed;
       };
-      views = λ j v e. subst (λ l. Fits r.trails.deeds l v) same (view_fits x r.bus r.trails r.seat j v (r.views j v e));
+      views = λ j v e. subst (λ l. Fits r.trails.deeds l v) same (view_fits x r.bus r.trails r.seat j nobody v (r.views j v e));
     }

@@ -1,6 +1,6 @@
 -- What a sender accepts, and the step that it then takes, are events of a bus.
-use Rattle.std.proofs.Common.{◌≡◌, ℕ, ◌+◌, ◌*◌, is_some, Option, Some, None, inl, inr, List, [], ◌∷◌, ◌++◌, length, slice_get, slice_index, slice_set, refl, sym, ◌∙◌, ap, subst, append_assoc}
-use Rattle.std.proofs.lemmas.Bool.{true≢false}
+use Rattle.std.proofs.Common.{◌≡◌, ℕ, ◌+◌, ◌*◌, ◌≤◌, cond, ne_eqb, arith, is_some, Option, Some, None, inl, inr, List, [], ◌∷◌, ◌++◌, length, slice_get, slice_index, slice_set, refl, sym, ◌∙◌, ap, subst, append_assoc}
+use Rattle.std.proofs.lemmas.Bool.{true≢false, cases_eq}
 use Rattle.std.proofs.lemmas.List.{append-nil, set-set}
 use Rattle.std.proofs.lemmas.Option.{same_Some, slice_get_within}
 use Rattle.std.proofs.lemmas.Grind.{flat_map-append}
@@ -20,10 +20,10 @@ use Rattle.bus_world.specs.Bus.{IsLayout, least_of, standing_of, stands_at}
 use Rattle.bus_world.specs.Headline.{Deed, HasPut, HasClosed, IsPrefix}
 use Rattle.bus_world.specs.Playing.{Answers, PutGives, CloseGives, TurnAnswers}
 use Rattle.bus_world.specs.Tenures.Standing.{Runs}
-use Rattle.bus_world.specs.Trails.{Trails, Reached, trails_grown, turning_deeds}
-use Rattle.bus_world.specs.Trails.Reached.{Then}
+use Rattle.bus_world.specs.Trails.{Trails, Reached, trails_grown, put_deeds, close_deeds, turning_deeds, deeds_of}
+use Rattle.bus_world.specs.Trails.Reached.{New, Then}
 use Rattle.bus_world.specs.Turning.{number_found, words_after, home_after, core_after, side_after}
-use Rattle.bus_world.specs.World.{Bus, Event, Put, Close, Turn, Happens, IsEvent, SenderDoes, with_sender, put_in, close_in, LawfulBus}
+use Rattle.bus_world.specs.World.{Bus, Event, Put, Close, Turn, Recv, Happens, IsEvent, SenderDoes, with_sender, put_in, close_in, LawfulBus}
 use Rattle.bus_world.specs.declared.events.Answer.{Answer}
 use Rattle.bus_world.specs.declared.events.Answer.TheVariants as answer
 use Rattle.bus_world.proofs.LogLaws.{length-read}
@@ -65,6 +65,35 @@ module _ {E : Type 0} (X : Election E) (P : Protocol E (Unit {0}) ℕ) (x : Layo
 
   pub kept : (b : Bus E) (T : Trails) → Reached X x b T → Kept b T
   kept b T r = let k = events.reached_kept X P s.laws x ok s.width s.starts s.owner_is s.named s.announces s.apart b T r in record { frames = k.frames; lawful = k.lawful; tied = k.tied }
+
+  -- who is none of the senders ..
+  no_sender : (b : Bus E) (T : Trails) → Reached X x b T → (q : ℕ) → x.senders ≤ q → slice_get b.side.senders q ≡ None
+  no_sender b T r q past = elim (some_or_none (slice_get b.side.senders q)) [
+    | inl nobody ↦ nobody
+    | inr c ↦ absurd (let below = ((kept b T r).lawful.keeps.sending.parts q c.0 c.1).below in omega arith)
+  ]
+
+  -- .. does nothing in an event ..
+  adds_none : (b b' : Bus E) (e : Event) (a : Answer) → Answers X b e a b' → (q : ℕ) → slice_get b.side.senders q ≡ None → deeds_of X b e a q ≡ []
+  adds_none b b' (Put s bytes) a told q none = elim (cases_eq q s) [
+    | inl e ↦ absurd (subst (λ o. PutGives o (length bytes) told.0) (ap (slice_get b.side.senders) (sym e) ∙ none) told.1)
+    | inr n ↦ ap (λ z. cond z (put_deeds bytes a) []) (ne_eqb q s n)
+  ]
+  adds_none b b' (Close s) a told q none = elim (cases_eq q s) [
+    | inl e ↦ absurd (subst (λ o. CloseGives o) (ap (slice_get b.side.senders) (sym e) ∙ none) told.0)
+    | inr n ↦ ap (λ z. cond z (close_deeds a) []) (ne_eqb q s n)
+  ]
+  adds_none b b' (Turn s word) a told q none = elim (cases_eq q s) [
+    | inl e ↦ absurd (subst (λ o. TurnAnswers X b.side.words o word a) (ap (slice_get b.side.senders) (sym e) ∙ none) told)
+    | inr n ↦ ap (λ z. cond z (turning_deeds X b.side.words (slice_get b.side.senders s) word a) []) (ne_eqb q s n)
+  ]
+  adds_none b b' (Recv r) a told q none = refl
+
+  -- .. and has done nothing
+  pub nobody_did : (b : Bus E) (T : Trails) → Reached X x b T → (q : ℕ) → x.senders ≤ q → T.deeds q ≡ []
+  nobody_did b T (New start new) q past = refl
+  nobody_did b T (Then old new before e a r is does told) q past =
+      ap (λ ds. ds ++ deeds_of X old e a q) (nobody_did old before r q past) ∙ adds_none old new e a told q (no_sender old before r q past)
 
   -- the words of its log
   pub log_is : (b : Bus E) (T : Trails) (k : Kept b T) → log_in_bus x b ≡ log_words k.frames

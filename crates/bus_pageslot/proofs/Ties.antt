@@ -32,6 +32,7 @@ use Rattle.bus_pageslot.specs.declared.rule.View.TheVariants.{Maker, Sender, Tap
 use Rattle.bus_pageslot.specs.Rule.{slot_of, Sat, trail_in, stored_in, log_in_bus, IsSeated, IsUnseated, KnowsLog, Knows, IsShown}
 use Rattle.bus_pageslot.specs.Steps.{IsCounted, deeds_in, since_in, deeds_at, stored_at, Told, Gone, IsDue}
 use Rattle.bus_pageslot.proofs.Accepting.{since_is}
+use Rattle.bus_pageslot.proofs.AllSeats.{still_seen}
 use Rattle.bus_pageslot.proofs.Counting.{first_below}
 use Rattle.bus_pageslot.proofs.Hearing.{heard_later}
 use Rattle.bus_pageslot.proofs.Reaching.{LogGrows, Kept, kept, log_is, log_size, Reaches, accepts, Steps, steps, sum_fits, taken}
@@ -106,6 +107,7 @@ tie {E} X x s r id c d t t' more stored stored' words homes b' T' reached receiv
       (record { here = ap r.seat same ∙ k.here; core = ap (slice_get b'.side.senders) same ∙ placed; deeds = ap T'.deeds same ∙ did; reached = long }))
       (λ (u : (j ≢ id) × (get_elem? s.views j ≡ some v)). others_know x r.bus b' r.trails T' r.seat c.me id more on k.here j u.0 v (r.views j v u.1))
       (at_set s.views id j (Sender d t' stored') v e);
+  all = λ p below. still_seen s.views id (Sender c t stored) (Sender d t' stored') at p (λ is. same ∙ is) (r.all p below);
 }
 
 -- ---- what stays bounded

@@ -217,8 +217,17 @@ Knows x b T seat j (Meeting c e d f) = KnowsLog x b c e × KnowsLog x b d f
 Knows x b T seat j (Telling c trail stored d e) = IsSeated b T seat j c trail stored × KnowsLog x b d e
 Knows x b T seat j Spent = Unit {0}
 
+-- the sender p shows in this view: in its own, or in that of the maker of seats while it has none of its own
+abbrev pub Seats : {E : Type 0} → ℕ → View (Core E) → Type 0
+Seats p (Maker c) = c.me ≤ p
+Seats p (Sender c trail stored) = c.me ≡ p
+Seats p (Tap c e) = ⊥
+Seats p (Meeting c e d f) = ⊥
+Seats p (Telling c trail stored d e) = c.me ≡ p
+Seats p Spent = ⊥
+
 -- Some events lead to a bus with these words, with its page in the slot where that is at home, and without receivers of its own;
--- and the views of the seats are true of it.
+-- the views of the seats are true of it; and each of its senders shows in one of them.
 pub record IsShown {E : Type 0} (X : Election E) (x : Layout) (s : State (Option Page) (View (Core E))) : Type 0 where
   pub served : IsLayout x
   pub bus : Bus E
@@ -230,3 +239,4 @@ pub record IsShown {E : Type 0} (X : Election E) (x : Layout) (s : State (Option
   -- of each sender the seat that shows it
   pub seat : ℕ → ℕ
   pub views : (j : ℕ) (v : View (Core E)) → get_elem? s.views j ≡ some v → Knows x bus trails seat j v
+  pub all : (p : ℕ) → p < x.senders → (j : ℕ) × (v : View (Core E)) × (get_elem? s.views j ≡ some v) × Seats p v

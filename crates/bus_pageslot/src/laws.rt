@@ -1,16 +1,18 @@
 //! What holds of every bus, between any two steps.
 
-ghost use Rattle.std.specs.Prelude.{◌≡◌, ℕ, ◌≤◌, Option, [], false, length};
+ghost use Rattle.std.specs.Prelude.{◌≡◌, ℕ, ◌<◌, ◌≤◌, Option, List, [], ◌∷◌, false};
+ghost use Rattle.std.specs.Prelude.{length};
 ghost use Rattle.atomic_table.specs.Table.{State};
 ghost use Rattle.bus_deliverylog.specs.declared.receiving.RecvTurn.{RecvTurn};
 ghost use Rattle.bus_tenure.specs.Core.{Core, Layout};
 ghost use Rattle.bus_tenure.specs.Elections.{Elector, election_of};
 ghost use Rattle.bus_tenure.specs.declared.pages.Page.{Page};
+ghost use Rattle.bus_world.specs.Headline.{Deed};
 ghost use Rattle.bus_world.specs.Playing.{layout_of};
 ghost use Rattle.bus_world.specs.declared.shapes.Shape.{Shape};
 ghost use Rattle.bus_pageslot.specs.Ears.{Ear};
 ghost use Rattle.bus_pageslot.specs.declared.rule.View.{View};
-ghost use Rattle.bus_pageslot.specs.declared.rule.View.TheVariants.{Tap};
+ghost use Rattle.bus_pageslot.specs.declared.rule.View.TheVariants.{Sender, Tap};
 ghost use Rattle.bus_pageslot.specs.Listening.{Hears};
 ghost use Rattle.bus_pageslot.specs.Rule.{IsShown};
 ghost use Rattle.bus_pageslot.specs.Promised.{IsPromised};
@@ -29,6 +31,25 @@ pub fn seats_keep_promises<Q: Ratifier>()
 {
     election_is_lawful::<Q>();
 }
+
+/// What the seats show is one page: of each sender its deeds, which its seat shows, and one order
+/// and one list of owners, which the words below the length spell.
+pub fn seats_show_one_page<Q: Ratifier>()
+    ensures { (x : Layout) (s : State (Option Page) (View (Core (Elector Q))))
+        → (h k : IsPromised x s) → ((p : ℕ) → h.deeds p ≡ k.deeds p)
+        × (h.order ≡ k.order) × (h.owners ≡ k.owners) }
+{}
+
+/// Each sender shows in some seat: a table with the seat of sender 0 alone, of two or more, is no
+/// bus, and no page holds of it.
+pub fn no_page_without_each_sender<Q: Ratifier>()
+    ensures shown { (x : Layout) (s : State (Option Page) (View (Core (Elector Q))))
+        (c : Core (Elector Q)) (trail : List Deed) (stored : ℕ) → 1 < x.senders → c.me ≡ 0
+        → s.views ≡ Sender c trail stored ∷ [] → ¬ IsShown (election_of Q.Ratifier) x s }
+    ensures promised { (x : Layout) (s : State (Option Page) (View (Core (Elector Q))))
+        (c : Core (Elector Q)) (trail : List Deed) (stored : ℕ) → 1 < x.senders → c.me ≡ 0
+        → s.views ≡ Sender c trail stored ∷ [] → ¬ IsPromised x s }
+{}
 
 /// No turn of a receiver, but after the end, leaves its seat as it was: so none answers without a
 /// step on the table.

@@ -1,0 +1,5 @@
+use Rattle.bus_pageslot.proofs.OnePage.{one_page}
+use Rattle.bus_pageslot.proofs.laws.seats_show_one_page.Goals as goal
+
+pub returns : goal.returns
+returns g c x s h k = one_page x s h k
