@@ -4,6 +4,8 @@ ghost use Rattle.std.specs.Prelude.{◌≡◌, ◌<◌, All, length};
 ghost use Rattle.bus_pageslot.specs.Rule.{known_in};
 ghost use Rattle.bus_pageslot.specs.Seats.{table_of};
 
+mod elections;
+
 use super::*;
 use bus_adoptcommit::TwoCollect;
 use bus_batch::{CloseFault, Item, Message, PutFault};

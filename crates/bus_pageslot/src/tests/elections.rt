@@ -1,0 +1,151 @@
+//! Elections of a bus with one tenure, each turn counted by the rules.
+
+ghost use Rattle.std.specs.Prelude.{◌≡◌};
+ghost use Rattle.bus_pageslot.specs.Seats.{table_of};
+
+use super::*;
+
+/// So many turns with this word, each of which is answered Going.
+fn goes_on(rt: &impl Abort, bus: &Bus<TwoCollect>, sender: &mut One, turns: u32, word: u32)
+    requires { table_of sender.old ≡ bus.now.table }
+    ensures { table_of sender.new ≡ bus.now.table }
+{
+    for turn in 0..turns {
+        assert_eq!(rt; sender.turn(bus, word), Turn::Going, "turn {turn}");
+    }
+}
+
+/// One turn with this word, which is answered so.
+fn answers(rt: &impl Abort, bus: &Bus<TwoCollect>, sender: &mut One, word: u32, want: Turn)
+    requires { table_of sender.old ≡ bus.now.table }
+    ensures { table_of sender.new ≡ bus.now.table }
+{
+    assert_eq!(rt; sender.turn(bus, word), want);
+}
+
+/// The tenure is this sender's.
+const OWN: Turn = Turn::Own { tenure: 0 };
+
+/// A bus of two senders with one tenure, which both have begun, and where both have announced
+/// themselves: from now on they vote on one bit, sender 0 for 0 and sender 1 for 1.
+fn voters(rt: &impl Abort, alloc: Global, rounds: u64) -> (Bus<TwoCollect>, One, One)
+    ensures { (table_of result.1 ≡ result.0.table) × (table_of result.2 ≡ result.0.table) }
+{
+    let shape = Shape {
+        senders: 2,
+        receivers: 1,
+        rounds,
+        rows: 1,
+        log_words: 64,
+    };
+    let (bus, mut zero, mut one, _) = pair(rt, alloc, shape);
+    assert_eq!(rt; (zero.put(b"a"), one.put(b"b")), (Ok(0), Ok(0)));
+    goes_on(rt, &bus, &mut zero, 2, 0);
+    goes_on(rt, &bus, &mut one, 2, 0);
+    (bus, zero, one)
+}
+
+/// A ratifier of two takes six steps, and decides where nobody else has begun it. Who comes after
+/// takes the six and the fallback.
+fn one_before_the_other(rt: &impl Abort, alloc: Global) {
+    let (bus, mut zero, mut one) = voters(rt, alloc, 1);
+    goes_on(rt, &bus, &mut zero, 6, 0);
+    assert_eq!(rt; zero.kind(), Some(Kind::TakePage));
+    goes_on(rt, &bus, &mut one, 6, 0);
+    assert_eq!(rt; one.kind(), Some(Kind::Fallback));
+    answers(rt, &bus, &mut one, 0, lost(0));
+    answers(rt, &bus, &mut zero, 0, OWN);
+}
+
+/// Both have stored what they propose before either reads: neither commits, and the first at the
+/// fallback decides.
+fn by_the_fallback(rt: &impl Abort, alloc: Global) {
+    let (bus, mut zero, mut one) = voters(rt, alloc, 1);
+    goes_on(rt, &bus, &mut zero, 1, 0);
+    goes_on(rt, &bus, &mut one, 1, 0);
+    goes_on(rt, &bus, &mut zero, 5, 0);
+    goes_on(rt, &bus, &mut one, 6, 0);
+    assert_eq!(rt; one.kind(), Some(Kind::TakePage));
+    assert_eq!(rt; zero.kind(), Some(Kind::Fallback));
+    answers(rt, &bus, &mut zero, 0, lost(1));
+    answers(rt, &bus, &mut one, 0, OWN);
+}
+
+/// Both ask the coin. Sender 0 votes heads alone: after four votes, of three steps each, the coin
+/// says 1, and its second ratifier commits that. Sender 1 votes tails alone: eight votes later the
+/// coin says 0, but the ratifier shows it the commit, and it brings that to the fallback.
+fn by_coins_that_disagree(rt: &impl Abort, alloc: Global) {
+    let (bus, mut zero, mut one) = voters(rt, alloc, 2);
+    goes_on(rt, &bus, &mut zero, 1, 0);
+    goes_on(rt, &bus, &mut one, 1, 0);
+    goes_on(rt, &bus, &mut zero, 5, 0);
+    goes_on(rt, &bus, &mut one, 5, 0);
+    goes_on(rt, &bus, &mut zero, 1, 0);
+    goes_on(rt, &bus, &mut one, 1, 0);
+    assert_eq!(rt; zero.kind(), Some(Kind::ReadOtherMark));
+    goes_on(rt, &bus, &mut zero, 1 + 4 * 3 + 5, 1);
+    answers(rt, &bus, &mut zero, 1, lost(1));
+    goes_on(rt, &bus, &mut one, 1 + 8 * 3 + 6, 0);
+    assert_eq!(rt; one.kind(), Some(Kind::Fallback));
+    answers(rt, &bus, &mut one, 0, Turn::Going);
+    answers(rt, &bus, &mut one, 0, OWN);
+}
+
+/// A bus of this shape is refused so.
+fn refuses(rt: &impl Abort, alloc: Global, shape: Shape, fault: MakeFault) {
+    assert_eq!(rt; Bus::<TwoCollect>::new(alloc, shape).err(), Some(fault));
+}
+
+#[test]
+fn ballot_schedules(rt: HostRuntime) {
+    one_before_the_other(&rt, rt.alloc());
+    by_the_fallback(&rt, rt.alloc());
+    by_coins_that_disagree(&rt, rt.alloc());
+    let nine = Shape {
+        senders: 9,
+        ..SMALL
+    };
+    refuses(&rt, rt.alloc(), nine, MakeFault::Senders);
+    let no_rounds = Shape { rounds: 0, ..SMALL };
+    refuses(&rt, rt.alloc(), no_rounds, MakeFault::Rounds);
+}
+
+/// Senders 1 and 4 of five, each of which always has something to send, up to where 4 has the page.
+fn claims(rt: &impl Abort, alloc: Global) -> (Bus<TwoCollect>, One, One, Pass)
+    ensures senders { (table_of result.1 ≡ result.0.table)
+        × (table_of result.2 ≡ result.0.table) }
+    ensures tap { result.3.table_id ≡ result.0.table }
+{
+    let (bus, mut one, mut four, tap) = one_and_four(rt, alloc);
+    assert_eq!(rt; (one.put(b"a"), four.put(b"b")), (Ok(0), Ok(0)));
+    goes_on(rt, &bus, &mut four, 14, 0);
+    ends_in(rt, &bus, &mut one, 99, lost(4));
+    ends_in(rt, &bus, &mut four, 99, OWN);
+    (bus, one, four, tap)
+}
+
+/// Sender 4 gives the page back after one message, and has no tenure left for the next.
+fn gives_back(rt: &impl Abort, alloc: Global) {
+    let (bus, _, mut four, tap) = claims(rt, alloc);
+    ends_in(rt, &bus, &mut four, 99, delivered(0, 0));
+    assert_eq!(rt; four.put(b"c"), Ok(1));
+    answers(rt, &bus, &mut four, 0, Turn::Spent);
+    let ended = bus.end(tap).expect(rt, "the page is home");
+    assert_eq!(rt; ended.page().next, [0, 0, 0, 0, 1, 0, 0, 0]);
+    assert_eq!(rt; (ended.page().tenures, ended.page().ended), (1, false));
+}
+
+/// Sender 4 is dropped with the page.
+fn keeps_the_page(rt: &impl Abort, alloc: Global) {
+    let (bus, _, four, tap) = claims(rt, alloc);
+    drop(four);
+    assert_eq!(rt; bus.end(tap).err(), Some(EndFault::PageOut));
+}
+
+#[test]
+fn claimants(rt: HostRuntime) {
+    gives_back(&rt, rt.alloc());
+    keeps_the_page(&rt, rt.alloc());
+    let no_rows = Shape { rows: 0, ..SMALL };
+    refuses(&rt, rt.alloc(), no_rows, MakeFault::Rows);
+}
