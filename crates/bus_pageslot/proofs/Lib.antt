@@ -7,6 +7,7 @@ pub mod Counting
 pub mod Reaching
 pub mod Hearing
 pub mod Ties
+pub mod Extending
 pub mod Walks
 pub mod Openings
 pub mod Puts

@@ -38,7 +38,7 @@ use Rattle.bus_pageslot.proofs.Hearing.{heard_later}
 use Rattle.bus_pageslot.proofs.Reaching.{LogGrows, Kept, kept, log_is, log_size, Reaches, accepts, Steps, steps, sum_fits, taken}
 use Rattle.bus_pageslot.proofs.Situations.{Moved, moves}
 
-no_shorter : (xs ys : List ℕ) → IsPrefix xs ys → length xs ≤ length ys
+pub no_shorter : (xs ys : List ℕ) → IsPrefix xs ys → length xs ≤ length ys
 no_shorter xs ys p = let a = length-append xs p.rest in let b = ap length p.together in omega arith
 
 -- a bus that goes on from another: what its log says stays, and of its senders p alone is another, with more deeds

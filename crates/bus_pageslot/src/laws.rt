@@ -1,21 +1,27 @@
 //! What holds of every bus, between any two steps.
 
 ghost use Rattle.std.specs.Prelude.{◌≡◌, ℕ, ◌<◌, ◌≤◌, Option, List, [], ◌∷◌, false};
-ghost use Rattle.std.specs.Prelude.{length};
+ghost use Rattle.std.specs.Prelude.{length, slice_index, Some};
+ghost use mathlib.Core.Option.{some};
+ghost use lib.ListN.{get_elem?};
+ghost use Rattle.bus_register.specs.declared.registers.Op.{Op};
+ghost use Rattle.bus_register.specs.declared.registers.Op.TheVariants.{Store};
 ghost use Rattle.atomic_table.specs.Table.{State};
 ghost use Rattle.bus_deliverylog.specs.declared.receiving.RecvTurn.{RecvTurn};
 ghost use Rattle.bus_tenure.specs.Core.{Core, Layout};
 ghost use Rattle.bus_tenure.specs.Elections.{Elector, election_of};
 ghost use Rattle.bus_tenure.specs.declared.pages.Page.{Page};
-ghost use Rattle.bus_world.specs.Headline.{Deed};
+ghost use Rattle.bus_world.specs.Headline.{Deed, IsPrefix};
 ghost use Rattle.bus_world.specs.Playing.{layout_of};
+ghost use Rattle.bus_world.specs.Turning.{words_after};
 ghost use Rattle.bus_world.specs.declared.shapes.Shape.{Shape};
 ghost use Rattle.bus_pageslot.specs.Ears.{Ear};
 ghost use Rattle.bus_pageslot.specs.declared.rule.View.{View};
 ghost use Rattle.bus_pageslot.specs.declared.rule.View.TheVariants.{Sender, Tap};
 ghost use Rattle.bus_pageslot.specs.Listening.{Hears};
-ghost use Rattle.bus_pageslot.specs.Rule.{IsShown};
-ghost use Rattle.bus_pageslot.specs.Promised.{IsPromised};
+ghost use Rattle.bus_pageslot.specs.Rule.{Sat, IsShown};
+ghost use Rattle.bus_pageslot.specs.Promised.{log_below, IsPromised};
+ghost use Rattle.bus_pageslot.specs.Steps.{IsDue};
 
 use bus_adoptcommit::Ratifier;
 use bus_ownerbits::laws::election_is_lawful;
@@ -50,6 +56,27 @@ pub fn no_page_without_each_sender<Q: Ratifier>()
         (c : Core (Elector Q)) (trail : List Deed) (stored : ℕ) → 1 < x.senders → c.me ≡ 0
         → s.views ≡ Sender c trail stored ∷ [] → ¬ IsPromised x s }
 {}
+
+/// A sender's step leaves a log that begins with the one before it, whatever the step is for: so no
+/// step stores a smaller length. No other step changes a word: receivers load, and seats that are
+/// made, joined or cut apart leave all words as they are. So between any two steps each log below
+/// the length begins each later one.
+pub fn steps_only_extend_the_log<Q: Ratifier>()
+    ensures extends { let X = election_of Q.Ratifier in (shape : Shape)
+        (s : State (Option Page) (View (Core (Elector Q)))) (seat : ℕ) (m : Sat (Elector Q))
+        (d : Core (Elector Q)) (word many : ℕ) (o : Op)
+        → IsShown X (layout_of Q.protocol shape) s → get_elem? s.views seat ≡ some m.0
+        → IsDue X d word m many o
+        → IsPrefix (log_below (layout_of Q.protocol shape) s.words)
+        (log_below (layout_of Q.protocol shape) (words_after s.words (Some o))) }
+    ensures refused { let X = election_of Q.Ratifier in (shape : Shape)
+        (s : State (Option Page) (View (Core (Elector Q)))) (seat : ℕ) (m : Sat (Elector Q))
+        (d : Core (Elector Q)) (word many v : ℕ)
+        → IsShown X (layout_of Q.protocol shape) s → get_elem? s.views seat ≡ some m.0
+        → v < slice_index s.words 0 → ¬ IsDue X d word m many (Store (record { 0 = 0 }) v) }
+{
+    election_is_lawful::<Q>();
+}
 
 /// No turn of a receiver, but after the end, leaves its seat as it was: so none answers without a
 /// step on the table.
