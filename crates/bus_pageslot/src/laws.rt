@@ -1,7 +1,7 @@
 //! What holds of every bus, between any two steps.
 
-ghost use Rattle.std.specs.Prelude.{◌≡◌, ℕ, ◌<◌, ◌≤◌, Option, List, [], ◌∷◌, false};
-ghost use Rattle.std.specs.Prelude.{length, slice_index, Some};
+ghost use Rattle.std.specs.Prelude.{◌≡◌, ℕ, ◌<◌, ◌≤◌, Option, List, []};
+ghost use Rattle.std.specs.Prelude.{◌∷◌, false, length, slice_index, Some};
 ghost use mathlib.Core.Option.{some};
 ghost use lib.ListN.{get_elem?};
 ghost use Rattle.bus_register.specs.declared.registers.Op.{Op};
