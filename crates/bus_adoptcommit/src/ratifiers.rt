@@ -25,6 +25,11 @@ pub trait Ratifier: Machine {
         requires { n ≤ MOST_PROCESSES }
         ensures { result ≡ protocol.width n };
 
+    /// How many steps of its own a process takes at most until its verdict stands.
+    fn steps(n: u64) -> u64
+        requires { n ≤ MOST_PROCESSES }
+        ensures { result ≡ protocol.steps n };
+
     /// Process `me` of `n` with its input, over the words from `at` on.
     fn start(n: u64, me: SenderNo, input: bool, at: Reg) -> Self
         requires me_below { me.0 < n }
@@ -51,9 +56,8 @@ pub trait Ratifier: Machine {
     /// It asks for no random word.
     ghost wordless: { (s : Self) → protocol.wants_word s ≡ false };
 
-    /// An output stands after at most 2n + 2 own steps.
-    ghost quick: { (n : ℕ) → protocol.steps n ≤ 2 * n + 2 };
+    /// So that the steps and the words of many objects can be counted.
+    ghost quick: { (n : ℕ) → n ≤ MOST_PROCESSES → protocol.steps n ≤ 1024 };
 
-    /// So that the words of many objects can be counted.
     ghost narrow: { (n : ℕ) → n ≤ MOST_PROCESSES → protocol.width n ≤ 1024 };
 }

@@ -165,6 +165,10 @@ impl Ratifier for TwoCollect {
         2 * n
     }
 
+    fn steps(n: u64) -> u64 {
+        2 + 2 * n
+    }
+
     fn start(n: u64, me: SenderNo, input: bool, at: Reg) -> TwoCollect {
         TwoCollect {
             n,

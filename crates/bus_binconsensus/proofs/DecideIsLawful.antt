@@ -1,7 +1,6 @@
 -- A binary decision keeps its law, over any ratifier and any conciliator.
 use Rattle.std.proofs.Common.{◌≡◌, ℕ, ◌+◌, ◌*◌, ◌-◌, ◌<◌, ◌≤◌, Bool, false, cond, Option, Some, None, inl, inr, arith, refl, sym, ◌∙◌, ap, subst}
 use Rattle.std.proofs.lemmas.Bool.Decides.{eqb_tells}
-use Rattle.std.proofs.Math.Nat.{mul-le-mul_left}
 use Rattle.bus_register.specs.declared.registers.Op.{Op}
 use Rattle.bus_register.specs.Protocol.{Protocol, Laws}
 use Rattle.bus_adoptcommit.specs.declared.verdicts.Verdict.{Verdict}
@@ -17,7 +16,7 @@ use Rattle.bus_binconsensus.proofs.ObjectPlaces.{in_its_part, falls_last}
 use Rattle.bus_binconsensus.specs.Objects.{objects_of, object_fed, object_output, object_wants, object_calls, Decider}
 use Rattle.bus_binconsensus.proofs.RoundLaws.{the_rounds, steps_of_rounds}
 
-module _ {S T : Type 0} (op : S → ℕ → Option Op) (fed : S → ℕ → ℕ → S) (P : Protocol S Bool Verdict) (laws : Laws op fed P Legal) (quick : (n : ℕ) → P.steps n ≤ 2 * n + 2) (wordless : (s : S) → P.wants_word s ≡ false)
+module _ {S T : Type 0} (op : S → ℕ → Option Op) (fed : S → ℕ → ℕ → S) (P : Protocol S Bool Verdict) (laws : Laws op fed P Legal) (wordless : (s : S) → P.wants_word s ≡ false)
     (opC : T → ℕ → Option Op) (fedC : T → ℕ → ℕ → T) (C : Protocol T Bool Bool) (OutC : (ℕ → Option Bool) → (ℕ → Option Bool) → Type 0) (lawsC : Laws opC fedC C OutC)
     (chosen : (ins outs : ℕ → Option Bool) → OutC ins outs → IsChosen ins outs) (quickC : (n : ℕ) → C.steps n ≡ 2 + 64 * (n + 1)) where
   asks_by : (x : Object S T) → object_wants P C x ≡ object_calls C x
@@ -57,9 +56,5 @@ module _ {S T : Type 0} (op : S → ℕ → Option Op) (fed : S → ℕ → ℕ 
     in_its_part = in_its_part P C;
     falls_last = falls_last P C;
     steps = λ rounds n. steps_of_rounds P C n rounds ∙ ap (λ z. rounds * P.steps n + (rounds - 1) * z + 1) (quickC n);
-    quick = λ rounds n.
-        let a = steps_of_rounds P C n rounds ∙ ap (λ z. rounds * P.steps n + (rounds - 1) * z + 1) (quickC n) in
-        let b = mul-le-mul_left rounds (quick n) in
-        omega arith;
     asks = λ rounds d. asks_by d.object;
   }

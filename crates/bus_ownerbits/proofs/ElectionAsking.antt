@@ -1,5 +1,5 @@
 -- An election asks for a random word where its machine says so.
-use Rattle.std.proofs.Common.{◌≡◌, ℕ, Bool, false, refl}
+use Rattle.std.proofs.Common.{◌≡◌, Bool, false, refl}
 use Rattle.bus_register.specs.Protocol.{Protocol}
 use Rattle.bus_adoptcommit.specs.declared.verdicts.Verdict.{Verdict}
 use Rattle.bus_binconsensus.specs.declared.objects.Object.{Object}

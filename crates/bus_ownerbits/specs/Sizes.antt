@@ -15,9 +15,9 @@ bits_of n = count_by (λ power. nat_lt power n) (1 ∷ 2 ∷ 4 ∷ 8 ∷ 16 ∷ 
 abbrev pub bit_at : ℕ → ℕ → Bool
 bit_at k number = (number / 2 ^ k) % 2 == 1
 
--- the steps of a binary decision of so many rounds, at most
-abbrev pub decision_cost : ℕ → ℕ → ℕ
-decision_cost rounds n = rounds * (2 * n + 2) + (rounds - 1) * (2 + MOST_VOTES * (n + 1)) + 1
+-- the steps of a binary decision of so many rounds, at most, where a ratifier takes so many, by processes
+abbrev pub decision_cost : (ℕ → ℕ) → ℕ → ℕ → ℕ
+decision_cost steps rounds n = rounds * steps n + (rounds - 1) * (2 + MOST_VOTES * (n + 1)) + 1
 
 -- what a decision and a search cost at most, where cost is that of a decision, by rounds and processes
 abbrev pub each_bit : (ℕ → ℕ → ℕ) → ℕ → ℕ → ℕ
@@ -27,6 +27,6 @@ each_bit cost rounds n = cost rounds n + n
 abbrev pub turns_of : (ℕ → ℕ → ℕ) → ℕ → ℕ → ℕ
 turns_of cost rounds n = 2 + bits_of n * each_bit cost rounds n
 
--- the same over binary decisions
-abbrev pub election_bound : ℕ → ℕ → ℕ
-election_bound n rounds = turns_of decision_cost rounds n
+-- the same over binary decisions out of such a ratifier
+abbrev pub election_bound : (ℕ → ℕ) → ℕ → ℕ → ℕ
+election_bound steps n rounds = turns_of (decision_cost steps) rounds n

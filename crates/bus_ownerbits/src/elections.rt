@@ -102,7 +102,7 @@ impl<Q: Ratifier + Drop> Election<Q> {
             left: bits(n),
             spelled: 0,
             candidate: u64::from(me.0),
-            turns: bound(n, rounds),
+            turns: bound::<Q>(n, rounds),
             stage: Stage::Announce,
         }
     }

@@ -15,6 +15,6 @@ use bus_adoptcommit::Ratifier;
 pub fn election_is_lawful<Q: Ratifier>()
     ensures lawful { ElectionLaw (decide_op Q.op conciliator_op)
         (decide_fed Q.protocol conciliator_protocol Q.fed conciliator_fed)
-        (decisions Q.protocol) decision_cost }
+        (decisions Q.protocol) (decision_cost Q.protocol.steps) }
     ensures asks { AsksAsTold Q.protocol conciliator_protocol }
 {}

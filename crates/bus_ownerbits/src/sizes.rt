@@ -4,6 +4,7 @@ ghost use Rattle.std.specs.Prelude.{◌≡◌, ℕ, ◌+◌, ◌*◌, ◌-◌, �
 ghost use Rattle.std.specs.Prelude.{◌^◌};
 ghost use Rattle.bus_ownerbits.specs.Sizes.{IsBits, bits_of, election_bound};
 
+use bus_adoptcommit::Ratifier;
 use bus_register::limits::{MOST_PROCESSES, MOST_ROUNDS};
 use bus_votecount::tallies::MOST_VOTES;
 
@@ -23,16 +24,16 @@ pub fn bits(n: u64) -> u64
     bits
 }
 
-/// How many of its own turns an election takes at most, with one more for its owner, in so many
-/// rounds for each bit.
-pub fn bound(n: u64, rounds: u64) -> u64
+/// How many of its own turns an election over this ratifier takes at most, with one more for its
+/// owner, in so many rounds for each bit.
+pub fn bound<Q: Ratifier>(n: u64, rounds: u64) -> u64
     requires some { 1 ≤ n }
     requires few { n ≤ MOST_PROCESSES }
     requires rounds_some { 1 ≤ rounds }
     requires rounds_few { rounds ≤ MOST_ROUNDS }
-    ensures { result ≡ election_bound n rounds }
+    ensures { result ≡ election_bound Q.protocol.steps n rounds }
 {
-    let ratifiers = rounds * (2 * n + 2);
+    let ratifiers = rounds * Q::steps(n);
     let conciliators = (rounds - 1) * (2 + MOST_VOTES as u64 * (n + 1));
     2 + bits(n) * (ratifiers + conciliators + 1 + n)
 }

@@ -55,9 +55,9 @@ fn run<M: Machine>(rt: &impl Abort, cells: &mut Cells, machine: &mut M) -> u64 {
 #[test]
 fn decision_and_election_steps(rt: HostRuntime) {
     assert!(rt; bits(1) == 0 && bits(2) == 1 && bits(3) == 2 && bits(5) == 3 && bits(8) == 3);
-    assert!(rt; bound(1, 1) == 2 && bound(1, 8) == 2);
-    assert!(rt; bound(2, 1) == 11 && bound(2, 2) == 211);
-    assert!(rt; bound(5, 1) == 56 && bound(8, 8) == 12599);
+    assert!(rt; bound::<TwoCollect>(1, 1) == 2 && bound::<TwoCollect>(1, 8) == 2);
+    assert!(rt; bound::<TwoCollect>(2, 1) == 11 && bound::<TwoCollect>(2, 2) == 211);
+    assert!(rt; bound::<TwoCollect>(5, 1) == 56 && bound::<TwoCollect>(8, 8) == 12599);
 
     assert!(rt; Decide::<TwoCollect>::width(2, 1) == 5);
     let mut cells = Cells::new(rt.alloc(), 5).expect(&rt, "memory");

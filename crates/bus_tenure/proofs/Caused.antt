@@ -155,7 +155,7 @@ module _ {S : Type 0} (P : Protocol S Bool Verdict) (c : Core (Elector S)) (t : 
   by_stage kind own Announce q = record { tenure = t; starts = at ∙ ap (Electing t) (keeps.unbegun (ap begun_at q)) }
   by_stage kind own (Propose d) q = by_object d q kind own d.object refl
   by_stage kind own (Search i) q =
-      let w = searches (decide_protocol P conciliator_protocol) decision_cost c.layout.rounds c.layout.senders c.me (row_at c.layout t) i e keeps.belongs q in
+      let w = searches (decide_protocol P conciliator_protocol) (decision_cost P.steps) c.layout.rounds c.layout.senders c.me (row_at c.layout t) i e keeps.belongs q in
       record { tenure = t; election = e; number = i; elects = at; searches = q; some_decided = w.2; some_left = w.1; unfit = w.0 }
   by_stage kind own Alone q = tt
 

@@ -33,12 +33,16 @@ for_some (Some o) y most e f = f o (sym e)
 row_place : (r t rows w width capacity : ℕ) → r < 2 + t * w + width → w ≡ width → t < rows → r < 2 + rows * w + capacity
 row_place r t rows w width capacity h e below = let m = row_within t rows w below in omega arith
 
-module _ {S : Type 0} (op : S → ℕ → Option Op) (fed : S → ℕ → ℕ → S) (P : Protocol S Bool Verdict) (laws : Laws op fed P Legal) (quick : (n : ℕ) → P.steps n ≤ 2 * n + 2) (wordless : (s : S) → P.wants_word s ≡ false) where
+module _ {S : Type 0} (op : S → ℕ → Option Op) (fed : S → ℕ → ℕ → S) (P : Protocol S Bool Verdict) (laws : Laws op fed P Legal) (wordless : (s : S) → P.wants_word s ≡ false) where
   law : DecideLaw op fed P conciliator_op conciliator_fed conciliator_protocol
-  law = decide_law op fed P laws quick wordless conciliator_op conciliator_fed conciliator_protocol Conciles conciliator_laws (λ ins outs o. o.valid) (λ n. refl)
+  law = decide_law op fed P laws wordless conciliator_op conciliator_fed conciliator_protocol Conciles conciliator_laws (λ ins outs o. o.valid) (λ n. refl)
+
+  -- a decision takes no more steps than it costs
+  cheap : (rounds n : ℕ) → (decide_protocol P conciliator_protocol rounds).steps n ≤ decision_cost P.steps rounds n
+  cheap rounds n = let e = law.steps rounds n in omega arith
 
   pub elections_law : (rounds : ℕ) → Laws (election_op (decide_op op conciliator_op)) (election_fed (decide_protocol P conciliator_protocol) (decide_fed P conciliator_protocol fed conciliator_fed)) (elections P rounds) OneOwner
-  elections_law rounds = election_laws (decide_op op conciliator_op) (decide_fed P conciliator_protocol fed conciliator_fed) (decide_protocol P conciliator_protocol) decision_cost law.laws law.quick rounds
+  elections_law rounds = election_laws (decide_op op conciliator_op) (decide_fed P conciliator_protocol fed conciliator_fed) (decide_protocol P conciliator_protocol) (decision_cost P.steps) law.laws cheap rounds
 
   -- a step stays in the row, and after it the election has begun
   pub keeps_after : (rounds n me at : ℕ) (e : Elector S) (got word : ℕ) → ElectorKeeps P rounds n me at e → IsSome (election_op (decide_op op conciliator_op) e word)
@@ -60,4 +64,4 @@ module _ {S : Type 0} (op : S → ℕ → Option Op) (fed : S → ℕ → ℕ �
 
   -- a step takes one turn
   pub turns_fall : (e : Elector S) (got word : ℕ) → (election_fed (decide_protocol P conciliator_protocol) (decide_fed P conciliator_protocol fed conciliator_fed) e got word).turns ≡ e.turns - 1
-  turns_fall e got word = turns_after (decide_op op conciliator_op) (decide_fed P conciliator_protocol fed conciliator_fed) (decide_protocol P conciliator_protocol) decision_cost law.laws law.quick 1 e got word
+  turns_fall e got word = turns_after (decide_op op conciliator_op) (decide_fed P conciliator_protocol fed conciliator_fed) (decide_protocol P conciliator_protocol) (decision_cost P.steps) law.laws cheap 1 e got word

@@ -8,9 +8,10 @@ ghost use Rattle.bus_tenure.specs.Elections.{election_of};
 
 use bus_adoptcommit::Ratifier;
 
-/// At the turn that begins a tenure the bound of an election is left, and each step takes one turn.
+/// At the turn that begins a tenure the bound of an election over the ratifier is left, and each
+/// step takes one turn.
 pub fn elections_are_bounded<Q: Ratifier>()
-    ensures { IsBounded (election_of Q.Ratifier) election_bound }
+    ensures { IsBounded (election_of Q.Ratifier) (election_bound Q.protocol.steps) }
 {}
 
 /// No sender that rests takes a page, stores a word of a log or falls back; none stores a length

@@ -1,5 +1,5 @@
 -- Two collects are an adopt-commit object, with coherence.
-use Rattle.std.proofs.Common.{◌≡◌, ℕ, ◌+◌, ◌*◌, ◌<◌, ◌≤◌, Bool, true, false, nat_lt, ◌⊎◌, Some, is_some, inl, inr, arith, refl, sym, ◌∙◌, subst}
+use Rattle.std.proofs.Common.{◌≡◌, ℕ, ◌+◌, ◌<◌, ◌≤◌, Bool, true, false, nat_lt, ◌⊎◌, Some, is_some, inl, inr, arith, refl, sym, ◌∙◌, subst}
 use Rattle.bus_register.specs.declared.limits.TheConstants.{MOST_PROCESSES}
 use mathlib.Core.Path.{fun_ext}
 use Rattle.std.proofs.lemmas.Option.{same_Some}
@@ -128,8 +128,8 @@ two_collect_exact = record {
 }
 
 -- bounds on its steps and its words
-pub quick : (n : ℕ) → two_collect.steps n ≤ 2 * n + 2
-quick n = omega arith
+pub quick : (n : ℕ) → n ≤ MOST_PROCESSES → two_collect.steps n ≤ 1024
+quick n few = omega arith
 
 pub narrow : (n : ℕ) → n ≤ MOST_PROCESSES → two_collect.width n ≤ 1024
 narrow n few = omega arith

@@ -14,7 +14,7 @@ invariant_of-self-in_default-owner g c =
     let unowned : is_some (owner_of (decide_protocol g.Q.Ratifier.protocol conciliator_protocol) c.in-Electing.election) ≡ false =
     sym (sender_tells _) ∙ ap is_some (sym c.owner.ensures) ∙ sym c.is_some.ensures ∙ c.if-is_some.false in
     keeps_electing _ _ _ c.in-Electing.tenure c.in-Electing.election c.feed.new.self _ c.self.invariant c.in-Electing.is c.feed.ensures
-    (λ b. keeps_after g.Q.Machine.op g.Q.Machine.fed g.Q.Ratifier.protocol g.met.Q.Ratifier.laws g.met.Q.Ratifier.quick g.met.Q.Ratifier.wordless c.self.inside.sizes.rounds c.self.inside.sizes.senders c.self.inside.me.0 _ c.in-Electing.election c.args.got c.args.word b
+    (λ b. keeps_after g.Q.Machine.op g.Q.Machine.fed g.Q.Ratifier.protocol g.met.Q.Ratifier.laws g.met.Q.Ratifier.wordless c.self.inside.sizes.rounds c.self.inside.sizes.senders c.self.inside.me.0 _ c.in-Electing.election c.args.got c.args.word b
     (subst IsSome (its_op X _ _ c.self.view_is c.in-Electing.tenure c.in-Electing.election c.in-Electing.is unowned c.args.word) c.requires.steps)
     (no_owner _ _ (sym c.owner-2.ensures ∙ c.in_default-owner.is) (ap (owner_of (decide_protocol g.Q.Ratifier.protocol conciliator_protocol)) c.feed.ensures) c.self.inside.me.0))
 
@@ -24,7 +24,7 @@ invariant_of-self-then-owner-self g c =
     let unowned : is_some (owner_of (decide_protocol g.Q.Ratifier.protocol conciliator_protocol) c.in-Electing.election) ≡ false =
     sym (sender_tells _) ∙ ap is_some (sym c.owner.ensures) ∙ sym c.is_some.ensures ∙ c.if-is_some.false in
     keeps_electing _ _ _ c.in-Electing.tenure c.in-Electing.election c.feed.new.self _ c.self.invariant c.in-Electing.is c.feed.ensures
-    (λ b. keeps_after g.Q.Machine.op g.Q.Machine.fed g.Q.Ratifier.protocol g.met.Q.Ratifier.laws g.met.Q.Ratifier.quick g.met.Q.Ratifier.wordless c.self.inside.sizes.rounds c.self.inside.sizes.senders c.self.inside.me.0 _ c.in-Electing.election c.args.got c.args.word b
+    (λ b. keeps_after g.Q.Machine.op g.Q.Machine.fed g.Q.Ratifier.protocol g.met.Q.Ratifier.laws g.met.Q.Ratifier.wordless c.self.inside.sizes.rounds c.self.inside.sizes.senders c.self.inside.me.0 _ c.in-Electing.election c.args.got c.args.word b
     (subst IsSome (its_op X _ _ c.self.view_is c.in-Electing.tenure c.in-Electing.election c.in-Electing.is unowned c.args.word) c.requires.steps)
     (own_owner _ _ c.in-Some.owner (sym c.owner-2.ensures ∙ c.in-Some.is) (ap (owner_of (decide_protocol g.Q.Ratifier.protocol conciliator_protocol)) c.feed.ensures) c.self.inside.me.0 c.if-owner-self.true))
 

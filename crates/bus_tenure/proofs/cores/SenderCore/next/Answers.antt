@@ -11,4 +11,4 @@ returns-in-Holding-clause-step g c =
 
 pub returns-in-None-owner-clause-below : goal.returns-in-None-owner-clause-below
 returns-in-None-owner-clause-below g c =
-    place_below g.Q.Machine.op g.Q.Machine.fed g.Q.Ratifier.protocol g.met.Q.Ratifier.laws g.met.Q.Ratifier.quick g.met.Q.Ratifier.wordless c.self.inside.sizes.rounds c.self.inside.sizes.senders c.self.inside.me.0 _ _ c.self.view_is c.self.invariant c.in-Electing.tenure c.in-Electing.election c.in-Electing.is c.args.word _ c.next.ensures
+    place_below g.Q.Machine.op g.Q.Machine.fed g.Q.Ratifier.protocol g.met.Q.Ratifier.laws g.met.Q.Ratifier.wordless c.self.inside.sizes.rounds c.self.inside.sizes.senders c.self.inside.me.0 _ _ c.self.view_is c.self.invariant c.in-Electing.tenure c.in-Electing.election c.in-Electing.is c.args.word _ c.next.ensures
