@@ -4,6 +4,8 @@ pub mod Schedule
 pub mod Plays
 pub mod TwoCollect
 pub mod TwoCollectKeeps
+pub mod ThreeWord
+pub mod ThreeWordKeeps
 pub mod Checks
 pub mod Refused
 pub mod Proved

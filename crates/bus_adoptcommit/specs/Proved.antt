@@ -1,4 +1,7 @@
 -- What an impl gives as its laws: proofs, to be passed over.
+pub mod ThreeWordLaws
+pub mod ThreeWordMoveLaws
+pub mod ThreeWordStepLaws
 pub mod TwoCollectLaws
 pub mod TwoCollectMarkLaws
 pub mod TwoCollectMoveLaws

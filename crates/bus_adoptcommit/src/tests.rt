@@ -1,5 +1,7 @@
 //! Schedules with known verdicts, and the checks over many schedules.
 
+mod three_word;
+
 ghost use Rattle.std.specs.Prelude.{◌<◌, ◌↔◌, length, IsTrue, All};
 
 use super::checkers::{is_legal, is_weakly_legal};
@@ -41,9 +43,14 @@ fn begun(alloc: Global, inputs: &[bool], schedule: &[u8]) -> Result<Vec<Option<b
     Ok(begun)
 }
 
-/// The verdicts of two collects after a schedule pass the check.
-fn passes(rt: &impl Abort, alloc: Global, inputs: &[bool], schedule: &[u8]) -> Result<bool, Fail> {
-    let outputs = play::<TwoCollect>(rt, alloc, inputs, schedule)?;
+/// The verdicts after a schedule pass the check.
+fn passes<Q: Ratifier + Drop>(
+    rt: &impl Abort,
+    alloc: Global,
+    inputs: &[bool],
+    schedule: &[u8],
+) -> Result<bool, Fail> {
+    let outputs = play::<Q>(rt, alloc, inputs, schedule)?;
     let begun = begun(alloc, inputs, schedule)?;
     Ok(is_legal(&begun, &outputs))
 }
@@ -92,6 +99,7 @@ fn stopped_before_output(rt: HostRuntime) -> Result<(), Fail> {
 #[test]
 fn steps_of_one_process(rt: HostRuntime) {
     assert_eq!(rt; TwoCollect::width(3), 6);
+    assert_eq!(rt; TwoCollect::steps(3), 8);
     let mut process = TwoCollect::start(3, SenderNo(1), true, Reg(10));
     let steps = [
         (Kind::StoreProposal, Op::Store(Reg(11), 2), 0),
@@ -127,30 +135,41 @@ fn own_value_beside_a_commit(rt: HostRuntime) {
 }
 
 /// Entry k of a schedule of two processes is bit k.
-fn of_bits(alloc: Global, bits: u16) -> Result<Vec<u8>, Fail> {
+fn of_bits(alloc: Global, bits: u16, entries: u32) -> Result<Vec<u8>, Fail> {
     let mut schedule = Vec::new(alloc);
-    for k in 0..12u32 {
-        schedule.push(((bits >> k) & 1) as u8)?;
+    for k in 0..entries {
+        schedule.push(((bits >> k % 16) & 1) as u8)?;
     }
     Ok(schedule)
+}
+
+/// Checks all orders of so many entries of each of two processes, with each pair of inputs, cut at
+/// each place. Gives how many orders there are.
+fn orders_of_two<Q: Ratifier + Drop>(
+    rt: &impl Abort,
+    alloc: Global,
+    each: u32,
+) -> Result<u32, Fail> {
+    assert!(rt; each <= 6);
+    let mut orders = 0u32;
+    for bits in 0..1u16 << (2 * each) {
+        if bits.count_ones() == each {
+            orders = orders.wrapping_add(1);
+            let schedule = of_bits(alloc, bits, 2 * each)?;
+            for inputs in [[false, false], [false, true], [true, false], [true, true]] {
+                for cut in 0..=schedule.len() {
+                    assert!(rt; passes::<Q>(rt, alloc, &inputs, &schedule[..cut])?);
+                }
+            }
+        }
+    }
+    Ok(orders)
 }
 
 /// All 924 orders of six steps each, with each pair of inputs, cut at each place.
 #[test]
 fn all_orders_of_two_processes(rt: HostRuntime) -> Result<(), Fail> {
-    let mut orders = 0u32;
-    for bits in 0..4096u16 {
-        if bits.count_ones() == 6 {
-            orders = orders.wrapping_add(1);
-            let schedule = of_bits(rt.alloc(), bits)?;
-            for inputs in [[false, false], [false, true], [true, false], [true, true]] {
-                for cut in 0..=schedule.len() {
-                    assert!(rt; passes(&rt, rt.alloc(), &inputs, &schedule[..cut])?);
-                }
-            }
-        }
-    }
-    assert_eq!(rt; orders, 924);
+    assert_eq!(rt; orders_of_two::<TwoCollect>(&rt, rt.alloc(), 6)?, 924);
     Ok(())
 }
 
@@ -161,22 +180,27 @@ fn next_random(state: u64) -> u64 {
         .wrapping_add(1442695040888963407)
 }
 
-/// Schedules of three to eight processes at random, where a process mostly goes on for a while, and
-/// many of them cut short.
-#[test]
-fn random_orders_of_more_processes(rt: HostRuntime) -> Result<(), Fail> {
+/// Checks so many schedules of three to eight processes at random, each of fewer entries than
+/// `most`, where a process mostly goes on for a while.
+fn random_orders<Q: Ratifier + Drop>(
+    rt: &impl Abort,
+    alloc: Global,
+    schedules: u32,
+    most: u64,
+) -> Result<(), Fail> {
+    assert!(rt; most > 0);
     let mut state = 2026u64;
-    for _ in 0..1000u32 {
+    for _ in 0..schedules {
         state = next_random(state);
         let processes = 3 + (state >> 33) % 6;
-        let mut inputs = Vec::new(rt.alloc());
+        let mut inputs = Vec::new(alloc);
         for _ in 0..processes {
             state = next_random(state);
             inputs.push(state >> 63 == 1)?;
         }
         state = next_random(state);
-        let length = (state >> 33) % 300;
-        let mut schedule = Vec::new(rt.alloc());
+        let length = (state >> 33) % most;
+        let mut schedule = Vec::new(alloc);
         let mut process = 0u8;
         for _ in 0..length {
             state = next_random(state);
@@ -185,7 +209,13 @@ fn random_orders_of_more_processes(rt: HostRuntime) -> Result<(), Fail> {
             }
             schedule.push(process)?;
         }
-        assert!(rt; passes(&rt, rt.alloc(), &inputs, &schedule)?);
+        assert!(rt; passes::<Q>(rt, alloc, &inputs, &schedule)?);
     }
     Ok(())
+}
+
+/// Many of these schedules are cut short.
+#[test]
+fn random_orders_of_more_processes(rt: HostRuntime) -> Result<(), Fail> {
+    random_orders::<TwoCollect>(&rt, rt.alloc(), 1000, 300)
 }

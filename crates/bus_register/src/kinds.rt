@@ -8,13 +8,17 @@ pub enum Kind {
     LoadStage,
     /// A sender stores 1 in its announcement, in the row of the tenure that it has begun.
     Announce,
-    /// The first step of a ratifier: a sender stores its proposal, 1 more than its bit.
+    /// The first step of a ratifier. Of two collects: a sender stores its proposal, 1 more than its
+    /// bit. Of three words: it sets the word of its bit.
     StoreProposal,
-    /// After `StoreProposal`: a sender loads the proposals in rising order.
+    /// After `StoreProposal`. Of two collects: a sender loads the proposals in rising order. Of
+    /// three words: it loads the proposal.
     ReadProposal,
-    /// After all `ReadProposal`: a sender stores its verdict.
+    /// After all `ReadProposal`. Of two collects: a sender stores its verdict. Of three words: it
+    /// stores a proposal where it found none, 1 more than its bit.
     StoreVerdict,
-    /// After `StoreVerdict`: a sender loads the verdicts in rising order.
+    /// The last steps of a ratifier. Of two collects: a sender loads the verdicts in rising order.
+    /// Of three words: it loads the word of the bit that it does not prefer.
     ReadVerdict,
     /// The first step of a conciliator: a sender sets the mark of its bit.
     SetMark,
