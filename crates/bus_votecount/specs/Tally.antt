@@ -15,9 +15,18 @@ abbrev pub voted : Tally → Bool → Tally
 voted t true = record t { heads = t.heads + 1 }
 voted t false = record t { tails = t.tails + 1 }
 
+-- what a vote adds to the word
+abbrev pub add_word_of : Bool → ℕ
+add_word_of true = 2 ^ 32
+add_word_of false = 1
+
 -- how many votes there are
 abbrev pub votes_of : Tally → ℕ
 votes_of t = t.heads + t.tails
+
+-- all these votes together
+abbrev pub sum_of : List Tally → Tally
+sum_of ts = record { heads = sum_by (λ t. t.heads) ts; tails = sum_by (λ t. t.tails) ts }
 
 -- all heads minus all tails
 abbrev pub total_of : List Tally → ℤ

@@ -1,4 +1,4 @@
-//! The votes of one process in one coin, and the words that hold them.
+//! Votes in coins, and the words that hold them.
 #![tactic(auto)]
 
 pub mod tallies;

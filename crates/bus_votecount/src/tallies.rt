@@ -1,7 +1,8 @@
 //! Counts of heads and tails.
 
 ghost use Rattle.std.specs.Prelude.{◌≡◌, ℕ, ◌+◌, ◌<◌, ◌≤◌, length};
-ghost use Rattle.bus_votecount.specs.Tally.{tally_of, word_of, voted, total_of};
+ghost use Rattle.bus_votecount.specs.declared.tallies.Tally.{Tally};
+ghost use Rattle.bus_votecount.specs.Tally.{tally_of, word_of, voted, add_word_of, total_of};
 
 /// The votes of one process in one coin: at most 64.
 pub const MOST_VOTES: u32 = 64;
@@ -9,7 +10,7 @@ pub const MOST_VOTES: u32 = 64;
 /// The tallies of one coin, one for each process: at most 64.
 pub const MOST_TALLIES: usize = 64;
 
-/// How many heads and how many tails one process has voted in one coin.
+/// How many heads and how many tails were voted in one coin, by one process or by all.
 #[derive(Clone, Copy, Debug, PartialEq, Eq)]
 pub struct Tally {
     pub heads: u32,
@@ -52,6 +53,14 @@ impl Tally {
                 tails: self.tails + 1,
             }
         }
+    }
+
+    /// What a vote adds to a word that holds counts: the counts with the vote stand there then.
+    pub fn add_word(head: bool) -> u64
+        ensures value { result ≡ add_word_of head }
+        ensures adds { (t : Tally) → word_of t + result ≡ word_of (voted t head) }
+    {
+        if head { 0x1_0000_0000 } else { 1 }
     }
 }
 
