@@ -58,13 +58,13 @@ fits_at (AskCoin c) s word found o e coin = coin c refl e
 record Begun (n me at most : ℕ) (st : Stage) : Type 0 where
   belongs : StageBelongs n me at st
   begun : begun_at st ≡ true
-  less : left_at st n < most
+  less : left_at st < most
 
-looks_if : (n me at : ℕ) (b : Bool) → me < n → n ≤ 64 → Begun n me at (1 + coin_steps n) (cond b Alone (AskCoin (coin_started n me (at + 2))))
+looks_if : (n me at : ℕ) (b : Bool) → me < n → n ≤ 64 → Begun n me at (1 + coin_steps) (cond b Alone (AskCoin (coin_started n me (at + 2))))
 looks_if n me at true below few = record { belongs = tt; begun = refl; less = omega arith }
 looks_if n me at false below few = let c = coin_laws.starts n me (at + 2) tt below few in record { belongs = c.belongs; begun = refl; less = let h = c.bounded in omega arith }
 
-goes_on : (s : ConciliatorState) (st : Stage) (o : Op) → s.me < s.n → s.n ≤ 64 → s.at ≤ register o → register o < s.at + (s.n + 2) → Begun s.n s.me s.at (left_at s.stage s.n) st → Goes conciliator_protocol s.n s.me s.at o s (record s { stage = st })
+goes_on : (s : ConciliatorState) (st : Stage) (o : Op) → s.me < s.n → s.n ≤ 64 → s.at ≤ register o → register o < s.at + 3 → Begun s.n s.me s.at (left_at s.stage) st → Goes conciliator_protocol s.n s.me s.at o s (record s { stage = st })
 goes_on s st o below few above under b = record {
   above = above;
   below = under;
@@ -78,16 +78,16 @@ goes_at : (st : Stage) (s : ConciliatorState) (got word : ℕ) (o : Op) → s.st
 goes_at SetMark s got word o e below few b q =
     let place : register o ≡ s.at + digit s.input = ap register (sym (same_Some _ _ q)) in
     let small = digit_le s.input in
-    goes_on s ReadOtherMark o below few (omega arith) (omega arith) record { belongs = tt; begun = refl; less = subst (λ z. 1 + coin_steps s.n < left_at z s.n) (sym e) (omega arith) }
+    goes_on s ReadOtherMark o below few (omega arith) (omega arith) record { belongs = tt; begun = refl; less = subst (λ z. 1 + coin_steps < left_at z) (sym e) (omega arith) }
 goes_at ReadOtherMark s got word o e below few b q =
     let place : register o ≡ s.at + digit (not s.input) = ap register (sym (same_Some _ _ q)) in
     let small = digit_le (not s.input) in
-    goes_on s _ o below few (omega arith) (omega arith) (subst (λ z. Begun s.n s.me s.at (left_at z s.n) (stage_after ReadOtherMark s got word)) (sym e) (looks_if s.n s.me s.at (got == 0) below few))
+    goes_on s _ o below few (omega arith) (omega arith) (subst (λ z. Begun s.n s.me s.at (left_at z) (stage_after ReadOtherMark s got word)) (sym e) (looks_if s.n s.me s.at (got == 0) below few))
 goes_at Alone s got word o e below few b q = absurd cc
 goes_at (AskCoin c) s got word o e below few b q =
     let g = coin_laws.goes s.n s.me (s.at + 2) c got word o b q in
     goes_on s (AskCoin (coin_fed c got word)) o below few (let h = g.above in omega arith) (let h = g.below in omega arith)
-    (subst (λ z. Begun s.n s.me s.at (left_at z s.n) (AskCoin (coin_fed c got word))) (sym e) record { belongs = g.belongs; begun = refl; less = g.falls })
+    (subst (λ z. Begun s.n s.me s.at (left_at z) (AskCoin (coin_fed c got word))) (sym e) record { belongs = g.belongs; begun = refl; less = g.falls })
 
 pub goes_of : (n me at : ℕ) (s : ConciliatorState) (got word : ℕ) (o : Op) → Belongs n me at s → conciliator_op s word ≡ Some o → Goes conciliator_protocol n me at o s (conciliator_fed s got word)
 goes_of n me at s got word o b q =

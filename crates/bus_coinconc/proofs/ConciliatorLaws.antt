@@ -17,7 +17,7 @@ use Rattle.bus_coinconc.proofs.ConciliatorMoves.{saw_stays, moves_keep}
 started_belongs : (n me at : ℕ) (v : Bool) → me < n → n ≤ 64 → Belongs n me at (conciliator_started n me v at)
 started_belongs n me at v below few = record { n_is = refl; me_is = refl; at_is = refl; below = below; few = few; stage = tt }
 
-fresh_keep : (n at : ℕ) (words : ℕ → ℕ) → Agree at (n + 2) (λ _. 0) words → Keeps n at words (λ _. None)
+fresh_keep : (n at : ℕ) (words : ℕ → ℕ) → Agree at 3 (λ _. 0) words → Keeps n at words (λ _. None)
 fresh_keep n at words zero = record {
   inside = λ p s e. absurd cc;
   set = λ p v e. absurd cc;
@@ -26,7 +26,7 @@ fresh_keep n at words zero = record {
   coin = coin_laws.fresh n (at + 2) words (λ r a b. zero r (omega arith) (omega arith));
 }
 
-module _ (n at : ℕ) (words words' : ℕ → ℕ) (old new : ℕ → Option ConciliatorState) (k : Keeps n at words old) (agree : Agree at (n + 2) words words') (same : (q : ℕ) → new q ≡ old q) where
+module _ (n at : ℕ) (words words' : ℕ → ℕ) (old new : ℕ → Option ConciliatorState) (k : Keeps n at words old) (agree : Agree at 3 words words') (same : (q : ℕ) → new q ≡ old q) where
   frame_keep : Keeps n at words' new
   frame_keep = record {
     inside = λ p s e. k.inside p s (sym (same p) ∙ e);

@@ -32,7 +32,7 @@ saw_stays ins ins' more Alone input h = tt
 saw_stays ins ins' more (AskCoin c) input h = more (not input) h
 
 module _ (n at : ℕ) (words words' : ℕ → ℕ) (old new : ℕ → Option ConciliatorState) (p : ℕ) (s : ConciliatorState) (word : ℕ) (o : Op)
-    (k : Keeps n at words old) (here : old p ≡ Some s) (next : conciliator_op s word ≡ Some o) (goes : new p ≡ Some (conciliator_fed s (words (register o)) word)) (beside : Beside p old new) (step : Stepped at (n + 2) o words words') where
+    (k : Keeps n at words old) (here : old p ≡ Some s) (next : conciliator_op s word ≡ Some o) (goes : new p ≡ Some (conciliator_fed s (words (register o)) word)) (beside : Beside p old new) (step : Stepped at 3 o words words') where
   mine : Belongs n p at s
   mine = (k.inside p s here).1
 
@@ -97,15 +97,15 @@ module _ (n at : ℕ) (words words' : ℕ → ℕ) (old new : ℕ → Option Con
     coin = coin;
   }
 
-  -- the coin stays where the process neither comes to it nor is in it, and no counter is written
-  coin_stays : coin_at s.stage ≡ None → coin_at (stage_after s.stage s (words (register o)) word) ≡ None → Agree (at + 2) n words words' → coin_protocol.Keeps n (at + 2) words' (coins new)
+  -- the coin stays where the process neither comes to it nor is in it, and its counter is not written
+  coin_stays : coin_at s.stage ≡ None → coin_at (stage_after s.stage s (words (register o)) word) ≡ None → Agree (at + 2) 1 words words' → coin_protocol.Keeps n (at + 2) words' (coins new)
   coin_stays was now agree = coin_laws.frame n (at + 2) words words' (coins old) (coins new) k.coin agree (λ q. elim (cases_eq q p) [
     | inl i ↦ ap (coins new) i ∙ coin_now ∙ now ∙ sym was ∙ sym coin_here ∙ ap (coins old) (sym i)
     | inr ne ↦ coins_beside q ne
   ])
 
   -- a load changes no word
-  loaded : ((found : ℕ) → after o found ≡ found) → (r : ℕ) → at ≤ r → r < at + (n + 2) → words' r ≡ words r
+  loaded : ((found : ℕ) → after o found ≡ found) → (r : ℕ) → at ≤ r → r < at + 3 → words' r ≡ words r
   loaded same r a b = elim (cases_eq r (register o)) [
     | inl e ↦ ap words' e ∙ step.here ∙ same _ ∙ ap words (sym e)
     | inr ne ↦ step.elsewhere r a b ne

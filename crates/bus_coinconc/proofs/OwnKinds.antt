@@ -1,5 +1,5 @@
 -- A conciliator's steps are of its four kinds.
-use Rattle.std.specs.Prelude.{◌≡◌, ◌⊎◌, Some}
+use Rattle.std.specs.Prelude.{◌≡◌, Some}
 use Rattle.std.proofs.Common.{inl, inr, sym}
 use Rattle.std.proofs.lemmas.Option.{same_Some}
 use Rattle.bus_register.specs.declared.kinds.Kind.{Kind}
@@ -13,7 +13,7 @@ use Rattle.bus_coinconc.specs.ConciliatorKinds.{IsOfConciliator}
 
 coin_named : (ph : Phase) (k : Kind) → coin.kind_at ph ≡ Some k → IsOfConciliator k
 coin_named Vote k e = inr (inr (inl (sym (same_Some _ _ e))))
-coin_named (ReadVotes of lead) k e = inr (inr (inr (sym (same_Some _ _ e))))
+coin_named ReadVotes k e = inr (inr (inr (sym (same_Some _ _ e))))
 coin_named (Answered answer) k e = absurd cc
 
 named_at : (stage : Stage) (k : Kind) → kind_at stage ≡ Some k → IsOfConciliator k

@@ -23,7 +23,7 @@ pub record ConciliatorState : Type 0 where
 pub record Sized (n me at : ℕ) : Type 0 where
   pub below : me < n
   pub few : n ≤ MOST_PROCESSES
-  pub room : at + (n + 2) ≤ 2 ^ 64
+  pub room : at + 3 ≤ 2 ^ 64
 
 abbrev pub conciliator_started : ℕ → ℕ → Bool → ℕ → ConciliatorState
 conciliator_started n me input at = record { n = n; me = me; at = at; input = input; stage = SetMark }

@@ -13,15 +13,15 @@ use Rattle.bus_coinconc.specs.Conciliation.{IsInput}
 use Rattle.bus_coinconc.specs.Conciliator.{ConciliatorState, conciliator_started, output_of, wants_of}
 
 -- the steps of the coin, at most
-abbrev pub coin_steps : ℕ → ℕ
-coin_steps n = MOST_VOTES * (n + 1)
+abbrev pub coin_steps : ℕ
+coin_steps = MOST_VOTES * 2
 
 -- the steps that are left, at most
-abbrev pub left_at : Stage → ℕ → ℕ
-left_at SetMark n = 2 + coin_steps n
-left_at ReadOtherMark n = 1 + coin_steps n
-left_at Alone n = 0
-left_at (AskCoin c) n = coin_protocol.left c
+abbrev pub left_at : Stage → ℕ
+left_at SetMark = 2 + coin_steps
+left_at ReadOtherMark = 1 + coin_steps
+left_at Alone = 0
+left_at (AskCoin c) = coin_protocol.left c
 
 -- the own mark is set
 abbrev pub begun_at : Stage → Bool
@@ -79,14 +79,14 @@ pub record Keeps (n at : ℕ) (words : ℕ → ℕ) (locals : ℕ → Option Con
 
 abbrev pub conciliator_protocol : Protocol ConciliatorState Bool Bool
 conciliator_protocol = record {
-  width = λ n. n + 2;
-  steps = λ n. 2 + coin_steps n;
+  width = λ n. 3;
+  steps = λ n. 2 + coin_steps;
   started = conciliator_started;
   input = λ s. s.input;
   has_begun = λ s. begun_at s.stage;
   output = output_of;
   wants_word = wants_of;
-  left = λ s. left_at s.stage s.n;
+  left = λ s. left_at s.stage;
   Belongs = Belongs;
   Keeps = Keeps;
 }

@@ -23,7 +23,7 @@ pub enum Stage {
 }
 
 /// A process that keeps its own input where it sees no other, and else asks a coin. The words are
-/// the marks of 0 and of 1 at `at` and `at + 1`, and the coin's counters from `at + 2` on.
+/// the marks of 0 and of 1 at `at` and `at + 1`, and the coin's counter at `at + 2`.
 #[derive(Drop)]
 pub struct Conciliator {
     n: u64,
@@ -62,7 +62,7 @@ impl Conciliator {
     pub fn start(n: u64, me: SenderNo, input: bool, at: Reg) -> Conciliator
         requires me_below { me.0 < n }
         requires few { n ≤ MOST_PROCESSES }
-        requires room { at.0 + (n + 2) ≤ 2 ^ 64 }
+        requires room { at.0 + 3 ≤ 2 ^ 64 }
         ensures { result ≡ conciliator_started n me.0 input at.0 }
     {
         Conciliator {
@@ -74,12 +74,11 @@ impl Conciliator {
         }
     }
 
-    /// How many words a conciliator of `n` processes has.
+    /// How many words a conciliator has, for any number of processes: two marks and the coin's.
     pub fn width(n: u64) -> u64
-        requires { n + 2 < 2 ^ 64 }
-        ensures { result ≡ n + 2 }
+        ensures { result ≡ 3 }
     {
-        2 + n
+        2 + WalkCoin::width(n)
     }
 
     /// The output, once there is one.

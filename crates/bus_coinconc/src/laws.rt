@@ -10,7 +10,7 @@ ghost use Rattle.bus_coinconc.specs.ConciliatorKinds.{IsOfConciliator};
 ghost use Rattle.bus_coinconc.specs.ConciliatorProtocol.{conciliator_protocol};
 
 /// Any processes that step through a conciliator keep the laws of a protocol: each has an output
-/// after at most `2 + 64 * (n + 1)` own steps, each output is the input of a process that has
+/// after at most `2 + 64 * 2` own steps, each output is the input of a process that has
 /// begun, and where all these have one input, it is the only output.
 pub fn conciliator_is_lawful()
     ensures { Laws conciliator_op conciliator_fed conciliator_protocol Conciles }

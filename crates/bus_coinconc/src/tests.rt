@@ -39,8 +39,11 @@ fn step_machine<M: Machine>(
         None => None,
         Some(op) => {
             assert!(rt; place(op) < cells.len());
-            if let Op::Add(_, _) = op {
-                assert!(rt; false, "no step of these machines is an addition");
+            if let Op::Add(at, value) = op {
+                assert!(rt;
+                    value <= u64::MAX - cells.get(at),
+                    "a vote passes no word's range"
+                );
             }
             let got = cells.apply(op);
             machine.feed(got, word);
@@ -100,6 +103,8 @@ fn coin_and_conciliator_steps(rt: HostRuntime) {
     assert!(rt; tally == Tally { heads: 3, tails: 2 });
     assert!(rt; tally.word() == 0x0000_0003_0000_0002);
     assert!(rt; tally.vote(true) == Tally { heads: 4, tails: 2 });
+    assert!(rt; Tally::add_word(true) == 0x0000_0001_0000_0000);
+    assert!(rt; Tally::add_word(false) == 1);
     assert!(rt; total(&[tally, Tally { heads: 0, tails: 4 }]) == -3);
 
     let mut cells = Cells::new(rt.alloc(), 1).expect(&rt, "memory");
@@ -112,29 +117,29 @@ fn coin_and_conciliator_steps(rt: HostRuntime) {
     assert!(rt; run(&rt, &mut cells, &mut coin, [1, 0]) == 128);
     assert!(rt; output(&coin) == Some(false));
 
-    assert!(rt; WalkCoin::width(2) == 2);
-    let mut cells = Cells::new(rt.alloc(), 2).expect(&rt, "memory");
+    assert!(rt; WalkCoin::width(2) == 1);
+    let mut cells = Cells::new(rt.alloc(), 1).expect(&rt, "memory");
     let mut coin = Process::Coin(WalkCoin::start(2, SenderNo(0), Reg(0)));
-    assert!(rt; run(&rt, &mut cells, &mut coin, [1, 1]) == 12);
+    assert!(rt; run(&rt, &mut cells, &mut coin, [1, 1]) == 8);
     assert!(rt; output(&coin) == Some(true));
     let mut coin = Process::Coin(WalkCoin::start(2, SenderNo(1), Reg(0)));
-    assert!(rt; run(&rt, &mut cells, &mut coin, [0, 0]) == 24);
+    assert!(rt; run(&rt, &mut cells, &mut coin, [0, 0]) == 16);
     assert!(rt; output(&coin) == Some(false));
 
-    assert!(rt; Conciliator::width(2) == 4);
-    let mut cells = Cells::new(rt.alloc(), 4).expect(&rt, "memory");
+    assert!(rt; Conciliator::width(2) == 3);
+    let mut cells = Cells::new(rt.alloc(), 3).expect(&rt, "memory");
     for me in 0..2 {
         let mut process = Process::Conciliator(Conciliator::start(2, SenderNo(me), true, Reg(0)));
         assert!(rt; run(&rt, &mut cells, &mut process, [0, 0]) == 2);
         assert!(rt; output(&process) == Some(true));
     }
 
-    let mut cells = Cells::new(rt.alloc(), 4).expect(&rt, "memory");
+    let mut cells = Cells::new(rt.alloc(), 3).expect(&rt, "memory");
     let mut process = Process::Conciliator(Conciliator::start(2, SenderNo(0), false, Reg(0)));
     assert!(rt; run(&rt, &mut cells, &mut process, [1, 1]) == 2);
     assert!(rt; output(&process) == Some(false));
     let mut process = Process::Conciliator(Conciliator::start(2, SenderNo(1), true, Reg(0)));
-    assert!(rt; run(&rt, &mut cells, &mut process, [0, 0]) == 14);
+    assert!(rt; run(&rt, &mut cells, &mut process, [0, 0]) == 10);
     assert!(rt; output(&process) == Some(false));
 }
 
@@ -144,27 +149,25 @@ enum Act {
     SetMark,
     ReadOtherMark,
     Vote,
-    Read(u64),
+    Read,
     Done,
 }
 
 /// A process of the plain model.
 #[derive(Clone, Copy)]
 struct Plain {
-    me: u64,
     input: bool,
     act: Act,
     votes: u64,
-    seen: i64,
     output: Option<bool>,
 }
 
-/// The words of the plain model: the marks, and each process's heads and tails.
+/// The words of the plain model: the marks, and all heads and tails.
 #[derive(Clone, Copy)]
 struct Board {
     marks: [bool; 2],
-    heads: [u64; 8],
-    tails: [u64; 8],
+    heads: i64,
+    tails: i64,
 }
 
 fn bit(value: bool) -> usize
@@ -187,22 +190,15 @@ fn plain_answer(n: u64, votes: u64, seen: i64) -> Option<bool> {
     }
 }
 
-/// The step that a process of the plain model takes next, over counters from `counters` on.
-fn plain_op(counters: u64, plain: Plain, board: Board, word: u32) -> Option<Op> {
-    let marks = counters.wrapping_sub(2);
+/// The step that a process of the plain model takes next, over this counter.
+fn plain_op(counter: u64, plain: Plain, word: u32) -> Option<Op> {
+    let marks = counter.wrapping_sub(2);
     match plain.act {
         Act::SetMark => Some(Op::Store(Reg(marks.wrapping_add(bit(plain.input) as u64)), 1)),
         Act::ReadOtherMark => Some(Op::Load(Reg(marks.wrapping_add(bit(!plain.input) as u64)))),
-        Act::Vote => {
-            let me = (plain.me % 8) as usize;
-            let high = board.heads[me].wrapping_add(u64::from(word & 1));
-            let low = board.tails[me].wrapping_add(1 - u64::from(word & 1));
-            Some(Op::Store(
-                Reg(counters.wrapping_add(plain.me)),
-                high.wrapping_mul(0x1_0000_0000).wrapping_add(low),
-            ))
-        }
-        Act::Read(of) => Some(Op::Load(Reg(counters.wrapping_add(of)))),
+        Act::Vote if word & 1 == 1 => Some(Op::Add(Reg(counter), 0x1_0000_0000)),
+        Act::Vote => Some(Op::Add(Reg(counter), 1)),
+        Act::Read => Some(Op::Load(Reg(counter))),
         Act::Done => None,
     }
 }
@@ -212,21 +208,20 @@ fn plain_kind(plain: Plain) -> Option<Kind> {
         Act::SetMark => Some(Kind::SetMark),
         Act::ReadOtherMark => Some(Kind::ReadOtherMark),
         Act::Vote => Some(Kind::Vote),
-        Act::Read(_) => Some(Kind::ReadVotes),
+        Act::Read => Some(Kind::ReadVotes),
         Act::Done => None,
     }
 }
 
 /// The board after a step of the plain model.
 fn plain_board(plain: Plain, mut board: Board, word: u32) -> Board {
-    let me = (plain.me % 8) as usize;
     match plain.act {
         Act::SetMark => board.marks[bit(plain.input)] = true,
         Act::Vote => {
             if word & 1 == 1 {
-                board.heads[me] = board.heads[me].wrapping_add(1);
+                board.heads = board.heads.wrapping_add(1);
             } else {
-                board.tails[me] = board.tails[me].wrapping_add(1);
+                board.tails = board.tails.wrapping_add(1);
             }
         }
         _ => {}
@@ -248,25 +243,15 @@ fn plain_step(n: u64, mut plain: Plain, board: Board) -> Plain {
         }
         Act::Vote => {
             plain.votes = plain.votes.wrapping_add(1);
-            plain.seen = 0;
-            plain.act = Act::Read(0);
+            plain.act = Act::Read;
         }
-        Act::Read(of) => {
-            let at = (of % 8) as usize;
-            let heads = i64::try_from(board.heads[at]).unwrap_or(0);
-            let tails = i64::try_from(board.tails[at]).unwrap_or(0);
-            plain.seen = plain.seen.wrapping_add(heads.wrapping_sub(tails));
-            let next = of.wrapping_add(1);
-            if next < n {
-                plain.act = Act::Read(next);
+        Act::Read => {
+            plain.output = plain_answer(n, plain.votes, board.heads.wrapping_sub(board.tails));
+            plain.act = if plain.output.is_some() {
+                Act::Done
             } else {
-                plain.output = plain_answer(n, plain.votes, plain.seen);
-                plain.act = if plain.output.is_some() {
-                    Act::Done
-                } else {
-                    Act::Vote
-                };
-            }
+                Act::Vote
+            };
         }
         Act::Done => {}
     }
@@ -287,14 +272,14 @@ fn play_beside_model(
     cells: &mut Cells,
     processes: &mut [Process],
     plains: &mut [Plain],
-    counters: u64,
+    counter: u64,
     seed: u64,
 ) -> (u64, u64) {
     let n = processes.len() as u64;
     let mut board = Board {
         marks: [false, false],
-        heads: [0; 8],
-        tails: [0; 8],
+        heads: 0,
+        tails: 0,
     };
     let mut state = seed;
     for _ in 0..3000 {
@@ -307,7 +292,7 @@ fn play_beside_model(
             assert!(rt; wants_word(&processes[turn]) == (plain.act == Act::Vote));
             assert!(rt; kind(&processes[turn]) == plain_kind(plain));
             let op = step(rt, cells, &mut processes[turn], word);
-            assert!(rt; op == plain_op(counters, plain, board, word));
+            assert!(rt; op == plain_op(counter, plain, word));
             plains[turn] = plain_step(n, plain, board);
             board = plain_board(plain, board, word);
             assert!(rt; output(&processes[turn]) == plains[turn].output);
@@ -354,11 +339,9 @@ fn random_schedules(rt: HostRuntime) {
                 processes.push(process).expect(&rt, "memory");
                 plains
                     .push(Plain {
-                        me: u64::from(me),
                         input,
                         act,
                         votes: 0,
-                        seen: 0,
                         output: None,
                     })
                     .expect(&rt, "memory");

@@ -24,9 +24,10 @@ pub enum Kind {
     SetMark,
     /// After `SetMark`: a sender loads the mark of the other bit.
     ReadOtherMark,
-    /// A sender adds one vote to its counter: it saw the other mark, and the coin has no answer.
+    /// A sender adds one vote to the coin's counter: it saw the other mark, and the coin has no
+    /// answer.
     Vote,
-    /// After `Vote`: a sender loads the counters in rising order.
+    /// After `Vote`: a sender loads the coin's counter once.
     ReadVotes,
     /// After all rounds without a commit: one compare_exchange on the fallback word.
     Fallback,

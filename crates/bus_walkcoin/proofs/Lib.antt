@@ -1,2 +1,3 @@
 pub mod CoinAnswerLaws
 pub mod CoinProtocolLaws
+pub mod VoteSums

@@ -1,8 +1,8 @@
 //! One process in one coin.
 
-ghost use Rattle.std.specs.Prelude.{◌≡◌, ℕ, ◌+◌, ◌<◌, ◌≤◌, ◌^◌};
+ghost use Rattle.std.specs.Prelude.{◌≡◌, ℕ, ◌<◌, ◌≤◌};
 ghost use Rattle.bus_walkcoin.specs.CoinRule.{settled};
-ghost use Rattle.bus_walkcoin.specs.Coin.{after_load, answer_of, wants_of, coin_started};
+ghost use Rattle.bus_walkcoin.specs.Coin.{after_settled, answer_of, wants_of, coin_started};
 
 use bus_register::limits::MOST_PROCESSES;
 use bus_register::{Kind, Machine, Op, Reg, SenderNo};
@@ -13,16 +13,16 @@ use std::marker::Model;
 /// Where a process stands in a coin.
 #[derive(Clone, Copy, Debug, PartialEq, Eq)]
 pub enum Phase {
-    /// It adds a vote to its own counter next.
+    /// It adds a vote to the counter word next.
     Vote,
-    /// It loads the counter of process `of` next; `lead` is heads minus tails of those below.
-    ReadVotes { of: u64, lead: i64 },
+    /// It loads the counter word next.
+    ReadVotes,
     /// It has the answer.
     Answered(bool),
 }
 
 /// A process that votes at random until the total is far from zero, or until its own votes are
-/// used up. Counter `j` is the word at `at + j`.
+/// used up. All votes of all processes stand in one counter, the word at `at`.
 #[derive(Drop)]
 pub struct WalkCoin {
     n: u64,
@@ -45,7 +45,7 @@ impl Model for WalkCoin {
       phase = c.phase;
     } };
 
-    ghost invariant = { λ c. Sized c.n c.me.0 c.at.0 c.own c.phase };
+    ghost invariant = { λ c. Sized c.n c.me.0 c.own c.phase };
 }
 
 /// What the total says after so many own votes.
@@ -65,28 +65,22 @@ fn settle(n: u64, votes: u32, lead: i64) -> Option<bool>
     }
 }
 
-/// Where a process stands that has loaded the counter of process `of`.
-fn go_on(n: u64, votes: u32, of: u64, lead: i64) -> Phase
-    requires few { n ≤ MOST_PROCESSES }
-    requires below { of < n }
-    ensures { result ≡ after_load n votes of lead }
+/// Where a process stands that has loaded the counter and found this total in it.
+fn go_on(n: u64, votes: u32, lead: i64) -> Phase
+    requires { n ≤ MOST_PROCESSES }
+    ensures { result ≡ after_settled (settled n votes lead) }
 {
-    if of + 1 < n {
-        Phase::ReadVotes { of: of + 1, lead }
-    } else {
-        match settle(n, votes, lead) {
-            Some(answer) => Phase::Answered(answer),
-            None => Phase::Vote,
-        }
+    match settle(n, votes, lead) {
+        Some(answer) => Phase::Answered(answer),
+        None => Phase::Vote,
     }
 }
 
 impl WalkCoin {
-    /// Process `me` of `n`, over the words from `at` on, which are zero before the first step.
+    /// Process `me` of `n`, over the word at `at`, which is zero before the first step.
     pub fn start(n: u64, me: SenderNo, at: Reg) -> WalkCoin
         requires me_below { me.0 < n }
         requires few { n ≤ MOST_PROCESSES }
-        requires room { at.0 + n ≤ 2 ^ 64 }
         ensures { result ≡ coin_started n me.0 at.0 }
     {
         WalkCoin {
@@ -98,12 +92,11 @@ impl WalkCoin {
         }
     }
 
-    /// How many words a coin of `n` processes has.
-    pub fn width(n: u64) -> u64
-        ensures { result ≡ n }
+    /// How many words a coin has, for any number of processes.
+    pub fn width(_n: u64) -> u64
+        ensures { result ≡ 1 }
     {
-        // One counter for each process.
-        n
+        1
     }
 
     /// The answer, once there is one.
@@ -142,18 +135,15 @@ impl Machine for WalkCoin {
     fn kind(&self) -> Option<Kind> {
         match self.phase {
             Phase::Vote => Some(Kind::Vote),
-            Phase::ReadVotes { of: _, lead: _ } => Some(Kind::ReadVotes),
+            Phase::ReadVotes => Some(Kind::ReadVotes),
             Phase::Answered(_) => None,
         }
     }
 
     fn next(&self, word: u32) -> Option<Op> {
         match self.phase {
-            Phase::Vote => Some(Op::Store(
-                Reg(self.at.0 + u64::from(self.me.0)),
-                self.own.vote(word % 2 == 1).word(),
-            )),
-            Phase::ReadVotes { of, lead: _ } => Some(Op::Load(Reg(self.at.0 + of))),
+            Phase::Vote => Some(Op::Add(self.at, Tally::add_word(word % 2 == 1))),
+            Phase::ReadVotes => Some(Op::Load(self.at)),
             Phase::Answered(_) => None,
         }
     }
@@ -162,11 +152,11 @@ impl Machine for WalkCoin {
         match self.phase {
             Phase::Vote => {
                 self.own = self.own.vote(word % 2 == 1);
-                self.phase = Phase::ReadVotes { of: 0, lead: 0 };
+                self.phase = Phase::ReadVotes;
             }
-            Phase::ReadVotes { of, lead } => {
-                let lead = lead + total(&[Tally::of_word(got)]);
-                self.phase = go_on(self.n, self.own.heads + self.own.tails, of, lead);
+            Phase::ReadVotes => {
+                let lead = total(&[Tally::of_word(got)]);
+                self.phase = go_on(self.n, self.own.heads + self.own.tails, lead);
             }
             Phase::Answered(_) => {}
         }

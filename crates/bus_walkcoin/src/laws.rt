@@ -1,15 +1,16 @@
 //! What a coin keeps, as contracts of functions without a body.
 
-ghost use Rattle.std.specs.Prelude.{◌≡◌, ◌↔◌, ℕ, ◌<◌, IsSome, None, List};
+ghost use Rattle.std.specs.Prelude.{◌≡◌, ◌↔◌, ℕ, IsSome, None, List};
 ghost use Rattle.bus_register.specs.Protocol.{Laws};
 ghost use Rattle.bus_walkcoin.specs.Coin.{CoinState, coin_started, coin_op, coin_fed};
 ghost use Rattle.bus_walkcoin.specs.CoinRule.{Entry, coin_answer};
 ghost use Rattle.bus_walkcoin.specs.CoinAnswer.{Took, CoinAnswer, RefusesEarlyAnswers};
 ghost use Rattle.bus_walkcoin.specs.CoinProtocol.{coin_protocol, AnyAnswers};
 
-/// Any processes that step through a coin keep the laws of a protocol: each counter holds exactly
-/// its owner's votes, and each answer comes after at most `64 * (n + 1)` own steps. Nothing is
-/// claimed of what the answers are together.
+/// Any processes that step through a coin keep the laws of a protocol: the counter holds exactly
+/// the votes of all of them, at most 64 of each, so that no vote passes the word's range; and each
+/// answer comes after at most `64 * 2` own steps. Nothing is claimed of what the answers are
+/// together.
 pub fn coin_is_lawful()
     ensures { Laws coin_op coin_fed coin_protocol AnyAnswers }
 {}
@@ -18,19 +19,19 @@ pub fn coin_is_lawful()
 /// those that the definition reads off its steps.
 pub fn coin_answers_by_its_trail()
     ensures { (n me at : ℕ) (trail : List Entry) (s : CoinState)
-        → me < n → Took coin_op coin_fed (coin_started n me at) trail s
+        → Took coin_op coin_fed (coin_started n me at) trail s
         → CoinAnswer n at trail s }
 {}
 
 /// A process has a next step exactly as long as the definition gives no answer.
 pub fn coin_goes_on_until_answered()
     ensures { (n me at word : ℕ) (trail : List Entry) (s : CoinState)
-        → me < n → Took coin_op coin_fed (coin_started n me at) trail s
+        → Took coin_op coin_fed (coin_started n me at) trail s
         → IsSome (coin_op s word) ↔ (coin_answer n at trail ≡ None) }
 {}
 
-/// No process answers before it has voted, before it has then loaded all counters in rising order,
-/// or below the barrier while votes are left.
+/// No process answers without a vote, without a load of the counter as its last step, on a load
+/// that follows no vote, or below the barrier while votes are left.
 pub fn coin_refuses()
     ensures { RefusesEarlyAnswers }
 {}

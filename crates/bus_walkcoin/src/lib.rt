@@ -1,4 +1,5 @@
-//! The random-walk coin of Aspnes and Herlihy (1990), over one counter word for each process.
+//! The random-walk coin of Aspnes and Herlihy (1990), over one counter word that all its processes
+//! add their votes to.
 #![tactic(auto)]
 
 pub mod coins;

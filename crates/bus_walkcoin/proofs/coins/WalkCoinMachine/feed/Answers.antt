@@ -1,31 +1,26 @@
-use Rattle.std.proofs.Common.{◌≡◌, arith, [], ◌∷◌, ◌+ℤ◌, sym, ◌∙◌, ap, subst}
+use Rattle.std.proofs.Common.{◌≡◌, arith, [], ◌∷◌, sym, ◌∙◌, ap, subst}
 use Rattle.std.proofs.lemmas.Int.{ints}
 use Rattle.bus_votecount.specs.Tally.{tally_of, votes_of, total_of}
 use Rattle.bus_walkcoin.specs.declared.coins.Phase.{Phase}
-use Rattle.bus_walkcoin.specs.Coin.{CoinState, PhaseFits, LeadFits, after_load, coin_fed, fed_at}
-use Rattle.bus_walkcoin.specs.Proved.CoinLaws.{load_fits, load_lead}
+use Rattle.bus_walkcoin.specs.Coin.{CoinState, PhaseFits, after_settled, after_load, coin_fed, fed_at}
+use Rattle.bus_walkcoin.specs.CoinRule.{settled}
+use Rattle.bus_walkcoin.specs.Proved.CoinLaws.{load_fits}
 use Rattle.bus_walkcoin.proofs.coins.WalkCoinMachine.feed.Goals as goal
 
--- the new phase, with the sum written plainly
-goes_on : (c : goal.After-self-in-ReadVotes-1) → c.go_on-self-inside.result ≡ after_load c.self.inside.n (votes_of c.self.inside.own) c.in-ReadVotes.of (c.in-ReadVotes.lead +ℤ total_of (tally_of c.args.got ∷ []))
+-- the new phase, by the number that was found
+goes_on : (c : goal.After-self-in-ReadVotes-1) → c.go_on-self-inside.result ≡ after_load c.self.inside.n (votes_of c.self.inside.own) c.args.got
 goes_on c =
-    let f = subst LeadFits c.in-ReadVotes.is c.self.invariant.lead in
-    let b = subst (PhaseFits c.self.inside.n (votes_of c.self.inside.own)) c.in-ReadVotes.is c.self.invariant.fits in
-    let t : c.total.result ≡ total_of (tally_of c.args.got ∷ []) = c.total.ensures ∙ ap (λ t. total_of (t ∷ [])) c.of_word.ensures.counts in
-    let few = c.self.invariant.few in
-    c.go_on-self-inside.ensures ∙ ap (after_load c.self.inside.n (votes_of c.self.inside.own) c.in-ReadVotes.of) (omega (arith, ints))
+    let t : c.total-lead.result ≡ total_of (tally_of c.args.got ∷ []) = c.total-lead.ensures ∙ ap (λ t. total_of (t ∷ [])) c.of_word.ensures.counts in
+    c.go_on-self-inside.ensures ∙ ap (λ z. after_settled (settled c.self.inside.n (votes_of c.self.inside.own) z)) (omega (arith, ints))
 
 pub invariant_of-self-in-ReadVotes : goal.invariant_of-self-in-ReadVotes
 invariant_of-self-in-ReadVotes c =
-    let b = subst (PhaseFits c.self.inside.n (votes_of c.self.inside.own)) c.in-ReadVotes.is c.self.invariant.fits in
-    let f = subst LeadFits c.in-ReadVotes.is c.self.invariant.lead in
+    let b = subst (PhaseFits (votes_of c.self.inside.own)) c.in-ReadVotes.is c.self.invariant.fits in
     record {
       below = c.self.invariant.below;
       few = c.self.invariant.few;
-      room = c.self.invariant.room;
       votes = c.self.invariant.votes;
-      fits = subst (PhaseFits c.self.inside.n (votes_of c.self.inside.own)) (sym (goes_on c)) (load_fits c.self.inside.n (votes_of c.self.inside.own) c.in-ReadVotes.of (c.in-ReadVotes.lead +ℤ total_of (tally_of c.args.got ∷ [])) b.1 c.self.invariant.votes);
-      lead = subst LeadFits (sym (goes_on c)) (load_lead c.self.inside.n (votes_of c.self.inside.own) c.in-ReadVotes.of c.in-ReadVotes.lead c.args.got (omega arith) f);
+      fits = subst (PhaseFits (votes_of c.self.inside.own)) (sym (goes_on c)) (load_fits c.self.inside.n (votes_of c.self.inside.own) c.args.got b c.self.invariant.votes);
     }
 
 pub returns-in-ReadVotes : goal.returns-in-ReadVotes
