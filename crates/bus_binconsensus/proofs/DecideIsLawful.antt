@@ -18,7 +18,7 @@ use Rattle.bus_binconsensus.proofs.RoundLaws.{the_rounds, steps_of_rounds}
 
 module _ {S T : Type 0} (op : S → ℕ → Option Op) (fed : S → ℕ → ℕ → S) (P : Protocol S Bool Verdict) (laws : Laws op fed P Legal) (wordless : (s : S) → P.wants_word s ≡ false)
     (opC : T → ℕ → Option Op) (fedC : T → ℕ → ℕ → T) (C : Protocol T Bool Bool) (OutC : (ℕ → Option Bool) → (ℕ → Option Bool) → Type 0) (lawsC : Laws opC fedC C OutC)
-    (chosen : (ins outs : ℕ → Option Bool) → OutC ins outs → IsChosen ins outs) (quickC : (n : ℕ) → C.steps n ≡ 2 + 64 * (n + 1)) where
+    (chosen : (ins outs : ℕ → Option Bool) → OutC ins outs → IsChosen ins outs) (quickC : (n : ℕ) → C.steps n ≡ 2 + 64 * 2) where
   asks_by : (x : Object S T) → object_wants P C x ≡ object_calls C x
   asks_by (Ratify q) = wordless q
   asks_by (Concile c) = refl

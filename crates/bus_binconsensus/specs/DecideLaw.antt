@@ -63,6 +63,6 @@ pub record DecideLaw {S T : Type 0} (op : S → ℕ → Option Op) (fed : S → 
   pub in_its_part : (rounds n me at : ℕ) (d : Decider S T) → (decide_protocol P C rounds).Belongs n me at d → part_of d.object ≡ part_at d.after
   pub falls_last : (rounds n me at : ℕ) (d : Decider S T) (f : Fallback) → (decide_protocol P C rounds).Belongs n me at d → d.object ≡ Fall f → d.after ≡ 0
   -- the steps to a decision, at most
-  pub steps : (rounds n : ℕ) → (decide_protocol P C rounds).steps n ≡ rounds * P.steps n + (rounds - 1) * (2 + MOST_VOTES * (n + 1)) + 1
+  pub steps : (rounds n : ℕ) → (decide_protocol P C rounds).steps n ≡ rounds * P.steps n + (rounds - 1) * (2 + MOST_VOTES * 2) + 1
   -- a random word is asked for only in a conciliator
   pub asks : (rounds : ℕ) (d : Decider S T) → (decide_protocol P C rounds).wants_word d ≡ object_calls C d.object

@@ -64,7 +64,7 @@ impl<Q: Ratifier + Drop> Decide<Q> {
         requires few { n ≤ MOST_PROCESSES }
         requires some { 1 ≤ rounds }
         requires not_many { rounds ≤ MOST_ROUNDS }
-        ensures words { result ≡ rounds * Q.protocol.width n + (rounds - 1) * (n + 2) + 1 }
+        ensures words { result ≡ rounds * Q.protocol.width n + (rounds - 1) * 3 + 1 }
         ensures protocol { result ≡ (decisions Q.protocol rounds).width n }
     {
         rounds * Q::width(n) + (rounds - 1) * Conciliator::width(n) + 1

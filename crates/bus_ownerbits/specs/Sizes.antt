@@ -17,7 +17,7 @@ bit_at k number = (number / 2 ^ k) % 2 == 1
 
 -- the steps of a binary decision of so many rounds, at most, where a ratifier takes so many, by processes
 abbrev pub decision_cost : (ℕ → ℕ) → ℕ → ℕ → ℕ
-decision_cost steps rounds n = rounds * steps n + (rounds - 1) * (2 + MOST_VOTES * (n + 1)) + 1
+decision_cost steps rounds n = rounds * steps n + (rounds - 1) * (2 + MOST_VOTES * 2) + 1
 
 -- what a decision and a search cost at most, where cost is that of a decision, by rounds and processes
 abbrev pub each_bit : (ℕ → ℕ → ℕ) → ℕ → ℕ → ℕ

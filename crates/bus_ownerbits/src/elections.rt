@@ -79,7 +79,7 @@ impl<Q: Ratifier + Drop> Election<Q> {
         requires rounds_some { 1 ≤ rounds }
         requires rounds_few { rounds ≤ MOST_ROUNDS }
         ensures words { result
-            ≡ n + bits_of n * (rounds * Q.protocol.width n + (rounds - 1) * (n + 2) + 1) }
+            ≡ n + bits_of n * (rounds * Q.protocol.width n + (rounds - 1) * 3 + 1) }
         ensures protocol { result ≡ (elections Q.protocol rounds).width n }
     {
         n + bits(n) * Decide::<Q>::width(n, rounds)

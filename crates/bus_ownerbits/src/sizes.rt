@@ -34,6 +34,6 @@ pub fn bound<Q: Ratifier>(n: u64, rounds: u64) -> u64
     ensures { result ≡ election_bound Q.protocol.steps n rounds }
 {
     let ratifiers = rounds * Q::steps(n);
-    let conciliators = (rounds - 1) * (2 + MOST_VOTES as u64 * (n + 1));
+    let conciliators = (rounds - 1) * (2 + MOST_VOTES as u64 * 2);
     2 + bits(n) * (ratifiers + conciliators + 1 + n)
 }

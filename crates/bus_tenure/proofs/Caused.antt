@@ -124,7 +124,7 @@ module _ {S : Type 0} (P : Protocol S Bool Verdict) (c : Core (Elector S)) (t : 
 
     by_coin : (coin : CoinState) → IsInConciliator c (AskCoin coin) → (phase : Phase) → coin.phase ≡ phase → IfSome (coin_kind_at phase) (HasCause P c)
     by_coin coin asks Vote stands = record { coin = coin; asks = asks; stands = stands }
-    by_coin coin asks (ReadVotes of lead) stands = record { of = of; lead = lead; asks = record { coin = coin; asks = asks; stands = stands } }
+    by_coin coin asks ReadVotes stands = record { coin = coin; asks = asks; stands = stands }
     by_coin coin asks (Answered answer) stands = tt
 
     by_mark : (s : ConciliatorState) → d.object ≡ Concile s → (at_stage : ConciliatorStage) → s.stage ≡ at_stage → IfSome (conciliator_kind_at at_stage) (HasCause P c)

@@ -31,8 +31,8 @@ module _ {S : Type 0} (P : Protocol S Bool Verdict) where
     unmarked_reads = λ c is h. let x = same_stage c _ _ is h in absurd cc;
     unread_votes = λ c is h. let x = same_stage c _ _ is h.asks in absurd cc;
     counting_votes = λ c is h.
-        let x = same_stage c _ _ is.asks.asks h.asks in
-        let y = is.asks.stands in
+        let x = same_stage c _ _ is.asks h.asks in
+        let y = is.stands in
         let z = h.stands in
         absurd cc;
   }

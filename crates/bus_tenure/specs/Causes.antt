@@ -1,5 +1,5 @@
 -- Why a sender takes a step of each kind: what holds of it before the step, read off what it holds.
-use Rattle.std.specs.Prelude.{◌≡◌, ◌≢◌, ℕ, ◌+◌, ◌<◌, ◌≤◌, ◌⊎◌, Bool, true, false, Some, ℤ}
+use Rattle.std.specs.Prelude.{◌≡◌, ◌≢◌, ℕ, ◌+◌, ◌<◌, ◌≤◌, ◌⊎◌, Bool, true, false, Some}
 use Rattle.bus_register.specs.declared.kinds.Kind.{Kind}
 use Rattle.bus_register.specs.declared.kinds.Kind.TheVariants as kind
 use Rattle.bus_register.specs.Protocol.{Protocol}
@@ -65,11 +65,9 @@ pub record AsksCoin {S : Type 0} (c : Core (Elector S)) (phase : Phase) : Type 0
   pub asks : IsInConciliator c (AskCoin coin)
   pub stands : coin.phase ≡ phase
 
--- it has voted, and is at the load of somebody's votes
-pub record CountsVotes {S : Type 0} (c : Core (Elector S)) : Type 0 where
-  pub of : ℕ
-  pub lead : ℤ
-  pub asks : AsksCoin c (ReadVotes of lead)
+-- it has voted, and is at the load of all votes
+abbrev pub CountsVotes : {S : Type 0} → Core (Elector S) → Type 0
+CountsVotes c = AsksCoin c ReadVotes
 
 -- it is at the fallback word of a bit's decision, past all rounds
 pub record IsAtFallback {S : Type 0} (c : Core (Elector S)) : Type 0 where

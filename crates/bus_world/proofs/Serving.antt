@@ -39,7 +39,7 @@ pub record Serves {E : Type 0} (X : Election E) (P : Protocol E (Unit {0}) ℕ) 
 -- ---- no step of an election takes the page
 takes_coin : (ph : CoinPhase) → coin_kind_at ph ≡ Some kind.TakePage → ⊥
 takes_coin coin.Vote e = cc
-takes_coin (coin.ReadVotes of lead) e = cc
+takes_coin coin.ReadVotes e = cc
 takes_coin (coin.Answered answer) e = cc
 
 takes_conciliator : (s : ConcileStage) → concile_kind_at s ≡ Some kind.TakePage → ⊥

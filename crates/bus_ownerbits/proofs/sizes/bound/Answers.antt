@@ -3,12 +3,12 @@ use Rattle.std.proofs.lemmas.Nat.{mul-le}
 use Rattle.bus_ownerbits.proofs.sizes.bound.Goals as goal
 
 -- so many bits and rounds, and so many steps of each ratifier, are few turns
-few_turns : (bits rounds steps most n : ℕ) → bits ≤ 6 → rounds ≤ 8 → steps ≡ most → most ≤ 1024 → n ≤ 64 → bits * (rounds * steps + (rounds - 1) * (2 + 64 * (n + 1)) + 1 + n) ≤ 300000
+few_turns : (bits rounds steps most n : ℕ) → bits ≤ 6 → rounds ≤ 8 → steps ≡ most → most ≤ 1024 → n ≤ 64 → bits * (rounds * steps + (rounds - 1) * (2 + 64 * 2) + 1 + n) ≤ 300000
 few_turns bits rounds steps most n few_bits few_rounds same few_steps few =
     let ratifiers = mul-le rounds steps 8 1024 few_rounds (omega arith) in
-    let conciliators = mul-le (rounds - 1) (2 + 64 * (n + 1)) 7 4162 (omega arith) (omega arith) in
-    let each : rounds * steps + (rounds - 1) * (2 + 64 * (n + 1)) + 1 + n ≤ 37391 = omega arith in
-    let all = mul-le bits (rounds * steps + (rounds - 1) * (2 + 64 * (n + 1)) + 1 + n) 6 37391 few_bits each in
+    let conciliators = mul-le (rounds - 1) (2 + 64 * 2) 7 4162 (omega arith) (omega arith) in
+    let each : rounds * steps + (rounds - 1) * (2 + 64 * 2) + 1 + n ≤ 37391 = omega arith in
+    let all = mul-le bits (rounds * steps + (rounds - 1) * (2 + 64 * 2) + 1 + n) 6 37391 few_bits each in
     omega arith
 
 pub overflow_mul-result : goal.overflow_mul-result
