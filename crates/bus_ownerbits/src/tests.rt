@@ -6,7 +6,7 @@ ghost use Rattle.std.specs.Prelude.{◌≡◌, ◌≤◌, ◌<◌};
 ghost use Rattle.bus_register.specs.Words.{register};
 
 use super::{Election, bits, bound};
-use bus_adoptcommit::TwoCollect;
+use bus_adoptcommit::{Ratifier, ThreeWord, TwoCollect};
 use bus_binconsensus::Decide;
 use bus_register::{Cells, Kind, Machine, Op, Reg, SenderNo};
 use model::{Act, Board, Row, Sender, empty_board};
@@ -53,34 +53,67 @@ fn run<M: Machine>(rt: &impl Abort, cells: &mut Cells, machine: &mut M) -> u64 {
 }
 
 #[test]
-fn decision_and_election_steps(rt: HostRuntime) {
+fn bounds(rt: HostRuntime) {
     assert!(rt; bits(1) == 0 && bits(2) == 1 && bits(3) == 2 && bits(5) == 3 && bits(8) == 3);
     assert!(rt; bound::<TwoCollect>(1, 1) == 2 && bound::<TwoCollect>(1, 8) == 2);
     assert!(rt; bound::<TwoCollect>(2, 1) == 11 && bound::<TwoCollect>(2, 2) == 211);
     assert!(rt; bound::<TwoCollect>(5, 1) == 56 && bound::<TwoCollect>(8, 8) == 12599);
+    assert!(rt; bound::<ThreeWord>(1, 1) == 2 && bound::<ThreeWord>(1, 8) == 2);
+    assert!(rt; bound::<ThreeWord>(2, 1) == 9 && bound::<ThreeWord>(2, 2) == 207);
+    assert!(rt; bound::<ThreeWord>(5, 1) == 32 && bound::<ThreeWord>(8, 8) == 12263);
+}
 
-    assert!(rt; Decide::<TwoCollect>::width(2, 1) == 5);
-    let mut cells = Cells::new(rt.alloc(), 5).expect(&rt, "memory");
-    let mut first = Decide::<TwoCollect>::start(2, SenderNo(0), false, 1, Reg(0));
+/// Two processes of one decision, one after the other: how many words it has, and how many steps
+/// each takes to its decision.
+fn steps_of_decisions<Q: Ratifier + Drop>(rt: &impl Abort, alloc: Global) -> (u64, u64, u64) {
+    let width = Decide::<Q>::width(2, 1);
+    let mut cells = Cells::new(alloc, width).expect(rt, "memory");
+    let mut first = Decide::<Q>::start(2, SenderNo(0), false, 1, Reg(0));
     assert!(rt; first.kind() == Some(Kind::StoreProposal) && !first.wants_word());
-    assert!(rt; run(&rt, &mut cells, &mut first) == 6);
+    let alone = run(rt, &mut cells, &mut first);
     assert!(rt; first.decided() == Some(false));
-    let mut second = Decide::<TwoCollect>::start(2, SenderNo(1), true, 1, Reg(0));
-    assert!(rt; run(&rt, &mut cells, &mut second) == 7);
+    let mut second = Decide::<Q>::start(2, SenderNo(1), true, 1, Reg(0));
+    let late = run(rt, &mut cells, &mut second);
     assert!(rt; second.decided() == Some(false));
+    (width, alone, late)
+}
 
-    assert!(rt; Election::<TwoCollect>::width(1, 1) == 1);
-    let mut cells = Cells::new(rt.alloc(), 1).expect(&rt, "memory");
-    let mut alone = Election::<TwoCollect>::start(1, SenderNo(0), 1, Reg(0));
-    assert!(rt; alone.kind() == Some(Kind::Announce) && !alone.wants_word());
-    assert!(rt; run(&rt, &mut cells, &mut alone) == 1);
-    assert!(rt; alone.owner() == Some(SenderNo(0)) && alone.turns_left() == 1);
+/// The last of `n` processes elects itself: how many words the election has, and how many steps it
+/// takes.
+fn steps_of_election<Q: Ratifier + Drop>(rt: &impl Abort, alloc: Global, n: u8) -> (u64, u64) {
+    assert!(rt; 1 <= n && n <= 64);
+    let senders = u64::from(n);
+    let width = Election::<Q>::width(senders, 1);
+    let mut cells = Cells::new(alloc, width).expect(rt, "memory");
+    let mut last = Election::<Q>::start(senders, SenderNo(n - 1), 1, Reg(0));
+    assert!(rt; last.kind() == Some(Kind::Announce) && !last.wants_word());
+    let steps = run(rt, &mut cells, &mut last);
+    assert!(rt; last.owner() == Some(SenderNo(n - 1)));
+    assert!(rt; steps.wrapping_add(last.turns_left()) == bound::<Q>(senders, 1));
+    (width, steps)
+}
 
-    assert!(rt; Election::<TwoCollect>::width(5, 1) == 38);
-    let mut cells = Cells::new(rt.alloc(), 38).expect(&rt, "memory");
-    let mut last = Election::<TwoCollect>::start(5, SenderNo(4), 1, Reg(0));
-    assert!(rt; run(&rt, &mut cells, &mut last) == 37);
-    assert!(rt; last.owner() == Some(SenderNo(4)) && last.turns_left() == 19);
+#[test]
+fn decision_and_election_steps(rt: HostRuntime) {
+    assert_eq!(rt;
+        steps_of_decisions::<TwoCollect>(&rt, rt.alloc()),
+        (5, 6, 7)
+    );
+    assert_eq!(rt; steps_of_election::<TwoCollect>(&rt, rt.alloc(), 1), (1, 1));
+    assert_eq!(rt;
+        steps_of_election::<TwoCollect>(&rt, rt.alloc(), 5),
+        (38, 37)
+    );
+}
+
+#[test]
+fn decision_and_election_steps_of_three_words(rt: HostRuntime) {
+    assert_eq!(rt; steps_of_decisions::<ThreeWord>(&rt, rt.alloc()), (4, 4, 4));
+    assert_eq!(rt; steps_of_election::<ThreeWord>(&rt, rt.alloc(), 1), (1, 1));
+    assert_eq!(rt;
+        steps_of_election::<ThreeWord>(&rt, rt.alloc(), 5),
+        (17, 13)
+    );
 }
 
 /// The next number of a fixed sequence (Knuth's MMIX generator).
