@@ -4,4 +4,5 @@ pub mod Starts
 pub mod Schedules
 pub mod Tables
 pub mod Two
+pub mod ThreeWordPlays
 pub mod AgreementLaws

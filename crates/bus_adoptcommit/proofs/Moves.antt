@@ -19,7 +19,7 @@ pub record Turn {S : Type 0} (op : S → ℕ → Option Op) (fed : S → ℕ →
   pub own : (s : S) → old p ≡ Some s → ((op s 0 ≡ None) × (new p ≡ Some s)) ⊎ ((o : Op) × (got : ℕ) × (op s 0 ≡ Some o) × (new p ≡ Some (fed s got 0)))
 
 -- moments with the same words and local states
-same_moment : {S : Type 0} (x y : Moment S) → ((r : ℕ) → x.words r ≡ y.words r) → ((p : ℕ) → x.locals p ≡ y.locals p) → x ≡ y
+pub same_moment : {S : Type 0} (x y : Moment S) → ((r : ℕ) → x.words r ≡ y.words r) → ((p : ℕ) → x.locals p ≡ y.locals p) → x ≡ y
 same_moment {S} x y words locals =
     let first : x ≡ (let m : Moment S = record { words = y.words; locals = x.locals } in m) = ap (λ w. let m : Moment S = record { words = w; locals = x.locals } in m) (fun_ext words) in
     first ∙ ap (λ l. let m : Moment S = record { words = y.words; locals = l } in m) (fun_ext locals)

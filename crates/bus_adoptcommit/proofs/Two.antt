@@ -23,6 +23,9 @@ own_value_refused h = true≢false (h 0 1 false (Adopt true) refl refl)
 pub no_commit_refused : ¬ IsConvergent (of_two true true) (of_two (Commit true) (Adopt true))
 no_commit_refused h = absurd (let e = h true (λ q w. alike true w q) 1 (Adopt true) refl in cc)
 
+pub no_commits_refused : ¬ IsConvergent (of_two true true) (of_two (Adopt true) (Adopt true))
+no_commits_refused h = absurd (let e = h true (λ q w. alike true w q) 1 (Adopt true) refl in cc)
+
 pub unbrought_refused : ¬ IsValid (of_two true true) (of_two (Adopt false) (Adopt false))
 unbrought_refused h = let by = h 0 (Adopt false) refl in true≢false (sym (alike true false by.0 by.1))
 

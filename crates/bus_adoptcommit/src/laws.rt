@@ -7,6 +7,9 @@ ghost use Rattle.bus_adoptcommit.specs.declared.verdicts.Verdict.TheVariants.{Co
 ghost use Rattle.bus_adoptcommit.specs.Agreement.{IsValid, IsConvergent, IsCoherent, Legal};
 ghost use Rattle.bus_adoptcommit.specs.Plays.{IsPlay};
 ghost use Rattle.bus_adoptcommit.specs.Refused.{of_two, taking_turns};
+ghost use Rattle.bus_adoptcommit.specs.Refused.{PlaysInTurn, keeping_own, adopting};
+ghost use Rattle.bus_adoptcommit.specs.ThreeWord.{fed_of as three_word_fed};
+ghost use Rattle.bus_adoptcommit.specs.ThreeWordKeeps.{three_word};
 ghost use Rattle.bus_adoptcommit.specs.TwoCollect.{op_of, fed_of};
 ghost use Rattle.bus_adoptcommit.specs.TwoCollectKeeps.{two_collect};
 
@@ -33,4 +36,19 @@ pub fn plays_are_more_than_legal()
     ensures legal { Legal (of_two false true) (of_two (Commit false) (Commit false)) }
     ensures refused { ¬ IsPlay (λ s word. op_of s) (λ s got word. fed_of s got) two_collect
         (false ∷ true ∷ []) taking_turns (Some (Commit false) ∷ Some (Commit false) ∷ []) }
+{}
+
+/// Two processes over three words, the second after the first has ended: the first commits its
+/// input, and the second adopts it. A second process that goes on preferring its own input adopts
+/// that, which is not coherent. Where each process adopts in the end, both do so also where they
+/// have one input, which is not convergent.
+pub fn three_words_refuse()
+    ensures plays { PlaysInTurn three_word_fed three_word (false ∷ true ∷ [])
+        (Some (Commit false) ∷ Some (Adopt false) ∷ []) }
+    ensures own_value { PlaysInTurn keeping_own three_word (false ∷ true ∷ [])
+        (Some (Commit false) ∷ Some (Adopt true) ∷ []) }
+    ensures incoherent { ¬ IsCoherent (of_two (Commit false) (Adopt true)) }
+    ensures no_commit { PlaysInTurn three_word_fed adopting (true ∷ true ∷ [])
+        (Some (Adopt true) ∷ Some (Adopt true) ∷ []) }
+    ensures unconverged { ¬ IsConvergent (of_two true true) (of_two (Adopt true) (Adopt true)) }
 {}
