@@ -1,31 +1,121 @@
--- The lowest of the senders that were stopped, as a loop finds it.
-use Rattle.std.proofs.Common.{◌≡◌, ℕ, zero, suc, ◌+◌, ◌<◌, List, [], ◌∷◌, Option, None, Some, length, take, slice_index_or, refl, sym, ap, subst, ◌∙◌, arith}
-use Rattle.std.proofs.lemmas.Option.{none-some}
+-- Desks in order, and what the fault of a crew that has ended tells of the run.
+use Rattle.std.proofs.Common.{◌≡◌, ℕ, zero, suc, ◌+◌, ◌<◌, ◌⊎◌, inl, inr, Bool, true, false, ◌||◌, None, is_some, refl, List, [], ◌∷◌, length, take, Option, Some, slice_index_or, sym, ap, subst, ◌∙◌, arith}
+use Rattle.std.specs.Prelude.{slice_get, All, Result, Ok, Err, IsErr, IsErrAnd, IfErr}
+use Rattle.std.proofs.lemmas.List.{take_more, length-take}
+use Rattle.std.proofs.lemmas.Bool.{true≢false}
+use Rattle.std.proofs.lemmas.Option.{slice_get_within, same_Some, get_or_from_slice_get}
+use Rattle.bus_batch.specs.Frames.{Order}
+use Rattle.bus_pageslot.specs.Outcomes.{Outcome}
+use Rattle.bus_receiver.specs.Hearing.{Hearing}
+use Rattle.bus_world.specs.declared.shapes.Shape.{Shape}
+use Rattle.bus_run.specs.Audit.{IsSpelled, IsFirstFault}
+use Rattle.bus_run.specs.Stops.{AreInOrder, IsWhole, is_gate, has_gate, AreUnstopped, IsFirstStop, IsLate, IsTextFault, IsNamed, IsStop}
+use Rattle.bus_run.specs.declared.audits.AuditFault.{AuditFault}
+use Rattle.bus_run.specs.declared.audits.AuditFault.TheVariants.{Count, NotEnded}
+use Rattle.bus_run.specs.declared.faults.RunFault.{RunFault}
+use Rattle.bus_run.specs.declared.faults.RunFault.TheVariants as run
 use Rattle.bus_run.specs.declared.faults.SenderFault.{SenderFault}
-use Rattle.bus_run.specs.Stops.{before, lowest}
+use Rattle.bus_run.specs.declared.faults.SenderFault.TheVariants.{Gate, Stopped}
+use Rattle.bus_run.proofs.ToldLemmas.{at_last}
 
-none_before : (a b : Option SenderFault) → before a b ≡ None → (a ≡ None) × (b ≡ None)
-none_before None b e = (refl, e)
-none_before (Some a) b e = absurd (none-some a (sym e))
+-- one more desk that stands at its place
+pub one_more_in_order : {D : Type 0} (number : D → ℕ) (xs : List D) (i : ℕ) (x : D) → i < length xs → x ≡ slice_index_or xs i x → AreInOrder number (take i xs) → number x ≡ i → AreInOrder number (take (i + 1) xs)
+one_more_in_order number xs i x within is before here k d at =
+    let so_far : length (take i xs) ≡ i = omega (arith, length-take i xs) in
+    elim (at_last (take i xs) (slice_index_or xs i x) k d (subst (λ z. slice_get z k ≡ Some d) (take_more xs i x within) at)) [
+      | inl l ↦ before k d l
+      | inr r ↦ ap number (r.1 ∙ sym is) ∙ here ∙ sym (r.0 ∙ so_far)
+    ]
 
-module _ {A : Type 0} (fault : A → Option SenderFault) where
-  -- the first that was stopped
-  pub lowest_at : (xs : List A) (i : ℕ) (d : A) (r : SenderFault) → i < length xs → lowest fault (take i xs) ≡ None → fault (slice_index_or xs i d) ≡ Some r → lowest fault xs ≡ Some r
-  lowest_at [] i d r l e h = absurd (omega arith)
-  lowest_at (y ∷ ys) zero d r l e h = ap (λ o. before o (lowest fault ys)) h
-  lowest_at (y ∷ ys) (suc i) d r l e h =
-      let parts = none_before (fault y) (lowest fault (take i ys)) e in
-      ap (λ o. before o (lowest fault ys)) parts.0 ∙ lowest_at ys i d r (omega arith) parts.1 h
+-- ---- what a desk noted
+either : (a b : Bool) → a || b ≡ false → (a ≡ false) × (b ≡ false)
+either true b e = absurd (true≢false e)
+either false b e = (refl, e)
 
-  none_upto : (xs : List A) (i : ℕ) (d : A) → i < length xs → lowest fault (take i xs) ≡ None → fault (slice_index_or xs i d) ≡ None → lowest fault (take (suc i) xs) ≡ None
-  none_upto [] i d l e h = absurd (omega arith)
-  none_upto (y ∷ ys) zero d l e h = ap (λ o. before o None) h
-  none_upto (y ∷ ys) (suc i) d l e h =
-      let parts = none_before (fault y) (lowest fault (take i ys)) e in
-      ap (λ o. before o (lowest fault (take (suc i) ys))) parts.0 ∙ none_upto ys i d (omega arith) parts.1 h
+no_gate : {D : Type 0} (noted : D → Option SenderFault) (xs : List D) (i : ℕ) (x : D) → has_gate noted xs ≡ false → slice_get xs i ≡ Some x → is_gate (noted x) ≡ false
+no_gate noted [] i x none at = absurd (let no = at in cc)
+no_gate noted (y ∷ ys) zero x none at = ap (λ z. is_gate (noted z)) (sym (same_Some y x at)) ∙ (either (is_gate (noted y)) (has_gate noted ys) none).0
+no_gate noted (y ∷ ys) (suc i) x none at = no_gate noted ys i x (either (is_gate (noted y)) (has_gate noted ys) none).1 at
 
-  -- one more that was not
-  pub lowest_more : (xs : List A) (i : ℕ) (d : A) → i < length xs → lowest fault (take i xs) ≡ None → fault (slice_index_or xs i d) ≡ None → lowest fault (take (i + 1) xs) ≡ None
-  lowest_more xs i d l e h =
-      let next : suc i ≡ i + 1 = omega arith in
-      subst (λ n. lowest fault (take n xs) ≡ None) next (none_upto xs i d l e h)
+is_stop : (o : Option SenderFault) → is_gate o ≡ false → is_some o ≡ true → o ≡ Some Stopped
+is_stop None e some = absurd (true≢false (sym some))
+is_stop (Some Gate) e some = absurd (true≢false e)
+is_stop (Some Stopped) e some = refl
+
+-- a desk that noted something noted a stop, where none noted a gate
+pub stopped_at : {D : Type 0} (noted : D → Option SenderFault) (xs : List D) (i : ℕ) (x : D) → has_gate noted xs ≡ false → slice_get xs i ≡ Some x → is_some (noted x) ≡ true → noted x ≡ Some Stopped
+stopped_at noted xs i x none at some = is_stop (noted x) (no_gate noted xs i x none at) some
+
+pub unstopped : (o : Option SenderFault) → is_some o ≡ false → o ≡ None
+unstopped None e = refl
+unstopped (Some fault) e = absurd (true≢false e)
+
+-- ---- who is named
+-- a receiver among those that noted, and a sender of a bus
+pub named : (order : Order) (heards : List Hearing) (why : AuditFault) → IsFirstFault order heards why → IsNamed (length heards) why
+named order heards (Count r s) h = (slice_get_within heards r h.1 h.2, h.3)
+named order heards (NotEnded r) h = slice_get_within heards r h.1 h.2
+
+module _ {D E : Type 0} (number : D → ℕ) (noted : D → Option SenderFault) (Sent : D → Type 0) (shape : Shape) (messages room : ℕ) (desks : List D) (ears : List E) (heards : List Hearing) where
+  -- the crew's fault
+  abbrev pub CrewFault : RunFault → Type 0
+  CrewFault fault = ((fault ≡ run.Spawn) × (IsWhole number shape desks ears → ⊥)) ⊎ (IsWhole number shape desks ears × IsFirstStop noted desks fault) ⊎ (IsWhole number shape desks ears × AreUnstopped noted desks × IsLate Sent shape messages room desks heards fault)
+
+  pub crew_stop : (fault : RunFault) → length heards ≡ length ears → CrewFault fault → IsStop shape.senders shape.receivers fault
+  crew_stop run.NoMemory many h = tt
+  crew_stop run.Spawn many h = tt
+  crew_stop run.Gate many h = tt
+  crew_stop (run.Stopped s) many (inl h) = absurd (let no = h.0 in cc)
+  crew_stop (run.Stopped s) many (inr (inl h)) = subst (λ n. s < n) h.0.all_send (slice_get_within desks s h.1.2 h.1.3)
+  crew_stop (run.Stopped s) many (inr (inr h)) = h.2.0
+  crew_stop (run.Audit why) many (inl h) = absurd (let no = h.0 in cc)
+  crew_stop (run.Audit why) many (inr (inl h)) = absurd h.1
+  crew_stop (run.Audit why) many (inr (inr h)) =
+      let left = h.2 in
+      let order = left.2.0 in
+      subst (λ n. IsNamed n why) (many ∙ h.0.all_hear) (named order heards why (left.3 order left.2.1 left.2.2).2)
+  crew_stop run.Read many (inl h) = absurd (let no = h.0 in cc)
+  crew_stop run.Read many (inr (inl h)) = h.1
+  crew_stop run.Read many (inr (inr h)) = h.2
+  crew_stop run.Write many (inl h) = absurd (let no = h.0 in cc)
+  crew_stop run.Write many (inr (inl h)) = h.1
+  crew_stop run.Write many (inr (inr h)) = h.2
+  crew_stop run.TooMuch many (inl h) = absurd (let no = h.0 in cc)
+  crew_stop run.TooMuch many (inr (inl h)) = h.1
+  crew_stop run.TooMuch many (inr (inr h)) = h.2
+  crew_stop (run.Make why) many (inl h) = absurd (let no = h.0 in cc)
+  crew_stop (run.Make why) many (inr (inl h)) = h.1
+  crew_stop (run.Make why) many (inr (inr h)) = h.2
+
+-- why a text is not made can come of a run
+pub text_stop : (senders : ℕ) (left : Outcome) (heards : List Hearing) (fault : RunFault) → IsSpelled left → IsTextFault left heards fault → IsStop senders (length heards) fault
+text_stop senders left heards run.NoMemory spelled h = tt
+text_stop senders left heards (run.Audit why) spelled h = named spelled.0 heards why (h spelled.0 spelled.1 spelled.2)
+text_stop senders left heards run.Read spelled h = h
+text_stop senders left heards run.Write spelled h = h
+text_stop senders left heards run.TooMuch spelled h = h
+text_stop senders left heards (run.Make why) spelled h = h
+text_stop senders left heards run.Spawn spelled h = absurd h
+text_stop senders left heards run.Gate spelled h = absurd h
+text_stop senders left heards (run.Stopped s) spelled h = absurd h
+
+-- ---- faults that are passed on
+pub passed_up : {T E : Type 0} (r : Result T E) (e : E) (P : E → Type 0) → IsErr r × IsErrAnd r (λ y. y ≡ e) → P e → IfErr r P
+passed_up (Ok x) e P h p = absurd h.1
+passed_up (Err y) e P h p = subst P (sym h.1) p
+
+pub err_weaker : {T E : Type 0} (r : Result T E) (P Q : E → Type 0) → ((e : E) → P e → Q e) → IfErr r P → IfErr r Q
+err_weaker (Ok x) P Q weaker h = tt
+err_weaker (Err e) P Q weaker h = weaker e h
+
+-- ---- a fact of each desk
+get_at : {D : Type 0} (xs : List D) (i : ℕ) → i < length xs → (d : D) × (slice_get xs i ≡ Some d)
+get_at [] i l = absurd (omega arith)
+get_at (x ∷ xs) zero l = (x, refl)
+get_at (x ∷ xs) (suc i) l = get_at xs i (omega arith)
+
+-- what holds of all desks holds of that of each sender
+pub of_each : {D : Type 0} (number : D → ℕ) (P : D → Type 0) (xs : List D) (s : ℕ) → AreInOrder number xs → All P xs → s < length xs → (d : D) × (number d ≡ s) × P d
+of_each number P xs s order all below =
+    let there = get_at xs s below in
+    (there.0, order s there.0 there.1, subst P (get_or_from_slice_get xs s there.0 there.0 there.1) (all s there.0 below))

@@ -25,11 +25,15 @@ length_numbers : (n : ℕ) → length (numbers_below n) ≡ n
 length_numbers zero = refl
 length_numbers (suc n) = let more = length-append (numbers_below n) (to_be_bytes w64 n ∷ []) in let rest = length_numbers n in omega arith
 
-at_last : {A : Type 0} (xs : List A) (y : A) (k : ℕ) (x : A) → slice_get (xs ++ y ∷ []) k ≡ Some x → (slice_get xs k ≡ Some x) ⊎ ((k ≡ length xs) × (x ≡ y))
+pub at_last : {A : Type 0} (xs : List A) (y : A) (k : ℕ) (x : A) → slice_get (xs ++ y ∷ []) k ≡ Some x → (slice_get xs k ≡ Some x) ⊎ ((k ≡ length xs) × (x ≡ y))
 at_last [] y zero x e = inr (refl, sym (same_Some y x e))
 at_last [] y (suc k) x e = absurd cc
 at_last (z ∷ xs) y zero x e = inl e
 at_last (z ∷ xs) y (suc k) x e = elim (at_last xs y k x e) [ inl l ↦ inl l | inr r ↦ inr (ap suc r.0, r.1) ]
+
+-- so many numbers stand below one number alone
+pub same_many : (n m : ℕ) → numbers_below n ≡ numbers_below m → n ≡ m
+same_many n m e = sym (length_numbers n) ∙ ap length e ∙ length_numbers m
 
 at_place : (many k : ℕ) (x : List ℕ) → slice_get (numbers_below many) k ≡ Some x → x ≡ to_be_bytes w64 k
 at_place zero k x e = absurd cc

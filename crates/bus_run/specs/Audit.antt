@@ -9,6 +9,7 @@ use Rattle.bus_deliverylog.specs.Orders.{of_sender}
 use Rattle.bus_world.specs.declared.shapes.Shape.{Shape}
 use Rattle.bus_pageslot.specs.Outcomes.{Outcome}
 use Rattle.bus_receiver.specs.Hearing.{Hearing}
+use Rattle.bus_run.specs.declared.limits.TheConstants.{ROUNDS}
 use Rattle.bus_run.specs.declared.audits.AuditFault.{AuditFault}
 use Rattle.bus_run.specs.declared.audits.AuditFault.TheVariants.{Count, NotEnded}
 
@@ -51,4 +52,4 @@ IsClosed order = order.ended ≡ true
 
 -- the shape of a run's bus
 abbrev pub shape_of_run : ℕ → ℕ → Shape
-shape_of_run senders receivers = record { senders = senders; receivers = receivers; rounds = 4; rows = MOST_ROWS; log_words = MOST_LOG_WORDS }
+shape_of_run senders receivers = record { senders = senders; receivers = receivers; rounds = ROUNDS; rows = MOST_ROWS; log_words = MOST_LOG_WORDS }

@@ -4,3 +4,4 @@ pub mod RunText
 pub mod Stops
 pub mod Numbers
 pub mod Told
+pub mod Words

@@ -1,45 +1,105 @@
 -- Which fault a run answers with.
-use Rattle.std.specs.Prelude.{◌≡◌, ◌⊎◌, ℕ, ⊤, Bool, true, false, Option, None, Some, List, [], ◌∷◌, if◌then◌else◌}
+use Rattle.std.specs.Prelude.{◌≡◌, ◌≢◌, ◌⊎◌, ◌<◌, ℕ, ⊤, Bool, true, false, Option, None, Some, List, All, length, take, slice_get}
 use Rattle.std.specs.List.{list_any}
+use Rattle.bus_register.specs.declared.limits.TheConstants.{MOST_SENDERS}
+use Rattle.bus_batch.specs.Frames.{Order}
+use Rattle.bus_deliverylog.specs.Orders.{of_sender}
+use Rattle.bus_pageslot.specs.Seats.{Seated, deeds_of}
+use Rattle.bus_pageslot.specs.Outcomes.{Outcome}
+use Rattle.bus_receiver.specs.Hearing.{Hearing}
+use Rattle.bus_world.specs.Headline.{puts}
 use Rattle.bus_world.specs.Playing.{IsServed, MakeRefused}
 use Rattle.bus_world.specs.declared.shapes.MakeFault.{MakeFault}
-use Rattle.bus_run.specs.Audit.{shape_of_run}
+use Rattle.bus_world.specs.declared.shapes.Shape.{Shape}
+use Rattle.bus_run.specs.Audit.{shape_of_run, OfOrder, IsSpelled, SendsEach, IsClosed, IsFirstFault}
+use Rattle.bus_run.specs.Numbers.{numbers_below}
+use Rattle.bus_run.specs.declared.audits.AuditFault.{AuditFault}
+use Rattle.bus_run.specs.declared.audits.AuditFault.TheVariants.{Count, NotEnded}
 use Rattle.bus_run.specs.declared.faults.RunFault.{RunFault}
 use Rattle.bus_run.specs.declared.faults.RunFault.TheVariants as run
 use Rattle.bus_run.specs.declared.faults.SenderFault.{SenderFault}
 use Rattle.bus_run.specs.declared.faults.SenderFault.TheVariants.{Gate, Stopped}
 
-abbrev pub fault_of : SenderFault → RunFault
-fault_of Gate = run.Gate
-fault_of (Stopped s) = run.Stopped s
+-- ---- a crew that has ended
+-- each has the number of its place
+abbrev pub AreInOrder : {D : Type 0} → (D → ℕ) → List D → Type 0
+AreInOrder {D} number desks = (k : ℕ) (d : D) → slice_get desks k ≡ Some d → number d ≡ k
+
+-- all senders have come back, in order, and all receivers, and there is one of each
+pub record IsWhole {D E : Type 0} (number : D → ℕ) (shape : Shape) (desks : List D) (ears : List E) : Type 0 where
+  pub all_send : length desks ≡ shape.senders
+  pub in_order : AreInOrder number desks
+  pub all_hear : length ears ≡ shape.receivers
+  pub one_hears : 0 < shape.receivers
+  pub one_sends : 0 < shape.senders
 
 abbrev pub is_gate : Option SenderFault → Bool
 is_gate (Some Gate) = true
 is_gate other = false
 
-abbrev pub before : Option SenderFault → Option SenderFault → Option SenderFault
-before None later = later
-before (Some fault) later = Some fault
+-- some sender noted that a gate let it not through
+abbrev pub has_gate : {D : Type 0} → (D → Option SenderFault) → List D → Bool
+has_gate noted desks = list_any (λ d. is_gate (noted d)) desks
 
--- what stopped the lowest sender that was stopped
-abbrev pub lowest : {A : Type 0} → (A → Option SenderFault) → List A → Option SenderFault
-lowest fault [] = None
-lowest fault (a ∷ rest) = before (fault a) (lowest fault rest)
+-- nothing stopped a sender
+abbrev pub AreUnstopped : {D : Type 0} → (D → Option SenderFault) → List D → Type 0
+AreUnstopped noted desks = All (λ d. noted d ≡ None) desks
 
--- a gate before all else
-abbrev pub first_stop : {A : Type 0} → (A → Option SenderFault) → List A → Option SenderFault
-first_stop fault senders = if list_any (λ a. is_gate (fault a)) senders then Some Gate else lowest fault senders
+-- what stopped the senders: a gate before all else, and then the lowest that noted a stop
+abbrev pub IsFirstStop : {D : Type 0} → (D → Option SenderFault) → List D → RunFault → Type 0
+IsFirstStop noted desks run.Gate = has_gate noted desks ≡ true
+IsFirstStop {D} noted desks (run.Stopped s) = (has_gate noted desks ≡ false) × AreUnstopped noted (take s desks) × (d : D) × (slice_get desks s ≡ Some d) × (noted d ≡ Some Stopped)
+IsFirstStop noted desks other = ⊥
 
--- what can go wrong once there is a bus
-abbrev pub IsStop : RunFault → Type 0
-IsStop run.NoMemory = ⊤
-IsStop run.Spawn = ⊤
-IsStop run.Gate = ⊤
-IsStop (run.Stopped s) = ⊤
-IsStop (run.Audit why) = ⊤
-IsStop other = ⊥
+-- ---- a whole crew of which no sender was stopped
+-- a sender has put just the numbers below this one, and none of them waits
+abbrev pub HasSent : {E : Type 0} → ℕ → Seated E → Type 0
+HasSent messages s = (length s.core.queue.messages ≡ 0) × (puts (deeds_of s) ≡ numbers_below messages)
+
+-- the lowest that has not sent all
+abbrev pub IsFirstUnsent : {D : Type 0} → (D → Type 0) → List D → ℕ → Type 0
+IsFirstUnsent {D} Sent desks s = All Sent (take s desks) × (d : D) × (slice_get desks s ≡ Some d) × (Sent d → ⊥)
+
+-- a bus of so many senders left words behind that spell an order, of which this is true
+abbrev pub LeavesOrder : ℕ → (Order → Type 0) → Type 0
+LeavesOrder senders P = (left : Outcome) × (left.senders ≡ senders) × IsSpelled left × OfOrder left P
+
+-- the order has ended and has so many items of each sender below this one, and of this one it has not
+abbrev pub IsFirstMiscount : ℕ → ℕ → Order → Type 0
+IsFirstMiscount s messages order = IsClosed order × SendsEach s messages order × (length (of_sender s order) ≢ messages)
+
+-- Why a run with such a crew did not end well: there was no room for what the receivers noted; a sender has not sent all; the bus
+-- could not be ended with an ended order, which the first sender answers for; or what it left is not what was sent, or not what was noted.
+abbrev pub IsLate : {D : Type 0} → (D → Type 0) → Shape → ℕ → ℕ → List D → List Hearing → RunFault → Type 0
+IsLate Sent shape messages room desks heards run.NoMemory = room < length heards
+IsLate Sent shape messages room desks heards (run.Stopped s) =
+    (s < shape.senders) × (IsFirstUnsent Sent desks s ⊎ (s ≡ 0) ⊎ LeavesOrder shape.senders (IsFirstMiscount s messages))
+IsLate Sent shape messages room desks heards (run.Audit why) =
+    LeavesOrder shape.senders (λ order. IsClosed order × SendsEach shape.senders messages order × IsFirstFault order heards why)
+IsLate Sent shape messages room desks heards other = ⊥
+
+-- why the text of a report is not made
+abbrev pub IsTextFault : Outcome → List Hearing → RunFault → Type 0
+IsTextFault left heards run.NoMemory = ⊤
+IsTextFault left heards (run.Audit why) = OfOrder left (λ order. IsFirstFault order heards why)
+IsTextFault left heards other = ⊥
+
+-- ---- a run
+-- one of so many receivers, and a sender of a bus
+abbrev pub IsNamed : ℕ → AuditFault → Type 0
+IsNamed receivers (Count receiver sender) = (receiver < receivers) × (sender < MOST_SENDERS)
+IsNamed receivers (NotEnded receiver) = receiver < receivers
+
+-- what can go wrong once there is a bus of so many senders and receivers
+abbrev pub IsStop : ℕ → ℕ → RunFault → Type 0
+IsStop senders receivers run.NoMemory = ⊤
+IsStop senders receivers run.Spawn = ⊤
+IsStop senders receivers run.Gate = ⊤
+IsStop senders receivers (run.Stopped s) = s < senders
+IsStop senders receivers (run.Audit why) = IsNamed receivers why
+IsStop senders receivers other = ⊥
 
 -- A run that did not end well had no bus, for the first cause that holds, or went wrong on a bus of a served shape.
 abbrev pub IsRunFault : ℕ → ℕ → RunFault → Type 0
 IsRunFault senders receivers fault =
-    ((why : MakeFault) × (fault ≡ run.Make why) × MakeRefused (shape_of_run senders receivers) why) ⊎ (IsStop fault × IsServed (shape_of_run senders receivers))
+    ((why : MakeFault) × (fault ≡ run.Make why) × MakeRefused (shape_of_run senders receivers) why) ⊎ (IsStop senders receivers fault × IsServed (shape_of_run senders receivers))

@@ -1,17 +1,17 @@
 //! What a run leaves behind, once all its workers have ended.
 
-ghost use Rattle.std.specs.Prelude.{◌≡◌, ◌≢◌, ◌≤◌, ◌<◌, ◌+◌, ◌⊎◌};
-ghost use Rattle.std.specs.Prelude.{ℕ, All, length, Some, IfOk, OnOk, IfErr, IsErrOf, true};
-ghost use Rattle.std.specs.List.{list_any};
+ghost use Rattle.std.specs.Prelude.{◌≡◌, ◌≢◌, ◌≤◌, ◌<◌, ◌⊎◌, ℕ, All, length, map, vec_len};
+ghost use Rattle.std.specs.Prelude.{None, IfOk, OnOk, IfErr, IfSome, true, false};
+ghost use Rattle.std.specs.Vec.{vec_capacity};
 ghost use Rattle.bus_run.specs.Audit.{OfOrder, IsSpelled, IsFair, SendsEach, IsClosed};
 ghost use Rattle.bus_run.specs.Audit.{CarriesNumbers};
 ghost use Rattle.bus_run.specs.Told.{HasTold};
 ghost use Rattle.bus_pageslot.specs.Rule.{known_in};
 ghost use Rattle.bus_receiver.specs.Listening.{bus_of};
 ghost use Rattle.bus_world.specs.Headline.{IsPrefix};
-ghost use Rattle.bus_run.specs.Stops.{is_gate, lowest, first_stop, fault_of, IsStop};
+ghost use Rattle.bus_run.specs.Stops.{IsWhole, AreInOrder, AreUnstopped, IsFirstStop, has_gate};
+ghost use Rattle.bus_run.specs.Stops.{HasSent, IsFirstUnsent, IsLate};
 ghost use Rattle.bus_deliverylog.specs.Orders.{of_sender};
-ghost use Rattle.bus_run.specs.declared.faults.SenderFault.{SenderFault};
 ghost use Rattle.bus_run.specs.declared.faults.RunFault.TheVariants.{Stopped as stopped};
 
 use crate::audits::audit;
@@ -27,16 +27,19 @@ use bus_register::limits::MOST_SENDERS;
 use bus_world::Shape;
 
 /// Ends the bus that the crew has closed, unless a worker failed, and holds what it left behind
-/// against what each sender was to send and each receiver noted.
+/// against what each sender was to send and each receiver noted. The room is for these notes.
 pub fn end_and_audit<B: OfBus>(
     the: TheBus<B>,
     crew: Crew<Desk<B>, Ear<B>>,
-    mut heards: Vec<Heard>,
+    room: Vec<Heard>,
     shape: Shape,
     messages: u64,
 ) -> Result<Report, RunFault>
     requires senders { shape.senders ≤ MOST_SENDERS }
     requires bus { the.bus.shape ≡ shape }
+    ensures whole { OnOk result
+        (IsWhole (λ desk. desk.sender.core.me) shape crew.desks.items crew.ears.items) }
+    ensures unstopped { OnOk result (AreUnstopped (λ desk. desk.fault) crew.desks.items) }
     ensures of { IfOk result (λ report. report.ended.senders ≡ shape.senders) }
     ensures sent { IfOk result
         (λ report. OfOrder report.ended (SendsEach shape.senders messages)) }
@@ -45,52 +48,75 @@ pub fn end_and_audit<B: OfBus>(
     ensures closed { IfOk result (λ report. OfOrder report.ended IsClosed) }
     ensures heard { IfOk result
         (λ report. OfOrder report.ended (λ order. All (IsFair order) report.heards.items)) }
+    ensures notes { IfOk result
+        (λ report. report.heards.items ≡ map (λ ear. ear.heard) crew.ears.items) }
     ensures each { IfOk result (λ report. length report.heards.items ≡ shape.receivers) }
     ensures spelled { IfOk result (λ report. IsSpelled report.ended) }
 
-    // Who could not be started comes before what stopped a sender, and that before all else.
-    ensures spawn { (length crew.desks.items ≢ shape.senders)
-        ⊎ (length crew.ears.items ≢ shape.receivers) → IsErrOf result RunFault.Spawn }
-    ensures stopped { length crew.desks.items ≡ shape.senders
-        → length crew.ears.items ≡ shape.receivers → (fault : SenderFault)
-        → first_stop (λ desk. desk.fault) crew.desks.items ≡ Some fault
-        → IsErrOf result (fault_of fault) }
-    ensures fault { IfErr result IsStop }
+    // Who is missing comes before what stopped a sender, and that before all else.
+    ensures fault { let Whole = IsWhole (λ desk. desk.sender.core.me) shape crew.desks.items crew.ears.items in
+        IfErr result (λ fault. ((fault ≡ RunFault.Spawn) × (Whole → ⊥))
+        ⊎ (Whole × IsFirstStop (λ desk. desk.fault) crew.desks.items fault)
+        ⊎ (Whole × AreUnstopped (λ desk. desk.fault) crew.desks.items
+        × IsLate (λ desk. HasSent messages desk.sender) shape messages (vec_capacity room)
+        crew.desks.items (map (λ ear. ear.heard) crew.ears.items) fault)) }
 {
-    let Crew {
-        mut desks,
-        ears,
-        ..
-    } = crew;
-    if desks.len() as u64 != shape.senders || ears.len() as u64 != shape.receivers {
+    let Crew { desks, ears, .. } = crew;
+    if !is_whole(desks.as_slice(), ears.as_slice(), shape) {
         return Err(RunFault::Spawn);
     }
-    if let Some(fault) = first_fault(desks.as_slice()) {
-        return Err(fault.into());
+    if let Some(fault) = first_stop(desks.as_slice()) {
+        return Err(fault);
     }
-    let ended = end_bus(the, &mut desks, ears, &mut heards, messages)?;
-    all_sent(&ended, shape.senders, messages)?;
-    audit(&ended, heards.as_slice())?;
-    if heards.len() as u64 != shape.receivers {
-        return Err(RunFault::Spawn);
+    end_whole(the, desks, ears, room, shape, messages)
+}
+
+/// All senders have come back, in order, and all receivers.
+fn is_whole<B: OfBus>(desks: &[Desk<B>], ears: &[Ear<B>], shape: Shape) -> bool
+    ensures whole { result ≡ true
+        → IsWhole (λ desk. desk.sender.core.me) shape desks.now ears.now }
+    ensures missing { result ≡ false
+        → IsWhole (λ desk. desk.sender.core.me) shape desks.now ears.now → ⊥ }
+{
+    let all_send = desks.len() as u64 == shape.senders && !desks.is_empty();
+    let all_hear = ears.len() as u64 == shape.receivers && !ears.is_empty();
+    all_send && all_hear && are_in_order(desks)
+}
+
+/// The desk at each place is that of the sender with the number of the place.
+fn are_in_order<B: OfBus>(desks: &[Desk<B>]) -> bool
+    ensures order { result ≡ true → AreInOrder (λ desk. desk.sender.core.me) desks.now }
+    ensures other { result ≡ false → AreInOrder (λ desk. desk.sender.core.me) desks.now → ⊥ }
+{
+    for (place, desk) in desks.iter().enumerate() {
+        if desk.number() != place as u64 {
+            return false;
+        }
     }
-    Ok(Report { ended, heards })
+    true
 }
 
 /// What stopped a sender: a gate before all else, and then what stopped the lowest.
-fn first_fault<B: OfBus>(desks: &[Desk<B>]) -> Option<SenderFault>
-    ensures { result ≡ first_stop (λ desk. desk.fault) desks.now }
+fn first_stop<B: OfBus>(desks: &[Desk<B>]) -> Option<RunFault>
+    ensures stop { IfSome result (IsFirstStop (λ desk. desk.fault) desks.now) }
+    ensures none { result ≡ None → AreUnstopped (λ desk. desk.fault) desks.now }
 {
     if gate_refused(desks) {
-        Some(SenderFault::Gate)
-    } else {
-        lowest_fault(desks)
+        return Some(RunFault::Gate);
     }
+    for (place, desk) in desks.iter().enumerate() {
+        if desk.fault.is_some() {
+            return Some(RunFault::Stopped {
+                sender: place as u64,
+            });
+        }
+    }
+    None
 }
 
 /// A gate let a sender's worker not through.
 fn gate_refused<B: OfBus>(desks: &[Desk<B>]) -> bool
-    ensures { result ≡ list_any (λ desk. is_gate desk.fault) desks.now }
+    ensures { result ≡ has_gate (λ desk. desk.fault) desks.now }
 {
     for desk in desks {
         if matches!(desk.fault, Some(SenderFault::Gate)) {
@@ -100,34 +126,73 @@ fn gate_refused<B: OfBus>(desks: &[Desk<B>]) -> bool
     false
 }
 
-/// What stopped the lowest sender that was stopped.
-fn lowest_fault<B: OfBus>(desks: &[Desk<B>]) -> Option<SenderFault>
-    ensures { result ≡ lowest (λ desk. desk.fault) desks.now }
+/// Ends the bus of a whole crew of which no sender was stopped.
+fn end_whole<B: OfBus>(
+    the: TheBus<B>,
+    desks: Vec<Desk<B>>,
+    ears: Vec<Ear<B>>,
+    room: Vec<Heard>,
+    shape: Shape,
+    messages: u64,
+) -> Result<Report, RunFault>
+    requires senders { shape.senders ≤ MOST_SENDERS }
+    requires bus { the.bus.shape ≡ shape }
+    requires whole { IsWhole (λ desk. desk.sender.core.me) shape desks.items ears.items }
+    ensures of { IfOk result (λ report. report.ended.senders ≡ shape.senders) }
+    ensures sent { IfOk result
+        (λ report. OfOrder report.ended (SendsEach shape.senders messages)) }
+    ensures carried { IfOk result
+        (λ report. OfOrder report.ended (CarriesNumbers shape.senders)) }
+    ensures closed { IfOk result (λ report. OfOrder report.ended IsClosed) }
+    ensures heard { IfOk result
+        (λ report. OfOrder report.ended (λ order. All (IsFair order) report.heards.items)) }
+    ensures notes { IfOk result
+        (λ report. report.heards.items ≡ map (λ ear. ear.heard) ears.items) }
+    ensures each { IfOk result (λ report. length report.heards.items ≡ shape.receivers) }
+    ensures spelled { IfOk result (λ report. IsSpelled report.ended) }
+    ensures late { IfErr result
+        (IsLate (λ desk. HasSent messages desk.sender) shape messages (vec_capacity room)
+        desks.items (map (λ ear. ear.heard) ears.items)) }
 {
-    for desk in desks {
-        if let Some(fault) = desk.fault {
-            return Some(fault);
+    if let Some(sender) = first_unsent(desks.as_slice(), messages) {
+        return Err(RunFault::Stopped { sender });
+    }
+    let (first, heards) = notes_of(ears, room)?;
+    let told = tell_all(&the, desks, first, messages);
+    let ended = end_closed(the, told)?;
+    all_sent(&ended, shape.senders, messages)?;
+    audit(&ended, heards.as_slice())?;
+    Ok(Report { ended, heards })
+}
+
+/// The lowest sender that has not put so many messages, or of which one waits.
+fn first_unsent<B: OfBus>(desks: &[Desk<B>], messages: u64) -> Option<u64>
+    ensures unsent { IfSome result
+        (IsFirstUnsent (λ desk. HasSent messages desk.sender) desks.now) }
+    ensures none { result ≡ None → All (λ desk. HasSent messages desk.sender) desks.now }
+{
+    for (place, desk) in desks.iter().enumerate() {
+        if !desk.has_put(messages) {
+            return Some(place as u64);
         }
     }
     None
 }
 
-/// Each sender tells the first receiver of the log, by whose seat the bus is ended, and sees that
-/// it has put so many messages, and that its order has ended. What each receiver noted is put
-/// behind `heards`.
-fn end_bus<B: OfBus>(
-    the: TheBus<B>,
-    desks: &mut [Desk<B>],
+/// The first receiver, and what each noted.
+fn notes_of<B: OfBus>(
     ears: Vec<Ear<B>>,
-    heards: &mut Vec<Heard>,
-    messages: u64,
-) -> Result<Ended, RunFault>
-    ensures of { IfOk result (λ ended. ended.senders ≡ the.bus.shape.senders) }
-    ensures closed { IfOk result (λ ended. OfOrder ended IsClosed) }
-    ensures told { IfOk result (λ ended. (s : ℕ) → s < length desks.old
-        → HasTold s messages ended.log) }
-    ensures fault { IfErr result IsStop }
+    room: Vec<Heard>,
+) -> Result<(Receiver, Vec<Heard>), RunFault>
+    requires { 0 < vec_len ears }
+    ensures table { IfOk result (λ noted. bus_of noted.0 ≡ B.table) }
+    ensures notes { IfOk result
+        (λ noted. noted.1.items ≡ map (λ ear. ear.heard) ears.items) }
+    ensures full { IfErr result
+        (λ fault. (fault ≡ RunFault.NoMemory) × (vec_capacity room < vec_len ears)) }
 {
+    let mut heards = room;
+    heards.clear();
     let mut first = None;
     for ear in ears {
         let Ear {
@@ -142,48 +207,65 @@ fn end_bus<B: OfBus>(
             first = Some(receiver);
         }
     }
-    let Some(mut first) = first else {
-        return Err(RunFault::Spawn);
-    };
-    for (place, desk) in desks.iter_mut().enumerate() {
-        let sender = place as u64;
-        if !tell(&mut first, desk, &the, sender, messages) {
-            return Err(RunFault::Stopped { sender });
-        }
+    match first {
+        Some(first) => Ok((first, heards)),
+        None => unreachable!(),
     }
+}
+
+/// Each sender tells a receiver of the log, which then knows all that each has put.
+fn tell_all<B: OfBus>(
+    the: &TheBus<B>,
+    desks: Vec<Desk<B>>,
+    first: Receiver,
+    messages: u64,
+) -> Receiver
+    requires table { bus_of first ≡ B.table }
+    requires sent { All (λ desk. HasSent messages desk.sender) desks.items }
+    ensures table { bus_of result ≡ B.table }
+    ensures told { All (λ desk. HasTold desk.sender.core.me messages (known_in result.me.0))
+        desks.items }
+{
+    let mut first = first;
+    for desk in desks {
+        tell(&mut first, desk, the, messages);
+    }
+    first
+}
+
+/// A desk's sender tells a receiver of the log.
+fn tell<B: OfBus>(receiver: &mut Receiver, desk: Desk<B>, the: &TheBus<B>, messages: u64)
+    requires table { bus_of receiver.old ≡ B.table }
+    requires sent { HasSent messages desk.sender }
+    ensures table { bus_of receiver.new ≡ B.table }
+    ensures grows { IsPrefix (known_in receiver.old.me.0) (known_in receiver.new.me.0) }
+    ensures told { HasTold desk.sender.core.me messages (known_in receiver.new.me.0) }
+{
+    let Desk { mut sender, .. } = desk;
+    receiver.told(&mut sender, &the.bus);
+}
+
+/// Ends the bus by its receiver. Its order has to have ended, for which the first sender answers.
+fn end_closed<B: OfBus>(the: TheBus<B>, first: Receiver) -> Result<Ended, RunFault>
+    requires { bus_of first ≡ B.table }
+    ensures of { IfOk result (λ ended. ended.senders ≡ the.bus.shape.senders) }
+    ensures closed { IfOk result (λ ended. OfOrder ended IsClosed) }
+    ensures front { IfOk result (λ ended. IsPrefix (known_in first.me.0) ended.log) }
+    ensures open { IfErr result (λ fault. fault ≡ stopped 0) }
+{
     match Receiver::end(the.into_bus(), first) {
         Ok(ended) if ended.page().ended => Ok(ended),
         _ => Err(RunFault::Stopped { sender: 0 }),
     }
 }
 
-/// A desk's sender tells a receiver of the log. Says whether it is the sender of this number and
-/// has put so many messages, of which none waits.
-fn tell<B: OfBus>(
-    receiver: &mut Receiver,
-    desk: &mut Desk<B>,
-    the: &TheBus<B>,
-    number: u64,
-    messages: u64,
-) -> bool
-    requires { bus_of receiver.old ≡ B.table }
-    ensures table { bus_of receiver.new ≡ B.table }
-    ensures grows { IsPrefix (known_in receiver.old.me.0) (known_in receiver.new.me.0) }
-    ensures told { result ≡ true → HasTold number messages (known_in receiver.new.me.0) }
-{
-    let is_done = desk.number() == number && desk.has_put(messages);
-    receiver.told(&mut desk.sender, &the.bus);
-    is_done
-}
-
 /// Sees that each sender has so many items in the order that the bus left behind.
 fn all_sent(ended: &Ended, senders: u64, messages: u64) -> Result<(), RunFault>
     requires { senders ≤ MOST_SENDERS }
     ensures ok { OnOk result (OfOrder ended.now (SendsEach senders messages)) }
-    ensures fault { IfErr result (λ fault. OfOrder ended.now (λ order. (s : ℕ)
-        × (fault ≡ stopped s) × (s < senders) × SendsEach s messages order
+    ensures fault { IfErr result (λ fault. (s : ℕ) × (fault ≡ stopped s) × (s < senders)
+        × IsSpelled ended.now × OfOrder ended.now (λ order. SendsEach s messages order
         × (length (of_sender s order) ≢ messages))) }
-    ensures kind { IfErr result IsStop }
 {
     for number in 0..senders {
         if ended.count(SenderNo(number as u8)) != messages {

@@ -2,7 +2,6 @@
 
 ghost use Rattle.std.specs.Prelude.{◌≡◌, Some};
 ghost use Rattle.bus_run.specs.Printed.{fault_text};
-ghost use Rattle.bus_run.specs.Stops.{fault_of};
 ghost use Rattle.bus_run.specs.declared.faults.RunFault.TheVariants.{NoMemory as no_memory};
 ghost use Rattle.bus_run.specs.declared.faults.RunFault.TheVariants.{Make as not_made};
 ghost use Rattle.bus_run.specs.declared.faults.RunFault.TheVariants.{Audit as not_fair};
@@ -39,7 +38,7 @@ pub enum SenderFault {
     /// The gate let its worker not through.
     Gate,
     /// It could not put, send or close.
-    Stopped { sender: u64 },
+    Stopped,
 }
 
 impl fmt::Display for RunFault {
@@ -89,16 +88,5 @@ impl From<AuditFault> for RunFault {
 
     fn from(why: AuditFault) -> RunFault {
         RunFault::Audit(why)
-    }
-}
-
-impl From<SenderFault> for RunFault {
-    ghost from_gives = { λ why fault. fault ≡ fault_of why };
-
-    fn from(why: SenderFault) -> RunFault {
-        match why {
-            SenderFault::Gate => RunFault::Gate,
-            SenderFault::Stopped { sender } => RunFault::Stopped { sender },
-        }
     }
 }

@@ -8,6 +8,7 @@ pub mod closing;
 pub mod crews;
 pub mod faults;
 pub mod gates;
+pub mod limits;
 pub mod reports;
 pub mod runs;
 pub mod workers;

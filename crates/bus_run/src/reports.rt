@@ -5,7 +5,7 @@ ghost use Rattle.std.specs.Prelude.{string_bytes};
 ghost use Rattle.bus_run.specs.Audit.{OfOrder, IsFair};
 ghost use Rattle.bus_run.specs.RunText.{sender_line, sender_lines, receiver_line, receiver_lines};
 ghost use Rattle.bus_run.specs.RunText.{page_lines, report_text as text_of};
-ghost use Rattle.bus_run.specs.Stops.{IsStop};
+ghost use Rattle.bus_run.specs.Stops.{IsTextFault};
 
 use crate::audits::audit;
 use crate::faults::RunFault;
@@ -33,7 +33,8 @@ pub fn report_text(alloc: Global, report: &Report, senders: u64) -> Result<Strin
         (λ order. string_bytes text
         ≡ text_of order report.now.ended.page senders report.now.heards.items)) }
     ensures words { OnOk result (report.now.ended.page.words ≡ length report.now.ended.log) }
-    ensures fault { IfErr result IsStop }
+    ensures fault { IfErr result
+        (IsTextFault report.now.ended report.now.heards.items) }
 {
     let heards = report.heards.as_slice();
     audit(&report.ended, heards)?;

@@ -13,6 +13,7 @@ use crate::closing::end_and_audit;
 use crate::crews::Crew;
 use crate::faults::RunFault;
 use crate::gates::Gate;
+use crate::limits::{MOST_MESSAGES_EACH, ROUNDS};
 use crate::reports::Report;
 use crate::workers::{Desk, Ear, HearAll, Load, SendAll, desks_of, ears_of};
 use bus_pageslot::OfBus;
@@ -36,7 +37,7 @@ pub fn run<R: Threads + Wait + Sync, G: Gate + Sync>(
     seed: u64,
     gate: &G,
 ) -> Result<Report, RunFault>
-    requires { messages ≤ 400 }
+    requires { messages ≤ MOST_MESSAGES_EACH }
     ensures served { OnOk result (IsServed (shape_of_run senders receivers)) }
     ensures of { IfOk result (λ report. report.ended.senders ≡ senders) }
     ensures sent { IfOk result (λ report. OfOrder report.ended (SendsEach senders messages)) }
@@ -51,7 +52,7 @@ pub fn run<R: Threads + Wait + Sync, G: Gate + Sync>(
     let shape = Shape {
         senders,
         receivers,
-        rounds: 4,
+        rounds: ROUNDS,
         rows: MOST_ROWS as u64,
         log_words: MOST_LOG_WORDS,
     };
@@ -83,10 +84,10 @@ fn run_on<B: OfBus + Send + Sync, R: Threads + Wait + Sync, G: Gate + Sync>(
         (λ report. OfOrder report.ended (λ order. All (IsFair order) report.heards.items)) }
     ensures each { IfOk result (λ report. length report.heards.items ≡ shape.receivers) }
     ensures spelled { IfOk result (λ report. IsSpelled report.ended) }
-    ensures fault { IfErr result IsStop }
+    ensures fault { IfErr result (IsStop shape.senders shape.receivers) }
 {
     let (bus, senders, taps) = made;
-    let heards = Vec::with_capacity(alloc, taps.len())?;
+    let room = Vec::with_capacity(alloc, taps.len())?;
     let crew = Crew::new(
         alloc,
         desks_of::<B>(alloc, senders, load.seed)?,
@@ -94,7 +95,7 @@ fn run_on<B: OfBus + Send + Sync, R: Threads + Wait + Sync, G: Gate + Sync>(
     )?;
     let the = TheBus::<B>::new(bus);
     let crew = man(rt, &the, gate, load, crew);
-    end_and_audit(the, crew, heards, shape, load.messages)
+    end_and_audit(the, crew, room, shape, load.messages)
 }
 
 /// Lets each sender and each receiver work in a thread of its own, until all have ended. Who could

@@ -1,14 +1,15 @@
 //! What the worker of a sender does, and that of a receiver.
 
 ghost use Rattle.std.specs.Prelude.{◌≡◌, ◌++◌, ◌∷◌, [], ◌<◌, ◌≤◌};
-ghost use Rattle.std.specs.Prelude.{◌⊎◌, ◌^◌, true, false, None, Some, replicate};
+ghost use Rattle.std.specs.Prelude.{◌⊎◌, ◌^◌, true, false, None, Some};
 ghost use Rattle.std.specs.Prelude.{length, IfOk, map, All};
-ghost use Rattle.std.specs.Int.{w64, to_le_bytes, to_be_bytes};
-ghost use Rattle.rand_chacha.specs.ChaCha.{of_seed};
+ghost use Rattle.std.specs.Int.{w64, to_be_bytes};
 ghost use Rattle.bus_batch.specs.Batches.{next_of, IsPutFault};
 ghost use Rattle.bus_batch.specs.declared.batches.PutFault.{PutFault};
 ghost use Rattle.bus_pageslot.specs.Seats.{table_of, deeds_of};
 ghost use Rattle.bus_run.specs.Numbers.{numbers_below};
+ghost use Rattle.bus_run.specs.Stops.{HasSent};
+ghost use Rattle.bus_run.specs.Words.{generator_of};
 ghost use Rattle.bus_world.specs.Headline.{puts};
 ghost use Rattle.bus_receiver.specs.Hearing.{nothing};
 ghost use Rattle.bus_receiver.specs.Listening.{bus_of};
@@ -18,9 +19,11 @@ use crate::buses::{Receiver, Sender, Tap, TheBus};
 use crate::crews::Work;
 use crate::faults::SenderFault;
 use crate::gates::Gate;
+use crate::limits::MOST_MESSAGES_EACH;
 use bus_deliverylog::RecvTurn;
 use bus_pageslot::OfBus;
 use bus_receiver::Heard;
+use bus_register::limits::MOST_MESSAGES;
 use bus_tenure::Turn;
 use crossbeam_utils::Backoff;
 use rand_chacha::ChaCha8Rng;
@@ -29,12 +32,6 @@ use std::alloc::{AllocError, Global};
 use std::marker::PhantomData;
 use std::sync::Wait;
 use std::sync::atomic::{AtomicBool, Ordering};
-
-/// How many messages a batch has at most.
-const BATCH: usize = 16;
-
-/// How many messages a sender sends at most in a run.
-const MOST_EACH: u64 = 400;
 
 /// How much each sender sends, and what its random words come from.
 #[derive(Clone, Copy, Debug)]
@@ -92,7 +89,7 @@ impl<B: OfBus> Desk<B> {
         requires table { table_of sender ≡ B.table }
         requires put { puts (deeds_of sender) ≡ [] }
         ensures sender { result.sender ≡ sender }
-        ensures stream { result.rng.stream ≡ sender.core.me }
+        ensures words { result.rng ≡ generator_of seed sender.core.me }
         ensures fault { result.fault ≡ None }
     {
         let rng = generator(seed, u64::from(sender.number().0));
@@ -114,8 +111,8 @@ impl<B: OfBus> Desk<B> {
 
     /// It has put so many messages, the numbers from 0 on, and none of them waits.
     pub fn has_put(&self, messages: u64) -> bool
-        ensures { result ≡ true → (length self.now.sender.core.queue.messages ≡ 0)
-            × (puts (deeds_of self.now.sender) ≡ numbers_below messages) }
+        ensures all { result ≡ true → HasSent messages self.now.sender }
+        ensures not_all { result ≡ false → HasSent messages self.now.sender → ⊥ }
     {
         self.sender.pending() == 0 && self.put == messages
     }
@@ -137,14 +134,11 @@ impl<B: OfBus> Desk<B> {
     /// Says that its sender was stopped, unless it had a fault before.
     pub fn stop(&mut self)
         ensures sender { self.new.sender ≡ self.old.sender }
-        ensures stopped { self.old.fault ≡ None
-            → self.new.fault ≡ Some (stopped self.old.sender.core.me) }
+        ensures stopped { self.old.fault ≡ None → self.new.fault ≡ Some stopped }
         ensures before { (self.old.fault ≡ None → ⊥) → self.new.fault ≡ self.old.fault }
     {
         if self.fault.is_none() {
-            self.fault = Some(SenderFault::Stopped {
-                sender: self.number(),
-            });
+            self.fault = Some(SenderFault::Stopped);
         }
     }
 
@@ -160,7 +154,7 @@ impl<B: OfBus> Desk<B> {
 
     /// Puts the next number. Says whether it was taken.
     fn put_next(&mut self) -> bool {
-        let taken = self.put < MOST_EACH && put_number(&mut self.sender, self.put);
+        let taken = self.put < MOST_MESSAGES_EACH && put_number(&mut self.sender, self.put);
         if taken {
             self.put += 1;
         }
@@ -176,7 +170,11 @@ pub fn desks_of<B: OfBus>(
 ) -> Result<Vec<Desk<B>>, AllocError>
     requires table { All (λ sender. table_of sender ≡ B.table) senders.items }
     requires put { All (λ sender. puts (deeds_of sender) ≡ []) senders.items }
-    ensures { IfOk result (λ desks. map (λ desk. desk.sender) desks.items ≡ senders.items) }
+    ensures senders { IfOk result
+        (λ desks. map (λ desk. desk.sender) desks.items ≡ senders.items) }
+    ensures words { IfOk result (λ desks. All
+        (λ desk. desk.rng ≡ generator_of seed desk.sender.core.me) desks.items) }
+    ensures unstopped { IfOk result (λ desks. All (λ desk. desk.fault ≡ None) desks.items) }
 {
     let mut desks = Vec::with_capacity(alloc, senders.len())?;
     for sender in senders {
@@ -200,8 +198,7 @@ pub fn ears_of<B: OfBus>(alloc: Global, taps: Vec<Tap>) -> Result<Vec<Ear<B>>, A
 
 /// The random words of a sender: its own stream under the key of the seed.
 pub fn generator(seed: u64, sender: u64) -> ChaCha8Rng
-    ensures { result
-        ≡ record (of_seed (to_le_bytes w64 seed ++ replicate 24 0)) { stream = sender } }
+    ensures { result ≡ generator_of seed sender }
 {
     let mut key = [0u8; 32];
     key[..8].copy_from_slice(&seed.to_le_bytes());
@@ -223,12 +220,12 @@ impl<B: OfBus, W: Wait, G: Gate> Work<Desk<B>> for SendAll<'_, B, W, G> {
     /// Sends the numbers below `load.messages`, in batches.
     fn work(&self, mut desk: Desk<B>) -> Desk<B> {
         let messages = self.load.messages;
-        for first in (0..messages).step_by(BATCH) {
+        for first in (0..messages).step_by(MOST_MESSAGES) {
             if !self.gate.arrive(desk.number()) {
                 desk.fault = Some(SenderFault::Gate);
                 return desk;
             }
-            let many = messages.saturating_sub(first).min(BATCH as u64);
+            let many = messages.saturating_sub(first).min(MOST_MESSAGES as u64);
             if !desk.put_all(many) || !self.send_batch(&mut desk) {
                 desk.stop();
                 return desk;
@@ -253,14 +250,14 @@ fn put_number(sender: &mut Sender, number: u64) -> bool
     ensures taken { result ≡ true
         → sender.new.core.queue.messages ≡ sender.old.core.queue.messages ++ to_be_bytes w64
         number ∷ [] }
-    ensures refused { result ≡ false → (400 ≤ next_of sender.old.core.queue)
+    ensures refused { result ≡ false → (MOST_MESSAGES_EACH ≤ next_of sender.old.core.queue)
         ⊎ ((why : PutFault) × IsPutFault sender.old.core.queue 8 why) }
     ensures table { table_of sender.new ≡ table_of sender.old }
     ensures put { result ≡ true → puts (deeds_of sender.new)
         ≡ puts (deeds_of sender.old) ++ to_be_bytes w64 number ∷ [] }
     ensures kept { result ≡ false → puts (deeds_of sender.new) ≡ puts (deeds_of sender.old) }
 {
-    sender.next_number() < MOST_EACH && sender.put(&number.to_be_bytes()).is_ok()
+    sender.next_number() < MOST_MESSAGES_EACH && sender.put(&number.to_be_bytes()).is_ok()
 }
 
 /// The work of the receivers of a run, on the bus B.

@@ -12,10 +12,10 @@ loop-number-preserved c = λ order owners spells s lt. elim (cases_lt s c.loop-n
 ]
 
 pub returns-then-count-messages-clause-fault : goal.returns-then-count-messages-clause-fault
-returns-then-count-messages-clause-fault c = λ order owners spells. (
+returns-then-count-messages-clause-fault c = (
   c.loop-number.number,
   refl,
   omega arith,
-  c.loop-number.invariant order owners spells,
-  λ e. c.if-count-messages.true (c.count.ensures.counts order owners spells ∙ e),
+  c.count.ensures.spelled,
+  λ order owners spells. (c.loop-number.invariant order owners spells, λ e. c.if-count-messages.true (c.count.ensures.counts order owners spells ∙ e)),
 )

@@ -1,14 +1,13 @@
-use Rattle.std.proofs.Common.{◌<◌, All, length, ap, subst, arith}
-use Rattle.bus_deliverylog.specs.Orders.{of_sender}
-use Rattle.bus_run.specs.Audit.{IsFair}
-use Rattle.bus_run.proofs.ToldLemmas.{carries, told_all}
+use Rattle.std.proofs.Common.{inr, map, subst}
+use Rattle.std.specs.Vec.{vec_capacity}
+use Rattle.bus_run.specs.Stops.{AreUnstopped, HasSent, IsLate, IsWhole}
+use Rattle.bus_run.proofs.StopLemmas.{err_weaker}
 use Rattle.bus_run.proofs.closing.end_and_audit.Goals as goal
 
-pub returns-clause-heard : goal.returns-clause-heard
-returns-clause-heard g c = λ order owners spells. subst (All (IsFair order)) c.as_slice-2.ensures.value (c.in_ok-audit.ensures.ok order owners spells)
-
-pub returns-clause-carried : goal.returns-clause-carried
-returns-clause-carried g c = λ order owners spells s k item lt at.
-    let left = c.in_ok-ended.ended in
-    let there : s < length c.deref_mut.result.now = omega (arith, c.if-len-shape.false, ap length c.deref_mut.ensures.value) in
-    carries (of_sender s order) c.args.messages k item (told_all s c.args.messages left.log left.senders order owners (c.in_ok-ended.ensures.told s there) spells (c.in_ok-all_sent.ensures.ok order owners spells s lt)) at
+pub returns-clause-fault : goal.returns-clause-fault
+returns-clause-fault g c =
+    let Late = IsLate (λ desk. HasSent c.args.messages desk.sender) c.args.shape c.args.messages (vec_capacity c.args.room) c.args.crew.desks.items (map (λ ear. ear.heard) c.args.crew.ears.items) in
+    let here = c.is_whole.ensures.whole c.if-not-is_whole.false in
+    let whole = subst (λ es. IsWhole (λ desk. desk.sender.core.me) c.args.shape c.args.crew.desks.items es) c.as_slice-2.ensures.value (subst (λ ds. IsWhole (λ desk. desk.sender.core.me) c.args.shape ds c.as_slice-2.result.now) c.as_slice.ensures.value here) in
+    let unstopped = subst (AreUnstopped (λ desk. desk.fault)) c.as_slice-3.ensures.value (c.first_stop.ensures.none c.in_default.is) in
+    err_weaker c.end_whole.result Late _ (λ fault late. inr (inr (whole, unstopped, late))) c.end_whole.ensures.late

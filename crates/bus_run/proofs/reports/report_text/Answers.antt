@@ -1,8 +1,10 @@
 use Rattle.std.proofs.Common.{All, ◌++◌, string_bytes, ap, sym, ◌∙◌, subst}
 use Rattle.bus_tenure.specs.declared.pages.Page.{Page}
-use Rattle.bus_run.specs.Audit.{IsFair}
+use Rattle.bus_run.specs.Audit.{IsFair, IsFirstFault}
 use Rattle.bus_run.specs.RunText.{sender_lines, receiver_lines, page_lines}
+use Rattle.bus_run.specs.Stops.{IsTextFault}
 use Rattle.bus_run.proofs.RunTextLemmas.{three_parts}
+use Rattle.bus_run.proofs.StopLemmas.{passed_up}
 use Rattle.bus_run.proofs.reports.report_text.Goals as goal
 
 pub returns-clause-fair : goal.returns-clause-fair
@@ -19,3 +21,8 @@ returns-clause-text c = λ order owners spells.
 
 pub returns-clause-words : goal.returns-clause-words
 returns-clause-words c = ap (λ (g : Page). g.words) (sym c.page.ensures.page) ∙ c.page.ensures.words
+
+pub returns-in_err-audit-clause-fault : goal.returns-in_err-audit-clause-fault
+returns-in_err-audit-clause-fault c =
+    passed_up _ _ (IsTextFault c.args.report.now.ended c.args.report.now.heards.items) c.from_residual.ensures
+    (λ order owners spells. subst (λ hs. IsFirstFault order hs c.in_err-audit.field-0.0) c.as_slice-heards.ensures.value (c.in_err-audit.ensures.fault order owners spells))

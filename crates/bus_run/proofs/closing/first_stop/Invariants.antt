@@ -1,0 +1,6 @@
+use Rattle.std.proofs.Common.{take}
+use Rattle.bus_run.specs.Stops.{AreUnstopped}
+use Rattle.bus_run.proofs.closing.first_stop.Given as goal
+
+abbrev pub invariant-loop-place : goal.invariant-loop-place
+invariant-loop-place g l = AreUnstopped (λ desk. desk.fault) (take l.place l.desks)

@@ -1,0 +1,7 @@
+use Rattle.std.proofs.Common.{take}
+use Rattle.std.specs.Prelude.{All}
+use Rattle.bus_run.specs.Stops.{HasSent}
+use Rattle.bus_run.proofs.closing.first_unsent.Given as goal
+
+abbrev pub invariant-loop-place : goal.invariant-loop-place
+invariant-loop-place g l = All (λ desk. HasSent l.messages desk.sender) (take l.place l.desks)

@@ -1,0 +1,7 @@
+//! The sizes of a run.
+
+/// Messages that each sender of a run sends: at most 400.
+pub const MOST_MESSAGES_EACH: u64 = 400;
+
+/// Rounds of each binary decision of a run's bus.
+pub const ROUNDS: u64 = 4;
