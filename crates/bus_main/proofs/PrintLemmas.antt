@@ -3,21 +3,23 @@ use Rattle.std.proofs.Common.{◌≡◌, ℕ, All, List, length, inl, inr, sym, 
 use Rattle.std.specs.Prelude.{Result, Err, IsErr, IsErrAnd}
 use Rattle.bus_pageslot.specs.Outcomes.{Outcome}
 use Rattle.bus_receiver.specs.Hearing.{Hearing}
-use Rattle.bus_run.specs.Audit.{IsSpelled, OfOrder, IsFair, SendsEach, CarriesNumbers, IsClosed}
+use Rattle.bus_run.specs.Audit.{IsSpelled, OfOrder, IsFair, SendsEach, CarriesNumbers, IsClosed, shape_of_run}
+use Rattle.bus_run.specs.Left.{IsLeftBehind}
 use Rattle.bus_run.specs.RunText.{report_text, IsRunText}
 use Rattle.bus_run.specs.Stops.{IsStop, IsRunFault}
 use Rattle.bus_run.specs.declared.faults.RunFault.{RunFault}
 use Rattle.bus_run.specs.declared.faults.RunFault.TheVariants as run
 
 -- the text of a run, of which this many messages of each sender were asked
-pub is_run_text : (senders receivers messages asked : ℕ) (left : Outcome) (heards : List Hearing) (text : List ℕ) → left.senders ≡ senders → IsSpelled left → OfOrder left (SendsEach senders messages) → OfOrder left (CarriesNumbers senders) → OfOrder left IsClosed → messages ≡ asked → length heards ≡ receivers
+pub is_run_text : (senders receivers messages asked : ℕ) (left : Outcome) (heards : List Hearing) (text : List ℕ) → left.senders ≡ senders → IsLeftBehind (shape_of_run senders receivers) left → IsSpelled left → OfOrder left (SendsEach senders messages) → OfOrder left (CarriesNumbers senders) → OfOrder left IsClosed → messages ≡ asked → length heards ≡ receivers
     → OfOrder left (λ order. All (IsFair order) heards) → left.page.words ≡ length left.log → OfOrder left (λ order. text ≡ report_text order left.page senders heards) → IsRunText senders receivers asked text
-is_run_text senders receivers messages asked left heards text of spelled sent carried closed is each fair words said = record {
+is_run_text senders receivers messages asked left heards text of behind spelled sent carried closed is each fair words said = record {
   left = left;
   order = spelled.0;
   owners = spelled.1;
   spells = spelled.2;
   senders_are = of;
+  left_behind = behind;
   carried = carried spelled.0 spelled.1 spelled.2;
   sends = subst (λ n. SendsEach senders n spelled.0) is (sent spelled.0 spelled.1 spelled.2);
   closed = closed spelled.0 spelled.1 spelled.2;
@@ -29,12 +31,12 @@ is_run_text senders receivers messages asked left heards text of spelled sent ca
 }
 
 -- ---- what goes wrong before anything is written
-pub no_stop_is_write : (fault : RunFault) → IsStop fault → fault ≡ run.Write → ⊥
-no_stop_is_write fault stop is = subst IsStop is stop
+pub no_stop_is_write : (senders receivers : ℕ) (fault : RunFault) → IsStop senders receivers fault → fault ≡ run.Write → ⊥
+no_stop_is_write senders receivers fault stop is = subst (IsStop senders receivers) is stop
 
 pub no_run_fault_is_write : (senders receivers : ℕ) (fault : RunFault) → IsRunFault senders receivers fault → fault ≡ run.Write → ⊥
 no_run_fault_is_write senders receivers fault (inl made) is = absurd (let no : run.Make made.0 ≡ run.Write = sym made.1 ∙ is in cc)
-no_run_fault_is_write senders receivers fault (inr stopped) is = no_stop_is_write fault stopped.0 is
+no_run_fault_is_write senders receivers fault (inr stopped) is = no_stop_is_write senders receivers fault stopped.0 is
 
 -- a fault that was passed on as it is
 pub passed_on : {A : Type 0} (fault : RunFault) (r : Result A RunFault) → IsErr r × IsErrAnd r (λ e. e ≡ fault) → r ≡ Err run.Write → fault ≡ run.Write

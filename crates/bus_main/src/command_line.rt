@@ -1,6 +1,8 @@
 //! The command line of `bus`.
 
 use crate::printing::Request;
+use bus_register::limits::{MOST_RECEIVERS, MOST_SENDERS};
+use bus_run::limits::MOST_MESSAGES_EACH;
 use clap::builder::ValueParser;
 use clap::{Arg, ArgAction, ArgMatches, Command, Error, value_parser};
 use std::alloc::Global;
@@ -36,13 +38,14 @@ pub fn parse<'a>(alloc: Global, words: &'a [String]) -> Result<Task, Error> {
 
 /// The command `run`.
 fn run_command<'a>(alloc: Global) -> Result<Command<'a>, Error> {
-    let eight = value_parser!(u64).range(1..9);
-    let few = value_parser!(u64).range(0..401);
+    let senders = value_parser!(u64).range(1..MOST_SENDERS as i64 + 1);
+    let receivers = value_parser!(u64).range(1..MOST_RECEIVERS as i64 + 1);
+    let messages = value_parser!(u64).range(0..MOST_MESSAGES_EACH as i64 + 1);
     let command = Command::new(alloc, "run")
         .about("Runs a bus, with a thread for each sender and each receiver")
-        .arg(number(alloc, "senders", "3", eight))?
-        .arg(number(alloc, "receivers", "2", value_parser!(u64).range(1..9)))?
-        .arg(number(alloc, "messages", "100", few))?
+        .arg(number(alloc, "senders", "3", senders))?
+        .arg(number(alloc, "receivers", "2", receivers))?
+        .arg(number(alloc, "messages", "100", messages))?
         .arg(number(alloc, "seed", "7", value_parser!(u64)))?;
     Ok(command)
 }

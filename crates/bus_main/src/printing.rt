@@ -7,6 +7,7 @@ ghost use Rattle.bus_run.specs.Stops.{IsRunFault};
 ghost use Rattle.bus_main.specs.Streams.{WritesPart};
 
 use crate::streams::write_whole;
+use bus_run::limits::MOST_MESSAGES_EACH;
 use bus_run::{OpenGate, RunFault, report_text, run};
 use bus_script::Outcome;
 use std::alloc::Global;
@@ -19,7 +20,7 @@ use std::thread::Threads;
 pub struct Request {
     pub senders: u64,
     pub receivers: u64,
-    /// Of each sender. More than 400 count as 400.
+    /// Of each sender. More than `MOST_MESSAGES_EACH` count as so many.
     pub messages: u64,
     pub seed: u64,
 }
@@ -33,12 +34,14 @@ pub fn print_run<R: Threads + Wait + Sync, W: Write>(
 ) -> Result<Outcome, RunFault>
     // The run ended well, and all of its text was written.
     ensures ok { IfOk result (λ outcome. (outcome ≡ Outcome.Done) × (text : List ℕ)
-        × IsRunText request.senders request.receivers (min request.messages 400) text
+        × IsRunText request.senders request.receivers
+        (min request.messages MOST_MESSAGES_EACH) text
         × Appends (W.contents writer.old) (W.contents writer.new) text) }
 
     // The run ended well, and a part of its text was written.
     ensures write { IsErrOf result RunFault.Write → (text : List ℕ)
-        × IsRunText request.senders request.receivers (min request.messages 400) text
+        × IsRunText request.senders request.receivers
+        (min request.messages MOST_MESSAGES_EACH) text
         × WritesPart (W.contents writer.old) (W.contents writer.new) text }
 
     // Else the run did not end well, and nothing was written.
@@ -47,7 +50,7 @@ pub fn print_run<R: Threads + Wait + Sync, W: Write>(
     ensures unwritten { IfErr result (λ fault. (fault ≡ RunFault.Write → ⊥)
         → Keeps (W.contents writer.old) (W.contents writer.new)) }
 {
-    let messages = request.messages.min(400);
+    let messages = request.messages.min(MOST_MESSAGES_EACH);
     let report = run(
         rt,
         alloc,

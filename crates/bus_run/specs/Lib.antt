@@ -5,3 +5,4 @@ pub mod Stops
 pub mod Numbers
 pub mod Told
 pub mod Words
+pub mod Left

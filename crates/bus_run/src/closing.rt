@@ -1,10 +1,12 @@
 //! What a run leaves behind, once all its workers have ended.
 
-ghost use Rattle.std.specs.Prelude.{◌≡◌, ◌≢◌, ◌≤◌, ◌<◌, ◌⊎◌, ℕ, All, length, map, vec_len};
+ghost use Rattle.std.specs.Prelude.{◌≡◌, ◌≢◌, ◌≤◌, ◌<◌, ◌⊎◌, ℕ, All};
+ghost use Rattle.std.specs.Prelude.{length, map, vec_len};
 ghost use Rattle.std.specs.Prelude.{None, IfOk, OnOk, IfErr, IfSome, true, false};
 ghost use Rattle.std.specs.Vec.{vec_capacity};
 ghost use Rattle.bus_run.specs.Audit.{OfOrder, IsSpelled, IsFair, SendsEach, IsClosed};
 ghost use Rattle.bus_run.specs.Audit.{CarriesNumbers};
+ghost use Rattle.bus_run.specs.Left.{IsLeftBehind};
 ghost use Rattle.bus_run.specs.Told.{HasTold};
 ghost use Rattle.bus_pageslot.specs.Rule.{known_in};
 ghost use Rattle.bus_receiver.specs.Listening.{bus_of};
@@ -41,6 +43,7 @@ pub fn end_and_audit<B: OfBus>(
         (IsWhole (λ desk. desk.sender.core.me) shape crew.desks.items crew.ears.items) }
     ensures unstopped { OnOk result (AreUnstopped (λ desk. desk.fault) crew.desks.items) }
     ensures of { IfOk result (λ report. report.ended.senders ≡ shape.senders) }
+    ensures left { IfOk result (λ report. IsLeftBehind shape report.ended) }
     ensures sent { IfOk result
         (λ report. OfOrder report.ended (SendsEach shape.senders messages)) }
     ensures carried { IfOk result
@@ -54,7 +57,8 @@ pub fn end_and_audit<B: OfBus>(
     ensures spelled { IfOk result (λ report. IsSpelled report.ended) }
 
     // Who is missing comes before what stopped a sender, and that before all else.
-    ensures fault { let Whole = IsWhole (λ desk. desk.sender.core.me) shape crew.desks.items crew.ears.items in
+    ensures fault { let Whole = IsWhole (λ desk. desk.sender.core.me) shape
+        crew.desks.items crew.ears.items in
         IfErr result (λ fault. ((fault ≡ RunFault.Spawn) × (Whole → ⊥))
         ⊎ (Whole × IsFirstStop (λ desk. desk.fault) crew.desks.items fault)
         ⊎ (Whole × AreUnstopped (λ desk. desk.fault) crew.desks.items
@@ -86,7 +90,8 @@ fn is_whole<B: OfBus>(desks: &[Desk<B>], ears: &[Ear<B>], shape: Shape) -> bool
 /// The desk at each place is that of the sender with the number of the place.
 fn are_in_order<B: OfBus>(desks: &[Desk<B>]) -> bool
     ensures order { result ≡ true → AreInOrder (λ desk. desk.sender.core.me) desks.now }
-    ensures other { result ≡ false → AreInOrder (λ desk. desk.sender.core.me) desks.now → ⊥ }
+    ensures other { result ≡ false
+        → AreInOrder (λ desk. desk.sender.core.me) desks.now → ⊥ }
 {
     for (place, desk) in desks.iter().enumerate() {
         if desk.number() != place as u64 {
@@ -139,6 +144,7 @@ fn end_whole<B: OfBus>(
     requires bus { the.bus.shape ≡ shape }
     requires whole { IsWhole (λ desk. desk.sender.core.me) shape desks.items ears.items }
     ensures of { IfOk result (λ report. report.ended.senders ≡ shape.senders) }
+    ensures left { IfOk result (λ report. IsLeftBehind shape report.ended) }
     ensures sent { IfOk result
         (λ report. OfOrder report.ended (SendsEach shape.senders messages)) }
     ensures carried { IfOk result
@@ -249,6 +255,7 @@ fn tell<B: OfBus>(receiver: &mut Receiver, desk: Desk<B>, the: &TheBus<B>, messa
 fn end_closed<B: OfBus>(the: TheBus<B>, first: Receiver) -> Result<Ended, RunFault>
     requires { bus_of first ≡ B.table }
     ensures of { IfOk result (λ ended. ended.senders ≡ the.bus.shape.senders) }
+    ensures left { IfOk result (λ ended. IsLeftBehind the.bus.shape ended) }
     ensures closed { IfOk result (λ ended. OfOrder ended IsClosed) }
     ensures front { IfOk result (λ ended. IsPrefix (known_in first.me.0) ended.log) }
     ensures open { IfErr result (λ fault. fault ≡ stopped 0) }

@@ -4,6 +4,7 @@ ghost use Rattle.std.specs.Prelude.{◌≡◌, ◌≤◌, [], All, length, IfOk,
 ghost use Rattle.bus_world.specs.Playing.{IsServed};
 ghost use Rattle.bus_run.specs.Audit.{OfOrder, IsSpelled, IsFair, SendsEach, IsClosed};
 ghost use Rattle.bus_run.specs.Audit.{shape_of_run, CarriesNumbers};
+ghost use Rattle.bus_run.specs.Left.{IsLeftBehind};
 ghost use Rattle.bus_run.specs.Stops.{IsStop, IsRunFault};
 ghost use Rattle.bus_pageslot.specs.Seats.{table_of, deeds_of};
 ghost use Rattle.bus_world.specs.Headline.{puts};
@@ -40,6 +41,8 @@ pub fn run<R: Threads + Wait + Sync, G: Gate + Sync>(
     requires { messages ≤ MOST_MESSAGES_EACH }
     ensures served { OnOk result (IsServed (shape_of_run senders receivers)) }
     ensures of { IfOk result (λ report. report.ended.senders ≡ senders) }
+    ensures left { IfOk result
+        (λ report. IsLeftBehind (shape_of_run senders receivers) report.ended) }
     ensures sent { IfOk result (λ report. OfOrder report.ended (SendsEach senders messages)) }
     ensures carried { IfOk result (λ report. OfOrder report.ended (CarriesNumbers senders)) }
     ensures closed { IfOk result (λ report. OfOrder report.ended IsClosed) }
@@ -75,6 +78,7 @@ fn run_on<B: OfBus + Send + Sync, R: Threads + Wait + Sync, G: Gate + Sync>(
     requires taps { All (λ tap. tap.table_id ≡ B.table) made.2.items }
     requires served { IsServed shape }
     ensures of { IfOk result (λ report. report.ended.senders ≡ shape.senders) }
+    ensures left { IfOk result (λ report. IsLeftBehind shape report.ended) }
     ensures sent { IfOk result
         (λ report. OfOrder report.ended (SendsEach shape.senders load.messages)) }
     ensures carried { IfOk result

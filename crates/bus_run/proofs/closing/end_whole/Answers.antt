@@ -6,6 +6,7 @@ use Rattle.bus_deliverylog.specs.Orders.{of_sender}
 use Rattle.bus_pageslot.specs.Rule.{known_in}
 use Rattle.bus_world.specs.declared.shapes.Shape.{Shape}
 use Rattle.bus_run.specs.Audit.{IsFair, IsFirstFault}
+use Rattle.bus_run.specs.Left.{IsLeftBehind}
 use Rattle.bus_run.specs.Stops.{HasSent, IsFirstUnsent, IsLate}
 use Rattle.bus_run.specs.Told.{HasTold}
 use Rattle.bus_run.specs.declared.faults.RunFault.{RunFault}
@@ -66,3 +67,6 @@ returns-clause-heard g c = λ order owners spells. subst (All (IsFair order)) c.
 
 pub returns-clause-each : goal.returns-clause-each
 returns-clause-each g c = ap length c.in_ok-first.ensures.notes ∙ length-map c.args.ears.items (λ ear. ear.heard) ∙ c.requires.whole.all_hear
+
+pub returns-clause-left : goal.returns-clause-left
+returns-clause-left g c = subst (λ x. IsLeftBehind x c.in_ok-ended.ended) c.requires.bus c.in_ok-ended.ensures.left
