@@ -1,5 +1,5 @@
 -- The commands: their messages, and what they do.
-use Rattle.std.specs.Prelude.{ℕ, ◌+◌, ◌%◌, ◌^◌, List, [], ◌∷◌, slice_index, slice_set}
+use Rattle.std.specs.Prelude.{◌≡◌, ℕ, ◌+◌, ◌%◌, ◌^◌, List, [], ◌∷◌, slice_index, slice_set}
 use Rattle.example_counters.specs.declared.Command.{Command}
 use Rattle.example_counters.specs.declared.Command.TheVariants.{Add, Reset}
 
@@ -8,7 +8,11 @@ abbrev pub message_of : Command → List ℕ
 message_of (Add counter amount) = 43 ∷ counter ∷ amount ∷ []
 message_of (Reset counter) = 48 ∷ counter ∷ 0 ∷ []
 
--- the counters after a command; one that names no counter changes none
+-- it is the message of some command
+abbrev pub IsCommand : List ℕ → Type 0
+IsCommand message = (command : Command) × (message ≡ message_of command)
+
+-- the counters after a command, which changes none but the one that it names
 abbrev pub changed : Command → List ℕ → List ℕ
 changed (Add counter amount) counters = slice_set counters counter ((slice_index counters counter + amount) % 2 ^ 64)
 changed (Reset counter) counters = slice_set counters counter 0

@@ -3,16 +3,17 @@
 //! may differ from run to run: the counters go to standard error, the verdict to standard output.
 #![tactic(auto)]
 
-ghost use Rattle.std.specs.Prelude.{◌≡◌};
+ghost use Rattle.std.specs.Prelude.{◌≡◌, All};
 ghost use Rattle.bus_pageslot.specs.Seats.{table_of};
-ghost use Rattle.example_counters.specs.Commands.{changed, message_of};
+ghost use Rattle.example_counters.specs.Commands.{changed, message_of, IsCommand};
 
 use anyhow::{Context, ensure};
 use bus_receiver::{Bus, Receiver, RecvTurn, Sender, Shape, Tap, Turn, TwoCollect};
 use rand_pcg::Pcg32;
+use std::alloc::{AllocError, Global};
 use std::marker::Model;
 use std::sync::Wait;
-use std::thread;
+use std::{io, thread};
 
 /// A change of one counter.
 #[derive(Clone, Copy)]
@@ -33,8 +34,9 @@ fn encode(command: Command) -> [u8; 3]
 
 /// Carries out the command of a message. Any other message changes nothing.
 fn apply(message: &[u8], counters: &mut [u64; 4])
-    ensures { (command : Command) → message.now ≡ message_of command
+    ensures command { (command : Command) → message.now ≡ message_of command
         → counters.new ≡ changed command counters.old }
+    ensures other { ¬ IsCommand message.now → counters.new ≡ counters.old }
 {
     match *message {
         [b'+', counter @ 0..4, amount] => {
@@ -122,6 +124,45 @@ impl<'b> Worker<'b> {
             }
         }
     }
+
+    /// Applies what has come since, prints its replica, and gives it.
+    fn finish<R: Eprint + Wait>(mut self, rt: &R) -> io::Result<[u64; 4]> {
+        self.catch_up(rt);
+        let counters = self.counters;
+        eprintln!(rt; "replica {}: {counters:?}", self.sender.number().0)?;
+        Ok(counters)
+    }
+}
+
+/// A worker for each sender, with the receiver of its number.
+fn workers_of<'b>(
+    alloc: Global,
+    bus: &'b Bus<TwoCollect>,
+    senders: Vec<Sender<TwoCollect>>,
+    taps: Vec<Tap<TwoCollect>>,
+) -> Result<Vec<Worker<'b>>, AllocError>
+    requires senders { All (λ sender. table_of sender ≡ bus.now.table) senders.items }
+    requires taps { All (λ tap. tap.table_id ≡ bus.now.table) taps.items }
+{
+    let mut workers = Vec::new(alloc);
+    for (sender, tap) in senders.into_iter().zip(taps) {
+        workers.push(Worker::new(bus, sender, tap))?;
+    }
+    Ok(workers)
+}
+
+/// Sees that all replicas are equal and that no command is missing.
+fn compare<R: Eprint + Wait>(
+    rt: &R,
+    workers: Vec<anyhow::Result<Worker<'_>>>,
+) -> anyhow::Result<()> {
+    let mut first = None;
+    for worker in workers {
+        let counters = worker?.finish(rt)?;
+        ensure!(counters == *first.get_or_insert(counters), "they differ");
+        ensure!(counters[3] == 3 * (5 + 7), "a command is missing");
+    }
+    Ok(())
 }
 
 fn main(rt: HostRuntime) -> anyhow::Result<()> {
@@ -133,18 +174,10 @@ fn main(rt: HostRuntime) -> anyhow::Result<()> {
         log_words: 1024,
     };
     let (bus, senders, taps) = Bus::new(rt.alloc(), shape)?;
-    let mut workers = Vec::new(rt.alloc());
-    for (sender, tap) in senders.into_iter().zip(taps) {
-        workers.push(Worker::new(&bus, sender, tap))?;
-    }
-    let mut first = None;
-    for worker in thread::map_vec(&rt, workers, &|worker| worker.work(&rt))? {
-        let mut worker = worker?;
-        worker.catch_up(&rt);
-        let counters = worker.counters;
-        eprintln!(&rt; "replica {}: {counters:?}", worker.sender.number().0)?;
-        ensure!(counters == *first.get_or_insert(counters), "they differ");
-        ensure!(counters[3] == 3 * (5 + 7), "a command is missing");
-    }
+    let workers = workers_of(rt.alloc(), &bus, senders, taps)?;
+    compare(
+        &rt,
+        thread::map_vec(&rt, workers, &|worker| worker.work(&rt))?,
+    )?;
     println!(&rt; "3 replicas, 30 commands: all equal").context("no output")
 }
