@@ -4,16 +4,8 @@ ghost use Rattle.std.specs.Prelude.{◌≡◌, ◌*◌, ◌<◌, ◌≤◌, ◌�
 ghost use Rattle.std.specs.Prelude.{OnOk, OnErr};
 
 use crate::request::{Request, Size};
+use bus_register::limits::{MOST_LOG_WORDS, MOST_MESSAGES, MOST_ROWS};
 use std::fmt;
-
-/// How many messages a batch has at most.
-pub const BATCH: u64 = 16;
-
-/// How many tenures a bus has.
-pub const TENURES: u64 = 256;
-
-/// How many words the log of a bus has.
-pub const LOG_WORDS: u64 = 65_536;
 
 /// What a sitting takes that does not fit a bus: it has too few tenures, or log words, or both.
 #[derive(Clone, Copy, Debug, PartialEq, Eq)]
@@ -25,16 +17,19 @@ pub struct Shortage {
 impl fmt::Display for Shortage {
     fn fmt<W: fmt::Write>(&self, f: &mut fmt::Formatter<W>) -> fmt::Result {
         let (tenures, words) = (self.tenures, self.words);
-        let few_tenures = tenures > u128::from(TENURES);
-        let few_words = words > u128::from(LOG_WORDS);
+        let few_tenures = tenures > MOST_ROWS as u128;
+        let few_words = words > u128::from(MOST_LOG_WORDS);
         if few_tenures {
-            write!(f, "{tenures} tenures are needed, and a bus has {TENURES}")?;
+            write!(f, "{tenures} tenures are needed, and a bus has {MOST_ROWS}")?;
         }
         if few_tenures && few_words {
             write!(f, "; ")?;
         }
         if few_words {
-            write!(f, "{words} log words are needed, and a bus has {LOG_WORDS}")?;
+            write!(
+                f,
+                "{words} log words are needed, and a bus has {MOST_LOG_WORDS}"
+            )?;
         }
         Ok(())
     }
@@ -71,7 +66,7 @@ impl Request {
     fn batches(self) -> u128
         ensures { result ≡ batches_of self }
     {
-        (u128::from(self.messages) + 15) / u128::from(BATCH)
+        (u128::from(self.messages) + (MOST_MESSAGES as u128 - 1)) / MOST_MESSAGES as u128
     }
 
     /// How many tenures a sitting takes: one for each batch, and one for the close.
@@ -97,14 +92,16 @@ impl Request {
         ensures messages { IfOk result (λ load. (load.messages ≡ self.messages)
             × (load.size ≡ self.size)) }
         ensures repetitions { IfOk result (λ load. load.repetitions ≡ self.repetitions) }
-        ensures fits { OnOk result ((tenures_of self ≤ 256) × (words_of self ≤ 65536)) }
+        ensures fits { OnOk result ((tenures_of self ≤ MOST_ROWS)
+            × (words_of self ≤ MOST_LOG_WORDS)) }
         ensures needed { IfErr result (λ short. (short.tenures ≡ tenures_of self)
             × (short.words ≡ words_of self)) }
-        ensures short { OnErr result ((256 < tenures_of self) ⊎ (65536 < words_of self)) }
+        ensures short { OnErr result ((MOST_ROWS < tenures_of self)
+            ⊎ (MOST_LOG_WORDS < words_of self)) }
     {
         let tenures = self.tenures_needed();
         let words = self.words_needed();
-        if tenures > u128::from(TENURES) || words > u128::from(LOG_WORDS) {
+        if tenures > MOST_ROWS as u128 || words > u128::from(MOST_LOG_WORDS) {
             return Err(Shortage { tenures, words });
         }
         Ok(Load {

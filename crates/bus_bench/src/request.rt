@@ -6,6 +6,7 @@ ghost use Rattle.std.specs.Option.{SomeIff};
 ghost use Rattle.std.specs.Str.Parse.{IsNumeral, digits_value};
 ghost use Rattle.bus_bench.specs.Sizes.{bytes_of};
 
+use bus_register::limits::{MOST_RECEIVERS, MOST_SENDERS};
 use std::fmt;
 
 /// How the program is called.
@@ -16,9 +17,6 @@ pub const USAGE: &str = "usage: bus_bench SENDERS RECEIVERS MESSAGES BYTES REPET
   BYTES        of each message: 8 or 56
   REPETITIONS  0 to 10000; with 0 one round is run and its times are not printed
 ";
-
-/// The most senders, and the most receivers.
-const MOST_WORKERS: u64 = 8;
 
 const MOST_REPETITIONS: u64 = 10_000;
 
@@ -132,10 +130,10 @@ impl Request {
         ensures repetitions { IfOk result (λ request. request.repetitions ≡ repetitions) }
         ensures refused { IfErr result (IsOutOfRange senders receivers messages bytes repetitions) }
     {
-        if senders < 1 || senders > MOST_WORKERS {
+        if senders < 1 || senders > MOST_SENDERS as u64 {
             return Err(Refusal::OutOfRange(Field::Senders));
         }
-        if receivers < 1 || receivers > MOST_WORKERS {
+        if receivers < 1 || receivers > MOST_RECEIVERS {
             return Err(Refusal::OutOfRange(Field::Receivers));
         }
         if messages < 1 {

@@ -6,9 +6,10 @@ ghost use Rattle.bus_pageslot.specs.Seats.{table_of};
 use crate::checks::{check, close_and_end};
 use crate::crews::{Worked, crew_of, fault_of, man};
 use crate::faults::Fault;
-use crate::needs::{LOG_WORDS, Load, TENURES};
+use crate::needs::Load;
 use crate::workers::Ear;
 use bus_pageslot::OfBus;
+use bus_register::limits::{MOST_LOG_WORDS, MOST_ROWS};
 use bus_run::buses::{Bus, Sender, Tap, TheBus};
 use bus_world::Shape;
 use std::alloc::Global;
@@ -32,8 +33,8 @@ fn shape_of(load: Load) -> Shape {
         senders: load.senders,
         receivers: load.receivers,
         rounds: 4,
-        rows: TENURES,
-        log_words: LOG_WORDS,
+        rows: MOST_ROWS as u64,
+        log_words: MOST_LOG_WORDS,
     }
 }
 

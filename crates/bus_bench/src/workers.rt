@@ -7,11 +7,12 @@ ghost use Rattle.bus_receiver.specs.Listening.{bus_of};
 
 use crate::faults::Fault;
 use crate::gates::Gate;
-use crate::needs::{BATCH, Load};
+use crate::needs::Load;
 use bus_deliverylog::RecvTurn;
 use bus_pageslot::OfBus;
 use bus_receiver::Heard;
 use bus_register::SenderNo;
+use bus_register::limits::MOST_MESSAGES;
 use bus_run::buses::{Receiver, Sender, Tap, TheBus};
 use bus_run::crews::Work;
 use bus_run::workers::generator;
@@ -168,11 +169,11 @@ impl<B: OfBus, W: Wait> SendAll<'_, B, W> {
     /// Sends the numbers below `load.messages`, a batch at a time, or until the round was given up.
     fn send_batches(&self, desk: &mut Desk<B>) -> Result<(), Fault> {
         let messages = self.load.messages;
-        for first in (0..messages).step_by(BATCH as usize) {
+        for first in (0..messages).step_by(MOST_MESSAGES) {
             if self.gate.is_given_up() {
                 return Ok(());
             }
-            let end = messages.min(first.saturating_add(BATCH));
+            let end = messages.min(first.saturating_add(MOST_MESSAGES as u64));
             put_all(desk, first, end, self.load.size.bytes())?;
             let turn = desk.send(self.wait, self.the);
             if !matches!(turn, Turn::Delivered { .. }) {
