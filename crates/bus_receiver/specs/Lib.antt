@@ -1,3 +1,4 @@
+pub use Rattle.bus_pageslot.specs.Seats
 pub mod Hearing
 pub mod HearingRuns
 pub mod Listening
