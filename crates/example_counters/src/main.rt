@@ -4,7 +4,7 @@
 #![tactic(auto)]
 
 ghost use Rattle.std.specs.Prelude.{◌≡◌, All};
-ghost use Rattle.bus_pageslot.specs.Seats.{table_of};
+ghost use Rattle.bus_receiver.specs.Seats.{table_of};
 ghost use Rattle.example_counters.specs.Commands.{changed, message_of, IsCommand};
 
 use anyhow::{Context, ensure};
@@ -60,7 +60,7 @@ struct Worker<'b> {
 
 impl<'b> Model for Worker<'b> {
     ghost use Rattle.std.specs.Prelude.{◌≡◌, ℕ, List};
-    ghost use Rattle.bus_pageslot.specs.Seats.{table_of};
+    ghost use Rattle.bus_receiver.specs.Seats.{table_of};
     ghost use Rattle.bus_receiver.specs.Listening.{bus_of};
 
     ghost Value = { List ℕ };
