@@ -1,0 +1,178 @@
+//! Turns of all seats of a bus in one thread, each between readings of the clock.
+
+ghost use Rattle.std.specs.Prelude.{◌≡◌, All};
+ghost use Rattle.bus_pageslot.specs.Seats.{table_of};
+
+use crate::desks::{Desk, desks_of};
+use bus_pageslot::OfBus;
+use bus_receiver::Shape;
+use bus_register::Kind;
+use bus_run::buses::{Bus, Sender, Tap, TheBus};
+use bus_run::workers::{Ear, ears_of};
+use rand_core::Rng;
+use rand_pcg::Pcg32;
+use std::alloc::{AllocError, Global};
+use std::io;
+use std::marker::Brand;
+use std::time::{Clock, Instant};
+
+/// More turns than a bus has.
+const MOST_TURNS: u64 = 1_000_000;
+
+/// A turn of more nanoseconds is left out: another thread ran meanwhile.
+const MOST_NANOSECONDS: u64 = 1_000;
+
+/// Turns whose step is of one kind: how many, how long they took, and how long as many pairs of
+/// readings with nothing between.
+#[derive(Clone, Copy)]
+pub struct Sum {
+    kind: Kind,
+    turns: u64,
+    turn: u64,
+    nothing: u64,
+}
+
+/// Adds a turn, which was taken between the second reading and the third.
+fn add(sums: &mut Vec<Sum>, kind: Kind, readings: [Instant; 3]) -> Result<(), AllocError> {
+    let [before, between, after] = readings;
+    let nothing = nanoseconds(between, before);
+    let turn = nanoseconds(after, between);
+    if nothing > MOST_NANOSECONDS || turn > MOST_NANOSECONDS {
+        return Ok(());
+    }
+    for sum in sums.iter_mut() {
+        if sum.kind == kind {
+            sum.turns = sum.turns.saturating_add(1);
+            sum.turn = sum.turn.saturating_add(turn);
+            sum.nothing = sum.nothing.saturating_add(nothing);
+            return Ok(());
+        }
+    }
+    sums.push(Sum {
+        kind,
+        turns: 1,
+        turn,
+        nothing,
+    })?;
+    Ok(())
+}
+
+/// The nanoseconds from `earlier` to `later`; at most `u64::MAX`.
+fn nanoseconds(later: Instant, earlier: Instant) -> u64 {
+    u64::try_from(later.duration_since(earlier).as_nanos()).unwrap_or(u64::MAX)
+}
+
+/// Prints a line for each kind of step, with so many senders, over so many buses.
+pub fn print_turns<R: Print + Clock>(
+    rt: &R,
+    alloc: Global,
+    senders: u64,
+    buses: u64,
+) -> anyhow::Result<()> {
+    for sum in sums_of(rt, alloc, senders, buses)? {
+        let (kind, turns) = (sum.kind, sum.turns);
+        let took = u128::from(sum.turn.saturating_sub(sum.nothing));
+        let tenths = took * 10 / u128::from(turns.max(1));
+        println!(rt;
+            "{senders} {kind:?} {}.{} {turns}",
+            tenths / 10,
+            tenths % 10
+        )?;
+    }
+    Ok(())
+}
+
+/// The turns of so many buses of 256 rows, with 1 to 4 rounds a bit.
+pub fn sums_of<R: Clock>(
+    rt: &R,
+    alloc: Global,
+    senders: u64,
+    buses: u64,
+) -> anyhow::Result<Vec<Sum>> {
+    let mut sums = Vec::new(alloc);
+    for bus in 0..buses {
+        let shape = Shape {
+            senders,
+            receivers: 1,
+            rounds: 1 + bus % 4,
+            rows: 256,
+            log_words: 16_384,
+        };
+        let made = Bus::new(alloc, shape)?;
+        take_turns::<Brand, R>(rt, alloc, made, Pcg32::new(bus, senders), &mut sums)?;
+    }
+    Ok(sums)
+}
+
+/// The seats of the bus B take turns as the dice fall, until a sender has no more to do.
+fn take_turns<B: OfBus, R: Clock>(
+    rt: &R,
+    alloc: Global,
+    made: (Bus, Vec<Sender>, Vec<Tap>),
+    mut dice: Pcg32,
+    sums: &mut Vec<Sum>,
+) -> anyhow::Result<()>
+    requires bus { made.0.table ≡ B.table }
+    requires senders { All (λ sender. table_of sender ≡ B.table) made.1.items }
+    requires taps { All (λ tap. tap.table_id ≡ B.table) made.2.items }
+{
+    let (bus, senders, taps) = made;
+    let the = TheBus::<B>::new(bus);
+    let mut desks = desks_of::<B>(alloc, senders)?;
+    let mut ears = ears_of::<B>(alloc, taps)?;
+    for _ in 0..MOST_TURNS {
+        let seat = dice.next_u32() as usize % (desks.len() + 1);
+        let (kind, readings) = match (desks.get_mut(seat), ears.first_mut()) {
+            (Some(desk), _) => match desk.sender.kind() {
+                Some(kind) => (kind, time_desk(rt, &the, desk, dice.next_u32())?),
+                None if fill(desk) => continue,
+                None => return Ok(()),
+            },
+            (None, Some(ear)) => time_ear(rt, &the, ear)?,
+            (None, None) => return Ok(()),
+        };
+        add(sums, kind, readings)?;
+    }
+    Ok(())
+}
+
+/// Puts as many messages as its batch takes. Says whether one was taken.
+fn fill<B: OfBus>(desk: &mut Desk<B>) -> bool {
+    let mut is_taken = false;
+    for _ in 0..16 {
+        is_taken |= desk.put();
+    }
+    is_taken
+}
+
+/// A turn of a sender.
+fn time_desk<B: OfBus, R: Clock>(
+    rt: &R,
+    the: &TheBus<B>,
+    desk: &mut Desk<B>,
+    word: u32,
+) -> io::Result<[Instant; 3]> {
+    let before = Instant::now(rt)?;
+    let between = Instant::now(rt)?;
+    desk.sender.turn(&the.bus, word);
+    Ok([before, between, Instant::now(rt)?])
+}
+
+/// A turn of a receiver, which loads the length where its place stays.
+fn time_ear<B: OfBus, R: Clock>(
+    rt: &R,
+    the: &TheBus<B>,
+    ear: &mut Ear<B>,
+) -> io::Result<(Kind, [Instant; 3])> {
+    let place = ear.receiver.place();
+    let before = Instant::now(rt)?;
+    let between = Instant::now(rt)?;
+    ear.receiver.turn(&the.bus);
+    let after = Instant::now(rt)?;
+    let kind = if ear.receiver.place() == place {
+        Kind::LoadLength
+    } else {
+        Kind::LoadLogWord
+    };
+    Ok((kind, [before, between, after]))
+}
