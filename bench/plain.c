@@ -1,6 +1,6 @@
 // A plain interpreter of `replay` scripts, for comparison: written from docs/PROTOCOL.md and docs/FORMATS.md, with no check of
-// the script's form. It reads standard input and writes standard output. With an argument it passes over each line that would
-// be refused, and names it on standard error.
+// the script's form. It reads standard input and writes standard output. With the word `pass` it passes over each line that
+// would be refused, and names it on standard error.
 #include <stdint.h>
 #include <stdio.h>
 #include <stdlib.h>
@@ -16,7 +16,7 @@ struct sender {
     int closing, closed, busy, phase, at, bit, spelled, candidate, round, value, j, same, commit, own_votes, published;
     int64_t total; struct page page; u64 frame[129];
 } S[8];
-struct receiver { u64 place, known, left, tenure, owner, number, bytes, got, count, fresh; int ended; unsigned char data[64]; } M[8];
+struct receiver { u64 place, known, left, tenure, owner, number, bytes, got, count, fresh; int ended; unsigned char data[64]; } M[9]; // the ninth hears the whole log in the end
 static u64 n, m, R, T, L, B, stage, length, *word_of_log, owners[256], owner_count;
 static struct row *rows;
 static char *out; static size_t used, room;
@@ -128,7 +128,7 @@ static int refused(int passes, u64 number, const char *why) { // true where the 
     return 1;
 }
 int main(int argc, char **argv) {
-    static char text[1 << 20 | 1]; size_t size = fread(text, 1, sizeof text - 1, stdin); char *line = text; u64 s, w, k, number = 0; text[size] = 0;
+    static char text[(1 << 20) + 2]; size_t size = fread(text, 1, 1 << 20, stdin); int passes = argc > 1 && !strcmp(argv[1], "pass"); char *line = text; u64 s, w, k, number = 0; text[size] = 0;
     for (char *end; *line; line = end + 1) {
         end = strchr(line, '\n'); if (!end) { end = line + strlen(line); end[1] = 0; } number++; *end = 0;
         if (!*line || *line == '#') continue;
@@ -136,34 +136,32 @@ int main(int argc, char **argv) {
             sscanf(line, "shape %lu %lu %lu %lu %lu", &n, &m, &R, &T, &L); while (1u << B < n) B++;
             rows = calloc(T, sizeof *rows); word_of_log = calloc(L, 8);
         } else if (*line == 'p') {
-            s = strtoul(line + 4, &line, 10); struct sender *p = &S[s]; line++; k = *line == '-' ? 0 : strlen(line) / 2;
+            s = strtoul(line + 4, &line, 10); struct sender *p = &S[s % 8]; line++; k = *line == '-' ? 0 : strlen(line) / 2;
             const char *why = p->closing || p->closed ? "Closed" : p->busy ? "Busy" : k > 56 ? "TooLong" : p->count == 16 ? "BatchFull" : 0;
             if (s >= n) why = "NoSuchSender";
-            if (why) { if (refused(argc > 1, number, why)) goto stop; continue; }
+            if (why) { if (refused(passes, number, why)) goto stop; continue; }
             p->messages[p->count] = malloc(k + 1); p->len[p->count] = k; for (u64 i = 0; i < k; i++) { unsigned b; sscanf(line + 2 * i, "%2x", &b); p->messages[p->count][i] = b; }
             say("put %lu: number %lu\n", s, p->first + p->count, 0, 0); p->count++;
         } else if (*line == 'c') {
             s = strtoul(line + 6, 0, 10); struct sender *p = &S[s]; const char *why = s >= n ? "NoSuchSender" : p->closing || p->closed ? "Closed" : p->busy ? "Busy" : p->count ? "Pending" : 0;
-            if (why) { if (refused(argc > 1, number, why)) goto stop; continue; }
+            if (why) { if (refused(passes, number, why)) goto stop; continue; }
             p->closing = 1; say("close %lu: closing\n", s, 0, 0, 0);
         } else if (*line == 't') {
             s = strtoul(line + 5, &line, 10); w = strtoul(line, &line, 10); k = strtoul(line, 0, 10);
-            if (s >= n) { if (refused(argc > 1, number, "NoSuchSender")) goto stop; continue; }
+            if (s >= n) { if (refused(passes, number, "NoSuchSender")) goto stop; continue; }
             say("turn %lu: ", s, 0, 0, 0); int going = 1; while (k-- && (going = turn(s, w))) {} if (going) say("going\n", 0, 0, 0, 0);
         } else {
             s = strtoul(line + 5, &line, 10); k = strtoul(line, 0, 10);
-            if (s >= m) { if (refused(argc > 1, number, "NoSuchReceiver")) goto stop; continue; }
+            if (s >= m) { if (refused(passes, number, "NoSuchReceiver")) goto stop; continue; }
             say("recv %lu: ", s, 0, 0, 0); M[s].fresh = used; while (k-- && recv(s)) {}
         }
     }
     say("owners", 0, 0, 0, 0); for (u64 i = 0; i < owner_count; i++) say(" %lu", owners[i], 0, 0, 0); say("\n", 0, 0, 0, 0);
-    M[7].ended = 0; struct receiver all = {0}; struct receiver kept = M[7]; M[7] = all;
     for (;;) { // the order is what a receiver would be given of the whole log
-        size_t before = used; M[7].fresh = used; int more = recv(7);
-        if (!strncmp(out + before, "item", 4)) { memmove(out + before + 5, out + before + 4, used - before - 4); memcpy(out + before, "order", 5); used++; } else if (M[7].ended) { used = before; say("order end\n", 0, 0, 0, 0); } else used = before;
+        size_t before = used; M[8].fresh = used; int more = recv(8);
+        if (!strncmp(out + before, "item", 4)) { memmove(out + before + 5, out + before + 4, used - before - 4); memcpy(out + before, "order", 5); used++; } else if (M[8].ended) { used = before; say("order end\n", 0, 0, 0, 0); } else used = before;
         if (!more) break;
     }
-    M[7] = kept;
     for (u64 i = 0; i < m; i++) { say("given %lu %lu", i, M[i].count, 0, 0); say(M[i].ended ? " end\n" : "\n", 0, 0, 0, 0); }
 stop:
     fwrite(out, 1, used, stdout);
