@@ -7,14 +7,14 @@
 #include <string.h>
 typedef uint64_t u64;
 enum { REST, ELECT, HOLD };
-enum { ANNOUNCE, PROPOSE, READ_PROPOSALS, VERDICT, READ_VERDICTS, MARK, OTHER_MARK, VOTE, READ_VOTES, FALLBACK, SEARCH, WON };
-struct round { u64 proposal[8], verdict[8], mark[2], votes[8]; };
+enum { ANNOUNCE, BRING, READ_PROPOSAL, PROPOSE, READ_OTHER, MARK, OTHER_MARK, VOTE, READ_VOTES, FALLBACK, SEARCH, WON };
+struct round { u64 brought[2], proposal, mark[2], votes; }; // a conciliator, and the ratifier behind it
 struct row { u64 announced[8], fallback[3]; struct round round[3][8]; };
 struct page { u64 next[8], ended, words; } home;
 struct sender {
     char *messages[16]; u64 len[16], count, first, least, tenure, stored, words;
-    int closing, closed, busy, phase, at, bit, spelled, candidate, round, value, j, same, commit, own_votes, published;
-    int64_t total; struct page page; u64 frame[129];
+    int closing, closed, busy, phase, at, bit, spelled, candidate, round, value, j, own_votes, published;
+    struct page page; u64 frame[129];
 } S[8];
 struct receiver { u64 place, known, left, tenure, owner, number, bytes, got, count, fresh; int ended; unsigned char data[64]; } M[9]; // the ninth hears the whole log in the end
 static u64 n, m, R, T, L, B, stage, length, *word_of_log, owners[256], owner_count;
@@ -28,7 +28,7 @@ static void say_hex(const unsigned char *bytes, u64 len) {
     if (!len) say(" -", 0, 0, 0, 0); else say(" ", 0, 0, 0, 0);
     for (u64 i = 0; i < len; i++) say("%02lx", bytes[i], 0, 0, 0);
 }
-static void start_bit(struct sender *s) { s->round = 0; s->value = s->candidate >> s->bit & 1; s->at = PROPOSE; }
+static void start_bit(struct sender *s) { s->round = 0; s->value = s->candidate >> s->bit & 1; s->at = BRING; }
 static int fits(struct sender *s, u64 i) { return i < n && (int)(i >> (s->bit + 1)) == s->spelled; }
 static void next_search(struct sender *s) { while ((u64)s->j < n && !fits(s, s->j)) s->j++; }
 static int decided(struct sender *s, u64 me, int v) { // true where the election is lost
@@ -48,19 +48,18 @@ static int after_ratifier(struct sender *s, u64 me, int commit, int v) {
     return 0;
 }
 static int elect(struct sender *s, u64 me, uint32_t random) {
-    struct row *row = &rows[s->tenure]; struct round *r = &row->round[s->bit][s->round]; u64 w; int v;
+    struct row *row = &rows[s->tenure]; struct round *r = &row->round[s->bit][s->round]; u64 w; int v; int64_t total;
     switch (s->at) {
     case ANNOUNCE: row->announced[me] = 1; if (!B) { s->at = WON; return 0; } s->bit = B - 1; start_bit(s); return 0;
-    case PROPOSE: r->proposal[me] = 1 + s->value; s->j = 0; s->same = 1; s->at = READ_PROPOSALS; return 0;
-    case READ_PROPOSALS: w = r->proposal[s->j]; if (w && w != 1 + (u64)s->value) s->same = 0; if ((u64)++s->j == n) s->at = VERDICT; return 0;
-    case VERDICT: r->verdict[me] = (s->same ? 3 : 1) + s->value; s->j = 0; s->same = 1; s->commit = -1; s->at = READ_VERDICTS; return 0;
-    case READ_VERDICTS: w = r->verdict[s->j]; if (w >= 3) s->commit = w - 3; else if (w) s->same = 0; if ((u64)++s->j < n) return 0;
-        return after_ratifier(s, me, s->commit >= 0 && s->same, s->commit >= 0 ? s->commit : s->value);
+    case BRING: r->brought[s->value] = 1; s->at = READ_PROPOSAL; return 0;
+    case READ_PROPOSAL: w = r->proposal; if (w) s->value = w - 1; s->at = w ? READ_OTHER : PROPOSE; return 0;
+    case PROPOSE: r->proposal = 1 + s->value; s->at = READ_OTHER; return 0;
+    case READ_OTHER: return after_ratifier(s, me, !r->brought[1 - s->value], s->value);
     case MARK: r->mark[s->value] = 1; s->at = OTHER_MARK; return 0;
-    case OTHER_MARK: s->at = r->mark[1 - s->value] ? VOTE : PROPOSE; s->own_votes = 0; return 0;
-    case VOTE: r->votes[me] += random & 1 ? 1ull << 32 : 1; s->own_votes++; s->j = 0; s->total = 0; s->at = READ_VOTES; return 0;
-    case READ_VOTES: w = r->votes[s->j]; s->total += (int64_t)(w >> 32) - (int64_t)(w & 0xffffffff); if ((u64)++s->j < n) return 0;
-        if (s->total >= 2 * (int64_t)n || s->total <= -2 * (int64_t)n || s->own_votes == 64) { s->value = s->total > 0; s->at = PROPOSE; } else s->at = VOTE;
+    case OTHER_MARK: s->at = r->mark[1 - s->value] ? VOTE : BRING; s->own_votes = 0; return 0;
+    case VOTE: r->votes += random & 1 ? 1ull << 32 : 1; s->own_votes++; s->at = READ_VOTES; return 0;
+    case READ_VOTES: total = (int64_t)(r->votes >> 32) - (int64_t)(r->votes & 0xffffffff);
+        if (total < 2 * (int64_t)n && total > -2 * (int64_t)n && s->own_votes < 64) s->at = VOTE; else { s->value = total > 0; s->at = BRING; }
         return 0;
     case FALLBACK: if (!row->fallback[s->bit]) row->fallback[s->bit] = 1 + s->value; v = row->fallback[s->bit] - 1; return decided(s, me, v);
     default: w = row->announced[s->j]; if (w) { s->candidate = s->j; start_bit(s); } else { s->j++; next_search(s); } return 0;
