@@ -18,7 +18,7 @@ use self::command_line::{Task, parse};
 use self::printing::print_run;
 use self::ratify::ratify;
 use self::replay::replay;
-use bus_adoptcommit::TwoCollect;
+use bus_adoptcommit::ThreeWord;
 use bus_run::RunFault;
 use bus_script::Outcome;
 use clap::error::ErrorKind;
@@ -51,7 +51,7 @@ fn bus<R: AllocGlobal + Env + Input + Print + Eprint + Threads + Wait + Sync>(rt
         ),
         Ok(Task::Replay) => end(
             rt,
-            replay::<TwoCollect, _, _>(rt.alloc(), &mut rt.reader(), &mut io::writer(rt)),
+            replay::<ThreeWord, _, _>(rt.alloc(), &mut rt.reader(), &mut io::writer(rt)),
         ),
         Ok(Task::Run(request)) => end(rt, print_run(rt, rt.alloc(), request, &mut io::writer(rt))),
         Err(error) if error.kind() == ErrorKind::OutOfMemory => end(rt, Err(RunFault::NoMemory)),

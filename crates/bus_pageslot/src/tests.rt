@@ -7,7 +7,7 @@ ghost use Rattle.bus_pageslot.specs.Seats.{table_of};
 mod elections;
 
 use super::*;
-use bus_adoptcommit::TwoCollect;
+use bus_adoptcommit::ThreeWord;
 use bus_batch::{CloseFault, Item, Message, PutFault};
 use bus_deliverylog::read_log;
 use bus_register::{Kind, SenderNo};
@@ -29,12 +29,12 @@ const SMALL: Shape = Shape {
 };
 
 /// A sender and a receiver over the ratifier at work.
-type One = Sender<TwoCollect>;
+type One = Sender<ThreeWord>;
 
-type Pass = Tap<TwoCollect>;
+type Pass = Tap<ThreeWord>;
 
 /// Turns, each of which is to be answered so.
-fn turns(rt: &impl Abort, bus: &Bus<TwoCollect>, sender: &mut One, want: &[Turn])
+fn turns(rt: &impl Abort, bus: &Bus<ThreeWord>, sender: &mut One, want: &[Turn])
     requires { table_of sender.old ≡ bus.now.table }
     ensures { table_of sender.new ≡ bus.now.table }
 {
@@ -45,7 +45,7 @@ fn turns(rt: &impl Abort, bus: &Bus<TwoCollect>, sender: &mut One, want: &[Turn]
 }
 
 /// Loads one word below the length.
-fn loads_one(rt: &impl Abort, bus: &Bus<TwoCollect>, tap: &mut Pass, place: u64, want: u64)
+fn loads_one(rt: &impl Abort, bus: &Bus<ThreeWord>, tap: &mut Pass, place: u64, want: u64)
     requires { tap.old.table_id ≡ bus.now.table }
     ensures { tap.new.table_id ≡ bus.now.table }
 {
@@ -55,7 +55,7 @@ fn loads_one(rt: &impl Abort, bus: &Bus<TwoCollect>, tap: &mut Pass, place: u64,
 }
 
 /// Loads the length, and then the words below it.
-fn loads(rt: &impl Abort, bus: &Bus<TwoCollect>, tap: &mut Pass, want: &[u64])
+fn loads(rt: &impl Abort, bus: &Bus<ThreeWord>, tap: &mut Pass, want: &[u64])
     requires { tap.old.table_id ≡ bus.now.table }
     ensures { tap.new.table_id ≡ bus.now.table }
 {
@@ -68,7 +68,7 @@ fn loads(rt: &impl Abort, bus: &Bus<TwoCollect>, tap: &mut Pass, want: &[u64])
 }
 
 /// The small bus with its sender and its receivers.
-fn small(rt: &impl Abort, alloc: Global) -> (Bus<TwoCollect>, One, Pass, Pass)
+fn small(rt: &impl Abort, alloc: Global) -> (Bus<ThreeWord>, One, Pass, Pass)
     ensures sender { table_of result.1 ≡ result.0.table }
     ensures taps { (result.2.table_id ≡ result.0.table)
         × (result.3.table_id ≡ result.0.table) }
@@ -81,7 +81,7 @@ fn small(rt: &impl Abort, alloc: Global) -> (Bus<TwoCollect>, One, Pass, Pass)
 }
 
 /// A bus of two senders and a receiver.
-fn pair(rt: &impl Abort, alloc: Global, shape: Shape) -> (Bus<TwoCollect>, One, One, Pass)
+fn pair(rt: &impl Abort, alloc: Global, shape: Shape) -> (Bus<ThreeWord>, One, One, Pass)
     ensures senders { (table_of result.1 ≡ result.0.table)
         × (table_of result.2 ≡ result.0.table) }
     ensures tap { result.3.table_id ≡ result.0.table }
@@ -151,7 +151,7 @@ fn busy_in_a_tenure(rt: HostRuntime) {
 }
 
 /// Turns until the answer is not Going, at most so often.
-fn goes(bus: &Bus<TwoCollect>, sender: &mut One, most: u32) -> Turn
+fn goes(bus: &Bus<ThreeWord>, sender: &mut One, most: u32) -> Turn
     requires { table_of sender.old ≡ bus.now.table }
     ensures { table_of sender.new ≡ bus.now.table }
 {
@@ -242,7 +242,7 @@ fn two_senders_take_turns(rt: HostRuntime) {
 }
 
 /// Sends three messages, one after another, and says whether all were delivered.
-fn sends_three(bus: &Bus<TwoCollect>, mut sender: One) -> bool
+fn sends_three(bus: &Bus<ThreeWord>, mut sender: One) -> bool
     requires { table_of sender ≡ bus.now.table }
 {
     let first = sends(bus, &mut sender);
@@ -252,7 +252,7 @@ fn sends_three(bus: &Bus<TwoCollect>, mut sender: One) -> bool
 }
 
 /// Sends one message, and says whether it was delivered.
-fn sends(bus: &Bus<TwoCollect>, sender: &mut One) -> bool
+fn sends(bus: &Bus<ThreeWord>, sender: &mut One) -> bool
     requires { table_of sender.old ≡ bus.now.table }
     ensures { table_of sender.new ≡ bus.now.table }
 {
@@ -262,7 +262,7 @@ fn sends(bus: &Bus<TwoCollect>, sender: &mut One) -> bool
 }
 
 /// Turns until what waits is delivered.
-fn is_sent(bus: &Bus<TwoCollect>, sender: &mut One) -> bool
+fn is_sent(bus: &Bus<ThreeWord>, sender: &mut One) -> bool
     requires { table_of sender.old ≡ bus.now.table }
     ensures { table_of sender.new ≡ bus.now.table }
 {
@@ -303,7 +303,7 @@ fn two_threads_send(rt: HostRuntime) {
 }
 
 /// Sends 20 messages, each in a tenure of its own, and says how many were delivered.
-fn sends_twenty<W: Wait>(wait: &W, bus: &Bus<TwoCollect>, mut sender: One) -> u32
+fn sends_twenty<W: Wait>(wait: &W, bus: &Bus<ThreeWord>, mut sender: One) -> u32
     requires { table_of sender ≡ bus.now.table }
 {
     let mut rng = Pcg32::new(0, u64::from(sender.number().0));
@@ -321,7 +321,7 @@ fn sends_twenty<W: Wait>(wait: &W, bus: &Bus<TwoCollect>, mut sender: One) -> u3
 /// Each of these senders sends so in a thread of its own.
 fn send_at_once<R: Threads + Wait + Abort + Sync>(
     rt: &R,
-    bus: &Bus<TwoCollect>,
+    bus: &Bus<ThreeWord>,
     senders: Vec<One>,
 ) -> Vec<u32>
     requires { All (λ s. table_of s ≡ bus.now.table) senders.items }
@@ -353,7 +353,7 @@ fn three_threads(rt: HostRuntime) {
 }
 
 /// Turns at word 0 up to the first that is not going, at most so many, and sees what it answers.
-fn ends_in(rt: &impl Abort, bus: &Bus<TwoCollect>, sender: &mut One, most: u32, want: Turn)
+fn ends_in(rt: &impl Abort, bus: &Bus<ThreeWord>, sender: &mut One, most: u32, want: Turn)
     requires { table_of sender.old ≡ bus.now.table }
     ensures { table_of sender.new ≡ bus.now.table }
 {
@@ -407,7 +407,7 @@ fn lost(owner: u8) -> Turn {
 }
 
 /// Takes the last sender off.
-fn last_of(rt: &impl Abort, bus: &Bus<TwoCollect>, senders: &mut Vec<One>) -> One
+fn last_of(rt: &impl Abort, bus: &Bus<ThreeWord>, senders: &mut Vec<One>) -> One
     requires { All (λ s. table_of s ≡ bus.now.table) senders.old.items }
     ensures sender { table_of result ≡ bus.now.table }
     ensures rest { All (λ s. table_of s ≡ bus.now.table) senders.new.items }
@@ -417,7 +417,7 @@ fn last_of(rt: &impl Abort, bus: &Bus<TwoCollect>, senders: &mut Vec<One>) -> On
 }
 
 /// A bus of five senders with one tenure, its senders 1 and 4, and a receiver.
-fn one_and_four(rt: &impl Abort, alloc: Global) -> (Bus<TwoCollect>, One, One, Pass)
+fn one_and_four(rt: &impl Abort, alloc: Global) -> (Bus<ThreeWord>, One, One, Pass)
     ensures senders { (table_of result.1 ≡ result.0.table)
         × (table_of result.2 ≡ result.0.table) }
     ensures tap { result.3.table_id ≡ result.0.table }
@@ -487,7 +487,7 @@ fn late_to_an_old_tenure(rt: HostRuntime) {
 
 #[test]
 fn as_many_as_the_shape_says_unless_memory_is_refused(rt: HostRuntime) {
-    match Bus::<TwoCollect>::new(rt.alloc(), SMALL) {
+    match Bus::<ThreeWord>::new(rt.alloc(), SMALL) {
         Ok((_, senders, taps)) => assert_eq!(&rt; (senders.len(), taps.len()), (1, 2)),
         Err(fault) => assert_eq!(&rt; fault, MakeFault::NoMemory),
     }
@@ -500,7 +500,7 @@ fn shapes_that_are_refused(rt: HostRuntime) {
         ..SMALL
     };
     assert_eq!(&rt;
-        Bus::<TwoCollect>::new(rt.alloc(), shape).err(),
+        Bus::<ThreeWord>::new(rt.alloc(), shape).err(),
         Some(MakeFault::Receivers)
     );
 }

@@ -6,7 +6,7 @@ pub mod hearing;
 pub mod laws;
 mod receivers;
 
-pub use bus_adoptcommit::TwoCollect;
+pub use bus_adoptcommit::{ThreeWord, TwoCollect};
 pub use bus_batch::{CloseFault, Item, Message, PutFault};
 pub use bus_deliverylog::RecvTurn;
 pub use bus_pageslot::{Bus, EndFault, Ended, OfBus, Sender, Tap};

@@ -5,7 +5,7 @@ ghost use Rattle.bus_pageslot.specs.Seats.{table_of};
 ghost use Rattle.bus_receiver.specs.Listening.{bus_of};
 
 use super::*;
-use bus_adoptcommit::TwoCollect;
+use bus_adoptcommit::ThreeWord;
 use bus_batch::{Item, Message};
 use bus_deliverylog::RecvTurn;
 use bus_pageslot::{Bus, Sender};
@@ -26,11 +26,11 @@ const SMALL: Shape = Shape {
 };
 
 /// A bus, a sender and a receiver over the ratifier at work.
-type Few = Bus<TwoCollect>;
+type Few = Bus<ThreeWord>;
 
-type One = Sender<TwoCollect>;
+type One = Sender<ThreeWord>;
 
-type Ear = Receiver<TwoCollect>;
+type Ear = Receiver<ThreeWord>;
 
 /// Turns of the sender, up to the one that is answered so.
 fn turns_to(rt: &impl Abort, bus: &Few, sender: &mut One, want: Turn)

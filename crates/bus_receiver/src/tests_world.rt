@@ -15,8 +15,8 @@ use std::process::Abort;
 /// A sender, beside its bus.
 #[derive(Drop)]
 struct Desk<'b> {
-    bus: &'b Bus<TwoCollect>,
-    sender: Sender<TwoCollect>,
+    bus: &'b Bus<ThreeWord>,
+    sender: Sender<ThreeWord>,
 }
 
 impl<'b> Model for Desk<'b> {
@@ -32,7 +32,7 @@ impl<'b> Model for Desk<'b> {
 }
 
 impl<'b> Desk<'b> {
-    fn new(bus: &'b Bus<TwoCollect>, sender: Sender<TwoCollect>) -> Desk<'b>
+    fn new(bus: &'b Bus<ThreeWord>, sender: Sender<ThreeWord>) -> Desk<'b>
         requires { table_of sender ≡ bus.now.table }
     {
         Desk { bus, sender }
@@ -61,8 +61,8 @@ impl<'b> Desk<'b> {
 /// A receiver, beside its bus.
 #[derive(Drop)]
 struct Ear<'b> {
-    bus: &'b Bus<TwoCollect>,
-    receiver: Receiver<TwoCollect>,
+    bus: &'b Bus<ThreeWord>,
+    receiver: Receiver<ThreeWord>,
 }
 
 impl<'b> Model for Ear<'b> {
@@ -78,7 +78,7 @@ impl<'b> Model for Ear<'b> {
 }
 
 impl<'b> Ear<'b> {
-    fn new(bus: &'b Bus<TwoCollect>, tap: Tap<TwoCollect>) -> Ear<'b>
+    fn new(bus: &'b Bus<ThreeWord>, tap: Tap<ThreeWord>) -> Ear<'b>
         requires { tap.table_id ≡ bus.now.table }
     {
         Ear {
@@ -98,7 +98,7 @@ impl<'b> Ear<'b> {
 struct Both<'b> {
     desks: Vec<Desk<'b>>,
     ears: Vec<Ear<'b>>,
-    world: World<TwoCollect>,
+    world: World<ThreeWord>,
     dice: Pcg32,
     lost: u64,
 }
@@ -216,12 +216,12 @@ fn shape(dice: &mut Pcg32) -> Shape {
 /// comes home. Gives the machine, and how many tenures were lost.
 fn play<R: Abort + AllocGlobal>(
     rt: &R,
-    bus: &Bus<TwoCollect>,
-    senders: Vec<Sender<TwoCollect>>,
-    taps: Vec<Tap<TwoCollect>>,
-    world: World<TwoCollect>,
+    bus: &Bus<ThreeWord>,
+    senders: Vec<Sender<ThreeWord>>,
+    taps: Vec<Tap<ThreeWord>>,
+    world: World<ThreeWord>,
     dice: Pcg32,
-) -> (World<TwoCollect>, u64)
+) -> (World<ThreeWord>, u64)
     requires senders { All (λ s. table_of s ≡ bus.now.table) senders.items }
     requires taps { All (λ t. t.table_id ≡ bus.now.table) taps.items }
 {
@@ -258,7 +258,7 @@ struct Sum {
 fn compare<R: Abort + AllocGlobal>(
     rt: &R,
     ended: &Ended,
-    world: &World<TwoCollect>,
+    world: &World<ThreeWord>,
     senders: u64,
     sum: &mut Sum,
 ) {
@@ -275,9 +275,9 @@ fn compare<R: Abort + AllocGlobal>(
 /// Takes the last receiver off.
 fn last_of(
     rt: &impl Abort,
-    bus: &Bus<TwoCollect>,
-    taps: &mut Vec<Tap<TwoCollect>>,
-) -> Receiver<TwoCollect>
+    bus: &Bus<ThreeWord>,
+    taps: &mut Vec<Tap<ThreeWord>>,
+) -> Receiver<ThreeWord>
     requires { All (λ t. t.table_id ≡ bus.now.table) taps.old.items }
     ensures receiver { bus_of result ≡ bus.now.table }
     ensures rest { All (λ t. t.table_id ≡ bus.now.table) taps.new.items }

@@ -3,13 +3,13 @@
 mod random;
 
 use super::answer_to;
-use bus_adoptcommit::TwoCollect;
+use bus_adoptcommit::{ThreeWord, TwoCollect};
 use bus_script::Outcome;
 use std::process::Abort;
 
 /// Replays a script, and wants this outcome and this text.
 fn gives<R: Abort + AllocGlobal>(rt: &R, script: &[u8], outcome: Outcome, text: &str) {
-    let answer = answer_to::<TwoCollect>(rt.alloc(), script).expect(rt, "memory");
+    let answer = answer_to::<ThreeWord>(rt.alloc(), script).expect(rt, "memory");
     assert_eq!(rt; answer.outcome, outcome, "of a script that gives {text}");
     assert_eq!(rt; answer.text.as_str(), text);
 }
@@ -22,6 +22,13 @@ fn refuses<R: Abort + AllocGlobal>(rt: &R, script: &[u8], text: &str) {
 /// Wants that a script moves a bus to its end, and gives this text.
 fn plays<R: Abort + AllocGlobal>(rt: &R, script: &[u8], text: &str) {
     gives(rt, script, Outcome::Done, text);
+}
+
+/// Wants that a script moves a bus that goes by two collects to its end, and gives this text.
+fn plays_by_two_collects<R: Abort + AllocGlobal>(rt: &R, script: &[u8], text: &str) {
+    let answer = answer_to::<TwoCollect>(rt.alloc(), script).expect(rt, "memory");
+    assert_eq!(rt; answer.outcome, Outcome::Done, "of a script that gives {text}");
+    assert_eq!(rt; answer.text.as_str(), text);
 }
 
 #[test]
@@ -61,7 +68,7 @@ fn payload_that_looks_like_a_head(rt: HostRuntime) {
 fn fallback_decides(rt: HostRuntime) {
     plays(
         &rt,
-        b"shape 2 1 1 1 64\nput 0 61\nput 1 62\nturn 0 0 3\nturn 1 0 3\nturn 0 0 5\n\
+        b"shape 2 1 1 1 64\nput 0 61\nput 1 62\nturn 0 0 4\nturn 1 0 4\nturn 0 0 2\n\
           turn 1 0 99\nturn 0 0 99\nturn 1 0 99\nrecv 0 99\n",
         "put 0: number 0\nput 1: number 0\nturn 0: going\nturn 1: going\n\
           turn 0: going\nturn 1: own 0\nturn 0: lost 0 1\nturn 1: delivered 0 0 0\n\
@@ -183,6 +190,26 @@ fn held_page_makes_others_wait(rt: HostRuntime) {
 #[test]
 fn coins_disagree(rt: HostRuntime) {
     plays(
+        &rt,
+        b"shape 2 1 2 1 64\nput 0 61\nput 1 62\nturn 0 0 4\nturn 1 0 4\nturn 0 0 3\n\
+          turn 1 0 3\nturn 0 1 99\nturn 1 0 99\nturn 1 0 99\n",
+        "put 0: number 0\nput 1: number 0\nturn 0: going\nturn 1: going\n\
+          turn 0: going\nturn 1: going\nturn 0: lost 0 1\nturn 1: own 0\n\
+          turn 1: delivered 0 0 0\nowners 1\norder 1 0 62\ngiven 0 0\n",
+    );
+}
+
+#[test]
+fn two_collects_disagree_too(rt: HostRuntime) {
+    plays_by_two_collects(
+        &rt,
+        b"shape 2 1 1 1 64\nput 0 61\nput 1 62\nturn 0 0 3\nturn 1 0 3\nturn 0 0 5\n\
+          turn 1 0 99\nturn 0 0 99\nturn 1 0 99\nrecv 0 99\n",
+        "put 0: number 0\nput 1: number 0\nturn 0: going\nturn 1: going\n\
+          turn 0: going\nturn 1: own 0\nturn 0: lost 0 1\nturn 1: delivered 0 0 0\n\
+          recv 0: empty\nowners 1\norder 1 0 62\ngiven 0 1\n",
+    );
+    plays_by_two_collects(
         &rt,
         b"shape 2 1 2 1 64\nput 0 61\nput 1 62\nturn 0 0 3\nturn 1 0 3\nturn 0 0 6\n\
           turn 1 0 6\nturn 0 1 99\nturn 1 0 99\nturn 1 0 99\n",

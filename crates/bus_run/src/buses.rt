@@ -2,12 +2,12 @@
 
 ghost use Rattle.std.specs.Prelude.{◌≡◌};
 
-use bus_adoptcommit::TwoCollect;
+use bus_adoptcommit::ThreeWord;
 use bus_pageslot::OfBus;
 use std::marker::PhantomData;
 
 /// What its elections are decided by.
-pub type Ratified = TwoCollect;
+pub type Ratified = ThreeWord;
 
 /// The bus.
 pub type Bus = bus_pageslot::Bus<Ratified>;

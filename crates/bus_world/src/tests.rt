@@ -1,7 +1,7 @@
 //! Worked calls of a bus.
 
 use super::{Answer, Event, MakeFault, PlayFault, Shape, StepFault, World};
-use bus_adoptcommit::TwoCollect;
+use bus_adoptcommit::ThreeWord;
 use bus_batch::{CloseFault, PutFault};
 use bus_deliverylog::RecvTurn;
 use bus_register::SenderNo;
@@ -21,14 +21,14 @@ fn shape(senders: u64, receivers: u64, rows: u64, log_words: u64) -> Shape {
 }
 
 /// Wants that this bus is made.
-fn made<R: Abort + AllocGlobal>(rt: &R, shape: Shape) -> World<TwoCollect> {
+fn made<R: Abort + AllocGlobal>(rt: &R, shape: Shape) -> World<ThreeWord> {
     World::new(rt.alloc(), shape)
         .ok()
         .expect(rt, "a bus of this shape")
 }
 
 /// The last of at most 99 turns of a sender, of which all but the last are going.
-fn turns(rt: &impl Abort, world: &mut World<TwoCollect>, sender: u64) -> Turn {
+fn turns(rt: &impl Abort, world: &mut World<ThreeWord>, sender: u64) -> Turn {
     for _ in 0..99 {
         match world.step(&Event::Turn { sender, word: 0 }) {
             Ok(Answer::Turn(Turn::Going)) => {}
@@ -40,7 +40,7 @@ fn turns(rt: &impl Abort, world: &mut World<TwoCollect>, sender: u64) -> Turn {
 }
 
 /// One turn of a receiver.
-fn recv(rt: &impl Abort, world: &mut World<TwoCollect>, receiver: u64) -> RecvTurn {
+fn recv(rt: &impl Abort, world: &mut World<ThreeWord>, receiver: u64) -> RecvTurn {
     match world.step(&Event::Recv(receiver)) {
         Ok(Answer::Recv(turn)) => turn,
         _ => panic!(rt; "a receiver answers"),
@@ -139,6 +139,6 @@ fn what_is_refused(rt: HostRuntime) {
     };
     assert_eq!(rt; world.play(&events), Err(fault));
     assert_eq!(rt; world.play(&events[..2]), Ok(()));
-    let eleven = World::<TwoCollect>::new(rt.alloc(), shape(9, 9, 0, 0)).err();
+    let eleven = World::<ThreeWord>::new(rt.alloc(), shape(9, 9, 0, 0)).err();
     assert_eq!(rt; eleven, Some(MakeFault::Senders));
 }

@@ -8,7 +8,7 @@ ghost use Rattle.bus_receiver.specs.Seats.{table_of};
 ghost use Rattle.example_counters.specs.Commands.{changed, message_of, IsCommand};
 
 use anyhow::{Context, ensure};
-use bus_receiver::{Bus, Receiver, RecvTurn, Sender, Shape, Tap, Turn, TwoCollect};
+use bus_receiver::{Bus, Receiver, RecvTurn, Sender, Shape, Tap, Turn, ThreeWord};
 use rand_pcg::Pcg32;
 use std::alloc::{AllocError, Global};
 use std::marker::Model;
@@ -51,9 +51,9 @@ fn apply(message: &[u8], counters: &mut [u64; 4])
 /// A worker: a bus, a sender and a receiver of it, and its replica of the counters.
 #[derive(Drop)]
 struct Worker<'b> {
-    bus: &'b Bus<TwoCollect>,
-    sender: Sender<TwoCollect>,
-    receiver: Receiver<TwoCollect>,
+    bus: &'b Bus<ThreeWord>,
+    sender: Sender<ThreeWord>,
+    receiver: Receiver<ThreeWord>,
     rng: Pcg32,
     counters: [u64; 4],
 }
@@ -73,7 +73,7 @@ impl<'b> Model for Worker<'b> {
 
 impl<'b> Worker<'b> {
     /// A worker with this sender and a receiver of this bus.
-    fn new(bus: &'b Bus<TwoCollect>, sender: Sender<TwoCollect>, tap: Tap<TwoCollect>) -> Worker<'b>
+    fn new(bus: &'b Bus<ThreeWord>, sender: Sender<ThreeWord>, tap: Tap<ThreeWord>) -> Worker<'b>
         requires sender { table_of sender ≡ bus.now.table }
         requires tap { tap.table_id ≡ bus.now.table }
     {
@@ -137,9 +137,9 @@ impl<'b> Worker<'b> {
 /// A worker for each sender, with the receiver of its number.
 fn workers_of<'b>(
     alloc: Global,
-    bus: &'b Bus<TwoCollect>,
-    senders: Vec<Sender<TwoCollect>>,
-    taps: Vec<Tap<TwoCollect>>,
+    bus: &'b Bus<ThreeWord>,
+    senders: Vec<Sender<ThreeWord>>,
+    taps: Vec<Tap<ThreeWord>>,
 ) -> Result<Vec<Worker<'b>>, AllocError>
     requires senders { All (λ sender. table_of sender ≡ bus.now.table) senders.items }
     requires taps { All (λ tap. tap.table_id ≡ bus.now.table) taps.items }

@@ -2,7 +2,7 @@
 
 use super::streams::{FailingReader, FullWriter, StuckWriter};
 use crate::replay::replay;
-use bus_adoptcommit::TwoCollect;
+use bus_adoptcommit::ThreeWord;
 use bus_run::RunFault;
 use bus_script::Outcome;
 use std::io;
@@ -17,14 +17,14 @@ fn failing_reader(rt: HostRuntime) {
         for kind in [io::ErrorKind::Other, io::ErrorKind::Interrupted] {
             let mut reader = FailingReader::new(SCRIPT, fails_at, kind);
             let mut written = Vec::new(rt.alloc());
-            let result = replay::<TwoCollect, _, _>(rt.alloc(), &mut reader, &mut written);
+            let result = replay::<ThreeWord, _, _>(rt.alloc(), &mut reader, &mut written);
             assert_eq!(rt; result, Err(RunFault::Read), "at call {fails_at}");
             assert!(rt; written.is_empty(), "at call {fails_at}");
         }
     }
     let mut reader = FailingReader::new(SCRIPT, SCRIPT.len() + 1, io::ErrorKind::Other);
     let mut written = Vec::new(rt.alloc());
-    let result = replay::<TwoCollect, _, _>(rt.alloc(), &mut reader, &mut written);
+    let result = replay::<ThreeWord, _, _>(rt.alloc(), &mut reader, &mut written);
     assert_eq!(rt; result, Ok(Outcome::Done));
     assert_eq!(rt; written.as_slice(), TEXT.as_bytes());
 }
@@ -35,7 +35,7 @@ fn failing_writer(rt: HostRuntime) {
         for room in [0, 1, 20, TEXT.len() - 1] {
             let mut reader = SCRIPT;
             let mut writer = FullWriter::new(rt.alloc(), room, fails);
-            let result = replay::<TwoCollect, _, _>(rt.alloc(), &mut reader, &mut writer);
+            let result = replay::<ThreeWord, _, _>(rt.alloc(), &mut reader, &mut writer);
             assert_eq!(rt; result, Err(RunFault::Write), "with room for {room}");
             assert_eq!(rt;
                 writer.written.as_slice(),
@@ -45,7 +45,7 @@ fn failing_writer(rt: HostRuntime) {
         }
         let mut reader = SCRIPT;
         let mut writer = FullWriter::new(rt.alloc(), TEXT.len(), fails);
-        let result = replay::<TwoCollect, _, _>(rt.alloc(), &mut reader, &mut writer);
+        let result = replay::<ThreeWord, _, _>(rt.alloc(), &mut reader, &mut writer);
         assert_eq!(rt; result, Ok(Outcome::Done));
         assert_eq!(rt; writer.written.as_slice(), TEXT.as_bytes());
     }
@@ -55,7 +55,7 @@ fn failing_writer(rt: HostRuntime) {
 fn stuck_writer(rt: HostRuntime) {
     let mut reader = SCRIPT;
     let mut writer = StuckWriter::new(rt.alloc());
-    let result = replay::<TwoCollect, _, _>(rt.alloc(), &mut reader, &mut writer);
+    let result = replay::<ThreeWord, _, _>(rt.alloc(), &mut reader, &mut writer);
     assert_eq!(rt; result, Err(RunFault::Write));
     assert_eq!(rt; writer.written.as_slice(), TEXT.as_bytes());
 }

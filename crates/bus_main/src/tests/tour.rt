@@ -2,7 +2,7 @@
 
 use crate::ratify::ratify;
 use crate::replay::replay;
-use bus_adoptcommit::TwoCollect;
+use bus_adoptcommit::ThreeWord;
 use bus_script::Outcome;
 use std::process::Abort;
 
@@ -10,7 +10,7 @@ use std::process::Abort;
 fn plays<R: Abort + AllocGlobal>(rt: &R, script: &str, text: &str) {
     let mut reader = script.as_bytes();
     let mut written = Vec::new(rt.alloc());
-    let result = replay::<TwoCollect, _, _>(rt.alloc(), &mut reader, &mut written);
+    let result = replay::<ThreeWord, _, _>(rt.alloc(), &mut reader, &mut written);
     assert_eq!(rt; result, Ok(Outcome::Done));
     assert_eq!(rt; written.as_slice(), text.as_bytes());
 }
@@ -105,8 +105,9 @@ put 1 62
 turn 1 0 1
 # Sender 0 does the same and runs its whole election alone: it proposes 0 for the only bit, commits, and takes the page.
 turn 0 0 99
-# Sender 1 goes on as if nothing had happened. It proposes 1, finds the commit of 0, adopts it, and learns from the fallback
-# word that the bit is 0: the owner is sender 0. Without coherence it could have decided 1 here, and there would be two owners.
+# Sender 1 goes on as if nothing had happened. It brings 1, but finds 0 proposed and prefers that. Its own 1 keeps it from
+# committing, so it adopts 0, and takes that to the fallback word, where it is the first: the owner is sender 0. Without
+# coherence it could have decided 1 here, and there would be two owners.
 turn 1 0 99
 # No tenure is left.
 turn 1 0 1
@@ -126,11 +127,11 @@ const FALLBACK_WORD: &str = "# Two senders in step with each other, with one rou
 shape 2 1 1 1 64
 put 0 61
 put 1 62
-# Each sees the stage, announces itself, and stores its proposal,
-turn 0 0 3
-turn 1 0 3
-# so sender 0 finds both proposals and may only adopt its own: two loads, \"adopt 0\", two loads.
-turn 0 0 5
+# Each sees the stage, announces itself, says that its bit was brought, and finds nothing proposed yet,
+turn 0 0 4
+turn 1 0 4
+# so sender 0 proposes its own 0; but it finds that the other bit was brought too, and may only adopt.
+turn 0 0 2
 # Sender 1 does likewise and goes on to the fallback word: it is the first there, so the bit is 1, and it takes the page.
 turn 1 0 99
 # Sender 0 finds the fallback word taken.
@@ -157,17 +158,17 @@ const TWO_COINS: &str = "# Two rounds: between the two ratifiers stands a concil
 shape 2 1 2 1 64
 put 0 61
 put 1 62
-# The first ratifier goes as it did without a second round: both proposals are there before anybody looks,
+# The first ratifier goes as it did without a second round: both bits are there before anybody proposes one,
+turn 0 0 4
+turn 1 0 4
+# so both adopt their own input. With the third turn each sets its mark in the conciliator: both marks are set.
 turn 0 0 3
 turn 1 0 3
-# so both adopt their own input. With the sixth turn each sets its mark in the conciliator: both marks are set.
-turn 0 0 6
-turn 1 0 6
-# Sender 0 sees the other mark and votes, with the random word 1: four heads bring its total to the barrier, so its coin says 1.
+# Sender 0 sees the other mark and votes, with the random word 1: four heads bring the total to the barrier, so its coin says 1.
 # It enters the second ratifier with 1, is alone there, commits 1, and so the owner is sender 1.
 turn 0 1 99
-# Sender 1 votes with the random word 0. Its total passes down the other barrier after eight tails: its coin says 0. The two
-# coins disagree, and nothing breaks: in the second ratifier sender 1 finds the commit of 1 and adopts it.
+# Sender 1 votes in the same word, with the random word 0. After eight tails the total is at the other barrier: its coin says 0.
+# The two coins disagree, and nothing breaks: in the second ratifier sender 1 finds 1 proposed, prefers it, and adopts it.
 turn 1 0 99
 turn 1 0 99
 ";

@@ -6,7 +6,7 @@ ghost use Rattle.bus_pageslot.specs.Seats.{table_of};
 use super::*;
 
 /// So many turns with this word, each of which is answered Going.
-fn goes_on(rt: &impl Abort, bus: &Bus<TwoCollect>, sender: &mut One, turns: u32, word: u32)
+fn goes_on(rt: &impl Abort, bus: &Bus<ThreeWord>, sender: &mut One, turns: u32, word: u32)
     requires { table_of sender.old ≡ bus.now.table }
     ensures { table_of sender.new ≡ bus.now.table }
 {
@@ -16,7 +16,7 @@ fn goes_on(rt: &impl Abort, bus: &Bus<TwoCollect>, sender: &mut One, turns: u32,
 }
 
 /// One turn with this word, which is answered so.
-fn answers(rt: &impl Abort, bus: &Bus<TwoCollect>, sender: &mut One, word: u32, want: Turn)
+fn answers(rt: &impl Abort, bus: &Bus<ThreeWord>, sender: &mut One, word: u32, want: Turn)
     requires { table_of sender.old ≡ bus.now.table }
     ensures { table_of sender.new ≡ bus.now.table }
 {
@@ -28,7 +28,7 @@ const OWN: Turn = Turn::Own { tenure: 0 };
 
 /// A bus of two senders with one tenure, which both have begun, and where both have announced
 /// themselves: from now on they vote on one bit, sender 0 for 0 and sender 1 for 1.
-fn voters(rt: &impl Abort, alloc: Global, rounds: u64) -> (Bus<TwoCollect>, One, One)
+fn voters(rt: &impl Abort, alloc: Global, rounds: u64) -> (Bus<ThreeWord>, One, One)
     ensures { (table_of result.1 ≡ result.0.table) × (table_of result.2 ≡ result.0.table) }
 {
     let shape = Shape {
@@ -45,47 +45,47 @@ fn voters(rt: &impl Abort, alloc: Global, rounds: u64) -> (Bus<TwoCollect>, One,
     (bus, zero, one)
 }
 
-/// A ratifier of two takes six steps, and decides where nobody else has begun it. Who comes after
-/// takes the six and the fallback.
+/// A ratifier takes four steps, and decides where nobody else has begun it. Who comes after finds
+/// its proposal, so it takes three and the fallback.
 fn one_before_the_other(rt: &impl Abort, alloc: Global) {
     let (bus, mut zero, mut one) = voters(rt, alloc, 1);
-    goes_on(rt, &bus, &mut zero, 6, 0);
+    goes_on(rt, &bus, &mut zero, 4, 0);
     assert_eq!(rt; zero.kind(), Some(Kind::TakePage));
-    goes_on(rt, &bus, &mut one, 6, 0);
+    goes_on(rt, &bus, &mut one, 3, 0);
     assert_eq!(rt; one.kind(), Some(Kind::Fallback));
     answers(rt, &bus, &mut one, 0, lost(0));
     answers(rt, &bus, &mut zero, 0, OWN);
 }
 
-/// Both have stored what they propose before either reads: neither commits, and the first at the
+/// Both have found no proposal before either stores one: neither commits, and the first at the
 /// fallback decides.
 fn by_the_fallback(rt: &impl Abort, alloc: Global) {
     let (bus, mut zero, mut one) = voters(rt, alloc, 1);
-    goes_on(rt, &bus, &mut zero, 1, 0);
-    goes_on(rt, &bus, &mut one, 1, 0);
-    goes_on(rt, &bus, &mut zero, 5, 0);
-    goes_on(rt, &bus, &mut one, 6, 0);
+    goes_on(rt, &bus, &mut zero, 2, 0);
+    goes_on(rt, &bus, &mut one, 2, 0);
+    goes_on(rt, &bus, &mut zero, 2, 0);
+    goes_on(rt, &bus, &mut one, 3, 0);
     assert_eq!(rt; one.kind(), Some(Kind::TakePage));
     assert_eq!(rt; zero.kind(), Some(Kind::Fallback));
     answers(rt, &bus, &mut zero, 0, lost(1));
     answers(rt, &bus, &mut one, 0, OWN);
 }
 
-/// Both ask the coin. Sender 0 votes heads alone: after four votes, of three steps each, the coin
+/// Both ask the coin. Sender 0 votes heads alone: after four votes, of two steps each, the coin
 /// says 1, and its second ratifier commits that. Sender 1 votes tails alone: eight votes later the
 /// coin says 0, but the ratifier shows it the commit, and it brings that to the fallback.
 fn by_coins_that_disagree(rt: &impl Abort, alloc: Global) {
     let (bus, mut zero, mut one) = voters(rt, alloc, 2);
-    goes_on(rt, &bus, &mut zero, 1, 0);
-    goes_on(rt, &bus, &mut one, 1, 0);
-    goes_on(rt, &bus, &mut zero, 5, 0);
-    goes_on(rt, &bus, &mut one, 5, 0);
+    goes_on(rt, &bus, &mut zero, 2, 0);
+    goes_on(rt, &bus, &mut one, 2, 0);
+    goes_on(rt, &bus, &mut zero, 2, 0);
+    goes_on(rt, &bus, &mut one, 2, 0);
     goes_on(rt, &bus, &mut zero, 1, 0);
     goes_on(rt, &bus, &mut one, 1, 0);
     assert_eq!(rt; zero.kind(), Some(Kind::ReadOtherMark));
-    goes_on(rt, &bus, &mut zero, 1 + 4 * 3 + 5, 1);
+    goes_on(rt, &bus, &mut zero, 1 + 4 * 2 + 3, 1);
     answers(rt, &bus, &mut zero, 1, lost(1));
-    goes_on(rt, &bus, &mut one, 1 + 8 * 3 + 6, 0);
+    goes_on(rt, &bus, &mut one, 1 + 8 * 2 + 3, 0);
     assert_eq!(rt; one.kind(), Some(Kind::Fallback));
     answers(rt, &bus, &mut one, 0, Turn::Going);
     answers(rt, &bus, &mut one, 0, OWN);
@@ -93,7 +93,7 @@ fn by_coins_that_disagree(rt: &impl Abort, alloc: Global) {
 
 /// A bus of this shape is refused so.
 fn refuses(rt: &impl Abort, alloc: Global, shape: Shape, fault: MakeFault) {
-    assert_eq!(rt; Bus::<TwoCollect>::new(alloc, shape).err(), Some(fault));
+    assert_eq!(rt; Bus::<ThreeWord>::new(alloc, shape).err(), Some(fault));
 }
 
 #[test]
@@ -111,7 +111,7 @@ fn ballot_schedules(rt: HostRuntime) {
 }
 
 /// Senders 1 and 4 of five, each of which always has something to send, up to where 4 has the page.
-fn claims(rt: &impl Abort, alloc: Global) -> (Bus<TwoCollect>, One, One, Pass)
+fn claims(rt: &impl Abort, alloc: Global) -> (Bus<ThreeWord>, One, One, Pass)
     ensures senders { (table_of result.1 ≡ result.0.table)
         × (table_of result.2 ≡ result.0.table) }
     ensures tap { result.3.table_id ≡ result.0.table }

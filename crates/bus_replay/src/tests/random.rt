@@ -2,7 +2,7 @@
 //! put and nothing of buses.
 
 use crate::answer_to;
-use bus_adoptcommit::TwoCollect;
+use bus_adoptcommit::ThreeWord;
 use bus_deliverylog::RecvTurn;
 use bus_script::{Lines, Outcome, Words, number_of};
 use bus_tenure::Turn;
@@ -47,7 +47,7 @@ fn shape(dice: &mut Dice) -> Shape {
 /// The line of a random event, where the bus takes it. What is put is noted.
 fn push_line<R: Abort + AllocGlobal>(
     rt: &R,
-    world: &mut World<TwoCollect>,
+    world: &mut World<ThreeWord>,
     shape: Shape,
     dice: &mut Dice,
     sheet: &mut Sheet,
@@ -211,7 +211,7 @@ fn random_scripts(rt: HostRuntime) {
         for _ in 0..100 {
             push_line(&rt, &mut world, shape, &mut dice, &mut sheet, &mut script);
         }
-        let answer = answer_to::<TwoCollect>(rt.alloc(), script.as_bytes()).expect(&rt, "memory");
+        let answer = answer_to::<ThreeWord>(rt.alloc(), script.as_bytes()).expect(&rt, "memory");
         assert_eq!(rt; answer.outcome, Outcome::Done, "of {script}");
         let (ordered, received) = check(&rt, shape, &sheet, answer.text.as_bytes());
         items = items.wrapping_add(ordered);

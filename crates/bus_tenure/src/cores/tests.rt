@@ -1,5 +1,5 @@
 use super::*;
-use bus_adoptcommit::TwoCollect;
+use bus_adoptcommit::ThreeWord;
 use bus_register::Cells;
 use std::process::Abort;
 use std::test::Fail;
@@ -15,15 +15,17 @@ fn first_page() -> Page {
 }
 
 /// Takes the next step on the words, where one is due.
-fn step(rt: &impl Abort, core: &mut SenderCore<TwoCollect>, cells: &mut Cells) -> Turn {
+fn step(rt: &impl Abort, core: &mut SenderCore<ThreeWord>, cells: &mut Cells) -> Turn {
     let Some(op) = core.next(0) else {
         return core.rest();
     };
     let place = match op {
-        Op::Load(at) | Op::Store(at, _) | Op::Cas(at, _, _) => at.0,
-        Op::Add(_, _) => 64,
+        Op::Load(at) | Op::Store(at, _) | Op::Add(at, _) | Op::Cas(at, _, _) => at.0,
     };
     assert!(rt; place < cells.len());
+    if let Op::Add(at, value) = op {
+        assert!(rt; value <= u64::MAX - cells.get(at));
+    }
     let got = cells.apply(op);
     core.feed(got, 0)
 }
@@ -35,7 +37,7 @@ fn word(rt: &impl Abort, cells: &Cells, at: Reg) -> u64 {
 }
 
 /// Takes turns until one answers anything but Going.
-fn turns(rt: &impl Abort, core: &mut SenderCore<TwoCollect>, cells: &mut Cells) -> Turn {
+fn turns(rt: &impl Abort, core: &mut SenderCore<ThreeWord>, cells: &mut Cells) -> Turn {
     for _ in 0..100 {
         let turn = step(rt, core, cells);
         if turn != Turn::Going {
@@ -48,7 +50,7 @@ fn turns(rt: &impl Abort, core: &mut SenderCore<TwoCollect>, cells: &mut Cells) 
 #[test]
 fn alone_in_the_first_tenure(rt: HostRuntime) -> Result<(), Fail> {
     let mut cells = Cells::new(rt.alloc(), 40)?;
-    let mut core = SenderCore::<TwoCollect>::new(2, SenderNo(0), 1, 1, 16);
+    let mut core = SenderCore::<ThreeWord>::new(2, SenderNo(0), 1, 1, 16);
     let number = core.put(b"a").ok().expect(&rt, "put");
     assert_eq!(rt; number, 0);
     assert_eq!(rt; core.number().0, 0);
@@ -58,7 +60,7 @@ fn alone_in_the_first_tenure(rt: HostRuntime) -> Result<(), Fail> {
     assert_eq!(rt; core.kind(), Some(Kind::LoadStage));
     assert_eq!(rt; step(&rt, &mut core, &mut cells), Turn::Going);
     assert_eq!(rt; core.tenure(), Some(0));
-    assert_eq!(rt; core.turns_left(), 11);
+    assert_eq!(rt; core.turns_left(), 9);
     assert!(rt; !core.wants_word());
     assert_eq!(rt; turns(&rt, &mut core, &mut cells), Turn::Own { tenure: 0 });
     assert_eq!(rt; word(&rt, &cells, STAGE), 1);
@@ -97,7 +99,7 @@ fn alone_in_the_first_tenure(rt: HostRuntime) -> Result<(), Fail> {
 
 #[test]
 fn a_held_stage_makes_it_wait(rt: HostRuntime) -> Result<(), Fail> {
-    let mut core = SenderCore::<TwoCollect>::new(2, SenderNo(1), 1, 4, 16);
+    let mut core = SenderCore::<ThreeWord>::new(2, SenderNo(1), 1, 4, 16);
     assert_eq!(rt; core.rest(), Turn::Idle);
     assert!(rt; core.put(b"").is_ok());
     assert!(rt; core.next(0).is_some());
@@ -111,7 +113,7 @@ fn a_held_stage_makes_it_wait(rt: HostRuntime) -> Result<(), Fail> {
 #[test]
 fn its_end_mark_closes_it(rt: HostRuntime) -> Result<(), Fail> {
     let mut cells = Cells::new(rt.alloc(), 40)?;
-    let mut core = SenderCore::<TwoCollect>::new(1, SenderNo(0), 1, 2, 16);
+    let mut core = SenderCore::<ThreeWord>::new(1, SenderNo(0), 1, 2, 16);
     assert!(rt; core.close().is_ok());
     assert!(rt; core.is_closing());
     assert_eq!(rt; turns(&rt, &mut core, &mut cells), Turn::Own { tenure: 0 });
@@ -126,8 +128,8 @@ fn its_end_mark_closes_it(rt: HostRuntime) -> Result<(), Fail> {
 #[test]
 fn a_late_sender_loses(rt: HostRuntime) -> Result<(), Fail> {
     let mut cells = Cells::new(rt.alloc(), 40)?;
-    let mut first = SenderCore::<TwoCollect>::new(2, SenderNo(0), 1, 1, 16);
-    let mut late = SenderCore::<TwoCollect>::new(2, SenderNo(1), 1, 1, 16);
+    let mut first = SenderCore::<ThreeWord>::new(2, SenderNo(0), 1, 1, 16);
+    let mut late = SenderCore::<ThreeWord>::new(2, SenderNo(1), 1, 1, 16);
     assert!(rt; first.put(b"a").is_ok());
     assert!(rt; late.put(b"b").is_ok());
     assert_eq!(rt; step(&rt, &mut late, &mut cells), Turn::Going);
@@ -148,7 +150,7 @@ fn a_late_sender_loses(rt: HostRuntime) -> Result<(), Fail> {
 #[test]
 fn a_full_log_keeps_the_batch(rt: HostRuntime) -> Result<(), Fail> {
     let mut cells = Cells::new(rt.alloc(), 80)?;
-    let mut core = SenderCore::<TwoCollect>::new(2, SenderNo(0), 1, 4, 16);
+    let mut core = SenderCore::<ThreeWord>::new(2, SenderNo(0), 1, 4, 16);
     for _ in 0..16 {
         assert!(rt; core.next_number() < 16);
         assert!(rt; core.put(b"").is_ok());
@@ -164,7 +166,7 @@ fn a_full_log_keeps_the_batch(rt: HostRuntime) -> Result<(), Fail> {
 #[test]
 fn an_ended_page_closes_it(rt: HostRuntime) -> Result<(), Fail> {
     let mut cells = Cells::new(rt.alloc(), 40)?;
-    let mut core = SenderCore::<TwoCollect>::new(1, SenderNo(0), 1, 2, 16);
+    let mut core = SenderCore::<ThreeWord>::new(1, SenderNo(0), 1, 2, 16);
     assert!(rt; core.put(b"a").is_ok());
     assert_eq!(rt; turns(&rt, &mut core, &mut cells), Turn::Own { tenure: 0 });
     assert!(rt; core.awaits_page());
