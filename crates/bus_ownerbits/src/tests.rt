@@ -31,8 +31,11 @@ fn step<M: Machine>(rt: &impl Abort, cells: &mut Cells, machine: &mut M, word: u
         None => None,
         Some(op) => {
             assert!(rt; place(op) < cells.len());
-            if let Op::Add(_, _) = op {
-                assert!(rt; false, "no step of these machines is an addition");
+            if let Op::Add(at, value) = op {
+                assert!(rt;
+                    value <= u64::MAX - cells.get(at),
+                    "a vote passes no word's range"
+                );
             }
             let got = cells.apply(op);
             machine.feed(got, word);
@@ -56,11 +59,11 @@ fn run<M: Machine>(rt: &impl Abort, cells: &mut Cells, machine: &mut M) -> u64 {
 fn bounds(rt: HostRuntime) {
     assert!(rt; bits(1) == 0 && bits(2) == 1 && bits(3) == 2 && bits(5) == 3 && bits(8) == 3);
     assert!(rt; bound::<TwoCollect>(1, 1) == 2 && bound::<TwoCollect>(1, 8) == 2);
-    assert!(rt; bound::<TwoCollect>(2, 1) == 11 && bound::<TwoCollect>(2, 2) == 211);
-    assert!(rt; bound::<TwoCollect>(5, 1) == 56 && bound::<TwoCollect>(8, 8) == 12599);
+    assert!(rt; bound::<TwoCollect>(2, 1) == 11 && bound::<TwoCollect>(2, 2) == 147);
+    assert!(rt; bound::<TwoCollect>(5, 1) == 56 && bound::<TwoCollect>(8, 8) == 3191);
     assert!(rt; bound::<ThreeWord>(1, 1) == 2 && bound::<ThreeWord>(1, 8) == 2);
-    assert!(rt; bound::<ThreeWord>(2, 1) == 9 && bound::<ThreeWord>(2, 2) == 207);
-    assert!(rt; bound::<ThreeWord>(5, 1) == 32 && bound::<ThreeWord>(8, 8) == 12263);
+    assert!(rt; bound::<ThreeWord>(2, 1) == 9 && bound::<ThreeWord>(2, 2) == 143);
+    assert!(rt; bound::<ThreeWord>(5, 1) == 32 && bound::<ThreeWord>(8, 8) == 2855);
 }
 
 /// Two processes of one decision, one after the other: how many words it has, and how many steps
@@ -158,7 +161,7 @@ impl Reached {
     fn count_step(&mut self, before: &Sender, after: &Sender) {
         match before.act {
             Act::Vote => add_one(&mut self.votes),
-            Act::ReadVotes(_) if after.act == Act::StoreProposal => {
+            Act::ReadVotes if after.act == Act::StoreProposal => {
                 if after.votes < 64 {
                     add_one(&mut self.answers);
                 } else {
@@ -296,7 +299,7 @@ impl Schedule {
         let seat = &mut self.seats[p];
         seat.compare(rt, self.row);
         let before = seat.sender;
-        let expected = before.op(self.row, &self.board, word);
+        let expected = before.op(self.row, word);
         let op = step(rt, &mut self.cells, &mut seat.election, word);
         assert!(rt;
             op.is_some() && op == expected,

@@ -35,7 +35,7 @@ impl Row {
         for round in 0..self.rounds {
             each = each.wrapping_add(2 * n + 2);
             if round > 0 {
-                each = each.wrapping_add(2 + 64 * (n + 1));
+                each = each.wrapping_add(2 + 64 * 2);
             }
         }
         each.wrapping_mul(self.bits() as u64).wrapping_add(2)
@@ -43,7 +43,7 @@ impl Row {
 
     /// How many words a decision has before the ratifier of this round, counted from 0.
     fn before(self, round: usize) -> usize {
-        round.wrapping_mul(3 * self.n + 2)
+        round.wrapping_mul(2 * self.n + 3)
     }
 
     /// The first word of a bit's decision.
@@ -59,9 +59,9 @@ impl Row {
         self.decision(bit).wrapping_add(self.before(round))
     }
 
-    /// The first word of the conciliator before that ratifier: 2 marks, and then n counters.
+    /// The first word of the conciliator before that ratifier: 2 marks, and then the counter.
     fn conciliator(self, bit: usize, round: usize) -> usize {
-        self.ratifier(bit, round).wrapping_sub(self.n + 2)
+        self.ratifier(bit, round).wrapping_sub(3)
     }
 
     /// The fallback word of a bit's decision, after its last ratifier.
@@ -71,7 +71,7 @@ impl Row {
     }
 }
 
-/// The votes of one sender in one coin.
+/// The votes of all senders in one coin.
 #[derive(Clone, Copy)]
 struct Counter {
     heads: u32,
@@ -94,11 +94,6 @@ impl Counter {
         }
     }
 
-    /// The word that says so many heads and tails.
-    fn word(self) -> u64 {
-        u64::from(self.heads) * 0x1_0000_0000 + u64::from(self.tails)
-    }
-
     /// Heads minus tails.
     fn lead(self) -> i64 {
         i64::from(self.heads) - i64::from(self.tails)
@@ -109,7 +104,7 @@ impl Counter {
 #[derive(Clone, Copy)]
 struct Round {
     marks: [bool; 2],
-    counters: [Counter; 8],
+    counter: Counter,
     proposals: [Option<bool>; 8],
     verdicts: [Option<Verdict>; 8],
 }
@@ -127,7 +122,7 @@ pub fn empty_board() -> Board {
     let counter = Counter { heads: 0, tails: 0 };
     let round = Round {
         marks: [false; 2],
-        counters: [counter; 8],
+        counter,
         proposals: [None; 8],
         verdicts: [None; 8],
     };
@@ -149,7 +144,7 @@ pub enum Act {
     SetMark,
     ReadOtherMark,
     Vote,
-    ReadVotes(usize),
+    ReadVotes,
     Fallback,
     ReadAnnouncement(usize),
     Done,
@@ -171,8 +166,6 @@ pub struct Sender {
     pub value: bool,
     /// How often it has voted in the coin where it is.
     pub votes: u64,
-    /// Heads minus tails in the counters that it has loaded since its last vote.
-    leads: [i64; 8],
     /// The proposals that it has loaded in the ratifier where it is.
     proposals: [Option<bool>; 8],
     /// The verdicts that it has loaded there.
@@ -210,6 +203,11 @@ fn verdict_number(verdict: Verdict) -> u64 {
     }
 }
 
+/// The number that a vote adds to the counter: a head where the random word is odd.
+fn vote_number(word: u32) -> u64 {
+    if word % 2 == 1 { 0x1_0000_0000 } else { 1 }
+}
+
 /// What the coin answers after so many own votes, where the total is so much.
 fn coin_answer(row: Row, votes: u64, total: i64) -> Option<bool> {
     let barrier = 2 * row.n as i64;
@@ -236,7 +234,6 @@ impl Sender {
             round: 0,
             value: false,
             votes: 0,
-            leads: [0; 8],
             proposals: [None; 8],
             verdicts: [None; 8],
         }
@@ -333,15 +330,6 @@ impl Sender {
         }
     }
 
-    /// What the coin answers, by the counters that it has loaded.
-    fn answer(&self, row: Row) -> Option<bool> {
-        let mut total: i64 = 0;
-        for lead in self.leads {
-            total = total.wrapping_add(lead);
-        }
-        coin_answer(row, self.votes, total)
-    }
-
     /// Leaves a ratifier.
     fn leave_ratifier(&mut self, row: Row) {
         match self.output() {
@@ -375,19 +363,18 @@ impl Sender {
             Act::SetMark => Some(Kind::SetMark),
             Act::ReadOtherMark => Some(Kind::ReadOtherMark),
             Act::Vote => Some(Kind::Vote),
-            Act::ReadVotes(_) => Some(Kind::ReadVotes),
+            Act::ReadVotes => Some(Kind::ReadVotes),
             Act::Fallback => Some(Kind::Fallback),
             Act::ReadAnnouncement(_) => Some(Kind::ReadAnnouncement),
             Act::Done => None,
         }
     }
 
-    /// Its next step, on what stands on the board.
-    pub fn op(&self, row: Row, board: &Board, word: u32) -> Option<Op> {
+    /// Its next step.
+    pub fn op(&self, row: Row, word: u32) -> Option<Op> {
         let ratifier = row.ratifier(self.bit, self.round);
         let verdicts = ratifier.wrapping_add(row.n);
         let conciliator = row.conciliator(self.bit, self.round);
-        let counters = conciliator.wrapping_add(2);
         match self.act {
             Act::Announce => store(row.at, self.me, 1),
             Act::StoreProposal => store(ratifier, self.me, number_of(self.value)),
@@ -396,12 +383,8 @@ impl Sender {
             Act::ReadVerdict(of) => load(verdicts, of),
             Act::SetMark => store(conciliator, mark_of(self.value), 1),
             Act::ReadOtherMark => load(conciliator, mark_of(!self.value)),
-            Act::Vote => {
-                let round = &board.rounds[self.bit % 3][self.round % 3];
-                let counter = round.counters[self.me % 8].vote(word);
-                store(counters, self.me, counter.word())
-            }
-            Act::ReadVotes(of) => load(counters, of),
+            Act::Vote => add(conciliator, 2, vote_number(word)),
+            Act::ReadVotes => load(conciliator, 2),
             Act::Fallback => Some(Op::Cas(
                 Reg(row.fallback(self.bit) as u64),
                 0,
@@ -438,7 +421,7 @@ impl Sender {
                     self.search(row, of.wrapping_add(1));
                 }
             }
-            Act::SetMark | Act::ReadOtherMark | Act::Vote | Act::ReadVotes(_) => {
+            Act::SetMark | Act::ReadOtherMark | Act::Vote | Act::ReadVotes => {
                 self.step_conciliator(row, round, word)
             }
             Act::Done => {}
@@ -497,22 +480,14 @@ impl Sender {
                 }
             }
             Act::Vote => {
-                round.counters[self.me % 8] = round.counters[self.me % 8].vote(word);
+                round.counter = round.counter.vote(word);
                 self.votes = self.votes.wrapping_add(1);
-                self.leads = [0; 8];
-                self.act = Act::ReadVotes(0);
+                self.act = Act::ReadVotes;
             }
-            Act::ReadVotes(of) => {
-                self.leads[of % 8] = round.counters[of % 8].lead();
-                let next = of.wrapping_add(1);
-                if next < row.n {
-                    self.act = Act::ReadVotes(next);
-                } else if let Some(answer) = self.answer(row) {
-                    self.leave_conciliator(answer);
-                } else {
-                    self.act = Act::Vote;
-                }
-            }
+            Act::ReadVotes => match coin_answer(row, self.votes, round.counter.lead()) {
+                Some(answer) => self.leave_conciliator(answer),
+                None => self.act = Act::Vote,
+            },
             _ => {}
         }
     }
@@ -521,6 +496,11 @@ impl Sender {
 /// A load of the word so far after this place.
 fn load(place: usize, further: usize) -> Option<Op> {
     Some(Op::Load(Reg(place.wrapping_add(further) as u64)))
+}
+
+/// An addition to the word so far after this place.
+fn add(place: usize, further: usize, value: u64) -> Option<Op> {
+    Some(Op::Add(Reg(place.wrapping_add(further) as u64), value))
 }
 
 /// A store to the word so far after this place.
