@@ -1,12 +1,14 @@
 -- A batch makes a lawful frame.
-use Rattle.std.proofs.Common.{◌≡◌, ℕ, suc, ◌+◌, ◌^◌, ◌<◌, ◌≤◌, List, [], ◌∷◌, length, arith, refl, ap, inl, inr}
+use Rattle.std.proofs.Common.{◌≡◌, ℕ, suc, ◌+◌, ◌^◌, ◌<◌, ◌≤◌, List, [], ◌∷◌, ◌++◌, length, arith, refl, sym, subst, ap, ◌∙◌, inl, inr}
 use Rattle.std.specs.Prelude.{All, ◌⊎◌}
-use Rattle.std.proofs.lemmas.List.Elements.{All-nil, All-cons, All-head, All-tail}
+use Rattle.std.proofs.lemmas.List.{length-append}
+use Rattle.std.proofs.lemmas.List.Elements.{All-nil, All-cons, All-head, All-tail, All-append}
+use Rattle.bus_register.specs.declared.limits.TheConstants.{MOST_MESSAGES, NUMBERS}
 use Rattle.bus_batch.specs.declared.batches.Phase.{Phase}
 use Rattle.bus_batch.specs.declared.batches.Phase.TheVariants as phase
 use Rattle.bus_batch.specs.Messages.{IsMessage, IsNumbered, numbered}
 use Rattle.bus_batch.specs.Frames.{IsFrame, IsBody}
-use Rattle.bus_batch.specs.Batches.{Pending, HasSomething, IsKept, body_of, frame_of}
+use Rattle.bus_batch.specs.Batches.{Pending, HasSomething, IsKept, body_of, frame_of, next_of}
 
 pub length-numbered : (first : ℕ) (ms : List (List ℕ)) → length (numbered first ms) ≡ length ms
 length-numbered first [] = refl
@@ -32,3 +34,16 @@ is_frame b senders tenure some kept owner below = record {
   owner_bits = kept.owner_bits;
   body = is_body b.phase b.first b.messages some kept.few kept.numbers kept.each;
 }
+
+-- a batch that takes a message keeps what it always keeps
+pub kept_put : (b : Pending) (m : List ℕ) (after : List (List ℕ)) → IsKept b → b.phase ≡ phase.Open → length b.messages < MOST_MESSAGES → next_of b < NUMBERS → IsMessage m
+    → after ≡ b.messages ++ m ∷ [] → IsKept (record b { messages = after })
+kept_put b m after kept is_open room numbers message is =
+    let long = ap (λ z. length z) is ∙ length-append b.messages (m ∷ []) in
+    record {
+      few = omega arith;
+      each = subst (λ z. All IsMessage z) (sym is) (All-append IsMessage b.messages (m ∷ []) kept.each (All-cons IsMessage m [] message (All-nil IsMessage)));
+      numbers = omega arith;
+      alone = λ closing. absurd (cc);
+      owner_bits = kept.owner_bits;
+    }

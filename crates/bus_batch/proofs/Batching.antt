@@ -9,7 +9,7 @@ use Rattle.std.proofs.Math.Seq.{drop-cons}
 use Rattle.std.proofs.lemmas.Grind.{common_steps}
 use Rattle.bus_batch.specs.declared.batches.Phase.{Phase}
 use Rattle.bus_batch.specs.declared.batches.Phase.TheVariants as phase
-use Rattle.bus_batch.specs.Messages.{numbered}
+use Rattle.bus_batch.specs.Messages.{Numbered, numbered}
 use Rattle.bus_batch.specs.Frames.{body_words, data_word, data_len, words_of_bytes, message_words}
 use Rattle.bus_batch.specs.Batches.{body_of}
 use Rattle.bus_batch.proofs.WordLaws.{length-message_words, words_least}
@@ -86,3 +86,17 @@ module _ (number i : ℕ) (ms : List (List ℕ)) (m : List ℕ) (below : i < len
   word_past place long = ap (λ z. slice_get z place) parted ∙ get_right (message_words (record { number = number; message = m })) (flat_map message_words (numbered (number + 1) (drop (i + 1) ms))) place
       (let e = length-message_words (record { number = number; message = m }) in omega arith)
       ∙ ap (λ z. slice_get (flat_map message_words (numbered (number + 1) (drop (i + 1) ms))) (place - z)) (length-message_words (record { number = number; message = m }))
+
+-- one message more
+pub len_put : (first : ℕ) (ms : List (List ℕ)) (m : List ℕ) → length (flat_map message_words (numbered first (ms ++ m ∷ []))) ≡ length (flat_map message_words (numbered first ms)) + (1 + data_len (length m))
+len_put first [] m =
+    let one : Numbered = record { number = first; message = m } in
+    let parts = length-append (message_words one) [] in
+    let own = length-message_words one in
+    omega arith
+len_put first (x ∷ ms) m =
+    let one : Numbered = record { number = first; message = x } in
+    let more = len_put (first + 1) ms m in
+    let left = length-append (message_words one) (flat_map message_words (numbered (first + 1) (ms ++ m ∷ []))) in
+    let right = length-append (message_words one) (flat_map message_words (numbered (first + 1) ms)) in
+    omega arith

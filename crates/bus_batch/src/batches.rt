@@ -59,9 +59,15 @@ pub struct Batch {
     messages: ArrayVec<Message, MOST_MESSAGES>,
     phase: Phase,
     busy: bool,
+    /// How many words the messages have.
+    words: u64,
 }
 
 impl Model for Batch {
+    ghost use Rattle.std.specs.Prelude.{◌≡◌, ◌≤◌, ◌*◌, length, flat_map};
+    ghost use Rattle.bus_batch.specs.Messages.{numbered};
+    ghost use Rattle.bus_batch.specs.Frames.{message_words};
+    ghost use Rattle.bus_register.specs.declared.limits.TheConstants.{MOST_MESSAGE_WORDS};
     ghost use Rattle.bus_batch.specs.Batches.{Pending, IsKept};
 
     ghost Value = { Pending };
@@ -80,7 +86,9 @@ impl Model for Batch {
       messages = b.messages.items;
       phase = b.phase;
       busy = b.busy;
-    }) };
+    })
+        × (b.words ≡ length (flat_map message_words (numbered b.first b.messages.items)))
+        × (b.words ≤ MOST_MESSAGE_WORDS * length b.messages.items) };
 }
 
 impl Batch {
@@ -105,6 +113,7 @@ impl Batch {
             messages: ArrayVec::new(),
             phase: Phase::Open,
             busy: false,
+            words: 0,
         }
     }
 
@@ -181,6 +190,7 @@ impl Batch {
             return Err(PutFault::BatchFull);
         }
         let number = self.first + self.messages.len() as u64;
+        self.words += words_of(&message);
         self.messages.push(message);
         Ok(number)
     }
@@ -236,6 +246,7 @@ impl Batch {
     {
         self.first += self.messages.len() as u64;
         self.messages.clear();
+        self.words = 0;
         if self.phase == Phase::Closing {
             self.phase = Phase::Closed;
         }
@@ -290,13 +301,10 @@ impl Batch {
         ensures most { result ≤ MOST_BODY_WORDS }
     {
         if self.phase == Phase::Closing {
-            return 1;
+            1
+        } else {
+            self.words
         }
-        let mut len = 0;
-        for message in self.messages.as_slice() {
-            len += words_of(message);
-        }
-        len
     }
 
     /// The word at `i` of those of the messages.
