@@ -27,7 +27,11 @@ fn plays<R: Abort + AllocGlobal>(rt: &R, script: &[u8], text: &str) {
 /// Wants that a script moves a bus that goes by two collects to its end, and gives this text.
 fn plays_by_two_collects<R: Abort + AllocGlobal>(rt: &R, script: &[u8], text: &str) {
     let answer = answer_to::<TwoCollect>(rt.alloc(), script).expect(rt, "memory");
-    assert_eq!(rt; answer.outcome, Outcome::Done, "of a script that gives {text}");
+    assert_eq!(rt;
+        answer.outcome,
+        Outcome::Done,
+        "of a script that gives {text}"
+    );
     assert_eq!(rt; answer.text.as_str(), text);
 }
 

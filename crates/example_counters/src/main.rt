@@ -8,7 +8,7 @@ ghost use Rattle.bus_receiver.specs.Seats.{table_of};
 ghost use Rattle.example_counters.specs.Commands.{changed, message_of, IsCommand};
 
 use anyhow::{Context, ensure};
-use bus_receiver::{Bus, Receiver, RecvTurn, Sender, Shape, Tap, Turn, ThreeWord};
+use bus_receiver::{Bus, Receiver, RecvTurn, Sender, Shape, Tap, ThreeWord, Turn};
 use rand_pcg::Pcg32;
 use std::alloc::{AllocError, Global};
 use std::marker::Model;
