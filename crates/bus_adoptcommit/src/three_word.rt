@@ -18,7 +18,8 @@ use std::marker::Model;
 /// process sets the word of its input and loads the proposal. Where there is none, it proposes its
 /// input; else it prefers the value that is proposed. Then it loads the word of the other value.
 /// Where nobody has brought that, it commits the value that it prefers, and else it adopts it. So
-/// it takes three or four steps, and the words are three, however many processes there are.
+/// it takes three or four steps, and the words are three, however many of at most 64 processes
+/// there are.
 #[derive(Drop)]
 pub struct ThreeWord {
     at: Reg,

@@ -50,7 +50,7 @@ IsShownTrail {E} s trail = (trail ≡ []) ⊎ ((j : ℕ) × (v : View (Core E)) 
 
 -- The page of promises holds of the deeds that the seats show, and of what they show that receivers were answered, however these are
 -- numbered, with the order and the owners that the words below the length spell; and what a receiver knows is a beginning of these
--- words. There are no other deeds than those that are shown: each sender shows all of its own, and nobody else has any.
+-- words. There are no other deeds than those that are shown: each sender shows all of its own up to its last step, and nobody else has any.
 pub record IsPromised {E : Type 0} (x : Layout) (s : State (Option Page) (View (Core E))) : Type 0 where
   pub deeds : ℕ → List Deed
   pub shown : (p : ℕ) → p < x.senders → (j : ℕ) × (v : View (Core E)) × (get_elem? s.views j ≡ some v) × ShowsDeeds p (deeds p) v

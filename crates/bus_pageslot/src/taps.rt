@@ -160,7 +160,8 @@ impl<Q: Ratifier + Drop> Tap<Q> {
     }
 
     /// A sender tells, by one load of the length: what is known then has of this sender exactly
-    /// the messages that it has put and that do not wait in its batch any more. Gives the length.
+    /// the messages that it has put, but for its batch until the step that stores the length. Gives
+    /// the length.
     pub fn told(&mut self, sender: &mut Sender<Q>, bus: &Bus<Q>) -> u64
         requires table { (self.old.table_id ≡ bus.now.table)
             × (table_of sender.old ≡ bus.now.table) }

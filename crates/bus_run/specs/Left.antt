@@ -14,7 +14,7 @@ use Rattle.bus_pageslot.specs.Outcomes.{Outcome}
 abbrev pub run_election : Election (Elector Local)
 run_election = election_with (λ s. kind_at s.progress) (λ s word. op_of s) (λ s got word. fed_of s got) three_word
 
--- its log and its page are those of a table of this shape of which the rule holds, and on which a receiver's seat shows this
+-- its log and its page are those of a table of this shape of which the rule holds, and on which some seat shows this
 pub record IsLeftBehind (shape : Shape) (z : Outcome) : Type 0 where
   pub seen : View (Core (Elector Local))
   pub left : IsLeft run_election (layout_of three_word shape) seen z.log (Some z.page)

@@ -65,7 +65,7 @@ pub record AsksCoin {S : Type 0} (c : Core (Elector S)) (phase : Phase) : Type 0
   pub asks : IsInConciliator c (AskCoin coin)
   pub stands : coin.phase ≡ phase
 
--- it has voted, and is at the load of all votes
+-- it has voted, and is at the load of the counter
 abbrev pub CountsVotes : {S : Type 0} → Core (Elector S) → Type 0
 CountsVotes c = AsksCoin c ReadVotes
 

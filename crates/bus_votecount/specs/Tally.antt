@@ -1,4 +1,4 @@
--- Counts of votes, and the words that hold them. The counters of Aspnes and Herlihy 1990, in this project's own layout.
+-- Counts of votes, and the word that holds them: one counter for all, in place of those of Aspnes and Herlihy 1990.
 use Rattle.std.specs.Prelude.{ℕ, ◌+◌, ◌*◌, ◌/◌, ◌%◌, ◌^◌, Bool, true, false, List, ℤ, pos, ◌-ℤ◌, sum_by}
 use Rattle.bus_votecount.specs.declared.tallies.Tally.{Tally}
 

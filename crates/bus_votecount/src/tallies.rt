@@ -7,7 +7,7 @@ ghost use Rattle.bus_votecount.specs.Tally.{tally_of, word_of, voted, add_word_o
 /// The votes of one process in one coin: at most 64.
 pub const MOST_VOTES: u32 = 64;
 
-/// The tallies of one coin, one for each process: at most 64.
+/// Tallies that `total` sums: at most 64. The one counter of a coin is one tally.
 pub const MOST_TALLIES: usize = 64;
 
 /// How many heads and how many tails were voted in one coin, by one process or by all.

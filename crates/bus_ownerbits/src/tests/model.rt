@@ -1,5 +1,6 @@
 //! A plain model of elections among at most 8 senders in at most 3 rounds for each bit. It is
-//! written from the rules alone, and asks no coin, conciliator, ratifier, decision or election.
+//! written from the rules alone, and asks no coin, conciliator, ratifier, decision or election. Its
+//! ratifier is `TwoCollect`; `ThreeWord` is compared by `bench/replay`.
 
 ghost use Rattle.std.specs.Prelude.{◌<◌, ◌≤◌};
 

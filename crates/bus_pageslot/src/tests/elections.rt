@@ -73,7 +73,8 @@ fn by_the_fallback(rt: &impl Abort, alloc: Global) {
 
 /// Both ask the coin. Sender 0 votes heads alone: after four votes, of two steps each, the coin
 /// says 1, and its second ratifier commits that. Sender 1 votes tails alone: eight votes later the
-/// coin says 0, but the ratifier shows it the commit, and it brings that to the fallback.
+/// coin says 0, but it finds 1 proposed in the ratifier, adopts that, and brings it to the
+/// fallback.
 fn by_coins_that_disagree(rt: &impl Abort, alloc: Global) {
     let (bus, mut zero, mut one) = voters(rt, alloc, 2);
     goes_on(rt, &bus, &mut zero, 2, 0);
