@@ -1,14 +1,17 @@
 //! `bench_turns turns` prints nanoseconds a turn for each kind of step, with 1, 3 and 8 senders.
-//! `bench_turns storm` runs 2,000 buses whose workers yield or sleep at random turns. With another
-//! argument it tries a little of both, and prints what is the same each time.
+//! `bench_turns storm` runs 2,000 buses whose workers yield or sleep at random turns. `bench_turns
+//! elections` prints own steps of elections, with 1 to 8 senders and either ratifier. With another
+//! argument it tries a little of the first two, and prints what is the same each time.
 //!
 //! Exit status: 1 where a run failed.
 #![tactic(auto)]
 
 mod desks;
+mod elections;
 mod storms;
 mod turns;
 
+use self::elections::print_elections;
 use self::storms::run;
 use self::turns::{print_turns, sums_of};
 use std::alloc::Global;
@@ -46,6 +49,10 @@ fn main(rt: HostRuntime) -> anyhow::Result<ExitCode> {
             true
         }
         Some("storm") => run_all(&rt, alloc, 2000)?,
+        Some("elections") => {
+            print_elections(&rt, alloc)?;
+            true
+        }
         _ => {
             sums_of(&rt, alloc, 3, 1)?;
             run_all(&rt, alloc, 3)?
