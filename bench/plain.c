@@ -1,6 +1,6 @@
-// A plain interpreter of `replay` scripts, for comparison: written from docs/PROTOCOL.md and docs/FORMATS.md, with no check of
-// the script's form. It reads standard input and writes standard output. With the word `pass` it passes over each line that
-// would be refused, and names it on standard error.
+// A plain interpreter of `replay` scripts, for comparison: written from docs/PROTOCOL.md and docs/FORMATS.md. It reads standard
+// input and writes standard output, and its status is 1 where the script is refused. With the word `pass` it passes over each
+// line that would be refused, and names it on standard error.
 #include <stdint.h>
 #include <stdio.h>
 #include <stdlib.h>
@@ -121,19 +121,53 @@ static int recv(u64 me) { // true where it goes on
     r->count++; say("item %lu %lu", r->owner, r->number, 0, 0); say_hex(r->data, r->bytes); say("\n", 0, 0, 0, 0); r->got = r->bytes = 0;
     return 1;
 }
+struct word { const char *at; size_t len; };
+static int is(struct word w, const char *text) { return w.len == strlen(text) && !memcmp(w.at, text, w.len); }
+static int is_number(struct word w, u64 least, u64 most) { // decimal, without leading zeros, in 64 bits and this range
+    u64 value = 0;
+    for (size_t i = 0; i < w.len; i++) {
+        u64 digit = (unsigned char)w.at[i] - (u64)'0';
+        if (digit > 9 || value > (UINT64_MAX - digit) / 10) return 0;
+        value = 10 * value + digit;
+    }
+    return (w.len == 1 || *w.at != '0') && value >= least && value <= most;
+}
+static int is_hex(struct word w) {
+    for (size_t i = 0; i < w.len; i++) if (!memchr("0123456789abcdef", w.at[i], 16)) return is(w, "-");
+    return w.len % 2 == 0;
+}
+static int is_good(const char *line, const char *end, int shaped) { // the form of a line that is not passed over
+    struct word w[7]; int count = 0, numbers = 0;
+    for (const char *at = line;; at++) { // no word is empty, so there is one space between any two
+        w[count].at = at; while (at < end && *at != ' ') at++;
+        w[count].len = at - w[count].at;
+        if (!w[count++].len) return 0;
+        if (at == end) break;
+        if (count == 7) return 0;
+    }
+    while (numbers + 1 < count && is_number(w[numbers + 1], 0, UINT64_MAX)) numbers++;
+    if (!shaped) return is(w[0], "shape") && count == 6 && numbers == 5;
+    if (is(w[0], "put")) return count == 3 && numbers >= 1 && is_hex(w[2]);
+    if (is(w[0], "close")) return count == 2 && numbers == 1;
+    if (is(w[0], "turn")) return count == 4 && numbers == 3 && is_number(w[2], 0, 4294967295) && is_number(w[3], 1, 10000);
+    return is(w[0], "recv") && count == 3 && numbers == 2 && is_number(w[2], 1, 10000);
+}
 static int refused(int passes, u64 number, const char *why) { // true where the script ends there
     if (passes) { fprintf(stderr, "%lu\n", number); return 0; }
     say("line %lu: ", number, 0, 0, 0); say(why, 0, 0, 0, 0); say("\n", 0, 0, 0, 0);
     return 1;
 }
 int main(int argc, char **argv) {
-    static char text[(1 << 20) + 2]; size_t size = fread(text, 1, 1 << 20, stdin); int passes = argc > 1 && !strcmp(argv[1], "pass"); char *line = text; u64 s, w, k, number = 0; text[size] = 0;
-    for (char *end; *line; line = end + 1) {
-        end = strchr(line, '\n'); if (!end) { end = line + strlen(line); end[1] = 0; } number++; *end = 0;
-        if (!*line || *line == '#') continue;
+    static char text[(1 << 20) + 2]; size_t size = fread(text, 1, 1 << 20, stdin); int passes = argc > 1 && !strcmp(argv[1], "pass"), shaped = 0, status = 1; char *line = text; u64 s, w, k, number = 0;
+    for (char *end; line < text + size; line = end + 1) {
+        end = memchr(line, '\n', text + size - line); if (!end) end = text + size; number++; *end = 0;
+        if (line == end || *line == '#') continue;
+        if (!is_good(line, end, shaped)) { if (refused(passes, number, "BadLine")) goto stop; continue; }
         if (*line == 's') {
-            sscanf(line, "shape %lu %lu %lu %lu %lu", &n, &m, &R, &T, &L); while (1u << B < n) B++;
-            rows = calloc(T, sizeof *rows); word_of_log = calloc(L, 8);
+            sscanf(line, "shape %lu %lu %lu %lu %lu", &n, &m, &R, &T, &L); while (1u << B < n && n <= 8) B++;
+            const char *why = n < 1 || n > 8 ? "Senders" : m < 1 || m > 8 ? "Receivers" : R < 1 || R > 8 ? "Rounds" : T < 1 || T > 256 ? "Rows" : L < 16 || L > 65536 ? "LogWords" : 0;
+            if (why) { m = 0; if (refused(passes, number, why)) goto stop; continue; }
+            shaped = 1; rows = calloc(T, sizeof *rows); word_of_log = calloc(L, 8);
         } else if (*line == 'p') {
             s = strtoul(line + 4, &line, 10); struct sender *p = &S[s % 8]; line++; k = *line == '-' ? 0 : strlen(line) / 2;
             const char *why = p->closing || p->closed ? "Closed" : p->busy ? "Busy" : k > 56 ? "TooLong" : p->count == 16 ? "BatchFull" : 0;
@@ -142,7 +176,7 @@ int main(int argc, char **argv) {
             p->messages[p->count] = malloc(k + 1); p->len[p->count] = k; for (u64 i = 0; i < k; i++) { unsigned b; sscanf(line + 2 * i, "%2x", &b); p->messages[p->count][i] = b; }
             say("put %lu: number %lu\n", s, p->first + p->count, 0, 0); p->count++;
         } else if (*line == 'c') {
-            s = strtoul(line + 6, 0, 10); struct sender *p = &S[s]; const char *why = s >= n ? "NoSuchSender" : p->closing || p->closed ? "Closed" : p->busy ? "Busy" : p->count ? "Pending" : 0;
+            s = strtoul(line + 6, 0, 10); struct sender *p = &S[s % 8]; const char *why = s >= n ? "NoSuchSender" : p->closing || p->closed ? "Closed" : p->busy ? "Busy" : p->count ? "Pending" : 0;
             if (why) { if (refused(passes, number, why)) goto stop; continue; }
             p->closing = 1; say("close %lu: closing\n", s, 0, 0, 0);
         } else if (*line == 't') {
@@ -155,7 +189,8 @@ int main(int argc, char **argv) {
             say("recv %lu: ", s, 0, 0, 0); M[s].fresh = used; while (k-- && recv(s)) {}
         }
     }
-    say("owners", 0, 0, 0, 0); for (u64 i = 0; i < owner_count; i++) say(" %lu", owners[i], 0, 0, 0); say("\n", 0, 0, 0, 0);
+    if (!shaped) { say("end: BadLine\n", 0, 0, 0, 0); goto stop; }
+    status = 0; say("owners", 0, 0, 0, 0); for (u64 i = 0; i < owner_count; i++) say(" %lu", owners[i], 0, 0, 0); say("\n", 0, 0, 0, 0);
     for (;;) { // the order is what a receiver would be given of the whole log
         size_t before = used; M[8].fresh = used; int more = recv(8);
         if (!strncmp(out + before, "item", 4)) { memmove(out + before + 5, out + before + 4, used - before - 4); memcpy(out + before, "order", 5); used++; } else if (M[8].ended) { used = before; say("order end\n", 0, 0, 0, 0); } else used = before;
@@ -164,5 +199,5 @@ int main(int argc, char **argv) {
     for (u64 i = 0; i < m; i++) { say("given %lu %lu", i, M[i].count, 0, 0); say(M[i].ended ? " end\n" : "\n", 0, 0, 0, 0); }
 stop:
     fwrite(out, 1, used, stdout);
-    return 0;
+    return status;
 }
