@@ -1,5 +1,6 @@
 //! What no clause says: worked scripts with their texts, and bad input.
 
+mod bytes;
 mod random;
 
 use super::answer_to;
