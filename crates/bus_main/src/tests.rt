@@ -5,6 +5,7 @@ mod run;
 mod streams;
 mod tour;
 
+use self::replay::refuses;
 use self::streams::{FailingReader, FullWriter, StuckWriter};
 use super::command_line::parse;
 use super::ratify::ratify;
@@ -14,17 +15,34 @@ use clap::error::ErrorKind;
 use std::io;
 use std::process::Abort;
 
-/// A script of one process and no step, of this many bytes and 9 more.
-fn with_comment<R: Abort + AllocGlobal>(rt: &R, length: usize) -> Vec<u8> {
+/// A script whose first line is this, and whose second line is a comment of this many bytes.
+fn with_comment<R: Abort + AllocGlobal>(rt: &R, first: &[u8], length: usize) -> Vec<u8> {
     let mut script = vec![in rt.alloc(); b'#'; length].expect(rt, "memory");
-    let mut all = Vec::from_slice(rt.alloc(), b"inputs 1\n").expect(rt, "memory");
+    let mut all = Vec::from_slice(rt.alloc(), first).expect(rt, "memory");
     all.append(&mut script).expect(rt, "memory");
     all
 }
 
 #[test]
-fn longest_script(rt: HostRuntime) {
-    let longest = with_comment(&rt, 1_048_567);
+fn refused_and_oversized_scripts(rt: HostRuntime) {
+    refuses(&rt, b"shape 1 1 1 1\n", "line 1: BadLine\n");
+    refuses(&rt, b"# x", "end: BadLine\n");
+    for script in [
+        b"shape 1 1 1 1 16\nturn 0 4294967296 1\n".as_slice(),
+        b"shape 1 1 1 1 16\nturn 0 0 10001\n".as_slice(),
+        b"shape 1 1 1 1 16\nturn 0 0 0\n".as_slice(),
+    ] {
+        refuses(&rt, script, "line 2: BadLine\n");
+    }
+    refuses(
+        &rt,
+        b"shape 1 1 1 1 16\nput 0 \
+          61616161616161616161616161616161616161616161616161616161\
+          6161616161616161616161616161616161616161616161616161616161\n",
+        "line 2: TooLong\n",
+    );
+
+    let longest = with_comment(&rt, b"inputs 1\n", 1_048_567);
     assert_eq!(rt; longest.len(), 1_048_576);
     let mut reader = longest.as_slice();
     let mut written = Vec::new(rt.alloc());
@@ -32,7 +50,7 @@ fn longest_script(rt: HostRuntime) {
     assert_eq!(rt; result, Ok(Outcome::Done));
     assert_eq!(rt; written.as_slice(), b"0 open\n".as_slice());
 
-    let longer = with_comment(&rt, 1_048_568);
+    let longer = with_comment(&rt, b"inputs 1\n", 1_048_568);
     let mut reader = longer.as_slice();
     let mut written = Vec::new(rt.alloc());
     let result = ratify(rt.alloc(), &mut reader, &mut written);
@@ -44,7 +62,7 @@ const SCRIPT: &[u8] = b"inputs 1\nsteps 0 0 0 0\n";
 
 #[test]
 fn failing_reader(rt: HostRuntime) {
-    for fails_at in [0, 1, 11, SCRIPT.len() - 1, SCRIPT.len()] {
+    for fails_at in 0..SCRIPT.len() + 1 {
         for kind in [io::ErrorKind::Other, io::ErrorKind::Interrupted] {
             let mut reader = FailingReader::new(SCRIPT, fails_at, kind);
             let mut written = Vec::new(rt.alloc());
@@ -64,7 +82,7 @@ fn failing_reader(rt: HostRuntime) {
 fn failing_writer(rt: HostRuntime) {
     let text = b"0 commit 1\n";
     for fails in [false, true] {
-        for room in [0, 1, 5, 10] {
+        for room in 0..text.len() {
             let mut reader = SCRIPT;
             let mut writer = FullWriter::new(rt.alloc(), room, fails);
             let result = ratify(rt.alloc(), &mut reader, &mut writer);
@@ -76,7 +94,7 @@ fn failing_writer(rt: HostRuntime) {
             );
         }
         let mut reader = SCRIPT;
-        let mut writer = FullWriter::new(rt.alloc(), 11, fails);
+        let mut writer = FullWriter::new(rt.alloc(), text.len(), fails);
         let result = ratify(rt.alloc(), &mut reader, &mut writer);
         assert_eq!(rt; result, Ok(Outcome::Done));
         assert_eq!(rt; writer.written.as_slice(), text.as_slice());
