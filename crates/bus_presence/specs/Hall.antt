@@ -1,0 +1,98 @@
+-- Senders that visit tenures, and holders that make rows ready, in any order, over the words of the stage, of the presences and of the
+-- rows. Tenure t uses row t mod rows. Of elections, logs and pages nothing is said: whoever stands in a tenure may store any number in
+-- its row, and may take its page while that is home.
+use Rattle.std.specs.Prelude.{◌≡◌, ℕ, ◌+◌, ◌-◌, ◌*◌, ◌/◌, ◌%◌, ◌<◌, true, Option, Some, None, List, [], ◌∷◌, ◌++◌, nat_lt, ◌==◌, if◌then◌else◌}
+use Rattle.bus_register.specs.declared.registers.Op.{Op}
+use Rattle.bus_register.specs.Words.{register, after}
+use Rattle.bus_register.specs.Tables.{put}
+use Rattle.bus_presence.specs.Visits.{Visiting, visit_op, visit_fed}
+use Rattle.bus_presence.specs.Sweeps.{Sweeping, sweep_op, sweep_fed, is_swept}
+use Rattle.bus_presence.specs.declared.visits.Visit.{Visit}
+use Rattle.bus_presence.specs.declared.visits.Visit.TheVariants.{Away, Entering, Inside, Parting}
+
+-- how many senders and rows there are, and how many words a row has
+pub record Sizes : Type 0 where
+  pub senders : ℕ
+  pub rows : ℕ
+  pub width : ℕ
+
+-- ---- the places of the words
+abbrev pub stage_at : ℕ
+stage_at = 0
+
+abbrev pub presence_at : ℕ → ℕ
+presence_at p = 1 + p
+
+-- the row that a tenure uses
+abbrev pub row_of : Sizes → ℕ → ℕ
+row_of x t = 1 + x.senders + t % x.rows * x.width
+
+-- ---- the hall
+pub record Hall : Type 0 where
+  pub words : ℕ → ℕ
+  pub visits : ℕ → Visit
+  -- the holder makes the row of the next tenure ready
+  pub sweep : Option Sweeping
+
+-- the tenure that is open, or whose page is out: the stage is twice this tenure, and one more while its page is out
+abbrev pub tenure_of : Hall → ℕ
+tenure_of h = h.words stage_at / 2
+
+abbrev pub new_hall : Hall
+new_hall = record { words = λ r. 0; visits = λ p. Away; sweep = None }
+
+abbrev pub visiting : Hall → ℕ → Visiting
+visiting h p = record { word = presence_at p; stage = stage_at; visit = h.visits p }
+
+-- the row of the tenure after this one was used before, so its holder sweeps it
+abbrev pub sweep_after : Sizes → ℕ → Option Sweeping
+sweep_after x t =
+    if nat_lt (t + 1) x.rows then None else
+    Some record { past = t + 1 - x.rows; senders = x.senders; presences = presence_at 0; row = row_of x (t + 1); width = x.width; asked = 0; cleared = 0 }
+
+-- the row of the tenure after this one may be used: it was not used before, or it is swept
+abbrev pub IsReady : Sizes → ℕ → Option Sweeping → Type 0
+IsReady x t None = t + 1 < x.rows
+IsReady x t (Some s) = is_swept s ≡ true
+
+-- ---- what was done
+-- a step of a sender's visit, and what it found
+pub record Entry : Type 0 where
+  pub op : Op
+  pub got : ℕ
+
+-- of each sender
+abbrev pub Trails : Type 0
+Trails = ℕ → List Entry
+
+abbrev pub no_trails : Trails
+no_trails p = []
+
+abbrev pub grown : Trails → ℕ → Entry → Trails
+grown T p e = λ q. if q == p then T q ++ e ∷ [] else T q
+
+-- ---- what may happen next
+abbrev pub found : Hall → Op → ℕ
+found h o = h.words (register o)
+
+abbrev pub words_after : Hall → Op → ℕ → ℕ
+words_after h o = put (register o) (after o (found h o)) h.words
+
+-- these trails lead to this hall: from a new one, by one event after another, of any sender and in any order
+pub data Reached (x : Sizes) : Hall → Trails → Type 0 where
+  New : Reached x new_hall no_trails
+  -- a sender begins a tenure
+  Begins : (h : Hall) (T : Trails) (p t : ℕ) → Reached x h T → p < x.senders → h.visits p ≡ Away → Reached x (record h { visits = put p (Entering t) h.visits }) T
+  -- it takes the next step of its visit
+  Visits : (h : Hall) (T : Trails) (p : ℕ) (o : Op) → Reached x h T → visit_op (visiting h p) ≡ Some o
+      → Reached x (record h { words = words_after h o; visits = put p (visit_fed (h.visits p) (found h o)) h.visits }) (grown T p record { op = o; got = found h o })
+  -- it stores a number in the row of the tenure that it stands in
+  Works : (h : Hall) (T : Trails) (p t place number : ℕ) → Reached x h T → h.visits p ≡ Inside t → place < x.width → Reached x (record h { words = put (row_of x t + place) number h.words }) T
+  -- it is done with the tenure that it stands in
+  Parts : (h : Hall) (T : Trails) (p t : ℕ) → Reached x h T → h.visits p ≡ Inside t → Reached x (record h { visits = put p (Parting t) h.visits }) T
+  -- it takes the page of the tenure that it stands in
+  Takes : (h : Hall) (T : Trails) (p t : ℕ) → Reached x h T → h.visits p ≡ Inside t → h.words stage_at ≡ 2 * t → Reached x (record h { words = put stage_at (2 * t + 1) h.words; sweep = sweep_after x t }) T
+  -- the holder takes the next step of its sweep
+  Sweeps : (h : Hall) (T : Trails) (s : Sweeping) (o : Op) → Reached x h T → h.sweep ≡ Some s → sweep_op s ≡ Some o → Reached x (record h { words = words_after h o; sweep = Some (sweep_fed s (found h o)) }) T
+  -- the holder gives the page back
+  GivesBack : (h : Hall) (T : Trails) (t : ℕ) → Reached x h T → h.words stage_at ≡ 2 * t + 1 → IsReady x t h.sweep → Reached x (record h { words = put stage_at (2 * t + 2) h.words; sweep = None }) T

@@ -1,0 +1,5 @@
+pub mod Visits
+pub mod Sweeps
+pub mod Hall
+pub mod Standing
+pub mod Refused
