@@ -102,7 +102,7 @@ module _ {E : Type 0} (c : Core E) (e : Ear) (r r' : Receiving) (got : ℕ) (ans
       let d = fit.within in (
         now,
         subst (IsFit c.layout.senders e') (sym t.0) (fits_knowing c.layout.senders got e' r kept (omega arith) (omega arith)),
-        record { got = got; known = f.known; grows = f.grows; length_is = f.length_is; within = f.within; answer_is = t.1; now = now },
+        record { got = got; finds = f; answer_is = t.1 },
         reads,
         f.within,
       )
@@ -180,12 +180,9 @@ module _ {E : Type 0} (c : Core E) (e : Ear) (r r' : Receiving) (got : ℕ) (ans
   pub word_is_heard : HearsWord (Tap c e, []) answer m'
   word_is_heard = record {
     got = got;
-    got_is = f.got_is;
-    found = good.found;
-    log = (f.frames, f.rest, f.lawful, f.words_are);
-    gives = subst (λ (y : ℕ × ℕ). GivesPiece y.0 (take y.1 e.known) got good.found) (λ i. (fit.senders_are i, fit.place i)) good.gives;
-    answer_is = good.answer_is;
-    now = word_now;
+    finds = f;
+    gives = subst (λ (y : ℕ × ℕ × Option Piece). GivesPiece y.0 (take y.1 e.known) got y.2) (λ i. (fit.senders_are i, fit.place i, sym same i)) good.gives;
+    answer_is = good.answer_is ∙ ap turn_of (sym same);
   }
 
 -- the same of a seat
@@ -265,6 +262,6 @@ hears_end {E} m words log r h over =
 -- a turn that takes no step is none, but after the end
 pub no_still_turn : {E : Type 0} (c : Core E) (e : Ear) (answer : RecvTurn) → e.ended ≡ false → e.place ≤ length e.known → Hears (Tap c e, []) answer (Tap c e, []) → ⊥
 no_still_turn {E} c e answer going within h = elim (cases_lt e.place (length e.known)) [
-  | inl l ↦ (let more : e.loads ≡ e.loads + 1 = ap (λ (y : Sat E). (ear_in y.0).loads) (h.at_word going l).now in omega arith)
-  | inr l ↦ (let more : e.loads ≡ e.loads + 1 = ap (λ (y : Sat E). (ear_in y.0).loads) (h.at_length going (omega arith)).now in omega arith)
+  | inl l ↦ (let more : e.loads ≡ e.loads + 1 = ap (λ (y : Sat E). (ear_in y.0).loads) (h.at_word going l).finds.now in omega arith)
+  | inr l ↦ (let more : e.loads ≡ e.loads + 1 = ap (λ (y : Sat E). (ear_in y.0).loads) (h.at_length going (omega arith)).finds.now in omega arith)
 ]

@@ -30,27 +30,19 @@ pub record FindsWord {E : Type 0} (m : Sat E) (got : ℕ) (m' : Sat E) : Type 0 
   pub now : m' ≡ (with_ear m.0 (heard_word (ear_in m.0) found (turn_of found)), m.1)
 
 -- ---- what the turn tells
--- One load of the length: the receiver knows the log up to it, and has this answer more, which is Empty exactly where the length is
--- its place.
+-- The step found the length: the answer is Empty exactly where that is the receiver's place.
 pub record HearsLength {E : Type 0} (m : Sat E) (answer : RecvTurn) (m' : Sat E) : Type 0 where
   pub got : ℕ
-  pub known : List ℕ
-  pub grows : IsPrefix (known_in m.0) known
-  pub length_is : length known ≡ got
-  pub within : length known ≤ capacity_in m.0
+  pub finds : FindsLength m got m'
   pub answer_is : answer ≡ length_turn (ear_in m.0).place got
-  pub now : m' ≡ (with_ear m.0 (heard_length (ear_in m.0) known answer), m.1)
 
--- one load of the word at its place: it has this answer more, which is what the word gives after those that it has read
+-- The step found the word at the receiver's place: the answer is what it gives after the words that were read, in each log that goes
+-- on so.
 pub record HearsWord {E : Type 0} (m : Sat E) (answer : RecvTurn) (m' : Sat E) : Type 0 where
   pub got : ℕ
-  pub got_is : got ≡ slice_index (known_in m.0) (ear_in m.0).place
-  pub found : Option Piece
-  -- what it knows begins the words of a log
-  pub log : (frames : List Frame) × (rest : List ℕ) × AreFrames (senders_in m.0) frames × (log_words frames ≡ known_in m.0 ++ rest)
-  pub gives : GivesPiece (senders_in m.0) (take (ear_in m.0).place (known_in m.0)) got found
-  pub answer_is : answer ≡ turn_of found
-  pub now : m' ≡ (with_ear m.0 (heard_word (ear_in m.0) found answer), m.1)
+  pub finds : FindsWord m got m'
+  pub gives : GivesPiece (senders_in m.0) (take (ear_in m.0).place (known_in m.0)) got finds.found
+  pub answer_is : answer ≡ turn_of finds.found
 
 -- One turn of a receiver. After the end it answers so for good, and takes no step. Where it has read all that it knows it loads the
 -- length, and else the word at its place.
