@@ -3,7 +3,7 @@ use Rattle.std.proofs.Common.{◌≡◌, ℕ, zero, suc, ◌+◌, ◌≤◌, Boo
 use Rattle.std.specs.List.{list_any}
 use Rattle.std.proofs.Math.Bool.{or-false}
 use Rattle.std.proofs.lemmas.Grind.{flat_map-append}
-use Rattle.std.proofs.lemmas.List.{append-nil, length-append, take-append-drop, take-append-le, take-take, take_all, take_more}
+use Rattle.std.proofs.lemmas.List.{append-nil, length-append, length-drop, take-append-drop, take-append-le, take-take, take_all, take_more}
 use Rattle.std.proofs.lemmas.List.Folds.{list_any-append}
 use Rattle.std.proofs.lemmas.Option.{same_Some, slice_get_within, get_or_from_slice_get}
 use Rattle.bus_batch.specs.declared.messages.Item.{Item}
@@ -17,14 +17,12 @@ use Rattle.bus_deliverylog.specs.declared.receiving.RecvTurn.{RecvTurn}
 use Rattle.bus_deliverylog.specs.declared.receiving.RecvTurn.TheVariants as turn
 use Rattle.bus_deliverylog.proofs.PrefixLaws.{end_last}
 use Rattle.bus_world.specs.Headline.{IsPrefix, item_heard, end_heard, head_heard, given, heads}
+use Rattle.bus_world.proofs.HearTrails.{more_order}
 use Rattle.bus_world.proofs.Places.{got_split}
 use Rattle.bus_world.proofs.ReceivingLaws.{length-log_pieces, given_is_prefix}
 use Rattle.bus_pageslot.specs.Ears.{Ear, new_ear, loaded, learnt, heard_length, heard_word, length_turn, IsSilent, HasHeard, Begins, Agree}
 
 -- ---- what one answer adds
-abbrev more_order : Order → List Item → Bool → Order
-more_order o items ended = record { items = o.items ++ items; ended = o.ended || ended }
-
 order_so : (items items' : List Item) (a b : Bool) → items ≡ items' → a ≡ b → ◌≡◌ {A = Order} (record { items = items; ended = a }) (record { items = items'; ended = b })
 order_so items items' a b e f = ap (λ z. record { items = z; ended = a }) e ∙ ap (λ z. record { items = items'; ended = z }) f
 
@@ -137,15 +135,9 @@ module _ (frames : List Frame) where
         ap (take e.place) (flat_map-append frame_pieces frames more) ∙ take-append-le e.place (log_pieces frames) (log_pieces more) (omega arith) in
         record { given_is = h.given_is ∙ ap order_in (sym front); heads_are = h.heads_are ∙ ap owners_in (sym front); ended_is = h.ended_is; silent = h.silent }
 
-none_past : {A : Type 0} (k : ℕ) (xs : List A) → drop k xs ≡ [] → length xs ≤ k
-none_past zero [] d = omega arith
-none_past zero (x ∷ xs) d = absurd cc
-none_past (suc k) [] d = omega arith
-none_past (suc k) (x ∷ xs) d = let l = none_past k xs d in omega arith
-
 -- where nothing is left past a place, more words say no more
 past : {A : Type 0} (p q : ℕ) (xs : List A) → p ≤ q → drop p xs ≡ [] → take q xs ≡ take p xs
-past p q xs le none = let short = none_past p xs none in take_all q xs (omega arith) ∙ sym (take_all p xs short)
+past p q xs le none = let size = length-drop p xs in let nothing = ap length none in take_all q xs (omega arith) ∙ sym (take_all p xs (omega arith))
 
 -- ---- a receiver and the whole order
 module _ (n : ℕ) (frames : List Frame) (lawful : AreFrames n frames) where
