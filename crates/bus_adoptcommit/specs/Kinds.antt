@@ -1,7 +1,8 @@
 -- The kinds of step that a ratifier may take.
-use Rattle.std.specs.Prelude.{◌≡◌, ◌⊎◌, Bool, false}
+use Rattle.std.specs.Prelude.{◌≡◌, ℕ, ◌⊎◌, Bool, false}
 use Rattle.bus_register.specs.declared.kinds.Kind.{Kind}
 use Rattle.bus_register.specs.declared.registers.Op.{Op}
+use Rattle.bus_register.specs.declared.registers.Op.TheVariants.{Load}
 use Rattle.bus_register.specs.Protocol.{IsStore}
 use Rattle.bus_register.specs.declared.kinds.Kind.TheVariants.{StoreProposal, ReadProposal, StoreVerdict, ReadVerdict}
 
@@ -13,10 +14,19 @@ IsOfRatifier k = (k ≡ StoreProposal) ⊎ ((k ≡ ReadProposal) ⊎ ((k ≡ Sto
 abbrev pub IsStoring : Kind → Type 0
 IsStoring k = (k ≡ StoreProposal) ⊎ (k ≡ StoreVerdict)
 
--- a step is named for what it does: it stores exactly where its kind stores, and the first step of a process is the one that stores a
--- proposal
+-- the two that read
+abbrev pub IsReading : Kind → Type 0
+IsReading k = (k ≡ ReadProposal) ⊎ (k ≡ ReadVerdict)
+
+-- a step that only reads its word
+abbrev pub IsLoad : Op → Type 0
+IsLoad o = (r : ℕ) × (o ≡ Load record { 0 = r })
+
+-- a step is named for what it does: it stores exactly where its kind stores, it loads where its kind reads, and the first step of a process
+-- is the one that stores a proposal
 pub record IsNamedFor (k : Kind) (o : Op) (begun : Bool) : Type 0 where
   pub stores : IsStore o → IsStoring k
   pub storing : IsStoring k → IsStore o
+  pub reading : IsReading k → IsLoad o
   pub proposes : k ≡ StoreProposal → begun ≡ false
   pub first : begun ≡ false → k ≡ StoreProposal

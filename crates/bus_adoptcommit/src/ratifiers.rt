@@ -48,8 +48,8 @@ pub trait Ratifier: Machine {
     /// Its steps are of a ratifier's four kinds.
     ghost own_kinds: { (s : Self) (k : Kind) → Self.kind_of s ≡ Some k → IsOfRatifier k };
 
-    /// A kind names what the step does: it stores exactly where its kind stores, and the first step
-    /// of a process is the one that stores its proposal.
+    /// A kind names what the step does: it stores exactly where its kind stores, it loads where its
+    /// kind reads, and the first step of a process is the one that stores its proposal.
     ghost named_for: { (s : Self) (k : Kind) (word : ℕ) (o : Op) → Self.kind_of s ≡ Some k
         → Self.op s word ≡ Some o → IsNamedFor k o (protocol.has_begun s) };
 

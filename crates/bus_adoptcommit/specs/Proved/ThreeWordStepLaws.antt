@@ -11,7 +11,7 @@ use Rattle.bus_register.specs.Protocol.{Goes, IsStore}
 use Rattle.bus_register.proofs.DigitLaws.{digit_le}
 use Rattle.bus_adoptcommit.specs.declared.progress.Progress.{Progress}
 use Rattle.bus_adoptcommit.specs.declared.progress.Progress.TheVariants.{Bring, ReadProposal, Propose, ReadOther, Ended}
-use Rattle.bus_adoptcommit.specs.Kinds.{IsOfRatifier, IsStoring, IsNamedFor}
+use Rattle.bus_adoptcommit.specs.Kinds.{IsOfRatifier, IsStoring, IsReading, IsNamedFor}
 use Rattle.bus_adoptcommit.specs.ThreeWord.{Local, kind_at, op_at, op_of, fed_at, fed_of, behind, output_at}
 use Rattle.bus_adoptcommit.specs.ThreeWordKeeps.{Belongs, three_word}
 
@@ -104,19 +104,23 @@ not_storing k (inl e) (inr w) = let z = sym e ∙ w in cc
 not_storing k (inr e) (inl w) = let z = sym e ∙ w in cc
 not_storing k (inr e) (inr w) = let z = sym e ∙ w in cc
 
+not_reading : (k : Kind) → IsStoring k → IsReading k → ⊥
+not_reading k w (inl e) = not_storing k (inl e) w
+not_reading k w (inr e) = not_storing k (inr e) w
+
 named_for_at : (pr : Progress) (s : Local) (k : Kind) (o : Op) → kind_at pr ≡ Some k → op_at pr s ≡ Some o → IsNamedFor k o (nat_lt 0 (behind pr))
 named_for_at Bring s k o e q =
     let is = same_Some _ _ e in
-    record { stores = λ w. inl (sym is); storing = λ w. (_, _, sym (same_Some _ _ q)); proposes = λ w. refl; first = λ w. sym is }
+    record { stores = λ w. inl (sym is); storing = λ w. (_, _, sym (same_Some _ _ q)); reading = λ w. absurd (not_reading k (inl (sym is)) w); proposes = λ w. refl; first = λ w. sym is }
 named_for_at ReadProposal s k o e q =
     let is = same_Some _ _ e in
-    record { stores = λ w. absurd (no_store _ o (same_Some _ _ q) w); storing = λ w. absurd (not_storing k (inl (sym is)) w); proposes = λ w. absurd (let z = is ∙ w in cc); first = λ w. absurd (true≢false w) }
+    record { stores = λ w. absurd (no_store _ o (same_Some _ _ q) w); storing = λ w. absurd (not_storing k (inl (sym is)) w); reading = λ w. (_, sym (same_Some _ _ q)); proposes = λ w. absurd (let z = is ∙ w in cc); first = λ w. absurd (true≢false w) }
 named_for_at Propose s k o e q =
     let is = same_Some _ _ e in
-    record { stores = λ w. inr (sym is); storing = λ w. (_, _, sym (same_Some _ _ q)); proposes = λ w. absurd (let z = is ∙ w in cc); first = λ w. absurd (true≢false w) }
+    record { stores = λ w. inr (sym is); storing = λ w. (_, _, sym (same_Some _ _ q)); reading = λ w. absurd (not_reading k (inr (sym is)) w); proposes = λ w. absurd (let z = is ∙ w in cc); first = λ w. absurd (true≢false w) }
 named_for_at ReadOther s k o e q =
     let is = same_Some _ _ e in
-    record { stores = λ w. absurd (no_store _ o (same_Some _ _ q) w); storing = λ w. absurd (not_storing k (inr (sym is)) w); proposes = λ w. absurd (let z = is ∙ w in cc); first = λ w. absurd (true≢false w) }
+    record { stores = λ w. absurd (no_store _ o (same_Some _ _ q) w); storing = λ w. absurd (not_storing k (inr (sym is)) w); reading = λ w. (_, sym (same_Some _ _ q)); proposes = λ w. absurd (let z = is ∙ w in cc); first = λ w. absurd (true≢false w) }
 named_for_at Ended s k o e q = absurd cc
 
 pub named_for : (s : Local) (k : Kind) (word : ℕ) (o : Op) → kind_at s.progress ≡ Some k → op_of s ≡ Some o → IsNamedFor k o (three_word.has_begun s)

@@ -14,7 +14,7 @@ use Rattle.bus_register.specs.Protocol.{Laws, IsStore}
 use Rattle.bus_adoptcommit.specs.declared.phases.Phase.{Phase}
 use Rattle.bus_adoptcommit.specs.declared.phases.Phase.TheVariants.{StoreProposal, ReadProposal, StoreVerdict, ReadVerdict, Ended}
 use Rattle.bus_adoptcommit.specs.Agreement.{Legal}
-use Rattle.bus_adoptcommit.specs.Kinds.{IsOfRatifier, IsStoring, IsNamedFor}
+use Rattle.bus_adoptcommit.specs.Kinds.{IsOfRatifier, IsStoring, IsReading, IsNamedFor}
 use Rattle.bus_adoptcommit.specs.Plays.{IsExact}
 use Rattle.bus_adoptcommit.specs.TwoCollect.{Local, kind_at, op_at, op_of, fed_at, fed_of, taken_at}
 use Rattle.bus_adoptcommit.specs.TwoCollectKeeps.{Keeps, two_collect}
@@ -52,6 +52,10 @@ not_storing k (inl e) (inr w) = let z = sym e ∙ w in cc
 not_storing k (inr e) (inl w) = let z = sym e ∙ w in cc
 not_storing k (inr e) (inr w) = let z = sym e ∙ w in cc
 
+not_reading : (k : Kind) → IsStoring k → IsReading k → ⊥
+not_reading k w (inl e) = not_storing k (inl e) w
+not_reading k w (inr e) = not_storing k (inr e) w
+
 begun_one : (m : ℕ) → 0 < m → nat_lt 0 m ≡ true
 begun_one m l = grind (arith, nat_tests)
 
@@ -61,16 +65,16 @@ true_apart b e f = absurd (true≢false (sym e ∙ f))
 named_for_at : (ph : Phase) (n : ℕ) (s : Local) (k : Kind) (o : Op) → kind_at ph ≡ Some k → op_at ph s ≡ Some o → IsNamedFor k o (nat_lt 0 (taken_at n ph))
 named_for_at StoreProposal n s k o e q =
     let is = same_Some _ _ e in
-    record { stores = λ w. inl (sym is); storing = λ w. (_, _, sym (same_Some _ _ q)); proposes = λ w. refl; first = λ w. sym is }
+    record { stores = λ w. inl (sym is); storing = λ w. (_, _, sym (same_Some _ _ q)); reading = λ w. absurd (not_reading k (inl (sym is)) w); proposes = λ w. refl; first = λ w. sym is }
 named_for_at (ReadProposal of) n s k o e q =
     let is = same_Some _ _ e in let begun = begun_one (taken_at n (ReadProposal of)) (omega arith) in
-    record { stores = λ w. absurd (no_store _ 0 o (same_Some _ _ q) w); storing = λ w. absurd (not_storing k (inl (sym is)) w); proposes = λ w. absurd (let z = is ∙ w in cc); first = true_apart _ begun }
+    record { stores = λ w. absurd (no_store _ 0 o (same_Some _ _ q) w); storing = λ w. absurd (not_storing k (inl (sym is)) w); reading = λ w. (_, sym (same_Some _ _ q)); proposes = λ w. absurd (let z = is ∙ w in cc); first = true_apart _ begun }
 named_for_at StoreVerdict n s k o e q =
     let is = same_Some _ _ e in let begun = begun_one (taken_at n StoreVerdict) (omega arith) in
-    record { stores = λ w. inr (sym is); storing = λ w. (_, _, sym (same_Some _ _ q)); proposes = λ w. absurd (let z = is ∙ w in cc); first = true_apart _ begun }
+    record { stores = λ w. inr (sym is); storing = λ w. (_, _, sym (same_Some _ _ q)); reading = λ w. absurd (not_reading k (inr (sym is)) w); proposes = λ w. absurd (let z = is ∙ w in cc); first = true_apart _ begun }
 named_for_at (ReadVerdict of) n s k o e q =
     let is = same_Some _ _ e in let begun = begun_one (taken_at n (ReadVerdict of)) (omega arith) in
-    record { stores = λ w. absurd (no_store _ 0 o (same_Some _ _ q) w); storing = λ w. absurd (not_storing k (inr (sym is)) w); proposes = λ w. absurd (let z = is ∙ w in cc); first = true_apart _ begun }
+    record { stores = λ w. absurd (no_store _ 0 o (same_Some _ _ q) w); storing = λ w. absurd (not_storing k (inr (sym is)) w); reading = λ w. (_, sym (same_Some _ _ q)); proposes = λ w. absurd (let z = is ∙ w in cc); first = true_apart _ begun }
 named_for_at Ended n s k o e q = absurd cc
 
 pub named_for : (s : Local) (k : Kind) (word : ℕ) (o : Op) → kind_at s.phase ≡ Some k → op_of s ≡ Some o → IsNamedFor k o (two_collect.has_begun s)
