@@ -2,6 +2,7 @@ pub mod Moves
 pub mod Steps
 pub mod Starts
 pub mod Schedules
+pub mod LegalPlays
 pub mod Tables
 pub mod Two
 pub mod ThreeWordPlays

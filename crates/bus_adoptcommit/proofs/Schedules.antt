@@ -41,11 +41,11 @@ same_arms true = refl
 same_arms false = refl
 
 -- who has no input has none that counts
-entered-none : (given : List Bool) (sch : List ℕ) (p : ℕ) → slice_get given p ≡ None → entered given sch p ≡ None
+pub entered-none : (given : List Bool) (sch : List ℕ) (p : ℕ) → slice_get given p ≡ None → entered given sch p ≡ None
 entered-none given sch p e = ap (λ z. cond (nat_lt 0 (entries sch p)) z None) e ∙ same_arms (nat_lt 0 (entries sch p))
 
 -- the outputs in a list, and in a table
-mapped : {A B : Type 0} (f : A → Option B) (o : Option A) → of_some (λ x. x) (option_map f o) ≡ of_some f o
+pub mapped : {A B : Type 0} (f : A → Option B) (o : Option A) → of_some (λ x. x) (option_map f o) ≡ of_some f o
 mapped f None = refl
 mapped f (Some x) = refl
 

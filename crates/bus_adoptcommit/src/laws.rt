@@ -1,11 +1,12 @@
-//! What adopt-commit and a play do not allow.
+//! What holds of every play, and what adopt-commit and a play do not allow.
 
-ghost use Rattle.std.specs.Prelude.{◌≡◌, ℕ, Bool, true, false, Option, List, [], ◌∷◌};
-ghost use Rattle.std.specs.Prelude.{Some};
+ghost use Rattle.std.specs.Prelude.{◌≡◌, ℕ, ◌≤◌, Bool, true, false, Option, Some};
+ghost use Rattle.std.specs.Prelude.{List, [], ◌∷◌, length};
 ghost use Rattle.bus_adoptcommit.specs.declared.verdicts.Verdict.{Verdict};
 ghost use Rattle.bus_adoptcommit.specs.declared.verdicts.Verdict.TheVariants.{Commit, Adopt};
 ghost use Rattle.bus_adoptcommit.specs.Agreement.{IsValid, IsConvergent, IsCoherent, Legal};
 ghost use Rattle.bus_adoptcommit.specs.Plays.{IsPlay};
+ghost use Rattle.bus_adoptcommit.specs.Schedule.{entered, table_of};
 ghost use Rattle.bus_adoptcommit.specs.Refused.{of_two, taking_turns};
 ghost use Rattle.bus_adoptcommit.specs.Refused.{PlaysInTurn, keeping_own, adopting};
 ghost use Rattle.bus_adoptcommit.specs.ThreeWord.{fed_of as three_word_fed};
@@ -14,6 +15,7 @@ ghost use Rattle.bus_adoptcommit.specs.TwoCollect.{op_of, fed_of};
 ghost use Rattle.bus_adoptcommit.specs.TwoCollectKeeps.{two_collect};
 
 use super::ratifiers::Ratifier;
+use bus_register::limits::MOST_PROCESSES;
 
 /// What is not adopt-commit: an own value beside another's commit, an adopted value where all
 /// inputs are that value, and a value that nobody brought.
@@ -28,6 +30,14 @@ pub fn plays_are_one<Q: Ratifier>()
     ensures { (given : List Bool) (schedule : List ℕ) (outs others : List (Option Verdict))
         → IsPlay Q.op Q.fed Q.protocol given schedule outs
         → IsPlay Q.op Q.fed Q.protocol given schedule others → outs ≡ others }
+{}
+
+/// What stands after a schedule is legal for the inputs of the processes with entries: wherever the
+/// schedule ends, whichever processes have stopped, and after however few of their own steps.
+pub fn plays_are_legal<Q: Ratifier>()
+    ensures { (given : List Bool) (schedule : List ℕ) (outs : List (Option Verdict))
+        → length given ≤ MOST_PROCESSES → IsPlay Q.op Q.fed Q.protocol given schedule outs
+        → Legal (entered given schedule) (table_of outs) }
 {}
 
 /// Two processes of different inputs that take turns adopt their own: a commit of the first one's
