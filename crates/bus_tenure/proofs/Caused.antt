@@ -1,10 +1,12 @@
 -- Each kind of step has its cause.
-use Rattle.std.proofs.Common.{◌≡◌, ℕ, ◌≤◌, ◌⊎◌, inl, inr, Bool, true, false, cond, Option, Some, None, IfSome, nat_lt, arith, refl, sym, ◌∙◌, ap, subst}
-use Rattle.std.proofs.lemmas.Bool.{leb-true, leb-false, ltb-true, ltb-false}
+use Rattle.std.proofs.Common.{◌≡◌, ℕ, ◌≤◌, ◌⊎◌, inl, inr, Bool, true, false, cond, Option, Some, None, IfSome, is_some, nat_lt, arith, refl, sym, ◌∙◌, ap, subst}
+use Rattle.std.proofs.lemmas.Bool.{leb-true, leb-false, ltb-true, ltb-false, true≢false}
 use Rattle.bus_register.specs.declared.kinds.Kind.{Kind}
+use Rattle.bus_register.specs.declared.kinds.Kind.TheVariants.{StoreProposal, ReadProposal, StoreVerdict, ReadVerdict}
+use Rattle.bus_register.specs.declared.registers.Op.{Op}
 use Rattle.bus_register.specs.Protocol.{Protocol}
 use Rattle.bus_adoptcommit.specs.declared.verdicts.Verdict.{Verdict}
-use Rattle.bus_adoptcommit.specs.Kinds.{IsOfRatifier}
+use Rattle.bus_adoptcommit.specs.Kinds.{IsOfRatifier, IsNamedFor}
 use Rattle.bus_binconsensus.specs.declared.objects.Object.{Object}
 use Rattle.bus_binconsensus.specs.declared.objects.Object.TheVariants.{Ratify, Concile, Fall}
 use Rattle.bus_binconsensus.specs.Fallback.{kind_from}
@@ -94,6 +96,33 @@ module _ {E : Type 0} (c : Core E) (t : ℕ) (page : Page) (stored : ℕ) (publi
     ];
   }
 
+-- ---- a ratifier
+-- a kind of a ratifier that stands to what its local state has begun: only the first step stores a proposal
+abbrev pub IsTimely : {S : Type 0} → Protocol S Bool Verdict → S → Kind → Type 0
+IsTimely P s k = ((k ≡ StoreProposal) × (P.has_begun s ≡ false)) ⊎ (((k ≡ ReadProposal) ⊎ ((k ≡ StoreVerdict) ⊎ (k ≡ ReadVerdict))) × (P.has_begun s ≡ true))
+
+-- a kind comes with a step
+named_step : (kind : Option Kind) (op : Option Op) (k : Kind) → is_some kind ≡ is_some op → kind ≡ Some k → (o : Op) × (op ≡ Some o)
+named_step kind (Some o) k e is = (o, refl)
+named_step kind None k e is = absurd (true≢false (sym (ap is_some is) ∙ e))
+
+later : (k : Kind) (begun : Bool) → (begun ≡ false → k ≡ StoreProposal) → (k ≡ StoreProposal → ⊥) → begun ≡ true
+later k true first ne = refl
+later k false first ne = absurd (ne (first refl))
+
+module _ {S : Type 0} (P : Protocol S Bool Verdict) (kind : S → Option Kind) (op : S → ℕ → Option Op) (named : (s : S) (word : ℕ) → is_some (kind s) ≡ is_some (op s word))
+    (own : (s : S) (k : Kind) → kind s ≡ Some k → IsOfRatifier k) (named_for : (s : S) (k : Kind) (word : ℕ) (o : Op) → kind s ≡ Some k → op s word ≡ Some o → IsNamedFor k o (P.has_begun s)) where
+  timely_at : (s : S) (k : Kind) (o : Op) → IsNamedFor k o (P.has_begun s) → IsOfRatifier k → IsTimely P s k
+  timely_at s k o f (inl x) = inl (x, f.proposes x)
+  timely_at s k o f (inr (inl x)) = inr (inl x, later k (P.has_begun s) f.first (λ y. let z = sym x ∙ y in cc))
+  timely_at s k o f (inr (inr (inl x))) = inr (inr (inl x), later k (P.has_begun s) f.first (λ y. let z = sym x ∙ y in cc))
+  timely_at s k o f (inr (inr (inr x))) = inr (inr (inr x), later k (P.has_begun s) f.first (λ y. let z = sym x ∙ y in cc))
+
+  pub timely : (s : S) (k : Kind) → kind s ≡ Some k → IsTimely P s k
+  timely s k is =
+      let step = named_step (kind s) (op s 0) k (named s 0) is in
+      timely_at s k step.0 (named_for s k 0 step.0 is step.1) (own s k is)
+
 -- ---- an election
 module _ {S : Type 0} (P : Protocol S Bool Verdict) (c : Core (Elector S)) (t : ℕ) (e : Elector S) (at : c.phase ≡ Electing t e)
     (k : CoreKeeps ((elections P c.layout.rounds).width c.layout.senders) (ElectorKeeps P c.layout.rounds c.layout.senders c.me) c) where
@@ -107,20 +136,18 @@ module _ {S : Type 0} (P : Protocol S Bool Verdict) (c : Core (Elector S)) (t : 
     deciding : IsDeciding c d
     deciding = record { tenure = t; election = e; elects = at; proposes = proposes }
 
-    ratifier_cause : (q : S) → d.object ≡ Ratify q → (k : Kind) → IsOfRatifier k → HasCause P c k
-    ratifier_cause q here k own =
-        let is : IsInRatifier c = record { decision = d; deciding = deciding; ratifier = q; here = here } in
-        elim own [
-          | inl x ↦ subst (HasCause P c) (sym x) is
-          | inr y ↦ elim y [
-            | inl x ↦ subst (HasCause P c) (sym x) is
-            | inr z ↦ elim z [ inl x ↦ subst (HasCause P c) (sym x) is | inr x ↦ subst (HasCause P c) (sym x) is ]
-          ]
+    ratifier_cause : (q : S) → d.object ≡ Ratify q → (k : Kind) → IsTimely P q k → HasCause P c k
+    ratifier_cause q here k (inl x) = subst (HasCause P c) (sym x.0) record { decision = d; deciding = deciding; ratifier = q; here = here; stands = x.1 }
+    ratifier_cause q here k (inr x) =
+        let is : IsInRatifier P c true = record { decision = d; deciding = deciding; ratifier = q; here = here; stands = x.1 } in
+        elim x.0 [
+          | inl y ↦ subst (HasCause P c) (sym y) is
+          | inr y ↦ elim y [ inl z ↦ subst (HasCause P c) (sym z) is | inr z ↦ subst (HasCause P c) (sym z) is ]
         ]
 
-    by_named : (q : S) → d.object ≡ Ratify q → (x : Option Kind) → ((k : Kind) → x ≡ Some k → IsOfRatifier k) → IfSome x (HasCause P c)
-    by_named q here None own = tt
-    by_named q here (Some k) own = ratifier_cause q here k (own k refl)
+    by_named : (q : S) → d.object ≡ Ratify q → (x : Option Kind) → ((k : Kind) → x ≡ Some k → IsTimely P q k) → IfSome x (HasCause P c)
+    by_named q here None timely = tt
+    by_named q here (Some k) timely = ratifier_cause q here k (timely k refl)
 
     by_coin : (coin : CoinState) → IsInConciliator c (AskCoin coin) → (phase : Phase) → coin.phase ≡ phase → IfSome (coin_kind_at phase) (HasCause P c)
     by_coin coin asks Vote stands = record { coin = coin; asks = asks; stands = stands }
@@ -137,10 +164,10 @@ module _ {S : Type 0} (P : Protocol S Bool Verdict) (c : Core (Elector S)) (t : 
     by_fallback is None = is
     by_fallback is (Some v) = tt
 
-    by_object : (kind : S → Option Kind) → ((s : S) (k : Kind) → kind s ≡ Some k → IsOfRatifier k) → (x : Object S ConciliatorState) → d.object ≡ x → IfSome (object_kind kind conciliator_kind x) (HasCause P c)
-    by_object kind own (Ratify q) here = by_named q here (kind q) (own q)
-    by_object kind own (Concile s) here = by_mark s here s.stage refl
-    by_object kind own (Fall f) here = by_fallback
+    by_object : (kind : S → Option Kind) → ((s : S) (k : Kind) → kind s ≡ Some k → IsTimely P s k) → (x : Object S ConciliatorState) → d.object ≡ x → IfSome (object_kind kind conciliator_kind x) (HasCause P c)
+    by_object kind timely (Ratify q) here = by_named q here (kind q) (timely q)
+    by_object kind timely (Concile s) here = by_mark s here s.stage refl
+    by_object kind timely (Fall f) here = by_fallback
         record {
           decision = d;
           deciding = deciding;
@@ -150,14 +177,14 @@ module _ {S : Type 0} (P : Protocol S Bool Verdict) (c : Core (Elector S)) (t : 
         }
         f.decided
 
-  by_stage : (kind : S → Option Kind) → ((s : S) (k : Kind) → kind s ≡ Some k → IsOfRatifier k) → (stage : Stage (Decider S ConciliatorState)) → e.stage ≡ stage
+  by_stage : (kind : S → Option Kind) → ((s : S) (k : Kind) → kind s ≡ Some k → IsTimely P s k) → (stage : Stage (Decider S ConciliatorState)) → e.stage ≡ stage
       → IfSome (election_kind_at (λ d. object_kind kind conciliator_kind d.object) stage) (HasCause P c)
-  by_stage kind own Announce q = record { tenure = t; starts = at ∙ ap (Electing t) (keeps.unbegun (ap begun_at q)) }
-  by_stage kind own (Propose d) q = by_object d q kind own d.object refl
-  by_stage kind own (Search i) q =
+  by_stage kind timely Announce q = record { tenure = t; starts = at ∙ ap (Electing t) (keeps.unbegun (ap begun_at q)) }
+  by_stage kind timely (Propose d) q = by_object d q kind timely d.object refl
+  by_stage kind timely (Search i) q =
       let w = searches (decide_protocol P conciliator_protocol) (decision_cost P.steps) c.layout.rounds c.layout.senders c.me (row_at c.layout t) i e keeps.belongs q in
       record { tenure = t; election = e; number = i; elects = at; searches = q; some_decided = w.2; some_left = w.1; unfit = w.0 }
-  by_stage kind own Alone q = tt
+  by_stage kind timely Alone q = tt
 
-  pub election_cause : (kind : S → Option Kind) → ((s : S) (k : Kind) → kind s ≡ Some k → IsOfRatifier k) → (x : Option Kind) → x ≡ election_kind (λ d. object_kind kind conciliator_kind d.object) e → IfSome x (HasCause P c)
-  election_cause kind own x is = subst (λ z. IfSome z (HasCause P c)) (sym is) (by_stage kind own e.stage refl)
+  pub election_cause : (kind : S → Option Kind) → ((s : S) (k : Kind) → kind s ≡ Some k → IsTimely P s k) → (x : Option Kind) → x ≡ election_kind (λ d. object_kind kind conciliator_kind d.object) e → IfSome x (HasCause P c)
+  election_cause kind timely x is = subst (λ z. IfSome z (HasCause P c)) (sym is) (by_stage kind timely e.stage refl)

@@ -44,12 +44,13 @@ pub record IsDeciding {S : Type 0} (c : Core (Elector S)) (decision : Decider S 
   pub elects : c.phase ≡ Electing tenure election
   pub proposes : election.stage ≡ Propose decision
 
--- it is in a ratifier of a bit's decision
-pub record IsInRatifier {S : Type 0} (c : Core (Elector S)) : Type 0 where
+-- it is in a ratifier of a bit's decision, and has taken its first step there, or has not
+pub record IsInRatifier {S : Type 0} (P : Protocol S Bool Verdict) (c : Core (Elector S)) (begun : Bool) : Type 0 where
   pub decision : Decider S ConciliatorState
   pub deciding : IsDeciding c decision
   pub ratifier : S
   pub here : decision.object ≡ Ratify ratifier
+  pub stands : P.has_begun ratifier ≡ begun
 
 -- it is in a conciliator of a bit's decision, at this stage of it
 pub record IsInConciliator {S : Type 0} (c : Core (Elector S)) (stage : Stage) : Type 0 where
@@ -133,10 +134,10 @@ pub record HasHandedOn {E : Type 0} (c : Core E) : Type 0 where
 abbrev pub HasCause : {S : Type 0} → Protocol S Bool Verdict → Core (Elector S) → Kind → Type 0
 HasCause P c kind.LoadStage = LooksForTenure c
 HasCause P c kind.Announce = BeginsElection P c
-HasCause P c kind.StoreProposal = IsInRatifier c
-HasCause P c kind.ReadProposal = IsInRatifier c
-HasCause P c kind.StoreVerdict = IsInRatifier c
-HasCause P c kind.ReadVerdict = IsInRatifier c
+HasCause P c kind.StoreProposal = IsInRatifier P c false
+HasCause P c kind.ReadProposal = IsInRatifier P c true
+HasCause P c kind.StoreVerdict = IsInRatifier P c true
+HasCause P c kind.ReadVerdict = IsInRatifier P c true
 HasCause P c kind.SetMark = IsInConciliator c SetMark
 HasCause P c kind.ReadOtherMark = IsInConciliator c ReadOtherMark
 HasCause P c kind.Vote = AsksCoin c Vote

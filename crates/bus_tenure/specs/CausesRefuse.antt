@@ -6,7 +6,7 @@ use Rattle.bus_adoptcommit.specs.declared.verdicts.Verdict.{Verdict}
 use Rattle.bus_coinconc.specs.declared.conciliators.Stage.TheVariants.{SetMark, ReadOtherMark}
 use Rattle.bus_tenure.specs.declared.pages.Page.{Page}
 use Rattle.bus_tenure.specs.declared.phases.Phase.TheVariants.{Resting, Holding}
-use Rattle.bus_tenure.specs.Causes.{HasCause, IsInConciliator, CountsVotes}
+use Rattle.bus_tenure.specs.Causes.{HasCause, IsInRatifier, IsInConciliator, CountsVotes}
 use Rattle.bus_tenure.specs.Core.{Core}
 use Rattle.bus_tenure.specs.Elections.{Elector}
 
@@ -21,6 +21,12 @@ pub record RefusesCauses {S : Type 0} (P : Protocol S Bool Verdict) : Type 0 whe
   -- it holds the page of an order that has ended, and stores a length
   pub ended_publishes : (c : Core (Elector S)) (tenure : ℕ) (page : Page) (stored : ℕ)
       → c.phase ≡ Holding tenure page stored false → page.ended ≡ true → ¬ HasCause P c kind.StoreLength
+  -- it has brought nothing to a ratifier, and reads there, or stores a verdict
+  pub unbrought_reads_proposal : (c : Core (Elector S)) → IsInRatifier P c false → ¬ HasCause P c kind.ReadProposal
+  pub unbrought_stores_verdict : (c : Core (Elector S)) → IsInRatifier P c false → ¬ HasCause P c kind.StoreVerdict
+  pub unbrought_reads_verdict : (c : Core (Elector S)) → IsInRatifier P c false → ¬ HasCause P c kind.ReadVerdict
+  -- it has brought its bit to a ratifier, and stores a proposal again
+  pub brings_again : (c : Core (Elector S)) → IsInRatifier P c true → ¬ HasCause P c kind.StoreProposal
   -- it has not set its mark, and loads the other one
   pub unmarked_reads : (c : Core (Elector S)) → IsInConciliator c SetMark → ¬ HasCause P c kind.ReadOtherMark
   -- it has not loaded the other mark, and votes

@@ -15,7 +15,8 @@ pub fn elections_are_bounded<Q: Ratifier>()
 {}
 
 /// No sender that rests takes a page, stores a word of a log or falls back; none stores a length
-/// past the end of the order, loads a mark before it has set its own, or votes out of turn.
+/// past the end of the order. None brings its bit to a ratifier twice, or takes another step there
+/// before it has brought it. None loads a mark before it has set its own, or votes out of turn.
 pub fn causes_refuse<Q: Ratifier>()
     ensures { RefusesCauses Q.protocol }
 {}
