@@ -6,4 +6,5 @@ pub mod LegalPlays
 pub mod Tables
 pub mod Two
 pub mod ThreeWordPlays
+pub mod Names
 pub mod AgreementLaws

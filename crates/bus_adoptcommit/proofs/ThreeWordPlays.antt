@@ -8,18 +8,19 @@ use Rattle.bus_register.specs.Words.{register, after}
 use Rattle.bus_adoptcommit.specs.declared.verdicts.Verdict.{Verdict}
 use Rattle.bus_adoptcommit.specs.declared.verdicts.Verdict.TheVariants.{Commit, Adopt}
 use Rattle.bus_adoptcommit.specs.Plays.{moment, IsMove, Plays, at_starts, IsPlay}
-use Rattle.bus_adoptcommit.specs.Refused.{PlaysInTurn, keeping_own, adopting}
+use Rattle.bus_adoptcommit.specs.Refused.{taking_turns, one_after_another, PlaysThreeWords, PlaysIncoherently, PlaysUnconverged, keeping_own, committing_in_spite, proposing_nothing, reading_own, adopting}
 use Rattle.bus_adoptcommit.specs.ThreeWord.{Local, op_of, fed_of, start_of}
 use Rattle.bus_adoptcommit.specs.ThreeWordKeeps.{three_word}
 use Rattle.bus_adoptcommit.proofs.Moves.{same_moment, play_of}
 use Rattle.bus_adoptcommit.proofs.Steps.{step_moves, step_rests}
+use Rattle.bus_adoptcommit.proofs.Two.{own_value_refused, two_commits_refused, adopts_refused}
 
 -- the words and the local states, as lists
 record Lists : Type 0 where
   words : List ℕ
   locals : List Local
 
-module _ (fed : Local → ℕ → Local) where
+module _ (op : Local → Option Op) (fed : Local → ℕ → Local) where
   -- the lists after the next step of process p, which is at s
   abbrev step_lists : ℕ → Local → Option Op → Lists → Lists
   step_lists p s None l = l
@@ -27,7 +28,7 @@ module _ (fed : Local → ℕ → Local) where
 
   abbrev move_lists : ℕ → Option Local → Lists → Lists
   move_lists p None l = l
-  move_lists p (Some s) l = step_lists p s (op_of s) l
+  move_lists p (Some s) l = step_lists p s (op s) l
 
   -- after a schedule
   abbrev run_lists : List ℕ → Lists → Lists
@@ -41,23 +42,23 @@ module _ (fed : Local → ℕ → Local) where
 
   abbrev move_fits : Option Local → Lists → Bool
   move_fits None l = false
-  move_fits (Some s) l = step_fits (op_of s) l
+  move_fits (Some s) l = step_fits (op s) l
 
   abbrev RunFits : List ℕ → Lists → Type 0
   RunFits [] l = Unit {0}
   RunFits (p ∷ schedule) l = (move_fits (slice_get l.locals p) l ≡ true) × RunFits schedule (move_lists p (slice_get l.locals p) l)
 
-  step_made : (p : ℕ) (l : Lists) (s : Local) → slice_get l.locals p ≡ Some s → (y : Option Op) → op_of s ≡ y → step_fits y l ≡ true
-      → IsMove (λ s word. op_of s) (λ s got word. fed s got) p (moment l.words l.locals) (moment (step_lists p s y l).words (step_lists p s y l).locals)
+  step_made : (p : ℕ) (l : Lists) (s : Local) → slice_get l.locals p ≡ Some s → (y : Option Op) → op s ≡ y → step_fits y l ≡ true
+      → IsMove (λ s word. op s) (λ s got word. fed s got) p (moment l.words l.locals) (moment (step_lists p s y l).words (step_lists p s y l).locals)
   step_made p l s here None e f = step_rests _ _ l.words l.locals p s here e
   step_made p l s here (Some o) e f = step_moves _ _ l.words _ l.locals p s _ _ o here e (ltb-true _ _ f) refl refl refl
 
   move_made : (p : ℕ) (l : Lists) (x : Option Local) → slice_get l.locals p ≡ x → move_fits x l ≡ true
-      → IsMove (λ s word. op_of s) (λ s got word. fed s got) p (moment l.words l.locals) (moment (move_lists p x l).words (move_lists p x l).locals)
+      → IsMove (λ s word. op s) (λ s got word. fed s got) p (moment l.words l.locals) (moment (move_lists p x l).words (move_lists p x l).locals)
   move_made p l None here f = absurd (true≢false (sym f))
-  move_made p l (Some s) here f = step_made p l s here (op_of s) refl f
+  move_made p l (Some s) here f = step_made p l s here (op s) refl f
 
-  run_plays : (schedule : List ℕ) (l : Lists) → RunFits schedule l → Plays (λ s word. op_of s) (λ s got word. fed s got) (moment l.words l.locals) schedule (moment (run_lists schedule l).words (run_lists schedule l).locals)
+  run_plays : (schedule : List ℕ) (l : Lists) → RunFits schedule l → Plays (λ s word. op s) (λ s got word. fed s got) (moment l.words l.locals) schedule (moment (run_lists schedule l).words (run_lists schedule l).locals)
   run_plays [] l f = refl
   run_plays (p ∷ schedule) l f = (_, move_made p l (slice_get l.locals p) refl f.0, run_plays schedule (move_lists p (slice_get l.locals p) l) f.1)
 
@@ -81,16 +82,30 @@ module _ (fed : Local → ℕ → Local) where
     starts_are = same_moment _ _ zeros locals_are
 
     -- the play
-    two_play : (schedule : List ℕ) (outs : List (Option Verdict)) → RunFits schedule (two_starts v w) → outs ≡ map P.output (run_lists schedule (two_starts v w)).locals → IsPlay (λ s word. op_of s) (λ s got word. fed s got) P (v ∷ w ∷ []) schedule outs
+    two_play : (schedule : List ℕ) (outs : List (Option Verdict)) → RunFits schedule (two_starts v w) → outs ≡ map P.output (run_lists schedule (two_starts v w)).locals → IsPlay (λ s word. op s) (λ s got word. fed s got) P (v ∷ w ∷ []) schedule outs
     two_play schedule outs f e =
         let l = run_lists schedule (two_starts v w) in
-        play_of _ _ P (v ∷ w ∷ []) schedule l.words l.locals outs (subst (λ z. Plays (λ s word. op_of s) (λ s got word. fed s got) z schedule (moment l.words l.locals)) starts_are (run_plays schedule (two_starts v w) f)) e
+        play_of _ _ P (v ∷ w ∷ []) schedule l.words l.locals outs (subst (λ z. Plays (λ s word. op s) (λ s got word. fed s got) z schedule (moment l.words l.locals)) starts_are (run_plays schedule (two_starts v w) f)) e
 
-pub late_adopts : PlaysInTurn fed_of three_word (false ∷ true ∷ []) (Some (Commit false) ∷ Some (Adopt false) ∷ [])
-late_adopts = two_play fed_of three_word (λ n p u. refl) false true _ _ (refl, (refl, (refl, (refl, (refl, (refl, (refl, tt))))))) refl
+-- ── two processes, one after another ──
+pub late_adopts : PlaysThreeWords op_of fed_of three_word (false ∷ true ∷ []) one_after_another (Some (Commit false) ∷ Some (Adopt false) ∷ [])
+late_adopts = two_play op_of fed_of three_word (λ n p u. refl) false true _ _ (refl, (refl, (refl, (refl, (refl, (refl, (refl, tt))))))) refl
 
-pub late_keeps_own : PlaysInTurn keeping_own three_word (false ∷ true ∷ []) (Some (Commit false) ∷ Some (Adopt true) ∷ [])
-late_keeps_own = two_play keeping_own three_word (λ n p u. refl) false true _ _ (refl, (refl, (refl, (refl, (refl, (refl, (refl, tt))))))) refl
+pub late_keeps_own : PlaysIncoherently op_of keeping_own three_word (false ∷ true ∷ []) one_after_another (Some (Commit false) ∷ Some (Adopt true) ∷ [])
+late_keeps_own = record { plays = two_play op_of keeping_own three_word (λ n p u. refl) false true _ _ (refl, (refl, (refl, (refl, (refl, (refl, (refl, tt))))))) refl; refused = own_value_refused }
 
-pub both_adopt : PlaysInTurn fed_of adopting (true ∷ true ∷ []) (Some (Adopt true) ∷ Some (Adopt true) ∷ [])
-both_adopt = two_play fed_of adopting (λ n p u. refl) true true _ _ (refl, (refl, (refl, (refl, (refl, (refl, (refl, tt))))))) refl
+pub late_finds_nothing : PlaysIncoherently op_of proposing_nothing three_word (false ∷ true ∷ []) one_after_another (Some (Commit false) ∷ Some (Adopt true) ∷ [])
+late_finds_nothing = record { plays = two_play op_of proposing_nothing three_word (λ n p u. refl) false true _ _ (refl, (refl, (refl, (refl, (refl, (refl, (refl, tt))))))) refl; refused = own_value_refused }
+
+pub both_adopt : PlaysUnconverged op_of fed_of adopting (true ∷ true ∷ []) one_after_another (Some (Adopt true) ∷ Some (Adopt true) ∷ [])
+both_adopt = record { plays = two_play op_of fed_of adopting (λ n p u. refl) true true _ _ (refl, (refl, (refl, (refl, (refl, (refl, (refl, tt))))))) refl; refused = adopts_refused one_after_another }
+
+pub both_read_own : PlaysUnconverged reading_own fed_of three_word (true ∷ true ∷ []) one_after_another (Some (Adopt true) ∷ Some (Adopt true) ∷ [])
+both_read_own = record { plays = two_play reading_own fed_of three_word (λ n p u. refl) true true _ _ (refl, (refl, (refl, (refl, (refl, (refl, (refl, tt))))))) refl; refused = adopts_refused one_after_another }
+
+-- ── two processes that take turns ──
+pub turns_adopt : PlaysThreeWords op_of fed_of three_word (false ∷ true ∷ []) taking_turns (Some (Adopt false) ∷ Some (Adopt true) ∷ [])
+turns_adopt = two_play op_of fed_of three_word (λ n p u. refl) false true _ _ (refl, (refl, (refl, (refl, (refl, (refl, (refl, (refl, (refl, (refl, (refl, (refl, tt)))))))))))) refl
+
+pub turns_commit : PlaysIncoherently op_of committing_in_spite three_word (false ∷ true ∷ []) taking_turns (Some (Commit false) ∷ Some (Commit true) ∷ [])
+turns_commit = record { plays = two_play op_of committing_in_spite three_word (λ n p u. refl) false true _ _ (refl, (refl, (refl, (refl, (refl, (refl, (refl, (refl, (refl, (refl, (refl, (refl, tt)))))))))))) refl; refused = two_commits_refused }

@@ -8,10 +8,15 @@ ghost use Rattle.bus_adoptcommit.specs.Agreement.{IsValid, IsConvergent, IsCoher
 ghost use Rattle.bus_adoptcommit.specs.Plays.{IsPlay};
 ghost use Rattle.bus_adoptcommit.specs.Schedule.{entered, table_of};
 ghost use Rattle.bus_adoptcommit.specs.Refused.{of_two, taking_turns};
-ghost use Rattle.bus_adoptcommit.specs.Refused.{PlaysInTurn, keeping_own, adopting};
-ghost use Rattle.bus_adoptcommit.specs.ThreeWord.{fed_of as three_word_fed};
+ghost use Rattle.bus_adoptcommit.specs.Refused.{one_after_another, RefusesNames};
+ghost use Rattle.bus_adoptcommit.specs.Refused.{PlaysThreeWords, PlaysIncoherently};
+ghost use Rattle.bus_adoptcommit.specs.Refused.{PlaysUnconverged, keeping_own, adopting};
+ghost use Rattle.bus_adoptcommit.specs.Refused.{proposing_nothing, committing_in_spite};
+ghost use Rattle.bus_adoptcommit.specs.Refused.{reading_own};
+ghost use Rattle.bus_adoptcommit.specs.ThreeWord.{op_of, fed_of};
 ghost use Rattle.bus_adoptcommit.specs.ThreeWordKeeps.{three_word};
-ghost use Rattle.bus_adoptcommit.specs.TwoCollect.{op_of, fed_of};
+ghost use Rattle.bus_adoptcommit.specs.TwoCollect.{op_of as two_collect_op};
+ghost use Rattle.bus_adoptcommit.specs.TwoCollect.{fed_of as two_collect_fed};
 ghost use Rattle.bus_adoptcommit.specs.TwoCollectKeeps.{two_collect};
 
 use super::ratifiers::Ratifier;
@@ -44,21 +49,36 @@ pub fn plays_are_legal<Q: Ratifier>()
 /// by both is legal, and not what the words give.
 pub fn plays_are_more_than_legal()
     ensures legal { Legal (of_two false true) (of_two (Commit false) (Commit false)) }
-    ensures refused { ¬ IsPlay (λ s word. op_of s) (λ s got word. fed_of s got) two_collect
-        (false ∷ true ∷ []) taking_turns (Some (Commit false) ∷ Some (Commit false) ∷ []) }
+    ensures refused { ¬ IsPlay (λ s word. two_collect_op s) (λ s got word. two_collect_fed s got)
+        two_collect (false ∷ true ∷ []) taking_turns
+        (Some (Commit false) ∷ Some (Commit false) ∷ []) }
 {}
 
-/// Two processes over three words, the second after the first has ended: the first commits its
-/// input, and the second adopts it. A second process that goes on preferring its own input adopts
-/// that, which is not coherent. Where each process adopts in the end, both do so also where they
-/// have one input, which is not convergent.
+/// Two processes of different inputs over three words. Where the second comes after the first has
+/// ended, the first commits its input, and the second adopts it; where they take turns, each adopts
+/// its own. What wrong processes play is refused. Not coherent: a late process that goes on
+/// preferring its own input, a first one that proposes nothing, and two that take turns and commit
+/// in spite of the other value. Not convergent, of one input: processes that load their own word in
+/// place of the other one's, and processes that always adopt.
 pub fn three_words_refuse()
-    ensures plays { PlaysInTurn three_word_fed three_word (false ∷ true ∷ [])
+    ensures late { PlaysThreeWords op_of fed_of three_word (false ∷ true ∷ []) one_after_another
         (Some (Commit false) ∷ Some (Adopt false) ∷ []) }
-    ensures own_value { PlaysInTurn keeping_own three_word (false ∷ true ∷ [])
-        (Some (Commit false) ∷ Some (Adopt true) ∷ []) }
-    ensures incoherent { ¬ IsCoherent (of_two (Commit false) (Adopt true)) }
-    ensures no_commit { PlaysInTurn three_word_fed adopting (true ∷ true ∷ [])
-        (Some (Adopt true) ∷ Some (Adopt true) ∷ []) }
-    ensures unconverged { ¬ IsConvergent (of_two true true) (of_two (Adopt true) (Adopt true)) }
+    ensures in_turn { PlaysThreeWords op_of fed_of three_word (false ∷ true ∷ []) taking_turns
+        (Some (Adopt false) ∷ Some (Adopt true) ∷ []) }
+    ensures own_value { PlaysIncoherently op_of keeping_own three_word (false ∷ true ∷ [])
+        one_after_another (Some (Commit false) ∷ Some (Adopt true) ∷ []) }
+    ensures unproposed { PlaysIncoherently op_of proposing_nothing three_word (false ∷ true ∷ [])
+        one_after_another (Some (Commit false) ∷ Some (Adopt true) ∷ []) }
+    ensures in_spite { PlaysIncoherently op_of committing_in_spite three_word (false ∷ true ∷ [])
+        taking_turns (Some (Commit false) ∷ Some (Commit true) ∷ []) }
+    ensures own_word { PlaysUnconverged reading_own fed_of three_word (true ∷ true ∷ [])
+        one_after_another (Some (Adopt true) ∷ Some (Adopt true) ∷ []) }
+    ensures no_commit { PlaysUnconverged op_of fed_of adopting (true ∷ true ∷ [])
+        one_after_another (Some (Adopt true) ∷ Some (Adopt true) ∷ []) }
+{}
+
+/// No step of a ratifier is named as a read and adds, exchanges or stores, or as a store and loads;
+/// and only its first step stores a proposal.
+pub fn names_refuse()
+    ensures { RefusesNames }
 {}

@@ -1,0 +1,14 @@
+-- Names that no step of a ratifier has.
+use Rattle.std.proofs.Common.{inl, inr, refl}
+use Rattle.std.proofs.lemmas.Bool.{true≢false}
+use Rattle.bus_adoptcommit.specs.Refused.{RefusesNames}
+
+pub refuses_names : RefusesNames
+refuses_names = record {
+  added = λ at x begun h. let e = (h.reading (inl refl)).1 in absurd cc;
+  exchanged = λ at x y begun h. let e = (h.reading (inr refl)).1 in absurd cc;
+  stored = λ at x begun h. let e = (h.reading (inr refl)).1 in absurd cc;
+  loaded = λ at begun h. let e = (h.storing (inr refl)).2 in absurd cc;
+  proposed_late = λ o h. true≢false (h.proposes refl);
+  read_first = λ o h. let e = h.first refl in absurd cc;
+}
