@@ -5,7 +5,6 @@ use Rattle.std.proofs.lemmas.Option.{same_Some}
 use Rattle.bus_register.specs.declared.kinds.Kind.{Kind}
 use Rattle.bus_register.specs.declared.kinds.Kind.TheVariants as kind
 use Rattle.bus_register.specs.declared.registers.Op.{Op}
-use Rattle.bus_register.specs.declared.registers.Op.TheVariants.{Load}
 use Rattle.bus_register.specs.Words.{register, SumFits}
 use Rattle.bus_register.specs.Protocol.{Goes, IsStore}
 use Rattle.bus_register.proofs.DigitLaws.{digit_le}
@@ -95,9 +94,6 @@ pub own_kinds : (s : Local) (k : Kind) → kind_at s.progress ≡ Some k → IsO
 own_kinds s k e = own_kinds_at s.progress k e
 
 -- a step is named for what it does
-no_store : (r : ℕ) (o : Op) → Load record { 0 = r } ≡ o → IsStore o → ⊥
-no_store r o e w = let z = e ∙ w.2 in cc
-
 not_storing : (k : Kind) → (k ≡ kind.ReadProposal) ⊎ (k ≡ kind.ReadVerdict) → IsStoring k → ⊥
 not_storing k (inl e) (inl w) = let z = sym e ∙ w in cc
 not_storing k (inl e) (inr w) = let z = sym e ∙ w in cc
@@ -114,13 +110,13 @@ named_for_at Bring s k o e q =
     record { stores = λ w. inl (sym is); storing = λ w. (_, _, sym (same_Some _ _ q)); reading = λ w. absurd (not_reading k (inl (sym is)) w); proposes = λ w. refl; first = λ w. sym is }
 named_for_at ReadProposal s k o e q =
     let is = same_Some _ _ e in
-    record { stores = λ w. absurd (no_store _ o (same_Some _ _ q) w); storing = λ w. absurd (not_storing k (inl (sym is)) w); reading = λ w. (_, sym (same_Some _ _ q)); proposes = λ w. absurd (let z = is ∙ w in cc); first = λ w. absurd (true≢false w) }
+    record { stores = λ w. absurd (let z = same_Some _ _ q ∙ w.2 in cc); storing = λ w. absurd (not_storing k (inl (sym is)) w); reading = λ w. (_, sym (same_Some _ _ q)); proposes = λ w. absurd (let z = is ∙ w in cc); first = λ w. absurd (true≢false w) }
 named_for_at Propose s k o e q =
     let is = same_Some _ _ e in
     record { stores = λ w. inr (sym is); storing = λ w. (_, _, sym (same_Some _ _ q)); reading = λ w. absurd (not_reading k (inr (sym is)) w); proposes = λ w. absurd (let z = is ∙ w in cc); first = λ w. absurd (true≢false w) }
 named_for_at ReadOther s k o e q =
     let is = same_Some _ _ e in
-    record { stores = λ w. absurd (no_store _ o (same_Some _ _ q) w); storing = λ w. absurd (not_storing k (inr (sym is)) w); reading = λ w. (_, sym (same_Some _ _ q)); proposes = λ w. absurd (let z = is ∙ w in cc); first = λ w. absurd (true≢false w) }
+    record { stores = λ w. absurd (let z = same_Some _ _ q ∙ w.2 in cc); storing = λ w. absurd (not_storing k (inr (sym is)) w); reading = λ w. (_, sym (same_Some _ _ q)); proposes = λ w. absurd (let z = is ∙ w in cc); first = λ w. absurd (true≢false w) }
 named_for_at Ended s k o e q = absurd cc
 
 pub named_for : (s : Local) (k : Kind) (word : ℕ) (o : Op) → kind_at s.progress ≡ Some k → op_of s ≡ Some o → IsNamedFor k o (three_word.has_begun s)

@@ -5,7 +5,6 @@ use mathlib.Core.Path.{fun_ext}
 use Rattle.std.proofs.lemmas.Option.{same_Some}
 use Rattle.bus_register.specs.declared.kinds.Kind.{Kind}
 use Rattle.bus_register.specs.declared.kinds.Kind.TheVariants as kind
-use Rattle.bus_register.specs.declared.registers.Op.TheVariants.{Load}
 use Rattle.std.proofs.lemmas.Bool.{true≢false}
 use Rattle.std.proofs.lemmas.Bool.Decides.{nat_tests}
 use Rattle.bus_register.specs.declared.registers.Op.{Op}
@@ -43,9 +42,6 @@ pub own_kinds : (s : Local) (k : Kind) → kind_at s.phase ≡ Some k → IsOfRa
 own_kinds s k e = own_kinds_at s.phase k e
 
 -- a step is named for what it does
-no_store : (r x : ℕ) (o : Op) → Load record { 0 = r } ≡ o → IsStore o → ⊥
-no_store r x o e w = let z = e ∙ w.2 in cc
-
 not_storing : (k : Kind) → (k ≡ kind.ReadProposal) ⊎ (k ≡ kind.ReadVerdict) → IsStoring k → ⊥
 not_storing k (inl e) (inl w) = let z = sym e ∙ w in cc
 not_storing k (inl e) (inr w) = let z = sym e ∙ w in cc
@@ -68,13 +64,13 @@ named_for_at StoreProposal n s k o e q =
     record { stores = λ w. inl (sym is); storing = λ w. (_, _, sym (same_Some _ _ q)); reading = λ w. absurd (not_reading k (inl (sym is)) w); proposes = λ w. refl; first = λ w. sym is }
 named_for_at (ReadProposal of) n s k o e q =
     let is = same_Some _ _ e in let begun = begun_one (taken_at n (ReadProposal of)) (omega arith) in
-    record { stores = λ w. absurd (no_store _ 0 o (same_Some _ _ q) w); storing = λ w. absurd (not_storing k (inl (sym is)) w); reading = λ w. (_, sym (same_Some _ _ q)); proposes = λ w. absurd (let z = is ∙ w in cc); first = true_apart _ begun }
+    record { stores = λ w. absurd (let z = same_Some _ _ q ∙ w.2 in cc); storing = λ w. absurd (not_storing k (inl (sym is)) w); reading = λ w. (_, sym (same_Some _ _ q)); proposes = λ w. absurd (let z = is ∙ w in cc); first = true_apart _ begun }
 named_for_at StoreVerdict n s k o e q =
     let is = same_Some _ _ e in let begun = begun_one (taken_at n StoreVerdict) (omega arith) in
     record { stores = λ w. inr (sym is); storing = λ w. (_, _, sym (same_Some _ _ q)); reading = λ w. absurd (not_reading k (inr (sym is)) w); proposes = λ w. absurd (let z = is ∙ w in cc); first = true_apart _ begun }
 named_for_at (ReadVerdict of) n s k o e q =
     let is = same_Some _ _ e in let begun = begun_one (taken_at n (ReadVerdict of)) (omega arith) in
-    record { stores = λ w. absurd (no_store _ 0 o (same_Some _ _ q) w); storing = λ w. absurd (not_storing k (inr (sym is)) w); reading = λ w. (_, sym (same_Some _ _ q)); proposes = λ w. absurd (let z = is ∙ w in cc); first = true_apart _ begun }
+    record { stores = λ w. absurd (let z = same_Some _ _ q ∙ w.2 in cc); storing = λ w. absurd (not_storing k (inr (sym is)) w); reading = λ w. (_, sym (same_Some _ _ q)); proposes = λ w. absurd (let z = is ∙ w in cc); first = true_apart _ begun }
 named_for_at Ended n s k o e q = absurd cc
 
 pub named_for : (s : Local) (k : Kind) (word : ℕ) (o : Op) → kind_at s.phase ≡ Some k → op_of s ≡ Some o → IsNamedFor k o (two_collect.has_begun s)
