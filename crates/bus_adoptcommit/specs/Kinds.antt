@@ -1,5 +1,5 @@
 -- The kinds of step that a ratifier may take.
-use Rattle.std.specs.Prelude.{◌≡◌, ℕ, ◌⊎◌, Bool, false}
+use Rattle.std.specs.Prelude.{◌≡◌, ◌≢◌, ℕ, ◌⊎◌, Bool, false}
 use Rattle.bus_register.specs.declared.kinds.Kind.{Kind}
 use Rattle.bus_register.specs.declared.registers.Op.{Op}
 use Rattle.bus_register.specs.declared.registers.Op.TheVariants.{Load}
@@ -30,3 +30,10 @@ pub record IsNamedFor (k : Kind) (o : Op) (begun : Bool) : Type 0 where
   pub reading : IsReading k → IsLoad o
   pub proposes : k ≡ StoreProposal → begun ≡ false
   pub first : begun ≡ false → k ≡ StoreProposal
+
+-- the kind of the next step, `next`, comes after k: proposals are read once one is stored, a verdict is stored once proposals are read, and
+-- verdicts are read at the end
+pub record ComesAfter (k next : Kind) : Type 0 where
+  pub reads_proposals : next ≡ ReadProposal → (k ≡ StoreProposal) ⊎ (k ≡ ReadProposal)
+  pub stores_verdict : next ≡ StoreVerdict → k ≡ ReadProposal
+  pub reads_verdicts : next ≡ ReadVerdict → k ≢ StoreProposal

@@ -1,4 +1,5 @@
 -- What an impl gives as its laws: proofs, to be passed over.
+pub mod KindLaws
 pub mod ThreeWordLaws
 pub mod ThreeWordMoveLaws
 pub mod ThreeWordStepLaws

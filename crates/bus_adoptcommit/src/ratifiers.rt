@@ -8,7 +8,7 @@ ghost use Rattle.bus_register.specs.Protocol.{Protocol, Laws};
 ghost use Rattle.bus_register.specs.declared.limits.TheConstants.{MOST_PROCESSES};
 ghost use Rattle.bus_adoptcommit.specs.declared.verdicts.Verdict.{Verdict};
 ghost use Rattle.bus_adoptcommit.specs.Agreement.{Legal};
-ghost use Rattle.bus_adoptcommit.specs.Kinds.{IsOfRatifier, IsNamedFor};
+ghost use Rattle.bus_adoptcommit.specs.Kinds.{IsOfRatifier, IsNamedFor, ComesAfter};
 
 use super::verdicts::Verdict;
 use bus_register::limits::MOST_PROCESSES;
@@ -52,6 +52,11 @@ pub trait Ratifier: Machine {
     /// kind reads, and the first step of a process is the one that stores its proposal.
     ghost named_for: { (s : Self) (k : Kind) (word : ℕ) (o : Op) → Self.kind_of s ≡ Some k
         → Self.op s word ≡ Some o → IsNamedFor k o (protocol.has_begun s) };
+
+    /// Its kinds come in their order: after its proposal it reads proposals, then it may store a
+    /// verdict, and at the end it reads verdicts.
+    ghost in_order: { (s : Self) (got word : ℕ) (k next : Kind) → Self.kind_of s ≡ Some k
+        → Self.kind_of (Self.fed s got word) ≡ Some next → ComesAfter k next };
 
     /// It asks for no random word.
     ghost wordless: { (s : Self) → protocol.wants_word s ≡ false };

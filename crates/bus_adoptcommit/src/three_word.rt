@@ -7,6 +7,7 @@ ghost use Rattle.bus_adoptcommit.specs.ThreeWordKeeps.{three_word};
 ghost use Rattle.bus_adoptcommit.specs.Proved.ThreeWordLaws.{three_word_legal, wordless};
 ghost use Rattle.bus_adoptcommit.specs.Proved.ThreeWordLaws.{quick, narrow};
 ghost use Rattle.bus_adoptcommit.specs.Proved.ThreeWordStepLaws.{named_at, own_kinds, named_for};
+ghost use Rattle.bus_adoptcommit.specs.Proved.ThreeWordStepLaws.{in_order};
 
 use super::progress::Progress;
 use super::ratifiers::Ratifier;
@@ -130,6 +131,8 @@ impl Ratifier for ThreeWord {
     ghost own_kinds = { own_kinds };
 
     ghost named_for = { named_for };
+
+    ghost in_order = { in_order };
 
     ghost wordless = { wordless };
 

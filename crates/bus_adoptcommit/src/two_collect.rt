@@ -8,6 +8,7 @@ ghost use Rattle.bus_adoptcommit.specs.TwoCollect.{verdict_in, kind_at, op_of, f
 ghost use Rattle.bus_adoptcommit.specs.TwoCollectKeeps.{two_collect};
 ghost use Rattle.bus_adoptcommit.specs.Proved.TwoCollectLaws.{two_collect_legal, two_collect_exact};
 ghost use Rattle.bus_adoptcommit.specs.Proved.TwoCollectLaws.{named_at, own_kinds, named_for};
+ghost use Rattle.bus_adoptcommit.specs.Proved.TwoCollectLaws.{in_order};
 ghost use Rattle.bus_adoptcommit.specs.Proved.TwoCollectLaws.{wordless};
 ghost use Rattle.bus_adoptcommit.specs.Proved.TwoCollectLaws.{quick, narrow};
 
@@ -198,6 +199,8 @@ impl Ratifier for TwoCollect {
     ghost own_kinds = { own_kinds };
 
     ghost named_for = { named_for };
+
+    ghost in_order = { in_order };
 
     ghost wordless = { wordless };
 

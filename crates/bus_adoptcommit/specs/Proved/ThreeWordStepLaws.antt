@@ -1,5 +1,5 @@
 -- Each single step of three words.
-use Rattle.std.proofs.Common.{◌≡◌, ℕ, ◌+◌, ◌<◌, ◌≤◌, Bool, true, false, not, cond, Some, None, is_some, nat_lt, ◌==◌, ◌⊎◌, inl, inr, arith, refl, sym, ◌∙◌, ap, subst, IsSome}
+use Rattle.std.proofs.Common.{◌≡◌, ℕ, ◌+◌, ◌<◌, ◌≤◌, Bool, true, false, not, cond, Some, None, is_some, nat_lt, ◌==◌, inl, inr, arith, refl, sym, ◌∙◌, ap, subst, IsSome}
 use Rattle.std.proofs.lemmas.Bool.{lt-ltb, true≢false}
 use Rattle.std.proofs.lemmas.Option.{same_Some}
 use Rattle.bus_register.specs.declared.kinds.Kind.{Kind}
@@ -10,9 +10,10 @@ use Rattle.bus_register.specs.Protocol.{Goes, IsStore}
 use Rattle.bus_register.proofs.DigitLaws.{digit_le}
 use Rattle.bus_adoptcommit.specs.declared.progress.Progress.{Progress}
 use Rattle.bus_adoptcommit.specs.declared.progress.Progress.TheVariants.{Bring, ReadProposal, Propose, ReadOther, Ended}
-use Rattle.bus_adoptcommit.specs.Kinds.{IsOfRatifier, IsStoring, IsReading, IsNamedFor}
+use Rattle.bus_adoptcommit.specs.Kinds.{IsOfRatifier, IsNamedFor, ComesAfter}
 use Rattle.bus_adoptcommit.specs.ThreeWord.{Local, kind_at, op_at, op_of, fed_at, fed_of, behind, output_at}
 use Rattle.bus_adoptcommit.specs.ThreeWordKeeps.{Belongs, three_word}
+use Rattle.bus_adoptcommit.specs.Proved.KindLaws.{not_storing, not_reading, to_read_proposal, to_store_verdict, to_read_verdict}
 
 -- the step from s at this point to t
 pub record Advances (pr : Progress) (s t : Local) : Type 0 where
@@ -94,16 +95,6 @@ pub own_kinds : (s : Local) (k : Kind) → kind_at s.progress ≡ Some k → IsO
 own_kinds s k e = own_kinds_at s.progress k e
 
 -- a step is named for what it does
-not_storing : (k : Kind) → (k ≡ kind.ReadProposal) ⊎ (k ≡ kind.ReadVerdict) → IsStoring k → ⊥
-not_storing k (inl e) (inl w) = let z = sym e ∙ w in cc
-not_storing k (inl e) (inr w) = let z = sym e ∙ w in cc
-not_storing k (inr e) (inl w) = let z = sym e ∙ w in cc
-not_storing k (inr e) (inr w) = let z = sym e ∙ w in cc
-
-not_reading : (k : Kind) → IsStoring k → IsReading k → ⊥
-not_reading k w (inl e) = not_storing k (inl e) w
-not_reading k w (inr e) = not_storing k (inr e) w
-
 named_for_at : (pr : Progress) (s : Local) (k : Kind) (o : Op) → kind_at pr ≡ Some k → op_at pr s ≡ Some o → IsNamedFor k o (nat_lt 0 (behind pr))
 named_for_at Bring s k o e q =
     let is = same_Some _ _ e in
@@ -121,6 +112,21 @@ named_for_at Ended s k o e q = absurd cc
 
 pub named_for : (s : Local) (k : Kind) (word : ℕ) (o : Op) → kind_at s.progress ≡ Some k → op_of s ≡ Some o → IsNamedFor k o (three_word.has_begun s)
 named_for s k word o e q = named_for_at s.progress s k o e q
+
+-- its kinds come in their order
+in_order_found : (none : Bool) (s : Local) (v : Bool) (k next : Kind) → k ≡ kind.ReadProposal → kind_at (cond none (record s { progress = Propose }) (record s { preference = v; progress = ReadOther })).progress ≡ Some next → ComesAfter k next
+in_order_found true s v k next is e = to_store_verdict k next is (same_Some _ _ e)
+in_order_found false s v k next is e = to_read_verdict k next (λ w. let z = sym is ∙ w in cc) (same_Some _ _ e)
+
+in_order_at : (pr : Progress) (s : Local) (got : ℕ) (k next : Kind) → kind_at pr ≡ Some k → kind_at (fed_at pr s got).progress ≡ Some next → ComesAfter k next
+in_order_at Bring s got k next e f = to_read_proposal k next (inl (sym (same_Some _ _ e))) (same_Some _ _ f)
+in_order_at ReadProposal s got k next e f = in_order_found (got == 0) s (got == 2) k next (sym (same_Some _ _ e)) f
+in_order_at Propose s got k next e f = to_read_verdict k next (λ w. let z = same_Some _ _ e ∙ w in cc) (same_Some _ _ f)
+in_order_at ReadOther s got k next e f = absurd cc
+in_order_at Ended s got k next e f = absurd cc
+
+pub in_order : (s : Local) (got word : ℕ) (k next : Kind) → kind_at s.progress ≡ Some k → kind_at (fed_of s got).progress ≡ Some next → ComesAfter k next
+in_order s got word k next e f = in_order_at s.progress s got k next e f
 
 -- a store does not tell what it found
 pub blind_at : (pr : Progress) (s : Local) (got got' : ℕ) (o : Op) → op_at pr s ≡ Some o → IsStore o → fed_at pr s got ≡ fed_at pr s got'

@@ -1,5 +1,5 @@
 -- Two collects are an adopt-commit object, with coherence.
-use Rattle.std.proofs.Common.{◌≡◌, ℕ, ◌+◌, ◌<◌, ◌≤◌, Bool, true, false, nat_lt, ◌⊎◌, Some, is_some, inl, inr, arith, refl, sym, ◌∙◌, subst}
+use Rattle.std.proofs.Common.{◌≡◌, ◌≢◌, ℕ, ◌+◌, ◌<◌, ◌≤◌, Bool, true, false, cond, nat_lt, Some, is_some, inl, inr, arith, refl, sym, ◌∙◌, subst}
 use Rattle.bus_register.specs.declared.limits.TheConstants.{MOST_PROCESSES}
 use mathlib.Core.Path.{fun_ext}
 use Rattle.std.proofs.lemmas.Option.{same_Some}
@@ -13,10 +13,11 @@ use Rattle.bus_register.specs.Protocol.{Laws, IsStore}
 use Rattle.bus_adoptcommit.specs.declared.phases.Phase.{Phase}
 use Rattle.bus_adoptcommit.specs.declared.phases.Phase.TheVariants.{StoreProposal, ReadProposal, StoreVerdict, ReadVerdict, Ended}
 use Rattle.bus_adoptcommit.specs.Agreement.{Legal}
-use Rattle.bus_adoptcommit.specs.Kinds.{IsOfRatifier, IsStoring, IsReading, IsNamedFor}
+use Rattle.bus_adoptcommit.specs.Kinds.{IsOfRatifier, IsNamedFor, ComesAfter}
 use Rattle.bus_adoptcommit.specs.Plays.{IsExact}
 use Rattle.bus_adoptcommit.specs.TwoCollect.{Local, kind_at, op_at, op_of, fed_at, fed_of, taken_at}
 use Rattle.bus_adoptcommit.specs.TwoCollectKeeps.{Keeps, two_collect}
+use Rattle.bus_adoptcommit.specs.Proved.KindLaws.{not_storing, not_reading, to_read_proposal, to_store_verdict, to_read_verdict}
 use Rattle.bus_adoptcommit.specs.Proved.TwoCollectStepLaws.{goes_of, falls_of, ends_at, unended_at, none_left_at}
 use Rattle.bus_adoptcommit.specs.Proved.TwoCollectMoveLaws.{moves_keep}
 use Rattle.bus_adoptcommit.specs.Proved.TwoCollectStartLaws.{fresh_keep, enters_keep}
@@ -42,16 +43,6 @@ pub own_kinds : (s : Local) (k : Kind) → kind_at s.phase ≡ Some k → IsOfRa
 own_kinds s k e = own_kinds_at s.phase k e
 
 -- a step is named for what it does
-not_storing : (k : Kind) → (k ≡ kind.ReadProposal) ⊎ (k ≡ kind.ReadVerdict) → IsStoring k → ⊥
-not_storing k (inl e) (inl w) = let z = sym e ∙ w in cc
-not_storing k (inl e) (inr w) = let z = sym e ∙ w in cc
-not_storing k (inr e) (inl w) = let z = sym e ∙ w in cc
-not_storing k (inr e) (inr w) = let z = sym e ∙ w in cc
-
-not_reading : (k : Kind) → IsStoring k → IsReading k → ⊥
-not_reading k w (inl e) = not_storing k (inl e) w
-not_reading k w (inr e) = not_storing k (inr e) w
-
 begun_one : (m : ℕ) → 0 < m → nat_lt 0 m ≡ true
 begun_one m l = grind (arith, nat_tests)
 
@@ -75,6 +66,25 @@ named_for_at Ended n s k o e q = absurd cc
 
 pub named_for : (s : Local) (k : Kind) (word : ℕ) (o : Op) → kind_at s.phase ≡ Some k → op_of s ≡ Some o → IsNamedFor k o (two_collect.has_begun s)
 named_for s k word o e q = named_for_at s.phase s.n s k o e q
+
+-- its kinds come in their order
+after_read : (more : Bool) (of : ℕ) (k next : Kind) → k ≡ kind.ReadProposal → kind_at (cond more (ReadProposal (of + 1)) StoreVerdict) ≡ Some next → ComesAfter k next
+after_read true of k next is e = to_read_proposal k next (inr is) (same_Some _ _ e)
+after_read false of k next is e = to_store_verdict k next is (same_Some _ _ e)
+
+after_last : (more : Bool) (of : ℕ) (k next : Kind) → k ≢ kind.StoreProposal → kind_at (cond more (ReadVerdict (of + 1)) Ended) ≡ Some next → ComesAfter k next
+after_last true of k next ne e = to_read_verdict k next ne (same_Some _ _ e)
+after_last false of k next ne e = absurd cc
+
+in_order_at : (ph : Phase) (s : Local) (got : ℕ) (k next : Kind) → kind_at ph ≡ Some k → kind_at (fed_at ph s got).phase ≡ Some next → ComesAfter k next
+in_order_at StoreProposal s got k next e f = to_read_proposal k next (inl (sym (same_Some _ _ e))) (same_Some _ _ f)
+in_order_at (ReadProposal of) s got k next e f = after_read (nat_lt (of + 1) s.n) of k next (sym (same_Some _ _ e)) f
+in_order_at StoreVerdict s got k next e f = to_read_verdict k next (λ w. let z = same_Some _ _ e ∙ w in cc) (same_Some _ _ f)
+in_order_at (ReadVerdict of) s got k next e f = after_last (nat_lt (of + 1) s.n) of k next (λ w. let z = same_Some _ _ e ∙ w in cc) f
+in_order_at Ended s got k next e f = absurd cc
+
+pub in_order : (s : Local) (got word : ℕ) (k next : Kind) → kind_at s.phase ≡ Some k → kind_at (fed_of s got).phase ≡ Some next → ComesAfter k next
+in_order s got word k next e f = in_order_at s.phase s got k next e f
 
 -- it asks for no random word
 pub wordless : (s : Local) → two_collect.wants_word s ≡ false
