@@ -60,42 +60,42 @@ record Begun (n me at most : ℕ) (st : Stage) : Type 0 where
   begun : begun_at st ≡ true
   less : left_at st < most
 
-looks_if : (n me at : ℕ) (b : Bool) → me < n → n ≤ 64 → Begun n me at (1 + coin_steps) (cond b Alone (AskCoin (coin_started n me (at + 2))))
+looks_if : (n me at : ℕ) (b : Bool) → me < n → n ≤ 64 → Begun n me at (1 + coin_steps) (cond b Alone (AskCoin (coin_started n (at + 2))))
 looks_if n me at true below few = record { belongs = tt; begun = refl; less = omega arith }
 looks_if n me at false below few = let c = coin_laws.starts n me (at + 2) tt below few in record { belongs = c.belongs; begun = refl; less = let h = c.bounded in omega arith }
 
-goes_on : (s : ConciliatorState) (st : Stage) (o : Op) → s.me < s.n → s.n ≤ 64 → s.at ≤ register o → register o < s.at + 3 → Begun s.n s.me s.at (left_at s.stage) st → Goes conciliator_protocol s.n s.me s.at o s (record s { stage = st })
-goes_on s st o below few above under b = record {
+goes_on : (me : ℕ) (s : ConciliatorState) (st : Stage) (o : Op) → me < s.n → s.n ≤ 64 → s.at ≤ register o → register o < s.at + 3 → Begun s.n me s.at (left_at s.stage) st → Goes conciliator_protocol s.n me s.at o s (record s { stage = st })
+goes_on me s st o below few above under b = record {
   above = above;
   below = under;
-  belongs = record { n_is = refl; me_is = refl; at_is = refl; below = below; few = few; stage = b.belongs };
+  belongs = record { n_is = refl; at_is = refl; below = below; few = few; stage = b.belongs };
   input = refl;
   begun = b.begun;
   falls = b.less;
 }
 
-goes_at : (st : Stage) (s : ConciliatorState) (got word : ℕ) (o : Op) → s.stage ≡ st → s.me < s.n → s.n ≤ 64 → StageBelongs s.n s.me s.at st → op_at st s word ≡ Some o → Goes conciliator_protocol s.n s.me s.at o s (record s { stage = stage_after st s got word })
-goes_at SetMark s got word o e below few b q =
+goes_at : (st : Stage) (me : ℕ) (s : ConciliatorState) (got word : ℕ) (o : Op) → s.stage ≡ st → me < s.n → s.n ≤ 64 → StageBelongs s.n me s.at st → op_at st s word ≡ Some o → Goes conciliator_protocol s.n me s.at o s (record s { stage = stage_after st s got word })
+goes_at SetMark me s got word o e below few b q =
     let place : register o ≡ s.at + digit s.input = ap register (sym (same_Some _ _ q)) in
     let small = digit_le s.input in
-    goes_on s ReadOtherMark o below few (omega arith) (omega arith) record { belongs = tt; begun = refl; less = subst (λ z. 1 + coin_steps < left_at z) (sym e) (omega arith) }
-goes_at ReadOtherMark s got word o e below few b q =
+    goes_on me s ReadOtherMark o below few (omega arith) (omega arith) record { belongs = tt; begun = refl; less = subst (λ z. 1 + coin_steps < left_at z) (sym e) (omega arith) }
+goes_at ReadOtherMark me s got word o e below few b q =
     let place : register o ≡ s.at + digit (not s.input) = ap register (sym (same_Some _ _ q)) in
     let small = digit_le (not s.input) in
-    goes_on s _ o below few (omega arith) (omega arith) (subst (λ z. Begun s.n s.me s.at (left_at z) (stage_after ReadOtherMark s got word)) (sym e) (looks_if s.n s.me s.at (got == 0) below few))
-goes_at Alone s got word o e below few b q = absurd cc
-goes_at (AskCoin c) s got word o e below few b q =
-    let g = coin_laws.goes s.n s.me (s.at + 2) c got word o b q in
-    goes_on s (AskCoin (coin_fed c got word)) o below few (let h = g.above in omega arith) (let h = g.below in omega arith)
-    (subst (λ z. Begun s.n s.me s.at (left_at z) (AskCoin (coin_fed c got word))) (sym e) record { belongs = g.belongs; begun = refl; less = g.falls })
+    goes_on me s _ o below few (omega arith) (omega arith) (subst (λ z. Begun s.n me s.at (left_at z) (stage_after ReadOtherMark s got word)) (sym e) (looks_if s.n me s.at (got == 0) below few))
+goes_at Alone me s got word o e below few b q = absurd cc
+goes_at (AskCoin c) me s got word o e below few b q =
+    let g = coin_laws.goes s.n me (s.at + 2) c got word o b q in
+    goes_on me s (AskCoin (coin_fed c got word)) o below few (let h = g.above in omega arith) (let h = g.below in omega arith)
+    (subst (λ z. Begun s.n me s.at (left_at z) (AskCoin (coin_fed c got word))) (sym e) record { belongs = g.belongs; begun = refl; less = g.falls })
 
 pub goes_of : (n me at : ℕ) (s : ConciliatorState) (got word : ℕ) (o : Op) → Belongs n me at s → conciliator_op s word ≡ Some o → Goes conciliator_protocol n me at o s (conciliator_fed s got word)
 goes_of n me at s got word o b q =
-    let stage = subst (λ z. StageBelongs z s.me s.at s.stage) (sym b.n_is) (subst (λ z. StageBelongs n z s.at s.stage) (sym b.me_is) (subst (λ z. StageBelongs n me z s.stage) (sym b.at_is) b.stage)) in
-    let below : s.me < s.n = let x = b.n_is in let y = b.me_is in let z = b.below in omega arith in
+    let stage = subst (λ z. StageBelongs z me s.at s.stage) (sym b.n_is) (subst (λ z. StageBelongs n me z s.stage) (sym b.at_is) b.stage) in
+    let below : me < s.n = let x = b.n_is in let z = b.below in omega arith in
     let few : s.n ≤ 64 = let x = b.n_is in let z = b.few in omega arith in
-    subst (λ z. Goes conciliator_protocol z me at o s (conciliator_fed s got word)) b.n_is (subst (λ z. Goes conciliator_protocol s.n z at o s (conciliator_fed s got word)) b.me_is (subst (λ z. Goes conciliator_protocol s.n s.me z o s (conciliator_fed s got word)) b.at_is
-    (goes_at s.stage s got word o refl below few stage q)))
+    subst (λ z. Goes conciliator_protocol z me at o s (conciliator_fed s got word)) b.n_is (subst (λ z. Goes conciliator_protocol s.n me z o s (conciliator_fed s got word)) b.at_is
+    (goes_at s.stage me s got word o refl below few stage q))
 
 -- ---- what follows
 

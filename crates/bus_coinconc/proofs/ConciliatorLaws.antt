@@ -14,8 +14,8 @@ use Rattle.bus_coinconc.specs.ConciliatorProtocol.{Belongs, coin_at, coins, coun
 use Rattle.bus_coinconc.proofs.ConciliatorGoes.{ends_at, unended_at, unmoved_at, blind_at, fits_at, goes_of, keeps_conciles}
 use Rattle.bus_coinconc.proofs.ConciliatorMoves.{saw_stays, moves_keep}
 
-started_belongs : (n me at : ℕ) (v : Bool) → me < n → n ≤ 64 → Belongs n me at (conciliator_started n me v at)
-started_belongs n me at v below few = record { n_is = refl; me_is = refl; at_is = refl; below = below; few = few; stage = tt }
+started_belongs : (n me at : ℕ) (v : Bool) → me < n → n ≤ 64 → Belongs n me at (conciliator_started n v at)
+started_belongs n me at v below few = record { n_is = refl; at_is = refl; below = below; few = few; stage = tt }
 
 fresh_keep : (n at : ℕ) (words : ℕ → ℕ) → Agree at 3 (λ _. 0) words → Keeps n at words (λ _. None)
 fresh_keep n at words zero = record {
@@ -39,7 +39,7 @@ module _ (n at : ℕ) (words words' : ℕ → ℕ) (old new : ℕ → Option Con
     coin = coin_laws.frame n (at + 2) words words' (coins old) (coins new) k.coin (λ r a b. agree r (omega arith) (omega arith)) (λ q. ap (of_some (λ s. coin_at s.stage)) (same q));
   }
 
-module _ (n at : ℕ) (words : ℕ → ℕ) (old new : ℕ → Option ConciliatorState) (p : ℕ) (v : Bool) (k : Keeps n at words old) (below : p < n) (few : n ≤ 64) (none : old p ≡ None) (start : new p ≡ Some (conciliator_started n p v at)) (beside : Beside p old new) where
+module _ (n at : ℕ) (words : ℕ → ℕ) (old new : ℕ → Option ConciliatorState) (p : ℕ) (v : Bool) (k : Keeps n at words old) (below : p < n) (few : n ≤ 64) (none : old p ≡ None) (start : new p ≡ Some (conciliator_started n v at)) (beside : Beside p old new) where
   -- whoever is not there counts as little as one that has not begun
   marked_same : (q : ℕ) → marked new q ≡ marked old q
   marked_same q = elim (cases_eq q p) [

@@ -140,11 +140,11 @@ module _ (n at : ℕ) (words words' : ℕ → ℕ) (old new : ℕ → Option Con
       let marks = marks_stay (ap begun_at e) (λ v. same (at + digit v) (omega arith) (let l = digit_le v in omega arith)) in
       elim (eqb_tells (words (register o)) 0) [
         | inl zero ↦
-            let alone : stage_after s.stage s (words (register o)) word ≡ Alone = to ∙ ap (λ z. cond z Alone (AskCoin (coin_started s.n s.me (s.at + 2)))) zero.0 in
+            let alone : stage_after s.stage s (words (register o)) word ≡ Alone = to ∙ ap (λ z. cond z Alone (AskCoin (coin_started s.n (s.at + 2)))) zero.0 in
             whole marks (subst (λ z. StageSaw (marked new) z s.input) (sym alone) tt) (coin_stays (ap coin_at e) (ap coin_at alone) (λ r a b. same r (omega arith) (omega arith)))
         | inr some ↦
-            let asks : stage_after s.stage s (words (register o)) word ≡ AskCoin (coin_started s.n s.me (s.at + 2)) = to ∙ ap (λ z. cond z Alone (AskCoin (coin_started s.n s.me (s.at + 2)))) some.0 in
-            let begins : coin_started s.n s.me (s.at + 2) ≡ coin_started n p (at + 2) = ap (λ z. coin_started z s.me (s.at + 2)) mine.n_is ∙ ap (λ z. coin_started n z (s.at + 2)) mine.me_is ∙ ap (λ z. coin_started n p (z + 2)) mine.at_is in
+            let asks : stage_after s.stage s (words (register o)) word ≡ AskCoin (coin_started s.n (s.at + 2)) = to ∙ ap (λ z. cond z Alone (AskCoin (coin_started s.n (s.at + 2)))) some.0 in
+            let begins : coin_started s.n (s.at + 2) ≡ coin_started n (at + 2) = ap (λ z. coin_started z (s.at + 2)) mine.n_is ∙ ap (λ z. coin_started n (z + 2)) mine.at_is in
             whole marks
             (subst (λ z. StageSaw (marked new) z s.input) (sym asks) (elim (k.unset (not s.input)) [ inl z ↦ absurd (some.1 (ap words place ∙ z)) | inr i ↦ input_stays (not s.input) i ]))
             (coin_laws.enters n (at + 2) words' (coins old) (coins new) p tt

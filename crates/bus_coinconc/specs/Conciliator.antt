@@ -1,5 +1,5 @@
 -- A conciliator of two marks and a coin: a process sets the mark of its input and loads the other mark; where that is set, it asks the coin.
-use Rattle.std.specs.Prelude.{ℕ, ◌+◌, ◌<◌, ◌≤◌, ◌^◌, Bool, false, not, Option, Some, None, ◌==◌, if◌then◌else◌}
+use Rattle.std.specs.Prelude.{ℕ, ◌+◌, ◌≤◌, ◌^◌, Bool, false, not, Option, Some, None, ◌==◌, if◌then◌else◌}
 use Rattle.bus_register.specs.declared.limits.TheConstants.{MOST_PROCESSES}
 use Rattle.bus_register.specs.declared.kinds.Kind.{Kind}
 use Rattle.bus_register.specs.declared.kinds.Kind.TheVariants as kind
@@ -14,19 +14,17 @@ use Rattle.bus_coinconc.specs.declared.conciliators.Stage.TheVariants.{SetMark, 
 -- what one process holds
 pub record ConciliatorState : Type 0 where
   pub n : ℕ
-  pub me : ℕ
   pub at : ℕ
   pub input : Bool
   pub stage : Stage
 
--- the number is that of a process, and each word has a place
-pub record Sized (n me at : ℕ) : Type 0 where
-  pub below : me < n
+-- the processes are few, and each word has a place
+pub record Sized (n at : ℕ) : Type 0 where
   pub few : n ≤ MOST_PROCESSES
   pub room : at + 3 ≤ 2 ^ 64
 
-abbrev pub conciliator_started : ℕ → ℕ → Bool → ℕ → ConciliatorState
-conciliator_started n me input at = record { n = n; me = me; at = at; input = input; stage = SetMark }
+abbrev pub conciliator_started : ℕ → Bool → ℕ → ConciliatorState
+conciliator_started n input at = record { n = n; at = at; input = input; stage = SetMark }
 
 abbrev pub output_at : Stage → Bool → Option Bool
 output_at SetMark input = None
@@ -69,7 +67,7 @@ conciliator_op s word = op_at s.stage s word
 
 abbrev pub stage_after : Stage → ConciliatorState → ℕ → ℕ → Stage
 stage_after SetMark s got word = ReadOtherMark
-stage_after ReadOtherMark s got word = if got == 0 then Alone else AskCoin (coin_started s.n s.me (s.at + 2))
+stage_after ReadOtherMark s got word = if got == 0 then Alone else AskCoin (coin_started s.n (s.at + 2))
 stage_after Alone s got word = Alone
 stage_after (AskCoin c) s got word = AskCoin (coin_fed c got word)
 

@@ -36,10 +36,9 @@ StageBelongs n me at ReadOtherMark = Unit {0}
 StageBelongs n me at Alone = Unit {0}
 StageBelongs n me at (AskCoin c) = coin_protocol.Belongs n me (at + 2) c
 
--- s is a local state of process me of n, over the words from at on
+-- s is a local state of process me of n, over the words from at on: its number makes no difference
 pub record Belongs (n me at : ℕ) (s : ConciliatorState) : Type 0 where
   pub n_is : s.n ≡ n
-  pub me_is : s.me ≡ me
   pub at_is : s.at ≡ at
   pub below : me < n
   pub few : n ≤ MOST_PROCESSES
@@ -81,7 +80,7 @@ abbrev pub conciliator_protocol : Protocol ConciliatorState Bool Bool
 conciliator_protocol = record {
   width = λ n. 3;
   steps = λ n. 2 + coin_steps;
-  started = conciliator_started;
+  started = λ n me input at. conciliator_started n input at;
   input = λ s. s.input;
   has_begun = λ s. begun_at s.stage;
   output = output_of;

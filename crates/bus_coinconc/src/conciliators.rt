@@ -1,6 +1,6 @@
 //! One process in one conciliator.
 
-ghost use Rattle.std.specs.Prelude.{◌≡◌, ℕ, ◌+◌, ◌<◌, ◌≤◌, ◌^◌};
+ghost use Rattle.std.specs.Prelude.{◌≡◌, ℕ, ◌+◌, ◌≤◌, ◌^◌};
 ghost use Rattle.bus_register.specs.Digits.{digit as digit_of};
 ghost use Rattle.bus_coinconc.specs.Conciliator.{conciliator_started, output_of, wants_of};
 
@@ -27,7 +27,6 @@ pub enum Stage {
 #[derive(Drop)]
 pub struct Conciliator {
     n: u64,
-    me: SenderNo,
     at: Reg,
     input: bool,
     stage: Stage,
@@ -40,13 +39,12 @@ impl Model for Conciliator {
 
     ghost view = { λ c. record {
       n = c.n;
-      me = c.me.0;
       at = c.at.0;
       input = c.input;
       stage = c.stage;
     } };
 
-    ghost invariant = { λ c. Sized c.n c.me.0 c.at.0 };
+    ghost invariant = { λ c. Sized c.n c.at.0 };
 }
 
 /// 1 for true.
@@ -57,17 +55,15 @@ fn digit(value: bool) -> u64
 }
 
 impl Conciliator {
-    /// Process `me` of `n` with its input, over the words from `at` on, which are zero before the
-    /// first step.
-    pub fn start(n: u64, me: SenderNo, input: bool, at: Reg) -> Conciliator
-        requires me_below { me.0 < n }
+    /// A process of `n` with its input, over the words from `at` on, which are zero before the
+    /// first step. Its number makes no difference.
+    pub fn start(n: u64, _me: SenderNo, input: bool, at: Reg) -> Conciliator
         requires few { n ≤ MOST_PROCESSES }
         requires room { at.0 + 3 ≤ 2 ^ 64 }
-        ensures { result ≡ conciliator_started n me.0 input at.0 }
+        ensures { result ≡ conciliator_started n input at.0 }
     {
         Conciliator {
             n,
-            me,
             at,
             input,
             stage: Stage::SetMark,
@@ -141,7 +137,7 @@ impl Machine for Conciliator {
                 self.stage = if got == 0 {
                     Stage::Alone
                 } else {
-                    Stage::AskCoin(WalkCoin::start(self.n, self.me, Reg(self.at.0 + 2)))
+                    Stage::AskCoin(WalkCoin::start(self.n, Reg(self.at.0 + 2)))
                 };
             }
             Stage::Alone => {}

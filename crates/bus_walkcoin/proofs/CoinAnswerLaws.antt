@@ -122,8 +122,8 @@ record Stands (n at : ℕ) (trail : List Entry) (s : CoinState) : Type 0 where
   own : s.own ≡ counted (votes at trail)
   phase : StandsAt n at trail s.phase
 
-starts_stand : (n me at : ℕ) → Stands n at [] (coin_started n me at)
-starts_stand n me at = record { n_is = refl; at_is = refl; own = refl; phase = (refl, refl) }
+starts_stand : (n at : ℕ) → Stands n at [] (coin_started n at)
+starts_stand n at = record { n_is = refl; at_is = refl; own = refl; phase = (refl, refl) }
 
 or_true : (b : Bool) → (b || true) ≡ true
 or_true true = refl
@@ -195,14 +195,14 @@ goes_at Vote n at trail s word h = ((λ next. h.1), (λ none. refl))
 goes_at ReadVotes n at trail s word h = ((λ next. sym (answer_stands ReadVotes n at trail h).0), (λ none. refl))
 goes_at (Answered answer) n at trail s word h = ((λ next. absurd cc), (λ none. absurd (let e = sym h ∙ none in cc e)))
 
-pub coin_answers : (n me at : ℕ) (trail : List Entry) (s : CoinState) → Took coin_op coin_fed (coin_started n me at) trail s → CoinAnswer n at trail s
-coin_answers n me at trail s took =
-    let h = took_stands n at trail [] (coin_started n me at) s (starts_stand n me at) took in
+pub coin_answers : (n at : ℕ) (trail : List Entry) (s : CoinState) → Took coin_op coin_fed (coin_started n at) trail s → CoinAnswer n at trail s
+coin_answers n at trail s took =
+    let h = took_stands n at trail [] (coin_started n at) s (starts_stand n at) took in
     let a = answer_stands s.phase n at trail h.phase in
     record { votes = h.own; answer = a.0; wants = a.1 }
 
-pub coin_goes_on : (n me at word : ℕ) (trail : List Entry) (s : CoinState) → Took coin_op coin_fed (coin_started n me at) trail s → IsSome (coin_op s word) ↔ (coin_answer n at trail ≡ None)
-coin_goes_on n me at word trail s took = goes_at s.phase n at trail s word (took_stands n at trail [] (coin_started n me at) s (starts_stand n me at) took).phase
+pub coin_goes_on : (n at word : ℕ) (trail : List Entry) (s : CoinState) → Took coin_op coin_fed (coin_started n at) trail s → IsSome (coin_op s word) ↔ (coin_answer n at trail ≡ None)
+coin_goes_on n at word trail s took = goes_at s.phase n at trail s word (took_stands n at trail [] (coin_started n at) s (starts_stand n at) took).phase
 
 -- ---- answers that the rule does not allow
 

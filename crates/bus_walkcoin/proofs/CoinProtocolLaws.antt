@@ -59,35 +59,35 @@ blind_at Vote s got got' word o e st = refl
 blind_at ReadVotes s got got' word o e st = absurd (let x = same_Some _ _ e ∙ st.2 in cc x)
 blind_at (Answered answer) s got got' word o e st = refl
 
-goes_at : (ph : Phase) (s : CoinState) (got word : ℕ) (o : Op) → s.phase ≡ ph → s.me < s.n → s.n ≤ 64 → votes_of s.own ≤ 64 → PhaseFits (votes_of s.own) ph → op_at ph s word ≡ Some o → Goes coin_protocol s.n s.me s.at o s (fed_at ph s got word)
-goes_at Vote s got word o e b few v f q =
+goes_at : (ph : Phase) (me : ℕ) (s : CoinState) (got word : ℕ) (o : Op) → s.phase ≡ ph → me < s.n → s.n ≤ 64 → votes_of s.own ≤ 64 → PhaseFits (votes_of s.own) ph → op_at ph s word ≡ Some o → Goes coin_protocol s.n me s.at o s (fed_at ph s got word)
+goes_at Vote me s got word o e b few v f q =
     let more = votes-voted s.own (is_head word) in
-    subst (λ z. Goes coin_protocol s.n s.me s.at z s (fed_at Vote s got word)) (same_Some _ _ q) record {
+    subst (λ z. Goes coin_protocol s.n me s.at z s (fed_at Vote s got word)) (same_Some _ _ q) record {
       above = omega arith;
       below = omega arith;
-      belongs = record { n_is = refl; me_is = refl; at_is = refl; below = b; few = few; votes = omega arith; fits = omega arith };
+      belongs = record { n_is = refl; at_is = refl; below = b; few = few; votes = omega arith; fits = omega arith };
       input = refl;
       begun = refl;
       falls = subst (λ z. left_at (votes_of (voted s.own (is_head word))) ReadVotes < left_at (votes_of s.own) z) (sym e) (omega arith);
     }
-goes_at ReadVotes s got word o e b few v f q =
-    subst (λ z. Goes coin_protocol s.n s.me s.at z s (fed_at ReadVotes s got word)) (same_Some _ _ q) record {
+goes_at ReadVotes me s got word o e b few v f q =
+    subst (λ z. Goes coin_protocol s.n me s.at z s (fed_at ReadVotes s got word)) (same_Some _ _ q) record {
       above = omega arith;
       below = omega arith;
-      belongs = record { n_is = refl; me_is = refl; at_is = refl; below = b; few = few; votes = v; fits = load_fits s.n (votes_of s.own) got f v };
+      belongs = record { n_is = refl; at_is = refl; below = b; few = few; votes = v; fits = load_fits s.n (votes_of s.own) got f v };
       input = refl;
       begun = settled_begun (votes_of s.own) (settled s.n (votes_of s.own) (total_of (tally_of got ∷ []))) f;
       falls = subst (λ z. left_at (votes_of s.own) (after_load s.n (votes_of s.own) got) < left_at (votes_of s.own) z) (sym e)
           (let most = settled_left (votes_of s.own) (settled s.n (votes_of s.own) (total_of (tally_of got ∷ []))) in omega arith);
     }
-goes_at (Answered answer) s got word o e b few v f q = absurd cc
+goes_at (Answered answer) me s got word o e b few v f q = absurd cc
 
 goes_of : (n me at : ℕ) (s : CoinState) (got word : ℕ) (o : Op) → Belongs n me at s → coin_op s word ≡ Some o → Goes coin_protocol n me at o s (coin_fed s got word)
 goes_of n me at s got word o b q =
-    let below : s.me < s.n = let x = b.n_is in let y = b.me_is in let z = b.below in omega arith in
+    let below : me < s.n = let x = b.n_is in let z = b.below in omega arith in
     let few : s.n ≤ 64 = let x = b.n_is in let z = b.few in omega arith in
-    subst (λ z. Goes coin_protocol z me at o s (coin_fed s got word)) b.n_is (subst (λ z. Goes coin_protocol s.n z at o s (coin_fed s got word)) b.me_is (subst (λ z. Goes coin_protocol s.n s.me z o s (coin_fed s got word)) b.at_is
-    (goes_at s.phase s got word o refl below few b.votes b.fits q)))
+    subst (λ z. Goes coin_protocol z me at o s (coin_fed s got word)) b.n_is (subst (λ z. Goes coin_protocol s.n me z o s (coin_fed s got word)) b.at_is
+    (goes_at s.phase me s got word o refl below few b.votes b.fits q))
 
 -- each step is on the counter, and adds to it the vote that it adds to the own ones, if any
 record Counts (s : CoinState) (o : Op) (t : CoinState) : Type 0 where
@@ -175,8 +175,8 @@ module _ (n at : ℕ) (words words' : ℕ → ℕ) (old new : ℕ → Option Coi
   pub moves_keep : Keeps n at words' new
   moves_keep = record { inside = inside; counter = counter }
 
-started_belongs : (n me at : ℕ) → me < n → n ≤ 64 → Belongs n me at (coin_started n me at)
-started_belongs n me at below few = record { n_is = refl; me_is = refl; at_is = refl; below = below; few = few; votes = omega arith; fits = omega arith }
+started_belongs : (n me at : ℕ) → me < n → n ≤ 64 → Belongs n me at (coin_started n at)
+started_belongs n me at below few = record { n_is = refl; at_is = refl; below = below; few = few; votes = omega arith; fits = omega arith }
 
 -- nobody has voted yet
 fresh_keep : (n at : ℕ) (words : ℕ → ℕ) → words at ≡ 0 → Keeps n at words (λ _. None)
@@ -188,7 +188,7 @@ fresh_keep n at words zero = record {
       omega arith;
 }
 
-enters_keep : (n at : ℕ) (words : ℕ → ℕ) (old new : ℕ → Option CoinState) (p : ℕ) → Keeps n at words old → p < n → n ≤ 64 → old p ≡ None → new p ≡ Some (coin_started n p at) → Beside p old new → Keeps n at words new
+enters_keep : (n at : ℕ) (words : ℕ → ℕ) (old new : ℕ → Option CoinState) (p : ℕ) → Keeps n at words old → p < n → n ≤ 64 → old p ≡ None → new p ≡ Some (coin_started n at) → Beside p old new → Keeps n at words new
 enters_keep n at words old new p k below few none start beside = record {
   inside = λ q u e. elim (cases_eq q p) [
     | inl i ↦ subst (λ z. (z < n) × Belongs n z at u) (sym i) (below, subst (Belongs n p at) (same_Some _ _ (sym start ∙ ap new (sym i) ∙ e)) (started_belongs n p at below few))

@@ -16,14 +16,13 @@ use Rattle.bus_walkcoin.specs.declared.coins.Phase.TheVariants.{Vote, ReadVotes,
 -- what one process holds
 pub record CoinState : Type 0 where
   pub n : ℕ
-  pub me : ℕ
   pub at : ℕ
   -- the own votes so far
   pub own : Tally
   pub phase : Phase
 
-abbrev pub coin_started : ℕ → ℕ → ℕ → CoinState
-coin_started n me at = record { n = n; me = me; at = at; own = record { heads = 0; tails = 0 }; phase = Vote }
+abbrev pub coin_started : ℕ → ℕ → CoinState
+coin_started n at = record { n = n; at = at; own = record { heads = 0; tails = 0 }; phase = Vote }
 
 abbrev pub answer_at : Phase → Option Bool
 answer_at Vote = None
@@ -84,8 +83,7 @@ PhaseFits votes ReadVotes = 0 < votes
 PhaseFits votes (Answered answer) = 0 < votes
 
 -- the numbers fit, so that no sum wraps
-pub record Sized (n me : ℕ) (own : Tally) (phase : Phase) : Type 0 where
-  pub below : me < n
+pub record Sized (n : ℕ) (own : Tally) (phase : Phase) : Type 0 where
   pub few : n ≤ MOST_PROCESSES
   pub votes : votes_of own ≤ MOST_VOTES
   pub fits : PhaseFits (votes_of own) phase

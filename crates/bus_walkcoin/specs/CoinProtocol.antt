@@ -25,10 +25,9 @@ begun_at votes Vote = nat_lt 0 votes
 begun_at votes ReadVotes = true
 begun_at votes (Answered answer) = true
 
--- s is a local state of process me of n, over the words from at on
+-- s is a local state of process me of n, over the words from at on: its number makes no difference
 pub record Belongs (n me at : ℕ) (s : CoinState) : Type 0 where
   pub n_is : s.n ≡ n
-  pub me_is : s.me ≡ me
   pub at_is : s.at ≡ at
   pub below : me < n
   pub few : n ≤ MOST_PROCESSES
@@ -53,7 +52,7 @@ abbrev pub coin_protocol : Protocol CoinState NoInput Bool
 coin_protocol = record {
   width = λ n. 1;
   steps = λ n. MOST_VOTES * 2;
-  started = λ n me input at. coin_started n me at;
+  started = λ n me input at. coin_started n at;
   input = λ s. tt;
   has_begun = λ s. begun_at (votes_of s.own) s.phase;
   output = answer_of;

@@ -1,11 +1,11 @@
 //! One process in one coin.
 
-ghost use Rattle.std.specs.Prelude.{◌≡◌, ℕ, ◌<◌, ◌≤◌};
+ghost use Rattle.std.specs.Prelude.{◌≡◌, ℕ, ◌≤◌};
 ghost use Rattle.bus_walkcoin.specs.CoinRule.{settled};
 ghost use Rattle.bus_walkcoin.specs.Coin.{after_settled, answer_of, wants_of, coin_started};
 
 use bus_register::limits::MOST_PROCESSES;
-use bus_register::{Kind, Machine, Op, Reg, SenderNo};
+use bus_register::{Kind, Machine, Op, Reg};
 use bus_votecount::tallies::MOST_VOTES;
 use bus_votecount::{Tally, total};
 use std::marker::Model;
@@ -26,7 +26,6 @@ pub enum Phase {
 #[derive(Drop)]
 pub struct WalkCoin {
     n: u64,
-    me: SenderNo,
     at: Reg,
     own: Tally,
     phase: Phase,
@@ -39,13 +38,12 @@ impl Model for WalkCoin {
 
     ghost view = { λ c. record {
       n = c.n;
-      me = c.me.0;
       at = c.at.0;
       own = c.own;
       phase = c.phase;
     } };
 
-    ghost invariant = { λ c. Sized c.n c.me.0 c.own c.phase };
+    ghost invariant = { λ c. Sized c.n c.own c.phase };
 }
 
 /// What the total says after so many own votes.
@@ -77,15 +75,13 @@ fn go_on(n: u64, votes: u32, lead: i64) -> Phase
 }
 
 impl WalkCoin {
-    /// Process `me` of `n`, over the word at `at`, which is zero before the first step.
-    pub fn start(n: u64, me: SenderNo, at: Reg) -> WalkCoin
-        requires me_below { me.0 < n }
-        requires few { n ≤ MOST_PROCESSES }
-        ensures { result ≡ coin_started n me.0 at.0 }
+    /// A process of `n`, over the word at `at`, which is zero before the first step.
+    pub fn start(n: u64, at: Reg) -> WalkCoin
+        requires { n ≤ MOST_PROCESSES }
+        ensures { result ≡ coin_started n at.0 }
     {
         WalkCoin {
             n,
-            me,
             at,
             own: Tally { heads: 0, tails: 0 },
             phase: Phase::Vote,

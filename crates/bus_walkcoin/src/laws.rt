@@ -18,15 +18,15 @@ pub fn coin_is_lawful()
 /// Whatever numbers a process is fed and whatever random words, its own votes and its answer are
 /// those that the definition reads off its steps.
 pub fn coin_answers_by_its_trail()
-    ensures { (n me at : ℕ) (trail : List Entry) (s : CoinState)
-        → Took coin_op coin_fed (coin_started n me at) trail s
+    ensures { (n at : ℕ) (trail : List Entry) (s : CoinState)
+        → Took coin_op coin_fed (coin_started n at) trail s
         → CoinAnswer n at trail s }
 {}
 
 /// A process has a next step exactly as long as the definition gives no answer.
 pub fn coin_goes_on_until_answered()
-    ensures { (n me at word : ℕ) (trail : List Entry) (s : CoinState)
-        → Took coin_op coin_fed (coin_started n me at) trail s
+    ensures { (n at word : ℕ) (trail : List Entry) (s : CoinState)
+        → Took coin_op coin_fed (coin_started n at) trail s
         → IsSome (coin_op s word) ↔ (coin_answer n at trail ≡ None) }
 {}
 

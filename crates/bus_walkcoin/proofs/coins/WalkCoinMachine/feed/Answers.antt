@@ -17,7 +17,6 @@ pub invariant_of-self-in-ReadVotes : goal.invariant_of-self-in-ReadVotes
 invariant_of-self-in-ReadVotes c =
     let b = subst (PhaseFits (votes_of c.self.inside.own)) c.in-ReadVotes.is c.self.invariant.fits in
     record {
-      below = c.self.invariant.below;
       few = c.self.invariant.few;
       votes = c.self.invariant.votes;
       fits = subst (PhaseFits (votes_of c.self.inside.own)) (sym (goes_on c)) (load_fits c.self.inside.n (votes_of c.self.inside.own) c.args.got b c.self.invariant.votes);
@@ -25,5 +24,5 @@ invariant_of-self-in-ReadVotes c =
 
 pub returns-in-ReadVotes : goal.returns-in-ReadVotes
 returns-in-ReadVotes c =
-    let held : Phase → CoinState = λ ph. record { n = c.self.inside.n; me = c.self.inside.me.0; at = c.self.inside.at.0; own = c.self.inside.own; phase = ph } in
+    let held : Phase → CoinState = λ ph. record { n = c.self.inside.n; at = c.self.inside.at.0; own = c.self.inside.own; phase = ph } in
     ap held (goes_on c) ∙ sym (ap (λ ph. fed_at ph (held ph) c.args.got c.args.word) c.in-ReadVotes.is) ∙ ap (λ s. coin_fed s c.args.got c.args.word) c.self.view_is
