@@ -1,5 +1,5 @@
 -- Messages and how they are numbered.
-use Rattle.std.specs.Prelude.{ℕ, ◌+◌, ◌<◌, ◌≤◌, ◌^◌, List, [], ◌∷◌, length, All}
+use Rattle.std.specs.Prelude.{ℕ, ◌+◌, ◌<◌, ◌≤◌, List, [], ◌∷◌, length, All}
 use Rattle.bus_register.specs.declared.limits.TheConstants.{MOST_BYTES, NUMBERS}
 
 -- a message is a list of at most 56 bytes

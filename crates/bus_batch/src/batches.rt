@@ -59,6 +59,8 @@ pub struct Batch {
     messages: ArrayVec<Message, MOST_MESSAGES>,
     phase: Phase,
     busy: bool,
+    /// At which of their words each of the messages begins.
+    starts: ArrayVec<u64, MOST_MESSAGES>,
     /// How many words the messages have.
     words: u64,
 }
@@ -68,7 +70,7 @@ impl Model for Batch {
     ghost use Rattle.bus_batch.specs.Messages.{numbered};
     ghost use Rattle.bus_batch.specs.Frames.{message_words};
     ghost use Rattle.bus_register.specs.declared.limits.TheConstants.{MOST_MESSAGE_WORDS};
-    ghost use Rattle.bus_batch.specs.Batches.{Pending, IsKept};
+    ghost use Rattle.bus_batch.specs.Batches.{Pending, IsKept, starts_from};
 
     ghost Value = { Pending };
 
@@ -87,6 +89,7 @@ impl Model for Batch {
       phase = b.phase;
       busy = b.busy;
     })
+        × (b.starts.items ≡ starts_from 0 b.messages.items)
         × (b.words ≡ length (flat_map message_words (numbered b.first b.messages.items)))
         × (b.words ≤ MOST_MESSAGE_WORDS * length b.messages.items) };
 }
@@ -113,6 +116,7 @@ impl Batch {
             messages: ArrayVec::new(),
             phase: Phase::Open,
             busy: false,
+            starts: ArrayVec::new(),
             words: 0,
         }
     }
@@ -190,6 +194,7 @@ impl Batch {
             return Err(PutFault::BatchFull);
         }
         let number = self.first + self.messages.len() as u64;
+        self.starts.push(self.words);
         self.words += words_of(&message);
         self.messages.push(message);
         Ok(number)
@@ -246,6 +251,7 @@ impl Batch {
     {
         self.first += self.messages.len() as u64;
         self.messages.clear();
+        self.starts.clear();
         self.words = 0;
         if self.phase == Phase::Closing {
             self.phase = Phase::Closed;
@@ -313,17 +319,19 @@ impl Batch {
         ensures { slice_get (flat_map message_words (numbered self.now.first self.now.messages)) i
             ≡ Some result }
     {
-        let mut place = i;
-        let mut number = self.first;
-        for message in self.messages.as_slice() {
-            let words = words_of(message);
-            if place < words {
-                return word_of(message, number, place);
+        let starts = self.starts.as_slice();
+        let mut low = 0;
+        let mut high = starts.len();
+        while low + 1 < high {
+            let middle = (low + high) / 2;
+            if starts[middle] <= i {
+                low = middle;
+            } else {
+                high = middle;
             }
-            place -= words;
-            number += 1;
         }
-        0
+        let message = &self.messages.as_slice()[low];
+        word_of(message, self.first + low as u64, i - starts[low])
     }
 }
 
