@@ -6,14 +6,16 @@ use Rattle.std.proofs.lemmas.List.{map-append, drop-append-le, append-nil, drop_
 use Rattle.std.proofs.lemmas.List.Elements.{filter-append}
 use Rattle.std.proofs.lemmas.List.Sums.{sum_by-append, sum_by-cons}
 use Rattle.std.proofs.lemmas.Option.{same_Some}
+use Rattle.bus_register.specs.declared.kinds.Kind.{Kind}
+use Rattle.bus_register.specs.declared.kinds.Kind.TheVariants as kind
 use Rattle.bus_register.specs.declared.registers.Op.{Op}
 use Rattle.bus_register.specs.declared.registers.Op.TheVariants.{Load, Store, Add, Cas}
 use Rattle.bus_votecount.specs.declared.tallies.Tally.{Tally}
 use Rattle.bus_votecount.specs.Tally.{tally_of, voted, add_word_of, votes_of, total_of}
 use Rattle.bus_walkcoin.specs.declared.coins.Phase.{Phase}
 use Rattle.bus_walkcoin.specs.declared.coins.Phase.TheVariants.{Vote, ReadVotes, Answered}
-use Rattle.bus_walkcoin.specs.Coin.{CoinState, after_settled, after_load, coin_started, answer_at, wants_at, coin_op, coin_fed, op_at, fed_at}
-use Rattle.bus_walkcoin.specs.CoinRule.{Entry, is_head, is_addition, is_vote, is_load, settled, votes, counted, is_one_load, are_round, last_steps, total_seen, is_round, coin_answer, is_first, coin_votes}
+use Rattle.bus_walkcoin.specs.Coin.{CoinState, after_settled, after_load, coin_started, answer_at, wants_at, kind_at, coin_kind, coin_op, coin_fed, op_at, fed_at}
+use Rattle.bus_walkcoin.specs.CoinRule.{Entry, is_head, is_addition, is_vote, is_load, settled, votes, counted, is_one_load, are_round, last_steps, total_seen, is_round, coin_answer, is_first, coin_votes, step_due, kind_due}
 use Rattle.bus_walkcoin.specs.CoinAnswer.{Took, CoinAnswer, RefusesEarlyAnswers}
 
 -- ---- one step more in a list
@@ -203,6 +205,31 @@ coin_answers n at trail s took =
 
 pub coin_goes_on : (n at word : ℕ) (trail : List Entry) (s : CoinState) → Took coin_op coin_fed (coin_started n at) trail s → IsSome (coin_op s word) ↔ (coin_answer n at trail ≡ None)
 coin_goes_on n at word trail s took = goes_at s.phase n at trail s word (took_stands n at trail [] (coin_started n at) s (starts_stand n at) took).phase
+
+-- the next step is the one that is due
+due_at : (ph : Phase) (n at : ℕ) (trail : List Entry) (s : CoinState) (word : ℕ) (o : Op) → s.at ≡ at → wants_at ph ≡ coin_votes n at trail → op_at ph s word ≡ Some o → o ≡ step_due n at trail word
+due_at Vote n at trail s word o at_is wants e =
+    sym (same_Some _ _ e) ∙ ap (λ z. Add record { 0 = z } (add_word_of (is_head word))) at_is
+    ∙ ap (λ z. cond z (Add record { 0 = at } (add_word_of (is_head word))) (Load record { 0 = at })) wants
+due_at ReadVotes n at trail s word o at_is wants e =
+    sym (same_Some _ _ e) ∙ ap (λ z. Load record { 0 = z }) at_is
+    ∙ ap (λ z. cond z (Add record { 0 = at } (add_word_of (is_head word))) (Load record { 0 = at })) wants
+due_at (Answered answer) n at trail s word o at_is wants e = absurd cc
+
+named_at : (ph : Phase) (n at : ℕ) (trail : List Entry) (k : Kind) → wants_at ph ≡ coin_votes n at trail → kind_at ph ≡ Some k → k ≡ kind_due n at trail
+named_at Vote n at trail k wants e = sym (same_Some _ _ e) ∙ ap (λ z. cond z kind.Vote kind.ReadVotes) wants
+named_at ReadVotes n at trail k wants e = sym (same_Some _ _ e) ∙ ap (λ z. cond z kind.Vote kind.ReadVotes) wants
+named_at (Answered answer) n at trail k wants e = absurd cc
+
+pub coin_step_is_due : (n at word : ℕ) (trail : List Entry) (s : CoinState) (o : Op) → Took coin_op coin_fed (coin_started n at) trail s → coin_op s word ≡ Some o → o ≡ step_due n at trail word
+coin_step_is_due n at word trail s o took e =
+    let h = took_stands n at trail [] (coin_started n at) s (starts_stand n at) took in
+    due_at s.phase n at trail s word o h.at_is (answer_stands s.phase n at trail h.phase).1 e
+
+pub coin_kind_is_due : (n at : ℕ) (trail : List Entry) (s : CoinState) (k : Kind) → Took coin_op coin_fed (coin_started n at) trail s → coin_kind s ≡ Some k → k ≡ kind_due n at trail
+coin_kind_is_due n at trail s k took e =
+    let h = took_stands n at trail [] (coin_started n at) s (starts_stand n at) took in
+    named_at s.phase n at trail k (answer_stands s.phase n at trail h.phase).1 e
 
 -- ---- answers that the rule does not allow
 

@@ -3,6 +3,8 @@
 -- then votes again, and so on, until it has an answer.
 use Rattle.std.specs.Prelude.{ℕ, ◌*◌, ◌-◌, ◌%◌, Bool, true, false, not, ◌&&◌, ◌||◌, Option, Some, None, is_none, List, [], ◌∷◌, map, filter, length, drop, count_by, ℤ, pos, neg_ℤ, int_lt, int_le, ◌==◌, if◌then◌else◌}
 use Rattle.bus_votecount.specs.declared.tallies.TheConstants.{MOST_VOTES}
+use Rattle.bus_register.specs.declared.kinds.Kind.{Kind}
+use Rattle.bus_register.specs.declared.kinds.Kind.TheVariants as kind
 use Rattle.bus_register.specs.declared.registers.Op.{Op}
 use Rattle.bus_register.specs.declared.registers.Op.TheVariants.{Load, Store, Add, Cas}
 use Rattle.bus_votecount.specs.declared.tallies.Tally.{Tally}
@@ -87,3 +89,11 @@ is_first (e ∷ trail) = false
 -- the next step is a vote: the first step, and each after a load that gave no answer
 abbrev pub coin_votes : ℕ → ℕ → List Entry → Bool
 coin_votes n at trail = (is_first trail || is_round at trail) && is_none (coin_answer n at trail)
+
+-- the step that is due after these: a vote, as the random word falls, or a load of the counter word
+abbrev pub step_due : ℕ → ℕ → List Entry → ℕ → Op
+step_due n at trail word = if coin_votes n at trail then Add record { 0 = at } (add_word_of (is_head word)) else Load record { 0 = at }
+
+-- and its kind
+abbrev pub kind_due : ℕ → ℕ → List Entry → Kind
+kind_due n at trail = if coin_votes n at trail then kind.Vote else kind.ReadVotes

@@ -1,9 +1,11 @@
 //! What a coin keeps, as contracts of functions without a body.
 
-ghost use Rattle.std.specs.Prelude.{◌≡◌, ◌↔◌, ℕ, IsSome, None, List};
+ghost use Rattle.std.specs.Prelude.{◌≡◌, ◌↔◌, ℕ, IsSome, Some, None, List};
 ghost use Rattle.bus_register.specs.Protocol.{Laws};
-ghost use Rattle.bus_walkcoin.specs.Coin.{CoinState, coin_started, coin_op, coin_fed};
-ghost use Rattle.bus_walkcoin.specs.CoinRule.{Entry, coin_answer};
+ghost use Rattle.bus_register.specs.declared.kinds.Kind.{Kind};
+ghost use Rattle.bus_register.specs.declared.registers.Op.{Op};
+ghost use Rattle.bus_walkcoin.specs.Coin.{CoinState, coin_started, coin_kind, coin_op, coin_fed};
+ghost use Rattle.bus_walkcoin.specs.CoinRule.{Entry, coin_answer, step_due, kind_due};
 ghost use Rattle.bus_walkcoin.specs.CoinAnswer.{Took, CoinAnswer, RefusesEarlyAnswers};
 ghost use Rattle.bus_walkcoin.specs.CoinProtocol.{coin_protocol, AnyAnswers};
 
@@ -28,6 +30,17 @@ pub fn coin_goes_on_until_answered()
     ensures { (n at word : ℕ) (trail : List Entry) (s : CoinState)
         → Took coin_op coin_fed (coin_started n at) trail s
         → IsSome (coin_op s word) ↔ (coin_answer n at trail ≡ None) }
+{}
+
+/// A process's next step is the one that the definition says is due, and is named for what it is:
+/// a vote at first and after each load that gave no answer, and after a vote a load of the counter.
+pub fn coin_steps_as_due()
+    ensures step { (n at word : ℕ) (trail : List Entry) (s : CoinState) (o : Op)
+        → Took coin_op coin_fed (coin_started n at) trail s → coin_op s word ≡ Some o
+        → o ≡ step_due n at trail word }
+    ensures kind { (n at : ℕ) (trail : List Entry) (s : CoinState) (k : Kind)
+        → Took coin_op coin_fed (coin_started n at) trail s → coin_kind s ≡ Some k
+        → k ≡ kind_due n at trail }
 {}
 
 /// No process answers without a vote, without a load of the counter as its last step, on a load
