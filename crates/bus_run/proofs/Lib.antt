@@ -2,4 +2,5 @@ pub mod AuditLemmas
 pub mod RunTextLemmas
 pub mod StopLemmas
 pub mod ToldLemmas
+pub mod LeftLemmas
 pub mod PutLemmas

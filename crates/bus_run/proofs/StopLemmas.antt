@@ -4,11 +4,15 @@ use Rattle.std.specs.Prelude.{slice_get, All, Result, Ok, Err, IsErr, IsErrAnd, 
 use Rattle.std.proofs.lemmas.List.{take_more, length-take}
 use Rattle.std.proofs.lemmas.Bool.{true≢false}
 use Rattle.std.proofs.lemmas.Option.{slice_get_within, same_Some, get_or_from_slice_get}
+use Rattle.bus_adoptcommit.specs.ThreeWord.{Local}
 use Rattle.bus_batch.specs.Frames.{Order}
+use Rattle.bus_tenure.specs.Elections.{Elector}
 use Rattle.bus_pageslot.specs.Outcomes.{Outcome}
+use Rattle.bus_pageslot.specs.Seats.{Seated}
 use Rattle.bus_receiver.specs.Hearing.{Hearing}
 use Rattle.bus_world.specs.declared.shapes.Shape.{Shape}
 use Rattle.bus_run.specs.Audit.{IsSpelled, IsFirstFault}
+use Rattle.bus_run.specs.Left.{Shown}
 use Rattle.bus_run.specs.Stops.{AreInOrder, IsWhole, is_gate, has_gate, AreUnstopped, IsFirstStop, IsLate, IsTextFault, IsNamed, IsStop}
 use Rattle.bus_run.specs.declared.audits.AuditFault.{AuditFault}
 use Rattle.bus_run.specs.declared.audits.AuditFault.TheVariants.{Count, NotEnded}
@@ -56,10 +60,10 @@ pub named : (order : Order) (heards : List Hearing) (why : AuditFault) → IsFir
 named order heards (Count r s) h = (slice_get_within heards r h.1 h.2, h.3)
 named order heards (NotEnded r) h = slice_get_within heards r h.1 h.2
 
-module _ {D E : Type 0} (number : D → ℕ) (noted : D → Option SenderFault) (Sent : D → Type 0) (shape : Shape) (messages room : ℕ) (desks : List D) (ears : List E) (heards : List Hearing) where
+module _ {D E : Type 0} (number : D → ℕ) (noted : D → Option SenderFault) (sender : D → Seated (Elector Local)) (shape : Shape) (messages room : ℕ) (desks : List D) (ears : List E) (seats : List Shown) (heards : List Hearing) where
   -- the crew's fault
   abbrev pub CrewFault : RunFault → Type 0
-  CrewFault fault = ((fault ≡ run.Spawn) × (IsWhole number shape desks ears → ⊥)) ⊎ (IsWhole number shape desks ears × IsFirstStop noted desks fault) ⊎ (IsWhole number shape desks ears × AreUnstopped noted desks × IsLate Sent shape messages room desks heards fault)
+  CrewFault fault = ((fault ≡ run.Spawn) × (IsWhole number shape desks ears → ⊥)) ⊎ (IsWhole number shape desks ears × IsFirstStop noted desks fault) ⊎ (IsWhole number shape desks ears × AreUnstopped noted desks × IsLate sender shape messages room desks seats heards fault)
 
   pub crew_stop : (fault : RunFault) → length heards ≡ length ears → CrewFault fault → IsStop shape.senders shape.receivers fault
   crew_stop run.NoMemory many h = tt
@@ -71,9 +75,9 @@ module _ {D E : Type 0} (number : D → ℕ) (noted : D → Option SenderFault) 
   crew_stop (run.Audit why) many (inl h) = absurd (let no = h.0 in cc)
   crew_stop (run.Audit why) many (inr (inl h)) = absurd h.1
   crew_stop (run.Audit why) many (inr (inr h)) =
-      let left = h.2 in
-      let order = left.2.0 in
-      subst (λ n. IsNamed n why) (many ∙ h.0.all_hear) (named order heards why (left.3 order left.2.1 left.2.2).2)
+      let left = h.2.1 in
+      let order = left.spelled.0 in
+      subst (λ n. IsNamed n why) (many ∙ h.0.all_hear) (named order heards why (left.holds order left.spelled.1 left.spelled.2).2)
   crew_stop run.Read many (inl h) = absurd (let no = h.0 in cc)
   crew_stop run.Read many (inr (inl h)) = h.1
   crew_stop run.Read many (inr (inr h)) = h.2

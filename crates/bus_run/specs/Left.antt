@@ -1,20 +1,48 @@
--- What the bus of a run leaves behind.
-use Rattle.std.specs.Prelude.{Some}
+-- What the bus of a run leaves behind, and by which seat.
+use Rattle.std.specs.Prelude.{◌≡◌, ℕ, List, All, Option, Some, slice_get}
 use Rattle.bus_adoptcommit.specs.ThreeWord.{Local, kind_at, op_of, fed_of}
 use Rattle.bus_adoptcommit.specs.ThreeWordKeeps.{three_word}
 use Rattle.bus_tenure.specs.Core.{Core, Election}
 use Rattle.bus_tenure.specs.Elections.{Elector, election_with}
+use Rattle.bus_tenure.specs.declared.pages.Page.{Page}
+use Rattle.bus_world.specs.Headline.{IsPrefix}
 use Rattle.bus_world.specs.Playing.{layout_of}
 use Rattle.bus_world.specs.declared.shapes.Shape.{Shape}
 use Rattle.bus_pageslot.specs.declared.rule.View.{View}
 use Rattle.bus_pageslot.specs.Endings.{IsLeft}
 use Rattle.bus_pageslot.specs.Outcomes.{Outcome}
+use Rattle.bus_pageslot.specs.Rule.{ear_in, known_in, with_ear}
+use Rattle.bus_pageslot.specs.Seats.{Seated}
+use Rattle.bus_run.specs.Told.{HasTold}
 
 -- its elections go by the ratifier of three words
 abbrev pub run_election : Election (Elector Local)
 run_election = election_with (λ s. kind_at s.progress) (λ s word. op_of s) (λ s got word. fed_of s got) three_word
 
+-- what a seat of such a bus shows
+abbrev pub Shown : Type 0
+Shown = View (Core (Elector Local))
+
+-- a table of this shape of which the rule holds, and on which some seat shows this, was left with this log, and with this at home
+abbrev pub IsLeftBy : Shape → Shown → List ℕ → Option Page → Type 0
+IsLeftBy shape seen log home = IsLeft run_election (layout_of three_word shape) seen log home
+
 -- its log and its page are those of a table of this shape of which the rule holds, and on which some seat shows this
 pub record IsLeftBehind (shape : Shape) (z : Outcome) : Type 0 where
-  pub seen : View (Core (Elector Local))
-  pub left : IsLeft run_election (layout_of three_word shape) seen z.log (Some z.page)
+  pub seen : Shown
+  pub left : IsLeftBy shape seen z.log (Some z.page)
+
+-- ---- the seat by which a run's bus is ended
+-- the seat shows what it did, but for more words of the log that it knows, and more loads
+pub record HasLearnt (old new : Shown) : Type 0 where
+  pub known : List ℕ
+  pub loads : ℕ
+  pub now : new ≡ with_ear old (record (ear_in old) { known = known; loads = loads })
+  pub grows : IsPrefix (known_in old) known
+
+-- it is the first receiver's, which each sender has told that it put just the numbers below this one
+pub record IsToldByAll {D : Type 0} (sender : D → Seated (Elector Local)) (messages : ℕ) (desks : List D) (seats : List Shown) (seen : Shown) : Type 0 where
+  pub first : Shown
+  pub first_is : slice_get seats 0 ≡ Some first
+  pub learnt : HasLearnt first seen
+  pub told : All (λ d. HasTold (sender d).core.me messages (known_in seen)) desks

@@ -1,9 +1,11 @@
 -- Which fault a run answers with.
-use Rattle.std.specs.Prelude.{◌≡◌, ◌≢◌, ◌⊎◌, ◌<◌, ℕ, ⊤, Bool, true, false, Option, None, Some, List, All, length, take, slice_get}
+use Rattle.std.specs.Prelude.{◌≡◌, ◌≢◌, ◌⊎◌, ◌<◌, ◌≤◌, ℕ, ⊤, Bool, true, false, Option, None, Some, List, All, length, take, slice_get}
 use Rattle.std.specs.List.{list_any}
 use Rattle.bus_register.specs.declared.limits.TheConstants.{MOST_SENDERS}
 use Rattle.bus_batch.specs.Frames.{Order}
 use Rattle.bus_deliverylog.specs.Orders.{of_sender}
+use Rattle.bus_adoptcommit.specs.ThreeWord.{Local}
+use Rattle.bus_tenure.specs.Elections.{Elector}
 use Rattle.bus_pageslot.specs.Seats.{Seated, deeds_of}
 use Rattle.bus_pageslot.specs.Outcomes.{Outcome}
 use Rattle.bus_receiver.specs.Hearing.{Hearing}
@@ -12,6 +14,7 @@ use Rattle.bus_world.specs.Playing.{IsServed, MakeRefused}
 use Rattle.bus_world.specs.declared.shapes.MakeFault.{MakeFault}
 use Rattle.bus_world.specs.declared.shapes.Shape.{Shape}
 use Rattle.bus_run.specs.Audit.{shape_of_run, OfOrder, IsSpelled, SendsEach, IsClosed, IsFirstFault}
+use Rattle.bus_run.specs.Left.{Shown, IsLeftBy, IsLeftBehind, IsToldByAll}
 use Rattle.bus_run.specs.Numbers.{numbers_below}
 use Rattle.bus_run.specs.declared.audits.AuditFault.{AuditFault}
 use Rattle.bus_run.specs.declared.audits.AuditFault.TheVariants.{Count, NotEnded}
@@ -60,23 +63,55 @@ HasSent messages s = (length s.core.queue.messages ≡ 0) × (puts (deeds_of s) 
 abbrev pub IsFirstUnsent : {D : Type 0} → (D → Type 0) → List D → ℕ → Type 0
 IsFirstUnsent {D} Sent desks s = All Sent (take s desks) × (d : D) × (slice_get desks s ≡ Some d) × (Sent d → ⊥)
 
--- a bus of so many senders left words behind that spell an order, of which this is true
-abbrev pub LeavesOrder : ℕ → (Order → Type 0) → Type 0
-LeavesOrder senders P = (left : Outcome) × (left.senders ≡ senders) × IsSpelled left × OfOrder left P
+-- A bus of this shape was ended by a seat of which this is true, and its page was not at home.
+pub record LeavesNoPage (shape : Shape) (Ends : Shown → Type 0) : Type 0 where
+  pub seen : Shown
+  pub ends : Ends seen
+  pub log : List ℕ
+  pub left : IsLeftBy shape seen log None
+
+-- It was ended by such a seat, with its page at home, and left words that spell an order, of which this is true.
+pub record LeavesOrder (shape : Shape) (Ends : Shown → Type 0) (P : Order → Type 0) : Type 0 where
+  pub left : Outcome
+  pub senders : left.senders ≡ shape.senders
+  pub behind : IsLeftBehind shape left
+  pub ends : Ends behind.seen
+  pub spelled : IsSpelled left
+  pub holds : OfOrder left P
+
+-- the order has not ended
+abbrev pub IsOpen : Order → Type 0
+IsOpen order = order.ended ≡ false
 
 -- the order has ended and has so many items of each sender below this one, and of this one it has not
 abbrev pub IsFirstMiscount : ℕ → ℕ → Order → Type 0
 IsFirstMiscount s messages order = IsClosed order × SendsEach s messages order × (length (of_sender s order) ≢ messages)
 
--- Why a run with such a crew did not end well: there was no room for what the receivers noted; a sender has not sent all; the bus
--- could not be ended with an ended order, which the first sender answers for; or what it left is not what was sent, or not what was noted.
-abbrev pub IsLate : {D : Type 0} → (D → Type 0) → Shape → ℕ → ℕ → List D → List Hearing → RunFault → Type 0
-IsLate Sent shape messages room desks heards run.NoMemory = room < length heards
-IsLate Sent shape messages room desks heards (run.Stopped s) =
-    (s < shape.senders) × (IsFirstUnsent Sent desks s ⊎ (s ≡ 0) ⊎ LeavesOrder shape.senders (IsFirstMiscount s messages))
-IsLate Sent shape messages room desks heards (run.Audit why) =
-    LeavesOrder shape.senders (λ order. IsClosed order × SendsEach shape.senders messages order × IsFirstFault order heards why)
-IsLate Sent shape messages room desks heards other = ⊥
+-- all of so many senders have sent all, the order has ended and says so, and a receiver noted something else
+abbrev pub IsFirstUnfair : ℕ → ℕ → List Hearing → AuditFault → Order → Type 0
+IsFirstUnfair senders messages heards why order = IsClosed order × SendsEach senders messages order × IsFirstFault order heards why
+
+-- Why a run with such a crew did not end well, the first cause that holds: a sender has not sent all; there was no room for what the
+-- receivers noted; the bus that the first receiver ended had its page out, or an order that has not ended, which the first sender
+-- answers for; or what it left is not what was sent, or not what was noted.
+module _ {D : Type 0} (sender : D → Seated (Elector Local)) (shape : Shape) (messages room : ℕ) (desks : List D) (seats : List Shown) (heards : List Hearing) where
+  abbrev pub Sent : D → Type 0
+  Sent d = HasSent messages (sender d)
+
+  abbrev pub Ends : Shown → Type 0
+  Ends seen = IsToldByAll sender messages desks seats seen
+
+  -- all were sent, and the notes have room
+  abbrev pub IsSentAndNoted : Type 0
+  IsSentAndNoted = All Sent desks × (length heards ≤ room)
+
+  abbrev pub IsLate : RunFault → Type 0
+  IsLate run.NoMemory = All Sent desks × (room < length heards)
+  IsLate (run.Stopped s) = (s < shape.senders) × (IsFirstUnsent Sent desks s
+      ⊎ (IsSentAndNoted × (s ≡ 0) × (LeavesNoPage shape Ends ⊎ LeavesOrder shape Ends IsOpen))
+      ⊎ (IsSentAndNoted × LeavesOrder shape Ends (IsFirstMiscount s messages)))
+  IsLate (run.Audit why) = IsSentAndNoted × LeavesOrder shape Ends (IsFirstUnfair shape.senders messages heards why)
+  IsLate other = ⊥
 
 -- why the text of a report is not made
 abbrev pub IsTextFault : Outcome → List Hearing → RunFault → Type 0

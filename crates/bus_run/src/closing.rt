@@ -1,18 +1,19 @@
 //! What a run leaves behind, once all its workers have ended.
 
 ghost use Rattle.std.specs.Prelude.{◌≡◌, ◌≢◌, ◌≤◌, ◌<◌, ◌⊎◌, ℕ, All};
-ghost use Rattle.std.specs.Prelude.{length, map, vec_len};
+ghost use Rattle.std.specs.Prelude.{length, map, vec_len, slice_get, Some};
 ghost use Rattle.std.specs.Prelude.{None, IfOk, OnOk, IfErr, IfSome, true, false};
 ghost use Rattle.std.specs.Vec.{vec_capacity};
 ghost use Rattle.bus_run.specs.Audit.{OfOrder, IsSpelled, IsFair, SendsEach, IsClosed};
 ghost use Rattle.bus_run.specs.Audit.{CarriesNumbers};
-ghost use Rattle.bus_run.specs.Left.{IsLeftBehind};
+ghost use Rattle.bus_run.specs.Left.{IsLeftBehind, IsLeftBy, Shown, HasLearnt};
 ghost use Rattle.bus_run.specs.Told.{HasTold};
 ghost use Rattle.bus_pageslot.specs.Rule.{known_in};
 ghost use Rattle.bus_receiver.specs.Listening.{bus_of};
 ghost use Rattle.bus_world.specs.Headline.{IsPrefix};
 ghost use Rattle.bus_run.specs.Stops.{IsWhole, AreInOrder, AreUnstopped, IsFirstStop, has_gate};
-ghost use Rattle.bus_run.specs.Stops.{HasSent, IsFirstUnsent, IsLate};
+ghost use Rattle.bus_run.specs.Stops.{HasSent, IsFirstUnsent, IsLate, IsOpen};
+ghost use Rattle.bus_run.specs.Stops.{LeavesNoPage, LeavesOrder};
 ghost use Rattle.bus_deliverylog.specs.Orders.{of_sender};
 ghost use Rattle.bus_run.specs.declared.faults.RunFault.TheVariants.{Stopped as stopped};
 
@@ -62,8 +63,9 @@ pub fn end_and_audit<B: OfBus>(
         IfErr result (λ fault. ((fault ≡ RunFault.Spawn) × (Whole → ⊥))
         ⊎ (Whole × IsFirstStop (λ desk. desk.fault) crew.desks.items fault)
         ⊎ (Whole × AreUnstopped (λ desk. desk.fault) crew.desks.items
-        × IsLate (λ desk. HasSent messages desk.sender) shape messages (vec_capacity room)
-        crew.desks.items (map (λ ear. ear.heard) crew.ears.items) fault)) }
+        × IsLate (λ desk. desk.sender) shape messages (vec_capacity room) crew.desks.items
+        (map (λ ear. ear.receiver.me.0) crew.ears.items)
+        (map (λ ear. ear.heard) crew.ears.items) fault)) }
 {
     let Crew { desks, ears, .. } = crew;
     if !is_whole(desks.as_slice(), ears.as_slice(), shape) {
@@ -157,8 +159,8 @@ fn end_whole<B: OfBus>(
     ensures each { IfOk result (λ report. length report.heards.items ≡ shape.receivers) }
     ensures spelled { IfOk result (λ report. IsSpelled report.ended) }
     ensures late { IfErr result
-        (IsLate (λ desk. HasSent messages desk.sender) shape messages (vec_capacity room)
-        desks.items (map (λ ear. ear.heard) ears.items)) }
+        (IsLate (λ desk. desk.sender) shape messages (vec_capacity room) desks.items
+        (map (λ ear. ear.receiver.me.0) ears.items) (map (λ ear. ear.heard) ears.items)) }
 {
     if let Some(sender) = first_unsent(desks.as_slice(), messages) {
         return Err(RunFault::Stopped { sender });
@@ -194,9 +196,15 @@ fn notes_of<B: OfBus>(
     ensures table { IfOk result (λ noted. bus_of noted.0 ≡ B.table) }
     ensures notes { IfOk result
         (λ noted. noted.1.items ≡ map (λ ear. ear.heard) ears.items) }
+    ensures first { IfOk result (λ noted. slice_get
+        (map (λ ear. ear.receiver.me.0) ears.items) 0 ≡ Some noted.0.me.0) }
+    ensures room { OnOk result (length ears.items ≤ vec_capacity room) }
     ensures full { IfErr result
-        (λ fault. (fault ≡ RunFault.NoMemory) × (vec_capacity room < vec_len ears)) }
+        (λ fault. (fault ≡ RunFault.NoMemory) × (vec_capacity room < length ears.items)) }
 {
+    if room.capacity() < ears.len() {
+        return Err(RunFault::NoMemory);
+    }
     let mut heards = room;
     heards.clear();
     let mut first = None;
@@ -206,9 +214,7 @@ fn notes_of<B: OfBus>(
             heard,
             ..
         } = ear;
-        if heards.push(heard).is_err() {
-            return Err(RunFault::NoMemory);
-        }
+        heards.push_reserved(heard);
         if first.is_none() {
             first = Some(receiver);
         }
@@ -229,6 +235,7 @@ fn tell_all<B: OfBus>(
     requires table { bus_of first ≡ B.table }
     requires sent { All (λ desk. HasSent messages desk.sender) desks.items }
     ensures table { bus_of result ≡ B.table }
+    ensures learnt { HasLearnt first.me.0 result.me.0 }
     ensures told { All (λ desk. HasTold desk.sender.core.me messages (known_in result.me.0))
         desks.items }
 {
@@ -244,7 +251,7 @@ fn tell<B: OfBus>(receiver: &mut Receiver, desk: Desk<B>, the: &TheBus<B>, messa
     requires table { bus_of receiver.old ≡ B.table }
     requires sent { HasSent messages desk.sender }
     ensures table { bus_of receiver.new ≡ B.table }
-    ensures grows { IsPrefix (known_in receiver.old.me.0) (known_in receiver.new.me.0) }
+    ensures learnt { HasLearnt receiver.old.me.0 receiver.new.me.0 }
     ensures told { HasTold desk.sender.core.me messages (known_in receiver.new.me.0) }
 {
     let Desk { mut sender, .. } = desk;
@@ -255,15 +262,21 @@ fn tell<B: OfBus>(receiver: &mut Receiver, desk: Desk<B>, the: &TheBus<B>, messa
 fn end_closed<B: OfBus>(the: TheBus<B>, first: Receiver) -> Result<Ended, RunFault>
     requires { bus_of first ≡ B.table }
     ensures of { IfOk result (λ ended. ended.senders ≡ the.bus.shape.senders) }
-    ensures left { IfOk result (λ ended. IsLeftBehind the.bus.shape ended) }
+    ensures left { IfOk result
+        (λ ended. IsLeftBy the.bus.shape first.me.0 ended.log (Some ended.page)) }
     ensures closed { IfOk result (λ ended. OfOrder ended IsClosed) }
     ensures front { IfOk result (λ ended. IsPrefix (known_in first.me.0) ended.log) }
-    ensures open { IfErr result (λ fault. fault ≡ stopped 0) }
+    ensures open { let Ends : Shown → Type 0 = λ seen. seen ≡ first.me.0 in
+        IfErr result (λ fault. (fault ≡ stopped 0) × (LeavesNoPage the.bus.shape Ends
+        ⊎ LeavesOrder the.bus.shape Ends IsOpen)) }
 {
-    match Receiver::end(the.into_bus(), first) {
-        Ok(ended) if ended.page().ended => Ok(ended),
-        _ => Err(RunFault::Stopped { sender: 0 }),
+    let Ok(ended) = Receiver::end(the.into_bus(), first) else {
+        return Err(RunFault::Stopped { sender: 0 });
+    };
+    if !ended.page().ended {
+        return Err(RunFault::Stopped { sender: 0 });
     }
+    Ok(ended)
 }
 
 /// Sees that each sender has so many items in the order that the bus left behind.

@@ -1,15 +1,15 @@
-use Rattle.std.proofs.Common.{◌<◌, inl, inr, All, length, map, refl, sym, ap, subst, ◌∙◌}
+use Rattle.std.proofs.Common.{◌<◌, ◌≤◌, inl, inr, All, Some, length, map, refl, sym, ap, subst, ◌∙◌}
 use Rattle.std.specs.Vec.{vec_capacity}
 use Rattle.std.proofs.lemmas.List.{length-map}
 use Rattle.std.proofs.lemmas.Option.{slice_get_within}
 use Rattle.bus_deliverylog.specs.Orders.{of_sender}
 use Rattle.bus_pageslot.specs.Rule.{known_in}
-use Rattle.bus_world.specs.declared.shapes.Shape.{Shape}
 use Rattle.bus_run.specs.Audit.{IsFair, IsFirstFault}
-use Rattle.bus_run.specs.Left.{IsLeftBehind}
-use Rattle.bus_run.specs.Stops.{HasSent, IsFirstUnsent, IsLate}
+use Rattle.bus_run.specs.Left.{Shown, IsLeftBy, IsToldByAll}
+use Rattle.bus_run.specs.Stops.{HasSent, IsFirstUnsent, IsFirstMiscount, IsFirstUnfair, IsLate}
 use Rattle.bus_run.specs.Told.{HasTold}
 use Rattle.bus_run.specs.declared.faults.RunFault.{RunFault}
+use Rattle.bus_run.proofs.LeftLemmas.{leaves, left_open}
 use Rattle.bus_run.proofs.StopLemmas.{of_each, passed_up}
 use Rattle.bus_run.proofs.ToldLemmas.{carries, still_told, told_all}
 use Rattle.bus_run.proofs.closing.end_whole.Goals as goal
@@ -19,37 +19,71 @@ returns-in-Some-clause-late g c =
     let unsent = subst (λ ds. IsFirstUnsent (λ desk. HasSent c.args.messages desk.sender) ds c.in-Some.sender) c.as_slice.ensures.value c.in-Some.ensures.unsent in
     (subst (λ n. c.in-Some.sender < n) c.requires.whole.all_send (slice_get_within c.args.desks.items c.in-Some.sender unsent.1 unsent.2), inl unsent)
 
+pub returns-in_err-first-clause-late : goal.returns-in_err-first-clause-late
+returns-in_err-first-clause-late g c =
+    let seats = map (λ ear. ear.receiver.me.0) c.args.ears.items in
+    let heards = map (λ ear. ear.heard) c.args.ears.items in
+    let Late : RunFault → Type 0 = IsLate (λ desk. desk.sender) c.args.shape c.args.messages (vec_capacity c.args.room) c.args.desks.items seats heards in
+    let sent = subst (All (λ desk. HasSent c.args.messages desk.sender)) c.as_slice.ensures.value (c.first_unsent.ensures.none c.in_default.is) in
+    let full = c.in_err-first.ensures.full in
+    passed_up _ _ Late c.from_residual.ensures (subst Late (sym full.0) (sent, subst (λ n. vec_capacity c.args.room < n) (sym (length-map c.args.ears.items (λ ear. ear.heard))) full.1))
+
 pub returns-in_err-ended-clause-late : goal.returns-in_err-ended-clause-late
 returns-in_err-ended-clause-late g c =
-    let Late : RunFault → Type 0 = IsLate (λ desk. HasSent c.args.messages desk.sender) c.args.shape c.args.messages (vec_capacity c.args.room) c.args.desks.items (map (λ ear. ear.heard) c.args.ears.items) in
-    passed_up _ _ Late c.from_residual-in_err-ended.ensures (subst Late (sym c.in_err-ended.ensures.open) (c.requires.whole.one_sends, inr (inl refl)))
+    let seats = map (λ ear. ear.receiver.me.0) c.args.ears.items in
+    let heards = map (λ ear. ear.heard) c.args.ears.items in
+    let Late : RunFault → Type 0 = IsLate (λ desk. desk.sender) c.args.shape c.args.messages (vec_capacity c.args.room) c.args.desks.items seats heards in
+    let Ends : Shown → Type 0 = IsToldByAll (λ desk. desk.sender) c.args.messages c.args.desks.items seats in
+    let last = c.tell_all-told.result.me.0 in
+    let told : Ends last = record { first = _; first_is = c.in_ok-first.ensures.first; learnt = c.tell_all-told.ensures.learnt; told = c.tell_all-told.ensures.told } in
+    let sent = subst (All (λ desk. HasSent c.args.messages desk.sender)) c.as_slice.ensures.value (c.first_unsent.ensures.none c.in_default.is) in
+    let room = subst (λ n. n ≤ vec_capacity c.args.room) (sym (length-map c.args.ears.items (λ ear. ear.heard))) c.in_ok-first.ensures.room in
+    let stays = c.in_err-ended.ensures.open in
+    passed_up _ _ Late c.from_residual-in_err-ended.ensures (subst Late (sym stays.0) (
+      c.requires.whole.one_sends,
+      inr (inl ((sent, room), refl, left_open _ c.args.shape c.requires.bus Ends last told stays.1)),
+    ))
 
 pub returns-in_err-all_sent-clause-late : goal.returns-in_err-all_sent-clause-late
 returns-in_err-all_sent-clause-late g c =
-    let Late : RunFault → Type 0 = IsLate (λ desk. HasSent c.args.messages desk.sender) c.args.shape c.args.messages (vec_capacity c.args.room) c.args.desks.items (map (λ ear. ear.heard) c.args.ears.items) in
-    let left = c.in_ok-ended.ended in
-    let of = c.in_ok-ended.ensures.of ∙ ap (λ (x : Shape). x.senders) c.requires.bus in
+    let seats = map (λ ear. ear.receiver.me.0) c.args.ears.items in
+    let heards = map (λ ear. ear.heard) c.args.ears.items in
+    let Late : RunFault → Type 0 = IsLate (λ desk. desk.sender) c.args.shape c.args.messages (vec_capacity c.args.room) c.args.desks.items seats heards in
+    let Ends : Shown → Type 0 = IsToldByAll (λ desk. desk.sender) c.args.messages c.args.desks.items seats in
+    let last = c.tell_all-told.result.me.0 in
+    let told : Ends last = record { first = _; first_is = c.in_ok-first.ensures.first; learnt = c.tell_all-told.ensures.learnt; told = c.tell_all-told.ensures.told } in
+    let sent = subst (All (λ desk. HasSent c.args.messages desk.sender)) c.as_slice.ensures.value (c.first_unsent.ensures.none c.in_default.is) in
+    let room = subst (λ n. n ≤ vec_capacity c.args.room) (sym (length-map c.args.ears.items (λ ear. ear.heard))) c.in_ok-first.ensures.room in
+    let ended = c.in_ok-ended in
     let short = c.in_err-all_sent.ensures.fault in
     passed_up _ _ Late c.from_residual-in_err-all_sent.ensures (subst Late (sym short.1) (
       short.2,
-      inr (inr (left, of, short.3, λ order owners spells. (c.in_ok-ended.ensures.closed order owners spells, (short.4 order owners spells).0, (short.4 order owners spells).1))),
+      inr (inr (
+        (sent, room),
+        leaves _ c.args.shape c.requires.bus Ends last ended.ended (IsFirstMiscount short.0 c.args.messages) told ended.ensures.of ended.ensures.left (λ order owners spells. (ended.ensures.closed order owners spells, (short.4 order owners spells).0, (short.4 order owners spells).1)),
+      )),
     ))
 
 pub returns-in_err-audit-clause-late : goal.returns-in_err-audit-clause-late
 returns-in_err-audit-clause-late g c =
-    let Late : RunFault → Type 0 = IsLate (λ desk. HasSent c.args.messages desk.sender) c.args.shape c.args.messages (vec_capacity c.args.room) c.args.desks.items (map (λ ear. ear.heard) c.args.ears.items) in
-    let left = c.in_ok-ended.ended in
-    let of = c.in_ok-ended.ensures.of ∙ ap (λ (x : Shape). x.senders) c.requires.bus in
+    let seats = map (λ ear. ear.receiver.me.0) c.args.ears.items in
+    let heards = map (λ ear. ear.heard) c.args.ears.items in
+    let Late : RunFault → Type 0 = IsLate (λ desk. desk.sender) c.args.shape c.args.messages (vec_capacity c.args.room) c.args.desks.items seats heards in
+    let Ends : Shown → Type 0 = IsToldByAll (λ desk. desk.sender) c.args.messages c.args.desks.items seats in
+    let last = c.tell_all-told.result.me.0 in
+    let told : Ends last = record { first = _; first_is = c.in_ok-first.ensures.first; learnt = c.tell_all-told.ensures.learnt; told = c.tell_all-told.ensures.told } in
+    let sent = subst (All (λ desk. HasSent c.args.messages desk.sender)) c.as_slice.ensures.value (c.first_unsent.ensures.none c.in_default.is) in
+    let room = subst (λ n. n ≤ vec_capacity c.args.room) (sym (length-map c.args.ears.items (λ ear. ear.heard))) c.in_ok-first.ensures.room in
+    let ended = c.in_ok-ended in
+    let why = c.in_err-audit.field-0.0 in
     let notes = c.as_slice-2.ensures.value ∙ c.in_ok-first.ensures.notes in
     passed_up _ _ Late c.from_residual-in_err-audit.ensures (
-      left,
-      of,
-      c.in_err-audit.ensures.spelled,
-      λ order owners spells. (
-        c.in_ok-ended.ensures.closed order owners spells,
+      (sent, room),
+      leaves _ c.args.shape c.requires.bus Ends last ended.ended (IsFirstUnfair c.args.shape.senders c.args.messages heards why) told ended.ensures.of ended.ensures.left (λ order owners spells. (
+        ended.ensures.closed order owners spells,
         c.in_ok-all_sent.ensures.ok order owners spells,
-        subst (λ hs. IsFirstFault order hs c.in_err-audit.field-0.0) notes (c.in_err-audit.ensures.fault order owners spells),
-      ),
+        subst (λ hs. IsFirstFault order hs why) notes (c.in_err-audit.ensures.fault order owners spells),
+      )),
     )
 
 pub returns-clause-carried : goal.returns-clause-carried
@@ -69,4 +103,7 @@ pub returns-clause-each : goal.returns-clause-each
 returns-clause-each g c = ap length c.in_ok-first.ensures.notes ∙ length-map c.args.ears.items (λ ear. ear.heard) ∙ c.requires.whole.all_hear
 
 pub returns-clause-left : goal.returns-clause-left
-returns-clause-left g c = subst (λ x. IsLeftBehind x c.in_ok-ended.ended) c.requires.bus c.in_ok-ended.ensures.left
+returns-clause-left g c = record {
+  seen = c.tell_all-told.result.me.0;
+  left = subst (λ x. IsLeftBy x c.tell_all-told.result.me.0 c.in_ok-ended.ended.log (Some c.in_ok-ended.ended.page)) c.requires.bus c.in_ok-ended.ensures.left;
+}

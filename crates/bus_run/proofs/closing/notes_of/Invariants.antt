@@ -1,5 +1,5 @@
-use Rattle.std.proofs.Common.{◌≡◌, ◌≤◌, length, map, vec_len, None, []}
-use Rattle.std.specs.Prelude.{IfSome}
+use Rattle.std.proofs.Common.{◌≡◌, length, map, vec_len, None, [], Some}
+use Rattle.std.specs.Prelude.{IfSome, slice_get}
 use Rattle.std.specs.Vec.{vec_capacity}
 use Rattle.bus_receiver.specs.Listening.{bus_of}
 use Rattle.bus_run.proofs.closing.notes_of.Given as goal
@@ -8,7 +8,8 @@ abbrev pub invariant-loop-ear : goal.invariant-loop-ear
 invariant-loop-ear g l = record {
   notes : l.heards.items ≡ map (λ ear. ear.heard) l.yielded;
   many : vec_len l.heards ≡ length l.yielded;
-  room : vec_capacity l.fn.room ≤ vec_capacity l.heards;
+  room : vec_capacity l.heards ≡ vec_capacity l.fn.room;
   table : IfSome l.first (λ r. bus_of r ≡ g.B.OfBus.table);
+  first : IfSome l.first (λ r. slice_get (map (λ ear. ear.receiver.me.0) l.yielded) 0 ≡ Some r.me.0);
   some : l.first ≡ None → l.yielded ≡ [];
 }

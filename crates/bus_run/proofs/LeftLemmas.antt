@@ -1,0 +1,95 @@
+-- What a seat has learnt, and what a bus of a run leaves behind.
+use Rattle.std.proofs.Common.{◌≡◌, ℕ, List, [], ◌∷◌, ◌++◌, ◌+◌, refl, sym, ap, subst, ◌∙◌, append_assoc, append-nil, ◌⊎◌, inl, inr, Option, Some, None, map}
+use Rattle.std.specs.Prelude.{slice_get, IfSome}
+use Rattle.bus_adoptcommit.specs.ThreeWord.{Local}
+use Rattle.bus_tenure.specs.Elections.{Elector}
+use Rattle.bus_batch.specs.Frames.{Order, Spells}
+use Rattle.bus_world.specs.Headline.{IsPrefix}
+use Rattle.bus_world.specs.declared.shapes.Shape.{Shape}
+use Rattle.bus_pageslot.specs.declared.rule.View.{View}
+use Rattle.bus_pageslot.specs.declared.rule.View.TheVariants.{Maker, Sender, Tap, Meeting, Telling, Spent}
+use Rattle.bus_pageslot.specs.Outcomes.{Outcome}
+use Rattle.bus_pageslot.specs.Rule.{Sat, ear_in, known_in, with_ear}
+use Rattle.bus_pageslot.specs.Steps.{Learns}
+use Rattle.bus_run.specs.Audit.{IsSpelled, OfOrder}
+use Rattle.bus_run.specs.Left.{Shown, IsLeftBy, IsLeftBehind, HasLearnt}
+use Rattle.bus_run.specs.Stops.{LeavesNoPage, LeavesOrder, IsOpen}
+
+-- ---- what a seat has learnt
+
+same_view : (v : Shown) → v ≡ with_ear v (record (ear_in v) { known = known_in v; loads = (ear_in v).loads })
+same_view (Maker c) = refl
+same_view (Sender c trail stored) = refl
+same_view (Tap c e) = refl
+same_view (Meeting c e d f) = refl
+same_view (Telling c trail stored d e) = refl
+same_view Spent = refl
+
+at_once : (v : Shown) (k k' : List ℕ) (l l' : ℕ) → (let w = with_ear v (record (ear_in v) { known = k; loads = l }) in with_ear w (record (ear_in w) { known = k'; loads = l' })) ≡ with_ear v (record (ear_in v) { known = k'; loads = l' })
+at_once (Maker c) k k' l l' = refl
+at_once (Sender c trail stored) k k' l l' = refl
+at_once (Tap c e) k k' l l' = refl
+at_once (Meeting c e d f) k k' l l' = refl
+at_once (Telling c trail stored d e) k k' l l' = refl
+at_once Spent k k' l l' = refl
+
+nothing_before : (k : List ℕ) → IsPrefix [] k
+nothing_before k = record { rest = k; together = refl }
+
+knows_more : (v : Shown) (k : List ℕ) (l : ℕ) → IsPrefix (known_in v) k → IsPrefix (known_in v) (known_in (with_ear v (record (ear_in v) { known = k; loads = l })))
+knows_more (Maker c) k l h = nothing_before []
+knows_more (Sender c trail stored) k l h = nothing_before []
+knows_more (Tap c e) k l h = h
+knows_more (Meeting c e d f) k l h = h
+knows_more (Telling c trail stored d e) k l h = h
+knows_more Spent k l h = nothing_before []
+
+longer : (a b c : List ℕ) → IsPrefix a b → IsPrefix b c → IsPrefix a c
+longer a b c g h = record { rest = g.rest ++ h.rest; together = sym (append_assoc a g.rest h.rest) ∙ ap (λ z. z ++ h.rest) g.together ∙ h.together }
+
+-- what it knows has grown
+pub grown : (old new : Shown) → HasLearnt old new → IsPrefix (known_in old) (known_in new)
+grown old new h = subst (λ v. IsPrefix (known_in old) (known_in v)) (sym h.now) (knows_more old h.known h.loads h.grows)
+
+pub none_learnt : (v : Shown) → HasLearnt v v
+none_learnt v = record { known = known_in v; loads = (ear_in v).loads; now = same_view v; grows = record { rest = []; together = append-nil (known_in v) } }
+
+pub more_learnt : (a b c : Shown) → HasLearnt a b → HasLearnt b c → HasLearnt a c
+more_learnt a b c g h = record {
+  known = h.known;
+  loads = h.loads;
+  now = h.now ∙ ap (λ v. with_ear v (record (ear_in v) { known = h.known; loads = h.loads })) g.now ∙ at_once a g.known h.known g.loads h.loads;
+  grows = longer (known_in a) (known_in b) h.known (grown a b g) h.grows;
+}
+
+-- by one load of the length
+pub one_learnt : (m : Sat (Elector Local)) (got : ℕ) (m' : Sat (Elector Local)) → Learns m got m' → HasLearnt m.0 m'.0
+one_learnt m got m' h = record { known = h.known; loads = (ear_in m.0).loads + 1; now = ap (λ (z : Sat (Elector Local)). z.0) h.now; grows = h.grows }
+
+-- ---- what is left
+-- the words that were left spell an order
+pub spelled_behind : (shape : Shape) (left : Outcome) → IsLeftBehind shape left → left.senders ≡ shape.senders → IsSpelled left
+spelled_behind shape left h of =
+    let promised = h.left.promised in
+    (promised.order, promised.owners, subst (λ n. Spells n left.log promised.order promised.owners) (sym of) (subst (λ ws. Spells shape.senders ws promised.order promised.owners) h.left.log_is promised.spelled))
+
+-- a bus that a seat has ended with its page at home leaves an order
+pub leaves : (a b : Shape) → a ≡ b → (Ends : Shown → Type 0) (last : Shown) (left : Outcome) (P : Order → Type 0) → Ends last → left.senders ≡ a.senders → IsLeftBy a last left.log (Some left.page) → OfOrder left P → LeavesOrder b Ends P
+leaves a b same Ends last left P ends of by holds =
+    let behind : IsLeftBehind b left = record { seen = last; left = subst (λ x. IsLeftBy x last left.log (Some left.page)) same by } in
+    let senders : left.senders ≡ b.senders = of ∙ ap (λ (x : Shape). x.senders) same in
+    record { left = left; senders = senders; behind = behind; ends = ends; spelled = spelled_behind b left behind senders; holds = holds }
+
+-- what is true of the seat that ended a bus which was left open
+pub left_open : (a b : Shape) → a ≡ b → (Ends : Shown → Type 0) (last : Shown) → Ends last → LeavesNoPage a (λ seen. seen ≡ last) ⊎ LeavesOrder a (λ seen. seen ≡ last) IsOpen → LeavesNoPage b Ends ⊎ LeavesOrder b Ends IsOpen
+left_open a b same Ends last ends (inl h) = inl (record { seen = h.seen; ends = subst Ends (sym h.ends) ends; log = h.log; left = subst (λ x. IsLeftBy x h.seen h.log None) same h.left })
+left_open a b same Ends last ends (inr h) = inr (leaves a b same Ends h.behind.seen h.left IsOpen (subst Ends (sym h.ends) ends) h.senders h.behind.left h.holds)
+
+-- ---- the first of a list that grows
+stays_first : {A B : Type 0} (f : A → B) (xs : List A) (y : A) (b : B) → slice_get (map f xs) 0 ≡ Some b → slice_get (map f (xs ++ y ∷ [])) 0 ≡ Some b
+stays_first f [] y b h = absurd (let no = h in cc)
+stays_first f (x ∷ xs) y b h = h
+
+pub still_first : {A B R : Type 0} (f : A → B) (g : R → B) (o : Option R) (xs : List A) (y : A) → IfSome o (λ r. slice_get (map f xs) 0 ≡ Some (g r)) → IfSome o (λ r. slice_get (map f (xs ++ y ∷ [])) 0 ≡ Some (g r))
+still_first f g None xs y h = h
+still_first f g (Some r) xs y h = stays_first f xs y (g r) h
