@@ -3,7 +3,7 @@ use Rattle.std.proofs.Common.{◌≡◌, ℕ, All, List, length, inl, inr, sym, 
 use Rattle.std.specs.Prelude.{Result, Err, IsErr, IsErrAnd}
 use Rattle.bus_pageslot.specs.Outcomes.{Outcome}
 use Rattle.bus_receiver.specs.Hearing.{Hearing}
-use Rattle.bus_run.specs.Audit.{IsSpelled, OfOrder, IsFair, SendsEach, CarriesNumbers, IsClosed, shape_of_run}
+use Rattle.bus_run.specs.Audit.{IsSpelled, OfOrder, IsFair, CountsAll, SendsEach, CarriesNumbers, IsClosed, shape_of_run}
 use Rattle.bus_run.specs.Left.{IsLeftBehind}
 use Rattle.bus_run.specs.RunText.{report_text, IsRunText}
 use Rattle.bus_run.specs.Stops.{IsStop, IsRunFault}
@@ -12,8 +12,8 @@ use Rattle.bus_run.specs.declared.faults.RunFault.TheVariants as run
 
 -- the text of a run, of which this many messages of each sender were asked
 pub is_run_text : (senders receivers messages asked : ℕ) (left : Outcome) (heards : List Hearing) (text : List ℕ) → left.senders ≡ senders → IsLeftBehind (shape_of_run senders receivers) left → IsSpelled left → OfOrder left (SendsEach senders messages) → OfOrder left (CarriesNumbers senders) → OfOrder left IsClosed → messages ≡ asked → length heards ≡ receivers
-    → OfOrder left (λ order. All (IsFair order) heards) → left.page.words ≡ length left.log → OfOrder left (λ order. text ≡ report_text order left.page senders heards) → IsRunText senders receivers asked text
-is_run_text senders receivers messages asked left heards text of behind spelled sent carried closed is each fair words said = record {
+    → OfOrder left (λ order. All (IsFair order) heards) → OfOrder left (λ order. All (CountsAll order) heards) → left.page.words ≡ length left.log → OfOrder left (λ order. text ≡ report_text order left.page senders heards) → IsRunText senders receivers asked text
+is_run_text senders receivers messages asked left heards text of behind spelled sent carried closed is each fair all words said = record {
   left = left;
   order = spelled.0;
   owners = spelled.1;
@@ -26,6 +26,7 @@ is_run_text senders receivers messages asked left heards text of behind spelled 
   heards = heards;
   each = each;
   fair = fair spelled.0 spelled.1 spelled.2;
+  all = all spelled.0 spelled.1 spelled.2;
   words = words;
   text_is = said spelled.0 spelled.1 spelled.2;
 }

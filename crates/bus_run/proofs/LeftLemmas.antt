@@ -6,7 +6,6 @@ use Rattle.bus_tenure.specs.Elections.{Elector}
 use Rattle.bus_batch.specs.Frames.{Order, Spells}
 use Rattle.bus_world.specs.Headline.{IsPrefix}
 use Rattle.bus_world.specs.declared.shapes.Shape.{Shape}
-use Rattle.bus_pageslot.specs.declared.rule.View.{View}
 use Rattle.bus_pageslot.specs.declared.rule.View.TheVariants.{Maker, Sender, Tap, Meeting, Telling, Spent}
 use Rattle.bus_pageslot.specs.Outcomes.{Outcome}
 use Rattle.bus_pageslot.specs.Rule.{Sat, ear_in, known_in, with_ear}

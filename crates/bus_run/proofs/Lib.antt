@@ -4,3 +4,4 @@ pub mod StopLemmas
 pub mod ToldLemmas
 pub mod LeftLemmas
 pub mod PutLemmas
+pub mod CountLemmas

@@ -1,5 +1,5 @@
 -- What receivers noted, against the order of items that a bus left behind.
-use Rattle.std.specs.Prelude.{◌≡◌, ◌≢◌, ℕ, ◌<◌, true, false, List, length, take, All, slice_index, slice_get, Some}
+use Rattle.std.specs.Prelude.{◌≡◌, ◌≢◌, ℕ, ◌<◌, true, false, List, length, sum, take, All, slice_index, slice_get, Some}
 use Rattle.std.specs.Int.{w64, to_be_bytes}
 use Rattle.bus_register.specs.declared.limits.TheConstants.{MOST_SENDERS, MOST_ROWS, MOST_LOG_WORDS}
 use Rattle.bus_register.specs.declared.registers.SenderNo.{SenderNo}
@@ -32,6 +32,14 @@ Miscounts order h sender = CountsBelow sender order h × (slice_index h.counts s
 -- all items were counted, and the end was given
 abbrev pub IsFair : Order → Hearing → Type 0
 IsFair order h = CountsBelow MOST_SENDERS order h × (h.ended ≡ true)
+
+-- its total is the sum of what it counted of each sender of a bus
+abbrev pub IsSummed : Hearing → Type 0
+IsSummed h = (length h.counts ≡ MOST_SENDERS) × (sum h.counts ≡ h.items)
+
+-- its total is that of the items of the order
+abbrev pub CountsAll : Order → Hearing → Type 0
+CountsAll order h = h.items ≡ length order.items
 
 -- the receivers before the one that is named are fair, and it is not
 abbrev pub IsFirstFault : Order → List Hearing → AuditFault → Type 0

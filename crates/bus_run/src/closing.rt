@@ -5,7 +5,7 @@ ghost use Rattle.std.specs.Prelude.{length, map, vec_len, slice_get, Some};
 ghost use Rattle.std.specs.Prelude.{None, IfOk, OnOk, IfErr, IfSome, true, false};
 ghost use Rattle.std.specs.Vec.{vec_capacity};
 ghost use Rattle.bus_run.specs.Audit.{OfOrder, IsSpelled, IsFair, SendsEach, IsClosed};
-ghost use Rattle.bus_run.specs.Audit.{CarriesNumbers};
+ghost use Rattle.bus_run.specs.Audit.{CarriesNumbers, IsSummed, CountsAll};
 ghost use Rattle.bus_run.specs.Left.{IsLeftBehind, IsLeftBy, Shown, HasLearnt};
 ghost use Rattle.bus_run.specs.Told.{HasTold};
 ghost use Rattle.bus_pageslot.specs.Rule.{known_in};
@@ -52,6 +52,8 @@ pub fn end_and_audit<B: OfBus>(
     ensures closed { IfOk result (λ report. OfOrder report.ended IsClosed) }
     ensures heard { IfOk result
         (λ report. OfOrder report.ended (λ order. All (IsFair order) report.heards.items)) }
+    ensures all { IfOk result
+        (λ report. OfOrder report.ended (λ order. All (CountsAll order) report.heards.items)) }
     ensures notes { IfOk result
         (λ report. report.heards.items ≡ map (λ ear. ear.heard) crew.ears.items) }
     ensures each { IfOk result (λ report. length report.heards.items ≡ shape.receivers) }
@@ -154,6 +156,8 @@ fn end_whole<B: OfBus>(
     ensures closed { IfOk result (λ report. OfOrder report.ended IsClosed) }
     ensures heard { IfOk result
         (λ report. OfOrder report.ended (λ order. All (IsFair order) report.heards.items)) }
+    ensures all { IfOk result
+        (λ report. OfOrder report.ended (λ order. All (CountsAll order) report.heards.items)) }
     ensures notes { IfOk result
         (λ report. report.heards.items ≡ map (λ ear. ear.heard) ears.items) }
     ensures each { IfOk result (λ report. length report.heards.items ≡ shape.receivers) }
@@ -196,6 +200,7 @@ fn notes_of<B: OfBus>(
     ensures table { IfOk result (λ noted. bus_of noted.0 ≡ B.table) }
     ensures notes { IfOk result
         (λ noted. noted.1.items ≡ map (λ ear. ear.heard) ears.items) }
+    ensures summed { IfOk result (λ noted. All IsSummed noted.1.items) }
     ensures first { IfOk result (λ noted. slice_get
         (map (λ ear. ear.receiver.me.0) ears.items) 0 ≡ Some noted.0.me.0) }
     ensures room { OnOk result (length ears.items ≤ vec_capacity room) }

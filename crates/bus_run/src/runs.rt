@@ -3,7 +3,7 @@
 ghost use Rattle.std.specs.Prelude.{◌≡◌, ◌≤◌, [], All, length, IfOk, OnOk, IfErr};
 ghost use Rattle.bus_world.specs.Playing.{IsServed};
 ghost use Rattle.bus_run.specs.Audit.{OfOrder, IsSpelled, IsFair, SendsEach, IsClosed};
-ghost use Rattle.bus_run.specs.Audit.{shape_of_run, CarriesNumbers};
+ghost use Rattle.bus_run.specs.Audit.{shape_of_run, CarriesNumbers, CountsAll};
 ghost use Rattle.bus_run.specs.Left.{IsLeftBehind};
 ghost use Rattle.bus_run.specs.Stops.{IsStop, IsRunFault};
 ghost use Rattle.bus_pageslot.specs.Seats.{table_of, deeds_of};
@@ -48,6 +48,8 @@ pub fn run<R: Threads + Wait + Sync, G: Gate + Sync>(
     ensures closed { IfOk result (λ report. OfOrder report.ended IsClosed) }
     ensures heard { IfOk result
         (λ report. OfOrder report.ended (λ order. All (IsFair order) report.heards.items)) }
+    ensures all { IfOk result
+        (λ report. OfOrder report.ended (λ order. All (CountsAll order) report.heards.items)) }
     ensures each { IfOk result (λ report. length report.heards.items ≡ receivers) }
     ensures spelled { IfOk result (λ report. IsSpelled report.ended) }
     ensures fault { IfErr result (IsRunFault senders receivers) }
@@ -86,6 +88,8 @@ fn run_on<B: OfBus + Send + Sync, R: Threads + Wait + Sync, G: Gate + Sync>(
     ensures closed { IfOk result (λ report. OfOrder report.ended IsClosed) }
     ensures heard { IfOk result
         (λ report. OfOrder report.ended (λ order. All (IsFair order) report.heards.items)) }
+    ensures all { IfOk result
+        (λ report. OfOrder report.ended (λ order. All (CountsAll order) report.heards.items)) }
     ensures each { IfOk result (λ report. length report.heards.items ≡ shape.receivers) }
     ensures spelled { IfOk result (λ report. IsSpelled report.ended) }
     ensures fault { IfErr result (IsStop shape.senders shape.receivers) }

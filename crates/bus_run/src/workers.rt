@@ -7,11 +7,14 @@ ghost use Rattle.std.specs.Int.{w64, to_be_bytes};
 ghost use Rattle.bus_batch.specs.Batches.{next_of, IsPutFault};
 ghost use Rattle.bus_batch.specs.declared.batches.PutFault.{PutFault};
 ghost use Rattle.bus_pageslot.specs.Seats.{table_of, deeds_of};
+ghost use Rattle.bus_run.specs.Audit.{IsSummed};
 ghost use Rattle.bus_run.specs.Numbers.{numbers_below};
 ghost use Rattle.bus_run.specs.Stops.{HasSent};
 ghost use Rattle.bus_run.specs.Words.{generator_of};
 ghost use Rattle.bus_world.specs.Headline.{puts};
+ghost use Rattle.bus_pageslot.specs.Listening.{Hears};
 ghost use Rattle.bus_receiver.specs.Hearing.{nothing};
+ghost use Rattle.bus_receiver.specs.HearingRuns.{heard};
 ghost use Rattle.bus_receiver.specs.Listening.{bus_of};
 ghost use Rattle.bus_run.specs.declared.faults.SenderFault.TheVariants.{Stopped as stopped};
 
@@ -60,6 +63,7 @@ pub struct Ear<B: OfBus> {
     pub heard: Heard,
     of: PhantomData<B>,
     ghost of_bus: { bus_of receiver ≡ B.table },
+    ghost summed: { IsSummed heard },
 }
 
 impl<B: OfBus> Ear<B> {
@@ -75,8 +79,13 @@ impl<B: OfBus> Ear<B> {
         }
     }
 
-    /// A turn of its receiver, which is noted.
-    pub fn hear(&mut self, the: &TheBus<B>) -> RecvTurn {
+    /// A turn of its receiver, which is noted. The end is noted where it was answered, or before.
+    pub fn hear(&mut self, the: &TheBus<B>) -> RecvTurn
+        ensures turn { Hears self.old.receiver.me result self.new.receiver.me }
+        ensures noted { self.new.heard ≡ heard self.old.heard (result ∷ []) }
+        ensures ended { self.new.heard.ended ≡ true
+            → (self.old.heard.ended ≡ true) ⊎ (result ≡ RecvTurn.End) }
+    {
         let turn = self.receiver.turn(&the.bus);
         let _ = self.heard.note(&turn);
         turn

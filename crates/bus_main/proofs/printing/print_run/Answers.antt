@@ -32,7 +32,7 @@ returns-in_err-write_whole-clause-write g c is =
     let made = c.in_ok-report.ensures in
     let said = c.in_ok-text.ensures in (
       string_bytes c.in_ok-text.text,
-      is_run_text _ _ _ _ c.in_ok-report.report.ended c.in_ok-report.report.heards.items _ made.of made.left made.spelled made.sent made.carried made.closed c.min-messages.ensures made.each made.heard said.words said.text,
+      is_run_text _ _ _ _ c.in_ok-report.report.ended c.in_ok-report.report.heards.items _ made.of made.left made.spelled made.sent made.carried made.closed c.min-messages.ensures made.each made.heard made.all said.words said.text,
       subst (λ t. WritesPart (g.W.Write.contents c.args.writer.now) (g.W.Write.contents c.write_whole.new.writer) t) c.as_bytes.ensures.value c.in_err-write_whole.ensures.part,
     )
 
@@ -42,6 +42,6 @@ returns-clause-ok g c =
     let said = c.in_ok-text.ensures in (
       refl,
       string_bytes c.in_ok-text.text,
-      is_run_text _ _ _ _ c.in_ok-report.report.ended c.in_ok-report.report.heards.items _ made.of made.left made.spelled made.sent made.carried made.closed c.min-messages.ensures made.each made.heard said.words said.text,
+      is_run_text _ _ _ _ c.in_ok-report.report.ended c.in_ok-report.report.heards.items _ made.of made.left made.spelled made.sent made.carried made.closed c.min-messages.ensures made.each made.heard made.all said.words said.text,
       subst (λ t. Appends (g.W.Write.contents c.args.writer.now) (g.W.Write.contents c.write_whole.new.writer) t) c.as_bytes.ensures.value c.in_ok-write_whole.ensures.ok,
     )

@@ -4,11 +4,13 @@ use Rattle.std.proofs.lemmas.List.{length-map}
 use Rattle.std.proofs.lemmas.Option.{slice_get_within}
 use Rattle.bus_deliverylog.specs.Orders.{of_sender}
 use Rattle.bus_pageslot.specs.Rule.{known_in}
+use Rattle.bus_world.specs.declared.shapes.Shape.{Shape}
 use Rattle.bus_run.specs.Audit.{IsFair, IsFirstFault}
 use Rattle.bus_run.specs.Left.{Shown, IsLeftBy, IsToldByAll}
 use Rattle.bus_run.specs.Stops.{HasSent, IsFirstUnsent, IsFirstMiscount, IsFirstUnfair, IsLate}
 use Rattle.bus_run.specs.Told.{HasTold}
 use Rattle.bus_run.specs.declared.faults.RunFault.{RunFault}
+use Rattle.bus_run.proofs.CountLemmas.{all_counted}
 use Rattle.bus_run.proofs.LeftLemmas.{leaves, left_open}
 use Rattle.bus_run.proofs.StopLemmas.{of_each, passed_up}
 use Rattle.bus_run.proofs.ToldLemmas.{carries, still_told, told_all}
@@ -98,6 +100,12 @@ returns-clause-carried g c = λ order owners spells s k item lt at.
 
 pub returns-clause-heard : goal.returns-clause-heard
 returns-clause-heard g c = λ order owners spells. subst (All (IsFair order)) c.as_slice-2.ensures.value (c.in_ok-audit.ensures.ok order owners spells)
+
+pub returns-clause-all : goal.returns-clause-all
+returns-clause-all g c = λ order owners spells.
+    let left = c.in_ok-ended.ended in
+    let few = subst (λ n. n ≤ 8) (sym (c.in_ok-ended.ensures.of ∙ ap (λ (x : Shape). x.senders) c.requires.bus)) c.requires.senders in
+    all_counted left.senders left.log order owners _ few spells c.in_ok-first.ensures.summed (subst (All (IsFair order)) c.as_slice-2.ensures.value (c.in_ok-audit.ensures.ok order owners spells))
 
 pub returns-clause-each : goal.returns-clause-each
 returns-clause-each g c = ap length c.in_ok-first.ensures.notes ∙ length-map c.args.ears.items (λ ear. ear.heard) ∙ c.requires.whole.all_hear
