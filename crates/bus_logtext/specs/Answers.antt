@@ -1,0 +1,38 @@
+-- What the lines of a log are answered with.
+use Rattle.std.specs.Prelude.{◌≡◌, ◌⊎◌, ℕ, List, MatchResult}
+use Rattle.bus_register.specs.declared.registers.SenderNo.{SenderNo}
+use Rattle.bus_batch.specs.Frames.{Order, Spells}
+use Rattle.bus_deliverylog.specs.Logs.{IsFirstBad, IsTorn}
+use Rattle.bus_script.specs.declared.answers.Outcome.{Outcome}
+use Rattle.bus_script.specs.declared.answers.Outcome.TheVariants.{Done, Refused}
+use Rattle.bus_logtext.specs.Words.{words_of}
+use Rattle.bus_logtext.specs.Text.{log_text, bad_word_text, torn_text, refusal_text}
+
+-- words that are a log of so many senders, and what it spells
+pub record TellsLog (senders : ℕ) (words : List ℕ) (text : List ℕ) : Type 0 where
+  pub order : Order
+  pub owners : List (ℕ × SenderNo)
+  pub spells : Spells senders words order owners
+  pub text_is : text ≡ log_text order owners
+
+-- words that no log begins with, and the place of the first bad one
+pub record TellsBadWord (senders : ℕ) (words : List ℕ) (text : List ℕ) : Type 0 where
+  pub place : ℕ
+  pub bad : IsFirstBad senders words place
+  pub text_is : text ≡ bad_word_text place
+
+-- words that end within a frame
+pub record TellsTorn (senders : ℕ) (words : List ℕ) (text : List ℕ) : Type 0 where
+  pub torn : IsTorn senders words
+  pub text_is : text ≡ torn_text
+
+-- the text that answers words: what they spell, or why they are no log and nothing else
+abbrev pub IsLogAnswer : ℕ → List ℕ → Outcome → List ℕ → Type 0
+IsLogAnswer senders words Done text = TellsLog senders words text
+IsLogAnswer senders words Refused text = TellsBadWord senders words text ⊎ TellsTorn senders words text
+
+-- the text that answers an input: that of its words, or the first refusal of a line and nothing else
+abbrev pub IsAnswer : ℕ → List ℕ → Outcome → List ℕ → Type 0
+IsAnswer senders input outcome text = MatchResult (words_of input)
+    (λ words. IsLogAnswer senders words outcome text)
+    (λ refusal. (outcome ≡ Refused) × (text ≡ refusal_text refusal))
