@@ -1,2 +1,4 @@
 pub mod WordLemmas
 pub mod PrintLemmas
+pub mod AnswerLemmas
+pub mod LineLemmas

@@ -23,7 +23,7 @@ small_byte : (k n : ℕ) → byte_at k n < 256
 small_byte zero n = omega arith
 small_byte (suc k) n = mod_below (n / 256 ^ suc k) 256 (omega arith)
 
-small_bytes : (k n : ℕ) → IsBytes (bytes_high_first k n)
+pub small_bytes : (k n : ℕ) → IsBytes (bytes_high_first k n)
 small_bytes zero n i = omega arith
 small_bytes (suc k) n zero = small_byte k n
 small_bytes (suc k) n (suc i) = small_bytes k n i

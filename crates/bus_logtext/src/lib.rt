@@ -3,6 +3,7 @@
 
 pub mod answers;
 pub mod faults;
+pub mod laws;
 pub mod text;
 pub mod words;
 

@@ -1,0 +1,54 @@
+//! Laws of the text of logs: each function does nothing, and its contract is the law.
+
+ghost use Rattle.std.specs.Prelude.{◌≡◌, ℕ, ◌↔◌, ◌^◌, ◌≤◌, List, Some, None, Ok, codes};
+ghost use Rattle.std.specs.Prelude.{length};
+ghost use Rattle.bus_register.specs.declared.limits.TheConstants.{MOST_LOG_WORDS};
+ghost use Rattle.bus_deliverylog.specs.Logs.{IsFirstBad, IsTorn};
+ghost use Rattle.bus_batch.specs.Frames.{Spells};
+ghost use Rattle.bus_script.specs.Grammar.{script_lines};
+ghost use Rattle.bus_script.specs.declared.answers.Outcome.{Outcome};
+ghost use Rattle.bus_script.specs.declared.answers.Outcome.TheVariants.{Done, Refused};
+ghost use Rattle.bus_logtext.specs.Words.{word_of, words_of};
+ghost use Rattle.bus_logtext.specs.Lines.{IsWordLine, AreWordLines};
+ghost use Rattle.bus_logtext.specs.Text.{log_text, bad_word_text, torn_text};
+ghost use Rattle.bus_logtext.specs.Answers.{IsAnswer};
+
+use bus_batch::laws::spells_one;
+use bus_deliverylog::laws::readings_are_exact;
+
+/// A line is a word just where it is spelled so.
+pub fn lines_are_words()
+    ensures { (line : List ℕ) (word : ℕ) → (word_of line ≡ Some word) ↔ IsWordLine line word }
+{}
+
+/// Lines have words just where those that are not passed over are spelled so, and are not too many.
+pub fn inputs_are_words()
+    ensures { (input words : List ℕ) → (words_of input ≡ Ok words)
+        ↔ (AreWordLines (script_lines input) words × (length words ≤ MOST_LOG_WORDS)) }
+{}
+
+/// An input has one answer.
+pub fn answers_are_one()
+    ensures { (senders : ℕ) (input : List ℕ) (outcome other : Outcome) (text another : List ℕ)
+        → IsAnswer senders input outcome text → IsAnswer senders input other another
+        → (outcome ≡ other) × (text ≡ another) }
+{
+    spells_one();
+    readings_are_exact();
+}
+
+/// What is no word: a digit too few, a digit too many, and a letter that is no digit. What no
+/// answer does: to tell a log where words end within a frame, and another log than words spell.
+pub fn answers_refuse()
+    ensures short { word_of (codes "400002000000000") ≡ None }
+    ensures long { word_of (codes "40000200000000000") ≡ None }
+    ensures letter { word_of (codes "400002000000000g") ≡ None }
+    ensures torn { (senders : ℕ) (input words : List ℕ) (text : List ℕ) → words_of input ≡ Ok words
+        → IsTorn senders words → ¬ IsAnswer senders input Done text }
+    ensures other { (senders : ℕ) (input words : List ℕ) (text : List ℕ) (order : _) (owners : _)
+        → words_of input ≡ Ok words → Spells senders words order owners
+        → IsAnswer senders input Done text → text ≡ log_text order owners }
+{
+    spells_one();
+    readings_are_exact();
+}
