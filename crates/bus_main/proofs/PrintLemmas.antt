@@ -1,11 +1,13 @@
 -- What is printed of a run that ended well, and that nothing is printed of another.
-use Rattle.std.proofs.Common.{◌≡◌, ℕ, All, List, length, inl, inr, sym, subst, ◌∙◌}
+use Rattle.std.proofs.Common.{◌≡◌, ℕ, All, List, length, inl, inr, refl, sym, subst, ◌∙◌}
 use Rattle.std.specs.Prelude.{Result, Err, IsErr, IsErrAnd}
 use Rattle.bus_pageslot.specs.Outcomes.{Outcome}
 use Rattle.bus_receiver.specs.Hearing.{Hearing}
 use Rattle.bus_run.specs.Audit.{IsSpelled, OfOrder, IsFair, CountsAll, SendsEach, CarriesNumbers, IsClosed, shape_of_run}
 use Rattle.bus_run.specs.Left.{IsLeftBehind}
 use Rattle.bus_run.specs.RunText.{report_text, IsRunText}
+use Rattle.bus_logtext.specs.Words.{words_text}
+use Rattle.bus_main.specs.RunLog.{IsRunLog}
 use Rattle.bus_run.specs.Stops.{IsStop, IsRunFault}
 use Rattle.bus_run.specs.declared.faults.RunFault.{RunFault}
 use Rattle.bus_run.specs.declared.faults.RunFault.TheVariants as run
@@ -29,6 +31,30 @@ is_run_text senders receivers messages asked left heards text of behind spelled 
   all = all spelled.0 spelled.1 spelled.2;
   words = words;
   text_is = said spelled.0 spelled.1 spelled.2;
+}
+
+-- the log of a run, of which this many messages of each sender were asked
+pub is_run_log : (senders receivers messages asked : ℕ) (left : Outcome) (heards : List Hearing) (text : List ℕ) → left.senders ≡ senders → IsLeftBehind (shape_of_run senders receivers) left → IsSpelled left → OfOrder left (SendsEach senders messages) → OfOrder left (CarriesNumbers senders) → OfOrder left IsClosed → messages ≡ asked → length heards ≡ receivers
+    → OfOrder left (λ order. All (IsFair order) heards) → left.page.words ≡ length left.log → text ≡ words_text left.log → IsRunLog senders receivers asked text
+is_run_log senders receivers messages asked left heards text of behind spelled sent carried closed is each fair words said = record {
+  summary = report_text spelled.0 left.page senders heards;
+  run = record {
+    left = left;
+    order = spelled.0;
+    owners = spelled.1;
+    spells = spelled.2;
+    senders_are = of;
+    left_behind = behind;
+    carried = carried spelled.0 spelled.1 spelled.2;
+    sends = subst (λ n. SendsEach senders n spelled.0) is (sent spelled.0 spelled.1 spelled.2);
+    closed = closed spelled.0 spelled.1 spelled.2;
+    heards = heards;
+    each = each;
+    fair = fair spelled.0 spelled.1 spelled.2;
+    words = words;
+    text_is = refl;
+  };
+  text_is = said;
 }
 
 -- ---- what goes wrong before anything is written

@@ -12,7 +12,12 @@ use std::alloc::Global;
 pub enum Task {
     Ratify,
     Replay,
+    /// Of a run, its summary.
     Run(Request),
+    /// Of a run, its log.
+    RunLog(Request),
+    /// Of a log of so many senders, what it spells.
+    Log { senders: u64 },
 }
 
 /// The task that the words name, of which the first is the program's name.
@@ -27,11 +32,16 @@ pub fn parse<'a>(alloc: Global, words: &'a [String]) -> Result<Task, Error> {
         .disable_help_subcommand(true)
         .subcommand(ratify)?
         .subcommand(replay)?
-        .subcommand(run_command(alloc)?)?;
+        .subcommand(run_command(alloc)?)?
+        .subcommand(log_command(alloc)?)?;
     let matches = bus.try_get_matches_from(words)?;
     match matches.subcommand() {
         Some(("replay", _)) => Ok(Task::Replay),
+        Some(("run", given)) if given.get_flag("log") => Ok(Task::RunLog(request_of(given))),
         Some(("run", given)) => Ok(Task::Run(request_of(given))),
+        Some(("log", given)) => Ok(Task::Log {
+            senders: given.get_one::<u64>("senders").unwrap_or(3),
+        }),
         _ => Ok(Task::Ratify),
     }
 }
@@ -46,7 +56,21 @@ fn run_command<'a>(alloc: Global) -> Result<Command<'a>, Error> {
         .arg(number(alloc, "senders", "3", senders))?
         .arg(number(alloc, "receivers", "2", receivers))?
         .arg(number(alloc, "messages", "100", messages))?
-        .arg(number(alloc, "seed", "7", value_parser!(u64)))?;
+        .arg(number(alloc, "seed", "7", value_parser!(u64)))?
+        .arg(
+            Arg::new(alloc, "log")
+                .long("log")
+                .action(ArgAction::SetTrue),
+        )?;
+    Ok(command)
+}
+
+/// The command `log`.
+fn log_command<'a>(alloc: Global) -> Result<Command<'a>, Error> {
+    let senders = value_parser!(u64).range(1..MOST_SENDERS as i64 + 1);
+    let command = Command::new(alloc, "log")
+        .about("Tells what the words of a log on standard input spell")
+        .arg(number(alloc, "senders", "3", senders))?;
     Ok(command)
 }
 

@@ -1,5 +1,6 @@
 //! The program `bus`. `bus ratify` and `bus replay` read a script from standard input and write its
-//! answer to standard output. `bus run` lets threads share a bus, and writes what came of it.
+//! answer to standard output, and `bus log` the words of a log. `bus run` lets threads share a bus,
+//! and writes what came of it.
 //!
 //! Exit status: 0 where the script was played or the bus was run; 1 where a script was refused or
 //! the program could not do its work, which standard error then says; 2 where the command line was
@@ -7,6 +8,7 @@
 #![tactic(auto)]
 
 mod command_line;
+mod log;
 mod printing;
 mod ratify;
 mod replay;
@@ -15,7 +17,8 @@ mod streams;
 mod tests;
 
 use self::command_line::{Task, parse};
-use self::printing::print_run;
+use self::log::log;
+use self::printing::{print_log, print_run};
 use self::ratify::ratify;
 use self::replay::replay;
 use bus_adoptcommit::ThreeWord;
@@ -53,6 +56,13 @@ fn bus<R: AllocGlobal + Env + Input + Print + Eprint + Threads + Wait + Sync>(rt
             rt,
             replay::<ThreeWord, _, _>(rt.alloc(), &mut rt.reader(), &mut io::writer(rt)),
         ),
+        Ok(Task::Log { senders }) => end(
+            rt,
+            log(rt.alloc(), senders, &mut rt.reader(), &mut io::writer(rt)),
+        ),
+        Ok(Task::RunLog(request)) => {
+            end(rt, print_log(rt, rt.alloc(), request, &mut io::writer(rt)))
+        }
         Ok(Task::Run(request)) => end(rt, print_run(rt, rt.alloc(), request, &mut io::writer(rt))),
         Err(error) if error.kind() == ErrorKind::OutOfMemory => end(rt, Err(RunFault::NoMemory)),
         Err(error) => {

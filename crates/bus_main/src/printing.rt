@@ -1,12 +1,14 @@
-//! What `bus run` prints of a run.
+//! What `bus run` prints of a run: its summary, or its log.
 
 ghost use Rattle.std.specs.Prelude.{◌≡◌, ◌⊎◌, ℕ, List, IfOk, IfErr, IsErrOf, min};
 ghost use Rattle.std.specs.Io.KnownBytes.{Appends, Keeps};
+ghost use Rattle.bus_main.specs.RunLog.{IsRunLog};
 ghost use Rattle.bus_run.specs.RunText.{IsRunText};
 ghost use Rattle.bus_run.specs.Stops.{IsRunFault};
 ghost use Rattle.bus_main.specs.Streams.{WritesPart};
 
 use crate::streams::write_whole;
+use bus_logtext::print_words;
 use bus_run::limits::MOST_MESSAGES_EACH;
 use bus_run::{OpenGate, RunFault, report_text, run};
 use bus_script::Outcome;
@@ -61,6 +63,47 @@ pub fn print_run<R: Threads + Wait + Sync, W: Write>(
         &OpenGate,
     )?;
     let text = report_text(alloc, &report, request.senders)?;
+    write_whole(writer, text.as_bytes())?;
+    Ok(Outcome::Done)
+}
+
+/// Runs a bus and writes the words of its log, a line for each.
+pub fn print_log<R: Threads + Wait + Sync, W: Write>(
+    rt: &R,
+    alloc: Global,
+    request: Request,
+    writer: &mut W,
+) -> Result<Outcome, RunFault>
+    // The run ended well, and all of its log was written.
+    ensures ok { IfOk result (λ outcome. (outcome ≡ Outcome.Done) × (text : List ℕ)
+        × IsRunLog request.senders request.receivers
+        (min request.messages MOST_MESSAGES_EACH) text
+        × Appends (W.contents writer.old) (W.contents writer.new) text) }
+
+    // The run ended well, and a part of its log was written.
+    ensures write { IsErrOf result RunFault.Write → (text : List ℕ)
+        × IsRunLog request.senders request.receivers
+        (min request.messages MOST_MESSAGES_EACH) text
+        × WritesPart (W.contents writer.old) (W.contents writer.new) text }
+
+    // Else the run did not end well, or there was no memory for the text, and nothing was written.
+    ensures fault { IfErr result (λ fault. (fault ≡ RunFault.Write)
+        ⊎ IsRunFault request.senders request.receivers fault) }
+    ensures unwritten { IfErr result (λ fault. (fault ≡ RunFault.Write → ⊥)
+        → Keeps (W.contents writer.old) (W.contents writer.new)) }
+{
+    let messages = request.messages.min(MOST_MESSAGES_EACH);
+    let report = run(
+        rt,
+        alloc,
+        request.senders,
+        request.receivers,
+        messages,
+        request.seed,
+        &OpenGate,
+    )?;
+    let _page = report.ended.page();
+    let text = print_words(alloc, report.ended.log())?;
     write_whole(writer, text.as_bytes())?;
     Ok(Outcome::Done)
 }

@@ -6,9 +6,9 @@ ghost use Rattle.bus_tenure.specs.Elections.{election_of};
 ghost use Rattle.bus_world.specs.Playing.{layout_of};
 ghost use Rattle.bus_script.specs.declared.answers.Outcome.{Outcome};
 ghost use Rattle.bus_replay.specs.Answers.{IsReplay};
-ghost use Rattle.bus_main.specs.Streams.{input_limit, ReadsWhole, ReadsAtMost, IsScriptFault};
+ghost use Rattle.bus_main.specs.Streams.{ReadsWhole, ReadsAtMost, IsScriptFault};
 
-use crate::streams::{read_whole, write_whole};
+use crate::streams::{SCRIPT_LIMIT, read_whole, write_whole};
 use bus_adoptcommit::Ratifier;
 use bus_replay::answer_to;
 use bus_run::RunFault;
@@ -25,14 +25,14 @@ pub fn replay<Q: Ratifier + Drop, R: Read, W: Write>(
     // All of the input was read, and all of its answer was written.
     ensures ok { let X = election_of Q.Ratifier in
         IfOk result (λ outcome. (input text : List ℕ)
-        × ReadsWhole (R.remaining reader.old) input
+        × ReadsWhole SCRIPT_LIMIT (R.remaining reader.old) input
         × IsReplay (λ shape. (X, layout_of Q.protocol shape)) input outcome text
         × Appends (W.contents writer.old) (W.contents writer.new) text) }
 
     // Which faults there are. But for a front of the answer, where a write failed, nothing was
     // written.
     ensures fault { let X = election_of Q.Ratifier in
-        IfErr result (IsScriptFault (λ input text. (outcome : Outcome)
+        IfErr result (IsScriptFault SCRIPT_LIMIT (λ input text. (outcome : Outcome)
         × IsReplay (λ shape. (X, layout_of Q.protocol shape)) input outcome text)
         (R.remaining reader.old) (R.remaining reader.new) (W.contents writer.old)
         (W.contents writer.new)) }
@@ -40,9 +40,9 @@ pub fn replay<Q: Ratifier + Drop, R: Read, W: Write>(
     // The reader is at its end, or it gave no more than shows that the input is too long.
     ensures end { OnOk result (IsAtEnd (R.remaining reader.new)) }
     ensures taken { ReadsAtMost (R.remaining reader.old) (R.remaining reader.new)
-        (input_limit + 1) }
+        (SCRIPT_LIMIT + 1) }
 {
-    let input = read_whole(alloc, reader)?;
+    let input = read_whole(alloc, reader, SCRIPT_LIMIT)?;
     let answer = answer_to::<Q>(alloc, input.as_slice())?;
     write_whole(writer, answer.text.as_bytes())?;
     Ok(answer.outcome)

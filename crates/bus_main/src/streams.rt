@@ -1,8 +1,8 @@
 //! An input that is read whole, and a text that is written whole.
 
-ghost use Rattle.std.specs.Prelude.{◌≡◌, ◌+◌, IfOk, OnOk, IfErr};
+ghost use Rattle.std.specs.Prelude.{◌≡◌, ◌≤◌, ◌^◌, ◌+◌, IfOk, OnOk, IfErr};
 ghost use Rattle.std.specs.Io.KnownBytes.{Appends, IsAtEnd};
-ghost use Rattle.bus_main.specs.Streams.{input_limit, ReadsWhole, ReadsAtMost, WritesPart};
+ghost use Rattle.bus_main.specs.Streams.{ReadsWhole, ReadsAtMost, WritesPart};
 ghost use Rattle.bus_main.specs.Streams.{IsReadFault};
 
 use bus_run::RunFault;
@@ -10,24 +10,29 @@ use std::alloc::Global;
 use std::io::{Read, Write};
 
 /// How many bytes a script has at most.
-const INPUT_LIMIT: usize = 1_048_576;
+pub const SCRIPT_LIMIT: usize = 1_048_576;
+
+/// How many bytes the lines of a log have at most.
+pub const LOG_LIMIT: usize = 2_097_152;
 
 /// How many bytes are read at once.
 const CHUNK: usize = 16_384;
 
-/// Reads to the end, and gives up where more comes than an input may have. Each error of the reader
+/// Reads to the end, and gives up where more than so many bytes come. Each error of the reader
 /// counts, an interrupted read too.
-pub fn read_whole<R: Read>(alloc: Global, reader: &mut R) -> Result<Vec<u8>, RunFault>
-    ensures ok { IfOk result (λ input. ReadsWhole (R.remaining reader.old) input.items) }
+pub fn read_whole<R: Read>(alloc: Global, reader: &mut R, limit: usize) -> Result<Vec<u8>, RunFault>
+    requires { limit ≤ 2 ^ 32 }
+    ensures ok { IfOk result (λ input. ReadsWhole limit (R.remaining reader.old) input.items) }
     ensures end { OnOk result (IsAtEnd (R.remaining reader.new)) }
-    ensures fault { IfErr result (IsReadFault (R.remaining reader.old) (R.remaining reader.new)) }
+    ensures fault { IfErr result
+        (IsReadFault limit (R.remaining reader.old) (R.remaining reader.new)) }
     ensures taken { ReadsAtMost (R.remaining reader.old) (R.remaining reader.new)
-        (input_limit + 1) }
+        (limit + 1) }
 {
     let mut input = Vec::new(alloc);
     let mut chunk = [0u8; CHUNK];
-    while input.len() <= INPUT_LIMIT {
-        let room = CHUNK.min(INPUT_LIMIT + 1 - input.len());
+    while input.len() <= limit {
+        let room = CHUNK.min(limit + 1 - input.len());
         let Ok(count) = reader.read(&mut chunk[..room]) else {
             return Err(RunFault::Read);
         };

@@ -1,5 +1,6 @@
 //! What no clause says: the longest script, streams that fail, and command lines.
 
+mod log;
 mod replay;
 mod run;
 mod streams;

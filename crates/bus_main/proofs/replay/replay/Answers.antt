@@ -5,6 +5,7 @@ use Rattle.bus_tenure.specs.Elections.{Elector, election_with, layout_with}
 use Rattle.bus_world.specs.declared.shapes.Shape.{Shape}
 use Rattle.bus_script.specs.declared.answers.Outcome.{Outcome}
 use Rattle.bus_run.specs.declared.faults.RunFault.{RunFault}
+use Rattle.bus_main.specs.declared.streams.TheConstants.{SCRIPT_LIMIT}
 use Rattle.bus_main.specs.Streams.{WritesPart, IsScriptFault}
 use Rattle.bus_main.proofs.StreamLemmas.{passed_up}
 use Rattle.bus_replay.specs.Answers.{IsReplay}
@@ -16,7 +17,7 @@ returns-in_err-write_whole-clause-fault g c =
     λ shape. (election_with g.Q.Machine.kind_of g.Q.Machine.op g.Q.Machine.fed g.Q.Ratifier.protocol, layout_with g.Q.Ratifier.protocol shape.senders shape.rounds shape.rows shape.log_words) in
     let IsAnswered : List ℕ → List ℕ → Type 0 = λ input text. (outcome : Outcome) × IsReplay of input outcome text in
     let Fails : RunFault → Type 0 =
-    IsScriptFault IsAnswered (g.R.Read.remaining c.args.reader.now) (g.R.Read.remaining c.read_whole.new.reader) (g.W.Write.contents c.args.writer.now) (g.W.Write.contents c.write_whole.new.writer) in
+    IsScriptFault SCRIPT_LIMIT IsAnswered (g.R.Read.remaining c.args.reader.now) (g.R.Read.remaining c.read_whole.new.reader) (g.W.Write.contents c.args.writer.now) (g.W.Write.contents c.write_whole.new.writer) in
     let answer = c.in_ok-answer.answer in
     passed_up _ _ Fails c.from_residual-in_err-write_whole.ensures (subst Fails (sym c.in_err-write_whole.ensures.err) (
       c.in_ok-input.input.items,
