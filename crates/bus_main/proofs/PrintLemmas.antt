@@ -35,8 +35,8 @@ is_run_text senders receivers messages asked left heards text of behind spelled 
 
 -- the log of a run, of which this many messages of each sender were asked
 pub is_run_log : (senders receivers messages asked : ℕ) (left : Outcome) (heards : List Hearing) (text : List ℕ) → left.senders ≡ senders → IsLeftBehind (shape_of_run senders receivers) left → IsSpelled left → OfOrder left (SendsEach senders messages) → OfOrder left (CarriesNumbers senders) → OfOrder left IsClosed → messages ≡ asked → length heards ≡ receivers
-    → OfOrder left (λ order. All (IsFair order) heards) → left.page.words ≡ length left.log → text ≡ words_text left.log → IsRunLog senders receivers asked text
-is_run_log senders receivers messages asked left heards text of behind spelled sent carried closed is each fair words said = record {
+    → OfOrder left (λ order. All (IsFair order) heards) → OfOrder left (λ order. All (CountsAll order) heards) → left.page.words ≡ length left.log → text ≡ words_text left.log → IsRunLog senders receivers asked text
+is_run_log senders receivers messages asked left heards text of behind spelled sent carried closed is each fair all words said = record {
   summary = report_text spelled.0 left.page senders heards;
   run = record {
     left = left;
@@ -51,6 +51,7 @@ is_run_log senders receivers messages asked left heards text of behind spelled s
     heards = heards;
     each = each;
     fair = fair spelled.0 spelled.1 spelled.2;
+    all = all spelled.0 spelled.1 spelled.2;
     words = words;
     text_is = refl;
   };

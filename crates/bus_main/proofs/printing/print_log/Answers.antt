@@ -11,7 +11,7 @@ returns-in_err-write_whole-clause-write g c is =
     let made = c.in_ok-report.ensures in
     let words = sym (ap (λ (page : Page). page.words) c.page-page.ensures.page) ∙ c.page-page.ensures.words in (
       string_bytes c.in_ok-text.text,
-      is_run_log _ _ _ _ c.in_ok-report.report.ended c.in_ok-report.report.heards.items _ made.of made.left made.spelled made.sent made.carried made.closed c.min-messages.ensures made.each made.heard words (c.in_ok-text.ensures.text ∙ ap words_text c.log.ensures),
+      is_run_log _ _ _ _ c.in_ok-report.report.ended c.in_ok-report.report.heards.items _ made.of made.left made.spelled made.sent made.carried made.closed c.min-messages.ensures made.each made.heard made.all words (c.in_ok-text.ensures.text ∙ ap words_text c.log.ensures),
       subst (λ t. WritesPart (g.W.Write.contents c.args.writer.now) (g.W.Write.contents c.write_whole.new.writer) t) c.as_bytes.ensures.value c.in_err-write_whole.ensures.part,
     )
 
@@ -21,6 +21,6 @@ returns-clause-ok g c =
     let words = sym (ap (λ (page : Page). page.words) c.page-page.ensures.page) ∙ c.page-page.ensures.words in (
       refl,
       string_bytes c.in_ok-text.text,
-      is_run_log _ _ _ _ c.in_ok-report.report.ended c.in_ok-report.report.heards.items _ made.of made.left made.spelled made.sent made.carried made.closed c.min-messages.ensures made.each made.heard words (c.in_ok-text.ensures.text ∙ ap words_text c.log.ensures),
+      is_run_log _ _ _ _ c.in_ok-report.report.ended c.in_ok-report.report.heards.items _ made.of made.left made.spelled made.sent made.carried made.closed c.min-messages.ensures made.each made.heard made.all words (c.in_ok-text.ensures.text ∙ ap words_text c.log.ensures),
       subst (λ t. Appends (g.W.Write.contents c.args.writer.now) (g.W.Write.contents c.write_whole.new.writer) t) c.as_bytes.ensures.value c.in_ok-write_whole.ensures.ok,
     )
