@@ -1,3 +1,4 @@
+pub mod ConciliatorAnswers
 pub mod ConciliatorGoes
 pub mod ConciliatorLaws
 pub mod ConciliatorMoves

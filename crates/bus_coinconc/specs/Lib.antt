@@ -1,5 +1,6 @@
 pub mod Conciliation
 pub mod Conciliator
+pub mod ConciliatorAnswer
 pub mod ConciliatorKinds
 pub mod ConciliatorProtocol
 pub mod Proved
