@@ -6,8 +6,8 @@ ghost use Rattle.bus_adoptcommit.specs.ThreeWord.{Local, kind_at, op_of, fed_of}
 ghost use Rattle.bus_adoptcommit.specs.ThreeWordKeeps.{three_word};
 ghost use Rattle.bus_adoptcommit.specs.Proved.ThreeWordLaws.{three_word_legal, wordless};
 ghost use Rattle.bus_adoptcommit.specs.Proved.ThreeWordLaws.{quick, narrow};
-ghost use Rattle.bus_adoptcommit.specs.Proved.ThreeWordStepLaws.{named_at, own_kinds, named_for};
-ghost use Rattle.bus_adoptcommit.specs.Proved.ThreeWordStepLaws.{in_order};
+ghost use Rattle.bus_adoptcommit.specs.Proved.ThreeWordStepLaws.{named_at, own_kinds, named_for_at};
+ghost use Rattle.bus_adoptcommit.specs.Proved.ThreeWordStepLaws.{in_order_at};
 
 use super::progress::Progress;
 use super::ratifiers::Ratifier;
@@ -130,9 +130,9 @@ impl Ratifier for ThreeWord {
 
     ghost own_kinds = { own_kinds };
 
-    ghost named_for = { named_for };
+    ghost named_for = { λ s k word o e q. named_for_at s.progress s k o e q };
 
-    ghost in_order = { in_order };
+    ghost in_order = { λ s got word k next e f. in_order_at s.progress s got k next e f };
 
     ghost wordless = { wordless };
 

@@ -7,8 +7,8 @@ ghost use Rattle.bus_adoptcommit.specs.TwoCollect.{Local, Sized, proposal_code, 
 ghost use Rattle.bus_adoptcommit.specs.TwoCollect.{verdict_in, kind_at, op_of, fed_of};
 ghost use Rattle.bus_adoptcommit.specs.TwoCollectKeeps.{two_collect};
 ghost use Rattle.bus_adoptcommit.specs.Proved.TwoCollectLaws.{two_collect_legal, two_collect_exact};
-ghost use Rattle.bus_adoptcommit.specs.Proved.TwoCollectLaws.{named_at, own_kinds, named_for};
-ghost use Rattle.bus_adoptcommit.specs.Proved.TwoCollectLaws.{in_order};
+ghost use Rattle.bus_adoptcommit.specs.Proved.TwoCollectLaws.{named_at, own_kinds, named_for_at};
+ghost use Rattle.bus_adoptcommit.specs.Proved.TwoCollectLaws.{in_order_at};
 ghost use Rattle.bus_adoptcommit.specs.Proved.TwoCollectLaws.{wordless};
 ghost use Rattle.bus_adoptcommit.specs.Proved.TwoCollectLaws.{quick, narrow};
 
@@ -198,9 +198,9 @@ impl Ratifier for TwoCollect {
 
     ghost own_kinds = { own_kinds };
 
-    ghost named_for = { named_for };
+    ghost named_for = { λ s k word o e q. named_for_at s.phase s.n s k o e q };
 
-    ghost in_order = { in_order };
+    ghost in_order = { λ s got word k next e f. in_order_at s.phase s got k next e f };
 
     ghost wordless = { wordless };
 

@@ -95,7 +95,7 @@ pub own_kinds : (s : Local) (k : Kind) → kind_at s.progress ≡ Some k → IsO
 own_kinds s k e = own_kinds_at s.progress k e
 
 -- a step is named for what it does
-named_for_at : (pr : Progress) (s : Local) (k : Kind) (o : Op) → kind_at pr ≡ Some k → op_at pr s ≡ Some o → IsNamedFor k o (nat_lt 0 (behind pr))
+pub named_for_at : (pr : Progress) (s : Local) (k : Kind) (o : Op) → kind_at pr ≡ Some k → op_at pr s ≡ Some o → IsNamedFor k o (nat_lt 0 (behind pr))
 named_for_at Bring s k o e q =
     let is = same_Some _ _ e in
     record { stores = λ w. inl (sym is); storing = λ w. (_, _, sym (same_Some _ _ q)); reading = λ w. absurd (not_reading k (inl (sym is)) w); proposes = λ w. refl; first = λ w. sym is }
@@ -110,23 +110,17 @@ named_for_at ReadOther s k o e q =
     record { stores = λ w. absurd (let z = same_Some _ _ q ∙ w.2 in cc); storing = λ w. absurd (not_storing k (inr (sym is)) w); reading = λ w. (_, sym (same_Some _ _ q)); proposes = λ w. absurd (let z = is ∙ w in cc); first = λ w. absurd (true≢false w) }
 named_for_at Ended s k o e q = absurd cc
 
-pub named_for : (s : Local) (k : Kind) (word : ℕ) (o : Op) → kind_at s.progress ≡ Some k → op_of s ≡ Some o → IsNamedFor k o (three_word.has_begun s)
-named_for s k word o e q = named_for_at s.progress s k o e q
-
 -- its kinds come in their order
 in_order_found : (none : Bool) (s : Local) (v : Bool) (k next : Kind) → k ≡ kind.ReadProposal → kind_at (cond none (record s { progress = Propose }) (record s { preference = v; progress = ReadOther })).progress ≡ Some next → ComesAfter k next
 in_order_found true s v k next is e = to_store_verdict k next is (same_Some _ _ e)
 in_order_found false s v k next is e = to_read_verdict k next (λ w. let z = sym is ∙ w in cc) (same_Some _ _ e)
 
-in_order_at : (pr : Progress) (s : Local) (got : ℕ) (k next : Kind) → kind_at pr ≡ Some k → kind_at (fed_at pr s got).progress ≡ Some next → ComesAfter k next
+pub in_order_at : (pr : Progress) (s : Local) (got : ℕ) (k next : Kind) → kind_at pr ≡ Some k → kind_at (fed_at pr s got).progress ≡ Some next → ComesAfter k next
 in_order_at Bring s got k next e f = to_read_proposal k next (inl (sym (same_Some _ _ e))) (same_Some _ _ f)
 in_order_at ReadProposal s got k next e f = in_order_found (got == 0) s (got == 2) k next (sym (same_Some _ _ e)) f
 in_order_at Propose s got k next e f = to_read_verdict k next (λ w. let z = same_Some _ _ e ∙ w in cc) (same_Some _ _ f)
 in_order_at ReadOther s got k next e f = absurd cc
 in_order_at Ended s got k next e f = absurd cc
-
-pub in_order : (s : Local) (got word : ℕ) (k next : Kind) → kind_at s.progress ≡ Some k → kind_at (fed_of s got).progress ≡ Some next → ComesAfter k next
-in_order s got word k next e f = in_order_at s.progress s got k next e f
 
 -- a store does not tell what it found
 pub blind_at : (pr : Progress) (s : Local) (got got' : ℕ) (o : Op) → op_at pr s ≡ Some o → IsStore o → fed_at pr s got ≡ fed_at pr s got'

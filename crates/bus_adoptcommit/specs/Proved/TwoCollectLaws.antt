@@ -49,7 +49,7 @@ begun_one m l = grind (arith, nat_tests)
 true_apart : {A : Type 0} (b : Bool) → b ≡ true → b ≡ false → A
 true_apart b e f = absurd (true≢false (sym e ∙ f))
 
-named_for_at : (ph : Phase) (n : ℕ) (s : Local) (k : Kind) (o : Op) → kind_at ph ≡ Some k → op_at ph s ≡ Some o → IsNamedFor k o (nat_lt 0 (taken_at n ph))
+pub named_for_at : (ph : Phase) (n : ℕ) (s : Local) (k : Kind) (o : Op) → kind_at ph ≡ Some k → op_at ph s ≡ Some o → IsNamedFor k o (nat_lt 0 (taken_at n ph))
 named_for_at StoreProposal n s k o e q =
     let is = same_Some _ _ e in
     record { stores = λ w. inl (sym is); storing = λ w. (_, _, sym (same_Some _ _ q)); reading = λ w. absurd (not_reading k (inl (sym is)) w); proposes = λ w. refl; first = λ w. sym is }
@@ -64,9 +64,6 @@ named_for_at (ReadVerdict of) n s k o e q =
     record { stores = λ w. absurd (let z = same_Some _ _ q ∙ w.2 in cc); storing = λ w. absurd (not_storing k (inr (sym is)) w); reading = λ w. (_, sym (same_Some _ _ q)); proposes = λ w. absurd (let z = is ∙ w in cc); first = true_apart _ begun }
 named_for_at Ended n s k o e q = absurd cc
 
-pub named_for : (s : Local) (k : Kind) (word : ℕ) (o : Op) → kind_at s.phase ≡ Some k → op_of s ≡ Some o → IsNamedFor k o (two_collect.has_begun s)
-named_for s k word o e q = named_for_at s.phase s.n s k o e q
-
 -- its kinds come in their order
 after_read : (more : Bool) (of : ℕ) (k next : Kind) → k ≡ kind.ReadProposal → kind_at (cond more (ReadProposal (of + 1)) StoreVerdict) ≡ Some next → ComesAfter k next
 after_read true of k next is e = to_read_proposal k next (inr is) (same_Some _ _ e)
@@ -76,15 +73,12 @@ after_last : (more : Bool) (of : ℕ) (k next : Kind) → k ≢ kind.StorePropos
 after_last true of k next ne e = to_read_verdict k next ne (same_Some _ _ e)
 after_last false of k next ne e = absurd cc
 
-in_order_at : (ph : Phase) (s : Local) (got : ℕ) (k next : Kind) → kind_at ph ≡ Some k → kind_at (fed_at ph s got).phase ≡ Some next → ComesAfter k next
+pub in_order_at : (ph : Phase) (s : Local) (got : ℕ) (k next : Kind) → kind_at ph ≡ Some k → kind_at (fed_at ph s got).phase ≡ Some next → ComesAfter k next
 in_order_at StoreProposal s got k next e f = to_read_proposal k next (inl (sym (same_Some _ _ e))) (same_Some _ _ f)
 in_order_at (ReadProposal of) s got k next e f = after_read (nat_lt (of + 1) s.n) of k next (sym (same_Some _ _ e)) f
 in_order_at StoreVerdict s got k next e f = to_read_verdict k next (λ w. let z = same_Some _ _ e ∙ w in cc) (same_Some _ _ f)
 in_order_at (ReadVerdict of) s got k next e f = after_last (nat_lt (of + 1) s.n) of k next (λ w. let z = same_Some _ _ e ∙ w in cc) f
 in_order_at Ended s got k next e f = absurd cc
-
-pub in_order : (s : Local) (got word : ℕ) (k next : Kind) → kind_at s.phase ≡ Some k → kind_at (fed_of s got).phase ≡ Some next → ComesAfter k next
-in_order s got word k next e f = in_order_at s.phase s got k next e f
 
 -- it asks for no random word
 pub wordless : (s : Local) → two_collect.wants_word s ≡ false
