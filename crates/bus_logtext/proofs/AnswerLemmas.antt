@@ -1,35 +1,37 @@
 -- An input has one answer.
-use Rattle.std.proofs.Common.{◌≡◌, ℕ, List, Result, Ok, Err, refl, sym, ap, ◌∙◌, inl, inr}
+use Rattle.std.proofs.Common.{◌≡◌, ℕ, List, Result, map, Ok, Err, refl, sym, ap, ◌∙◌, inl, inr}
 use Rattle.std.specs.Prelude.{MatchResult}
 use Rattle.bus_register.specs.declared.registers.SenderNo.{SenderNo}
-use Rattle.bus_batch.specs.Frames.{Order, Spells}
+use Rattle.bus_batch.specs.Frames.{Frame, Order, AreFrames, Spells, log_words, order_of, tenure_and_owner}
+use Rattle.bus_batch.proofs.FrameLaws.{same_log}
 use Rattle.bus_deliverylog.specs.Logs.{IsFirstBad, IsTorn}
 use Rattle.bus_script.specs.declared.answers.Outcome.{Outcome}
 use Rattle.bus_script.specs.declared.answers.Outcome.TheVariants.{Done, Refused}
 use Rattle.bus_logtext.specs.declared.faults.Refusal.{Refusal}
 use Rattle.bus_logtext.specs.Text.{log_text, bad_word_text, refusal_text}
-use Rattle.bus_logtext.specs.Answers.{IsLogAnswer}
+use Rattle.bus_logtext.specs.Answers.{TellsLog, IsLogAnswer}
 
 -- what the laws of logs say of the readings of words
 pub record AreExact : Type 0 where
-  pub one : (senders : ℕ) (words : List ℕ) (order order' : Order) (owners owners' : List (ℕ × SenderNo)) → Spells senders words order owners → Spells senders words order' owners' → (order ≡ order') × (owners ≡ owners')
   pub whole : (senders : ℕ) (words : List ℕ) (order : Order) (owners : List (ℕ × SenderNo)) → Spells senders words order owners → IsTorn senders words → ⊥
   pub good : (senders : ℕ) (words : List ℕ) (order : Order) (owners : List (ℕ × SenderNo)) (place : ℕ) → Spells senders words order owners → IsFirstBad senders words place → ⊥
   pub torn : (senders : ℕ) (words : List ℕ) (place : ℕ) → IsTorn senders words → IsFirstBad senders words place → ⊥
   pub first : (senders : ℕ) (words : List ℕ) (place other : ℕ) → IsFirstBad senders words place → IsFirstBad senders words other → place ≡ other
 
-pub told_so : AreExact → (senders : ℕ) (words text : List ℕ) (order : Order) (owners : List (ℕ × SenderNo)) → Spells senders words order owners → IsLogAnswer senders words Done text → text ≡ log_text order owners
-told_so exact senders words text order owners spells h =
-    let same = exact.one senders words h.order order h.owners owners h.spells spells in
-    h.text_is ∙ ap (λ q. log_text q h.owners) same.0 ∙ ap (log_text order) same.1
+-- told words are spelled
+spelled : (senders : ℕ) (words text : List ℕ) (h : TellsLog senders words text) → Spells senders words (order_of h.frames) (map tenure_and_owner h.frames)
+spelled senders words text h = record { frames = h.frames; lawful = h.lawful; words_are = h.words_are; order_is = refl; owners_are = refl }
+
+pub told_so : (senders : ℕ) (words text : List ℕ) (frames : List Frame) → AreFrames senders frames → log_words frames ≡ words → IsLogAnswer senders words Done text → text ≡ log_text frames
+told_so senders words text frames lawful words_are h = h.text_is ∙ ap log_text (same_log senders 0 0 h.frames frames h.lawful lawful (h.words_are ∙ sym words_are))
 
 pub not_told : AreExact → (senders : ℕ) (words text : List ℕ) → IsTorn senders words → IsLogAnswer senders words Done text → ⊥
-not_told exact senders words text torn h = exact.whole senders words h.order h.owners h.spells torn
+not_told exact senders words text torn h = exact.whole senders words (order_of h.frames) (map tenure_and_owner h.frames) (spelled senders words text h) torn
 
 told_not_refused : AreExact → (senders : ℕ) (words text another : List ℕ) → IsLogAnswer senders words Done text → IsLogAnswer senders words Refused another → ⊥
 told_not_refused exact senders words text another h k = elim k [
-  | inl bad ↦ exact.good senders words h.order h.owners bad.place h.spells bad.bad
-  | inr torn ↦ exact.whole senders words h.order h.owners h.spells torn.torn
+  | inl bad ↦ exact.good senders words (order_of h.frames) (map tenure_and_owner h.frames) bad.place (spelled senders words text h) bad.bad
+  | inr torn ↦ not_told exact senders words text torn.torn h
 ]
 
 refused_once : AreExact → (senders : ℕ) (words text another : List ℕ) → IsLogAnswer senders words Refused text → IsLogAnswer senders words Refused another → text ≡ another
@@ -39,7 +41,7 @@ refused_once exact senders words text another (inr h) (inl k) = absurd (exact.to
 refused_once exact senders words text another (inr h) (inr k) = h.text_is ∙ sym k.text_is
 
 one_log_answer : AreExact → (senders : ℕ) (words : List ℕ) (outcome other : Outcome) (text another : List ℕ) → IsLogAnswer senders words outcome text → IsLogAnswer senders words other another → (outcome ≡ other) × (text ≡ another)
-one_log_answer exact senders words Done Done text another h k = (refl, told_so exact senders words text k.order k.owners k.spells h ∙ sym k.text_is)
+one_log_answer exact senders words Done Done text another h k = (refl, told_so senders words text k.frames k.lawful k.words_are h ∙ sym k.text_is)
 one_log_answer exact senders words Done Refused text another h k = absurd (told_not_refused exact senders words text another h k)
 one_log_answer exact senders words Refused Done text another h k = absurd (told_not_refused exact senders words another text k h)
 one_log_answer exact senders words Refused Refused text another h k = (refl, refused_once exact senders words text another h k)

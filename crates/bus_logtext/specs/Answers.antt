@@ -1,19 +1,18 @@
 -- What the lines of a log are answered with.
 use Rattle.std.specs.Prelude.{◌≡◌, ◌⊎◌, ℕ, List, MatchResult}
-use Rattle.bus_register.specs.declared.registers.SenderNo.{SenderNo}
-use Rattle.bus_batch.specs.Frames.{Order, Spells}
+use Rattle.bus_batch.specs.Frames.{Frame, AreFrames, log_words}
 use Rattle.bus_deliverylog.specs.Logs.{IsFirstBad, IsTorn}
 use Rattle.bus_script.specs.declared.answers.Outcome.{Outcome}
 use Rattle.bus_script.specs.declared.answers.Outcome.TheVariants.{Done, Refused}
 use Rattle.bus_logtext.specs.Words.{words_of}
 use Rattle.bus_logtext.specs.Text.{log_text, bad_word_text, torn_text, refusal_text}
 
--- words that are a log of so many senders, and what it spells
+-- words that are a log of so many senders, and the lines of its frames
 pub record TellsLog (senders : ℕ) (words : List ℕ) (text : List ℕ) : Type 0 where
-  pub order : Order
-  pub owners : List (ℕ × SenderNo)
-  pub spells : Spells senders words order owners
-  pub text_is : text ≡ log_text order owners
+  pub frames : List Frame
+  pub lawful : AreFrames senders frames
+  pub words_are : log_words frames ≡ words
+  pub text_is : text ≡ log_text frames
 
 -- words that no log begins with, and the place of the first bad one
 pub record TellsBadWord (senders : ℕ) (words : List ℕ) (text : List ℕ) : Type 0 where

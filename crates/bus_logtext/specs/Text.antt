@@ -1,8 +1,10 @@
 -- What is printed of a log.
-use Rattle.std.specs.Prelude.{ℕ, Bool, true, false, List, [], ◌∷◌, ◌++◌, codes, decimal, flat_map}
+use Rattle.std.specs.Prelude.{ℕ, List, [], ◌∷◌, ◌++◌, Option, Some, None, codes, decimal, flat_map}
 use Rattle.bus_register.specs.declared.registers.SenderNo.{SenderNo}
 use Rattle.bus_batch.specs.declared.messages.Item.{Item}
-use Rattle.bus_batch.specs.Frames.{Order}
+use Rattle.bus_batch.specs.declared.messages.Piece.{Piece}
+use Rattle.bus_batch.specs.declared.messages.Piece.TheVariants as piece
+use Rattle.bus_batch.specs.Frames.{Frame, log_pieces}
 use Rattle.bus_script.specs.Places.{refusal_line}
 use Rattle.bus_script.specs.declared.places.Place.TheVariants.{AtLine, AtEnd}
 use Rattle.bus_replay.specs.Text.{behind, item_text}
@@ -11,20 +13,23 @@ use Rattle.bus_logtext.specs.declared.faults.LineFault.TheVariants.{BadLine, Too
 use Rattle.bus_logtext.specs.declared.faults.Refusal.{Refusal}
 
 -- tenure and owner of a frame
-abbrev pub frame_line : ℕ × SenderNo → List ℕ
-frame_line frame = codes "frame" ++ behind frame.0 ++ behind frame.1.0 ++ 10 ∷ []
+abbrev pub frame_line : ℕ → SenderNo → List ℕ
+frame_line tenure owner = codes "frame" ++ behind tenure ++ behind owner.0 ++ 10 ∷ []
 
 -- sender, number and message of an item
 abbrev pub item_line : Item → List ℕ
 item_line item = codes "item" ++ item_text item ++ 10 ∷ []
 
-abbrev pub end_line : Bool → List ℕ
-end_line true = codes "end" ++ 10 ∷ []
-end_line false = []
+-- the line of what a word says, where it says something by itself
+abbrev pub piece_line : Option Piece → List ℕ
+piece_line None = []
+piece_line (Some (piece.Head tenure owner)) = frame_line tenure owner
+piece_line (Some (piece.Item item)) = item_line item
+piece_line (Some piece.End) = codes "end" ++ 10 ∷ []
 
--- a line for each frame, then one for each item, then one for the end
-abbrev pub log_text : Order → List (ℕ × SenderNo) → List ℕ
-log_text order owners = flat_map frame_line owners ++ flat_map item_line order.items ++ end_line order.ended
+-- a line for each frame, behind it one for each of its items or for the end, in the order of the words
+abbrev pub log_text : List Frame → List ℕ
+log_text frames = flat_map piece_line (log_pieces frames)
 
 -- places of words are counted from 0
 abbrev pub bad_word_text : ℕ → List ℕ

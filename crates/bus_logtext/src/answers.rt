@@ -6,7 +6,7 @@ ghost use Rattle.bus_logtext.specs.Answers.{IsLogAnswer, IsAnswer};
 use crate::faults::WordsFault;
 use crate::text::{bad_word_text, log_text, refusal_text};
 use crate::words::words_of;
-use bus_deliverylog::{LogFault, read_log};
+use bus_deliverylog::LogFault;
 use bus_register::NoMemory;
 use bus_script::{Answer, Outcome, Place, refusal_line};
 use std::alloc::Global;
@@ -16,10 +16,10 @@ fn log_answer(alloc: Global, words: &[u64], senders: u64) -> Result<Answer, NoMe
     ensures { IfOk result (λ answer. IsLogAnswer senders words.now answer.outcome
         (string_bytes answer.text)) }
 {
-    match read_log(alloc, words, senders) {
-        Ok(read) => Ok(Answer {
+    match log_text(alloc, words, senders) {
+        Ok(text) => Ok(Answer {
             outcome: Outcome::Done,
-            text: log_text(alloc, &read)?,
+            text,
         }),
         Err(LogFault::BadWord { place }) => Ok(Answer {
             outcome: Outcome::Refused,

@@ -3,17 +3,16 @@
 ghost use Rattle.std.specs.Prelude.{◌≡◌, ℕ, ◌↔◌, ◌^◌, ◌≤◌, List, Some, None, Ok, codes};
 ghost use Rattle.std.specs.Prelude.{length};
 ghost use Rattle.bus_register.specs.declared.limits.TheConstants.{MOST_LOG_WORDS};
-ghost use Rattle.bus_deliverylog.specs.Logs.{IsFirstBad, IsTorn};
-ghost use Rattle.bus_batch.specs.Frames.{Spells};
+ghost use Rattle.bus_deliverylog.specs.Logs.{IsTorn};
+ghost use Rattle.bus_batch.specs.Frames.{Frame, AreFrames, log_words};
 ghost use Rattle.bus_script.specs.Grammar.{script_lines};
 ghost use Rattle.bus_script.specs.declared.answers.Outcome.{Outcome};
-ghost use Rattle.bus_script.specs.declared.answers.Outcome.TheVariants.{Done, Refused};
+ghost use Rattle.bus_script.specs.declared.answers.Outcome.TheVariants.{Done};
 ghost use Rattle.bus_logtext.specs.Words.{word_of, words_of};
 ghost use Rattle.bus_logtext.specs.Lines.{IsWordLine, AreWordLines};
-ghost use Rattle.bus_logtext.specs.Text.{log_text, bad_word_text, torn_text};
+ghost use Rattle.bus_logtext.specs.Text.{log_text};
 ghost use Rattle.bus_logtext.specs.Answers.{IsAnswer};
 
-use bus_batch::laws::spells_one;
 use bus_deliverylog::laws::readings_are_exact;
 
 /// A line is a word just where it is spelled so.
@@ -33,7 +32,6 @@ pub fn answers_are_one()
         → IsAnswer senders input outcome text → IsAnswer senders input other another
         → (outcome ≡ other) × (text ≡ another) }
 {
-    spells_one();
     readings_are_exact();
 }
 
@@ -45,10 +43,9 @@ pub fn answers_refuse()
     ensures letter { word_of (codes "400002000000000g") ≡ None }
     ensures torn { (senders : ℕ) (input words : List ℕ) (text : List ℕ) → words_of input ≡ Ok words
         → IsTorn senders words → ¬ IsAnswer senders input Done text }
-    ensures other { (senders : ℕ) (input words : List ℕ) (text : List ℕ) (order : _) (owners : _)
-        → words_of input ≡ Ok words → Spells senders words order owners
-        → IsAnswer senders input Done text → text ≡ log_text order owners }
+    ensures other { (senders : ℕ) (input : List ℕ) (text : List ℕ) (frames : List Frame)
+        → AreFrames senders frames → words_of input ≡ Ok (log_words frames)
+        → IsAnswer senders input Done text → text ≡ log_text frames }
 {
-    spells_one();
     readings_are_exact();
 }

@@ -33,7 +33,7 @@ fn logs_are_told(rt: HostRuntime) {
     tells(
         &rt,
         b"4040010000000003\n8000000000000007\n4000010000000005\nC000000000000000",
-        "frame 3 1\nframe 5 0\nitem 1 7 -\nend\n",
+        "frame 3 1\nitem 1 7 -\nframe 5 0\nend\n",
     );
 }
 

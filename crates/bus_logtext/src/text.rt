@@ -1,53 +1,58 @@
-//! What is printed of a log.
+//! What is printed of a log, in the order of its words.
 
-ghost use Rattle.std.specs.Prelude.{◌≡◌, ◌++◌, IfOk, OnOk, string_bytes, flat_map};
-ghost use Rattle.bus_deliverylog.specs.Orders.{order_held};
-ghost use Rattle.bus_logtext.specs.Text.{frame_line, item_line, end_line, log_text};
-ghost use Rattle.bus_logtext.specs.Text.{bad_word_text, fault_name, refusal_text};
+ghost use Rattle.std.specs.Prelude.{◌≡◌, ◌++◌, Err, IfOk, OnOk, string_bytes};
+ghost use Rattle.bus_deliverylog.specs.Logs.{IsFirstBad, IsTorn};
+ghost use Rattle.bus_logtext.specs.Text.{piece_line, bad_word_text, fault_name, refusal_text};
+ghost use Rattle.bus_logtext.specs.Answers.{TellsLog};
 
 use crate::faults::{LineFault, Refusal};
-use bus_deliverylog::{LogRead, Order};
-use bus_register::SenderNo;
+use bus_batch::{BadWord, FrameReader, Piece};
+use bus_deliverylog::LogFault;
 use bus_replay::text::push_item;
 use bus_script::{Place, refusal_line};
 use std::alloc::{AllocError, Global};
 
-/// Puts a line for each frame at the end of a text.
-fn push_frames(text: &mut String, frames: &[(u64, SenderNo)]) -> Result<(), AllocError>
-    ensures { OnOk result
-        (string_bytes text.new ≡ string_bytes text.old ++ flat_map frame_line frames.now) }
+/// Puts the line of what a word says at the end of a text.
+fn push_piece(text: &mut String, found: Option<Piece>) -> Result<(), AllocError>
+    ensures { OnOk result (string_bytes text.new ≡ string_bytes text.old ++ piece_line found) }
 {
-    for (tenure, owner) in frames {
-        writeln!(text, "frame {tenure} {}", owner.0)?;
+    match found {
+        None => Ok(()),
+        Some(Piece::Head { tenure, owner }) => writeln!(text, "frame {tenure} {}", owner.0),
+        Some(Piece::Item(item)) => {
+            text.push_str("item")?;
+            push_item(text, &item)?;
+            text.push_str("\n")
+        }
+        Some(Piece::End) => text.push_str("end\n"),
     }
-    Ok(())
 }
 
-/// Puts a line for each item at the end of a text, and one for the end.
-fn push_order(text: &mut String, order: &Order) -> Result<(), AllocError>
-    ensures { OnOk result
-        (string_bytes text.new ≡ string_bytes text.old ++ flat_map item_line order.now.items.items
-        ++ end_line order.now.ended) }
+/// What the words of a log of so many senders spell: each frame, and behind it its items or the
+/// end.
+pub fn log_text(alloc: Global, words: &[u64], senders: u64) -> Result<String, LogFault>
+    ensures told { IfOk result (λ text. TellsLog senders words.now (string_bytes text)) }
+    ensures bad { (place : _) → result ≡ Err (LogFault.BadWord place)
+        → IsFirstBad senders words.now place }
+    ensures torn { result ≡ Err LogFault.Torn → IsTorn senders words.now }
 {
-    for item in &order.items {
-        text.push_str("item")?;
-        push_item(text, item)?;
-        text.push_str("\n")?;
-    }
-    if order.ended {
-        text.push_str("end\n")?;
-    }
-    Ok(())
-}
-
-/// What a log spells: its frames, its items, and its end.
-pub fn log_text(alloc: Global, read: &LogRead) -> Result<String, AllocError>
-    ensures { IfOk result (λ text. string_bytes text ≡ log_text (order_held read.now.order)
-        read.now.owners.items) }
-{
+    let mut reader = FrameReader::new(senders);
     let mut text = String::new(alloc);
-    push_frames(&mut text, &read.owners)?;
-    push_order(&mut text, &read.order)?;
+    for (place, word) in words.iter().enumerate() {
+        match reader.feed(*word) {
+            Ok(found) => {
+                if push_piece(&mut text, found).is_err() {
+                    return Err(LogFault::NoMemory);
+                }
+            }
+            Err(BadWord) => return Err(LogFault::BadWord {
+                place: place as u64,
+            }),
+        }
+    }
+    if reader.inside() {
+        return Err(LogFault::Torn);
+    }
     Ok(text)
 }
 

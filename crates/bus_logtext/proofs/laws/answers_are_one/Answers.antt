@@ -4,7 +4,6 @@ use Rattle.bus_logtext.proofs.laws.answers_are_one.Goals as goal
 
 pub returns : goal.returns
 returns c = λ senders input outcome other text another. one_answer (record {
-  one = c.spells_one.ensures;
   whole = c.readings_are_exact.ensures.whole;
   good = c.readings_are_exact.ensures.good;
   torn = c.readings_are_exact.ensures.torn;
