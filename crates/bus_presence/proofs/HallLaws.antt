@@ -5,7 +5,7 @@ use Rattle.std.proofs.lemmas.Bool.{cases_eq, cases_lt, and_parts}
 use Rattle.std.proofs.lemmas.Bool.Decides.{eqb_tells, leb_tells}
 use Rattle.std.proofs.lemmas.List.{length_push}
 use Rattle.std.proofs.Math.Nat.{add-mod_right}
-use Rattle.std.proofs.lemmas.Nat.{div-add-mod', row_fits, mul-le}
+use Rattle.std.proofs.lemmas.Nat.{div-add-mod', row_fits, mul-le, mod_below}
 use Rattle.std.proofs.lemmas.Option.{same_Some, slice_get_past, slice_get_within}
 use Rattle.bus_register.specs.declared.registers.Op.{Op}
 use Rattle.bus_register.specs.declared.registers.Op.TheVariants.{Load, Store}
@@ -17,9 +17,9 @@ use Rattle.bus_presence.specs.declared.visits.Visit.TheVariants.{Away, Entering,
 use Rattle.bus_presence.specs.declared.sweeps.Behind.{Behind}
 use Rattle.bus_presence.specs.Visits.{shown, step_at, visit_fed}
 use Rattle.bus_presence.specs.Sweeps.{Sweeping, sweep_op, sweep_fed, behind_of}
-use Rattle.bus_presence.specs.Hall.{Sizes, Hall, Entry, Trails, stage_at, presence_at, row_of, tenure_of, new_hall, sweep_after, IsReady, no_trails, grown, found, words_after, Reached, New, Begins, Visits, Works, Parts, Takes, Sweeps, GivesBack}
+use Rattle.bus_presence.specs.Hall.{Sizes, Hall, Entry, Trails, stage_at, presence_at, row_of, tenure_of, new_hall, sweep_after, IsReady, no_trails, grown, found, words_after, Moves, Begins, Visits, Parts, Takes, Sweeps, GivesBack, Stores, IsElsewhere, Reached, New, Then, Works}
 use Rattle.bus_presence.specs.Standing.{Stands, IsSafe}
-use Rattle.bus_presence.specs.Refused.{SafetyRefuses, has_come}
+use Rattle.bus_presence.specs.Refused.{SafetyRefuses, shows_it, sees_stage, has_come}
 
 -- ---- rows
 -- of so many tenures one after another no two use one row
@@ -36,82 +36,21 @@ rows_apart x t u j k ne low high same = elim (cases_lt (t % x.rows) (u % x.rows)
   | inr more ↦ omega (arith, row_fits (u % x.rows) x.width (t % x.rows) x.width (omega arith) (omega arith))
 ]
 
--- ---- a trail and one step more
-abbrev entering : ℕ → ℕ → ℕ → Entry
-entering p t got = record { op = Store record { 0 = presence_at p } (1 + t); got = got }
-
-abbrev looking : ℕ → Entry
-looking got = record { op = Load record { 0 = stage_at }; got = got }
-
-abbrev withdrawing : ℕ → ℕ → Entry
-withdrawing p got = record { op = Store record { 0 = presence_at p } 0; got = got }
-
 store_is : (r x y : ℕ) → Store record { 0 = r } x ≡ Store record { 0 = r } y → x ≡ y
 store_is r x y h = cc
 
 load_no_store : (r q x : ℕ) → Load record { 0 = r } ≡ Store record { 0 = q } x → ⊥
 load_no_store r q x h = cc
 
-entered_is : (p t u got got' : ℕ) → entering p t got ≡ entering p u got' → t ≡ u
-entered_is p t u got got' h = let e = store_is (presence_at p) (1 + t) (1 + u) (ap (λ (e : Entry). e.op) h) in omega arith
-
-looked_is : (a b : ℕ) → looking a ≡ looking b → a ≡ b
-looked_is a b h = ap (λ (e : Entry). e.got) h
-
-looked_no_enter : (p t got got' : ℕ) → looking got ≡ entering p t got' → ⊥
-looked_no_enter p t got got' h = load_no_store stage_at (presence_at p) (1 + t) (ap (λ (e : Entry). e.op) h)
-
-withdrew_no_enter : (p t got got' : ℕ) → withdrawing p got ≡ entering p t got' → ⊥
-withdrew_no_enter p t got got' h = let e = store_is (presence_at p) 0 (1 + t) (ap (λ (e : Entry). e.op) h) in omega arith
-
-none_is_not : {A : Type 0} (x : A) → None ≡ Some x → ⊥
+pub none_is_not : {A : Type 0} (x : A) → None ≡ Some x → ⊥
 none_is_not x h = cc
 
 nothing_shown : (t : ℕ) → 0 ≡ 1 + t → ⊥
 nothing_shown t h = omega arith
 
--- it stored the presence of this tenure at this place, and has not cleared its presence since
-record Shows (p : ℕ) (trail : List Entry) (place t : ℕ) : Type 0 where
-  before : ℕ
-  enters : slice_get trail place ≡ Some (entering p t before)
-  stays : (k got : ℕ) → place < k → slice_get trail k ≢ Some (withdrawing p got)
-
-nothing_past : (trail : List Entry) (d : Entry) (k : ℕ) → length trail < k → slice_get (trail ++ d ∷ []) k ≡ None
-nothing_past trail d k more = slice_get_past (trail ++ d ∷ []) k (omega (arith, length_push trail d))
-
-module _ (p : ℕ) (trail : List Entry) (d : Entry) where
-  shows_before : (place t : ℕ) → place ≢ length trail → Shows p (trail ++ d ∷ []) place t → Shows p trail place t
-  shows_before place t ne s = record {
-    before = s.before;
-    enters = sym (push_beside trail d place ne) ∙ s.enters;
-    stays = λ k got more is. elim (cases_eq k (length trail)) [
-      | inl e ↦ none_is_not (withdrawing p got) (sym (slice_get_past trail k (omega arith)) ∙ is)
-      | inr other ↦ s.stays k got more (push_beside trail d k other ∙ is)
-    ];
-  }
-
-  not_at_end : (place t : ℕ) → ((got : ℕ) → d ≡ entering p t got → ⊥) → Shows p (trail ++ d ∷ []) place t → place ≢ length trail
-  not_at_end place t other s e = other s.before (same_Some _ _ (sym (push_here trail d place e) ∙ s.enters))
-
-  stands_before : (t : ℕ) (s : Stands p (trail ++ d ∷ []) t) → s.entered ≢ length trail → s.looked ≢ length trail → Stands p trail t
-  stands_before t s ne ne' = let z = shows_before s.entered t ne (record { before = s.before; enters = s.enters; stays = s.stays }) in record {
-    entered = s.entered;
-    before = z.before;
-    enters = z.enters;
-    looked = s.looked;
-    stage = s.stage;
-    looks = sym (push_beside trail d s.looked ne') ∙ s.looks;
-    after = s.after;
-    of_tenure = s.of_tenure;
-    stays = z.stays;
-  }
-
-shows_of : (p : ℕ) (trail : List Entry) (t : ℕ) (s : Stands p trail t) → Shows p trail s.entered t
-shows_of p trail t s = record { before = s.before; enters = s.enters; stays = s.stays }
-
 -- ---- what a visit has to do with its trail
 -- it stood in this tenure after it had looked, and may be done with it
-abbrev HasStood : Visit → ℕ → Type 0
+abbrev pub HasStood : Visit → ℕ → Type 0
 HasStood Away t = ⊥
 HasStood (Entering u) t = ⊥
 HasStood (Looking u) t = ⊥
@@ -127,32 +66,14 @@ stood_shows (Inside u) t h = ap (λ z. 1 + z) h
 stood_shows (Parting u) t h = ap (λ z. 1 + z) h
 stood_shows (Barred u) t h = absurd h
 
-record Tells (p : ℕ) (trail : List Entry) (v : Visit) : Type 0 where
-  shows : (place t : ℕ) → Shows p trail place t → shown v ≡ 1 + t
-  stood : (t : ℕ) → Stands p trail t → HasStood v t
-
-tells_none : (p : ℕ) → Tells p [] Away
-tells_none p = record { shows = λ place t s. absurd (none_is_not (entering p t s.before) s.enters); stood = λ t s. absurd (none_is_not (entering p t s.before) s.enters) }
-
-tells_begun : (p : ℕ) (trail : List Entry) (t : ℕ) → Tells p trail Away → Tells p trail (Entering t)
-tells_begun p trail t h = record { shows = h.shows; stood = h.stood }
-
-tells_parted : (p : ℕ) (trail : List Entry) (t : ℕ) → Tells p trail (Inside t) → Tells p trail (Parting t)
-tells_parted p trail t h = record { shows = h.shows; stood = h.stood }
-
-module _ (p : ℕ) (trail : List Entry) (t got : ℕ) (h : Tells p trail (Entering t)) where
-  alone_at_end : (place u : ℕ) → Shows p (trail ++ entering p t got ∷ []) place u → place ≡ length trail
-  alone_at_end place u s = elim (cases_eq place (length trail)) [ inl e ↦ e | inr ne ↦ absurd (nothing_shown u (h.shows place u (shows_before p trail (entering p t got) place u ne s))) ]
-
-  tells_entered : Tells p (trail ++ entering p t got ∷ []) (Looking t)
-  tells_entered = record {
-    shows = λ place u s. ap (λ z. 1 + z) (entered_is p t u got s.before (same_Some _ _ (sym (push_here trail (entering p t got) place (alone_at_end place u s)) ∙ s.enters)));
-    stood = λ u s. let e = alone_at_end s.entered u (shows_of p (trail ++ entering p t got ∷ []) u s) in
-        let after = s.after in none_is_not (looking s.stage) (sym (nothing_past trail (entering p t got) s.looked (omega arith)) ∙ s.looks);
-  }
-
 fed_shows : (t got : ℕ) → shown (visit_fed (Looking t) got) ≡ 1 + t
 fed_shows t got = elim (eqb_tells (got / 2) t) [ inl h ↦ ap (λ z. shown (if z then Inside t else Barred t)) h.0 | inr h ↦ ap (λ z. shown (if z then Inside t else Barred t)) h.0 ]
+
+fed_same : (t got u : ℕ) → HasStood (visit_fed (Looking t) got) u → (u ≡ t) × (got / 2 ≡ u)
+fed_same t got u = elim (eqb_tells (got / 2) t) [
+  | inl h ↦ λ s. let same : t ≡ u = subst (λ z. HasStood (if z then Inside t else Barred t) u) h.0 s in (sym same, h.1 ∙ same)
+  | inr h ↦ λ s. absurd (subst (λ z. HasStood (if z then Inside t else Barred t) u) h.0 s)
+]
 
 fed_stood : (t got u : ℕ) → HasStood (visit_fed (Looking t) got) u → u ≡ got / 2
 fed_stood t got u = elim (eqb_tells (got / 2) t) [
@@ -160,37 +81,163 @@ fed_stood t got u = elim (eqb_tells (got / 2) t) [
   | inr h ↦ λ s. absurd (subst (λ z. HasStood (if z then Inside t else Barred t) u) h.0 s)
 ]
 
-module _ (p : ℕ) (trail : List Entry) (t got : ℕ) (h : Tells p trail (Looking t)) where
-  earlier : (place u : ℕ) → Shows p (trail ++ looking got ∷ []) place u → place ≢ length trail
-  earlier place u s = not_at_end p trail (looking got) place u (looked_no_enter p u got) s
+module _ (x : Sizes) where
+  -- ---- a trail and one step more
+  abbrev entering : ℕ → ℕ → ℕ → Entry
+  entering p t got = record { op = Store record { 0 = presence_at x p } (1 + t); got = got }
 
-  same_tenure : (place u : ℕ) → Shows p (trail ++ looking got ∷ []) place u → t ≡ u
-  same_tenure place u s = let e = h.shows place u (shows_before p trail (looking got) place u (earlier place u s) s) in omega arith
+  abbrev looking : ℕ → Entry
+  looking got = record { op = Load record { 0 = (stage_at x) }; got = got }
 
-  looked_last : (u : ℕ) (s : Stands p (trail ++ looking got ∷ []) u) → got / 2 ≡ u
-  looked_last u s = elim (cases_eq s.looked (length trail)) [
-    | inl e ↦ ap (λ z. z / 2) (looked_is got s.stage (same_Some _ _ (sym (push_here trail (looking got) s.looked e) ∙ s.looks))) ∙ s.of_tenure
-    | inr ne ↦ absurd (h.stood u (stands_before p trail (looking got) u s (earlier s.entered u (shows_of p (trail ++ looking got ∷ []) u s)) ne))
-  ]
+  abbrev withdrawing : ℕ → ℕ → Entry
+  withdrawing p got = record { op = Store record { 0 = presence_at x p } 0; got = got }
 
-  fed_inside : got / 2 ≡ t → HasStood (visit_fed (Looking t) got) t
-  fed_inside e = elim (eqb_tells (got / 2) t) [ inl h ↦ subst (λ z. HasStood (if z then Inside t else Barred t) t) (sym h.0) refl | inr h ↦ absurd (h.1 e) ]
+  entered_is : (p t u got got' : ℕ) → entering p t got ≡ entering p u got' → t ≡ u
+  entered_is p t u got got' h = let e = store_is (presence_at x p) (1 + t) (1 + u) (ap (λ (e : Entry). e.op) h) in omega arith
 
-  tells_looked : Tells p (trail ++ looking got ∷ []) (visit_fed (Looking t) got)
-  tells_looked = record {
-    shows = λ place u s. fed_shows t got ∙ ap (λ z. 1 + z) (same_tenure place u s);
-    stood = λ u s. let e = same_tenure s.entered u (shows_of p (trail ++ looking got ∷ []) u s) in subst (HasStood (visit_fed (Looking t) got)) e (fed_inside (looked_last u s ∙ sym e));
+  looked_is : (a b : ℕ) → looking a ≡ looking b → a ≡ b
+  looked_is a b h = ap (λ (e : Entry). e.got) h
+
+  looked_no_enter : (p t got got' : ℕ) → looking got ≡ entering p t got' → ⊥
+  looked_no_enter p t got got' h = load_no_store (stage_at x) (presence_at x p) (1 + t) (ap (λ (e : Entry). e.op) h)
+
+  withdrew_no_enter : (p t got got' : ℕ) → withdrawing p got ≡ entering p t got' → ⊥
+  withdrew_no_enter p t got got' h = let e = store_is (presence_at x p) 0 (1 + t) (ap (λ (e : Entry). e.op) h) in omega arith
+
+  -- it stored the presence of this tenure at this place, and has not cleared its presence since
+  pub record Shows (p : ℕ) (trail : List Entry) (place t : ℕ) : Type 0 where
+    before : ℕ
+    enters : slice_get trail place ≡ Some (entering p t before)
+    stays : (k got : ℕ) → place < k → slice_get trail k ≢ Some (withdrawing p got)
+
+  nothing_past : (trail : List Entry) (d : Entry) (k : ℕ) → length trail < k → slice_get (trail ++ d ∷ []) k ≡ None
+  nothing_past trail d k more = slice_get_past (trail ++ d ∷ []) k (omega (arith, length_push trail d))
+
+  module _ (p : ℕ) (trail : List Entry) (d : Entry) where
+    shows_before : (place t : ℕ) → place ≢ length trail → Shows p (trail ++ d ∷ []) place t → Shows p trail place t
+    shows_before place t ne s = record {
+      before = s.before;
+      enters = sym (push_beside trail d place ne) ∙ s.enters;
+      stays = λ k got more is. elim (cases_eq k (length trail)) [
+        | inl e ↦ none_is_not (withdrawing p got) (sym (slice_get_past trail k (omega arith)) ∙ is)
+        | inr other ↦ s.stays k got more (push_beside trail d k other ∙ is)
+      ];
+    }
+
+    not_at_end : (place t : ℕ) → ((got : ℕ) → d ≡ entering p t got → ⊥) → Shows p (trail ++ d ∷ []) place t → place ≢ length trail
+    not_at_end place t other s e = other s.before (same_Some _ _ (sym (push_here trail d place e) ∙ s.enters))
+
+    stands_before : (t : ℕ) (s : Stands x p (trail ++ d ∷ []) t) → s.entered ≢ length trail → s.looked ≢ length trail → Stands x p trail t
+    stands_before t s ne ne' = let z = shows_before s.entered t ne (record { before = s.before; enters = s.enters; stays = s.stays }) in record {
+      entered = s.entered;
+      before = z.before;
+      enters = z.enters;
+      looked = s.looked;
+      stage = s.stage;
+      looks = sym (push_beside trail d s.looked ne') ∙ s.looks;
+      after = s.after;
+      of_tenure = s.of_tenure;
+      stays = z.stays;
+    }
+
+  shows_of : (p : ℕ) (trail : List Entry) (t : ℕ) (s : Stands x p trail t) → Shows p trail s.entered t
+  shows_of p trail t s = record { before = s.before; enters = s.enters; stays = s.stays }
+
+  pub record Tells (p : ℕ) (trail : List Entry) (v : Visit) : Type 0 where
+    shows : (place t : ℕ) → Shows p trail place t → shown v ≡ 1 + t
+    stood : (t : ℕ) → Stands x p trail t → HasStood v t
+    -- and the other way
+    entered : (t : ℕ) → shown v ≡ 1 + t → (place : ℕ) × Shows p trail place t
+    came : (t : ℕ) → HasStood v t → Stands x p trail t
+
+  tells_none : (p : ℕ) → Tells p [] Away
+  tells_none p = record {
+    shows = λ place t s. absurd (none_is_not (entering p t s.before) s.enters);
+    stood = λ t s. absurd (none_is_not (entering p t s.before) s.enters);
+    entered = λ t e. absurd (nothing_shown t e);
+    came = λ t h. absurd h;
   }
 
-module _ (p : ℕ) (trail : List Entry) (got : ℕ) where
-  nothing_open : (place u : ℕ) → Shows p (trail ++ withdrawing p got ∷ []) place u → ⊥
-  nothing_open place u s =
-      let ne = not_at_end p trail (withdrawing p got) place u (withdrew_no_enter p u got) s in
-      let within = slice_get_within trail place _ (shows_before p trail (withdrawing p got) place u ne s).enters in
-      s.stays (length trail) got within (push_here trail (withdrawing p got) (length trail) refl)
+  tells_begun : (p : ℕ) (trail : List Entry) (t : ℕ) → Tells p trail Away → Tells p trail (Entering t)
+  tells_begun p trail t h = record { shows = h.shows; stood = h.stood; entered = h.entered; came = h.came }
 
-  tells_withdrawn : Tells p (trail ++ withdrawing p got ∷ []) Away
-  tells_withdrawn = record { shows = λ place u s. absurd (nothing_open place u s); stood = λ u s. nothing_open s.entered u (shows_of p (trail ++ withdrawing p got ∷ []) u s) }
+  tells_parted : (p : ℕ) (trail : List Entry) (t : ℕ) → Tells p trail (Inside t) → Tells p trail (Parting t)
+  tells_parted p trail t h = record { shows = h.shows; stood = h.stood; entered = h.entered; came = h.came }
+
+  module _ (p : ℕ) (trail : List Entry) (t got : ℕ) (h : Tells p trail (Entering t)) where
+    alone_at_end : (place u : ℕ) → Shows p (trail ++ entering p t got ∷ []) place u → place ≡ length trail
+    alone_at_end place u s = elim (cases_eq place (length trail)) [ inl e ↦ e | inr ne ↦ absurd (nothing_shown u (h.shows place u (shows_before p trail (entering p t got) place u ne s))) ]
+
+    tells_entered : Tells p (trail ++ entering p t got ∷ []) (Looking t)
+    tells_entered = record {
+      shows = λ place u s. ap (λ z. 1 + z) (entered_is p t u got s.before (same_Some _ _ (sym (push_here trail (entering p t got) place (alone_at_end place u s)) ∙ s.enters)));
+      stood = λ u s. let e = alone_at_end s.entered u (shows_of p (trail ++ entering p t got ∷ []) u s) in
+          let after = s.after in none_is_not (looking s.stage) (sym (nothing_past trail (entering p t got) s.looked (omega arith)) ∙ s.looks);
+      entered = λ u e. (
+        length trail,
+        record {
+          before = got;
+          enters = push_here trail (entering p t got) (length trail) refl ∙ ap (λ z. Some (entering p z got)) (let same : t ≡ u = omega arith in same);
+          stays = λ k g more is. none_is_not (withdrawing p g) (sym (nothing_past trail (entering p t got) k more) ∙ is);
+        },
+      );
+      came = λ u s. absurd s;
+    }
+
+  module _ (p : ℕ) (trail : List Entry) (t got : ℕ) (h : Tells p trail (Looking t)) where
+    earlier : (place u : ℕ) → Shows p (trail ++ looking got ∷ []) place u → place ≢ length trail
+    earlier place u s = not_at_end p trail (looking got) place u (looked_no_enter p u got) s
+
+    same_tenure : (place u : ℕ) → Shows p (trail ++ looking got ∷ []) place u → t ≡ u
+    same_tenure place u s = let e = h.shows place u (shows_before p trail (looking got) place u (earlier place u s) s) in omega arith
+
+    looked_last : (u : ℕ) (s : Stands x p (trail ++ looking got ∷ []) u) → got / 2 ≡ u
+    looked_last u s = elim (cases_eq s.looked (length trail)) [
+      | inl e ↦ ap (λ z. z / 2) (looked_is got s.stage (same_Some _ _ (sym (push_here trail (looking got) s.looked e) ∙ s.looks))) ∙ s.of_tenure
+      | inr ne ↦ absurd (h.stood u (stands_before p trail (looking got) u s (earlier s.entered u (shows_of p (trail ++ looking got ∷ []) u s)) ne))
+    ]
+
+    fed_inside : got / 2 ≡ t → HasStood (visit_fed (Looking t) got) t
+    fed_inside e = elim (eqb_tells (got / 2) t) [ inl h ↦ subst (λ z. HasStood (if z then Inside t else Barred t) t) (sym h.0) refl | inr h ↦ absurd (h.1 e) ]
+
+    -- what was shown is shown still
+    still : (place u : ℕ) → Shows p trail place u → Shows p (trail ++ looking got ∷ []) place u
+    still place u s = let within = slice_get_within trail place _ s.enters in record {
+      before = s.before;
+      enters = push_beside trail (looking got) place (λ e. omega arith) ∙ s.enters;
+      stays = λ k g more is. elim (cases_eq k (length trail)) [
+        | inl e ↦ load_no_store (stage_at x) (presence_at x p) 0 (ap (λ (e : Entry). e.op) (same_Some _ _ (sym (push_here trail (looking got) k e) ∙ is)))
+        | inr ne ↦ s.stays k g more (sym (push_beside trail (looking got) k ne) ∙ is)
+      ];
+    }
+
+    tells_looked : Tells p (trail ++ looking got ∷ []) (visit_fed (Looking t) got)
+    tells_looked = record {
+      shows = λ place u s. fed_shows t got ∙ ap (λ z. 1 + z) (same_tenure place u s);
+      stood = λ u s. let e = same_tenure s.entered u (shows_of p (trail ++ looking got ∷ []) u s) in subst (HasStood (visit_fed (Looking t) got)) e (fed_inside (looked_last u s ∙ sym e));
+      entered = λ u e. let same : t ≡ u = (let z = fed_shows t got in omega arith) in let old = h.entered t refl in (old.0, subst (Shows p (trail ++ looking got ∷ []) old.0) same (still old.0 t old.1));
+      came = λ u s. let old = h.entered t refl in let z = still old.0 t old.1 in let in_t = fed_same t got u s in record {
+        entered = old.0;
+        before = z.before;
+        enters = z.enters ∙ ap (λ y. Some (entering p y z.before)) (sym in_t.0);
+        looked = length trail;
+        stage = got;
+        looks = push_here trail (looking got) (length trail) refl;
+        after = slice_get_within trail old.0 _ old.1.enters;
+        of_tenure = in_t.1;
+        stays = z.stays;
+      };
+    }
+
+  module _ (p : ℕ) (trail : List Entry) (got : ℕ) where
+    nothing_open : (place u : ℕ) → Shows p (trail ++ withdrawing p got ∷ []) place u → ⊥
+    nothing_open place u s =
+        let ne = not_at_end p trail (withdrawing p got) place u (withdrew_no_enter p u got) s in
+        let within = slice_get_within trail place _ (shows_before p trail (withdrawing p got) place u ne s).enters in
+        s.stays (length trail) got within (push_here trail (withdrawing p got) (length trail) refl)
+
+    tells_withdrawn : Tells p (trail ++ withdrawing p got ∷ []) Away
+    tells_withdrawn = record { shows = λ place u s. absurd (nothing_open place u s); stood = λ u s. nothing_open s.entered u (shows_of p (trail ++ withdrawing p got ∷ []) u s); entered = λ u e. absurd (nothing_shown u e); came = λ u s. absurd s }
 
 -- ---- what each hall keeps
 grown_here : (T : Trails) (p : ℕ) (d : Entry) → grown T p d p ≡ T p ++ d ∷ []
@@ -201,33 +248,33 @@ grown_beside T p d q ne = elim (eqb_tells q p) [ inl h ↦ absurd (ne h.1) | inr
 
 -- A holder's stage is odd. Of those whose presences have passed nobody stands in the past tenure of the row. No word is cleared before
 -- all have passed.
-record IsSweep (x : Sizes) (h : Hall) (s : Sweeping) : Type 0 where
-  tenure : ℕ
-  held : h.words stage_at ≡ 2 * tenure + 1
-  used : x.rows ≤ tenure + 1
-  past : s.past ≡ tenure + 1 - x.rows
-  senders : s.senders ≡ x.senders
-  presences : s.presences ≡ presence_at 0
-  row : s.row ≡ row_of x (tenure + 1)
-  width : s.width ≡ x.width
-  passed : (p t : ℕ) → p < s.asked → HasStood (h.visits p) t → tenure + 1 < t + x.rows
-  all_first : 0 < s.cleared → x.senders ≤ s.asked
-  within : s.cleared ≤ x.width
-  cleared : (place : ℕ) → place < s.cleared → h.words (row_of x (tenure + 1) + place) ≡ 0
+pub record IsSweep (x : Sizes) (h : Hall) (s : Sweeping) : Type 0 where
+  pub tenure : ℕ
+  pub held : h.words (stage_at x) ≡ 2 * tenure + 1
+  pub used : x.rows ≤ tenure + 1
+  pub past : s.past ≡ tenure + 1 - x.rows
+  pub senders : s.senders ≡ x.senders
+  pub presences : s.presences ≡ presence_at x 0
+  pub row : s.row ≡ row_of x (tenure + 1)
+  pub width : s.width ≡ x.width
+  pub passed : (p t : ℕ) → p < s.asked → HasStood (h.visits p) t → tenure + 1 < t + x.rows
+  pub all_first : 0 < s.cleared → x.senders ≤ s.asked
+  pub within : s.cleared ≤ x.width
+  pub cleared : (place : ℕ) → place < s.cleared → h.words (row_of x (tenure + 1) + place) ≡ 0
 
-record Keeps (x : Sizes) (h : Hall) (T : Trails) : Type 0 where
-  shows : (p : ℕ) → p < x.senders → h.words (presence_at p) ≡ shown (h.visits p)
-  tells : (p : ℕ) → Tells p (T p) (h.visits p)
-  stood : (p t : ℕ) → HasStood (h.visits p) t → (t ≤ tenure_of h) × (tenure_of h < t + x.rows)
-  below : (p : ℕ) → (h.visits p ≡ Away) ⊎ (p < x.senders)
-  sweeps : (s : Sweeping) → h.sweep ≡ Some s → IsSweep x h s
+pub record Keeps (x : Sizes) (h : Hall) (T : Trails) : Type 0 where
+  pub shows : (p : ℕ) → p < x.senders → h.words (presence_at x p) ≡ shown (h.visits p)
+  pub tells : (p : ℕ) → Tells x p (T p) (h.visits p)
+  pub stood : (p t : ℕ) → HasStood (h.visits p) t → (t ≤ tenure_of x h) × (tenure_of x h < t + x.rows)
+  pub below : (p : ℕ) → (h.visits p ≡ Away) ⊎ (p < x.senders)
+  pub sweeps : (s : Sweeping) → h.sweep ≡ Some s → IsSweep x h s
   -- rows that no tenure has used yet
-  unused : (t place : ℕ) → tenure_of h < t → t < x.rows → place < x.width → h.words (row_of x t + place) ≡ 0
+  pub unused : (t place : ℕ) → tenure_of x h < t → t < x.rows → place < x.width → h.words (row_of x t + place) ≡ 0
 
-keeps_new : (x : Sizes) → Keeps x new_hall no_trails
+pub keeps_new : (x : Sizes) → Keeps x new_hall no_trails
 keeps_new x = record {
   shows = λ p l. refl;
-  tells = λ p. tells_none p;
+  tells = λ p. tells_none x p;
   stood = λ p t h. absurd h;
   below = λ p. inl refl;
   sweeps = λ s e. absurd (none_is_not s e);
@@ -235,8 +282,8 @@ keeps_new x = record {
 }
 
 -- one visit has gone on, and words of the rows and the stage are as they were
-module _ (x : Sizes) (two : 2 ≤ x.rows) (h : Hall) (T : Trails) (k : Keeps x h T) (p : ℕ) (v : Visit) (words : ℕ → ℕ) (shows_v : p < x.senders → words (presence_at p) ≡ shown v) (beside : Beside (presence_at p) h.words words)
-    (T' : Trails) (tells_v : Tells p (T' p) v) (others : Beside p T T') (from : (t : ℕ) → HasStood v t → HasStood (h.visits p) t ⊎ (t ≡ tenure_of h)) (below : p < x.senders) where
+module _ (x : Sizes) (two : 2 ≤ x.rows) (h : Hall) (T : Trails) (k : Keeps x h T) (p : ℕ) (v : Visit) (words : ℕ → ℕ) (shows_v : p < x.senders → words (presence_at x p) ≡ shown v) (beside : Beside (presence_at x p) h.words words)
+    (T' : Trails) (tells_v : Tells x p (T' p) v) (others : Beside p T T') (from : (t : ℕ) → HasStood v t → HasStood (h.visits p) t ⊎ (t ≡ tenure_of x h)) (below : p < x.senders) where
   abbrev hall : Hall
   hall = record h { words = words; visits = put p v h.visits }
 
@@ -246,30 +293,30 @@ module _ (x : Sizes) (two : 2 ≤ x.rows) (h : Hall) (T : Trails) (k : Keeps x h
   there : Beside p h.visits (put p v h.visits)
   there = put_beside p v h.visits
 
-  same_stage : words stage_at ≡ h.words stage_at
-  same_stage = beside stage_at (λ e. omega arith)
+  same_stage : words (stage_at x) ≡ h.words (stage_at x)
+  same_stage = beside (stage_at x) (λ e. omega arith)
 
-  same_tenure_of : tenure_of hall ≡ tenure_of h
+  same_tenure_of : tenure_of x hall ≡ tenure_of x h
   same_tenure_of = ap (λ z. z / 2) same_stage
 
   same_rows : (t place : ℕ) → words (row_of x t + place) ≡ h.words (row_of x t + place)
   same_rows t place = beside (row_of x t + place) (λ e. omega arith)
 
-  stood_now : (q t : ℕ) → HasStood (hall.visits q) t → HasStood (h.visits q) t ⊎ (t ≡ tenure_of h)
+  stood_now : (q t : ℕ) → HasStood (hall.visits q) t → HasStood (h.visits q) t ⊎ (t ≡ tenure_of x h)
   stood_now q t s = elim (cases_eq q p) [
-    | inl e ↦ subst (λ z. HasStood (h.visits z) t ⊎ (t ≡ tenure_of h)) (sym e) (from t (subst (λ z. HasStood z t) (ap hall.visits e ∙ here) s))
+    | inl e ↦ subst (λ z. HasStood (h.visits z) t ⊎ (t ≡ tenure_of x h)) (sym e) (from t (subst (λ z. HasStood z t) (ap hall.visits e ∙ here) s))
     | inr ne ↦ inl (subst (λ z. HasStood z t) (there q ne) s)
   ]
 
   keeps_visit : Keeps x hall T'
   keeps_visit = record {
     shows = λ q l. elim (cases_eq q p) [
-      | inl e ↦ subst (λ z. words (presence_at z) ≡ shown (put p v h.visits z)) (sym e) (shows_v below ∙ sym (ap shown here))
-      | inr ne ↦ beside (presence_at q) (λ e. ne (omega arith)) ∙ k.shows q l ∙ sym (ap shown (there q ne))
+      | inl e ↦ subst (λ z. words (presence_at x z) ≡ shown (put p v h.visits z)) (sym e) (shows_v below ∙ sym (ap shown here))
+      | inr ne ↦ beside (presence_at x q) (λ e. ne (omega arith)) ∙ k.shows q l ∙ sym (ap shown (there q ne))
     ];
     tells = λ q. elim (cases_eq q p) [
-      | inl e ↦ subst (λ z. Tells z (T' z) (put p v h.visits z)) (sym e) (subst (Tells p (T' p)) (sym here) tells_v)
-      | inr ne ↦ subst (λ z. Tells q z (put p v h.visits q)) (sym (others q ne)) (subst (Tells q (T q)) (sym (there q ne)) (k.tells q))
+      | inl e ↦ subst (λ z. Tells x z (T' z) (put p v h.visits z)) (sym e) (subst (Tells x p (T' p)) (sym here) tells_v)
+      | inr ne ↦ subst (λ z. Tells x q z (put p v h.visits q)) (sym (others q ne)) (subst (Tells x q (T q)) (sym (there q ne)) (k.tells q))
     ];
     stood = λ q t s. elim (stood_now q t s) [ inl old ↦ subst (λ z. (t ≤ z) × (z < t + x.rows)) (sym same_tenure_of) (k.stood q t old) | inr e ↦ subst (λ z. (t ≤ z) × (z < t + x.rows)) (sym same_tenure_of) (omega arith, omega arith) ];
     below = λ q. elim (cases_eq q p) [
@@ -294,7 +341,7 @@ module _ (x : Sizes) (two : 2 ≤ x.rows) (h : Hall) (T : Trails) (k : Keeps x h
   }
 
 -- a word that is stored as it was
-put_same : (r : ℕ) (words : ℕ → ℕ) → put r (words r) words ≡ words
+pub put_same : (r : ℕ) (words : ℕ → ℕ) → put r (words r) words ≡ words
 put_same r words = fun_ext (λ q. elim (cases_eq q r) [ inl e ↦ ap (put r (words r) words) e ∙ put_here r (words r) words ∙ sym (ap words e) | inr ne ↦ put_beside r (words r) words q ne ])
 
 lt_tells : (a b : ℕ) → ((nat_lt a b ≡ true) × (a < b)) ⊎ ((nat_lt a b ≡ false) × (b ≤ a))
@@ -307,19 +354,19 @@ le_told : (a b : ℕ) → nat_le a b ≡ true → a ≤ b
 le_told a b e = elim (leb_tells a b) [ inl l ↦ l.1 | inr m ↦ absurd (false_is_not (sym m.0 ∙ e)) ]
 
 module _ (x : Sizes) (two : 2 ≤ x.rows) (h : Hall) (T : Trails) (k : Keeps x h T) where
-  visitor : (p : ℕ) → (h.visits p ≡ Away → ⊥) → p < x.senders
+  pub visitor : (p : ℕ) → (h.visits p ≡ Away → ⊥) → p < x.senders
   visitor p there = elim (k.below p) [ inl a ↦ absurd (there a) | inr b ↦ b ]
 
-  stander : (p t : ℕ) → HasStood (h.visits p) t → p < x.senders
+  pub stander : (p t : ℕ) → HasStood (h.visits p) t → p < x.senders
   stander p t s = visitor p (λ a. subst (λ z. HasStood z t) a s)
 
   keeps_begun : (p t : ℕ) → p < x.senders → h.visits p ≡ Away → Keeps x (record h { visits = put p (Entering t) h.visits }) T
   keeps_begun p t below at =
-      keeps_visit x two h T k p (Entering t) h.words (λ l. k.shows p l ∙ ap shown at) (λ q ne. refl) T (tells_begun p (T p) t (subst (Tells p (T p)) at (k.tells p))) (λ q ne. refl) (λ u s. absurd s) below
+      keeps_visit x two h T k p (Entering t) h.words (λ l. k.shows p l ∙ ap shown at) (λ q ne. refl) T (tells_begun x p (T p) t (subst (Tells x p (T p)) at (k.tells p))) (λ q ne. refl) (λ u s. absurd s) below
 
   keeps_parted : (p t : ℕ) → h.visits p ≡ Inside t → Keeps x (record h { visits = put p (Parting t) h.visits }) T
   keeps_parted p t at =
-      keeps_visit x two h T k p (Parting t) h.words (λ l. k.shows p l ∙ ap shown at) (λ q ne. refl) T (tells_parted p (T p) t (subst (Tells p (T p)) at (k.tells p))) (λ q ne. refl)
+      keeps_visit x two h T k p (Parting t) h.words (λ l. k.shows p l ∙ ap shown at) (λ q ne. refl) T (tells_parted x p (T p) t (subst (Tells x p (T p)) at (k.tells p))) (λ q ne. refl)
       (λ u s. inl (subst (λ z. HasStood z u) (sym at) s)) (stander p t (subst (λ z. HasStood z t) (sym at) refl))
 
   -- the hall after a visit's step, where the visit was this one
@@ -329,30 +376,30 @@ module _ (x : Sizes) (two : 2 ≤ x.rows) (h : Hall) (T : Trails) (k : Keeps x h
   abbrev told : ℕ → Op → Trails
   told p o = grown T p record { op = o; got = found h o }
 
-  keeps_told : (p : ℕ) (v : Visit) (o : Op) → (h.visits p ≡ Away → ⊥) → (p < x.senders → words_after h o (presence_at p) ≡ shown (visit_fed v (found h o))) → Beside (presence_at p) h.words (words_after h o)
-      → Tells p (T p ++ record { op = o; got = found h o } ∷ []) (visit_fed v (found h o)) → ((t : ℕ) → HasStood (visit_fed v (found h o)) t → HasStood (h.visits p) t ⊎ (t ≡ tenure_of h)) → Keeps x (visited p v o) (told p o)
+  keeps_told : (p : ℕ) (v : Visit) (o : Op) → (h.visits p ≡ Away → ⊥) → (p < x.senders → words_after h o (presence_at x p) ≡ shown (visit_fed v (found h o))) → Beside (presence_at x p) h.words (words_after h o)
+      → Tells x p (T p ++ record { op = o; got = found h o } ∷ []) (visit_fed v (found h o)) → ((t : ℕ) → HasStood (visit_fed v (found h o)) t → HasStood (h.visits p) t ⊎ (t ≡ tenure_of x h)) → Keeps x (visited p v o) (told p o)
   keeps_told p v o there shows_v beside tells from =
-      keeps_visit x two h T k p (visit_fed v (found h o)) (words_after h o) shows_v beside (told p o) (subst (λ z. Tells p z (visit_fed v (found h o))) (sym (grown_here T p record { op = o; got = found h o })) tells)
+      keeps_visit x two h T k p (visit_fed v (found h o)) (words_after h o) shows_v beside (told p o) (subst (λ z. Tells x p z (visit_fed v (found h o))) (sym (grown_here T p record { op = o; got = found h o })) tells)
       (grown_beside T p record { op = o; got = found h o }) from (visitor p there)
 
   -- its presence is cleared
-  keeps_away : (p : ℕ) (v : Visit) → (h.visits p ≡ Away → ⊥) → ((got : ℕ) → visit_fed v got ≡ Away) → Keeps x (visited p v (Store record { 0 = presence_at p } 0)) (told p (Store record { 0 = presence_at p } 0))
-  keeps_away p v there leaves = let o : Op = Store record { 0 = presence_at p } 0 in
-      keeps_told p v o there (λ l. put_here (presence_at p) 0 h.words ∙ sym (ap shown (leaves (found h o)))) (put_beside (presence_at p) 0 h.words)
-      (subst (Tells p (T p ++ record { op = o; got = found h o } ∷ [])) (sym (leaves (found h o))) (tells_withdrawn p (T p) (found h o))) (λ u s. absurd (subst (λ z. HasStood z u) (leaves (found h o)) s))
+  keeps_away : (p : ℕ) (v : Visit) → (h.visits p ≡ Away → ⊥) → ((got : ℕ) → visit_fed v got ≡ Away) → Keeps x (visited p v (Store record { 0 = presence_at x p } 0)) (told p (Store record { 0 = presence_at x p } 0))
+  keeps_away p v there leaves = let o : Op = Store record { 0 = presence_at x p } 0 in
+      keeps_told p v o there (λ l. put_here (presence_at x p) 0 h.words ∙ sym (ap shown (leaves (found h o)))) (put_beside (presence_at x p) 0 h.words)
+      (subst (Tells x p (T p ++ record { op = o; got = found h o } ∷ [])) (sym (leaves (found h o))) (tells_withdrawn x p (T p) (found h o))) (λ u s. absurd (subst (λ z. HasStood z u) (leaves (found h o)) s))
 
-  keeps_visited : (p : ℕ) (v : Visit) (o : Op) → h.visits p ≡ v → step_at v (presence_at p) stage_at ≡ Some o → Keeps x (visited p v o) (told p o)
+  keeps_visited : (p : ℕ) (v : Visit) (o : Op) → h.visits p ≡ v → step_at v (presence_at x p) (stage_at x) ≡ Some o → Keeps x (visited p v o) (told p o)
   keeps_visited p Away o at is = absurd (none_is_not o is)
   keeps_visited p (Entering t) o at is = subst (λ z. Keeps x (visited p (Entering t) z) (told p z)) (same_Some _ _ is)
-      (let e : Op = Store record { 0 = presence_at p } (1 + t) in
-      keeps_told p (Entering t) e (λ a. not_away (sym at ∙ a)) (λ l. put_here (presence_at p) (1 + t) h.words) (put_beside (presence_at p) (1 + t) h.words) (tells_entered p (T p) t (found h e) (subst (Tells p (T p)) at (k.tells p))) (λ u s. absurd s))
+      (let e : Op = Store record { 0 = presence_at x p } (1 + t) in
+      keeps_told p (Entering t) e (λ a. not_away (sym at ∙ a)) (λ l. put_here (presence_at x p) (1 + t) h.words) (put_beside (presence_at x p) (1 + t) h.words) (tells_entered x p (T p) t (found h e) (subst (Tells x p (T p)) at (k.tells p))) (λ u s. absurd s))
     where
       not_away : Entering t ≡ Away → ⊥
       not_away e = cc
   keeps_visited p (Looking t) o at is = subst (λ z. Keeps x (visited p (Looking t) z) (told p z)) (same_Some _ _ is)
-      (let e : Op = Load record { 0 = stage_at } in let same = put_same stage_at h.words in
-      keeps_told p (Looking t) e (λ a. not_away (sym at ∙ a)) (λ l. ap (λ z. z (presence_at p)) same ∙ k.shows p l ∙ ap shown at ∙ sym (fed_shows t (h.words stage_at))) (λ q ne. ap (λ z. z q) same)
-      (tells_looked p (T p) t (h.words stage_at) (subst (Tells p (T p)) at (k.tells p))) (λ u s. inr (fed_stood t (h.words stage_at) u s)))
+      (let e : Op = Load record { 0 = (stage_at x) } in let same = put_same (stage_at x) h.words in
+      keeps_told p (Looking t) e (λ a. not_away (sym at ∙ a)) (λ l. ap (λ z. z (presence_at x p)) same ∙ k.shows p l ∙ ap shown at ∙ sym (fed_shows t (h.words (stage_at x)))) (λ q ne. ap (λ z. z q) same)
+      (tells_looked x p (T p) t (h.words (stage_at x)) (subst (Tells x p (T p)) at (k.tells p))) (λ u s. inr (fed_stood t (h.words (stage_at x)) u s)))
     where
       not_away : Looking t ≡ Away → ⊥
       not_away e = cc
@@ -368,7 +415,7 @@ module _ (x : Sizes) (two : 2 ≤ x.rows) (h : Hall) (T : Trails) (k : Keeps x h
 
   -- a number is stored in the row of a tenure in which a sender stands
   module _ (p t place number : ℕ) (at : h.visits p ≡ Inside t) (low : place < x.width) where
-    in_time : (t ≤ tenure_of h) × (tenure_of h < t + x.rows)
+    in_time : (t ≤ tenure_of x h) × (tenure_of x h < t + x.rows)
     in_time = k.stood p t (subst (λ z. HasStood z t) (sym at) refl)
 
     other_row : (u j : ℕ) → t ≤ u → u < t + x.rows → t ≢ u → j < x.width → row_of x u + j ≢ row_of x t + place
@@ -377,9 +424,9 @@ module _ (x : Sizes) (two : 2 ≤ x.rows) (h : Hall) (T : Trails) (k : Keeps x h
     abbrev worked : ℕ → ℕ
     worked = put (row_of x t + place) number h.words
 
-    keeps_worked : Keeps x (record h { words = worked }) T
-    keeps_worked = let stage = put_beside (row_of x t + place) number h.words stage_at (λ e. omega arith) in record {
-      shows = λ q l. put_beside (row_of x t + place) number h.words (presence_at q) (λ e. omega arith) ∙ k.shows q l;
+    pub keeps_worked : Keeps x (record h { words = worked }) T
+    keeps_worked = let stage = put_beside (row_of x t + place) number h.words (stage_at x) (λ e. omega arith) in record {
+      shows = λ q l. put_beside (row_of x t + place) number h.words (presence_at x q) (λ e. omega arith) ∙ k.shows q l;
       tells = k.tells;
       stood = λ q u s. subst (λ z. (u ≤ z / 2) × (z / 2 < u + x.rows)) (sym stage) (k.stood q u s);
       below = k.below;
@@ -404,19 +451,19 @@ module _ (x : Sizes) (two : 2 ≤ x.rows) (h : Hall) (T : Trails) (k : Keeps x h
     }
 
   -- the stage goes on, and a sweep begins or ends
-  module _ (number : ℕ) (sweep : Option Sweeping) (more : tenure_of h ≤ number / 2) (window : (p u : ℕ) → HasStood (h.visits p) u → number / 2 < u + x.rows) where
+  module _ (number : ℕ) (sweep : Option Sweeping) (more : tenure_of x h ≤ number / 2) (window : (p u : ℕ) → HasStood (h.visits p) u → number / 2 < u + x.rows) where
     abbrev staged : Hall
-    staged = record h { words = put stage_at number h.words; sweep = sweep }
+    staged = record h { words = put (stage_at x) number h.words; sweep = sweep }
 
-    stage_now : staged.words stage_at ≡ number
-    stage_now = put_here stage_at number h.words
+    stage_now : staged.words (stage_at x) ≡ number
+    stage_now = put_here (stage_at x) number h.words
 
-    beside_stage : Beside stage_at h.words staged.words
-    beside_stage = put_beside stage_at number h.words
+    beside_stage : Beside (stage_at x) h.words staged.words
+    beside_stage = put_beside (stage_at x) number h.words
 
     keeps_staged : ((s : Sweeping) → sweep ≡ Some s → IsSweep x staged s) → Keeps x staged T
     keeps_staged sweeps = record {
-      shows = λ q l. beside_stage (presence_at q) (λ e. omega arith) ∙ k.shows q l;
+      shows = λ q l. beside_stage (presence_at x q) (λ e. omega arith) ∙ k.shows q l;
       tells = k.tells;
       stood = λ q u s. let b = (k.stood q u s).0 in subst (λ z. (u ≤ z / 2) × (z / 2 < u + x.rows)) (sym stage_now) (omega arith, window q u s);
       below = k.below;
@@ -424,16 +471,16 @@ module _ (x : Sizes) (two : 2 ≤ x.rows) (h : Hall) (T : Trails) (k : Keeps x h
       unused = λ u j a b c. let late = subst (λ z. z / 2 < u) stage_now a in beside_stage (row_of x u + j) (λ e. omega arith) ∙ k.unused u j (omega arith) b c;
     }
 
-  sweep_is : (t : ℕ) (s : Sweeping) → sweep_after x t ≡ Some s → (x.rows ≤ t + 1) × (s ≡ record { past = t + 1 - x.rows; senders = x.senders; presences = presence_at 0; row = row_of x (t + 1); width = x.width; asked = 0; cleared = 0 })
+  pub sweep_is : (t : ℕ) (s : Sweeping) → sweep_after x t ≡ Some s → (x.rows ≤ t + 1) × (s ≡ record { past = t + 1 - x.rows; senders = x.senders; presences = presence_at x 0; row = row_of x (t + 1); width = x.width; asked = 0; cleared = 0 })
   sweep_is t s = elim (lt_tells (t + 1) x.rows) [
-    | inl l ↦ λ e. absurd (none_is_not s (sym (ap (λ z. if z then None else Some record { past = t + 1 - x.rows; senders = x.senders; presences = presence_at 0; row = row_of x (t + 1); width = x.width; asked = 0; cleared = 0 }) l.0) ∙ e))
-    | inr m ↦ λ e. (m.1, sym (same_Some _ _ (sym (ap (λ z. if z then None else Some record { past = t + 1 - x.rows; senders = x.senders; presences = presence_at 0; row = row_of x (t + 1); width = x.width; asked = 0; cleared = 0 }) m.0) ∙ e)))
+    | inl l ↦ λ e. absurd (none_is_not s (sym (ap (λ z. if z then None else Some record { past = t + 1 - x.rows; senders = x.senders; presences = presence_at x 0; row = row_of x (t + 1); width = x.width; asked = 0; cleared = 0 }) l.0) ∙ e))
+    | inr m ↦ λ e. (m.1, sym (same_Some _ _ (sym (ap (λ z. if z then None else Some record { past = t + 1 - x.rows; senders = x.senders; presences = presence_at x 0; row = row_of x (t + 1); width = x.width; asked = 0; cleared = 0 }) m.0) ∙ e)))
   ]
 
-  keeps_taken : (t : ℕ) → h.words stage_at ≡ 2 * t → Keeps x (record h { words = put stage_at (2 * t + 1) h.words; sweep = sweep_after x t }) T
+  keeps_taken : (t : ℕ) → h.words (stage_at x) ≡ 2 * t → Keeps x (record h { words = put (stage_at x) (2 * t + 1) h.words; sweep = sweep_after x t }) T
   keeps_taken t home = keeps_staged (2 * t + 1) (sweep_after x t) (omega arith) (λ p u s. let b = (k.stood p u s).1 in omega arith) (λ s e. let is = sweep_is t s e in let new = is.1 in record {
     tenure = t;
-    held = put_here stage_at (2 * t + 1) h.words;
+    held = put_here (stage_at x) (2 * t + 1) h.words;
     used = is.0;
     past = ap (λ (z : Sweeping). z.past) new;
     senders = ap (λ (z : Sweeping). z.senders) new;
@@ -446,12 +493,12 @@ module _ (x : Sizes) (two : 2 ≤ x.rows) (h : Hall) (T : Trails) (k : Keeps x h
     cleared = λ j l. absurd (let none = ap (λ (z : Sweeping). z.cleared) new in omega arith);
   })
 
-  ready_late : (t : ℕ) (o : Option Sweeping) → h.words stage_at ≡ 2 * t + 1 → h.sweep ≡ o → IsReady x t o → (p u : ℕ) → HasStood (h.visits p) u → t + 1 < u + x.rows
+  ready_late : (t : ℕ) (o : Option Sweeping) → h.words (stage_at x) ≡ 2 * t + 1 → h.sweep ≡ o → IsReady x t o → (p u : ℕ) → HasStood (h.visits p) u → t + 1 < u + x.rows
   ready_late t None held is ready p u s = omega arith
   ready_late t (Some s) held is ready p u st = let o = k.sweeps s is in let z = o.held in let a = o.senders in let few = stander p u st in
       let all : s.senders ≤ s.asked = le_told s.senders s.asked (and_parts (nat_le s.senders s.asked) (nat_le s.width s.cleared) ready).0 in let l = o.passed p u (omega arith) st in omega arith
 
-  keeps_back : (t : ℕ) → h.words stage_at ≡ 2 * t + 1 → IsReady x t h.sweep → Keeps x (record h { words = put stage_at (2 * t + 2) h.words; sweep = None }) T
+  keeps_back : (t : ℕ) → h.words (stage_at x) ≡ 2 * t + 1 → IsReady x t h.sweep → Keeps x (record h { words = put (stage_at x) (2 * t + 2) h.words; sweep = None }) T
   keeps_back t held ready = keeps_staged (2 * t + 2) None (omega arith) (λ p u s. let l = ready_late t h.sweep held refl ready p u s in omega arith) (λ s e. absurd (none_is_not s e))
 
   keeps_sweep : (s : Sweeping) → IsSweep x h s → Keeps x (record h { sweep = Some s }) T
@@ -490,7 +537,7 @@ module _ (x : Sizes) (two : 2 ≤ x.rows) (h : Hall) (T : Trails) (k : Keeps x h
     width = w.width;
     passed = λ p u low st. elim (cases_eq p s.asked) [
       | inl e ↦
-          let place : s.presences + s.asked ≡ presence_at p = (let a = w.presences in omega arith) in
+          let place : s.presences + s.asked ≡ presence_at x p = (let a = w.presences in omega arith) in
           let shown_u = ap h.words place ∙ k.shows p (stander p u st) ∙ stood_shows (h.visits p) u st in
           let b = (k.stood p u st).1 in let z = w.held in let y = w.past in let used = w.used in
           elim (cases_eq u s.past) [ inl same ↦ absurd (other (shown_u ∙ ap (λ z. 1 + z) same)) | inr ne ↦ omega arith ]
@@ -509,8 +556,8 @@ module _ (x : Sizes) (two : 2 ≤ x.rows) (h : Hall) (T : Trails) (k : Keeps x h
     beside_wiped : Beside (s.row + s.cleared) h.words wiped
     beside_wiped = put_beside (s.row + s.cleared) 0 h.words
 
-    same_stage_wiped : wiped stage_at ≡ h.words stage_at
-    same_stage_wiped = let r = w.row in beside_wiped stage_at (λ e. omega arith)
+    same_stage_wiped : wiped (stage_at x) ≡ h.words (stage_at x)
+    same_stage_wiped = let r = w.row in beside_wiped (stage_at x) (λ e. omega arith)
 
     wipes : IsSweep x (record h { words = wiped; sweep = Some record s { cleared = s.cleared + 1 } }) (record s { cleared = s.cleared + 1 })
     wipes = record {
@@ -533,7 +580,7 @@ module _ (x : Sizes) (two : 2 ≤ x.rows) (h : Hall) (T : Trails) (k : Keeps x h
 
     keeps_wiped : Keeps x (record h { words = wiped; sweep = Some record s { cleared = s.cleared + 1 } }) T
     keeps_wiped = record {
-      shows = λ q l. beside_wiped (presence_at q) (λ e. let r = w.row in omega arith) ∙ k.shows q l;
+      shows = λ q l. beside_wiped (presence_at x q) (λ e. let r = w.row in omega arith) ∙ k.shows q l;
       tells = k.tells;
       stood = λ q u st. subst (λ z. (u ≤ z / 2) × (z / 2 < u + x.rows)) (sym same_stage_wiped) (k.stood q u st);
       below = k.below;
@@ -543,20 +590,20 @@ module _ (x : Sizes) (two : 2 ≤ x.rows) (h : Hall) (T : Trails) (k : Keeps x h
 
 -- ---- a step of a sweep
 -- it loads a presence
-record Asks (s : Sweeping) (o : Op) : Type 0 where
-  few : s.asked < s.senders
-  loads : o ≡ Load record { 0 = s.presences + s.asked }
-  fed : (got : ℕ) → sweep_fed s got ≡ (if got == 1 + s.past then s else record s { asked = s.asked + 1 })
-  behind : (got : ℕ) → behind_of s got ≡ (if got == 1 + s.past then Some record { tenure = s.past; sender = s.asked } else None)
+pub record Asks (s : Sweeping) (o : Op) : Type 0 where
+  pub few : s.asked < s.senders
+  pub loads : o ≡ Load record { 0 = s.presences + s.asked }
+  pub fed : (got : ℕ) → sweep_fed s got ≡ (if got == 1 + s.past then s else record s { asked = s.asked + 1 })
+  pub behind : (got : ℕ) → behind_of s got ≡ (if got == 1 + s.past then Some record { tenure = s.past; sender = s.asked } else None)
 
 -- it clears a word
-record Wipes (s : Sweeping) (o : Op) : Type 0 where
-  all : s.senders ≤ s.asked
-  less : s.cleared < s.width
-  stores : o ≡ Store record { 0 = s.row + s.cleared } 0
-  fed : (got : ℕ) → sweep_fed s got ≡ record s { cleared = s.cleared + 1 }
+pub record Wipes (s : Sweeping) (o : Op) : Type 0 where
+  pub all : s.senders ≤ s.asked
+  pub less : s.cleared < s.width
+  pub stores : o ≡ Store record { 0 = s.row + s.cleared } 0
+  pub fed : (got : ℕ) → sweep_fed s got ≡ record s { cleared = s.cleared + 1 }
 
-sweep_does : (s : Sweeping) (o : Op) → sweep_op s ≡ Some o → Asks s o ⊎ Wipes s o
+pub sweep_does : (s : Sweeping) (o : Op) → sweep_op s ≡ Some o → Asks s o ⊎ Wipes s o
 sweep_does s o = elim (lt_tells s.asked s.senders) [
   | inl l ↦ λ e. inl record {
     few = l.1;
@@ -594,71 +641,129 @@ module _ (x : Sizes) (two : 2 ≤ x.rows) where
             (keeps_sweep x two h T k (record s { asked = s.asked + 1 }) (passes x two h T k s (k.sweeps s is) a.few ne.1))
       ])
 
-  keeps : (h : Hall) (T : Trails) → Reached x h T → Keeps x h T
+  -- a word of a row is none elsewhere
+  pub no_row : (t j place : ℕ) → j < x.width → IsElsewhere x place → row_of x t + j ≢ place
+  no_row t j place low far e = let below = mod_below t x.rows (omega arith) in let fits = row_fits (t % x.rows) x.width x.rows x.width below (omega arith) in elim far [ inl l ↦ omega arith | inr m ↦ omega arith ]
+
+  no_presence : (p place : ℕ) → p < x.senders → IsElsewhere x place → presence_at x p ≢ place
+  no_presence p place few far e = elim far [ inl l ↦ omega arith | inr m ↦ omega arith ]
+
+  pub no_stage : (place : ℕ) → IsElsewhere x place → stage_at x ≢ place
+  no_stage place far e = elim far [ inl l ↦ omega arith | inr m ↦ omega arith ]
+
+  keeps_stored : (h : Hall) (T : Trails) (k : Keeps x h T) (place number : ℕ) → IsElsewhere x place → Keeps x (record h { words = put place number h.words }) T
+  keeps_stored h T k place number far = let beside = put_beside place number h.words in let stage = beside (stage_at x) (no_stage place far) in record {
+    shows = λ q l. beside (presence_at x q) (no_presence q place l far) ∙ k.shows q l;
+    tells = k.tells;
+    stood = λ q u s. subst (λ z. (u ≤ z / 2) × (z / 2 < u + x.rows)) (sym stage) (k.stood q u s);
+    below = k.below;
+    sweeps = λ s e. let o = k.sweeps s e in record {
+      tenure = o.tenure;
+      held = stage ∙ o.held;
+      used = o.used;
+      past = o.past;
+      senders = o.senders;
+      presences = o.presences;
+      row = o.row;
+      width = o.width;
+      passed = o.passed;
+      all_first = o.all_first;
+      within = o.within;
+      cleared = λ j l. let w = o.within in beside (row_of x (o.tenure + 1) + j) (no_row (o.tenure + 1) j place (omega arith) far) ∙ o.cleared j l;
+    };
+    unused = λ u j a b c. let late = subst (λ z. z / 2 < u) stage a in beside (row_of x u + j) (no_row u j place c far) ∙ k.unused u j late b c;
+  }
+
+  pub moves_keep : (h h' : Hall) (T T' : Trails) → Moves x h T h' T' → Keeps x h T → Keeps x h' T'
+  moves_keep h h' T T' (Begins g U p t below at) k = keeps_begun x two g U k p t below at
+  moves_keep h h' T T' (Visits g U p o due) k = keeps_visited x two g U k p (g.visits p) o refl due
+  moves_keep h h' T T' (Parts g U p t at) k = keeps_parted x two g U k p t at
+  moves_keep h h' T T' (Takes g U p t at home) k = keeps_taken x two g U k t home
+  moves_keep h h' T T' (Sweeps g U s o is due) k = keeps_swept g U k s o is due
+  moves_keep h h' T T' (GivesBack g U t held ready) k = keeps_back x two g U k t held ready
+  moves_keep h h' T T' (Stores g U place number far) k = keeps_stored g U k place number far
+
+  pub keeps : (h : Hall) (T : Trails) → Reached x h T → Keeps x h T
   keeps h T New = keeps_new x
-  keeps h T (Begins g U p t r below at) = keeps_begun x two g U (keeps g U r) p t below at
-  keeps h T (Visits g U p o r due) = keeps_visited x two g U (keeps g U r) p (g.visits p) o refl due
+  keeps h T (Then g g' U U' r m) = moves_keep g g' U U' m (keeps g U r)
   keeps h T (Works g U p t place number r at low) = keeps_worked x two g U (keeps g U r) p t place number at low
-  keeps h T (Parts g U p t r at) = keeps_parted x two g U (keeps g U r) p t at
-  keeps h T (Takes g U p t r at home) = keeps_taken x two g U (keeps g U r) t home
-  keeps h T (Sweeps g U s o r is due) = keeps_swept g U (keeps g U r) s o is due
-  keeps h T (GivesBack g U t r held ready) = keeps_back x two g U (keeps g U r) t held ready
 
 -- ---- what follows
 module _ (x : Sizes) (two : 2 ≤ x.rows) (h : Hall) (T : Trails) (k : Keeps x h T) where
-  window : (p t : ℕ) → Stands p (T p) t → (t ≤ tenure_of h) × (tenure_of h < t + x.rows)
+  window : (p t : ℕ) → Stands x p (T p) t → (t ≤ tenure_of x h) × (tenure_of x h < t + x.rows)
   window p t s = k.stood p t ((k.tells p).stood t s)
 
-  wiping : (s : Sweeping) (r number : ℕ) → h.sweep ≡ Some s → sweep_op s ≡ Some (Store record { 0 = r } number) → Wipes s (Store record { 0 = r } number)
-  wiping s r number is due = elim (sweep_does s _ due) [ inl a ↦ absurd (load_no_store (s.presences + s.asked) r number (sym a.loads)) | inr c ↦ c ]
-
-  held_tenure : (s : Sweeping) (is : h.sweep ≡ Some s) → tenure_of h ≡ (k.sweeps s is).tenure
+  held_tenure : (s : Sweeping) (is : h.sweep ≡ Some s) → tenure_of x h ≡ (k.sweeps s is).tenure
   held_tenure s is = let e = (k.sweeps s is).held in omega arith
 
-  stores_is : (r q y z : ℕ) → Store record { 0 = r } y ≡ Store record { 0 = q } z → (r ≡ q) × (y ≡ z)
-  stores_is r q y z e = (ap register e, cc)
+  stood_is : (v : Visit) (t : ℕ) → HasStood v t → (v ≡ Inside t) ⊎ (v ≡ Parting t)
+  stood_is Away t e = absurd e
+  stood_is (Entering u) t e = absurd e
+  stood_is (Looking u) t e = absurd e
+  stood_is (Inside u) t e = inl (ap Inside e)
+  stood_is (Parting u) t e = inr (ap Parting e)
+  stood_is (Barred u) t e = absurd e
 
-  safe : IsSafe x h T
+  cleared : (s : Sweeping) (r number : ℕ) (is : h.sweep ≡ Some s) → sweep_op s ≡ Some (Store record { 0 = r } number) → (place : ℕ) × (r ≡ row_of x (tenure_of x h + 1) + place) × (place < x.width) × (number ≡ 0) × (x.senders ≤ s.asked)
+  cleared s r number is due = elim (sweep_does s _ due) [
+    | inl a ↦ absurd (load_no_store (s.presences + s.asked) r number (sym a.loads))
+    | inr c ↦ let w = k.sweeps s is in let e = stores_is c.stores in let less = c.less in let all = c.all in let width = w.width in let n = w.senders in
+        (s.cleared, e.0 ∙ ap (λ z. z + s.cleared) (w.row ∙ ap (λ z. row_of x (z + 1)) (sym (held_tenure s is))), omega arith, e.1, omega arith)
+  ]
+    where
+      stores_is : Store record { 0 = r } number ≡ Store record { 0 = s.row + s.cleared } 0 → (r ≡ s.row + s.cleared) × (number ≡ 0)
+      stores_is e = (ap register e, cc)
+
+  waits : (s : Sweeping) (o : Op) (b : Behind) (is : h.sweep ≡ Some s) → sweep_op s ≡ Some o → behind_of s (found h o) ≡ Some b
+      → (o ≡ Load record { 0 = presence_at x b.sender }) × (b.sender < x.senders) × (found h o ≡ 1 + b.tenure) × (b.tenure + x.rows ≡ tenure_of x h + 1)
+  waits s o b is due = let got = found h o in let w = k.sweeps s is in elim (sweep_does s o due) [
+    | inr c ↦ λ e. absurd (none_is_not b (sym (passes_by c got) ∙ e))
+    | inl a ↦ elim (eqb_tells got (1 + s.past)) [
+      | inr ne ↦ λ e. absurd (none_is_not b (sym (a.behind got ∙ ap (λ z. if z then Some record { tenure = s.past; sender = s.asked } else None) ne.0) ∙ e))
+      | inl q ↦ λ e. let named = same_Some _ _ (sym (a.behind got ∙ ap (λ z. if z then Some record { tenure = s.past; sender = s.asked } else None) q.0) ∙ e) in
+          let n = w.senders in let past = w.past in let used = w.used in let now = held_tenure s is in let few = a.few in let at = w.presences in
+          let place : s.presences + s.asked ≡ presence_at x s.asked = omega arith in
+          subst (λ (z : Behind). (o ≡ Load record { 0 = presence_at x z.sender }) × (z.sender < x.senders) × (found h o ≡ 1 + z.tenure) × (z.tenure + x.rows ≡ tenure_of x h + 1)) named
+          (a.loads ∙ ap (λ z. Load record { 0 = z }) place, omega arith, q.1, omega arith)
+    ]
+  ]
+    where
+      passes_by : Wipes s o → (got : ℕ) → behind_of s got ≡ None
+      passes_by c got = elim (lt_tells s.asked s.senders) [ inl l ↦ absurd (let all = c.all in let less = l.1 in omega arith) | inr m ↦ ap (λ z. if z && (got == 1 + s.past) then Some record { tenure = s.past; sender = s.asked } else None) m.0 ]
+
+  cleaned : (t : ℕ) (o : Option Sweeping) → h.words (stage_at x) ≡ 2 * t + 1 → h.sweep ≡ o → IsReady x t o → (place : ℕ) → place < x.width → h.words (row_of x (t + 1) + place) ≡ 0
+  cleaned t None held is ready place low = k.unused (t + 1) place (omega arith) ready low
+  cleaned t (Some s) held is ready place low = let w = k.sweeps s is in let z = w.held in let width = w.width in
+      let all : s.width ≤ s.cleared = le_told s.width s.cleared (and_parts (nat_le s.senders s.asked) (nat_le s.width s.cleared) ready).1 in
+      let same : w.tenure ≡ t = omega arith in ap (λ z. h.words (row_of x (z + 1) + place)) (sym same) ∙ w.cleared place (omega arith)
+
+  pub safe : IsSafe x h T
   safe = record {
+    shows = k.shows;
+    stands = λ p t at. (k.tells p).came t (subst (λ z. HasStood z t) (sym at) refl);
+    inside = λ p t s. let stood = (k.tells p).stood t s in (stander x two h T k p t stood, stood_is (h.visits p) t stood);
     opened = λ p t s. (window p t s).0;
     in_time = λ p t s. (window p t s).1;
     alone = λ p q t u s s' same. let a = window p t s in let b = window q u s' in let a0 = a.0 in let a1 = a.1 in let b0 = b.0 in let b1 = b.1 in
         elim (cases_lt t u) [ inl less ↦ one_of_row x.rows t u (omega arith) (omega arith) same | inr more ↦ sym (one_of_row x.rows u t more (omega arith) (sym same)) ];
-    clears = λ s r number is due. let c = wiping s r number is due in let w = k.sweeps s is in let e = stores_is r (s.row + s.cleared) number 0 c.stores in
-        let less = c.less in let width = w.width in
-        (s.cleared, e.0 ∙ ap (λ z. z + s.cleared) (w.row ∙ ap (λ z. row_of x (z + 1)) (sym (held_tenure s is))), omega arith, e.1);
-    swept = λ s r number is due p t st same. let c = wiping s r number is due in let w = k.sweeps s is in let a0 = (window p t st).0 in
-        let few = stander x two h T k p t ((k.tells p).stood t st) in let all : s.senders ≤ s.asked = c.all in let n = w.senders in let now = held_tenure s is in
-        let asked : p < s.asked = omega arith in let later = w.passed p t asked ((k.tells p).stood t st) in
-        let e = one_of_row x.rows t (tenure_of h + 1) (omega arith) (omega arith) same in omega arith;
-    awaited = λ s b is. waits s b is;
+    held = λ s is. let e = (k.sweeps s is).held in let now = held_tenure s is in omega arith;
+    clears = cleared;
+    swept = λ s is all p t st same. let w = k.sweeps s is in let a0 = (window p t st).0 in
+        let few = stander x two h T k p t ((k.tells p).stood t st) in let now = held_tenure s is in
+        let later = w.passed p t (omega arith) ((k.tells p).stood t st) in
+        let e = one_of_row x.rows t (tenure_of x h + 1) (omega arith) (omega arith) same in omega arith;
+    wiped = λ s place is low. ap (λ z. h.words (row_of x (z + 1) + place)) (held_tenure s is) ∙ (k.sweeps s is).cleared place low;
+    awaited = waits;
     clean = λ t place held ready low. cleaned t h.sweep held refl ready place low;
   }
-    where
-      waits : (s : Sweeping) (b : Behind) → h.sweep ≡ Some s → behind_of s (h.words (presence_at s.asked)) ≡ Some b → (b.sender < x.senders) × (h.words (presence_at b.sender) ≡ 1 + b.tenure) × (b.tenure + x.rows ≡ tenure_of h + 1)
-      waits s b is = let got = h.words (presence_at s.asked) in elim (lt_tells s.asked s.senders) [
-        | inr m ↦ λ e. absurd (none_is_not b (sym (ap (λ z. if z && (got == 1 + s.past) then Some record { tenure = s.past; sender = s.asked } else None) m.0) ∙ e))
-        | inl l ↦ elim (eqb_tells got (1 + s.past)) [
-          | inr ne ↦ λ e. absurd (none_is_not b (sym (ap (λ z. if z && (got == 1 + s.past) then Some record { tenure = s.past; sender = s.asked } else None) l.0 ∙ ap (λ z. if z then Some record { tenure = s.past; sender = s.asked } else None) ne.0) ∙ e))
-          | inl q ↦ λ e. let w = k.sweeps s is in
-              let named = same_Some _ _ (sym (ap (λ z. if z && (got == 1 + s.past) then Some record { tenure = s.past; sender = s.asked } else None) l.0 ∙ ap (λ z. if z then Some record { tenure = s.past; sender = s.asked } else None) q.0) ∙ e) in
-              let n = w.senders in let past = w.past in let used = w.used in let now = held_tenure s is in let few = l.1 in
-              subst (λ (z : Behind). (z.sender < x.senders) × (h.words (presence_at z.sender) ≡ 1 + z.tenure) × (z.tenure + x.rows ≡ tenure_of h + 1)) named (omega arith, q.1, omega arith)
-        ]
-      ]
-
-      cleaned : (t : ℕ) (o : Option Sweeping) → h.words stage_at ≡ 2 * t + 1 → h.sweep ≡ o → IsReady x t o → (place : ℕ) → place < x.width → h.words (row_of x (t + 1) + place) ≡ 0
-      cleaned t None held is ready place low = k.unused (t + 1) place (omega arith) ready low
-      cleaned t (Some s) held is ready place low = let w = k.sweeps s is in let z = w.held in let width = w.width in let all : s.width ≤ s.cleared = le_told s.width s.cleared (and_parts (nat_le s.senders s.asked) (nat_le s.width s.cleared) ready).1 in
-          let same : w.tenure ≡ t = omega arith in ap (λ z. h.words (row_of x (z + 1) + place)) (sym same) ∙ w.cleared place (omega arith)
 
 pub every_hall_is_safe : (x : Sizes) → 2 ≤ x.rows → (h : Hall) (T : Trails) → Reached x h T → IsSafe x h T
 every_hall_is_safe x two h T r = safe x two h T (keeps x two h T r)
 
 -- ---- what is refused
 -- who has come stands in its tenure
-come : (p t : ℕ) (trail : List Entry) → trail ≡ has_come p t → Stands p trail t
-come p t trail e = subst (λ z. Stands p z t) (sym e) (record {
+come : (x : Sizes) (p t : ℕ) (trail : List Entry) → trail ≡ has_come x p t → Stands x p trail t
+come x p t trail e = subst (λ z. Stands x p z t) (sym e) (record {
   entered = 0;
   before = 0;
   enters = refl;
@@ -668,18 +773,29 @@ come p t trail e = subst (λ z. Stands p z t) (sym e) (record {
   after = omega arith;
   of_tenure = omega arith;
   stays = λ k got more is. elim (cases_eq k 1) [
-    | inl one ↦ load_no_store stage_at (presence_at p) 0 (ap (λ (e : Entry). e.op) (same_Some _ _ (ap (slice_get (has_come p t)) (sym one) ∙ is)))
-    | inr ne ↦ none_is_not (withdrawing p got) (sym (slice_get_past (has_come p t) k (omega arith)) ∙ is)
+    | inl one ↦ load_no_store (stage_at x) (presence_at x p) 0 (ap (λ (e : Entry). e.op) (same_Some _ _ (ap (slice_get (has_come x p t)) (sym one) ∙ is)))
+    | inr ne ↦ none_is_not (withdrawing x p got) (sym (slice_get_past (has_come x p t) k (omega arith)) ∙ is)
   ];
 })
+
+-- who has looked before it came does not stand in any
+no_look : (x : Sizes) (p t u : ℕ) (trail : List Entry) → trail ≡ sees_stage x t ∷ shows_it x p t ∷ [] → Stands x p trail u → ⊥
+no_look x p t u trail e s = let after = s.after in elim (cases_eq s.looked 1) [
+  | inl one ↦ load_no_store (stage_at x) (presence_at x p) (1 + t) (ap (λ (e : Entry). e.op) (same_Some _ _ (sym s.looks ∙ ap (λ z. slice_get z s.looked) e ∙ ap (slice_get (sees_stage x t ∷ shows_it x p t ∷ [])) one)))
+  | inr ne ↦ none_is_not (looking x s.stage) (sym (ap (λ z. slice_get z s.looked) e ∙ slice_get_past (sees_stage x t ∷ shows_it x p t ∷ []) s.looked (omega arith)) ∙ s.looks)
+]
 
 next_row : (t rows : ℕ) → (t + rows) % rows ≡ t % rows
 next_row t rows = add-mod_right t rows
 
 pub safety_refused : SafetyRefuses
 safety_refused = record {
-  stale = λ x h T p t e late safe. let l = safe.in_time p t (come p t (T p) e) in omega arith;
-  shared = λ x h T p q t some e e' safe. let same = safe.alone p q t (t + x.rows) (come p t (T p) e) (come q (t + x.rows) (T q) e') (sym (next_row t x.rows)) in omega arith;
-  cleared_under = λ x h T p t r s e is due now safe. safe.swept s r 0 is due p t (come p t (T p) e) (sym (next_row t x.rows) ∙ ap (λ z. z % x.rows) (sym now));
-  unclean = λ x h T t place held none fresh low some safe. let z = safe.clean t place held (subst (IsReady x t) (sym none) fresh) low in omega arith;
+  unlooked = λ x h T p t at e safe. no_look x p t t (T p) e (safe.stands p t at);
+  stale = λ x h T p t e late safe. let l = safe.in_time p t (come x p t (T p) e) in omega arith;
+  early = λ x h T p t e late safe. let l = safe.opened p t (come x p t (T p) e) in omega arith;
+  shared = λ x h T p q t some e e' safe. let same = safe.alone p q t (t + x.rows) (come x p t (T p) e) (come x q (t + x.rows) (T q) e') (sym (next_row t x.rows)) in omega arith;
+  cleared_under = λ x h T p t r s e is due now safe. safe.swept s is (safe.clears s r 0 is due).4 p t (come x p t (T p) e) (sym (next_row t x.rows) ∙ ap (λ z. z % x.rows) (sym now));
+  unasked = λ x h T r s is due few safe. let all = (safe.clears s r 0 is due).4 in omega arith;
+  causeless = λ x h T s o b is due behind other safe. other (safe.awaited s o b is due behind).3;
+  unclean = λ x h T t place held ready low some safe. let z = safe.clean t place held ready low in omega arith;
 }

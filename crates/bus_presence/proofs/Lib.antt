@@ -1,1 +1,2 @@
 pub mod HallLaws
+pub mod RowLaws

@@ -1,7 +1,7 @@
 -- Senders that visit tenures, and holders that make rows ready, in any order, over the words of the stage, of the presences and of the
--- rows. Tenure t uses row t mod rows. Of elections, logs and pages nothing is said: whoever stands in a tenure may store any number in
+-- rows, among other words. Tenure t uses row t mod rows. Of elections, logs and pages nothing is said: whoever stands in a tenure may store any number in
 -- its row, and may take its page while that is home.
-use Rattle.std.specs.Prelude.{◌≡◌, ℕ, ◌+◌, ◌-◌, ◌*◌, ◌/◌, ◌%◌, ◌<◌, true, Option, Some, None, List, [], ◌∷◌, ◌++◌, nat_lt, ◌==◌, if◌then◌else◌}
+use Rattle.std.specs.Prelude.{◌≡◌, ◌⊎◌, ℕ, ◌+◌, ◌-◌, ◌*◌, ◌/◌, ◌%◌, ◌<◌, ◌≤◌, true, Option, Some, None, List, [], ◌∷◌, ◌++◌, nat_lt, ◌==◌, if◌then◌else◌}
 use Rattle.bus_register.specs.declared.registers.Op.{Op}
 use Rattle.bus_register.specs.Words.{register, after}
 use Rattle.bus_register.specs.Tables.{put}
@@ -10,22 +10,27 @@ use Rattle.bus_presence.specs.Sweeps.{Sweeping, sweep_op, sweep_fed, is_swept}
 use Rattle.bus_presence.specs.declared.visits.Visit.{Visit}
 use Rattle.bus_presence.specs.declared.visits.Visit.TheVariants.{Away, Entering, Inside, Parting}
 
--- how many senders and rows there are, and how many words a row has
+-- where the words stand, how many senders and rows there are, and how many words a row has
 pub record Sizes : Type 0 where
+  pub at : ℕ
   pub senders : ℕ
   pub rows : ℕ
   pub width : ℕ
 
--- ---- the places of the words
-abbrev pub stage_at : ℕ
-stage_at = 0
+-- ---- the places of the words: the stage, the presences, the rows
+abbrev pub stage_at : Sizes → ℕ
+stage_at x = x.at
 
-abbrev pub presence_at : ℕ → ℕ
-presence_at p = 1 + p
+abbrev pub presence_at : Sizes → ℕ → ℕ
+presence_at x p = x.at + 1 + p
 
 -- the row that a tenure uses
 abbrev pub row_of : Sizes → ℕ → ℕ
-row_of x t = 1 + x.senders + t % x.rows * x.width
+row_of x t = x.at + 1 + x.senders + t % x.rows * x.width
+
+-- a place before or behind all of these
+abbrev pub IsElsewhere : Sizes → ℕ → Type 0
+IsElsewhere x place = (place < x.at) ⊎ (x.at + 1 + x.senders + x.rows * x.width ≤ place)
 
 -- ---- the hall
 pub record Hall : Type 0 where
@@ -35,20 +40,20 @@ pub record Hall : Type 0 where
   pub sweep : Option Sweeping
 
 -- the tenure that is open, or whose page is out: the stage is twice this tenure, and one more while its page is out
-abbrev pub tenure_of : Hall → ℕ
-tenure_of h = h.words stage_at / 2
+abbrev pub tenure_of : Sizes → Hall → ℕ
+tenure_of x h = h.words (stage_at x) / 2
 
 abbrev pub new_hall : Hall
 new_hall = record { words = λ r. 0; visits = λ p. Away; sweep = None }
 
-abbrev pub visiting : Hall → ℕ → Visiting
-visiting h p = record { word = presence_at p; stage = stage_at; visit = h.visits p }
+abbrev pub visiting : Sizes → Hall → ℕ → Visiting
+visiting x h p = record { word = presence_at x p; stage = stage_at x; visit = h.visits p }
 
 -- the row of the tenure after this one was used before, so its holder sweeps it
 abbrev pub sweep_after : Sizes → ℕ → Option Sweeping
 sweep_after x t =
     if nat_lt (t + 1) x.rows then None else
-    Some record { past = t + 1 - x.rows; senders = x.senders; presences = presence_at 0; row = row_of x (t + 1); width = x.width; asked = 0; cleared = 0 }
+    Some record { past = t + 1 - x.rows; senders = x.senders; presences = presence_at x 0; row = row_of x (t + 1); width = x.width; asked = 0; cleared = 0 }
 
 -- the row of the tenure after this one may be used: it was not used before, or it is swept
 abbrev pub IsReady : Sizes → ℕ → Option Sweeping → Type 0
@@ -78,21 +83,27 @@ found h o = h.words (register o)
 abbrev pub words_after : Hall → Op → ℕ → ℕ
 words_after h o = put (register o) (after o (found h o)) h.words
 
+-- One move, with the trails before and after it. It stores in no row but what a sweep clears.
+pub data Moves (x : Sizes) : Hall → Trails → Hall → Trails → Type 0 where
+  -- a sender begins a tenure
+  Begins : (h : Hall) (T : Trails) (p t : ℕ) → p < x.senders → h.visits p ≡ Away → Moves x h T (record h { visits = put p (Entering t) h.visits }) T
+  -- it takes the next step of its visit
+  Visits : (h : Hall) (T : Trails) (p : ℕ) (o : Op) → visit_op (visiting x h p) ≡ Some o
+      → Moves x h T (record h { words = words_after h o; visits = put p (visit_fed (h.visits p) (found h o)) h.visits }) (grown T p record { op = o; got = found h o })
+  -- it is done with the tenure that it stands in
+  Parts : (h : Hall) (T : Trails) (p t : ℕ) → h.visits p ≡ Inside t → Moves x h T (record h { visits = put p (Parting t) h.visits }) T
+  -- it takes the page of the tenure that it stands in
+  Takes : (h : Hall) (T : Trails) (p t : ℕ) → h.visits p ≡ Inside t → h.words (stage_at x) ≡ 2 * t → Moves x h T (record h { words = put (stage_at x) (2 * t + 1) h.words; sweep = sweep_after x t }) T
+  -- the holder takes the next step of its sweep
+  Sweeps : (h : Hall) (T : Trails) (s : Sweeping) (o : Op) → h.sweep ≡ Some s → sweep_op s ≡ Some o → Moves x h T (record h { words = words_after h o; sweep = Some (sweep_fed s (found h o)) }) T
+  -- the holder gives the page back
+  GivesBack : (h : Hall) (T : Trails) (t : ℕ) → h.words (stage_at x) ≡ 2 * t + 1 → IsReady x t h.sweep → Moves x h T (record h { words = put (stage_at x) (2 * t + 2) h.words; sweep = None }) T
+  -- anybody stores a number elsewhere
+  Stores : (h : Hall) (T : Trails) (place number : ℕ) → IsElsewhere x place → Moves x h T (record h { words = put place number h.words }) T
+
 -- these trails lead to this hall: from a new one, by one event after another, of any sender and in any order
 pub data Reached (x : Sizes) : Hall → Trails → Type 0 where
   New : Reached x new_hall no_trails
-  -- a sender begins a tenure
-  Begins : (h : Hall) (T : Trails) (p t : ℕ) → Reached x h T → p < x.senders → h.visits p ≡ Away → Reached x (record h { visits = put p (Entering t) h.visits }) T
-  -- it takes the next step of its visit
-  Visits : (h : Hall) (T : Trails) (p : ℕ) (o : Op) → Reached x h T → visit_op (visiting h p) ≡ Some o
-      → Reached x (record h { words = words_after h o; visits = put p (visit_fed (h.visits p) (found h o)) h.visits }) (grown T p record { op = o; got = found h o })
-  -- it stores a number in the row of the tenure that it stands in
+  Then : (h h' : Hall) (T T' : Trails) → Reached x h T → Moves x h T h' T' → Reached x h' T'
+  -- a sender stores a number in the row of the tenure that it stands in
   Works : (h : Hall) (T : Trails) (p t place number : ℕ) → Reached x h T → h.visits p ≡ Inside t → place < x.width → Reached x (record h { words = put (row_of x t + place) number h.words }) T
-  -- it is done with the tenure that it stands in
-  Parts : (h : Hall) (T : Trails) (p t : ℕ) → Reached x h T → h.visits p ≡ Inside t → Reached x (record h { visits = put p (Parting t) h.visits }) T
-  -- it takes the page of the tenure that it stands in
-  Takes : (h : Hall) (T : Trails) (p t : ℕ) → Reached x h T → h.visits p ≡ Inside t → h.words stage_at ≡ 2 * t → Reached x (record h { words = put stage_at (2 * t + 1) h.words; sweep = sweep_after x t }) T
-  -- the holder takes the next step of its sweep
-  Sweeps : (h : Hall) (T : Trails) (s : Sweeping) (o : Op) → Reached x h T → h.sweep ≡ Some s → sweep_op s ≡ Some o → Reached x (record h { words = words_after h o; sweep = Some (sweep_fed s (found h o)) }) T
-  -- the holder gives the page back
-  GivesBack : (h : Hall) (T : Trails) (t : ℕ) → Reached x h T → h.words stage_at ≡ 2 * t + 1 → IsReady x t h.sweep → Reached x (record h { words = put stage_at (2 * t + 2) h.words; sweep = None }) T

@@ -2,4 +2,5 @@ pub mod Visits
 pub mod Sweeps
 pub mod Hall
 pub mod Standing
+pub mod Rows
 pub mod Refused

@@ -21,7 +21,7 @@ pub enum Visit {
     Inside { tenure: u64 },
     /// It is done with this tenure and clears its presence next.
     Parting { tenure: u64 },
-    /// It saw the stage of another tenure. It has not stood in this one, and clears its presence
+    /// It saw the stage of another tenure. It does not stand in this one, and clears its presence
     /// next.
     Barred { tenure: u64 },
 }
