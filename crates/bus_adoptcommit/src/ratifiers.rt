@@ -53,8 +53,9 @@ pub trait Ratifier: Machine {
     ghost named_for: { (s : Self) (k : Kind) (word : ℕ) (o : Op) → Self.kind_of s ≡ Some k
         → Self.op s word ≡ Some o → IsNamedFor k o (protocol.has_begun s) };
 
-    /// Its kinds come in their order: after its proposal it reads proposals, then it may store a
-    /// verdict, and at the end it reads verdicts.
+    /// Its kinds come in their order: it reads proposals only right after its store or another such
+    /// read, stores a verdict only right after such a read, and reads verdicts only after that. It
+    /// may end before.
     ghost in_order: { (s : Self) (got word : ℕ) (k next : Kind) → Self.kind_of s ≡ Some k
         → Self.kind_of (Self.fed s got word) ≡ Some next → ComesAfter k next };
 

@@ -137,7 +137,7 @@ impl Machine for Conciliator {
                 self.stage = if got == 0 {
                     Stage::Alone
                 } else {
-                    Stage::AskCoin(WalkCoin::start(self.n, Reg(self.at.0 + 2)))
+                    Stage::AskCoin(WalkCoin::start(self.n, SenderNo::default(), Reg(self.at.0 + 2)))
                 };
             }
             Stage::Alone => {}

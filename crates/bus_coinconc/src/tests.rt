@@ -108,21 +108,21 @@ fn coin_and_conciliator_steps(rt: HostRuntime) {
     assert!(rt; total(&[tally, Tally { heads: 0, tails: 4 }]) == -3);
 
     let mut cells = Cells::new(rt.alloc(), 1).expect(&rt, "memory");
-    let mut coin = Process::Coin(WalkCoin::start(1, Reg(0)));
+    let mut coin = Process::Coin(WalkCoin::start(1, SenderNo(0), Reg(0)));
     assert!(rt; run(&rt, &mut cells, &mut coin, [1, 1]) == 4);
     assert!(rt; output(&coin) == Some(true));
 
     let mut cells = Cells::new(rt.alloc(), 1).expect(&rt, "memory");
-    let mut coin = Process::Coin(WalkCoin::start(1, Reg(0)));
+    let mut coin = Process::Coin(WalkCoin::start(1, SenderNo(0), Reg(0)));
     assert!(rt; run(&rt, &mut cells, &mut coin, [1, 0]) == 128);
     assert!(rt; output(&coin) == Some(false));
 
     assert!(rt; WalkCoin::width(2) == 1);
     let mut cells = Cells::new(rt.alloc(), 1).expect(&rt, "memory");
-    let mut coin = Process::Coin(WalkCoin::start(2, Reg(0)));
+    let mut coin = Process::Coin(WalkCoin::start(2, SenderNo(0), Reg(0)));
     assert!(rt; run(&rt, &mut cells, &mut coin, [1, 1]) == 8);
     assert!(rt; output(&coin) == Some(true));
-    let mut coin = Process::Coin(WalkCoin::start(2, Reg(0)));
+    let mut coin = Process::Coin(WalkCoin::start(2, SenderNo(0), Reg(0)));
     assert!(rt; run(&rt, &mut cells, &mut coin, [0, 0]) == 16);
     assert!(rt; output(&coin) == Some(false));
 
@@ -326,7 +326,10 @@ fn random_schedules(rt: HostRuntime) {
             if u64::from(me) < n {
                 let input = (state >> (50 + me)) & 1 == 1;
                 let (process, act) = if round % 2 == 0 {
-                    (Process::Coin(WalkCoin::start(n, Reg(5))), Act::Vote)
+                    (
+                        Process::Coin(WalkCoin::start(n, SenderNo(0), Reg(5))),
+                        Act::Vote,
+                    )
                 } else {
                     (
                         Process::Conciliator(Conciliator::start(n, SenderNo(me), input, Reg(3))),

@@ -26,7 +26,7 @@ pub fn inputs_are_words()
         ↔ (AreWordLines (script_lines input) words × (length words ≤ MOST_LOG_WORDS)) }
 {}
 
-/// An input has one answer.
+/// An input has at most one answer.
 pub fn answers_are_one()
     ensures { (senders : ℕ) (input : List ℕ) (outcome other : Outcome) (text another : List ℕ)
         → IsAnswer senders input outcome text → IsAnswer senders input other another

@@ -58,7 +58,7 @@ fn push_word(alloc: Global, text: &mut String, word: u64) -> Result<(), AllocErr
     text.push_str("\n")
 }
 
-/// A line for each word, from which the words can be read again.
+/// A line for each word. Of at most 65,536 words they can be read again.
 pub fn print_words(alloc: Global, words: &[u64]) -> Result<String, AllocError>
     ensures text { IfOk result (λ text. string_bytes text ≡ words_text words.now) }
     ensures read { length words.now ≤ MOST_LOG_WORDS

@@ -8,7 +8,8 @@ mod tour;
 
 use self::replay::refuses;
 use self::streams::{FailingReader, FullWriter, StuckWriter};
-use super::command_line::parse;
+use super::command_line::{Task, parse};
+use super::printing::Request;
 use super::ratify::ratify;
 use bus_run::RunFault;
 use bus_script::Outcome;
@@ -111,8 +112,8 @@ fn stuck_writer(rt: HostRuntime) {
     assert_eq!(rt; writer.written.as_slice(), b"0 commit 1\n".as_slice());
 }
 
-/// Wants that the words behind the program's name are refused so.
-fn refuses_words<R: Abort + AllocGlobal>(rt: &R, rest: &[&str], kind: ErrorKind) {
+/// The words of a command line, behind the program's name.
+fn words_of<R: Abort + AllocGlobal>(rt: &R, rest: &[&str]) -> Vec<String> {
     let mut words = Vec::new(rt.alloc());
     words
         .push("bus".to_string(rt.alloc()).expect(rt, "memory"))
@@ -122,6 +123,37 @@ fn refuses_words<R: Abort + AllocGlobal>(rt: &R, rest: &[&str], kind: ErrorKind)
             .push(word.to_string(rt.alloc()).expect(rt, "memory"))
             .expect(rt, "memory");
     }
+    words
+}
+
+/// Wants that the words behind the program's name name this task.
+fn names_task<R: Abort + AllocGlobal>(rt: &R, rest: &[&str], task: Task) {
+    let words = words_of(rt, rest);
+    match parse(rt.alloc(), words.as_slice()) {
+        Ok(named) => assert_eq!(rt; named, task, "of {rest:?}"),
+        Err(_) => panic!(rt; "of {rest:?}"),
+    }
+}
+
+#[test]
+fn tasks(rt: HostRuntime) {
+    let run = Request {
+        senders: 3,
+        receivers: 2,
+        messages: 100,
+        seed: 7,
+    };
+    names_task(&rt, &["ratify"], Task::Ratify);
+    names_task(&rt, &["replay"], Task::Replay);
+    names_task(&rt, &["run"], Task::Run(run));
+    names_task(&rt, &["run", "--log"], Task::RunLog(run));
+    names_task(&rt, &["log"], Task::Log { senders: 3 });
+    names_task(&rt, &["log", "--senders", "2"], Task::Log { senders: 2 });
+}
+
+/// Wants that the words behind the program's name are refused so.
+fn refuses_words<R: Abort + AllocGlobal>(rt: &R, rest: &[&str], kind: ErrorKind) {
+    let words = words_of(rt, rest);
     match parse(rt.alloc(), words.as_slice()) {
         Ok(_) => panic!(rt; "of {rest:?}"),
         Err(error) => assert_eq!(rt; error.kind(), kind, "of {rest:?}"),
@@ -143,6 +175,8 @@ fn command_lines(rt: HostRuntime) {
         ["run", "--messages", "401"],
         ["run", "--seed", "18446744073709551616"],
         ["run", "--seed", "x"],
+        ["log", "--senders", "0"],
+        ["log", "--senders", "9"],
     ] {
         refuses_words(&rt, &rest, ErrorKind::ValueValidation);
     }

@@ -33,14 +33,14 @@ pub record IsLeftBehind (shape : Shape) (z : Outcome) : Type 0 where
   pub left : IsLeftBy shape seen z.log (Some z.page)
 
 -- ---- the seat by which a run's bus is ended
--- the seat shows what it did, but for more words of the log that it knows, and more loads
+-- the seat shows what it did, but for the words of the log that it knows, which are more, and its count of loads
 pub record HasLearnt (old new : Shown) : Type 0 where
   pub known : List ℕ
   pub loads : ℕ
   pub now : new ≡ with_ear old (record (ear_in old) { known = known; loads = loads })
   pub grows : IsPrefix (known_in old) known
 
--- it is the first receiver's, which each sender has told that it put just the numbers below this one
+-- it is the first receiver's, and knows a log that has of each sender just the numbers below this one at its front
 pub record IsToldByAll {D : Type 0} (sender : D → Seated (Elector Local)) (messages : ℕ) (desks : List D) (seats : List Shown) (seen : Shown) : Type 0 where
   pub first : Shown
   pub first_is : slice_get seats 0 ≡ Some first

@@ -5,7 +5,7 @@ ghost use Rattle.bus_walkcoin.specs.CoinRule.{settled};
 ghost use Rattle.bus_walkcoin.specs.Coin.{after_settled, answer_of, wants_of, coin_started};
 
 use bus_register::limits::MOST_PROCESSES;
-use bus_register::{Kind, Machine, Op, Reg};
+use bus_register::{Kind, Machine, Op, Reg, SenderNo};
 use bus_votecount::tallies::MOST_VOTES;
 use bus_votecount::{Tally, total};
 use std::marker::Model;
@@ -75,8 +75,9 @@ fn go_on(n: u64, votes: u32, lead: i64) -> Phase
 }
 
 impl WalkCoin {
-    /// A process of `n`, over the word at `at`, which is zero before the first step.
-    pub fn start(n: u64, at: Reg) -> WalkCoin
+    /// A process of `n`, over the word at `at`, which is zero before the first step. Its number makes
+    /// no difference.
+    pub fn start(n: u64, _me: SenderNo, at: Reg) -> WalkCoin
         requires { n ≤ MOST_PROCESSES }
         ensures { result ≡ coin_started n at.0 }
     {
