@@ -17,3 +17,4 @@ pub mod Joining
 pub mod Promising
 pub mod OnePage
 pub mod Endings
+pub mod Staging

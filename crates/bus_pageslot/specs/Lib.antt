@@ -1,6 +1,7 @@
 pub mod Ears
 pub mod Rule
 pub mod Steps
+pub mod Stages
 pub mod Listening
 pub mod Seats
 pub mod Turns

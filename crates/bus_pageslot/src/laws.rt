@@ -1,6 +1,6 @@
 //! What holds of every bus, between any two steps.
 
-ghost use Rattle.std.specs.Prelude.{◌≡◌, ℕ, ◌<◌, ◌≤◌, Option, List, []};
+ghost use Rattle.std.specs.Prelude.{◌≡◌, ℕ, ◌*◌, ◌<◌, ◌≤◌, Option, List, []};
 ghost use Rattle.std.specs.Prelude.{◌∷◌, false, length, slice_index, Some};
 ghost use mathlib.Core.Option.{some};
 ghost use lib.ListN.{get_elem?};
@@ -21,6 +21,7 @@ ghost use Rattle.bus_pageslot.specs.declared.rule.View.TheVariants.{Sender, Tap}
 ghost use Rattle.bus_pageslot.specs.Listening.{Hears};
 ghost use Rattle.bus_pageslot.specs.Rule.{Sat, IsShown};
 ghost use Rattle.bus_pageslot.specs.Promised.{log_below, IsPromised};
+ghost use Rattle.bus_pageslot.specs.Stages.{TakesPageOf};
 ghost use Rattle.bus_pageslot.specs.Steps.{IsDue};
 
 use bus_adoptcommit::Ratifier;
@@ -74,6 +75,19 @@ pub fn steps_only_extend_the_log<Q: Ratifier>()
         (d : Core (Elector Q)) (word many v : ℕ)
         → IsShown X (layout_of Q.protocol shape) s → get_elem? s.views seat ≡ some m.0
         → v < slice_index s.words 0 → ¬ IsDue X d word m many (Store (record { 0 = 0 }) v) }
+{
+    election_is_lawful::<Q>();
+}
+
+/// While a tenure is open the stage is twice its number, and but one step of a sender leaves that:
+/// the one that takes the page, by the sender that the tenure's election chose. Receivers load.
+pub fn only_owners_leave_the_stage<Q: Ratifier>()
+    ensures { let X = election_of Q.Ratifier in (shape : Shape)
+        (s : State (Option Page) (View (Core (Elector Q)))) (seat : ℕ) (m : Sat (Elector Q))
+        (d : Core (Elector Q)) (word many t : ℕ) (o : Op)
+        → IsShown X (layout_of Q.protocol shape) s → get_elem? s.views seat ≡ some m.0
+        → IsDue X d word m many o → slice_index s.words 1 ≡ 2 * t
+        → (slice_index (words_after s.words (Some o)) 1 ≡ 2 * t → ⊥) → TakesPageOf X d t o }
 {
     election_is_lawful::<Q>();
 }
