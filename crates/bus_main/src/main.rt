@@ -2,9 +2,9 @@
 //! answer to standard output, and `bus log` the words of a log. `bus run` lets threads share a bus,
 //! and writes what came of it.
 //!
-//! Exit status: 0 where the script was played, the log was told or the bus was run; 1 where a script
-//! or a log was refused, or the program could not do its work, which standard error then says; 2
-//! where the command line was refused or asked for help.
+//! Exit status: 0 where the script was played, the log was told or the bus was run; 1 where a
+//! script or a log was refused, or the program could not do its work, which standard error then
+//! says; 2 where the command line was refused or asked for help.
 #![tactic(auto)]
 
 mod command_line;

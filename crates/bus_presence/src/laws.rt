@@ -18,13 +18,13 @@ use bus_adoptcommit::Ratifier;
 use bus_ownerbits::laws::election_is_lawful;
 use bus_register::limits::MOST_PROCESSES;
 
-/// Whatever senders and holders that go by visits and sweeps do one after another, over at least two
-/// rows: who may store in a tenure's row stands in that tenure, by what it did; who stands in one,
-/// stands in one that was opened and whose row has not gone on; all who stand in tenures of one row
-/// stand in one tenure. A holder clears words of the next row alone, once all presences have passed,
-/// and from then on nobody stands in a tenure of that row. It waits for a sender only where it finds
-/// in its presence the tenure that used the row before; and where it may give the page back, all
-/// words of the next row are 0.
+/// Whatever senders and holders that go by visits and sweeps do one after another, over at least
+/// two rows: who may store in a tenure's row stands in that tenure, by what it did; who stands in
+/// one, stands in one that was opened and whose row has not gone on; all who stand in tenures of
+/// one row stand in one tenure. A holder clears words of the next row alone, once all presences
+/// have passed, and from then on nobody stands in a tenure of that row. It waits for a sender only
+/// where it finds in its presence the tenure that used the row before; and where it may give the
+/// page back, all words of the next row are 0.
 pub fn rows_are_safe()
     ensures { (x : Sizes) → 2 ≤ x.rows → (hall : Hall) (trails : Trails)
         → Reached x hall trails → IsSafe x hall trails }
@@ -40,9 +40,9 @@ pub fn tenures_only_rise()
 
 /// No hall is safe where a sender may step in a tenure whose stage it loaded before it stored its
 /// presence, where one stands in a tenure whose row has gone on, or that was not opened, where two
-/// stand in two tenures of one row, where one stands in the row that a holder clears, where a holder
-/// clears before all presences have passed, or waits without that cause, or where a page may be
-/// given back while a word of the next row is not 0.
+/// stand in two tenures of one row, where one stands in the row that a holder clears, where a
+/// holder clears before all presences have passed, or waits without that cause, or where a page may
+/// be given back while a word of the next row is not 0.
 pub fn safety_refuses()
     ensures { SafetyRefuses }
 {}

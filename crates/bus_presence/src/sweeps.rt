@@ -55,8 +55,8 @@ impl Model for Sweep {
 }
 
 impl Sweep {
-    /// Nothing is looked at yet. The row was that of a past tenure; the presences of so many senders
-    /// stand in words one after another, as do the words of the row.
+    /// Nothing is looked at yet. The row was that of a past tenure; the presences of so many
+    /// senders stand in words one after another, as do the words of the row.
     pub fn new(past: u64, senders: u64, presences: Reg, row: Reg, width: u64) -> Sweep
         requires past { past < TENURES }
         requires few { senders ≤ MOST_PROCESSES }

@@ -75,8 +75,8 @@ fn go_on(n: u64, votes: u32, lead: i64) -> Phase
 }
 
 impl WalkCoin {
-    /// A process of `n`, over the word at `at`, which is zero before the first step. Its number makes
-    /// no difference.
+    /// A process of `n`, over the word at `at`, which is zero before the first step. Its number
+    /// makes no difference.
     pub fn start(n: u64, _me: SenderNo, at: Reg) -> WalkCoin
         requires { n ≤ MOST_PROCESSES }
         ensures { result ≡ coin_started n at.0 }
