@@ -1,5 +1,5 @@
 -- What a seat has learnt, and what a bus of a run leaves behind.
-use Rattle.std.proofs.Common.{◌≡◌, ℕ, List, [], ◌∷◌, ◌++◌, ◌+◌, refl, sym, ap, subst, ◌∙◌, append_assoc, append-nil, ◌⊎◌, inl, inr, Option, Some, None, map}
+use Rattle.std.proofs.Common.{◌≡◌, ℕ, List, [], ◌∷◌, ◌++◌, ◌+◌, refl, sym, ap, subst, ◌∙◌, append_assoc, append-nil, add-zero, arith, ◌⊎◌, inl, inr, Option, Some, None, map}
 use Rattle.std.specs.Prelude.{slice_get, IfSome}
 use Rattle.bus_adoptcommit.specs.ThreeWord.{Local}
 use Rattle.bus_tenure.specs.Elections.{Elector}
@@ -16,21 +16,24 @@ use Rattle.bus_run.specs.Stops.{LeavesNoPage, LeavesOrder, IsOpen}
 
 -- ---- what a seat has learnt
 
-same_view : (v : Shown) → v ≡ with_ear v (record (ear_in v) { known = known_in v; loads = (ear_in v).loads })
+same_view : (v : Shown) → v ≡ with_ear v (record (ear_in v) { known = known_in v; loads = (ear_in v).loads + 0 })
 same_view (Maker c) = refl
 same_view (Sender c trail stored) = refl
-same_view (Tap c e) = refl
-same_view (Meeting c e d f) = refl
-same_view (Telling c trail stored d e) = refl
+same_view (Tap c e) = ap (λ l. Tap c (record e { loads = l })) (sym (add-zero e.loads))
+same_view (Meeting c e d f) = ap (λ l. Meeting c (record e { loads = l }) d f) (sym (add-zero e.loads))
+same_view (Telling c trail stored d e) = ap (λ l. Telling c trail stored d (record e { loads = l })) (sym (add-zero e.loads))
 same_view Spent = refl
 
-at_once : (v : Shown) (k k' : List ℕ) (l l' : ℕ) → (let w = with_ear v (record (ear_in v) { known = k; loads = l }) in with_ear w (record (ear_in w) { known = k'; loads = l' })) ≡ with_ear v (record (ear_in v) { known = k'; loads = l' })
-at_once (Maker c) k k' l l' = refl
-at_once (Sender c trail stored) k k' l l' = refl
-at_once (Tap c e) k k' l l' = refl
-at_once (Meeting c e d f) k k' l l' = refl
-at_once (Telling c trail stored d e) k k' l l' = refl
-at_once Spent k k' l l' = refl
+one_later : (a n : ℕ) → a + n + 1 ≡ a + (n + 1)
+one_later a n = omega arith
+
+one_more : (v : Shown) (k k' : List ℕ) (n : ℕ) → (let w = with_ear v (record (ear_in v) { known = k; loads = (ear_in v).loads + n }) in with_ear w (record (ear_in w) { known = k'; loads = (ear_in w).loads + 1 })) ≡ with_ear v (record (ear_in v) { known = k'; loads = (ear_in v).loads + (n + 1) })
+one_more (Maker c) k k' n = refl
+one_more (Sender c trail stored) k k' n = refl
+one_more (Tap c e) k k' n = ap (λ l. Tap c (record e { known = k'; loads = l })) (one_later e.loads n)
+one_more (Meeting c e d f) k k' n = ap (λ l. Meeting c (record e { known = k'; loads = l }) d f) (one_later e.loads n)
+one_more (Telling c trail stored d e) k k' n = ap (λ l. Telling c trail stored d (record e { known = k'; loads = l })) (one_later e.loads n)
+one_more Spent k k' n = refl
 
 nothing_before : (k : List ℕ) → IsPrefix [] k
 nothing_before k = record { rest = k; together = refl }
@@ -47,23 +50,23 @@ longer : (a b c : List ℕ) → IsPrefix a b → IsPrefix b c → IsPrefix a c
 longer a b c g h = record { rest = g.rest ++ h.rest; together = sym (append_assoc a g.rest h.rest) ∙ ap (λ z. z ++ h.rest) g.together ∙ h.together }
 
 -- what it knows has grown
-pub grown : (old new : Shown) → HasLearnt old new → IsPrefix (known_in old) (known_in new)
-grown old new h = subst (λ v. IsPrefix (known_in old) (known_in v)) (sym h.now) (knows_more old h.known h.loads h.grows)
+pub grown : (times : ℕ) (old new : Shown) → HasLearnt times old new → IsPrefix (known_in old) (known_in new)
+grown times old new h = subst (λ v. IsPrefix (known_in old) (known_in v)) (sym h.now) (knows_more old h.known ((ear_in old).loads + times) h.grows)
 
-pub none_learnt : (v : Shown) → HasLearnt v v
-none_learnt v = record { known = known_in v; loads = (ear_in v).loads; now = same_view v; grows = record { rest = []; together = append-nil (known_in v) } }
+pub none_learnt : (v : Shown) → HasLearnt 0 v v
+none_learnt v = record { known = known_in v; now = same_view v; grows = record { rest = []; together = append-nil (known_in v) } }
 
-pub more_learnt : (a b c : Shown) → HasLearnt a b → HasLearnt b c → HasLearnt a c
-more_learnt a b c g h = record {
+-- its loads are those of both
+pub more_learnt : (times : ℕ) (a b c : Shown) → HasLearnt times a b → HasLearnt 1 b c → HasLearnt (times + 1) a c
+more_learnt times a b c g h = record {
   known = h.known;
-  loads = h.loads;
-  now = h.now ∙ ap (λ v. with_ear v (record (ear_in v) { known = h.known; loads = h.loads })) g.now ∙ at_once a g.known h.known g.loads h.loads;
-  grows = longer (known_in a) (known_in b) h.known (grown a b g) h.grows;
+  now = h.now ∙ ap (λ v. with_ear v (record (ear_in v) { known = h.known; loads = (ear_in v).loads + 1 })) g.now ∙ one_more a g.known h.known times;
+  grows = longer (known_in a) (known_in b) h.known (grown times a b g) h.grows;
 }
 
 -- by one load of the length
-pub one_learnt : (m : Sat (Elector Local)) (got : ℕ) (m' : Sat (Elector Local)) → Learns m got m' → HasLearnt m.0 m'.0
-one_learnt m got m' h = record { known = h.known; loads = (ear_in m.0).loads + 1; now = ap (λ (z : Sat (Elector Local)). z.0) h.now; grows = h.grows }
+pub one_learnt : (m : Sat (Elector Local)) (got : ℕ) (m' : Sat (Elector Local)) → Learns m got m' → HasLearnt 1 m.0 m'.0
+one_learnt m got m' h = record { known = h.known; now = ap (λ (z : Sat (Elector Local)). z.0) h.now; grows = h.grows }
 
 -- ---- what is left
 -- the words that were left spell an order

@@ -1,5 +1,5 @@
 -- What the bus of a run leaves behind, and by which seat.
-use Rattle.std.specs.Prelude.{◌≡◌, ℕ, List, All, Option, Some, slice_get}
+use Rattle.std.specs.Prelude.{◌≡◌, ℕ, ◌+◌, List, All, Option, Some, length, slice_get}
 use Rattle.bus_adoptcommit.specs.ThreeWord.{Local, kind_at, op_of, fed_of}
 use Rattle.bus_adoptcommit.specs.ThreeWordKeeps.{three_word}
 use Rattle.bus_tenure.specs.Core.{Core, Election}
@@ -32,17 +32,21 @@ pub record IsLeftBehind (shape : Shape) (z : Outcome) : Type 0 where
   pub seen : Shown
   pub left : IsLeftBy shape seen z.log (Some z.page)
 
+-- and the seat is one of which this is true
+abbrev pub IsEndedBy : Shape → (Shown → Type 0) → Outcome → Type 0
+IsEndedBy shape Ends z = (behind : IsLeftBehind shape z) × Ends behind.seen
+
 -- ---- the seat by which a run's bus is ended
--- the seat shows what it did, but for the words of the log that it knows, which are more, and its count of loads
-pub record HasLearnt (old new : Shown) : Type 0 where
+-- the seat shows what it did, but for the words of the log that it knows, which are more, and for so many loads more
+pub record HasLearnt (times : ℕ) (old new : Shown) : Type 0 where
   pub known : List ℕ
-  pub loads : ℕ
-  pub now : new ≡ with_ear old (record (ear_in old) { known = known; loads = loads })
+  pub now : new ≡ with_ear old (record (ear_in old) { known = known; loads = (ear_in old).loads + times })
   pub grows : IsPrefix (known_in old) known
 
--- it is the first receiver's, and knows a log that has of each sender just the numbers below this one at its front
+-- it is the first receiver's after one load for each sender, and knows a log that has of each just the numbers below this one at its
+-- front
 pub record IsToldByAll {D : Type 0} (sender : D → Seated (Elector Local)) (messages : ℕ) (desks : List D) (seats : List Shown) (seen : Shown) : Type 0 where
   pub first : Shown
   pub first_is : slice_get seats 0 ≡ Some first
-  pub learnt : HasLearnt first seen
+  pub learnt : HasLearnt (length desks) first seen
   pub told : All (λ d. HasTold (sender d).core.me messages (known_in seen)) desks

@@ -6,7 +6,8 @@ ghost use Rattle.std.specs.Prelude.{None, IfOk, OnOk, IfErr, IfSome, true, false
 ghost use Rattle.std.specs.Vec.{vec_capacity};
 ghost use Rattle.bus_run.specs.Audit.{OfOrder, IsSpelled, IsFair, SendsEach, IsClosed};
 ghost use Rattle.bus_run.specs.Audit.{CarriesNumbers, IsSummed, CountsAll};
-ghost use Rattle.bus_run.specs.Left.{IsLeftBehind, IsLeftBy, Shown, HasLearnt};
+ghost use Rattle.bus_run.specs.Left.{IsLeftBehind, IsLeftBy, IsEndedBy, IsToldByAll};
+ghost use Rattle.bus_run.specs.Left.{Shown, HasLearnt};
 ghost use Rattle.bus_run.specs.Told.{HasTold};
 ghost use Rattle.bus_pageslot.specs.Rule.{known_in};
 ghost use Rattle.bus_receiver.specs.Listening.{bus_of};
@@ -45,6 +46,9 @@ pub fn end_and_audit<B: OfBus>(
     ensures unstopped { OnOk result (AreUnstopped (λ desk. desk.fault) crew.desks.items) }
     ensures of { IfOk result (λ report. report.ended.senders ≡ shape.senders) }
     ensures left { IfOk result (λ report. IsLeftBehind shape report.ended) }
+    ensures by { let Ends = IsToldByAll (λ desk. desk.sender) messages crew.desks.items
+        (map (λ ear. ear.receiver.me.0) crew.ears.items) in
+        IfOk result (λ report. IsEndedBy shape Ends report.ended) }
     ensures sent { IfOk result
         (λ report. OfOrder report.ended (SendsEach shape.senders messages)) }
     ensures carried { IfOk result
@@ -149,6 +153,9 @@ fn end_whole<B: OfBus>(
     requires whole { IsWhole (λ desk. desk.sender.core.me) shape desks.items ears.items }
     ensures of { IfOk result (λ report. report.ended.senders ≡ shape.senders) }
     ensures left { IfOk result (λ report. IsLeftBehind shape report.ended) }
+    ensures by { let Ends = IsToldByAll (λ desk. desk.sender) messages desks.items
+        (map (λ ear. ear.receiver.me.0) ears.items) in
+        IfOk result (λ report. IsEndedBy shape Ends report.ended) }
     ensures sent { IfOk result
         (λ report. OfOrder report.ended (SendsEach shape.senders messages)) }
     ensures carried { IfOk result
@@ -240,7 +247,7 @@ fn tell_all<B: OfBus>(
     requires table { bus_of first ≡ B.table }
     requires sent { All (λ desk. HasSent messages desk.sender) desks.items }
     ensures table { bus_of result ≡ B.table }
-    ensures learnt { HasLearnt first.me.0 result.me.0 }
+    ensures learnt { HasLearnt (length desks.items) first.me.0 result.me.0 }
     ensures told { All (λ desk. HasTold desk.sender.core.me messages (known_in result.me.0))
         desks.items }
 {
@@ -256,7 +263,7 @@ fn tell<B: OfBus>(receiver: &mut Receiver, desk: Desk<B>, the: &TheBus<B>, messa
     requires table { bus_of receiver.old ≡ B.table }
     requires sent { HasSent messages desk.sender }
     ensures table { bus_of receiver.new ≡ B.table }
-    ensures learnt { HasLearnt receiver.old.me.0 receiver.new.me.0 }
+    ensures learnt { HasLearnt 1 receiver.old.me.0 receiver.new.me.0 }
     ensures told { HasTold desk.sender.core.me messages (known_in receiver.new.me.0) }
 {
     let Desk { mut sender, .. } = desk;

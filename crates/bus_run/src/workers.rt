@@ -2,7 +2,7 @@
 
 ghost use Rattle.std.specs.Prelude.{◌≡◌, ◌++◌, ◌∷◌, [], ◌<◌, ◌≤◌};
 ghost use Rattle.std.specs.Prelude.{◌⊎◌, ◌^◌, true, false, None, Some};
-ghost use Rattle.std.specs.Prelude.{length, IfOk, map, All};
+ghost use Rattle.std.specs.Prelude.{IfOk, map, All};
 ghost use Rattle.std.specs.Int.{w64, to_be_bytes};
 ghost use Rattle.bus_batch.specs.Batches.{next_of, IsPutFault};
 ghost use Rattle.bus_batch.specs.declared.batches.PutFault.{PutFault};
@@ -67,10 +67,11 @@ pub struct Ear<B: OfBus> {
 }
 
 impl<B: OfBus> Ear<B> {
-    /// The ear of a receiver that has not begun.
+    /// The ear of the receiver with this seat, of whose answers nothing was noted.
     pub fn new(tap: Tap) -> Ear<B>
         requires { tap.table_id ≡ B.table }
-        ensures { result.heard ≡ nothing }
+        ensures receiver { result.receiver ≡ tap }
+        ensures fresh { result.heard ≡ nothing }
     {
         Ear {
             receiver: Receiver::new(tap),
@@ -195,7 +196,8 @@ pub fn desks_of<B: OfBus>(
 /// An ear for each receiver, in order.
 pub fn ears_of<B: OfBus>(alloc: Global, taps: Vec<Tap>) -> Result<Vec<Ear<B>>, AllocError>
     requires { All (λ tap. tap.table_id ≡ B.table) taps.items }
-    ensures each { IfOk result (λ ears. length ears.items ≡ length taps.items) }
+    ensures receivers { IfOk result
+        (λ ears. map (λ ear. ear.receiver) ears.items ≡ taps.items) }
     ensures fresh { IfOk result (λ ears. All (λ ear. ear.heard ≡ nothing) ears.items) }
 {
     let mut ears = Vec::with_capacity(alloc, taps.len())?;

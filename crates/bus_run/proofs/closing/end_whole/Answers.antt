@@ -115,3 +115,12 @@ returns-clause-left g c = record {
   seen = c.tell_all-told.result.me.0;
   left = subst (λ x. IsLeftBy x c.tell_all-told.result.me.0 c.in_ok-ended.ended.log (Some c.in_ok-ended.ended.page)) c.requires.bus c.in_ok-ended.ensures.left;
 }
+
+pub returns-clause-by : goal.returns-clause-by
+returns-clause-by g c = (
+  record {
+    seen = c.tell_all-told.result.me.0;
+    left = subst (λ x. IsLeftBy x c.tell_all-told.result.me.0 c.in_ok-ended.ended.log (Some c.in_ok-ended.ended.page)) c.requires.bus c.in_ok-ended.ensures.left;
+  },
+  record { first = _; first_is = c.in_ok-first.ensures.first; learnt = c.tell_all-told.ensures.learnt; told = c.tell_all-told.ensures.told },
+)

@@ -1,10 +1,16 @@
-use Rattle.std.proofs.Common.{◌≡◌, ◌+◌, ◌∷◌, [], length, length-append, All, sym, ap, subst, ◌∙◌}
-use Rattle.std.proofs.lemmas.List.Elements.{All-append, All-nil, All-cons}
+use Rattle.std.proofs.Common.{◌≡◌, ◌++◌, ◌∷◌, [], map, ap, ◌∙◌}
+use Rattle.std.proofs.lemmas.List.{map-append}
+use Rattle.std.proofs.lemmas.List.Elements.{All-push, All-same}
 use Rattle.bus_receiver.specs.Hearing.{nothing}
 use Rattle.bus_run.proofs.workers.ears_of.Goals as goal
 
 pub loop-tap-preserved : goal.loop-tap-preserved
-loop-tap-preserved g c = (
-  ap length c.in_ok-push.ensures.items ∙ length-append c.loop-tap.ears.items (c.new.result ∷ []) ∙ ap (λ n. n + 1) c.loop-tap.invariant.0 ∙ sym (length-append c.loop-tap.yielded (c.in-Some.tap ∷ [])),
-  subst (All (λ ear. ear.heard ≡ nothing)) (sym c.in_ok-push.ensures.items) (All-append (λ ear. ear.heard ≡ nothing) c.loop-tap.ears.items (c.new.result ∷ []) c.loop-tap.invariant.1 (All-cons (λ ear. ear.heard ≡ nothing) c.new.result [] c.new.ensures (All-nil (λ ear. ear.heard ≡ nothing)))),
-)
+loop-tap-preserved g c =
+    let before = c.loop-tap.ears.items in
+    let ear = c.new.result in
+    let pushed = c.in_ok-push.ensures.items in
+    let h = c.loop-tap.invariant in
+    record {
+      receivers = ap (map (λ ear. ear.receiver)) pushed ∙ map-append (λ ear. ear.receiver) before (ear ∷ []) ∙ ap (λ z. z ++ ear.receiver ∷ []) h.receivers ∙ ap (λ t. c.loop-tap.yielded ++ t ∷ []) c.new.ensures.receiver;
+      fresh = All-same (λ ear. ear.heard ≡ nothing) _ _ pushed (All-push (λ ear. ear.heard ≡ nothing) before ear h.fresh c.new.ensures.fresh);
+    }
