@@ -1,7 +1,7 @@
--- Names that no step of a ratifier has.
+-- Names that no step of a ratifier has, and orders in which no kinds come.
 use Rattle.std.proofs.Common.{inl, inr, refl}
 use Rattle.std.proofs.lemmas.Bool.{true≢false}
-use Rattle.bus_adoptcommit.specs.Refused.{RefusesNames}
+use Rattle.bus_adoptcommit.specs.Refused.{RefusesNames, RefusesOrders}
 
 pub refuses_names : RefusesNames
 refuses_names = record {
@@ -11,4 +11,14 @@ refuses_names = record {
   loaded = λ at begun h. let e = (h.storing (inr refl)).2 in absurd cc;
   proposed_late = λ o h. true≢false (h.proposes refl);
   read_first = λ o h. let e = h.first refl in absurd cc;
+}
+
+pub refuses_orders : RefusesOrders
+refuses_orders = record {
+  stored_unread = λ h. let e = h.stores_verdict refl in absurd cc;
+  read_at_once = λ h. h.reads_verdicts refl refl;
+  stored_twice = λ h. let e = h.stores_verdict refl in absurd cc;
+  stored_late = λ h. let e = h.stores_verdict refl in absurd cc;
+  looked_back = λ h. elim (h.reads_proposals refl) [ inl e ↦ absurd cc | inr e ↦ absurd cc ];
+  looked_late = λ h. elim (h.reads_proposals refl) [ inl e ↦ absurd cc | inr e ↦ absurd cc ];
 }

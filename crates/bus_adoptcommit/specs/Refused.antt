@@ -10,7 +10,7 @@ use Rattle.bus_adoptcommit.specs.declared.progress.Progress.TheVariants.{Bring, 
 use Rattle.bus_adoptcommit.specs.declared.verdicts.Verdict.{Verdict}
 use Rattle.bus_adoptcommit.specs.declared.verdicts.Verdict.TheVariants.{Adopt}
 use Rattle.bus_adoptcommit.specs.Agreement.{value_of, IsConvergent, IsCoherent}
-use Rattle.bus_adoptcommit.specs.Kinds.{IsNamedFor}
+use Rattle.bus_adoptcommit.specs.Kinds.{IsNamedFor, ComesAfter}
 use Rattle.bus_adoptcommit.specs.Plays.{IsPlay}
 use Rattle.bus_adoptcommit.specs.Schedule.{table_of, entered}
 use Rattle.bus_adoptcommit.specs.ThreeWord.{Local, op_at, fed_of, output_of}
@@ -89,3 +89,16 @@ pub record RefusesNames : Type 0 where
   -- a proposal that is stored after the first step, and a first step that reads
   pub proposed_late : (o : Op) → ¬ IsNamedFor kind.StoreProposal o true
   pub read_first : (o : Op) → ¬ IsNamedFor kind.ReadProposal o false
+
+-- ── wrong orders ──
+-- no kind of a ratifier's next step comes so after the kind before it
+pub record RefusesOrders : Type 0 where
+  -- a verdict that is stored, or read, before any proposal was read
+  pub stored_unread : ¬ ComesAfter kind.StoreProposal kind.StoreVerdict
+  pub read_at_once : ¬ ComesAfter kind.StoreProposal kind.ReadVerdict
+  -- a verdict that is stored twice, or once verdicts are read
+  pub stored_twice : ¬ ComesAfter kind.StoreVerdict kind.StoreVerdict
+  pub stored_late : ¬ ComesAfter kind.ReadVerdict kind.StoreVerdict
+  -- a proposal that is read once the verdict is stored, or verdicts are read
+  pub looked_back : ¬ ComesAfter kind.StoreVerdict kind.ReadProposal
+  pub looked_late : ¬ ComesAfter kind.ReadVerdict kind.ReadProposal

@@ -8,7 +8,7 @@ ghost use Rattle.bus_adoptcommit.specs.Agreement.{IsValid, IsConvergent, IsCoher
 ghost use Rattle.bus_adoptcommit.specs.Plays.{IsPlay};
 ghost use Rattle.bus_adoptcommit.specs.Schedule.{entered, table_of};
 ghost use Rattle.bus_adoptcommit.specs.Refused.{of_two, taking_turns};
-ghost use Rattle.bus_adoptcommit.specs.Refused.{one_after_another, RefusesNames};
+ghost use Rattle.bus_adoptcommit.specs.Refused.{one_after_another, RefusesNames, RefusesOrders};
 ghost use Rattle.bus_adoptcommit.specs.Refused.{PlaysThreeWords, PlaysIncoherently};
 ghost use Rattle.bus_adoptcommit.specs.Refused.{PlaysUnconverged, keeping_own, adopting};
 ghost use Rattle.bus_adoptcommit.specs.Refused.{proposing_nothing, committing_in_spite};
@@ -81,4 +81,10 @@ pub fn three_words_refuse()
 /// and only its first step stores a proposal.
 pub fn names_refuse()
     ensures { RefusesNames }
+{}
+
+/// No ratifier stores or reads a verdict before it has read a proposal, stores one twice or once it
+/// has read verdicts, or reads a proposal after either.
+pub fn orders_refuse()
+    ensures { RefusesOrders }
 {}

@@ -3,3 +3,4 @@ pub mod ConciliatorGoes
 pub mod ConciliatorLaws
 pub mod ConciliatorMoves
 pub mod OwnKinds
+pub mod ConciliatorRefusals

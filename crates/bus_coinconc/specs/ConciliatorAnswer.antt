@@ -1,8 +1,12 @@
 -- What a conciliator gives, read off the steps of one process and the numbers that they found: no local state is spoken of here.
 use Rattle.std.specs.Prelude.{◌≡◌, ℕ, ◌+◌, Bool, not, Option, Some, None, List, [], ◌∷◌, ◌==◌, if◌then◌else◌}
+use Rattle.bus_register.specs.declared.kinds.Kind.{Kind}
+use Rattle.bus_register.specs.declared.kinds.Kind.TheVariants as kind
+use Rattle.bus_register.specs.declared.registers.Op.{Op}
 use Rattle.bus_register.specs.declared.registers.Op.TheVariants.{Load, Store}
 use Rattle.bus_register.specs.Digits.{digit}
 use Rattle.bus_walkcoin.specs.CoinRule.{Entry, coin_answer}
+use Rattle.bus_walkcoin.specs.CoinRule as coin
 use Rattle.bus_coinconc.specs.Conciliator.{ConciliatorState, output_of}
 
 -- the own mark is set
@@ -30,6 +34,14 @@ pub record ConciliatorAnswer (n at : ℕ) (input : Bool) (trail : List Entry) (s
   pub looks : LooksFirst at input trail
   pub answer : output_of s ≡ conciliator_answer n at input trail
 
--- process p alone has this
-abbrev pub only : ℕ → Bool → ℕ → Option Bool
-only p v q = if q == p then Some v else None
+-- the step that is due after these: the own mark is set, the other one is loaded, and then comes what is due of the coin
+abbrev pub step_due : ℕ → ℕ → Bool → List Entry → ℕ → Op
+step_due n at input [] word = Store record { 0 = at + digit input } 1
+step_due n at input (first ∷ []) word = Load record { 0 = at + digit (not input) }
+step_due n at input (first ∷ second ∷ trail) word = coin.step_due n (at + 2) trail word
+
+-- and its kind
+abbrev pub kind_due : ℕ → ℕ → Bool → List Entry → Kind
+kind_due n at input [] = kind.SetMark
+kind_due n at input (first ∷ []) = kind.ReadOtherMark
+kind_due n at input (first ∷ second ∷ trail) = coin.kind_due n (at + 2) trail

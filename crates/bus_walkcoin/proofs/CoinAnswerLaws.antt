@@ -1,5 +1,5 @@
 -- A machine that was fed a trail answers what the definition says.
-use Rattle.std.proofs.Common.{◌≡◌, ℕ, zero, suc, ◌+◌, ◌-◌, ◌≤◌, zero-add, Bool, true, false, not, cond, ◌&&◌, ◌||◌, ◌==◌, Option, Some, None, IsSome, is_none, inl, inr, List, [], ◌∷◌, ◌++◌, map, length, drop, arith, add-zero, append_assoc, length-append, refl, sym, ◌∙◌, ap, subst}
+use Rattle.std.proofs.Common.{◌≡◌, ℕ, zero, suc, ◌+◌, ◌-◌, ◌≤◌, zero-add, Bool, true, false, not, cond, ◌&&◌, ◌||◌, ◌==◌, Option, Some, None, IsSome, is_none, ◌⊎◌, inl, inr, List, [], ◌∷◌, ◌++◌, map, length, drop, arith, add-zero, append_assoc, length-append, refl, sym, ◌∙◌, ap, subst}
 use Rattle.std.specs.Prelude.{◌↔◌, filter, count_by}
 use Rattle.std.proofs.lemmas.Bool.Decides.{eqb_tells}
 use Rattle.std.proofs.lemmas.List.{map-append, drop-append-le, append-nil, drop_all}
@@ -16,7 +16,7 @@ use Rattle.bus_walkcoin.specs.declared.coins.Phase.{Phase}
 use Rattle.bus_walkcoin.specs.declared.coins.Phase.TheVariants.{Vote, ReadVotes, Answered}
 use Rattle.bus_walkcoin.specs.Coin.{CoinState, after_settled, after_load, coin_started, answer_at, wants_at, kind_at, coin_kind, coin_op, coin_fed, op_at, fed_at}
 use Rattle.bus_walkcoin.specs.CoinRule.{Entry, is_head, is_addition, is_vote, is_load, settled, votes, counted, is_one_load, are_round, last_steps, total_seen, is_round, coin_answer, is_first, coin_votes, step_due, kind_due}
-use Rattle.bus_walkcoin.specs.CoinAnswer.{Took, CoinAnswer, RefusesEarlyAnswers}
+use Rattle.bus_walkcoin.specs.CoinAnswer.{Took, CoinAnswer, RefusesEarlyAnswers, RefusesSteps}
 
 -- ---- one step more in a list
 
@@ -286,4 +286,56 @@ refuses_early_answers = record {
         | inl h ↦ (let x = h.1 in omega arith)
         | inr h ↦ absurd (let x = sym h.0 ∙ full in cc)
       ];
+}
+
+-- ---- steps that are not due
+
+-- right after a vote no vote is due
+not_after_vote : (n at : ℕ) (before : List Entry) (vote : Entry) → is_vote at vote ≡ true → coin_votes n at (before ++ vote ∷ []) ≡ false
+not_after_vote n at before vote v =
+    let h : HasVoted at (before ++ vote ∷ []) = record { before = before; vote = vote; is = refl; votes = v } in
+    sym (answer_stands ReadVotes n at (before ++ vote ∷ []) h).1
+
+-- and after a look without an answer one is
+after_look : (n at : ℕ) (before : List Entry) (vote load : Entry) → is_vote at vote ≡ true → is_load at load.op ≡ true → coin_answer n at (before ++ vote ∷ load ∷ []) ≡ None → coin_votes n at (before ++ vote ∷ load ∷ []) ≡ true
+after_look n at before vote load v l none =
+    let trail = before ++ vote ∷ load ∷ [] in
+    let round : is_round at trail ≡ true = round_steps at before vote load ∙ both _ _ v l in
+    both _ _ (ap (λ z. is_first trail || z) round ∙ or_true (is_first trail)) (ap is_none none)
+
+-- what is due is one of these two
+due_is : (b : Bool) (at word : ℕ) (o : Op) → cond b (Add record { 0 = at } (add_word_of (is_head word))) (Load record { 0 = at }) ≡ o → ((b ≡ true) × (Add record { 0 = at } (add_word_of (is_head word)) ≡ o)) ⊎ ((b ≡ false) × (Load record { 0 = at } ≡ o))
+due_is true at word o e = inl (refl, e)
+due_is false at word o e = inr (refl, e)
+
+abbrev place_of : Op → ℕ
+place_of (Load r) = r.0
+place_of (Store r x) = r.0
+place_of (Add r x) = r.0
+place_of (Cas r x y) = r.0
+
+turned : (b : Bool) → add_word_of b ≡ add_word_of (not b) → ⊥
+turned true e = cc
+turned false e = cc
+
+pub refuses_steps : RefusesSteps
+refuses_steps = record {
+  looks_first = λ n at word e. absurd cc;
+  votes_twice = λ n at word x before vote v e. elim (due_is (coin_votes n at (before ++ vote ∷ [])) at word _ e) [
+    | inl h ↦ absurd (let f = sym h.0 ∙ not_after_vote n at before vote v in cc)
+    | inr h ↦ absurd (let f = h.1 in cc)
+  ];
+  looks_twice = λ n at word before vote load v l none e. elim (due_is (coin_votes n at (before ++ vote ∷ load ∷ [])) at word _ e) [
+    | inl h ↦ absurd (let f = h.1 in cc)
+    | inr h ↦ absurd (let f = sym h.0 ∙ after_look n at before vote load v l none in cc)
+  ];
+  turns_the_vote = λ n at word e. turned (is_head word) (let f = e in cc);
+  stores = λ n at word x r trail e. elim (due_is (coin_votes n at trail) at word _ e) [ inl h ↦ absurd (let f = h.1 in cc) | inr h ↦ absurd (let f = h.1 in cc) ];
+  exchanges = λ n at word x y r trail e. elim (due_is (coin_votes n at trail) at word _ e) [ inl h ↦ absurd (let f = h.1 in cc) | inr h ↦ absurd (let f = h.1 in cc) ];
+  looks_elsewhere = λ n at word other trail differs e. elim (due_is (coin_votes n at trail) at word _ e) [
+    | inl h ↦ absurd (let f = h.1 in cc)
+    | inr h ↦ differs (sym (ap place_of h.1))
+  ];
+  misnames_the_first = λ n at e. absurd cc;
+  misnames_a_look = λ n at before vote v e. let f = sym e ∙ ap (λ z. cond z kind.Vote kind.ReadVotes) (not_after_vote n at before vote v) in absurd cc;
 }

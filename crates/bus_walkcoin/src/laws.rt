@@ -7,6 +7,7 @@ ghost use Rattle.bus_register.specs.declared.registers.Op.{Op};
 ghost use Rattle.bus_walkcoin.specs.Coin.{CoinState, coin_started, coin_kind, coin_op, coin_fed};
 ghost use Rattle.bus_walkcoin.specs.CoinRule.{Entry, coin_answer, step_due, kind_due};
 ghost use Rattle.bus_walkcoin.specs.CoinAnswer.{Took, CoinAnswer, RefusesEarlyAnswers};
+ghost use Rattle.bus_walkcoin.specs.CoinAnswer.{RefusesSteps};
 ghost use Rattle.bus_walkcoin.specs.CoinProtocol.{coin_protocol, AnyAnswers};
 
 /// Any processes that step through a coin keep the laws of a protocol: the counter holds exactly
@@ -41,6 +42,13 @@ pub fn coin_steps_as_due()
     ensures kind { (n at : ℕ) (trail : List Entry) (s : CoinState) (k : Kind)
         → Took coin_op coin_fed (coin_started n at) trail s → coin_kind s ≡ Some k
         → k ≡ kind_due n at trail }
+{}
+
+/// No process is due to look before it has voted, to vote twice or to look twice in a row, to vote
+/// against its random word, by a store or by an exchange, or to look at another word; nor is such a
+/// step named for the other kind.
+pub fn coin_steps_refuse()
+    ensures { RefusesSteps }
 {}
 
 /// No process answers without a vote, without a load of the counter as its last step, on a load
