@@ -62,7 +62,7 @@ taken more k is =
       | inr short ↦ take_all k more (omega arith) ∙ sym (take_all 8 more short)
     ])
 
-rest_zero : (more : List ℕ) (k : ℕ) → k ≡ min (length more) 8 → All (λ b. b ≡ 0) (drop k (take 8 (more ++ replicate 8 0)))
+pub rest_zero : (more : List ℕ) (k : ℕ) → k ≡ min (length more) 8 → All (λ b. b ≡ 0) (drop k (take 8 (more ++ replicate 8 0)))
 rest_zero more k is i d below =
     let size : length (drop k (take 8 (more ++ replicate 8 0))) ≡ 8 - k = length-drop k (take 8 (more ++ replicate 8 0)) ∙ ap (λ z. z - k) (padded_len more) in
     let own : k ≡ length more = omega arith in

@@ -1,12 +1,21 @@
 -- What no log has, and that each refusal has one fault alone.
-use Rattle.std.proofs.Common.{◌≡◌, ℕ, ◌+◌, ◌<◌, ◌≤◌, List, [], ◌∷◌, length, true, false, refl, sym, ◌∙◌, subst, arith, inl, inr}
+use Rattle.std.proofs.Common.{◌≡◌, ◌≢◌, ℕ, ◌+◌, ◌-◌, ◌%◌, ◌^◌, ◌<◌, ◌≤◌, List, [], ◌∷◌, ◌++◌, length, drop, get_or, true, false, refl, sym, ap, ◌∙◌, subst, arith, inl, inr}
+use Rattle.std.specs.Prelude.{All}
+use Rattle.std.specs.Int.{w64, to_be_bytes}
+use Rattle.std.specs.List.{flat_map}
+use Rattle.std.proofs.lemmas.List.{length-append, length-drop, get_or-drop}
+use Rattle.std.proofs.lemmas.List.Elements.{All-head, All-tail}
 use Rattle.bus_batch.specs.declared.batches.Phase.TheVariants.{Open, Closing, Closed}
 use Rattle.bus_batch.specs.declared.batches.PutFault.{PutFault}
 use Rattle.bus_batch.specs.declared.batches.PutFault.TheVariants as put
 use Rattle.bus_batch.specs.declared.batches.CloseFault.{CloseFault}
 use Rattle.bus_batch.specs.declared.batches.CloseFault.TheVariants as close
 use Rattle.bus_batch.specs.Batches.{Pending, IsShut, CanPut, IsPutFault, CanClose, IsCloseFault}
-use Rattle.bus_batch.specs.Frames.{Frame, Messages, EndMark, AreFrames, IsBody}
+use Rattle.bus_batch.specs.Messages.{IsNumbered}
+use Rattle.bus_batch.specs.Frames.{Frame, Body, Messages, EndMark, AreFrames, AreFramesFrom, IsFrame, IsBody, IsLog, head_word, message_word, end_word, data_word, data_len, words_of_bytes, message_words, body_words, log_words}
+use Rattle.bus_batch.proofs.Bytes.{data_bytes, rest_zero, spread_len}
+use Rattle.bus_batch.proofs.Heads.{body_most}
+use Rattle.bus_batch.proofs.WordLaws.{head_parts, message_parts, not_end, length-message_words, words_most}
 
 -- ---- frames
 pub none_after_end : (senders : ℕ) (f g : Frame) (rest : List Frame) → f.body ≡ EndMark → AreFrames senders (f ∷ g ∷ rest) → ⊥
@@ -20,6 +29,68 @@ none_of_stranger senders f rest stranger lawful = let known = lawful.0.owner in 
 
 pub none_of_nothing : (senders : ℕ) (f : Frame) (rest : List Frame) → f.body ≡ Messages [] → AreFrames senders (f ∷ rest) → ⊥
 none_of_nothing senders f rest nothing lawful = let some : IsBody (Messages []) = subst IsBody nothing lawful.0.body in let z : 0 < 0 = some.0 in absurd (omega arith)
+
+-- ---- words
+-- the first frame of words that are a log
+first_frame : (senders least head : ℕ) (words : List ℕ) (frames : List Frame) → AreFramesFrom senders least frames → log_words frames ≡ head ∷ words
+    → (f : Frame) × (more : List ℕ) × IsFrame senders f × (head_word f.owner.0 (length (body_words f.body)) f.tenure ≡ head) × (body_words f.body ++ more ≡ words)
+first_frame senders least head words [] lawful e = absurd cc
+first_frame senders least head words (f ∷ frames) lawful e = (f, log_words frames, lawful.0, cc, cc)
+
+pub none_so_long : (senders owner count tenure : ℕ) (rest : List ℕ) → owner < 2 ^ 8 → count < 2 ^ 14 → tenure < 2 ^ 40 → 128 < count → IsLog senders (head_word owner count tenure ∷ rest) → ⊥
+none_so_long senders owner count tenure rest a b d long log =
+    let f = first_frame senders 0 (head_word owner count tenure) rest log.frames log.lawful log.words_are in
+    let most = body_most f.0.body f.2.body in
+    let parts = head_parts f.0.owner.0 (length (body_words f.0.body)) f.0.tenure owner count tenure f.2.owner_bits (omega arith) f.2.tenure a b d f.3 in
+    let same = parts.1 in
+    absurd (omega arith)
+
+-- a body that begins with an empty message has one word for it, and at most eight for each of the others
+few_words : (b : Body) (more rest : List ℕ) (number : ℕ) → IsBody b → number < 2 ^ 48 → body_words b ++ more ≡ message_word 0 number ∷ rest → length (body_words b) ≤ 121
+few_words (Messages []) more rest number lawful n e = let some = lawful.0 in absurd (omega arith)
+few_words (Messages (m ∷ ms)) more rest number lawful n e =
+    let here = All-head IsNumbered m ms lawful.2 in
+    let first : message_word (length m.message) m.number ≡ message_word 0 number = cc in
+    let parts = message_parts (length m.message) m.number 0 number here.0 n first in
+    let none = parts.0 in
+    let few = lawful.1 in
+    let later = words_most ms (All-tail IsNumbered m ms lawful.2) in
+    let size = length-message_words m in
+    let sum : length (flat_map message_words (m ∷ ms)) ≡ length (message_words m) + length (flat_map message_words ms) = length-append (message_words m) (flat_map message_words ms) in
+    omega arith
+few_words EndMark more rest number lawful n e = let first : end_word ≡ message_word 0 number = cc in absurd (not_end 0 number (omega arith) n (sym first))
+
+pub none_unfillable : (senders owner count tenure number : ℕ) (rest : List ℕ) → owner < 2 ^ 8 → count < 2 ^ 14 → tenure < 2 ^ 40 → number < 2 ^ 48 → 121 < count → IsLog senders (head_word owner count tenure ∷ message_word 0 number ∷ rest) → ⊥
+none_unfillable senders owner count tenure number rest a b d n long log =
+    let f = first_frame senders 0 (head_word owner count tenure) (message_word 0 number ∷ rest) log.frames log.lawful log.words_are in
+    let most = body_most f.0.body f.2.body in
+    let parts = head_parts f.0.owner.0 (length (body_words f.0.body)) f.0.tenure owner count tenure f.2.owner_bits (omega arith) f.2.tenure a b d f.3 in
+    let same = parts.1 in
+    let few = few_words f.0.body f.1 rest number f.2.body n f.4 in
+    absurd (omega arith)
+
+-- the last byte of the one data word of a message that does not fill it
+last_byte : (b : Body) (more rest : List ℕ) (len number word : ℕ) → IsBody b → 0 < len → len < 8 → number < 2 ^ 48 → body_words b ++ more ≡ message_word len number ∷ word ∷ rest → word % 256 ≡ 0
+last_byte (Messages []) more rest len number word lawful some short n e = let none = lawful.0 in absurd (omega arith)
+last_byte (Messages (m ∷ ms)) more rest len number word lawful some short n e =
+    let here = All-head IsNumbered m ms lawful.2 in
+    let first : message_word (length m.message) m.number ≡ message_word len number = cc in
+    let size : length m.message ≡ len = (message_parts (length m.message) m.number len number here.0 n first).0 in
+    let one : 1 ≡ data_len (length m.message) = omega arith in
+    let behind : (words_of_bytes (data_len (length m.message)) m.message ++ flat_map message_words ms) ++ more ≡ word ∷ rest = cc in
+    let shown : data_word m.message ∷ (flat_map message_words ms ++ more) ≡ word ∷ rest = ap (λ k. (words_of_bytes k m.message ++ flat_map message_words ms) ++ more) one ∙ behind in
+    let is : word ≡ data_word m.message = cc in
+    let spread = data_bytes m.message word here.1.1 is in
+    let zero = subst (λ z. All (λ b. b ≡ 0) (drop len z)) (sym spread) (rest_zero m.message len (omega arith)) in
+    let below : 7 - len < length (drop len (to_be_bytes w64 word)) = let a = length-drop len (to_be_bytes w64 word) in let b = spread_len word in omega arith in
+    let place : 7 ≡ len + (7 - len) = omega arith in
+    ap (λ k. get_or (to_be_bytes w64 word) k 0) place ∙ sym (get_or-drop len (to_be_bytes w64 word) (7 - len) 0) ∙ zero (7 - len) 0 below
+last_byte EndMark more rest len number word lawful some short n e = let first : end_word ≡ message_word len number = cc in absurd (not_end len number (omega arith) n (sym first))
+
+pub none_padded : (senders owner count tenure len number word : ℕ) (rest : List ℕ) → 0 < len → len < 8 → number < 2 ^ 48 → word % 256 ≢ 0 → IsLog senders (head_word owner count tenure ∷ message_word len number ∷ word ∷ rest) → ⊥
+none_padded senders owner count tenure len number word rest some short n other log =
+    let f = first_frame senders 0 (head_word owner count tenure) (message_word len number ∷ word ∷ rest) log.frames log.lawful log.words_are in
+    other (last_byte f.0.body f.1 rest len number word f.2.body some short n f.4)
 
 -- ---- faults
 shut_or_open : (b : Pending) → IsShut b → b.phase ≡ Open → ⊥

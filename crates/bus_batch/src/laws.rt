@@ -1,9 +1,15 @@
 //! Laws of the definitions alone: each function does nothing, and its contract is the law.
 
-ghost use Rattle.std.specs.Prelude.{◌≡◌, ℕ, ◌<◌, ◌≤◌, List, [], ◌∷◌};
+ghost use Rattle.std.specs.Prelude.{◌≡◌, ◌≢◌, ℕ, ◌+◌, ◌-◌, ◌*◌, ◌%◌, ◌^◌, ◌<◌, ◌≤◌};
+ghost use Rattle.std.specs.Prelude.{List, [], ◌∷◌};
 ghost use Rattle.std.specs.Prelude.{◌++◌, All, false};
 ghost use Rattle.bus_batch.specs.Frames.{Frame, Messages, EndMark, IsFrame, AreFrames, frame_words};
+ghost use Rattle.bus_batch.specs.Frames.{IsLog, head_word, message_word};
 ghost use Rattle.bus_batch.specs.Frames.{Spells, order_of, items_of, ends, tenure_and_owner};
+ghost use Rattle.bus_register.specs.declared.limits.TheConstants.{TENURES, NUMBERS};
+ghost use Rattle.bus_register.specs.declared.limits.TheConstants.{MOST_BODY_WORDS};
+ghost use Rattle.bus_register.specs.declared.limits.TheConstants.{MOST_MESSAGE_WORDS};
+ghost use Rattle.bus_register.specs.declared.limits.TheConstants.{MOST_MESSAGES};
 ghost use Rattle.bus_batch.specs.Batches.{Pending, CanPut, IsPutFault, CanClose, IsCloseFault};
 ghost use Rattle.bus_batch.specs.declared.batches.PutFault.{PutFault};
 ghost use Rattle.bus_batch.specs.declared.batches.CloseFault.{CloseFault};
@@ -42,7 +48,8 @@ pub fn spells_grow()
 {}
 
 /// What no log has: a frame after an end mark, a tenure that does not rise, an owner that is no
-/// sender, a frame of nothing.
+/// sender, a frame of nothing. And what no log begins with: a head with more words than any frame
+/// has, or with more than its messages can fill, and a message with other bytes behind its own.
 pub fn no_log_has()
     ensures after_end { (senders : ℕ) (f : Frame) (g : Frame) (rest : List Frame)
         → f.body ≡ EndMark → ¬ AreFrames senders (f ∷ g ∷ rest) }
@@ -52,6 +59,17 @@ pub fn no_log_has()
         → ¬ AreFrames senders (f ∷ rest) }
     ensures nothing { (senders : ℕ) (f : Frame) (rest : List Frame) → f.body ≡ Messages []
         → ¬ AreFrames senders (f ∷ rest) }
+    ensures long { (senders owner count tenure : ℕ) (rest : List ℕ) → owner < 2 ^ 8
+        → count < 2 ^ 14 → tenure < TENURES → MOST_BODY_WORDS < count
+        → ¬ IsLog senders (head_word owner count tenure ∷ rest) }
+    // The first message has one word, and the others have too few.
+    ensures unfillable { (senders owner count tenure number : ℕ) (rest : List ℕ) → owner < 2 ^ 8
+        → count < 2 ^ 14 → tenure < TENURES → number < NUMBERS
+        → 1 + MOST_MESSAGE_WORDS * (MOST_MESSAGES - 1) < count
+        → ¬ IsLog senders (head_word owner count tenure ∷ message_word 0 number ∷ rest) }
+    ensures padding { (senders owner count tenure len number word : ℕ) (rest : List ℕ)
+        → 0 < len → len < 8 → number < NUMBERS → word % 256 ≢ 0
+        → ¬ IsLog senders (head_word owner count tenure ∷ message_word len number ∷ word ∷ rest) }
 {}
 
 /// A message that is taken has no fault, and one that is refused has one alone; a close likewise.

@@ -145,7 +145,8 @@ impl FrameReader {
         }
     }
 
-    /// The words so far end within a frame: they begin a log and are none.
+    /// The words so far end within a frame: they begin a log and are none. After a bad word it
+    /// answers no.
     pub fn inside(&self) -> bool
         ensures torn { (words : _) (pieces : _) → HasRead self.now.senders words pieces self.now
             → IsTrue result → ¬ IsLog self.now.senders words }
@@ -153,6 +154,7 @@ impl FrameReader {
         ensures whole { (words : _) (pieces : _) → HasRead self.now.senders words pieces self.now
             → result ≡ false
             → Spells self.now.senders words (order_in pieces) (owners_in pieces) }
+        ensures met { HasMetBadWord self.now → result ≡ false }
     {
         matches!(self.place, Place::Body { .. } | Place::Data { .. })
     }

@@ -1,4 +1,4 @@
-use Rattle.bus_batch.proofs.RefusalLaws.{none_after_end, none_of_same_tenure, none_of_stranger, none_of_nothing}
+use Rattle.bus_batch.proofs.RefusalLaws.{none_after_end, none_of_same_tenure, none_of_stranger, none_of_nothing, none_so_long, none_unfillable, none_padded}
 use Rattle.bus_batch.proofs.laws.no_log_has.Goals as goal
 
 pub returns-clause-after_end : goal.returns-clause-after_end
@@ -12,3 +12,12 @@ returns-clause-stranger c = none_of_stranger
 
 pub returns-clause-nothing : goal.returns-clause-nothing
 returns-clause-nothing c = none_of_nothing
+
+pub returns-clause-long : goal.returns-clause-long
+returns-clause-long c = none_so_long
+
+pub returns-clause-unfillable : goal.returns-clause-unfillable
+returns-clause-unfillable c = none_unfillable
+
+pub returns-clause-padding : goal.returns-clause-padding
+returns-clause-padding c = none_padded

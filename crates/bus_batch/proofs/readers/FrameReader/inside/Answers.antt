@@ -1,4 +1,4 @@
-use Rattle.std.proofs.Common.{inl, inr}
+use Rattle.std.proofs.Common.{inl, inr, refl}
 use Rattle.std.proofs.lemmas.Bool.{false≢true}
 use Rattle.bus_batch.proofs.Feeding.{torn_in_body, torn_in_data, whole_outside}
 use Rattle.bus_batch.proofs.readers.FrameReader.inside.Goals as goal
@@ -13,4 +13,5 @@ pub returns-in_default : goal.returns-in_default
 returns-in_default c = record {
   torn = λ words pieces had t. absurd (false≢true t);
   whole = λ words pieces had _. whole_outside c.args.self.now.senders words pieces c.self.inside.senders c.self.inside.least c.self.inside.place c.self.inside.bytes c.args.self.now c.self.view_is had c.in_default.not-Body c.in_default.not-Data;
+  met = λ _. refl;
 }
