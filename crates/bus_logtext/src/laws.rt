@@ -1,16 +1,17 @@
 //! Laws of the text of logs: each function does nothing, and its contract is the law.
 
-ghost use Rattle.std.specs.Prelude.{◌≡◌, ℕ, ◌↔◌, ◌^◌, ◌≤◌, List, Some, None, Ok, codes};
-ghost use Rattle.std.specs.Prelude.{length};
+ghost use Rattle.std.specs.Prelude.{◌≡◌, ◌≢◌, ℕ, ◌↔◌, ◌^◌, ◌<◌, ◌≤◌, List, [], ◌∷◌, ◌++◌, All};
+ghost use Rattle.std.specs.Prelude.{Some, None, Ok, Err, codes, length};
 ghost use Rattle.bus_register.specs.declared.limits.TheConstants.{MOST_LOG_WORDS};
-ghost use Rattle.bus_deliverylog.specs.Logs.{IsTorn};
+ghost use Rattle.bus_deliverylog.specs.Logs.{IsFirstBad, IsTorn};
 ghost use Rattle.bus_batch.specs.Frames.{Frame, AreFrames, log_words};
 ghost use Rattle.bus_script.specs.Grammar.{script_lines};
 ghost use Rattle.bus_script.specs.declared.answers.Outcome.{Outcome};
-ghost use Rattle.bus_script.specs.declared.answers.Outcome.TheVariants.{Done};
-ghost use Rattle.bus_logtext.specs.Words.{word_of, words_of};
+ghost use Rattle.bus_script.specs.declared.answers.Outcome.TheVariants.{Done, Refused};
+ghost use Rattle.bus_logtext.specs.Words.{word_of, words_of, words_text};
+ghost use Rattle.bus_logtext.specs.declared.faults.Refusal.{Refusal};
 ghost use Rattle.bus_logtext.specs.Lines.{IsWordLine, AreWordLines};
-ghost use Rattle.bus_logtext.specs.Text.{log_text};
+ghost use Rattle.bus_logtext.specs.Text.{log_text, bad_word_text};
 ghost use Rattle.bus_logtext.specs.Answers.{IsAnswer};
 
 use bus_deliverylog::laws::readings_are_exact;
@@ -35,8 +36,18 @@ pub fn answers_are_one()
     readings_are_exact();
 }
 
+/// The words of a log, printed one a line, are answered with the lines of its frames.
+pub fn printed_logs_are_told()
+    ensures { (senders : ℕ) (frames : List Frame) → AreFrames senders frames
+        → All (λ word. word < 2 ^ 64) (log_words frames)
+        → length (log_words frames) ≤ MOST_LOG_WORDS
+        → IsAnswer senders (words_text (log_words frames)) Done (log_text frames) }
+{}
+
 /// What is no word: a digit too few, a digit too many, and a letter that is no digit. What no
-/// answer does: to tell a log where words end within a frame, and another log than words spell.
+/// answer does: to tell a log where words end within a frame, where one is bad or where a line was
+/// refused, another log than words spell, or a line more; to refuse words that are a log; and to
+/// name another place than that of the first bad word.
 pub fn answers_refuse()
     ensures short { word_of (codes "400002000000000") ≡ None }
     ensures long { word_of (codes "40000200000000000") ≡ None }
@@ -46,6 +57,20 @@ pub fn answers_refuse()
     ensures other { (senders : ℕ) (input : List ℕ) (text : List ℕ) (frames : List Frame)
         → AreFrames senders frames → words_of input ≡ Ok (log_words frames)
         → IsAnswer senders input Done text → text ≡ log_text frames }
+    ensures bad { (senders place : ℕ) (input words text : List ℕ) → words_of input ≡ Ok words
+        → IsFirstBad senders words place → ¬ IsAnswer senders input Done text }
+    ensures line_refused { (senders : ℕ) (input text : List ℕ) (refusal : Refusal)
+        → words_of input ≡ Err refusal → ¬ IsAnswer senders input Done text }
+    ensures line_more { (senders : ℕ) (input line : List ℕ) (frames : List Frame)
+        → AreFrames senders frames → words_of input ≡ Ok (log_words frames) → line ≢ []
+        → ¬ IsAnswer senders input Done (log_text frames ++ line) }
+    ensures end_unread { (senders : ℕ) → ¬ IsAnswer senders [] Done (codes "end" ++ 10 ∷ []) }
+    ensures whole { (senders : ℕ) (input text : List ℕ) (frames : List Frame)
+        → AreFrames senders frames → words_of input ≡ Ok (log_words frames)
+        → ¬ IsAnswer senders input Refused text }
+    ensures place { (senders place : ℕ) (input words text : List ℕ) → words_of input ≡ Ok words
+        → IsFirstBad senders words place → IsAnswer senders input Refused text
+        → text ≡ bad_word_text place }
 {
     readings_are_exact();
 }
