@@ -6,3 +6,4 @@ pub mod Numbers
 pub mod Told
 pub mod Words
 pub mod Left
+pub mod Sending

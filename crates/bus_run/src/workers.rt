@@ -1,14 +1,16 @@
 //! What the worker of a sender does, and that of a receiver.
 
 ghost use Rattle.std.specs.Prelude.{◌≡◌, ◌++◌, ◌∷◌, [], ◌<◌, ◌≤◌};
-ghost use Rattle.std.specs.Prelude.{◌⊎◌, ◌^◌, true, false, None, Some};
+ghost use Rattle.std.specs.Prelude.{◌⊎◌, ◌≢◌, ◌^◌, true, false, None, Some};
 ghost use Rattle.std.specs.Prelude.{IfOk, map, All};
 ghost use Rattle.std.specs.Int.{w64, to_be_bytes};
-ghost use Rattle.bus_batch.specs.Batches.{next_of, IsPutFault};
+ghost use Rattle.bus_batch.specs.Batches.{next_of, IsPutFault, IsCloseFault};
+ghost use Rattle.bus_batch.specs.declared.batches.CloseFault.{CloseFault};
 ghost use Rattle.bus_batch.specs.declared.batches.PutFault.{PutFault};
 ghost use Rattle.bus_pageslot.specs.Seats.{table_of, deeds_of};
 ghost use Rattle.bus_run.specs.Audit.{IsSummed};
 ghost use Rattle.bus_run.specs.Numbers.{numbers_below};
+ghost use Rattle.bus_run.specs.Sending.{SendsOn, Closes};
 ghost use Rattle.bus_run.specs.Stops.{HasSent};
 ghost use Rattle.bus_run.specs.Words.{generator_of};
 ghost use Rattle.bus_world.specs.Headline.{puts};
@@ -127,16 +129,23 @@ impl<B: OfBus> Desk<B> {
         self.sender.pending() == 0 && self.put == messages
     }
 
-    /// Its sender closes the bus. Says whether the bus is closed.
+    /// Its sender closes the bus: it lets an end mark wait, where it can, and sends it. Says whether
+    /// the bus is closed.
     pub fn close<W: Wait>(&mut self, wait: &W, the: &TheBus<B>) -> bool
-        ensures { self.new.fault ≡ self.old.fault }
+        ensures fault { self.new.fault ≡ self.old.fault }
+        ensures closed { result ≡ true → Closes self.old.sender Turn.Closed self.new.sender }
+        ensures open { result ≡ false
+            → ((why : CloseFault) × IsCloseFault self.old.sender.core.queue why)
+            ⊎ ((answer : _) × (answer ≢ Turn.Closed)
+            × Closes self.old.sender answer self.new.sender) }
     {
         self.sender.close().is_ok() && self.send(wait, the) == Turn::Closed
     }
 
     /// Its sender sends what waits in its batch.
     pub fn send<W: Wait>(&mut self, wait: &W, the: &TheBus<B>) -> Turn
-        ensures { self.new.fault ≡ self.old.fault }
+        ensures fault { self.new.fault ≡ self.old.fault }
+        ensures sends { SendsOn self.old.sender result self.new.sender }
     {
         self.sender.send(wait, &the.bus, &mut self.rng)
     }
