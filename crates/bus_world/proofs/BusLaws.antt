@@ -240,11 +240,11 @@ module _ {E : Type 0} (X : Election E) (P : Protocol E (Unit {0}) ℕ) (laws : L
         chosen = chosen_resting rests;
       }
 
-      -- ── a load of the stage that begins a tenure ──
-      pub begins : (t : ℕ) → c.phase ≡ phase.Resting → words 1 ≡ 2 * t → c.least ≤ t → t < x.rows → p < x.senders → c'.phase ≡ phase.Electing t (P.started x.senders p tt (2 + t * P.width x.senders)) → c'.least ≡ c.least → Part x words frames p c' → Sending P x words home senders' owners frames
-      begins t core_at_rest is_open enters room below began least part = record {
+      -- ── a load of the stage that begins a tenure which was opened ──
+      pub begins : (t : ℕ) → c.phase ≡ phase.Resting → 2 * t ≤ words 1 → c.least ≤ t → t < x.rows → p < x.senders → c'.phase ≡ phase.Electing t (P.started x.senders p tt (2 + t * P.width x.senders)) → c'.least ≡ c.least → Part x words frames p c' → Sending P x words home senders' owners frames
+      begins t core_at_rest reached enters room below began least part = record {
         tenures = tenures.same X.op X.fed P laws x.senders x.rows 2 words (words 1) (is_some home) S' L owners
-            (tenures.begins X.op X.fed P laws x.senders x.rows 2 words (words 1) (is_some home) S L owners h.tenures p t below (omega (arith, ok.senders)) (stand p c old ∙ ap (λ z. Some (stands_at z)) core_at_rest) is_open
+            (tenures.begins X.op X.fed P laws x.senders x.rows 2 words (words 1) (is_some home) S L owners h.tenures p t below (omega (arith, ok.senders)) (stand p c old ∙ ap (λ z. Some (stands_at z)) core_at_rest) reached
             (let a = least_is p c old in omega arith) room S' (now ∙ ap (λ z. Some (stands_at z)) began) S-beside)
             words (words 1) (is_some home) S' L' owners (λ r a b. refl) refl refl (λ q. refl) (L-same least) refl;
         log = h.log;

@@ -3,6 +3,7 @@ use Rattle.std.proofs.Common.{◌≡◌, ℕ, zero, suc, ◌+◌, ◌/◌, Bool,
 use Rattle.std.proofs.lemmas.Bool.{cases_eq}
 use Rattle.std.proofs.lemmas.Bool.Decides.{eqb_tells}
 use Rattle.std.proofs.lemmas.Option.{same_Some, slice_get_within}
+use Rattle.bus_register.specs.Tables.{Beside}
 use Rattle.bus_register.specs.Proved.TableLaws.{get_set_same, get_set_other}
 use Rattle.bus_batch.specs.Batches.{Pending, body_of, frame_of, sent}
 use Rattle.bus_batch.specs.declared.batches.Phase.{Phase as BatchPhase}
@@ -93,7 +94,7 @@ turn_frames X c (StoresLength t page stored) frames D old new = λ i f at ends. 
 turn_frames X c z frames D old new = old
 
 -- ---- the trails of all, of which that of one may have more
-module _ {E : Type 0} (senders : List (Core E)) (frames : List Frame) (D : ℕ → List Deed) (h : Closings (slice_get senders) frames D) (p : ℕ) (c : Core E) (old : slice_get senders p ≡ Some c) (ds : List Deed) where
+module _ {E : Type 0} (senders : ℕ → Option (Core E)) (frames : List Frame) (D : ℕ → List Deed) (h : Closings senders frames D) (p : ℕ) (c : Core E) (old : senders p ≡ Some c) (ds : List Deed) where
   abbrev now : ℕ → List Deed
   now = λ q. D q ++ cond (q == p) ds []
 
@@ -107,14 +108,14 @@ module _ {E : Type 0} (senders : List (Core E)) (frames : List Frame) (D : ℕ �
   ]
 
   -- the sender goes on with another batch and maybe a frame more; where its batch is closing it was so before, or its deed is a close
-  pub closings_after : (c' : Core E) (frames' : List Frame) → (c'.queue.phase ≡ Closing → Closed (now p))
-      → ((i : ℕ) (f : Frame) → slice_get frames' i ≡ Some f → f.body ≡ EndMark → Closed (now f.owner.0)) → Closings (slice_get (slice_set senders p c')) frames' now
-  closings_after c' frames' own ends = record {
+  pub closings_on : (senders' : ℕ → Option (Core E)) → Beside p senders senders' → (c' : Core E) → senders' p ≡ Some c' → (frames' : List Frame) → (c'.queue.phase ≡ Closing → Closed (now p))
+      → ((i : ℕ) (f : Frame) → slice_get frames' i ≡ Some f → f.body ≡ EndMark → Closed (now f.owner.0)) → Closings senders' frames' now
+  closings_on senders' beside c' new frames' own ends = record {
     closing = λ q d i shut. elim (cases_eq q p) [
       | inl e ↦
-          let same : c' ≡ d = same_Some _ _ (sym (get_set_same senders p c' (slice_get_within senders p c old)) ∙ ap (slice_get (slice_set senders p c')) (sym e) ∙ i) in
+          let same : c' ≡ d = same_Some _ _ (sym new ∙ ap senders' (sym e) ∙ i) in
           subst (λ z. Closed (now z)) (sym e) (own (ap (λ (z : Core E). z.queue.phase) same ∙ shut))
-      | inr ne ↦ later q (h.closing q d (sym (get_set_other senders p c' q ne) ∙ i) shut)
+      | inr ne ↦ later q (h.closing q d (sym (beside q ne) ∙ i) shut)
     ];
     ended = ends;
   }
@@ -127,3 +128,9 @@ module _ {E : Type 0} (senders : List (Core E)) (frames : List Frame) (D : ℕ �
 
   pub own_closes : Closed ds → Closed (now p)
   own_closes = own_later
+
+-- on lists
+pub closings_after : {E : Type 0} (senders : List (Core E)) (frames : List Frame) (D : ℕ → List Deed) → Closings (slice_get senders) frames D → (p : ℕ) (c : Core E) → slice_get senders p ≡ Some c → (ds : List Deed) → (c' : Core E) (frames' : List Frame)
+    → (c'.queue.phase ≡ Closing → Closed (D p ++ cond (p == p) ds [])) → ((i : ℕ) (f : Frame) → slice_get frames' i ≡ Some f → f.body ≡ EndMark → Closed (D f.owner.0 ++ cond (f.owner.0 == p) ds [])) → Closings (slice_get (slice_set senders p c')) frames' (λ q. D q ++ cond (q == p) ds [])
+closings_after senders frames D h p c old ds c' frames' own ends =
+    closings_on (slice_get senders) frames D h p c old ds (slice_get (slice_set senders p c')) (get_set_other senders p c') c' (get_set_same senders p c' (slice_get_within senders p c old)) frames' own ends

@@ -1,21 +1,19 @@
 -- Every event keeps what ties the trails to the bus, and the promise follows from it.
-use Rattle.std.proofs.Common.{◌≡◌, ℕ, zero, suc, ◌+◌, ◌*◌, ◌<◌, ◌≤◌, Bool, true, false, cond, ◌&&◌, ◌==◌, nat_lt, nat_le, Option, Some, None, is_some, inl, inr, List, [], ◌∷◌, ◌++◌, length, map, take, drop, flat_map, slice_get, slice_index, slice_set, arith, refl, sym, ◌∙◌, ap, subst, append_assoc, replicate}
+use Rattle.std.proofs.Common.{◌≡◌, ℕ, zero, suc, ◌+◌, ◌*◌, ◌<◌, ◌≤◌, Bool, true, false, cond, ◌&&◌, ◌==◌, nat_lt, nat_le, Option, Some, None, is_some, inl, inr, List, [], ◌∷◌, ◌++◌, length, map, take, drop, flat_map, slice_get, slice_index, slice_set, arith, refl, sym, ◌∙◌, ap, subst, append_assoc}
 use mathlib.Core.Path.{fun_ext}
-use Rattle.std.proofs.lemmas.Bool.{cases_lt}
 use Rattle.std.proofs.lemmas.Bool.Decides.{eqb_tells}
 use Rattle.std.proofs.lemmas.Grind.{flat_map-append}
-use Rattle.std.proofs.lemmas.List.{append-nil, length-append, length-map, take_at, take-append-le, length-replicate, take-append-drop, get_or_past, get_or-replicate}
+use Rattle.std.proofs.lemmas.List.{append-nil, length-append, length-map, take_at, take-append-le, take-append-drop}
 use Rattle.std.proofs.Math.Seq.{take-nil}
 use Rattle.std.proofs.lemmas.Option.{same_Some, slice_get_within}
 use Rattle.bus_register.specs.declared.kinds.Kind.{Kind}
 use Rattle.bus_register.specs.declared.kinds.Kind.TheVariants as kind
-use Rattle.bus_register.specs.declared.registers.SenderNo.{SenderNo}
 use Rattle.bus_register.specs.Protocol.{Protocol, Laws, inputs, outputs}
 use Rattle.bus_register.specs.Proved.TableLaws.{get_set_same, get_set_other}
 use Rattle.bus_batch.specs.declared.messages.Item.{Item}
 use Rattle.bus_batch.specs.Batches.{next_of}
 use Rattle.bus_batch.specs.declared.batches.Phase.TheVariants.{Closing}
-use Rattle.bus_batch.specs.Frames.{Frame, Order, AreFrames, AreFramesFrom, log_words, log_pieces, order_of, owners_in, order_in, piece_owners, tenure_and_owner}
+use Rattle.bus_batch.specs.Frames.{Frame, Order, AreFrames, log_words, log_pieces, order_of, owners_in, order_in, piece_owners, tenure_and_owner}
 use Rattle.bus_batch.proofs.PieceLaws.{owners_in-log}
 use Rattle.bus_deliverylog.specs.Orders.{IsPrefixOfOrder, of_sender}
 use Rattle.bus_deliverylog.specs.Receiving.{Receiving}
@@ -39,16 +37,18 @@ use Rattle.std.proofs.lemmas.List.Folds.{list_any-append}
 use Rattle.std.proofs.lemmas.Bool.Decides.{nat_tests}
 use Rattle.std.specs.Prelude.{◌||◌}
 use Rattle.std.specs.List.{list_any}
-use Rattle.bus_world.specs.Bus.{IsLayout, AreOwned, Fits}
+use Rattle.bus_world.specs.Bus.{IsLayout, Fits}
+use Rattle.bus_world.proofs.FrameOwners.{counted_from, owner_took, rise}
+use Rattle.bus_world.proofs.Beginning.{zeros}
 use Rattle.bus_world.proofs.BusLaws as bus
 use Rattle.bus_world.specs.Headline.{Deed, HasPut, HasClosed, Stepped, puts, Took, Closed, item_heard, end_heard, given, heads, IsPrefix, Promises}
-use Rattle.bus_world.specs.Log.{sent, AreCounted}
+use Rattle.bus_world.specs.Log.{sent}
 use Rattle.bus_world.proofs.LogLaws.{length-read}
 use Rattle.bus_world.proofs.ReceivingLaws.{given_is_prefix}
 use Rattle.bus_world.specs.Turning.{Side, side_after, core_after, number_found}
 use Rattle.bus_world.specs.World.{Bus, Event, Put, Close, Turn, Recv, IsEvent, Happens, SenderDoes, with_sender, can_put, can_close, put_in, close_in, LawfulBus, IsNew, is_open, given_at}
 use Rattle.bus_world.proofs.TurningLaws.{side_of}
-use Rattle.bus_world.proofs.WorldLaws.{event_left, event_puts, counted_at, new_is_lawful}
+use Rattle.bus_world.proofs.WorldLaws.{event_left, event_puts, new_is_lawful}
 use Rattle.bus_world.specs.Playing.{AllAnswered, Answers, PutGives, CloseGives, TurnAnswers, RecvAnswers, log_of}
 use Rattle.bus_world.specs.declared.events.Answer.{Answer}
 use Rattle.bus_world.specs.declared.events.Answer.TheVariants as answer
@@ -66,9 +66,6 @@ use Rattle.bus_world.proofs.Growing.{event_takers, same_prefix, prefix_after}
 
 open_apart : Open ≡ Closing → ⊥
 open_apart e = cc
-
-counted_from : (first : ℕ) (items : List Item) (k : ℕ) (i : Item) → AreCounted first items → first ≡ 0 → slice_get items k ≡ Some i → i.number ≡ k
-counted_from first items k i a z e = counted_at first items k i a e ∙ (let same : first + k ≡ k = omega arith in same)
 
 true_or : (a b : Bool) → a ≡ true → (a || b) ≡ true
 true_or true b e = refl
@@ -92,30 +89,27 @@ none_some v e = cc
 none_in : {A : Type 0} (i : ℕ) (x : A) → slice_get [] i ≡ Some x → ⊥
 none_in i x e = cc
 
-zeros : (n r : ℕ) → slice_index (replicate n 0) r ≡ 0
-zeros n r = elim (cases_lt r n) [ inl l ↦ get_or-replicate n r 0 0 l | inr g ↦ get_or_past (replicate n 0) r 0 (omega (arith, length-replicate {A = ℕ} n 0)) ]
-
-only_deed : (d : Deed) (i : ℕ) (x : Deed) → slice_get (d ∷ []) i ≡ Some x → (i ≡ 0) × (d ≡ x)
+pub only_deed : (d : Deed) (i : ℕ) (x : Deed) → slice_get (d ∷ []) i ≡ Some x → (i ≡ 0) × (d ≡ x)
 only_deed d zero x e = (refl, same_Some _ _ e)
 only_deed d (suc i) x e = absurd (none_in i x e)
 
-same_number : (n m : ℕ) (xs ys : List ℕ) → HasPut n xs ≡ HasPut m ys → n ≡ m
+pub same_number : (n m : ℕ) (xs ys : List ℕ) → HasPut n xs ≡ HasPut m ys → n ≡ m
 same_number n m xs ys e = cc
 
-closed_apart : (n : ℕ) (bytes : List ℕ) → HasClosed ≡ HasPut n bytes → ⊥
+pub closed_apart : (n : ℕ) (bytes : List ℕ) → HasClosed ≡ HasPut n bytes → ⊥
 closed_apart n bytes e = cc
 
-stepped_apart : (tn : Option ℕ) (k : Kind) (got : ℕ) (ch : Option ℕ) (t : Answered) (n : ℕ) (bytes : List ℕ) → Stepped tn k got ch t ≡ HasPut n bytes → ⊥
+pub stepped_apart : (tn : Option ℕ) (k : Kind) (got : ℕ) (ch : Option ℕ) (t : Answered) (n : ℕ) (bytes : List ℕ) → Stepped tn k got ch t ≡ HasPut n bytes → ⊥
 stepped_apart tn k got ch t n bytes e = cc
 
-numbered_more : (xs ds : List Deed) → AreNumbered xs → ((j n : ℕ) (bytes : List ℕ) → slice_get ds j ≡ Some (HasPut n bytes) → (j ≡ 0) × (n ≡ length (puts xs))) → AreNumbered (xs ++ ds)
+pub numbered_more : (xs ds : List Deed) → AreNumbered xs → ((j n : ℕ) (bytes : List ℕ) → slice_get ds j ≡ Some (HasPut n bytes) → (j ≡ 0) × (n ≡ length (puts xs))) → AreNumbered (xs ++ ds)
 numbered_more xs ds h more place number bytes e = elim (got_split xs ds place (HasPut number bytes) e) [
   | inl l ↦ h place number bytes l ∙ ap (λ z. length (puts z)) (sym (take-append-le place xs ds (let w = slice_get_within xs place _ l in omega arith)))
   | inr r ↦ (let m = more r.0 number bytes r.2 in m.1 ∙ ap (λ z. length (puts z)) (sym (take_at xs ds place (let a = r.1 in let d = m.0 in omega arith))))
 ]
 
 -- ---- what an event puts
-step_puts : (k : Option Kind) (tn : Option ℕ) (got : ℕ) (ch : Option ℕ) (a : Answered) → puts (step_deed k tn got ch a) ≡ []
+pub step_puts : (k : Option Kind) (tn : Option ℕ) (got : ℕ) (ch : Option ℕ) (a : Answered) → puts (step_deed k tn got ch a) ≡ []
 step_puts None tn got ch a = refl
 step_puts (Some k) tn got ch a = refl
 
@@ -192,11 +186,11 @@ module _ {E : Type 0} (X : Election E) (P : Protocol E (Unit {0}) ℕ) (laws : L
     -- a sender goes on with another batch, and the frames stay
     goes_on_closing : (s : ℕ) (c c' : Core E) (i : slice_get b.side.senders s ≡ Some c) (ds : List Deed) → (c'.queue.phase ≡ Closing → Closed (D s ++ cond (s == s) ds [])) → b'.side.senders ≡ slice_set b.side.senders s c' → Closings (slice_get b'.side.senders) frames (λ q. D q ++ cond (q == s) ds [])
     goes_on_closing s c c' i ds own same = subst (λ z. Closings (slice_get z) frames (λ q. D q ++ cond (q == s) ds [])) (sym same)
-        (closings_after b.side.senders frames D C s c i ds c' frames own (frames_later b.side.senders frames D C s c i ds))
+        (closings_after b.side.senders frames D C s c i ds c' frames own (frames_later (slice_get b.side.senders) frames D C s c i ds))
 
     put_closings : (s : ℕ) (bytes : List ℕ) (o : Option (Core E)) → slice_get b.side.senders s ≡ o → SenderDoes b.side o (λ c. with_sender b.side s (put_in c bytes)) b'.side → (n : ℕ) → PutGives o (length bytes) n → Closings (slice_get b'.side.senders) frames (λ q. D q ++ cond (q == s) (HasPut n bytes ∷ []) [])
     put_closings s bytes None i d n gives = absurd gives
-    put_closings s bytes (Some c) i d n gives = goes_on_closing s c (put_in c bytes) i (HasPut n bytes ∷ []) (λ e. own_closed b.side.senders frames D C s c i (HasPut n bytes ∷ []) (by_test (can_put c.queue (length bytes)) e)) (ap (λ (z : Side E). z.senders) d)
+    put_closings s bytes (Some c) i d n gives = goes_on_closing s c (put_in c bytes) i (HasPut n bytes ∷ []) (λ e. own_closed (slice_get b.side.senders) frames D C s c i (HasPut n bytes ∷ []) (by_test (can_put c.queue (length bytes)) e)) (ap (λ (z : Side E). z.senders) d)
       where
         by_test : (t : Bool) → (cond t (record c { queue = record c.queue { messages = c.queue.messages ++ bytes ∷ [] } }) c).queue.phase ≡ Closing → c.queue.phase ≡ Closing
         by_test true e = e
@@ -204,7 +198,7 @@ module _ {E : Type 0} (X : Election E) (P : Protocol E (Unit {0}) ℕ) (laws : L
 
     close_closings : (s : ℕ) (o : Option (Core E)) → slice_get b.side.senders s ≡ o → SenderDoes b.side o (λ c. with_sender b.side s (close_in c)) b'.side → CloseGives o → Closings (slice_get b'.side.senders) frames (λ q. D q ++ cond (q == s) (HasClosed ∷ []) [])
     close_closings s None i d gives = absurd gives
-    close_closings s (Some c) i d gives = goes_on_closing s c (close_in c) i (HasClosed ∷ []) (λ e. own_closes b.side.senders frames D C s c i (HasClosed ∷ []) (0, refl)) (ap (λ (z : Side E). z.senders) d)
+    close_closings s (Some c) i d gives = goes_on_closing s c (close_in c) i (HasClosed ∷ []) (λ e. own_closes (slice_get b.side.senders) frames D C s c i (HasClosed ∷ []) (0, refl)) (ap (λ (z : Side E). z.senders) d)
 
     turn_closings : (s word : ℕ) (o : Option (Core E)) → slice_get b.side.senders s ≡ o → SenderDoes b.side o (λ c. side_after X b.side s c (situation_of X c) word) b'.side → (ds : List Deed) → Closings (slice_get b'.side.senders) (frames_by X o frames) (λ q. D q ++ cond (q == s) ds [])
     turn_closings s word None i d ds = record {
@@ -216,9 +210,9 @@ module _ {E : Type 0} (X : Election E) (P : Protocol E (Unit {0}) ℕ) (laws : L
         let z = situation_of X c in
         subst (λ l. Closings (slice_get l) (frames_after X c z frames) (λ q. D q ++ cond (q == s) ds [])) (sym (ap (λ (l : Side E). l.senders) d))
         (closings_after b.side.senders frames D C s c i ds (core_after X c z b.side.home (number_found (slice_index b.side.words) (op_at X c z word)) word) (frames_after X c z frames)
-        (λ e. own_closed b.side.senders frames D C s c i ds (turn_closing X c z b.side.home (number_found (slice_index b.side.words) (op_at X c z word)) word e))
-        (turn_frames X c z frames (λ f. Closed (D f.owner.0 ++ cond (f.owner.0 == s) ds [])) (frames_later b.side.senders frames D C s c i ds)
-        (λ t e. subst (λ q. Closed (D q ++ cond (q == s) ds [])) (sym part.sender) (own_closed b.side.senders frames D C s c i ds e))))
+        (λ e. own_closed (slice_get b.side.senders) frames D C s c i ds (turn_closing X c z b.side.home (number_found (slice_index b.side.words) (op_at X c z word)) word e))
+        (turn_frames X c z frames (λ f. Closed (D f.owner.0 ++ cond (f.owner.0 == s) ds [])) (frames_later (slice_get b.side.senders) frames D C s c i ds)
+        (λ t e. subst (λ q. Closed (D q ++ cond (q == s) ds [])) (sym part.sender) (own_closed (slice_get b.side.senders) frames D C s c i ds e))))
 
     event_closings : (e : Event) (a : Answer) → Happens X b e b' → Answers X b e a b' → Closings (slice_get b'.side.senders) (event_frames X b e frames) (λ q. D q ++ deeds_of X b e a q)
     event_closings (Put s bytes) a d w = subst (λ t. Closings (slice_get b'.side.senders) frames (λ q. D q ++ cond (q == s) (put_deeds bytes t) [])) (sym w.2) (put_closings s bytes (slice_get b.side.senders s) refl d.0 w.0 w.1)
@@ -430,23 +424,6 @@ module _ {E : Type 0} (X : Election E) (P : Protocol E (Unit {0}) ℕ) (laws : L
 
     one : (t : ℕ) → t < x.rows → OneOwner (inputs P (k.tied.tables.elections t)) (outputs P (k.tied.tables.elections t))
     one t l = laws.outcome x.senders (2 + t * P.width x.senders) (slice_index b.side.words) (k.tied.tables.elections t) (k.tied.tables.kept t l)
-
-    owner_took : (owners : List ℕ) (fs : List Frame) → AreOwned owners fs → (j t : ℕ) (o : SenderNo) → slice_get (map tenure_and_owner fs) j ≡ Some (t, o) → slice_get owners t ≡ Some o.0
-    owner_took owners [] a j t o e = absurd (none_in j (t, o) e)
-    owner_took owners (f ∷ fs) a zero t o e = let s = same_Some _ _ e in subst (λ z. slice_get owners z.0 ≡ Some z.1.0) s a.0
-    owner_took owners (f ∷ fs) a (suc j) t o e = owner_took owners fs a.1 j t o e
-
-    above : (n least : ℕ) (fs : List Frame) → AreFramesFrom n least fs → (j t : ℕ) (o : SenderNo) → slice_get (map tenure_and_owner fs) j ≡ Some (t, o) → least ≤ t
-    above n least [] a j t o e = absurd (none_in j (t, o) e)
-    above n least (f ∷ fs) a zero t o e = let s = ap (λ (z : ℕ × SenderNo). z.0) (same_Some _ _ e) in let l = a.1 in omega arith
-    above n least (f ∷ fs) a (suc j) t o e = let l = above n (f.tenure + 1) fs a.3 j t o e in let m = a.1 in omega arith
-
-    rise : (n least : ℕ) (fs : List Frame) → AreFramesFrom n least fs → (i j t u : ℕ) (o p : SenderNo) → slice_get (map tenure_and_owner fs) i ≡ Some (t, o) → slice_get (map tenure_and_owner fs) j ≡ Some (u, p) → i < j → t < u
-    rise n least [] a i j t u o p e g l = absurd (none_in i (t, o) e)
-    rise n least (f ∷ fs) a zero zero t u o p e g l = absurd (omega arith)
-    rise n least (f ∷ fs) a zero (suc j) t u o p e g l = let s = ap (λ (z : ℕ × SenderNo). z.0) (same_Some _ _ e) in let m = above n (f.tenure + 1) fs a.3 j u p g in omega arith
-    rise n least (f ∷ fs) a (suc i) zero t u o p e g l = absurd (omega arith)
-    rise n least (f ∷ fs) a (suc i) (suc j) t u o p e g l = rise n (f.tenure + 1) fs a.3 i j t u o p e g (omega arith)
 
     heads_prefix : (n : ℕ) → IsPrefix (owners_in (take n (log_pieces frames))) (map tenure_and_owner frames)
     heads_prefix n = record {

@@ -25,3 +25,5 @@ pub mod EventTrails
 pub mod Tellings
 pub mod SizedBuses
 pub mod Refused
+pub mod FrameOwners
+pub mod Beginning

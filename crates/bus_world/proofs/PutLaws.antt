@@ -4,6 +4,7 @@ use Rattle.std.proofs.lemmas.Bool.{cases_eq}
 use Rattle.std.proofs.lemmas.List.{append-nil, map-append}
 use Rattle.std.proofs.lemmas.Option.{slice_get_within}
 use Rattle.bus_register.specs.declared.registers.SenderNo.{SenderNo}
+use Rattle.bus_register.specs.Tables.{Beside}
 use Rattle.bus_register.specs.Proved.TableLaws.{get_set_same, get_set_other}
 use Rattle.bus_batch.specs.declared.batches.Phase.{Phase as BatchPhase}
 use Rattle.bus_batch.specs.declared.batches.Phase.TheVariants.{Open, Closing, Closed}
@@ -12,7 +13,7 @@ use Rattle.bus_batch.specs.Messages.{numbered}
 use Rattle.bus_batch.specs.Batches.{Pending, IsKept, frame_of, body_of}
 use Rattle.bus_batch.specs.Frames.{Frame, order_of, items_of, body_items, item_of}
 use Rattle.bus_tenure.specs.Core.{Core, Election, frame_len, has_room, is_empty, is_closing, is_closed}
-use Rattle.bus_tenure.specs.Situations.{Situation, IsClosed, IsIdle, IsSpent, LooksAtStage, Elects, TakesPage, StoresWord, StoresLength, GivesBack, situation_at, situation_of, resting, electing, holding, core_begun, core_after_stage, waits, core_elected, core_at_rest}
+use Rattle.bus_tenure.specs.Situations.{Situation, IsClosed, IsIdle, IsSpent, LooksAtStage, Elects, TakesPage, StoresWord, StoresLength, GivesBack, situation_at, situation_of, resting, electing, holding, core_begun, core_after_stage, waits, core_elected, core_at_rest, op_at}
 use Rattle.bus_tenure.specs.declared.pages.Page.{Page}
 use Rattle.bus_tenure.specs.declared.phases.Reason.{Reason}
 use Rattle.bus_tenure.specs.declared.phases.Reason.TheVariants.{Sent, FoundEnd, NoRoom}
@@ -20,7 +21,7 @@ use Rattle.bus_tenure.specs.declared.phases.Phase.{Phase}
 use Rattle.bus_tenure.specs.declared.phases.Phase.TheVariants as phase
 use Rattle.bus_deliverylog.specs.Orders.{of_sender}
 use Rattle.bus_world.proofs.LogLaws.{of_sender-append, owned_items, others_items}
-use Rattle.bus_world.specs.Turning.{Side, number_found, core_with_page, side_after}
+use Rattle.bus_world.specs.Turning.{Side, number_found, core_with_page, core_after, side_after}
 use Rattle.bus_world.proofs.Waiting.{frames_after, waiting_at, waiting_of}
 
 -- the messages of a frame are those of the batch
@@ -41,92 +42,102 @@ module _ {E : Type 0} where
   waits_same true c d ms e f = e
   waits_same false c d ms e f = f
 
-  elected_waits : (c : Core E) (t : ℕ) (e : E) (o : Option ℕ) → waiting_of (Some (core_elected c t e o)) ≡ c.queue.messages
+  pub elected_waits : (c : Core E) (t : ℕ) (e : E) (o : Option ℕ) → waiting_of (Some (core_elected c t e o)) ≡ c.queue.messages
   elected_waits c t e None = refl
   elected_waits c t e (Some o) = waits_same (o == c.me) (record c { phase = phase.Electing t e }) (record c { queue = record c.queue { busy = false }; least = t + 1; phase = phase.Resting }) c.queue.messages refl refl
 
-  laid_waits : (c : Core E) (t : ℕ) (home : Option Page) → waiting_of (Some (core_with_page c t home)) ≡ c.queue.messages
+  pub laid_waits : (c : Core E) (t : ℕ) (home : Option Page) → waiting_of (Some (core_with_page c t home)) ≡ c.queue.messages
   laid_waits c t None = refl
   laid_waits c t (Some page) = refl
 
-module _ {E : Type 0} (X : Election E) (side : Side E) (frames : List Frame) (p : ℕ) (c : Core E) (old : slice_get side.senders p ≡ Some c) (kept : IsKept c.queue) (sender : c.queue.sender.0 ≡ p) (word : ℕ) where
-  abbrev sent_of : List Frame → ℕ → List (List ℕ)
+module _ {E : Type 0} (X : Election E) (senders senders' : ℕ → Option (Core E)) (frames : List Frame) (p : ℕ) (beside : Beside p senders senders') (c : Core E) (old : senders p ≡ Some c) (kept : IsKept c.queue) (sender : c.queue.sender.0 ≡ p) where
+  abbrev pub sent_of : List Frame → ℕ → List (List ℕ)
   sent_of fs q = map (λ (i : Item). i.message) (of_sender q (order_of fs))
 
-  abbrev Puts : Situation E → Type 0
-  Puts s = (q : ℕ) → sent_of (frames_after X c s frames) q ++ waiting_of (slice_get (side_after X side p c s word).senders q) ≡ sent_of frames q ++ waiting_of (slice_get side.senders q)
-
   -- where the order stays and the batch keeps its messages
-  stays : (c' : Core E) → waiting_of (Some c') ≡ waiting_of (Some c) → (q : ℕ) → sent_of frames q ++ waiting_of (slice_get (slice_set side.senders p c') q) ≡ sent_of frames q ++ waiting_of (slice_get side.senders q)
-  stays c' e q = ap (λ z. sent_of frames q ++ z) (elim (cases_eq q p) [
-    | inl i ↦ ap waiting_of (ap (slice_get (slice_set side.senders p c')) i ∙ get_set_same side.senders p c' (slice_get_within side.senders p c old)) ∙ e ∙ ap waiting_of (sym old ∙ ap (slice_get side.senders) (sym i))
-    | inr ne ↦ ap waiting_of (get_set_other side.senders p c' q ne)
+  pub stays : (c' : Core E) → senders' p ≡ Some c' → waiting_of (Some c') ≡ waiting_of (Some c) → (q : ℕ) → sent_of frames q ++ waiting_of (senders' q) ≡ sent_of frames q ++ waiting_of (senders q)
+  stays c' new e q = ap (λ z. sent_of frames q ++ z) (elim (cases_eq q p) [
+    | inl i ↦ ap waiting_of (ap senders' i ∙ new) ∙ e ∙ ap waiting_of (sym old ∙ ap senders (sym i))
+    | inr ne ↦ ap waiting_of (beside q ne)
   ])
 
-  -- one of two situations
-  choose : (b : Bool) (s u : Situation E) → Puts s → Puts u → Puts (cond b s u)
-  choose true s u e f = e
-  choose false s u e f = f
+  -- the frame goes into the order, and its messages out of what waits
+  pub publish_puts : (t : ℕ) (page : Page) (stored : ℕ) → c.phase ≡ phase.Holding t page stored false → senders' p ≡ Some (record c { phase = phase.Holding t page stored true })
+      → (q : ℕ) → sent_of (frames ++ frame_of c.queue t ∷ []) q ++ waiting_of (senders' q) ≡ sent_of frames q ++ waiting_of (senders q)
+  publish_puts t page stored holds new q = elim (cases_eq q p) [
+    | inl i ↦
+        let now : waiting_of (senders' q) ≡ [] = ap waiting_of (ap senders' i ∙ new) in
+        let before : waiting_of (senders q) ≡ c.queue.messages = ap waiting_of (ap senders i ∙ old) ∙ ap (waiting_at c) holds in
+        let mine : of_sender q (order_of (frames ++ frame_of c.queue t ∷ [])) ≡ of_sender q (order_of frames) ++ items_of (frame_of c.queue t) =
+        of_sender-append q frames (frame_of c.queue t) ∙ ap (λ z. of_sender q (order_of frames) ++ filter (λ (x : Item). x.sender.0 == z) (items_of (frame_of c.queue t))) (i ∙ sym sender) ∙ ap (λ z. of_sender q (order_of frames) ++ z) (owned_items (frame_of c.queue t)) in
+        ap (λ z. sent_of (frames ++ frame_of c.queue t ∷ []) q ++ z) now ∙ append-nil (sent_of (frames ++ frame_of c.queue t ∷ []) q) ∙ ap (map (λ (x : Item). x.message)) mine
+        ∙ map-append (λ (x : Item). x.message) (of_sender q (order_of frames)) (items_of (frame_of c.queue t)) ∙ ap (λ z. sent_of frames q ++ z) (messages_of_frame c.queue t kept ∙ sym before)
+    | inr ne ↦
+        ap (λ z. sent_of (frames ++ frame_of c.queue t ∷ []) q ++ z) (ap waiting_of (beside q ne))
+        ∙ ap (λ z. map (λ (x : Item). x.message) z ++ waiting_of (senders q)) (of_sender-append q frames (frame_of c.queue t) ∙ ap (λ z. of_sender q (order_of frames) ++ z) (others_items q (frame_of c.queue t) (λ i. ne (i ∙ sender))) ∙ append-nil (of_sender q (order_of frames)))
+  ]
 
-  module _ (rests : c.phase ≡ phase.Resting) where
-    resting_waits : waiting_of (Some c) ≡ c.queue.messages
-    resting_waits = ap (waiting_at c) rests
+  -- ---- a turn, whose step found this number
+  module _ (home : Option Page) (got word : ℕ) where
+    abbrev Puts : Situation E → Type 0
+    Puts s = senders' p ≡ Some (core_after X c s home got word) → (q : ℕ) → sent_of (frames_after X c s frames) q ++ waiting_of (senders' q) ≡ sent_of frames q ++ waiting_of (senders q)
 
-    looks_puts : Puts LooksAtStage
-    looks_puts = stays (core_after_stage X c (slice_index side.words 1))
-        (waits_same (waits c (slice_index side.words 1)) c (cond (nat_le c.layout.rows (slice_index side.words 1 / 2)) (record c { least = slice_index side.words 1 / 2 }) (core_begun X c (slice_index side.words 1 / 2))) c.queue.messages resting_waits
-        (waits_same (nat_le c.layout.rows (slice_index side.words 1 / 2)) (record c { least = slice_index side.words 1 / 2 }) (core_begun X c (slice_index side.words 1 / 2)) c.queue.messages
-        (ap (waiting_at (record c { least = slice_index side.words 1 / 2 })) rests) refl) ∙ sym resting_waits)
+    -- one of two situations
+    choose : (b : Bool) (s u : Situation E) → Puts s → Puts u → Puts (cond b s u)
+    choose true s u e f = e
+    choose false s u e f = f
 
-    rest_puts : Puts (resting c)
-    rest_puts = choose (is_closed c.queue.phase) IsClosed _ (stays c refl) (choose (is_empty c.queue.messages && cond (is_closing c.queue.phase) false true) IsIdle _ (stays c refl) (choose (nat_le c.layout.rows c.least) IsSpent LooksAtStage (stays c refl) looks_puts))
+    module _ (rests : c.phase ≡ phase.Resting) where
+      resting_waits : waiting_of (Some c) ≡ c.queue.messages
+      resting_waits = ap (waiting_at c) rests
 
-  module _ (t : ℕ) (e : E) (elects : c.phase ≡ phase.Electing t e) where
-    electing_waits : waiting_of (Some c) ≡ c.queue.messages
-    electing_waits = ap (waiting_at c) elects
+      looks_puts : Puts LooksAtStage
+      looks_puts new = stays (core_after_stage X c got) new
+          (waits_same (waits c (got)) c (cond (nat_le c.layout.rows (got / 2)) (record c { least = got / 2 }) (core_begun X c (got / 2))) c.queue.messages resting_waits
+          (waits_same (nat_le c.layout.rows (got / 2)) (record c { least = got / 2 }) (core_begun X c (got / 2)) c.queue.messages
+          (ap (waiting_at (record c { least = got / 2 })) rests) refl) ∙ sym resting_waits)
 
-    elect_puts : Puts (electing X t e)
-    elect_puts = pick' (is_some (X.owner e))
-      where
-        pick' : (b : Bool) → Puts (cond b (TakesPage t) (Elects t e))
-        pick' true = stays (core_with_page c t side.home) (laid_waits c t side.home ∙ sym electing_waits)
-        pick' false = stays (core_elected c t (X.fed e (number_found (slice_index side.words) (X.op e word)) word) (X.owner (X.fed e (number_found (slice_index side.words) (X.op e word)) word))) (elected_waits c t (X.fed e (number_found (slice_index side.words) (X.op e word)) word) (X.owner (X.fed e (number_found (slice_index side.words) (X.op e word)) word)) ∙ sym electing_waits)
+      rest_puts : Puts (resting c)
+      rest_puts = choose (is_closed c.queue.phase) IsClosed _ (λ new. stays c new refl) (choose (is_empty c.queue.messages && cond (is_closing c.queue.phase) false true) IsIdle _ (λ new. stays c new refl) (choose (nat_le c.layout.rows c.least) IsSpent LooksAtStage (λ new. stays c new refl) looks_puts))
 
-  module _ (t : ℕ) (page : Page) (stored : ℕ) where
-    -- the frame goes into the order, and its messages out of what waits
-    publish_puts : c.phase ≡ phase.Holding t page stored false → Puts (StoresLength t page stored)
-    publish_puts holds q = elim (cases_eq q p) [
-      | inl i ↦
-          let c' = record c { phase = phase.Holding t page stored true } in
-          let now : waiting_of (slice_get (slice_set side.senders p c') q) ≡ [] = ap waiting_of (ap (slice_get (slice_set side.senders p c')) i ∙ get_set_same side.senders p c' (slice_get_within side.senders p c old)) in
-          let before : waiting_of (slice_get side.senders q) ≡ c.queue.messages = ap waiting_of (ap (slice_get side.senders) i ∙ old) ∙ ap (waiting_at c) holds in
-          let mine : of_sender q (order_of (frames ++ frame_of c.queue t ∷ [])) ≡ of_sender q (order_of frames) ++ items_of (frame_of c.queue t) =
-          of_sender-append q frames (frame_of c.queue t) ∙ ap (λ z. of_sender q (order_of frames) ++ filter (λ (x : Item). x.sender.0 == z) (items_of (frame_of c.queue t))) (i ∙ sym sender) ∙ ap (λ z. of_sender q (order_of frames) ++ z) (owned_items (frame_of c.queue t)) in
-          ap (λ z. sent_of (frames ++ frame_of c.queue t ∷ []) q ++ z) now ∙ append-nil (sent_of (frames ++ frame_of c.queue t ∷ []) q) ∙ ap (map (λ (x : Item). x.message)) mine
-          ∙ map-append (λ (x : Item). x.message) (of_sender q (order_of frames)) (items_of (frame_of c.queue t)) ∙ ap (λ z. sent_of frames q ++ z) (messages_of_frame c.queue t kept ∙ sym before)
-      | inr ne ↦
-          let c' = record c { phase = phase.Holding t page stored true } in
-          ap (λ z. sent_of (frames ++ frame_of c.queue t ∷ []) q ++ z) (ap waiting_of (get_set_other side.senders p c' q ne))
-          ∙ ap (λ z. map (λ (x : Item). x.message) z ++ waiting_of (slice_get side.senders q)) (of_sender-append q frames (frame_of c.queue t) ∙ ap (λ z. of_sender q (order_of frames) ++ z) (others_items q (frame_of c.queue t) (λ i. ne (i ∙ sender))) ∙ append-nil (of_sender q (order_of frames)))
-    ]
+    module _ (t : ℕ) (e : E) (elects : c.phase ≡ phase.Electing t e) where
+      electing_waits : waiting_of (Some c) ≡ c.queue.messages
+      electing_waits = ap (waiting_at c) elects
 
-    hold_puts : (published : Bool) → c.phase ≡ phase.Holding t page stored published → Puts (holding c t page stored published)
-    hold_puts true holds = stays (core_at_rest c Sent t) (sym (ap (waiting_at c) holds))
-    hold_puts false holds =
-        let waits_now : waiting_of (Some c) ≡ c.queue.messages = ap (waiting_at c) holds in
-        choose page.ended (GivesBack t page FoundEnd) _ (stays (core_at_rest c FoundEnd t) (sym waits_now))
-        (choose (has_room c page) (cond (nat_lt stored (frame_len c)) (StoresWord t page stored) (StoresLength t page stored)) (GivesBack t page NoRoom)
-        (choose (nat_lt stored (frame_len c)) (StoresWord t page stored) (StoresLength t page stored) (stays (record c { phase = phase.Holding t page (stored + 1) false }) (sym waits_now)) (publish_puts holds))
-        (stays (core_at_rest c NoRoom t) (sym waits_now)))
+      elect_puts : Puts (electing X t e)
+      elect_puts = pick' (is_some (X.owner e))
+        where
+          pick' : (b : Bool) → Puts (cond b (TakesPage t) (Elects t e))
+          pick' true new = stays (core_with_page (record c { phase = phase.Taken t }) t home) new (laid_waits (record c { phase = phase.Taken t }) t home ∙ sym electing_waits)
+          pick' false new = stays (core_elected c t (X.fed e got word) (X.owner (X.fed e got word))) new (elected_waits c t (X.fed e got word) (X.owner (X.fed e got word)) ∙ sym electing_waits)
 
-  -- between events no page is on its way home
-  module _ (at_rest : (t : ℕ) (reason : Reason) → c.phase ≡ phase.Giving t reason → ⊥) where
-    puts_at : (ph : Phase E) → c.phase ≡ ph → Puts (situation_at X c ph)
-    puts_at phase.Resting e = rest_puts e
-    puts_at (phase.Electing t u) e = elect_puts t u e
-    puts_at (phase.Taken t) e = stays (core_with_page c t side.home) (laid_waits c t side.home ∙ sym (ap (waiting_at c) e))
-    puts_at (phase.Holding t page stored published) e = hold_puts t page stored published e
-    puts_at (phase.Giving t reason) e = absurd (at_rest t reason e)
+    module _ (t : ℕ) (page : Page) (stored : ℕ) where
+      hold_puts : (published : Bool) → c.phase ≡ phase.Holding t page stored published → Puts (holding c t page stored published)
+      hold_puts true holds = λ new. stays (core_at_rest c Sent t) new (sym (ap (waiting_at c) holds))
+      hold_puts false holds =
+          let waits_now : waiting_of (Some c) ≡ c.queue.messages = ap (waiting_at c) holds in
+          choose page.ended (GivesBack t page FoundEnd) _ (λ new. stays (core_at_rest c FoundEnd t) new (sym waits_now))
+          (choose (has_room c page) (cond (nat_lt stored (frame_len c)) (StoresWord t page stored) (StoresLength t page stored)) (GivesBack t page NoRoom)
+          (choose (nat_lt stored (frame_len c)) (StoresWord t page stored) (StoresLength t page stored) (λ new. stays (record c { phase = phase.Holding t page (stored + 1) false }) new (sym waits_now)) (publish_puts t page stored holds))
+          (λ new. stays (core_at_rest c NoRoom t) new (sym waits_now)))
 
-    pub turn_puts : Puts (situation_of X c)
-    turn_puts = puts_at c.phase refl
+    -- between events no page is on its way home
+    module _ (at_rest : (t : ℕ) (reason : Reason) → c.phase ≡ phase.Giving t reason → ⊥) where
+      puts_at : (ph : Phase E) → c.phase ≡ ph → Puts (situation_at X c ph)
+      puts_at phase.Resting e = rest_puts e
+      puts_at (phase.Electing t u) e = elect_puts t u e
+      puts_at (phase.Taken t) e = λ new. stays (core_with_page c t home) new (laid_waits c t home ∙ sym (ap (waiting_at c) e))
+      puts_at (phase.Holding t page stored published) e = hold_puts t page stored published e
+      puts_at (phase.Giving t reason) e = absurd (at_rest t reason e)
+
+      pub puts_in_turn : Puts (situation_of X c)
+      puts_in_turn = puts_at c.phase refl
+
+-- ---- on lists
+module _ {E : Type 0} (X : Election E) (side : Side E) (frames : List Frame) (p : ℕ) (c : Core E) (old : slice_get side.senders p ≡ Some c) (kept : IsKept c.queue) (sender : c.queue.sender.0 ≡ p) (word : ℕ) (at_rest : (t : ℕ) (reason : Reason) → c.phase ≡ phase.Giving t reason → ⊥) where
+  abbrev core_now : Core E
+  core_now = core_after X c (situation_of X c) side.home (number_found (slice_index side.words) (op_at X c (situation_of X c) word)) word
+
+  pub turn_puts : (q : ℕ) → map (λ (i : Item). i.message) (of_sender q (order_of (frames_after X c (situation_of X c) frames))) ++ waiting_of (slice_get (side_after X side p c (situation_of X c) word).senders q) ≡ map (λ (i : Item). i.message) (of_sender q (order_of frames)) ++ waiting_of (slice_get side.senders q)
+  turn_puts = puts_in_turn X (slice_get side.senders) (slice_get (slice_set side.senders p core_now)) frames p (get_set_other side.senders p core_now) c old kept sender side.home (number_found (slice_index side.words) (op_at X c (situation_of X c) word)) word at_rest
+      (get_set_same side.senders p core_now (slice_get_within side.senders p c old))

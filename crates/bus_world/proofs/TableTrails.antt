@@ -10,7 +10,6 @@ use Rattle.bus_register.specs.Protocol.{Protocol, Laws, counted_input}
 use Rattle.bus_tenure.specs.Core.{Core, Election, Layout}
 use Rattle.bus_tenure.specs.declared.phases.Phase.TheVariants as phase
 use Rattle.bus_tenure.specs.declared.turns.Turn.{Turn as Answered}
-use Rattle.bus_tenure.specs.declared.turns.Turn.TheVariants as turn
 use Rattle.bus_ownerbits.specs.OneOwner.{OneOwner}
 use Rattle.bus_ownerbits.proofs.ElectionSteps.{row_within}
 use Rattle.bus_world.proofs.Places.{got_before, got_after, got_split}
@@ -25,7 +24,7 @@ only_one d (suc i) x e = absurd (none_there i x e)
     none_there : {A : Type 0} (i : ℕ) (x : A) → slice_get [] i ≡ Some x → ⊥
     none_there i x e = cc
 
-none_in : {A : Type 0} (i : ℕ) (x : A) → slice_get [] i ≡ Some x → ⊥
+pub none_in : {A : Type 0} (i : ℕ) (x : A) → slice_get [] i ≡ Some x → ⊥
 none_in i x e = cc
 
 -- ---- trails
@@ -137,8 +136,8 @@ module _ (p : ℕ) (ds : List Deed) (old new : ℕ → List Deed) (g : Longer p 
     back s t i a = elim (took_from s t i a) [ inl l ↦ l | inr r ↦ absurd (plain t r.1.0 r.1.2) ]
 
   -- the sender takes the next one, in which it was elected
-  pub takers_more : (owners : List ℕ) (t : ℕ) (f : ℕ) (ch : Option ℕ) → ds ≡ Stepped (Some t) kind.TakePage f ch (turn.Own t) ∷ [] → length owners ≡ t → Elected (old p) t p → PageTies owners old → PageTies (owners ++ p ∷ []) new
-  takers_more owners t f ch ds_are many own h = record {
+  pub takers_more : (owners : List ℕ) (t : ℕ) (f : ℕ) (ch : Option ℕ) (answer : Answered) → ds ≡ Stepped (Some t) kind.TakePage f ch answer ∷ [] → length owners ≡ t → Elected (old p) t p → PageTies owners old → PageTies (owners ++ p ∷ []) new
+  takers_more owners t f ch answer ds_are many own h = record {
     took = λ u s e. elim (at_end u s e) [
       | inl l ↦ (let k = h.took u s l in (k.0, took_still s u k.0 k.1))
       | inr r ↦ (length (old p) + 0, subst (λ z. Took (new z) u (length (old p) + 0)) (sym r.1) (subst (λ z. Took (new p) z (length (old p) + 0)) (sym r.0) taken))
@@ -163,10 +162,10 @@ module _ (p : ℕ) (ds : List Deed) (old new : ℕ → List Deed) (g : Longer p 
     ];
   } where
     taken : Took (new p) t (length (old p) + 0)
-    taken = record { found = f; chose = ch; answer = turn.Own t; at = ap (λ z. slice_get z (length (old p) + 0)) (g.own ∙ ap (λ z. old p ++ z) ds_are) ∙ got_after (old p) (Stepped (Some t) kind.TakePage f ch (turn.Own t) ∷ []) 0 _ refl (length (old p) + 0) refl }
+    taken = record { found = f; chose = ch; answer = answer; at = ap (λ z. slice_get z (length (old p) + 0)) (g.own ∙ ap (λ z. old p ++ z) ds_are) ∙ got_after (old p) (Stepped (Some t) kind.TakePage f ch answer ∷ []) 0 _ refl (length (old p) + 0) refl }
 
     from_ds : (u i : ℕ) → Took ds u i → (t ≡ u) × (i ≡ 0)
-    from_ds u i a = let b = one_took (Some t) kind.TakePage f ch (turn.Own t) u i (subst (λ z. Took z u i) ds_are a) in (same_Some _ _ b.1, b.0)
+    from_ds u i a = let b = one_took (Some t) kind.TakePage f ch answer u i (subst (λ z. Took z u i) ds_are a) in (same_Some _ _ b.1, b.0)
 
     earlier : (u s i : ℕ) → Took (old s) u i → (j : ℕ) → Took ds u j → ⊥
     earlier u s i l j a = let b = (from_ds u j a).0 in let w = slice_get_within owners u s (h.only u s i l) in omega arith

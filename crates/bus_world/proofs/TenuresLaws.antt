@@ -3,7 +3,7 @@ use Rattle.std.proofs.Common.{◌≡◌, ◌≢◌, ℕ, ◌+◌, ◌*◌, ◌<�
 use mathlib.Core.Path.{fun_ext}
 use Rattle.std.proofs.lemmas.Bool.{cases_eq, cases_lt}
 use Rattle.std.proofs.lemmas.List.{length_push}
-use Rattle.std.proofs.lemmas.Option.{same_Some, slice_get_past, slice_get_within}
+use Rattle.std.proofs.lemmas.Option.{same_Some, slice_get_past}
 use Rattle.bus_register.specs.declared.registers.Op.{Op}
 use Rattle.bus_register.specs.Words.{register}
 use Rattle.bus_register.specs.Tables.{of_some, Beside, put, Agree, Stepped}
@@ -82,8 +82,8 @@ module _ {E : Type 0} (op : E → ℕ → Option Op) (fed : E → ℕ → ℕ �
           owned = λ t o f. let b = h.owned t o f in (b.0, b.1, elim b.2 [ inl l ↦ inl (let z = mono o in omega arith) | inr d ↦ inr d ]);
         }
 
-    -- a sender that rests begins the tenure that is open
-    module _ (p t : ℕ) (below : p < n) (few : n ≤ 64) (rests : standing p ≡ Some Rests) (is_open : stage ≡ 2 * t) (enters : least p ≤ t) (room : t < rows)
+    -- a sender that rests begins a tenure that was opened
+    module _ (p t : ℕ) (below : p < n) (few : n ≤ 64) (rests : standing p ≡ Some Rests) (reached : 2 * t ≤ stage) (enters : least p ≤ t) (room : t < rows)
         (standing' : ℕ → Option (Standing E)) (now : standing' p ≡ Some (Runs t (P.started n p tt (at + t * P.width n)))) (beside : Beside p standing standing') where
       abbrev start : E
       start = P.started n p tt (at + t * P.width n)
@@ -94,8 +94,8 @@ module _ {E : Type 0} (op : E → ℕ → Option Op) (fed : E → ℕ → ℕ �
       abbrev rows_now : ℕ → ℕ → Option E
       rows_now = put t row h.elections
 
-      opened : h.ended ≡ t
-      opened = elim h.stage_is [ Open a b c ↦ omega arith | Held q a b c d ↦ absurd (omega arith) ]
+      opened : t ≤ h.ended
+      opened = elim h.stage_is [ Open a b c ↦ omega arith | Held q a b c d ↦ omega arith ]
 
       stayed : (u : ℕ) (e : E) → (u < least p) ⊎ ((standing p ≡ Some (Runs u e)) ⊎ (standing p ≡ Some (Holds u))) → u < least p
       stayed u e c = elim c [
@@ -108,7 +108,7 @@ module _ {E : Type 0} (op : E → ℕ → Option Op) (fed : E → ℕ → ℕ �
 
       begun_row : (q : ℕ) (e : E) → row q ≡ Some e → (t ≤ h.ended) × ((t < least q) ⊎ ((standing' q ≡ Some (Runs t e)) ⊎ (standing' q ≡ Some (Holds t))))
       begun_row q e f = elim (cases_eq q p) [
-        | inl i ↦ (omega (arith, opened), inr (inl (ap standing' i ∙ now ∙ ap (λ z. Some (Runs t z)) (same_Some _ _ (sym (put_here p (Some start) (h.elections t)) ∙ ap row (sym i) ∙ f)))))
+        | inl i ↦ (opened, inr (inl (ap standing' i ∙ now ∙ ap (λ z. Some (Runs t z)) (same_Some _ _ (sym (put_here p (Some start) (h.elections t)) ∙ ap row (sym i) ∙ f)))))
         | inr ne ↦ let b = h.begun t q e (sym (put_beside p (Some start) (h.elections t) q ne) ∙ f) in (b.0, past_stays p standing' beside least (λ z d. refl) t q e ne b.1)
       ]
 
@@ -130,7 +130,13 @@ module _ {E : Type 0} (op : E → ℕ → Option Op) (fed : E → ℕ → ℕ �
           | inr ne ↦ subst (λ z. P.Keeps n (at + u * P.width n) words z) (sym (put_beside t row h.elections u ne)) (h.kept u l)
         ];
         ended = h.ended;
-        stage_is = elim h.stage_is [ Open a b c ↦ Open a b c | Held q a b c d ↦ absurd (let z = opened in omega arith) ];
+        stage_is = elim h.stage_is [
+          | Open a b c ↦ Open a b c
+          | Held q a b c d ↦ Held q a b c (elim (cases_eq q p) [
+            | inl i ↦ absurd (resting_no_holding h.ended (same_Some _ _ (sym rests ∙ ap standing (sym i) ∙ d)))
+            | inr ne ↦ beside q ne ∙ d
+          ])
+        ];
         begun = λ u q e f. elim (cases_eq u t) [
           | inl i ↦ subst (λ z. (z ≤ h.ended) × ((z < least q) ⊎ ((standing' q ≡ Some (Runs z e)) ⊎ (standing' q ≡ Some (Holds z))))) (sym i) (begun_row q e (ap (λ z. z q) (sym (put_here t row h.elections)) ∙ ap (λ z. rows_now z q) (sym i) ∙ f))
           | inr ne ↦ begun_other u q e (ap (λ z. z q) (sym (put_beside t row h.elections u ne)) ∙ f)
@@ -154,17 +160,24 @@ module _ {E : Type 0} (op : E → ℕ → Option Op) (fed : E → ℕ → ℕ �
           | inl i ↦ absurd (electing_no_holding t u start (same_Some _ _ (sym now ∙ ap standing' (sym i) ∙ f)))
           | inr ne ↦ h.holding q u (sym (beside q ne) ∙ f)
         ];
-        owned = λ u o f. let b = h.owned u o f in
-            let within : u < length owners = slice_get_within owners u o f in
-            let earlier : u < t = elim h.stage_is [ Open a c d ↦ (let z = opened in omega arith) | Held q a c d g ↦ absurd (let z = opened in omega arith) ] in
-            let apart : u ≢ t = omega arith in (
-              b.0,
-              (b.1.0, ap (λ z. z o) (put_beside t row h.elections u apart) ∙ b.1.1, b.1.2),
-              elim (cases_eq o p) [
-                | inl i ↦ inl (elim b.2 [ inl l ↦ l | inr x ↦ absurd (resting_no_holding u (same_Some _ _ (sym rests ∙ ap standing (sym i) ∙ x))) ])
-                | inr ne ↦ served_stays p standing' beside least (λ z d. refl) u o ne b.2
-              ],
-            );
+        owned = λ u o f. let b = h.owned u o f in (
+          b.0,
+          (
+            b.1.0,
+            elim (cases_eq u t) [
+              | inr d ↦ ap (λ z. z o) (put_beside t row h.elections u d) ∙ b.1.1
+              | inl j ↦ elim (cases_eq o p) [
+                | inl i ↦ absurd (let bad : None ≡ Some b.1.0 = sym absent ∙ ap (h.elections t) (sym i) ∙ ap (λ z. h.elections z o) (sym j) ∙ b.1.1 in cc)
+                | inr ne ↦ ap (λ z. rows_now z o) j ∙ ap (λ z. z o) (put_here t row h.elections) ∙ put_beside p (Some start) (h.elections t) o ne ∙ ap (λ z. h.elections z o) (sym j) ∙ b.1.1
+              ]
+            ],
+            b.1.2,
+          ),
+          elim (cases_eq o p) [
+            | inl i ↦ inl (elim b.2 [ inl l ↦ l | inr x ↦ absurd (resting_no_holding u (same_Some _ _ (sym rests ∙ ap standing (sym i) ∙ x))) ])
+            | inr ne ↦ served_stays p standing' beside least (λ z d. refl) u o ne b.2
+          ],
+        );
       }
 
     -- a step of an election is on a word of the row of its tenure

@@ -1,6 +1,6 @@
 -- Each turn of a sender keeps what senders, words, page and owners keep, whatever the random word: said of words and senders by number,
 -- and then of the lists of a machine.
-use Rattle.std.proofs.Common.{◌≡◌, ◌≢◌, ℕ, ◌+◌, ◌*◌, ◌/◌, ◌%◌, ◌<◌, ◌≤◌, Bool, true, false, cond, ◌&&◌, nat_lt, nat_le, Option, Some, None, inl, inr, List, [], ◌∷◌, ◌++◌, length, is_some, slice_get, slice_index, slice_set, arith, refl, sym, ◌∙◌, ap, subst}
+use Rattle.std.proofs.Common.{◌≡◌, ◌≢◌, ℕ, ◌+◌, ◌*◌, ◌/◌, ◌%◌, ◌<◌, ◌≤◌, Bool, true, false, cond, ◌&&◌, nat_lt, nat_le, Option, Some, None, ◌⊎◌, inl, inr, List, [], ◌∷◌, ◌++◌, length, is_some, slice_get, slice_index, slice_set, arith, refl, sym, ◌∙◌, ap, subst}
 use mathlib.Core.Path.{fun_ext}
 use Rattle.std.proofs.lemmas.Bool.{cases_eq, leb-false, leb-true, ltb-false, ltb-true, true≢false}
 use Rattle.std.proofs.lemmas.Bool.Decides.{eqb_tells}
@@ -41,8 +41,16 @@ open_apart h = cc
 closing_apart : Closing ≡ Closed → ⊥
 closing_apart h = cc
 
+-- who looks at the stage is not closed and has something to send
+looks_has : {E : Type 0} (ph : BatchPhase) (messages : List (List ℕ)) (spent : Bool) → (let z : Situation E = cond (is_closed ph) IsClosed (cond (is_empty messages && cond (is_closing ph) false true) IsIdle (cond spent IsSpent LooksAtStage)) in z ≡ LooksAtStage)
+    → (ph ≡ Closed → ⊥) × ((1 ≤ length messages) ⊎ (ph ≡ Closing))
+looks_has Open [] spent h = absurd cc
+looks_has Open (m ∷ messages) spent h = (open_apart, inl (omega arith))
+looks_has Closing messages spent h = (closing_apart, inr refl)
+looks_has Closed messages spent h = absurd cc
+
 -- the stage shows a tenure that is open and may be entered
-open_stage : {E : Type 0} (c : Core E) (got : ℕ) → waits c got ≡ false → (got ≡ 2 * (got / 2)) × (c.least ≤ got / 2)
+pub open_stage : {E : Type 0} (c : Core E) (got : ℕ) → waits c got ≡ false → (got ≡ 2 * (got / 2)) × (c.least ≤ got / 2)
 open_stage c got e = elim (eqb_tells (got % 2) 0) [
   | inl h ↦ (let z = h.1 in omega arith, ltb-false (got / 2) c.least (ap (λ b. cond b (nat_lt (got / 2) c.least) true) (sym h.0) ∙ e))
   | inr h ↦ absurd (true≢false (ap (λ b. cond b (nat_lt (got / 2) c.least) true) (sym h.0) ∙ e))
@@ -153,10 +161,17 @@ module _ {E : Type 0} (X : Election E) (P : Protocol E (Unit {0}) ℕ) (laws : L
       abbrev got : ℕ
       got = words 1
 
-      start_is : P.started x.senders p tt (2 + got / 2 * P.width x.senders) ≡ X.started c.layout.senders c.me c.layout.rounds (row_at c.layout (got / 2))
-      start_is =
-          sym (starts x.senders p (2 + got / 2 * P.width x.senders)) ∙ ap (λ z. X.started x.senders p x.rounds (2 + got / 2 * z)) (sym width)
-          ∙ ap (λ z. X.started x.senders z x.rounds (row_at x (got / 2))) (sym part.me) ∙ ap (λ (z : Layout). X.started z.senders c.me z.rounds (row_at z (got / 2))) (sym part.layout)
+      start_is : (t : ℕ) → P.started x.senders p tt (2 + t * P.width x.senders) ≡ X.started c.layout.senders c.me c.layout.rounds (row_at c.layout t)
+      start_is t =
+          sym (starts x.senders p (2 + t * P.width x.senders)) ∙ ap (λ z. X.started x.senders p x.rounds (2 + t * z)) (sym width)
+          ∙ ap (λ z. X.started x.senders z x.rounds (row_at x t)) (sym part.me) ∙ ap (λ (z : Layout). X.started z.senders c.me z.rounds (row_at z t)) (sym part.layout)
+
+      -- it may begin any tenure that was opened
+      pub begins_opened : (t : ℕ) → resting c ≡ LooksAtStage → 2 * t ≤ words 1 → c.least ≤ t → t < x.rows → senders' p ≡ Some (core_begun X c t) → Sending P x words home senders' owners frames
+      begins_opened t looks reached enters room new =
+          let has = looks_has c.queue.phase c.queue.messages (nat_le c.layout.rows c.least) looks in
+          bus.begins X P laws x ok width words home senders owners frames h p c (core_begun X c t) senders' old new beside
+          t rests reached enters room part.below (ap (phase.Electing t) (sym (start_is t))) refl (part_begun t has.0 has.1)
 
       module _ (is_open : c.queue.phase ≡ Closed → ⊥) (something : HasSomething c.queue) where
         by_room : (b : Bool) → nat_le c.layout.rows (got / 2) ≡ b → waits c got ≡ false → senders' p ≡ Some (cond b (record c { least = got / 2 }) (core_begun X c (got / 2))) → Sending P x words home senders' owners frames
@@ -164,7 +179,7 @@ module _ {E : Type 0} (X : Election E) (P : Protocol E (Unit {0}) ℕ) (laws : L
         by_room false d e new =
             let stage = open_stage c got e in
             bus.begins X P laws x ok width words home senders owners frames h p c (core_begun X c (got / 2)) senders' old new beside
-            (got / 2) rests stage.0 stage.1 (let a = leb-false c.layout.rows (got / 2) d in let b = rows_is in omega arith) part.below (ap (phase.Electing (got / 2)) (sym start_is)) refl (part_begun (got / 2) is_open something)
+            (got / 2) rests (omega (arith, stage.0)) stage.1 (let a = leb-false c.layout.rows (got / 2) d in let b = rows_is in omega arith) part.below (ap (phase.Electing (got / 2)) (sym (start_is (got / 2)))) refl (part_begun (got / 2) is_open something)
 
         by_waits : (b : Bool) → waits c got ≡ b → senders' p ≡ Some (cond b c (cond (nat_le c.layout.rows (got / 2)) (record c { least = got / 2 }) (core_begun X c (got / 2)))) → Sending P x words home senders' owners frames
         by_waits true e new = unchanged new
@@ -339,7 +354,7 @@ module _ (words : List ℕ) where
   length-stepped None = refl
   length-stepped (Some o) = length-set words (register o) (after o (slice_index words (register o)))
 
-  stepped-steps : (o : Option Op) → ((u : Op) → o ≡ Some u → register u < length words) → Steps o (slice_index words) (slice_index (words_after words o))
+  pub stepped-steps : (o : Option Op) → ((u : Op) → o ≡ Some u → register u < length words) → Steps o (slice_index words) (slice_index (words_after words o))
   stepped-steps None within = λ r. refl
   stepped-steps (Some o) within = record {
     here = get_or-set_same words (register o) (after o (slice_index words (register o))) 0 (within o refl);

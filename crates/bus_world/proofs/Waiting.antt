@@ -1,11 +1,9 @@
 -- What senders have put, and what an event puts and publishes.
-use Rattle.std.proofs.Common.{ℕ, true, false, cond, ◌==◌, Option, Some, None, List, [], ◌∷◌, ◌++◌, length, map, slice_get}
+use Rattle.std.proofs.Common.{ℕ, cond, ◌==◌, Option, Some, None, List, [], ◌∷◌, ◌++◌, length, map, slice_get}
 use Rattle.bus_batch.specs.Frames.{Frame, order_of}
 use Rattle.bus_deliverylog.specs.Orders.{of_sender}
 use Rattle.bus_tenure.specs.Core.{Core, Election}
 use Rattle.bus_tenure.specs.Situations.{Situation, situation_of, line_of}
-use Rattle.bus_tenure.specs.declared.phases.Phase.{Phase}
-use Rattle.bus_tenure.specs.declared.phases.Phase.TheVariants as phase
 pub use Rattle.bus_world.specs.Waiting.{waiting_at, waiting_of}
 use Rattle.bus_world.specs.World.{Bus, Event, Put, Close, Turn, Recv, can_put}
 

@@ -1,18 +1,15 @@
 -- Every event keeps the bus lawful, and a lawful bus keeps its promises.
-use Rattle.std.proofs.Common.{◌≡◌, ◌≢◌, ℕ, zero, suc, ◌+◌, ◌<◌, ◌^◌, Bool, true, false, cond, ◌&&◌, ◌==◌, nat_lt, nat_le, Option, Some, None, ◌⊎◌, inl, inr, List, [], ◌∷◌, ◌++◌, length, map, take, slice_get, slice_index, slice_set, is_some, arith, refl, sym, ◌∙◌, ap, subst, append_assoc, replicate}
+use Rattle.std.proofs.Common.{◌≡◌, ◌≢◌, ℕ, zero, suc, ◌+◌, ◌<◌, ◌^◌, Bool, true, false, cond, ◌&&◌, ◌==◌, nat_lt, nat_le, Option, Some, None, ◌⊎◌, inl, inr, List, [], ◌∷◌, ◌++◌, length, map, take, slice_get, slice_index, slice_set, arith, refl, sym, ◌∙◌, ap, subst, append_assoc}
 use Rattle.std.specs.Prelude.{All}
 use Rattle.std.proofs.lemmas.Bool.{and_parts, cases_eq, cases_lt}
 use Rattle.std.proofs.lemmas.Bool.Decides.{eqb_tells}
 use Rattle.std.proofs.lemmas.Grind.{common_steps}
-use Rattle.std.proofs.lemmas.List.{append-nil, length-append, length-replicate, length-take, get_or_append_left, get_or_past, get_or-replicate}
+use Rattle.std.proofs.lemmas.List.{append-nil, length-append, length-replicate, length-take, get_or_append_left}
 use Rattle.std.proofs.Math.Seq.{take-nil}
-use Rattle.std.proofs.lemmas.List.Elements.{All-from_recursion}
 use Rattle.std.proofs.lemmas.Option.{same_Some, slice_get_within}
 use Rattle.bus_register.specs.Protocol.{Protocol, Laws}
-use Rattle.bus_register.specs.Tables.{of_some}
 use Rattle.bus_batch.specs.declared.batches.Phase.TheVariants.{Closing}
 use Rattle.bus_batch.specs.declared.messages.Item.{Item}
-use Rattle.bus_batch.specs.Messages.{IsMessage}
 use Rattle.bus_batch.specs.Batches.{next_of}
 use Rattle.bus_batch.specs.Frames.{IsBadWord, Frame, order_of, log_words, frame_words, log_pieces}
 use Rattle.bus_tenure.specs.Core.{Core, Election, Layout, log_at, words_of, is_empty}
@@ -20,7 +17,7 @@ use Rattle.bus_tenure.specs.Situations.{situation_of, line_of}
 use Rattle.bus_tenure.specs.declared.phases.Phase.{Phase as SenderPhase}
 use Rattle.bus_tenure.specs.declared.phases.Phase.TheVariants as phase
 use Rattle.bus_deliverylog.specs.Orders.{of_sender}
-use Rattle.bus_world.specs.Log.{read, AreCounted, Logged, Knows}
+use Rattle.bus_world.specs.Log.{read, AreCounted, Logged}
 use Rattle.bus_world.proofs.LogLaws.{length-read, log_words-append}
 use Rattle.bus_world.proofs.ReceivingLaws.{goes_on, Receives-known, Receives-word, Receives-append}
 use Rattle.bus_world.specs.Receiving.{Receives}
@@ -28,11 +25,9 @@ use Rattle.bus_batch.specs.Reading.{HasRead}
 use Rattle.bus_deliverylog.specs.declared.receiving.RecvTurn.{RecvTurn}
 use Rattle.bus_deliverylog.specs.Receiving.{Receiving, HasReceived}
 use Rattle.bus_ownerbits.specs.OneOwner.{OneOwner}
-use Rattle.bus_world.specs.Tenures.{Standing}
-use Rattle.bus_world.specs.Tenures.Standing.{Rests}
-use Rattle.bus_world.proofs.TenuresLaws as tenures
-use Rattle.bus_world.specs.Bus.{IsLayout, Part, Fits, Sending, least_of, stands_at, standing_of}
-use Rattle.bus_world.proofs.BusLaws as bus
+use Rattle.bus_world.proofs.Beginning as beginning
+use Rattle.bus_world.proofs.Beginning.{zeros}
+use Rattle.bus_world.specs.Bus.{IsLayout, Part, Fits, Sending}
 use Rattle.bus_world.specs.Turning.{Side, side_after}
 use Rattle.bus_world.proofs.TurningLaws.{IsSide, side_of}
 use Rattle.bus_world.proofs.TurningLaws as turning
@@ -40,7 +35,7 @@ use Rattle.bus_world.proofs.PutLaws as puts
 use Rattle.bus_world.proofs.Accepting as accepting
 use Rattle.bus_world.proofs.Accepting.{Accepted, Puts, Closes, accept, AreAccepted, open_is, not_busy, empty_is, idle_rests}
 use Rattle.bus_tenure.specs.declared.phases.Reason.{Reason}
-use Rattle.bus_register.specs.Proved.TableLaws.{get_set_same, get_set_other, some_of}
+use Rattle.bus_register.specs.Proved.TableLaws.{get_set_same, get_set_other}
 use Rattle.bus_world.specs.World.{Event, Put, Close, Turn, Recv, IsEvent, Happens, SenderDoes, ReceiverDoes, recv_found, Bus, is_open, can_put, can_close, put_in, close_in, with_sender, LawfulBus, IsReceiver, RecvStep, IsNew, new_page}
 use Rattle.bus_world.proofs.Waiting.{with_frame, frames_after, frames_by, event_frames, accepted_by, accepted, waiting_at, put_by, waiting_of}
 
@@ -156,9 +151,6 @@ lawful_of side receiving = record { words = side.words; keeps = record { sending
 pub record Continues (frames frames' : List Frame) : Type 0 where
   pub more : List Frame
   pub together : frames ++ more ≡ frames'
-
-zeros : (n r : ℕ) → slice_index (replicate n 0) r ≡ 0
-zeros n r = elim (cases_lt r n) [ inl l ↦ get_or-replicate n r 0 0 l | inr g ↦ get_or_past (replicate n 0) r 0 (omega (arith, length-replicate {A = ℕ} n 0)) ]
 
 module _ {E : Type 0} (X : Election E) (P : Protocol E (Unit {0}) ℕ) (laws : Laws X.op X.fed P OneOwner) (x : Layout) (ok : IsLayout x) (width : x.width ≡ P.width x.senders)
     (starts : (n me at : ℕ) → X.started n me x.rounds at ≡ P.started n me tt at) (owner_is : (e : E) → X.owner e ≡ P.output e) where
@@ -324,46 +316,10 @@ module _ {E : Type 0} (X : Election E) (P : Protocol E (Unit {0}) ℕ) (laws : L
     zero_at : (r : ℕ) → slice_index b.side.words r ≡ 0
     zero_at r = ap (λ z. slice_index z r) new.words ∙ zeros (words_of x) r
 
-    new_standing : (p : ℕ) (s : Standing E) → of_some standing_of (slice_get b.side.senders p) ≡ Some s → s ≡ Rests
-    new_standing p s e =
-        let o = some_of standing_of (slice_get b.side.senders p) s e in
-        sym (same_Some _ _ o.2) ∙ ap (λ (z : Core E). stands_at z.phase) (new.senders p o.0 o.1).1
-
-    new_least : (p : ℕ) (o : Option (Core E)) → slice_get b.side.senders p ≡ o → least_of o ≡ 0
-    new_least p None e = refl
-    new_least p (Some c) e = ap (λ (z : Core E). z.least) (new.senders p c e).1
-
-    new_part : (p : ℕ) (c : Core E) → slice_get b.side.senders p ≡ Some c → Part x (slice_index b.side.words) [] p c
-    new_part p c e =
-        let n = new.senders p c e in
-        let small : p < 256 = let a = n.0 in let d = ok.senders in omega arith in
-        subst (Part x (slice_index b.side.words) [] p) (sym n.1) record {
-          layout = refl;
-          me = refl;
-          below = n.0;
-          sender = refl;
-          queue = record { few = omega arith; each = All-from_recursion IsMessage [] tt; numbers = omega arith; alone = λ z. refl; owner_bits = omega arith };
-          fits = (refl, refl);
-        }
-
-    new_knows : Knows new_page [] 0 0
-    new_knows = record { entries = refl; next = λ s l. zeros 8 s; ended = refl; tenures = refl; words = refl }
-
     new_sending : Sending P x (slice_index b.side.words) b.side.home (slice_get b.side.senders) b.side.owners []
-    new_sending = record {
-      tenures = tenures.same X.op X.fed P laws x.senders x.rows 2 (slice_index b.side.words) 0 true (λ q. of_some standing_of (slice_get b.side.senders q)) (λ _. 0) []
-          (tenures.fresh X.op X.fed P laws x.senders x.rows 2 (slice_index b.side.words) (λ q. of_some standing_of (slice_get b.side.senders q)) (λ r a d. zero_at r) new_standing)
-          (slice_index b.side.words) (slice_index b.side.words 1) (is_some b.side.home) (λ q. of_some standing_of (slice_get b.side.senders q)) (λ q. least_of (slice_get b.side.senders q)) b.side.owners
-          (λ r a d. refl) (zero_at 1) (ap is_some new.home) (λ q. refl) (λ q. new_least q (slice_get b.side.senders q) refl) new.owners;
-      log = subst (λ z. Logged x.senders x.capacity (log_at x) (slice_index b.side.words) z []) (sym (zero_at 0)) record { lawful = tt; words_are = refl; fits = omega arith; counted = λ s. tt };
-      owned = tt;
-      page_knows = λ page t e d.
-          let page_is : new_page ≡ page = same_Some _ _ (sym new.home ∙ e) in
-          let t_is : 0 ≡ t = let z = zero_at 1 in omega arith in
-          (subst (λ z. Knows z [] t (slice_index b.side.words 0)) page_is (subst (λ z. Knows new_page [] z (slice_index b.side.words 0)) t_is (subst (λ z. Knows new_page [] 0 z) (sym (zero_at 0)) new_knows)), tt);
-      parts = new_part;
-      chosen = λ p c t e o f g out. absurd (bus.resting_apart t e (sym (ap (λ (z : Core E). z.phase) (new.senders p c f).1) ∙ g));
-    }
+    new_sending = subst (λ z. Sending P x (slice_index b.side.words) z (slice_get b.side.senders) b.side.owners []) (sym new.home)
+        (subst (λ z. Sending P x (slice_index b.side.words) (Some new_page) (slice_get b.side.senders) z []) (sym new.owners)
+        (beginning.new_sending X P laws x ok (slice_index b.side.words) zero_at (slice_get b.side.senders) new.senders))
 
     pub new_is_lawful : LawfulBus P x b []
     new_is_lawful = lawful_of (record { words = ap length new.words ∙ length-replicate (words_of x) 0; sending = new_sending }) (λ r v e.
