@@ -344,7 +344,7 @@ module _ (x : Sizes) (two : 2 ≤ x.rows) (h : Hall) (T : Trails) (k : Keeps x h
 pub put_same : (r : ℕ) (words : ℕ → ℕ) → put r (words r) words ≡ words
 put_same r words = fun_ext (λ q. elim (cases_eq q r) [ inl e ↦ ap (put r (words r) words) e ∙ put_here r (words r) words ∙ sym (ap words e) | inr ne ↦ put_beside r (words r) words q ne ])
 
-lt_tells : (a b : ℕ) → ((nat_lt a b ≡ true) × (a < b)) ⊎ ((nat_lt a b ≡ false) × (b ≤ a))
+pub lt_tells : (a b : ℕ) → ((nat_lt a b ≡ true) × (a < b)) ⊎ ((nat_lt a b ≡ false) × (b ≤ a))
 lt_tells a b = elim (leb_tells (suc a) b) [ inl h ↦ inl (h.0, h.1) | inr h ↦ inr (h.0, let z = h.1 in omega arith) ]
 
 false_is_not : false ≡ true → ⊥

@@ -18,7 +18,7 @@ use Rattle.bus_presence.specs.Rows.{Locals, no_locals, with_local, Played, New, 
 use Rattle.bus_presence.proofs.HallLaws.{HasStood, IsSweep, Keeps, keeps_new, moves_keep, keeps_worked, stander, one_of_row, rows_apart, visitor, no_stage, no_row, put_same, none_is_not, sweep_does, Asks, keeps, safe}
 
 -- a step of a visit is on the sender's presence, or it loads
-visit_place : (x : Sizes) (v : Visit) (p : ℕ) (o : Op) → step_at v (presence_at x p) (stage_at x) ≡ Some o → (register o ≡ presence_at x p) ⊎ ((r : ℕ) × (o ≡ Load record { 0 = r }))
+pub visit_place : (x : Sizes) (v : Visit) (p : ℕ) (o : Op) → step_at v (presence_at x p) (stage_at x) ≡ Some o → (register o ≡ presence_at x p) ⊎ ((r : ℕ) × (o ≡ Load record { 0 = r }))
 visit_place x Away p o e = absurd (none_is_not o e)
 visit_place x (Entering t) p o e = inl (ap register (sym (same_Some _ _ e)))
 visit_place x (Looking t) p o e = inr (stage_at x, sym (same_Some _ _ e))
@@ -26,14 +26,39 @@ visit_place x (Inside t) p o e = absurd (none_is_not o e)
 visit_place x (Parting t) p o e = inl (ap register (sym (same_Some _ _ e)))
 visit_place x (Barred t) p o e = inl (ap register (sym (same_Some _ _ e)))
 
-load_same : (h : Hall) (o : Op) → (r : ℕ) × (o ≡ Load record { 0 = r }) → words_after h o ≡ h.words
+pub load_same : (h : Hall) (o : Op) → (r : ℕ) × (o ≡ Load record { 0 = r }) → words_after h o ≡ h.words
 load_same h o load = ap (words_after h) load.1 ∙ put_same load.0 h.words
 
 -- the row of a tenure is the tenure's still: the tenure was opened, its row has not gone on, and no sweep of it has begun to clear
-record IsLive (x : Sizes) (h : Hall) (t : ℕ) : Type 0 where
-  opened : t ≤ tenure_of x h
-  stays : tenure_of x h < t + x.rows
-  unswept : (s : Sweeping) → h.sweep ≡ Some s → x.senders ≤ s.asked → tenure_of x h + 1 < t + x.rows
+pub record IsLive (x : Sizes) (h : Hall) (t : ℕ) : Type 0 where
+  pub opened : t ≤ tenure_of x h
+  pub stays : tenure_of x h < t + x.rows
+  pub unswept : (s : Sweeping) → h.sweep ≡ Some s → x.senders ≤ s.asked → tenure_of x h + 1 < t + x.rows
+
+-- two tenures whose rows are theirs have different rows
+pub live_apart : (x : Sizes) (h : Hall) (t u j k : ℕ) → t ≢ u → t ≤ tenure_of x h → tenure_of x h < t + x.rows → u ≤ tenure_of x h → tenure_of x h < u + x.rows → j < x.width → k < x.width → row_of x t + j ≢ row_of x u + k
+live_apart x h t u j k ne a b c d low high = rows_apart x t u j k (λ same. ne (elim (cases_lt t u) [
+  | inl less ↦ one_of_row x.rows t u (omega arith) (omega arith) same
+  | inr more ↦ sym (one_of_row x.rows u t more (omega arith) (sym same))
+])) low high
+
+-- the stage and the sweep are as they were, so the same rows live
+pub alive_same : (x : Sizes) (h h' : Hall) (t : ℕ) → h'.words (stage_at x) ≡ h.words (stage_at x) → h'.sweep ≡ h.sweep → IsLive x h' t → IsLive x h t
+alive_same x h h' t e f live = let same : tenure_of x h' ≡ tenure_of x h = ap (λ z. z / 2) e in let a = live.opened in let b = live.stays in record {
+  opened = omega arith;
+  stays = omega arith;
+  unswept = λ s is all. let z = live.unswept s (f ∙ is) all in omega arith;
+}
+
+-- who stands in a tenure finds its row its own
+pub alive_inside : (x : Sizes) → 2 ≤ x.rows → (h : Hall) (T : Trails) → Keeps x h T → (p t : ℕ) → h.visits p ≡ Inside t → IsLive x h t
+alive_inside x two h T k p t at =
+    let stood : HasStood (h.visits p) t = subst (λ z. HasStood z t) (sym at) refl in
+    let below = stander x two h T k p t stood in let b = k.stood p t stood in record {
+      opened = b.0;
+      stays = b.1;
+      unswept = λ s is all. let w = k.sweeps s is in let held = w.held in let l = w.passed p t (omega arith) stood in omega arith;
+    }
 
 module _ {S I O : Type 0} (op : S → ℕ → Option Op) (fed : S → ℕ → ℕ → S) (P : Protocol S I O) (Outcome : (ℕ → Option I) → (ℕ → Option O) → Type 0) (laws : Laws op fed P Outcome) (x : Sizes) (two : 2 ≤ x.rows) (few : x.senders ≤ MOST_PROCESSES) (wide : x.width ≡ P.width x.senders) where
   -- words over which the law of a tenure's object holds: while its row is its own, those that stand there
@@ -46,13 +71,6 @@ module _ {S I O : Type 0} (op : S → ℕ → Option Op) (fed : S → ℕ → �
     hall : Keeps x h T
     kept : (t : ℕ) → IsKept h L t
     unopened : (t p : ℕ) → tenure_of x h < t → L t p ≡ None
-
-  -- two tenures whose rows are theirs have different rows
-  live_apart : (h : Hall) (t u j k : ℕ) → t ≢ u → t ≤ tenure_of x h → tenure_of x h < t + x.rows → u ≤ tenure_of x h → tenure_of x h < u + x.rows → j < x.width → k < x.width → row_of x t + j ≢ row_of x u + k
-  live_apart h t u j k ne a b c d low high = rows_apart x t u j k (λ same. ne (elim (cases_lt t u) [
-    | inl less ↦ one_of_row x.rows t u (omega arith) (omega arith) same
-    | inr more ↦ sym (one_of_row x.rows u t more (omega arith) (sym same))
-  ])) low high
 
   -- the same objects in a hall where what lives was alive before, with the same words
   kept_on : (h h' : Hall) (L : Locals S) (t : ℕ) → (IsLive x h' t → IsLive x h t) → (IsLive x h' t → (place : ℕ) → place < x.width → h'.words (row_of x t + place) ≡ h.words (row_of x t + place)) → IsKept h L t → IsKept h' L t
@@ -85,14 +103,6 @@ module _ {S I O : Type 0} (op : S → ℕ → Option Op) (fed : S → ℕ → �
   abbrev SameRow : Hall → Hall → ℕ → Type 0
   SameRow h h' t = IsLive x h' t → (place : ℕ) → place < x.width → h'.words (row_of x t + place) ≡ h.words (row_of x t + place)
 
-  -- the stage and the sweep are as they were, so the same rows live
-  alive_same : (h h' : Hall) (t : ℕ) → h'.words (stage_at x) ≡ h.words (stage_at x) → h'.sweep ≡ h.sweep → IsLive x h' t → IsLive x h t
-  alive_same h h' t e f live = let same : tenure_of x h' ≡ tenure_of x h = ap (λ z. z / 2) e in let a = live.opened in let b = live.stays in record {
-    opened = omega arith;
-    stays = omega arith;
-    unswept = λ s is all. let z = live.unswept s (f ∙ is) all in omega arith;
-  }
-
   module _ (h : Hall) (T : Trails) (L : Locals S) (k : KeepsAll h T L) where
     -- all objects stay, where all that lives was alive before, with the same words
     all_on : (h' : Hall) (T' : Trails) → Keeps x h' T' → ((t : ℕ) → IsAlive h h' t) → ((t : ℕ) → SameRow h h' t) → tenure_of x h ≤ tenure_of x h' → KeepsAll h' T' L
@@ -100,7 +110,7 @@ module _ {S I O : Type 0} (op : S → ℕ → Option Op) (fed : S → ℕ → �
 
     -- words beside the rows have changed at most, and not the stage
     all_beside : (h' : Hall) (T' : Trails) → Keeps x h' T' → h'.words (stage_at x) ≡ h.words (stage_at x) → h'.sweep ≡ h.sweep → ((t place : ℕ) → place < x.width → h'.words (row_of x t + place) ≡ h.words (row_of x t + place)) → KeepsAll h' T' L
-    all_beside h' T' hall stage sweep rows = all_on h' T' hall (λ t. alive_same h h' t stage sweep) (λ t live place low. rows t place low) (let e = ap (λ z. z / 2) stage in omega arith)
+    all_beside h' T' hall stage sweep rows = all_on h' T' hall (λ t. alive_same x h h' t stage sweep) (λ t live place low. rows t place low) (let e = ap (λ z. z / 2) stage in omega arith)
 
     visits_on : (p : ℕ) (v : Visit) (o : Op) (T' : Trails) → p < x.senders → h.visits p ≡ v → step_at v (presence_at x p) (stage_at x) ≡ Some o → Keeps x (record h { words = words_after h o; visits = put p (visit_fed v (found h o)) h.visits }) T'
         → KeepsAll (record h { words = words_after h o; visits = put p (visit_fed v (found h o)) h.visits }) T' L
@@ -208,11 +218,7 @@ module _ {S I O : Type 0} (op : S → ℕ → Option Op) (fed : S → ℕ → �
     below = stander x two h T k.hall p t stood
 
     alive : IsLive x h t
-    alive = let b = k.hall.stood p t stood in record {
-      opened = b.0;
-      stays = b.1;
-      unswept = λ s is all. let w = k.hall.sweeps s is in let held = w.held in let few_here = below in let l = w.passed p t (omega arith) stood in omega arith;
-    }
+    alive = alive_inside x two h T k.hall p t at
 
     here : (s : S) → with_local L t p s t ≡ put p (Some s) (L t)
     here s = put_here t (put p (Some s) (L t)) L
@@ -264,7 +270,7 @@ module _ {S I O : Type 0} (op : S → ℕ → Option Op) (fed : S → ℕ → �
 
       same_row : (u : ℕ) → u ≢ t → IsLive x h u → (j : ℕ) → j < x.width → stepped.words (row_of x u + j) ≡ h.words (row_of x u + j)
       same_row u ne live j low = let a = alive.opened in let b = alive.stays in let c = live.opened in let d = live.stays in let high = within.1 in
-          beside_word (row_of x u + j) (λ e. live_apart h u t j (register o - row_of x t) ne c d a b low (omega (arith, place)) (e ∙ sym place))
+          beside_word (row_of x u + j) (λ e. live_apart x h u t j (register o - row_of x t) ne c d a b low (omega (arith, place)) (e ∙ sym place))
 
       steps_on : KeepsAll stepped T (with_local L t p next)
       steps_on = record {
@@ -276,7 +282,7 @@ module _ {S I O : Type 0} (op : S → ℕ → Option Op) (fed : S → ℕ → �
                 record { here = put_here (register o) (after o (found h o)) h.words; elsewhere = λ r a b ne. beside_word r ne });
             stand = λ live j low. refl;
           })
-          | inr ne ↦ let alive_before = alive_same h stepped u same_stage refl in subst (λ z. IsKept stepped z u) refl (let old = kept_on h stepped L u alive_before (λ live j low. same_row u ne (alive_before live) j low) (k.kept u) in
+          | inr ne ↦ let alive_before = alive_same x h stepped u same_stage refl in subst (λ z. IsKept stepped z u) refl (let old = kept_on h stepped L u alive_before (λ live j low. same_row u ne (alive_before live) j low) (k.kept u) in
               record { words = old.words; law = subst (P.Keeps x.senders (row_of x u) old.words) (sym (there next u ne)) old.law; stand = old.stand })
         ];
         unopened = λ u q late. late_none next u q (subst (λ z. z / 2 < u) same_stage late);

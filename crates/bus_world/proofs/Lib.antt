@@ -27,3 +27,6 @@ pub mod SizedBuses
 pub mod Refused
 pub mod FrameOwners
 pub mod Beginning
+pub mod YardWords
+pub mod YardNotes
+pub mod YardLaws

@@ -12,3 +12,5 @@ pub mod Trails
 pub mod Telling
 pub mod Refusals
 pub mod Waiting
+pub mod Guests
+pub mod Yards

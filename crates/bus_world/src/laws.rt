@@ -1,12 +1,15 @@
 //! What holds of the bus, whatever happens to it.
 
-ghost use Rattle.std.specs.Prelude.{◌≡◌, ℕ, List};
+ghost use Rattle.std.specs.Prelude.{◌≡◌, ◌≤◌, ℕ, List};
 ghost use Rattle.bus_tenure.specs.Elections.{Elector, election_of, layout_with};
 ghost use Rattle.bus_world.specs.Bus.{IsLayout};
 ghost use Rattle.bus_world.specs.Playing.{AllAnswered};
 ghost use Rattle.bus_world.specs.Trails.{Trails, Reached, IsPromised, Played};
 ghost use Rattle.bus_world.specs.Refusals.{PromiseRefuses};
 ghost use Rattle.bus_world.specs.World.{Bus, Event};
+ghost use Rattle.bus_world.specs.Yards.{Yard, Led, IsKeptYard};
+ghost use Rattle.bus_world.specs.Headline.{Deed};
+ghost use Rattle.bus_presence.specs.Hall.{Trails as Visiting};
 
 use bus_adoptcommit::Ratifier;
 use bus_ownerbits::laws::election_is_lawful;
@@ -41,3 +44,19 @@ pub fn promises_only_grow<Q: Ratifier>()
 pub fn promise_refuses()
     ensures { PromiseRefuses }
 {}
+
+/// Senders whose rows of words are used again, over two rows or more: whatever they do, one after
+/// another and with any random words, the promise holds of all tenures, also of those whose rows
+/// have gone on to later ones. Nobody stores in a row but in the tenure that it stands in, and no
+/// row is cleared while somebody stands in a tenure of it.
+pub fn rows_used_again_keep_promises<Q: Ratifier>()
+    ensures { (senders rounds tenures capacity rows : ℕ)
+        → IsLayout (layout_with Q.protocol senders rounds tenures capacity) → 2 ≤ rows
+        → (yard : Yard (Elector Q)) (visits : Visiting) (deeds : ℕ → List Deed)
+        → Led (election_of Q.Ratifier)
+        (layout_with Q.protocol senders rounds tenures capacity) rows yard visits deeds
+        → IsKeptYard (layout_with Q.protocol senders rounds tenures capacity) rows
+        yard visits deeds }
+{
+    election_is_lawful::<Q>();
+}

@@ -1,0 +1,140 @@
+-- Senders of a bus whose rows are used again, in any order: the hall of their visits and of the sweep, whose words are those of the bus,
+-- with the page, the senders and who took the pages. Tenure t uses row t mod rows.
+use Rattle.std.specs.Prelude.{◌≡◌, ℕ, ◌<◌, Option, Some, None, List, [], ◌∷◌, ◌++◌, All, length, ◌==◌, if◌then◌else◌}
+use Rattle.bus_register.specs.declared.registers.Op.{Op}
+use Rattle.bus_register.specs.declared.registers.SenderNo.{SenderNo}
+use Rattle.bus_register.specs.Words.{register, after}
+use Rattle.bus_register.specs.Tables.{put}
+use Rattle.bus_batch.specs.Batches.{next_of}
+use Rattle.bus_batch.specs.Frames.{Order, Spells}
+use Rattle.bus_deliverylog.specs.declared.receiving.RecvTurn.{RecvTurn}
+use Rattle.bus_presence.specs.Visits.{visit_fed}
+use Rattle.bus_presence.specs.Standing.{IsSafe, Stands}
+use Rattle.bus_presence.specs.Sweeps.{Sweeping, sweep_fed}
+use Rattle.bus_presence.specs.Hall.{Hall, Trails, no_trails, new_hall, grown, found, words_after as hall_words}
+use Rattle.bus_presence.specs.declared.visits.Visit.TheVariants.{Away}
+use Rattle.bus_tenure.specs.Core.{Core, Election, Layout}
+use Rattle.bus_tenure.specs.Situations.{Situation, line_of, op_at, kind_at, tenure_at, chosen_at}
+use Rattle.bus_tenure.specs.declared.pages.Page.{Page}
+use Rattle.bus_tenure.specs.declared.phases.Phase.TheVariants.{Electing}
+use Rattle.bus_tenure.specs.declared.turns.Turn.{Turn as Answered}
+use Rattle.bus_world.specs.Guests.{sizes_with, log_from, Due, Visits, Sweeps, Goes, due_of, place_for, core_looked, core_going, visit_going, sweep_going}
+use Rattle.bus_world.specs.Turning.{core_moved, after_step, home_after, owners_after}
+use Rattle.bus_world.specs.Headline.{Deed, HasPut, HasClosed, Promises}
+use Rattle.bus_world.specs.Log.{read}
+use Rattle.bus_world.specs.Trails.{step_deed}
+use Rattle.bus_world.specs.World.{new_page, new_core, can_put, can_close, put_in, close_in}
+
+pub record Yard (E : Type 0) : Type 0 where
+  pub hall : Hall
+  pub home : Option Page
+  pub senders : ℕ → Option (Core E)
+  -- who took the page, by tenure
+  pub owners : List ℕ
+
+-- ---- a step on the word that lies at another place
+abbrev pub words_stepped : (ℕ → ℕ) → (ℕ → ℕ) → Option Op → ℕ → ℕ
+words_stepped place words None = words
+words_stepped place words (Some o) = put (place (register o)) (after o (words (place (register o)))) words
+
+abbrev pub word_found : (ℕ → ℕ) → (ℕ → ℕ) → Option Op → ℕ
+word_found place words None = 0
+word_found place words (Some o) = words (place (register o))
+
+-- ---- a turn of sender p, which held this, with this random word
+abbrev pub visited : {E : Type 0} → Election E → Yard E → ℕ → Core E → Op → Yard E
+visited X y p c o = record {
+  hall = record y.hall { words = hall_words y.hall o; visits = put p (visit_fed (y.hall.visits p) (found y.hall o)) y.hall.visits };
+  home = y.home;
+  senders = put p (Some (core_looked X c (y.hall.visits p) (found y.hall o))) y.senders;
+  owners = y.owners;
+}
+
+abbrev pub swept : {E : Type 0} → Yard E → Sweeping → Op → Yard E
+swept y s o = record y { hall = record y.hall { words = hall_words y.hall o; sweep = Some (sweep_fed s (found y.hall o)) } }
+
+-- as a sender that has a row for each tenure, in this situation
+abbrev pub gone : {E : Type 0} → Election E → Layout → ℕ → Yard E → ℕ → Core E → Situation E → ℕ → Yard E
+gone X x rows y p c z word = record {
+  hall = record {
+    words = words_stepped (place_for x rows z) y.hall.words (op_at X c z word);
+    visits = put p (visit_going X c (y.hall.visits p) z (word_found (place_for x rows z) y.hall.words (op_at X c z word)) word) y.hall.visits;
+    sweep = sweep_going x rows y.hall.sweep z;
+  };
+  home = home_after X c z y.home;
+  senders = put p (Some (core_moved (after_step (line_of X c z).move) y.home (core_going X c z (word_found (place_for x rows z) y.hall.words (op_at X c z word)) word))) y.senders;
+  owners = owners_after X c z p y.owners;
+}
+
+abbrev pub yard_after : {E : Type 0} → Election E → Layout → ℕ → Yard E → ℕ → Core E → Due E → ℕ → Yard E
+yard_after X x rows y p c (Visits o) word = visited X y p c o
+yard_after X x rows y p c (Sweeps s o) word = swept y s o
+yard_after X x rows y p c (Goes z) word = gone X x rows y p c z word
+
+-- the step of a visit joins the trail of its sender
+abbrev pub trails_with : {E : Type 0} → Yard E → ℕ → Due E → Trails → Trails
+trails_with y p (Visits o) T = grown T p record { op = o; got = found y.hall o }
+trails_with y p (Sweeps s o) T = T
+trails_with y p (Goes z) T = T
+
+-- ---- what a sender does
+-- Its deeds, but for the steps of visits and sweeps, of which a visit's stand in the trail of the hall. What a turn answers is any
+-- answer.
+abbrev pub going_deeds : {E : Type 0} → Election E → Layout → ℕ → Yard E → Core E → Situation E → ℕ → Answered → List Deed
+going_deeds X x rows y c z word answer =
+    let got = word_found (place_for x rows z) y.hall.words (op_at X c z word) in step_deed (kind_at X c z) (tenure_at X c z) got (chosen_at X c z got word) answer
+
+abbrev pub due_deeds : {E : Type 0} → Election E → Layout → ℕ → Yard E → Core E → Due E → ℕ → Answered → List Deed
+due_deeds X x rows y c (Visits o) word answer = []
+due_deeds X x rows y c (Sweeps s o) word answer = []
+due_deeds X x rows y c (Goes z) word answer = going_deeds X x rows y c z word answer
+
+abbrev pub deeds_with : ℕ → List Deed → (ℕ → List Deed) → ℕ → List Deed
+deeds_with p ds D q = D q ++ (if q == p then ds else [])
+
+abbrev pub no_deeds : ℕ → List Deed
+no_deeds q = []
+
+-- there is no receiver
+abbrev pub nobody_hears : ℕ → List RecvTurn
+nobody_hears r = []
+
+-- ---- what leads to a yard
+-- nothing has happened: words of zero, the page at home, senders at their starts
+pub record IsNewYard {E : Type 0} (x : Layout) (y : Yard E) : Type 0 where
+  pub hall : y.hall ≡ new_hall
+  pub home : y.home ≡ Some new_page
+  pub senders : (p : ℕ) (c : Core E) → y.senders p ≡ Some c → (p < x.senders) × (c ≡ new_core x p)
+  pub owners : y.owners ≡ []
+
+-- the turn that sender p takes next, which holds this
+abbrev pub due_in : {E : Type 0} → Election E → Layout → ℕ → Yard E → ℕ → Core E → Due E
+due_in X x rows y p c = due_of X x rows p c (y.hall.visits p) y.hall.sweep
+
+-- These trails and deeds lead to a yard: from a new one, by one thing after another, of any sender and in any order. A sender takes a
+-- turn with any random word; or one that visits no tenure puts a message, or closes.
+pub data Led {E : Type 0} (X : Election E) (x : Layout) (rows : ℕ) : Yard E → Trails → (ℕ → List Deed) → Type 0 where
+  NewYard : (y : Yard E) → IsNewYard x y → Led X x rows y no_trails no_deeds
+  Turned : (y : Yard E) (T : Trails) (D : ℕ → List Deed) (p : ℕ) (c : Core E) (word : ℕ) (answer : Answered) → Led X x rows y T D → y.senders p ≡ Some c
+      → Led X x rows (yard_after X x rows y p c (due_in X x rows y p c) word) (trails_with y p (due_in X x rows y p c) T) (deeds_with p (due_deeds X x rows y c (due_in X x rows y p c) word answer) D)
+  PutIn : (y : Yard E) (T : Trails) (D : ℕ → List Deed) (p : ℕ) (c : Core E) (bytes : List ℕ) → Led X x rows y T D → y.senders p ≡ Some c → y.hall.visits p ≡ Away → All (λ byte. byte < 256) bytes
+      → Led X x rows (record y { senders = put p (Some (put_in c bytes)) y.senders }) T (deeds_with p (if can_put c.queue (length bytes) then HasPut (next_of c.queue) bytes ∷ [] else []) D)
+  ClosedIn : (y : Yard E) (T : Trails) (D : ℕ → List Deed) (p : ℕ) (c : Core E) → Led X x rows y T D → y.senders p ≡ Some c → y.hall.visits p ≡ Away
+      → Led X x rows (record y { senders = put p (Some (close_in c)) y.senders }) T (deeds_with p (if can_close c.queue then HasClosed ∷ [] else []) D)
+
+-- ---- what is promised of it
+-- of its trails and deeds, with one order and one list of tenures and owners
+pub record KeepsPromises {E : Type 0} (x : Layout) (rows : ℕ) (y : Yard E) (T : Trails) (D : ℕ → List Deed) (order : Order) (owners : List (ℕ × SenderNo)) : Type 0 where
+  -- nobody stores in a row but in the tenure that it stands in, and no row is cleared while somebody stands in a tenure of it
+  pub safe : IsSafe (sizes_with x rows) y.hall T
+  -- whose election runs stands in its tenure: it stored its presence, then loaded the stage of that tenure, and has not cleared it since
+  pub stands : (p : ℕ) (c : Core E) (t : ℕ) (e : E) → y.senders p ≡ Some c → c.phase ≡ Electing t e → Stands (sizes_with x rows) p (T p) t
+  -- the words below the length spell the order and the owners
+  pub spelled : Spells x.senders (read y.hall.words (log_from x rows) (y.hall.words 0)) order owners
+  -- the headline's promise, also of tenures whose rows have gone on to others; of receivers nothing is said here
+  pub promises : Promises D nobody_hears order owners
+
+pub record IsKeptYard {E : Type 0} (x : Layout) (rows : ℕ) (y : Yard E) (T : Trails) (D : ℕ → List Deed) : Type 0 where
+  pub order : Order
+  pub owners : List (ℕ × SenderNo)
+  pub by : KeepsPromises x rows y T D order owners
