@@ -1,5 +1,6 @@
 //! The command line of `bus`.
 
+use crate::help;
 use crate::printing::Request;
 use bus_register::limits::{MOST_RECEIVERS, MOST_SENDERS};
 use bus_run::limits::MOST_MESSAGES_EACH;
@@ -20,21 +21,33 @@ pub enum Task {
     Log { senders: u64 },
 }
 
-/// The task that the words name, of which the first is the program's name.
-pub fn parse<'a>(alloc: Global, words: &'a [String]) -> Result<Task, Error> {
-    let ratify = Command::new(alloc, "ratify").about(
-        "Plays one adopt-commit object by a script on standard input",
-    );
-    let replay = Command::new(alloc, "replay").about("Moves a bus by a script on standard input");
+/// The command line with all its commands.
+fn bus_command<'a>(alloc: Global) -> Result<Command<'a>, Error> {
+    let ratify = Command::new(alloc, "ratify")
+        .about("Plays one adopt-commit object by a script on standard input")
+        .after_help(help::RATIFY);
+    let replay = Command::new(alloc, "replay")
+        .about("Moves a bus by a script on standard input")
+        .after_help(help::REPLAY);
     let bus = Command::new(alloc, "bus")
+        .bin_name("bus")?
+        .version(help::VERSION)
+        .before_help(help::NAME_AND_VERSION)
         .about("A broadcast bus whose lock is passed on by consensus")
+        .after_help(help::BUS)
         .subcommand_required(true)
+        .arg_required_else_help(true)
         .disable_help_subcommand(true)
         .subcommand(ratify)?
         .subcommand(replay)?
         .subcommand(run_command(alloc)?)?
         .subcommand(log_command(alloc)?)?;
-    let matches = bus.try_get_matches_from(words)?;
+    Ok(bus)
+}
+
+/// The task that the words name, of which the first is the program's name.
+pub fn parse<'a>(alloc: Global, words: &'a [String]) -> Result<Task, Error> {
+    let matches = bus_command(alloc)?.try_get_matches_from(words)?;
     match matches.subcommand() {
         Some(("replay", _)) => Ok(Task::Replay),
         Some(("run", given)) if given.get_flag("log") => Ok(Task::RunLog(request_of(given))),
@@ -51,17 +64,17 @@ fn run_command<'a>(alloc: Global) -> Result<Command<'a>, Error> {
     let senders = value_parser!(u64).range(1..MOST_SENDERS as i64 + 1);
     let receivers = value_parser!(u64).range(1..MOST_RECEIVERS as i64 + 1);
     let messages = value_parser!(u64).range(0..MOST_MESSAGES_EACH as i64 + 1);
+    let seed = number(alloc, "seed", "7", value_parser!(u64)).help(
+        "Seed of random words, 0 to 18446744073709551615",
+    );
     let command = Command::new(alloc, "run")
         .about("Runs a bus, with a thread for each sender and each receiver")
-        .arg(number(alloc, "senders", "3", senders))?
-        .arg(number(alloc, "receivers", "2", receivers))?
-        .arg(number(alloc, "messages", "100", messages))?
-        .arg(number(alloc, "seed", "7", value_parser!(u64)))?
-        .arg(
-            Arg::new(alloc, "log")
-                .long("log")
-                .action(ArgAction::SetTrue),
-        )?;
+        .after_help(help::RUN)
+        .arg(number(alloc, "senders", "3", senders).help("Threads that send, 1 to 8"))?
+        .arg(number(alloc, "receivers", "2", receivers).help("Threads that receive, 1 to 8"))?
+        .arg(number(alloc, "messages", "100", messages).help("Messages of each sender, 0 to 400"))?
+        .arg(seed)?
+        .arg(log_flag(alloc))?;
     Ok(command)
 }
 
@@ -70,8 +83,17 @@ fn log_command<'a>(alloc: Global) -> Result<Command<'a>, Error> {
     let senders = value_parser!(u64).range(1..MOST_SENDERS as i64 + 1);
     let command = Command::new(alloc, "log")
         .about("Tells what the words of a log on standard input spell")
-        .arg(number(alloc, "senders", "3", senders))?;
+        .after_help(help::LOG)
+        .arg(number(alloc, "senders", "3", senders).help("Senders of the bus, 1 to 8"))?;
     Ok(command)
+}
+
+/// The option of `run` that asks for its log.
+fn log_flag<'a>(alloc: Global) -> Arg<'a> {
+    Arg::new(alloc, "log")
+        .long("log")
+        .action(ArgAction::SetTrue)
+        .help("Print the words of the log, one a line, in place of the summary")
 }
 
 /// An option that has a number.

@@ -4,10 +4,11 @@
 //!
 //! Exit status: 0 where the script was played, the log was told or the bus was run; 1 where a
 //! script or a log was refused, or the program could not do its work, which standard error then
-//! says; 2 where the command line was refused or asked for help.
+//! says; 2 where the command line was refused, or asked for help or the version.
 #![tactic(auto)]
 
 mod command_line;
+mod help;
 mod log;
 mod printing;
 mod ratify;

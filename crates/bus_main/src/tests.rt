@@ -151,6 +151,34 @@ fn tasks(rt: HostRuntime) {
     names_task(&rt, &["log", "--senders", "2"], Task::Log { senders: 2 });
 }
 
+/// Wants that `run` with these options is this run.
+fn asks_for<R: Abort + AllocGlobal>(rt: &R, options: [&str; 4], run: [u64; 4]) {
+    let [first, second, third, fourth] = options;
+    let [senders, receivers, messages, seed] = run;
+    let request = Request {
+        senders,
+        receivers,
+        messages,
+        seed,
+    };
+    names_task(
+        rt,
+        &["run", first, second, third, fourth],
+        Task::Run(request),
+    );
+}
+
+#[test]
+fn ends_of_ranges(rt: HostRuntime) {
+    let least = ["--senders=1", "--receivers=1", "--messages=0", "--seed=0"];
+    asks_for(&rt, least, [1, 1, 0, 0]);
+    let seed = "--seed=18446744073709551615";
+    let most = ["--senders=8", "--receivers=8", "--messages=400", seed];
+    asks_for(&rt, most, [8, 8, 400, u64::MAX]);
+    names_task(&rt, &["log", "--senders=1"], Task::Log { senders: 1 });
+    names_task(&rt, &["log", "--senders=8"], Task::Log { senders: 8 });
+}
+
 /// Wants that the words behind the program's name are refused so.
 fn refuses_words<R: Abort + AllocGlobal>(rt: &R, rest: &[&str], kind: ErrorKind) {
     let words = words_of(rt, rest);
@@ -162,7 +190,11 @@ fn refuses_words<R: Abort + AllocGlobal>(rt: &R, rest: &[&str], kind: ErrorKind)
 
 #[test]
 fn command_lines(rt: HostRuntime) {
-    refuses_words(&rt, &[], ErrorKind::MissingSubcommand);
+    refuses_words(
+        &rt,
+        &[],
+        ErrorKind::DisplayHelpOnMissingArgumentOrSubcommand,
+    );
     refuses_words(&rt, &["x"], ErrorKind::InvalidSubcommand);
     refuses_words(&rt, &["help"], ErrorKind::InvalidSubcommand);
     refuses_words(&rt, &["ratify", "x"], ErrorKind::UnknownArgument);
@@ -182,4 +214,6 @@ fn command_lines(rt: HostRuntime) {
     }
     refuses_words(&rt, &["--help"], ErrorKind::DisplayHelp);
     refuses_words(&rt, &["ratify", "-h"], ErrorKind::DisplayHelp);
+    refuses_words(&rt, &["--version"], ErrorKind::DisplayVersion);
+    refuses_words(&rt, &["run", "--version"], ErrorKind::UnknownArgument);
 }

@@ -1,0 +1,58 @@
+//! What `--help` says behind the options: an example of each command, and where formats stand.
+//! `examples/names` sees that the manual page and the completions name the same commands, options
+//! and version.
+
+/// The version of the program.
+pub const VERSION: &str = "0.1.0";
+
+/// The program and its version, which open the help of `bus`.
+pub const NAME_AND_VERSION: &str = "bus 0.1.0";
+
+/// Behind the options of `bus`.
+pub const BUS: &str = "Examples:
+  bus ratify < examples/tour/1_adopt_commit.script
+  bus replay < examples/tour/3_late_sender.script
+  bus run --senders 3 --receivers 2 --messages 100 --seed 7
+  bus run --log | bus log --senders 3
+
+'bus COMMAND --help' says more of a command. Formats, refusals and exit statuses stand in
+docs/FORMATS.md, and examples/tour has seven commented scripts.";
+
+/// Behind the options of `ratify`.
+pub const RATIFY: &str =
+    "A script says the input of each process, 0 or 1, and then who takes a step.
+
+Example:
+  printf 'inputs 0 1\\nsteps 0 0 0 0 0 0 1 1 1 1 1 1\\n' | bus ratify
+
+The format stands in docs/FORMATS.md, under 'ratify'.";
+
+/// Behind the options of `replay`.
+pub const REPLAY: &str =
+    "The first line of a script is 'shape N M R T L': N senders and M receivers (1 to 8 of each),
+R rounds for each bit (1 to 8), T tenures (1 to 256) and L log words (16 to 65536).
+
+Examples:
+  printf 'shape 1 1 1 4 16\\nput 0 6869\\nturn 0 0 99\\nturn 0 0 99\\nrecv 0 99\\n' | bus replay
+  bus replay < examples/tour/3_late_sender.script
+
+All lines and answers stand in docs/FORMATS.md, under 'replay'.";
+
+/// Behind the options of `run`.
+pub const RUN: &str = "It reads nothing. The order of the messages may differ from run to run.
+
+Examples:
+  bus run --senders 3 --receivers 2 --messages 100 --seed 7
+  bus run --senders 1 --receivers 1 --messages 2 --log
+
+What is printed stands in docs/FORMATS.md, under 'run'.";
+
+/// Behind the options of `log`.
+pub const LOG: &str =
+    "A line is one word, in 16 hexadecimal digits; 'bus run --log' prints such lines.
+
+Examples:
+  bus run --senders 2 --log | bus log --senders 2
+  printf '4000010000000000\\nc000000000000000\\n' | bus log --senders 1
+
+The format stands in docs/FORMATS.md, under 'Words of a log'.";
