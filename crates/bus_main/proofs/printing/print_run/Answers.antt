@@ -1,4 +1,4 @@
-use Rattle.std.proofs.Common.{◌≡◌, ◌⊎◌, inl, inr, length, string_bytes, refl, subst}
+use Rattle.std.proofs.Common.{◌≡◌, ◌⊎◌, inr, length, string_bytes, refl, subst}
 use Rattle.std.specs.Io.KnownBytes.{Appends}
 use Rattle.bus_main.specs.Streams.{WritesPart}
 use Rattle.bus_main.proofs.PrintLemmas.{is_run_text, passed_on, no_stop_is_write, no_run_fault_is_write}
