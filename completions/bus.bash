@@ -1,0 +1,39 @@
+# Completions of `bus` for bash: source this file.
+
+_bus() {
+    local word="${COMP_WORDS[COMP_CWORD]}" before="${COMP_WORDS[COMP_CWORD - 1]}"
+    local command="" names="" i
+    for ((i = 1; i < COMP_CWORD; i++)); do
+        if [[ "${COMP_WORDS[i]}" != -* ]]; then
+            command="${COMP_WORDS[i]}"
+            break
+        fi
+    done
+    # Of --senders=3 the sign is a word of its own.
+    if [[ "$word" == = ]]; then
+        word=""
+    elif [[ "$before" == = ]]; then
+        before="${COMP_WORDS[COMP_CWORD - 2]}"
+    fi
+    COMPREPLY=()
+    case "$command $before" in
+    *" <" | *" >")
+        compopt -o default
+        return
+        ;;
+    *" --senders" | *" --receivers") names="1 2 3 4 5 6 7 8" ;;
+    *" --messages" | *" --seed") ;;
+    " "*) names="ratify replay run log" ;;
+    esac
+    if [[ "$word" == -* ]]; then
+        case "$command" in
+        "") names="-h --help -V --version" ;;
+        ratify | replay) names="-h --help" ;;
+        run) names="--senders --receivers --messages --seed --log -h --help" ;;
+        log) names="--senders -h --help" ;;
+        esac
+    fi
+    mapfile -t COMPREPLY < <(compgen -W "$names" -- "$word")
+}
+
+complete -F _bus bus
