@@ -13,7 +13,7 @@ struct row { u64 announced[8], fallback[3]; struct round round[3][8]; };
 struct page { u64 next[8], ended, words; } home;
 struct sender {
     char *messages[16]; u64 len[16], count, first, least, tenure, stored, words;
-    int closing, closed, busy, phase, at, bit, spelled, candidate, round, value, j, own_votes, published;
+    int closing, closed, stopped, busy, phase, at, bit, spelled, candidate, round, value, j, own_votes, published;
     struct page page; u64 frame[129];
 } S[8];
 struct receiver { u64 place, known, left, tenure, owner, number, bytes, got, count, fresh; int ended; unsigned char data[64]; } M[9]; // the ninth hears the whole log in the end
@@ -148,7 +148,7 @@ static int is_good(const char *line, const char *end, int shaped) { // the form 
     while (numbers + 1 < count && is_number(w[numbers + 1], 0, UINT64_MAX)) numbers++;
     if (!shaped) return is(w[0], "shape") && count == 6 && numbers == 5;
     if (is(w[0], "put")) return count == 3 && numbers >= 1 && is_hex(w[2]);
-    if (is(w[0], "close")) return count == 2 && numbers == 1;
+    if (is(w[0], "close") || is(w[0], "stop")) return count == 2 && numbers == 1;
     if (is(w[0], "turn")) return count == 4 && numbers == 3 && is_number(w[2], 0, 4294967295) && is_number(w[3], 1, 10000);
     return is(w[0], "recv") && count == 3 && numbers == 2 && is_number(w[2], 1, 10000);
 }
@@ -163,26 +163,30 @@ int main(int argc, char **argv) {
         end = memchr(line, '\n', text + size - line); if (!end) end = text + size; number++; *end = 0;
         if (line == end || *line == '#') continue;
         if (!is_good(line, end, shaped)) { if (refused(passes, number, "BadLine")) goto stop; continue; }
-        if (*line == 's') {
+        if (*line == 's' && line[1] == 'h') {
             sscanf(line, "shape %lu %lu %lu %lu %lu", &n, &m, &R, &T, &L); while (1u << B < n && n <= 8) B++;
             const char *why = n < 1 || n > 8 ? "Senders" : m < 1 || m > 8 ? "Receivers" : R < 1 || R > 8 ? "Rounds" : T < 1 || T > 256 ? "Rows" : L < 16 || L > 65536 ? "LogWords" : 0;
             if (why) { m = 0; if (refused(passes, number, why)) goto stop; continue; }
             shaped = 1; rows = calloc(T, sizeof *rows); word_of_log = calloc(L, 8);
         } else if (*line == 'p') {
             s = strtoul(line + 4, &line, 10); struct sender *p = &S[s % 8]; line++; k = *line == '-' ? 0 : strlen(line) / 2;
-            const char *why = p->closing || p->closed ? "Closed" : p->busy ? "Busy" : k > 56 ? "TooLong" : p->count == 16 ? "BatchFull" : 0;
+            const char *why = p->stopped ? "Stopped" : p->closing || p->closed ? "Closed" : p->busy ? "Busy" : k > 56 ? "TooLong" : p->count == 16 ? "BatchFull" : 0;
             if (s >= n) why = "NoSuchSender";
             if (why) { if (refused(passes, number, why)) goto stop; continue; }
             p->messages[p->count] = malloc(k + 1); p->len[p->count] = k; for (u64 i = 0; i < k; i++) { unsigned b; sscanf(line + 2 * i, "%2x", &b); p->messages[p->count][i] = b; }
             say("put %lu: number %lu\n", s, p->first + p->count, 0, 0); p->count++;
         } else if (*line == 'c') {
-            s = strtoul(line + 6, 0, 10); struct sender *p = &S[s % 8]; const char *why = s >= n ? "NoSuchSender" : p->closing || p->closed ? "Closed" : p->busy ? "Busy" : p->count ? "Pending" : 0;
+            s = strtoul(line + 6, 0, 10); struct sender *p = &S[s % 8]; const char *why = s >= n ? "NoSuchSender" : p->stopped ? "Stopped" : p->closing || p->closed ? "Closed" : p->busy ? "Busy" : p->count ? "Pending" : 0;
             if (why) { if (refused(passes, number, why)) goto stop; continue; }
             p->closing = 1; say("close %lu: closing\n", s, 0, 0, 0);
         } else if (*line == 't') {
             s = strtoul(line + 5, &line, 10); w = strtoul(line, &line, 10); k = strtoul(line, 0, 10);
-            if (s >= n) { if (refused(passes, number, "NoSuchSender")) goto stop; continue; }
+            if (s >= n || S[s].stopped) { if (refused(passes, number, s >= n ? "NoSuchSender" : "Stopped")) goto stop; continue; }
             say("turn %lu: ", s, 0, 0, 0); int going = 1; while (k-- && (going = turn(s, w))) {} if (going) say("going\n", 0, 0, 0, 0);
+        } else if (*line == 's') {
+            s = strtoul(line + 5, 0, 10);
+            if (s >= n || S[s].stopped) { if (refused(passes, number, s >= n ? "NoSuchSender" : "Stopped")) goto stop; continue; }
+            S[s].stopped = 1; say("stop %lu: stopped\n", s, 0, 0, 0);
         } else {
             s = strtoul(line + 5, &line, 10); k = strtoul(line, 0, 10);
             if (s >= m) { if (refused(passes, number, "NoSuchReceiver")) goto stop; continue; }

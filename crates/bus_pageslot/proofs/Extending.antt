@@ -34,10 +34,10 @@ module _ {E : Type 0} (X : Election E) (P : Protocol E (Unit {0}) ℕ) (x : Layo
   extends o due =
       let c = due.shown in
       let seated : IsSeated r.bus r.trails r.seat id c (trail_in m.0) (stored_in m.0) = r.views id (Sender c (trail_in m.0) (stored_in m.0)) (at ∙ ap (λ (y : Sat E). some y.0) due.me) in
-      let grown = accepts X P x y r.served r.bus r.trails c.me c seated.core r.reached d due.deeds due.accepts in
-      let b : Bus E = record { side = with_sender r.bus.side c.me d; receivers = r.bus.receivers } in
+      let grown = accepts X P x y r.served r.bus r.trails c.me c seated.core r.running r.reached d due.deeds due.accepts in
+      let b : Bus E = record { side = with_sender r.bus.side c.me d; receivers = r.bus.receivers; stopped = r.bus.stopped } in
       let old : slice_get b.side.senders c.me ≡ Some d = get_set_same r.bus.side.senders c.me d (slice_get_within r.bus.side.senders c.me c seated.core) in
-      let done = steps X P x y r.served b grown.trails grown.reached c.me d old word o due.due in
+      let done = steps X P x y r.served b grown.trails grown.reached r.running c.me d old word o due.due in
       let now : words_after s.words (Some o) ≡ done.bus.side.words = ap (λ w. words_after w (Some o)) r.words ∙ sym done.words in
       subst (λ (w : List ℕ × List ℕ). IsPrefix (log_below x w.0) (log_below x w.1)) (λ i. (sym r.words i, sym now i)) done.front
 

@@ -44,6 +44,7 @@ module _ {E : Type 0} (X : Election E) (x : Layout) where
     trails = r.trails;
     reached = r.reached;
     alone = r.alone;
+    running = r.running;
     words = r.words;
     slot = r.slot;
     seat = r.seat;
@@ -82,6 +83,7 @@ module _ {E : Type 0} (X : Election E) (x : Layout) where
         trails = r.trails;
         reached = r.reached;
         alone = r.alone;
+        running = r.running;
         words = r.words;
         slot = r.slot;
         seat = r.seat;
@@ -128,8 +130,8 @@ module _ {E : Type 0} (X : Election E) (P : Protocol E (Unit {0}) ℕ) (x : Layo
   knows_sent : (s : State (Option Page) (View (Core E))) (r : IsShown X x s) (id : ℕ) (c : Core E) (trail : List Deed) (stored : ℕ) → IsSeated r.bus r.trails r.seat id c trail stored
       → (e : Core E) (deeds : List Deed) → Accepts c e deeds → KnowsSent e (trail ++ deeds) stored (log_in_bus x r.bus)
   knows_sent s r id c trail stored h e deeds more =
-      let b : Bus E = record { side = with_sender r.bus.side c.me e; receivers = r.bus.receivers } in
-      let m = accepts X P x y r.served r.bus r.trails c.me c h.core r.reached e deeds more in
+      let b : Bus E = record { side = with_sender r.bus.side c.me e; receivers = r.bus.receivers; stopped = r.bus.stopped } in
+      let m = accepts X P x y r.served r.bus r.trails c.me c h.core r.running r.reached e deeds more in
       let k = kept X P x y r.served b m.trails m.reached in
       let here : slice_get b.side.senders c.me ≡ Some e = get_set_same r.bus.side.senders c.me e (slice_get_within r.bus.side.senders c.me c h.core) in
       let me : e.me ≡ c.me = (stays c e deeds more).me in

@@ -50,6 +50,7 @@ reloaded {E} X x s r i id v w at still fits = record {
   trails = r.trails;
   reached = r.reached;
   alone = r.alone;
+  running = r.running;
   words = set-get_or s.words i 0 ∙ r.words;
   slot = r.slot;
   seat = r.seat;

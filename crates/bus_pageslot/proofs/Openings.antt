@@ -19,7 +19,7 @@ use Rattle.bus_world.specs.Bus.{IsLayout}
 use Rattle.bus_world.proofs.Serving.{Serves}
 use Rattle.bus_world.specs.Starting.{AreNewCores}
 use Rattle.bus_world.proofs.StartingLaws.{one_more_core}
-use Rattle.bus_world.specs.World.{Bus, IsNew, new_core, new_page}
+use Rattle.bus_world.specs.World.{Bus, IsNew, new_core, new_page, no_stops}
 use Rattle.bus_world.specs.Trails.{Trails, no_trails}
 use Rattle.bus_world.specs.Trails.Reached.{New}
 use Rattle.bus_pageslot.specs.Ears.{new_ear}
@@ -78,7 +78,7 @@ module _ {E : Type 0} (X : Election E) (x : Layout) where
   first = Maker (new_core x 0)
 
   abbrev new_bus : List ℕ → Bus E
-  new_bus ws = record { side = record { words = ws; home = Some new_page; senders = crowd x x.senders; owners = [] }; receivers = [] }
+  new_bus ws = record { side = record { words = ws; home = Some new_page; senders = crowd x x.senders; owners = [] }; receivers = []; stopped = no_stops }
 
   is_new : (ws : List ℕ) → ws ≡ replicate (words_of x) 0 → IsNew x (new_bus ws)
   is_new ws zeros = record {
@@ -86,6 +86,7 @@ module _ {E : Type 0} (X : Election E) (x : Layout) where
     home = refl;
     senders = λ p c e. (crowd_new {E = E} x x.senders).each p c e;
     owners = refl;
+    stopped = refl;
     receivers = λ r v e. let bad : None ≡ Some v = e in let wrong : ⊥ = cc in absurd wrong;
   }
 
@@ -100,6 +101,7 @@ module _ {E : Type 0} (X : Election E) (x : Layout) where
     trails = no_trails;
     reached = New (new_bus ws) (is_new ws zeros);
     alone = refl;
+    running = refl;
     words = refl;
     slot = refl;
     seat = λ p. 0;
@@ -136,6 +138,7 @@ module _ {E : Type 0} (X : Election E) (x : Layout) where
         trails = r.trails;
         reached = r.reached;
         alone = r.alone;
+        running = r.running;
         words = r.words;
         slot = r.slot;
         seat = seat;
@@ -162,6 +165,7 @@ module _ {E : Type 0} (X : Election E) (x : Layout) where
     trails = r.trails;
     reached = r.reached;
     alone = r.alone;
+    running = r.running;
     words = r.words;
     slot = r.slot;
     seat = r.seat;

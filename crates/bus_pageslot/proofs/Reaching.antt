@@ -23,12 +23,13 @@ use Rattle.bus_world.specs.Tenures.Standing.{Runs}
 use Rattle.bus_world.specs.Trails.{Trails, Reached, trails_grown, put_deeds, close_deeds, turning_deeds, deeds_of}
 use Rattle.bus_world.specs.Trails.Reached.{New, Then}
 use Rattle.bus_world.specs.Turning.{number_found, words_after, home_after, core_after, side_after}
-use Rattle.bus_world.specs.World.{Bus, Event, Put, Close, Turn, Recv, Happens, IsEvent, SenderDoes, with_sender, put_in, close_in, LawfulBus}
+use Rattle.bus_world.specs.World.{Bus, Event, Put, Close, Turn, Recv, Stop, going, no_stops, Happens, IsEvent, SenderDoes, with_sender, put_in, close_in, LawfulBus}
 use Rattle.bus_world.specs.declared.events.Answer.{Answer}
 use Rattle.bus_world.specs.declared.events.Answer.TheVariants as answer
 use Rattle.bus_world.proofs.LogLaws.{length-read}
 use Rattle.bus_world.proofs.EventTrails as events
 use Rattle.bus_world.proofs.Serving.{Serves}
+use Rattle.bus_world.proofs.Stopping.{all_go, nobody_goes}
 use Rattle.bus_world.proofs.TableTrails.{Longer}
 use Rattle.bus_world.proofs.TenuresLaws as tenures
 use Rattle.bus_world.proofs.TurnTrails.{longer_by}
@@ -76,18 +77,19 @@ module _ {E : Type 0} (X : Election E) (P : Protocol E (Unit {0}) ℕ) (x : Layo
   -- .. does nothing in an event ..
   adds_none : (b b' : Bus E) (e : Event) (a : Answer) → Answers X b e a b' → (q : ℕ) → slice_get b.side.senders q ≡ None → deeds_of X b e a q ≡ []
   adds_none b b' (Put s bytes) a told q none = elim (cases_eq q s) [
-    | inl e ↦ absurd (subst (λ o. PutGives o (length bytes) told.0) (ap (slice_get b.side.senders) (sym e) ∙ none) told.1)
+    | inl e ↦ absurd (subst (λ o. PutGives o (length bytes) told.0) (nobody_goes b s (ap (slice_get b.side.senders) (sym e) ∙ none)) told.1)
     | inr n ↦ ap (λ z. cond z (put_deeds bytes a) []) (ne_eqb q s n)
   ]
   adds_none b b' (Close s) a told q none = elim (cases_eq q s) [
-    | inl e ↦ absurd (subst (λ o. CloseGives o) (ap (slice_get b.side.senders) (sym e) ∙ none) told.0)
+    | inl e ↦ absurd (subst (λ o. CloseGives o) (nobody_goes b s (ap (slice_get b.side.senders) (sym e) ∙ none)) told.0)
     | inr n ↦ ap (λ z. cond z (close_deeds a) []) (ne_eqb q s n)
   ]
   adds_none b b' (Turn s word) a told q none = elim (cases_eq q s) [
-    | inl e ↦ absurd (subst (λ o. TurnAnswers X b.side.words o word a) (ap (slice_get b.side.senders) (sym e) ∙ none) told)
-    | inr n ↦ ap (λ z. cond z (turning_deeds X b.side.words (slice_get b.side.senders s) word a) []) (ne_eqb q s n)
+    | inl e ↦ absurd (subst (λ o. TurnAnswers X b.side.words o word a) (nobody_goes b s (ap (slice_get b.side.senders) (sym e) ∙ none)) told)
+    | inr n ↦ ap (λ z. cond z (turning_deeds X b.side.words (going b s) word a) []) (ne_eqb q s n)
   ]
   adds_none b b' (Recv r) a told q none = refl
+  adds_none b b' (Stop s) a told q none = refl
 
   -- .. and has done nothing
   pub nobody_did : (b : Bus E) (T : Trails) → Reached X x b T → (q : ℕ) → x.senders ≤ q → T.deeds q ≡ []
@@ -104,7 +106,7 @@ module _ {E : Type 0} (X : Election E) (P : Protocol E (Unit {0}) ℕ) (x : Layo
 
   -- ---- what is accepted
   abbrev with_core : Bus E → ℕ → Core E → Bus E
-  with_core b p d = record { side = with_sender b.side p d; receivers = b.receivers }
+  with_core b p d = record { side = with_sender b.side p d; receivers = b.receivers; stopped = b.stopped }
 
   -- events lead to the bus with this sender in the place of p, which has these deeds more
   pub record Reaches (b : Bus E) (T : Trails) (p : ℕ) (d : Core E) (deeds : List Deed) : Type 0 where
@@ -112,9 +114,12 @@ module _ {E : Type 0} (X : Election E) (P : Protocol E (Unit {0}) ℕ) (x : Layo
     pub reached : Reached X x (with_core b p d) trails
     pub longer : Longer p deeds T.deeds trails.deeds
 
-  module _ (b : Bus E) (T : Trails) (p : ℕ) (c : Core E) (old : slice_get b.side.senders p ≡ Some c) where
+  module _ (b : Bus E) (T : Trails) (p : ℕ) (c : Core E) (old : slice_get b.side.senders p ≡ Some c) (running : b.stopped ≡ no_stops) where
     abbrev here : (d : Core E) → slice_get (slice_set b.side.senders p d) p ≡ Some d
     here d = get_set_same b.side.senders p d (slice_get_within b.side.senders p c old)
+
+    abbrev goes : (d : Core E) → going (with_core b p d) p ≡ Some d
+    goes d = all_go (with_core b p d) running p ∙ here d
 
     -- one event of the sender, with which it is d' in place of d
     one_more : (d d' : Core E) (deeds : List Deed) (m : Reaches b T p d deeds) (e : Event) (a : Answer) (more : List Deed)
@@ -129,27 +134,27 @@ module _ {E : Type 0} (X : Election E) (P : Protocol E (Unit {0}) ℕ) (x : Layo
     replaced : (d d' : Core E) → slice_set (slice_set b.side.senders p d) p d' ≡ slice_set b.side.senders p d'
     replaced d d' = set-set b.side.senders p d d'
 
-    does : (d d' : Core E) (f : Core E → Core E) → f d ≡ d' → SenderDoes (with_core b p d).side (slice_get (slice_set b.side.senders p d) p) (λ c. with_sender (with_core b p d).side p (f c)) (with_core b p d').side
-    does d d' f is = subst (λ o. SenderDoes (with_core b p d).side o (λ c. with_sender (with_core b p d).side p (f c)) (with_core b p d').side) (sym (here d))
+    does : (d d' : Core E) (f : Core E → Core E) → f d ≡ d' → SenderDoes (with_core b p d).side (going (with_core b p d) p) (λ c. with_sender (with_core b p d).side p (f c)) (with_core b p d').side
+    does d d' f is = subst (λ o. SenderDoes (with_core b p d).side o (λ c. with_sender (with_core b p d).side p (f c)) (with_core b p d').side) (sym (goes d))
         (ap (λ z. record b.side { senders = z }) (sym (replaced d d') ∙ ap (slice_set (slice_set b.side.senders p d) p) (sym is)))
 
     pub accepts : Reached X x b T → (d : Core E) (deeds : List Deed) → Accepts c d deeds → Reaches b T p d deeds
     accepts r d deeds Nothing = record {
       trails = T;
-      reached = subst (λ z. Reached X x (record { side = record b.side { senders = z }; receivers = b.receivers }) T) (sym (set_there b.side.senders p c old)) r;
+      reached = subst (λ z. Reached X x (record { side = record b.side { senders = z }; receivers = b.receivers; stopped = b.stopped }) T) (sym (set_there b.side.senders p c old)) r;
       longer = same_longer p T.deeds;
     }
     accepts r e all (Message d deeds bytes more can small) =
         let m = accepts r d deeds more in
         let number = next_of d.queue in
-        let gives : PutGives (slice_get (slice_set b.side.senders p d) p) (length bytes) number = subst (λ o. PutGives o (length bytes) number) (sym (here d)) (can, refl) in
+        let gives : PutGives (going (with_core b p d) p) (length bytes) number = subst (λ o. PutGives o (length bytes) number) (sym (goes d)) (can, refl) in
         one_more d (with_message d bytes) deeds m (Put p bytes) (answer.Number number) (HasPut number bytes ∷ []) small
-        (does d (with_message d bytes) (λ c. put_in c bytes) (put_taken d bytes can), refl) (number, gives, refl) (longer_by p (HasPut number bytes ∷ []) m.trails.deeds)
+        (does d (with_message d bytes) (λ c. put_in c bytes) (put_taken d bytes can), refl, refl) (number, gives, refl) (longer_by p (HasPut number bytes ∷ []) m.trails.deeds)
     accepts r e all (Closes d deeds more can) =
         let m = accepts r d deeds more in
-        let gives : CloseGives (slice_get (slice_set b.side.senders p d) p) = subst (λ o. CloseGives o) (sym (here d)) can in
+        let gives : CloseGives (going (with_core b p d) p) = subst (λ o. CloseGives o) (sym (goes d)) can in
         one_more d (with_close d) deeds m (Close p) answer.Closing (HasClosed ∷ []) tt
-        (does d (with_close d) (λ c. close_in c) (close_taken d can), refl) (gives, refl) (longer_by p (HasClosed ∷ []) m.trails.deeds)
+        (does d (with_close d) (λ c. close_in c) (close_taken d can), refl, refl) (gives, refl) (longer_by p (HasClosed ∷ []) m.trails.deeds)
 
   -- ---- a step
   -- what was done before the step o of a sender d stays, and the step is done
@@ -161,11 +166,12 @@ module _ {E : Type 0} (X : Election E) (P : Protocol E (Unit {0}) ℕ) (x : Layo
     pub home : bus.side.home ≡ home_after X d (situation_of X d) b.side.home
     pub senders : bus.side.senders ≡ slice_set b.side.senders p (core_after X d (situation_of X d) b.side.home (slice_index b.side.words (register o)) word)
     pub receivers : bus.receivers ≡ b.receivers
+    pub stopped : bus.stopped ≡ b.stopped
     pub longer : Longer p (deeds_at X d (slice_index b.side.words (register o)) word) T.deeds trails.deeds
     pub front : IsPrefix (log_in_bus x b) (log_in_bus x bus)
     pub grows : LogGrows x b bus
 
-  module _ (b : Bus E) (T : Trails) (r : Reached X x b T) (p : ℕ) (d : Core E) (old : slice_get b.side.senders p ≡ Some d) (word : ℕ) (o : Op) (due : op_at X d (situation_of X d) word ≡ Some o) where
+  module _ (b : Bus E) (T : Trails) (r : Reached X x b T) (running : b.stopped ≡ no_stops) (p : ℕ) (d : Core E) (old : slice_get b.side.senders p ≡ Some d) (word : ℕ) (o : Op) (due : op_at X d (situation_of X d) word ≡ Some o) where
     abbrev z : Situation E
     z = situation_of X d
 
@@ -173,19 +179,22 @@ module _ {E : Type 0} (X : Election E) (P : Protocol E (Unit {0}) ℕ) (x : Layo
     got = number_found (slice_index b.side.words) (op_at X d z word)
 
     abbrev bus' : Bus E
-    bus' = record { side = side_after X b.side p d z word; receivers = b.receivers }
+    bus' = record { side = side_after X b.side p d z word; receivers = b.receivers; stopped = b.stopped }
 
     abbrev told : Answer
     told = answer.Turn (answer_at X d z got word)
 
+    goes_here : going b p ≡ Some d
+    goes_here = all_go b running p ∙ old
+
     turns : Happens X b (Turn p word) bus'
-    turns = (subst (λ c. SenderDoes b.side c (λ c. side_after X b.side p c (situation_of X c) word) bus'.side) (sym old) refl, refl)
+    turns = (subst (λ c. SenderDoes b.side c (λ c. side_after X b.side p c (situation_of X c) word) bus'.side) (sym goes_here) refl, refl, refl)
 
-    answers : TurnAnswers X b.side.words (slice_get b.side.senders p) word told
-    answers = subst (λ c. TurnAnswers X b.side.words c word told) (sym old) refl
+    answers : TurnAnswers X b.side.words (going b p) word told
+    answers = subst (λ c. TurnAnswers X b.side.words c word told) (sym goes_here) refl
 
-    deeds_are : turning_deeds X b.side.words (slice_get b.side.senders p) word told ≡ deeds_at X d (slice_index b.side.words (register o)) word
-    deeds_are = ap (λ c. turning_deeds X b.side.words c word told) old ∙ ap (λ w. deeds_at X d (number_found (slice_index b.side.words) w) word) due
+    deeds_are : turning_deeds X b.side.words (going b p) word told ≡ deeds_at X d (slice_index b.side.words (register o)) word
+    deeds_are = ap (λ c. turning_deeds X b.side.words c word told) goes_here ∙ ap (λ w. deeds_at X d (number_found (slice_index b.side.words) w) word) due
 
     front : IsPrefix (log_in_bus x b) (log_in_bus x bus')
     front =
@@ -219,7 +228,8 @@ module _ {E : Type 0} (X : Election E) (P : Protocol E (Unit {0}) ℕ) (x : Layo
       home = refl;
       senders = ap (λ w. slice_set b.side.senders p (core_after X d z b.side.home (number_found (slice_index b.side.words) w) word)) due;
       receivers = refl;
-      longer = subst (λ ds. Longer p ds T.deeds (trails_grown X b (Turn p word) told T).deeds) deeds_are (longer_by p (turning_deeds X b.side.words (slice_get b.side.senders p) word told) T.deeds);
+      stopped = refl;
+      longer = subst (λ ds. Longer p ds T.deeds (trails_grown X b (Turn p word) told T).deeds) deeds_are (longer_by p (turning_deeds X b.side.words (going b p) word told) T.deeds);
       front = front;
       grows = grows;
     }

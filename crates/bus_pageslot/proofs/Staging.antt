@@ -127,8 +127,8 @@ pub owners_leave : {E : Type 0} (X : Election E) (P : Protocol E (Unit {0}) ℕ)
 owners_leave {E} X P x y s r id m at d word many t o due is_open leaves =
     let c = due.shown in
     let seated : IsSeated r.bus r.trails r.seat id c (trail_in m.0) (stored_in m.0) = r.views id (Sender c (trail_in m.0) (stored_in m.0)) (at ∙ ap (λ (z : Sat E). some z.0) due.me) in
-    let grown = accepts X P x y r.served r.bus r.trails c.me c seated.core r.reached d due.deeds due.accepts in
-    let b : Bus E = record { side = with_sender r.bus.side c.me d; receivers = r.bus.receivers } in
+    let grown = accepts X P x y r.served r.bus r.trails c.me c seated.core r.running r.reached d due.deeds due.accepts in
+    let b : Bus E = record { side = with_sender r.bus.side c.me d; receivers = r.bus.receivers; stopped = r.bus.stopped } in
     let old : slice_get b.side.senders c.me ≡ Some d = get_set_same r.bus.side.senders c.me d (slice_get_within r.bus.side.senders c.me c seated.core) in
     let k = kept X P x y r.served b grown.trails grown.reached in
     let same : s.words ≡ b.side.words = r.words in

@@ -90,15 +90,16 @@ module _ {E : Type 0} (x : Layout) (b b' : Bus E) (T T' : Trails) (seat : ℕ �
 
 -- The tie: where events lead on to a bus with the new words, page and sender, the rule holds of the new table
 pub tie : {E : Type 0} (X : Election E) (x : Layout) (s : State (Option Page) (View (Core E))) (r : IsShown X x s) (id : ℕ) (c d : Core E) (t t' more : List Deed) (stored stored' : ℕ) (words : List ℕ) (homes : List (maybe.Option (Option Page))) (b' : Bus E) (T' : Trails)
-    → Reached X x b' T' → b'.receivers ≡ r.bus.receivers → GoesOnTo x c.me more r.bus r.trails b' T' → slice_get b'.side.senders c.me ≡ Some d → T'.deeds c.me ≡ t' → stored' ≤ slice_index b'.side.words 0
+    → Reached X x b' T' → b'.receivers ≡ r.bus.receivers → b'.stopped ≡ r.bus.stopped → GoesOnTo x c.me more r.bus r.trails b' T' → slice_get b'.side.senders c.me ≡ Some d → T'.deeds c.me ≡ t' → stored' ≤ slice_index b'.side.words 0
     → get_elem? s.views id ≡ some (Sender c t stored) → d.me ≡ c.me → words ≡ b'.side.words → homes ≡ slot_of b'.side.home ∷ []
     → IsShown X x record { words = words; homes = homes; views = set s.views id (Sender d t' stored') }
-tie {E} X x s r id c d t t' more stored stored' words homes b' T' reached receivers on placed did long at same words_are slot = let k = r.views id (Sender c t stored) at in record {
+tie {E} X x s r id c d t t' more stored stored' words homes b' T' reached receivers stopped on placed did long at same words_are slot = let k = r.views id (Sender c t stored) at in record {
   served = r.served;
   bus = b';
   trails = T';
   reached = reached;
   alone = receivers ∙ r.alone;
+  running = stopped ∙ r.running;
   words = words_are;
   slot = slot;
   seat = r.seat;
@@ -164,17 +165,17 @@ module _ {E : Type 0} (X : Election E) (P : Protocol E (Unit {0}) ℕ) (x : Layo
 
     -- with what it accepted
     grown : Reaches X P x y r.served r.bus r.trails p d due.deeds
-    grown = accepts X P x y r.served r.bus r.trails p c seated.core r.reached d due.deeds due.accepts
+    grown = accepts X P x y r.served r.bus r.trails p c seated.core r.running r.reached d due.deeds due.accepts
 
     abbrev b : Bus E
-    b = record { side = with_sender r.bus.side p d; receivers = r.bus.receivers }
+    b = record { side = with_sender r.bus.side p d; receivers = r.bus.receivers; stopped = r.bus.stopped }
 
     old : slice_get b.side.senders p ≡ Some d
     old = get_set_same r.bus.side.senders p d (slice_get_within r.bus.side.senders p c seated.core)
 
     -- with its step
     done : Steps X P x y r.served b grown.trails p d word o
-    done = steps X P x y r.served b grown.trails grown.reached p d old word o due.due
+    done = steps X P x y r.served b grown.trails grown.reached r.running p d old word o due.due
 
     abbrev n : ℕ
     n = slice_index s.words (register o)
@@ -197,7 +198,7 @@ module _ {E : Type 0} (X : Election E) (P : Protocol E (Unit {0}) ℕ) (x : Layo
 
     words_now : slice_set s.words (register o) (f n) ≡ done.bus.side.words
     words_now =
-        ap (slice_set s.words (register o)) (writes n (subst (SumFits o) (sym n_is) (sum_fits X P x y r.served b grown.trails grown.reached p d old word o due.due)) ∙ ap (after o) n_is)
+        ap (slice_set s.words (register o)) (writes n (subst (SumFits o) (sym n_is) (sum_fits X P x y r.served b grown.trails grown.reached r.running p d old word o due.due)) ∙ ap (after o) n_is)
         ∙ ap (λ w. slice_set w (register o) (after o (slice_index b.side.words (register o)))) r.words ∙ sym done.words
 
     placed : slice_get done.bus.side.senders p ≡ Some d_now
@@ -237,7 +238,7 @@ module _ {E : Type 0} (X : Election E) (P : Protocol E (Unit {0}) ℕ) (x : Layo
         ∙ ap (λ k. deeds_in m.0 d ++ deeds_at X d k word) (sym n_is)
 
     moved : Moved X d (situation_of X d) r.bus.side.home s.homes m.1
-    moved = moves X d r.bus.side.home s.homes m.1 _ r.slot (situation_of X d) word o due.due (ap (λ (y : Sat E). y.1) due.me) (taken X P x y r.served b grown.trails grown.reached p d old word o due.due)
+    moved = moves X d r.bus.side.home s.homes m.1 _ r.slot (situation_of X d) word o due.due (ap (λ (y : Sat E). y.1) due.me) (taken X P x y r.served b grown.trails grown.reached r.running p d old word o due.due)
 
     abbrev stored : ℕ
     stored = stored_at d (situation_of X d) before
@@ -251,10 +252,10 @@ module _ {E : Type 0} (X : Election E) (P : Protocol E (Unit {0}) ℕ) (x : Layo
       moved.act,
       moved.valid,
       tie X x s r id c d_now (trail_in m.0) trail _ before stored (slice_set s.words (register o) (f n)) (homes_after s.homes m.1 moved.act) done.bus done.trails
-          done.reached done.receivers goes_on placed did stored_now at_view me_now words_now (moved.homes_now ∙ ap (λ (h : Option Page). slot_of h ∷ []) (sym done.home)),
+          done.reached done.receivers done.stopped goes_on placed did stored_now at_view me_now words_now (moved.homes_now ∙ ap (λ (h : Option Page). slot_of h ∷ []) (sym done.home)),
       record {
         home = r.bus.side.home;
-        taken = taken X P x y r.served b grown.trails grown.reached p d old word o due.due;
+        taken = taken X P x y r.served b grown.trails grown.reached r.running p d old word o due.due;
         found = n;
         told = λ u w. subst (λ (q : Op). Told q n (g n)) (same_Some _ _ (sym due.due ∙ w)) (says n);
         core = blind n r.bus.side.home;

@@ -12,7 +12,7 @@ use Rattle.bus_world.specs.Bus.{IsLayout}
 use Rattle.bus_world.specs.Headline.{Deed, IsPrefix}
 use Rattle.bus_world.specs.Playing.{log_of}
 use Rattle.bus_world.specs.Trails.{Trails, Reached}
-use Rattle.bus_world.specs.World.{Bus, new_core}
+use Rattle.bus_world.specs.World.{Bus, new_core, no_stops}
 use Rattle.bus_pageslot.specs.Ears.{Ear, new_ear, learnt, HasHeard}
 use Rattle.bus_pageslot.specs.declared.rule.View.{View}
 use Rattle.bus_pageslot.specs.declared.rule.View.TheVariants.{Maker, Sender, Tap, Meeting, Telling, Spent}
@@ -226,7 +226,8 @@ Seats p (Meeting c e d f) = ⊥
 Seats p (Telling c trail stored d e) = c.me ≡ p
 Seats p Spent = ⊥
 
--- Some events lead to a bus with these words, with its page in the slot where that is at home, and without receivers of its own;
+-- Some events lead to a bus with these words, with its page in the slot where that is at home, without receivers of its own, and
+-- none of them a stop: a sender that is dropped just has no event any more;
 -- the views of the seats are true of it; and each of its senders shows in one of them.
 pub record IsShown {E : Type 0} (X : Election E) (x : Layout) (s : State (Option Page) (View (Core E))) : Type 0 where
   pub served : IsLayout x
@@ -234,6 +235,7 @@ pub record IsShown {E : Type 0} (X : Election E) (x : Layout) (s : State (Option
   pub trails : Trails
   pub reached : Reached X x bus trails
   pub alone : bus.receivers ≡ []
+  pub running : bus.stopped ≡ no_stops
   pub words : s.words ≡ bus.side.words
   pub slot : s.homes ≡ slot_of bus.side.home ∷ []
   -- of each sender the seat that shows it

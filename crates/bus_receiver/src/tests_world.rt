@@ -123,6 +123,7 @@ impl<'b> Both<'b> {
                 Some(ear) => ear.turn(),
                 None => panic!(rt; "no such receiver"),
             },
+            Event::Stop(_) => panic!(rt; "a bus of threads has no such call"),
         }
     }
 

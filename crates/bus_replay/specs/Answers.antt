@@ -50,6 +50,7 @@ goes_on (answer.Number n) = false
 goes_on answer.Closing = false
 goes_on (answer.Turn t) = turn_goes_on t
 goes_on (answer.Recv t) = recv_goes_on t
+goes_on answer.Stopped = false
 
 -- an event, once and then at most so many times more while it goes on, with the last answer
 abbrev pub Repeats : {E : Type 0} → Election E → Bus E → Event → ℕ → Answer → Bus E → Type 0

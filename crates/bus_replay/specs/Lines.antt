@@ -1,7 +1,7 @@
 -- What the lines of a script of `replay` say.
 use Rattle.std.specs.Prelude.{ℕ, ◌+◌, ◌-◌, ◌*◌, ◌^◌, Bool, ◌&&◌, List, [], ◌∷◌, length, Option, Some, None, codes, nat_lt, nat_le, if◌then◌else◌, option_and_then}
 use Rattle.std.specs.Str.{bytes_eq}
-use Rattle.bus_world.specs.World.{Event, Put, Close, Turn, Recv}
+use Rattle.bus_world.specs.World.{Event, Put, Close, Turn, Recv, Stop}
 use Rattle.bus_world.specs.declared.shapes.Shape.{Shape}
 use Rattle.bus_script.specs.Grammar.{number_of, and_before, each_of, arguments_of}
 
@@ -83,6 +83,12 @@ recv_from (m ∷ []) = None
 recv_from (m ∷ k ∷ []) = if are_times k then Some (record { event = Recv m; times = k }) else None
 recv_from (m ∷ k ∷ x ∷ more) = None
 
+-- `stop S`
+abbrev pub stop_from : List ℕ → Option Command
+stop_from [] = None
+stop_from (s ∷ []) = Some (record { event = Stop s; times = 1 })
+stop_from (s ∷ x ∷ more) = None
+
 abbrev pub or_else : {A : Type 0} → Option A → Option A → Option A
 or_else (Some x) y = Some x
 or_else None y = y
@@ -95,4 +101,5 @@ abbrev pub command_of : List ℕ → Option Command
 command_of line =
     or_else (option_and_then put_from (arguments_of (codes "put") line))
     (or_else (option_and_then close_from (numbers_behind (codes "close") line))
-    (or_else (option_and_then turn_from (numbers_behind (codes "turn") line)) (option_and_then recv_from (numbers_behind (codes "recv") line))))
+    (or_else (option_and_then turn_from (numbers_behind (codes "turn") line))
+    (or_else (option_and_then recv_from (numbers_behind (codes "recv") line)) (option_and_then stop_from (numbers_behind (codes "stop") line)))))

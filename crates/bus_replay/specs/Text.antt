@@ -11,7 +11,7 @@ use Rattle.bus_deliverylog.specs.declared.receiving.RecvTurn.{RecvTurn}
 use Rattle.bus_deliverylog.specs.declared.receiving.RecvTurn.TheVariants as recv
 use Rattle.bus_tenure.specs.declared.turns.Turn.{Turn as Turned}
 use Rattle.bus_tenure.specs.declared.turns.Turn.TheVariants as turn
-use Rattle.bus_world.specs.World.{Event, Put, Close, Turn, Recv}
+use Rattle.bus_world.specs.World.{Event, Put, Close, Turn, Recv, Stop}
 use Rattle.bus_world.specs.declared.events.Answer.{Answer}
 use Rattle.bus_world.specs.declared.events.Answer.TheVariants as answer
 use Rattle.bus_world.specs.declared.events.StepFault.{StepFault}
@@ -62,6 +62,7 @@ answer_text (answer.Number n) = codes "number" ++ behind n
 answer_text answer.Closing = codes "closing"
 answer_text (answer.Turn t) = turn_text t
 answer_text (answer.Recv t) = recv_text t
+answer_text answer.Stopped = codes "stopped"
 
 -- who is asked
 abbrev pub event_text : Event → List ℕ
@@ -69,6 +70,7 @@ event_text (Put s bytes) = codes "put" ++ behind s
 event_text (Close s) = codes "close" ++ behind s
 event_text (Turn s word) = codes "turn" ++ behind s
 event_text (Recv r) = codes "recv" ++ behind r
+event_text (Stop s) = codes "stop" ++ behind s
 
 -- the line of a command that was answered
 abbrev pub answer_line : Event → Answer → List ℕ
@@ -90,6 +92,7 @@ close_fault_name close.Pending = codes "Pending"
 abbrev pub step_fault_name : StepFault → List ℕ
 step_fault_name fault.NoSuchSender = codes "NoSuchSender"
 step_fault_name fault.NoSuchReceiver = codes "NoSuchReceiver"
+step_fault_name fault.Stopped = codes "Stopped"
 step_fault_name (fault.Put why) = put_fault_name why
 step_fault_name (fault.Close why) = close_fault_name why
 

@@ -5,7 +5,8 @@ ghost use Rattle.std.specs.Prelude.{MatchOption, codes, option_and_then};
 ghost use Rattle.std.specs.Option.{option_map};
 ghost use Rattle.bus_script.specs.Grammar.{number_of, each_of, and_before, arguments_of};
 ghost use Rattle.bus_replay.specs.Lines.{shape_of, put_of, put_from, close_from, are_times};
-ghost use Rattle.bus_replay.specs.Lines.{turn_from, recv_from, numbers_behind, command_of, hex_of};
+ghost use Rattle.bus_replay.specs.Lines.{turn_from, recv_from, stop_from, numbers_behind};
+ghost use Rattle.bus_replay.specs.Lines.{command_of, hex_of};
 ghost use Rattle.bus_replay.specs.Told.{command_told};
 
 use crate::commands::Command;
@@ -135,6 +136,21 @@ fn recv_of(line: &[u8]) -> Option<Command>
     })
 }
 
+fn stop_of(line: &[u8]) -> Option<Command>
+    ensures { option_map command_told result ≡ option_and_then stop_from
+        (numbers_behind (codes "stop") line.now) }
+{
+    let mut words = words_behind(line, b"stop")?;
+    let sender = next_number(&mut words)?;
+    if words.next_word().is_some() {
+        return None;
+    }
+    Some(Command {
+        event: Event::Stop(sender),
+        times: 1,
+    })
+}
+
 /// What a line behind the first one asks for.
 pub fn command_of(alloc: Global, line: &[u8]) -> Result<Option<Command>, AllocError>
     ensures { IfOk result (λ command. option_map command_told command ≡ command_of line.now) }
@@ -145,8 +161,11 @@ pub fn command_of(alloc: Global, line: &[u8]) -> Result<Option<Command>, AllocEr
     if let Some(command) = close_of(line) {
         return Ok(Some(command));
     }
-    match turn_of(line) {
+    if let Some(command) = turn_of(line) {
+        return Ok(Some(command));
+    }
+    match recv_of(line) {
         Some(command) => Ok(Some(command)),
-        None => Ok(recv_of(line)),
+        None => Ok(stop_of(line)),
     }
 }

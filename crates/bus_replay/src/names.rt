@@ -35,6 +35,7 @@ pub fn step_fault_name(fault: StepFault) -> &'static str
     match fault {
         StepFault::NoSuchSender => "NoSuchSender",
         StepFault::NoSuchReceiver => "NoSuchReceiver",
+        StepFault::Stopped => "Stopped",
         StepFault::Put(why) => put_fault_name(why),
         StepFault::Close(why) => close_fault_name(why),
     }

@@ -143,6 +143,24 @@ fn put_after_end(rt: HostRuntime) {
 }
 
 #[test]
+fn stop_in_a_script(rt: HostRuntime) {
+    plays(
+        &rt,
+        b"shape 2 1 1 4 64\nput 0 61\nput 1 62\nturn 0 0 7\nstop 0\nturn 1 0 99\n\
+          recv 0 99\n",
+        "put 0: number 0\nput 1: number 0\nturn 0: own 0\nstop 0: stopped\n\
+          turn 1: waiting\nrecv 0: empty\nowners 0\ngiven 0 0\n",
+    );
+    refuses(
+        &rt,
+        b"shape 2 1 1 4 64\nput 0 61\nput 1 62\nturn 0 0 7\nstop 0\nturn 1 0 99\n\
+          recv 0 99\nturn 0 0 1\n",
+        "put 0: number 0\nput 1: number 0\nturn 0: own 0\nstop 0: stopped\n\
+          turn 1: waiting\nrecv 0: empty\nline 8: Stopped\n",
+    );
+}
+
+#[test]
 fn full_log_keeps_the_batch(rt: HostRuntime) {
     plays(
         &rt,

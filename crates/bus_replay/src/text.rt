@@ -76,6 +76,7 @@ fn push_answer(text: &mut String, answer: &Answer) -> Result<(), AllocError>
         Answer::Closing => text.push_str("closing"),
         Answer::Turn(turn) => push_turn(text, *turn),
         Answer::Recv(turn) => push_receiving(text, turn),
+        Answer::Stopped => text.push_str("stopped"),
     }
 }
 
@@ -89,6 +90,7 @@ fn push_event(text: &mut String, event: &Event) -> Result<(), AllocError>
         Event::Close(sender) => write!(text, "close {sender}"),
         Event::Turn { sender, word: _ } => write!(text, "turn {sender}"),
         Event::Recv(receiver) => write!(text, "recv {receiver}"),
+        Event::Stop(sender) => write!(text, "stop {sender}"),
     }
 }
 

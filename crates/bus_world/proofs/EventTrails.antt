@@ -46,7 +46,7 @@ use Rattle.bus_world.specs.Log.{sent}
 use Rattle.bus_world.proofs.LogLaws.{length-read}
 use Rattle.bus_world.proofs.ReceivingLaws.{given_is_prefix}
 use Rattle.bus_world.specs.Turning.{Side, side_after, core_after, number_found}
-use Rattle.bus_world.specs.World.{Bus, Event, Put, Close, Turn, Recv, IsEvent, Happens, SenderDoes, with_sender, can_put, can_close, put_in, close_in, LawfulBus, IsNew, is_open, given_at}
+use Rattle.bus_world.specs.World.{Bus, Event, Put, Close, Turn, Recv, Stop, going, IsEvent, Happens, SenderDoes, with_sender, can_put, can_close, put_in, close_in, LawfulBus, IsNew, is_open, given_at}
 use Rattle.bus_world.proofs.TurningLaws.{side_of}
 use Rattle.bus_world.proofs.WorldLaws.{event_left, event_puts, new_is_lawful}
 use Rattle.bus_world.specs.Playing.{AllAnswered, Answers, PutGives, CloseGives, TurnAnswers, RecvAnswers, log_of}
@@ -54,6 +54,7 @@ use Rattle.bus_world.specs.declared.events.Answer.{Answer}
 use Rattle.bus_world.specs.declared.events.Answer.TheVariants as answer
 use Rattle.bus_world.specs.Trails.{Trails, no_trails, trails_grown, trails_after, deeds_of, put_deeds, close_deeds, turning_deeds, step_deed, heard_of, answer_heard, IsPromisedBy, IsPromised, StaysPromised, Follows, Played, Reached}
 use Rattle.bus_world.specs.Trails.Reached.{New, Then}
+use Rattle.bus_world.proofs.Stopping.{is_there}
 use Rattle.bus_world.proofs.Waiting.{frames_after, put_by, waiting_of, waiting_at, accepted, accepted_by, event_frames, frames_by}
 use Rattle.bus_world.proofs.Tying.{AreNumbered, IsSilent, Hears, Tied}
 use Rattle.bus_world.proofs.Places.{got_split}
@@ -144,42 +145,44 @@ module _ {E : Type 0} (X : Election E) where
   turn_puts_at true words (Some c) word a told = ap (λ z. puts (turning_deeds X words (Some c) word z)) told ∙ step_puts (kind_at X c (situation_of X c)) _ _ _ _
 
   deeds_put : (b : Bus E) (e : Event) (a : Answer) (b' : Bus E) (q : ℕ) → Answers X b e a b' → puts (deeds_of X b e a q) ≡ accepted b e q
-  deeds_put b (Put s bytes) a b' q w = ap (λ z. puts (cond (q == s) (put_deeds bytes z) [])) w.2 ∙ put_puts_at (q == s) (slice_get b.side.senders s) bytes w.0 w.1
+  deeds_put b (Put s bytes) a b' q w = ap (λ z. puts (cond (q == s) (put_deeds bytes z) [])) w.2 ∙ put_puts_at (q == s) (going b s) bytes w.0 w.1
   deeds_put b (Close s) a b' q w = ap (λ z. puts (cond (q == s) (close_deeds z) [])) w.1 ∙ close_puts_at (q == s)
-  deeds_put b (Turn s word) a b' q w = turn_puts_at (q == s) b.side.words (slice_get b.side.senders s) word a w
+  deeds_put b (Turn s word) a b' q w = turn_puts_at (q == s) b.side.words (going b s) word a w
   deeds_put b (Recv r) a b' q w = refl
+  deeds_put b (Stop s) a b' q w = refl
 
 module _ {E : Type 0} (X : Election E) (P : Protocol E (Unit {0}) ℕ) (laws : Laws X.op X.fed P OneOwner) (x : Layout) (ok : IsLayout x) (width : x.width ≡ P.width x.senders)
     (starts : (n me at : ℕ) → X.started n me x.rounds at ≡ P.started n me tt at) (owner_is : (e : E) → X.owner e ≡ P.output e)
     (named : (e : E) (word : ℕ) → is_some (X.kind_of e) ≡ is_some (X.op e word)) (announces : (e : E) → P.has_begun e ≡ false → X.kind_of e ≡ Some kind.Announce) (apart : (e : E) → X.kind_of e ≡ Some kind.TakePage → ⊥) where
   -- ---- the senders' side
   module _ (b b' : Bus E) (frames : List Frame) (h : LawfulBus P x b frames) (D : ℕ → List Deed) (T : Ties P x b.side D) where
-    put_ties : (s : ℕ) (bytes : List ℕ) (o : Option (Core E)) → slice_get b.side.senders s ≡ o → SenderDoes b.side o (λ c. with_sender b.side s (put_in c bytes)) b'.side → (n : ℕ) → PutGives o (length bytes) n → Ties P x b'.side (λ q. D q ++ cond (q == s) (HasPut n bytes ∷ []) [])
+    put_ties : (s : ℕ) (bytes : List ℕ) (o : Option (Core E)) → going b s ≡ o → SenderDoes b.side o (λ c. with_sender b.side s (put_in c bytes)) b'.side → (n : ℕ) → PutGives o (length bytes) n → Ties P x b'.side (λ q. D q ++ cond (q == s) (HasPut n bytes ∷ []) [])
     put_ties s bytes None i d n gives = absurd gives
     put_ties s bytes (Some c) i d n gives = subst (λ z. Ties P x z (λ q. D q ++ cond (q == s) (HasPut n bytes ∷ []) [])) (sym d) (by_test (can_put c.queue (length bytes)))
       where
         by_test : (t : Bool) → Ties P x (with_sender b.side s (cond t (record c { queue = record c.queue { messages = c.queue.messages ++ bytes ∷ [] } }) c)) (λ q. D q ++ cond (q == s) (HasPut n bytes ∷ []) [])
-        by_test true = batch_ties X P laws x ok width starts owner_is named announces apart b.side frames (side_of h) s c i 0 D T (record c { queue = record c.queue { messages = c.queue.messages ++ bytes ∷ [] } }) (HasPut n bytes ∷ []) refl refl (plain_put n bytes)
-        by_test false = batch_ties X P laws x ok width starts owner_is named announces apart b.side frames (side_of h) s c i 0 D T c (HasPut n bytes ∷ []) refl refl (plain_put n bytes)
+        by_test true = batch_ties X P laws x ok width starts owner_is named announces apart b.side frames (side_of h) s c (is_there b s c i) 0 D T (record c { queue = record c.queue { messages = c.queue.messages ++ bytes ∷ [] } }) (HasPut n bytes ∷ []) refl refl (plain_put n bytes)
+        by_test false = batch_ties X P laws x ok width starts owner_is named announces apart b.side frames (side_of h) s c (is_there b s c i) 0 D T c (HasPut n bytes ∷ []) refl refl (plain_put n bytes)
 
-    close_ties : (s : ℕ) (o : Option (Core E)) → slice_get b.side.senders s ≡ o → SenderDoes b.side o (λ c. with_sender b.side s (close_in c)) b'.side → CloseGives o → Ties P x b'.side (λ q. D q ++ cond (q == s) (HasClosed ∷ []) [])
+    close_ties : (s : ℕ) (o : Option (Core E)) → going b s ≡ o → SenderDoes b.side o (λ c. with_sender b.side s (close_in c)) b'.side → CloseGives o → Ties P x b'.side (λ q. D q ++ cond (q == s) (HasClosed ∷ []) [])
     close_ties s None i d gives = absurd gives
     close_ties s (Some c) i d gives = subst (λ z. Ties P x z (λ q. D q ++ cond (q == s) (HasClosed ∷ []) [])) (sym d) (by_test (can_close c.queue))
       where
         by_test : (t : Bool) → Ties P x (with_sender b.side s (cond t (record c { queue = record c.queue { phase = Closing } }) c)) (λ q. D q ++ cond (q == s) (HasClosed ∷ []) [])
-        by_test true = batch_ties X P laws x ok width starts owner_is named announces apart b.side frames (side_of h) s c i 0 D T (record c { queue = record c.queue { phase = Closing } }) (HasClosed ∷ []) refl refl plain_close
-        by_test false = batch_ties X P laws x ok width starts owner_is named announces apart b.side frames (side_of h) s c i 0 D T c (HasClosed ∷ []) refl refl plain_close
+        by_test true = batch_ties X P laws x ok width starts owner_is named announces apart b.side frames (side_of h) s c (is_there b s c i) 0 D T (record c { queue = record c.queue { phase = Closing } }) (HasClosed ∷ []) refl refl plain_close
+        by_test false = batch_ties X P laws x ok width starts owner_is named announces apart b.side frames (side_of h) s c (is_there b s c i) 0 D T c (HasClosed ∷ []) refl refl plain_close
 
-    turning_ties : (s word : ℕ) (o : Option (Core E)) → slice_get b.side.senders s ≡ o → SenderDoes b.side o (λ c. side_after X b.side s c (situation_of X c) word) b'.side → (a : Answer) → TurnAnswers X b.side.words o word a → Ties P x b'.side (λ q. D q ++ cond (q == s) (turning_deeds X b.side.words o word a) [])
+    turning_ties : (s word : ℕ) (o : Option (Core E)) → going b s ≡ o → SenderDoes b.side o (λ c. side_after X b.side s c (situation_of X c) word) b'.side → (a : Answer) → TurnAnswers X b.side.words o word a → Ties P x b'.side (λ q. D q ++ cond (q == s) (turning_deeds X b.side.words o word a) [])
     turning_ties s word None i d a told = absurd told
     turning_ties s word (Some c) i d a told = subst (λ t. Ties P x b'.side (λ q. D q ++ cond (q == s) (turning_deeds X b.side.words (Some c) word t) [])) (sym told)
-        (subst (λ z. Ties P x z (λ q. D q ++ cond (q == s) (turning_deeds X b.side.words (Some c) word (answer.Turn (answer_at X c (situation_of X c) (number_found (slice_index b.side.words) (op_at X c (situation_of X c) word)) word))) [])) (sym d) (turn_ties X P laws x ok width starts owner_is named announces apart b.side frames (side_of h) s c i word D T))
+        (subst (λ z. Ties P x z (λ q. D q ++ cond (q == s) (turning_deeds X b.side.words (Some c) word (answer.Turn (answer_at X c (situation_of X c) (number_found (slice_index b.side.words) (op_at X c (situation_of X c) word)) word))) [])) (sym d) (turn_ties X P laws x ok width starts owner_is named announces apart b.side frames (side_of h) s c (is_there b s c i) word D T))
 
     event_ties : (e : Event) (a : Answer) → Happens X b e b' → Answers X b e a b' → Ties P x b'.side (λ q. D q ++ deeds_of X b e a q)
-    event_ties (Put s bytes) a d w = subst (λ t. Ties P x b'.side (λ q. D q ++ cond (q == s) (put_deeds bytes t) [])) (sym w.2) (put_ties s bytes (slice_get b.side.senders s) refl d.0 w.0 w.1)
-    event_ties (Close s) a d w = subst (λ t. Ties P x b'.side (λ q. D q ++ cond (q == s) (close_deeds t) [])) (sym w.1) (close_ties s (slice_get b.side.senders s) refl d.0 w.0)
-    event_ties (Turn s word) a d w = turning_ties s word (slice_get b.side.senders s) refl d.0 a w
+    event_ties (Put s bytes) a d w = subst (λ t. Ties P x b'.side (λ q. D q ++ cond (q == s) (put_deeds bytes t) [])) (sym w.2) (put_ties s bytes (going b s) refl d.0 w.0 w.1)
+    event_ties (Close s) a d w = subst (λ t. Ties P x b'.side (λ q. D q ++ cond (q == s) (close_deeds t) [])) (sym w.1) (close_ties s (going b s) refl d.0 w.0)
+    event_ties (Turn s word) a d w = turning_ties s word (going b s) refl d.0 a w
     event_ties (Recv r) a d w = subst (λ z. Ties P x z (λ q. D q ++ [])) (sym d.0) (subst (Ties P x b.side) (sym (fun_ext (λ q. append-nil (D q)))) T)
+    event_ties (Stop s) a d w = subst (λ z. Ties P x z (λ q. D q ++ [])) (sym d.0) (subst (Ties P x b.side) (sym (fun_ext (λ q. append-nil (D q)))) T)
 
   -- ---- who closed
   module _ (b b' : Bus E) (frames : List Frame) (h : LawfulBus P x b frames) (D : ℕ → List Deed) (C : Closings (slice_get b.side.senders) frames D) where
@@ -188,37 +191,38 @@ module _ {E : Type 0} (X : Election E) (P : Protocol E (Unit {0}) ℕ) (laws : L
     goes_on_closing s c c' i ds own same = subst (λ z. Closings (slice_get z) frames (λ q. D q ++ cond (q == s) ds [])) (sym same)
         (closings_after b.side.senders frames D C s c i ds c' frames own (frames_later (slice_get b.side.senders) frames D C s c i ds))
 
-    put_closings : (s : ℕ) (bytes : List ℕ) (o : Option (Core E)) → slice_get b.side.senders s ≡ o → SenderDoes b.side o (λ c. with_sender b.side s (put_in c bytes)) b'.side → (n : ℕ) → PutGives o (length bytes) n → Closings (slice_get b'.side.senders) frames (λ q. D q ++ cond (q == s) (HasPut n bytes ∷ []) [])
+    put_closings : (s : ℕ) (bytes : List ℕ) (o : Option (Core E)) → going b s ≡ o → SenderDoes b.side o (λ c. with_sender b.side s (put_in c bytes)) b'.side → (n : ℕ) → PutGives o (length bytes) n → Closings (slice_get b'.side.senders) frames (λ q. D q ++ cond (q == s) (HasPut n bytes ∷ []) [])
     put_closings s bytes None i d n gives = absurd gives
-    put_closings s bytes (Some c) i d n gives = goes_on_closing s c (put_in c bytes) i (HasPut n bytes ∷ []) (λ e. own_closed (slice_get b.side.senders) frames D C s c i (HasPut n bytes ∷ []) (by_test (can_put c.queue (length bytes)) e)) (ap (λ (z : Side E). z.senders) d)
+    put_closings s bytes (Some c) i d n gives = goes_on_closing s c (put_in c bytes) (is_there b s c i) (HasPut n bytes ∷ []) (λ e. own_closed (slice_get b.side.senders) frames D C s c (is_there b s c i) (HasPut n bytes ∷ []) (by_test (can_put c.queue (length bytes)) e)) (ap (λ (z : Side E). z.senders) d)
       where
         by_test : (t : Bool) → (cond t (record c { queue = record c.queue { messages = c.queue.messages ++ bytes ∷ [] } }) c).queue.phase ≡ Closing → c.queue.phase ≡ Closing
         by_test true e = e
         by_test false e = e
 
-    close_closings : (s : ℕ) (o : Option (Core E)) → slice_get b.side.senders s ≡ o → SenderDoes b.side o (λ c. with_sender b.side s (close_in c)) b'.side → CloseGives o → Closings (slice_get b'.side.senders) frames (λ q. D q ++ cond (q == s) (HasClosed ∷ []) [])
+    close_closings : (s : ℕ) (o : Option (Core E)) → going b s ≡ o → SenderDoes b.side o (λ c. with_sender b.side s (close_in c)) b'.side → CloseGives o → Closings (slice_get b'.side.senders) frames (λ q. D q ++ cond (q == s) (HasClosed ∷ []) [])
     close_closings s None i d gives = absurd gives
-    close_closings s (Some c) i d gives = goes_on_closing s c (close_in c) i (HasClosed ∷ []) (λ e. own_closes (slice_get b.side.senders) frames D C s c i (HasClosed ∷ []) (0, refl)) (ap (λ (z : Side E). z.senders) d)
+    close_closings s (Some c) i d gives = goes_on_closing s c (close_in c) (is_there b s c i) (HasClosed ∷ []) (λ e. own_closes (slice_get b.side.senders) frames D C s c (is_there b s c i) (HasClosed ∷ []) (0, refl)) (ap (λ (z : Side E). z.senders) d)
 
-    turn_closings : (s word : ℕ) (o : Option (Core E)) → slice_get b.side.senders s ≡ o → SenderDoes b.side o (λ c. side_after X b.side s c (situation_of X c) word) b'.side → (ds : List Deed) → Closings (slice_get b'.side.senders) (frames_by X o frames) (λ q. D q ++ cond (q == s) ds [])
+    turn_closings : (s word : ℕ) (o : Option (Core E)) → going b s ≡ o → SenderDoes b.side o (λ c. side_after X b.side s c (situation_of X c) word) b'.side → (ds : List Deed) → Closings (slice_get b'.side.senders) (frames_by X o frames) (λ q. D q ++ cond (q == s) ds [])
     turn_closings s word None i d ds = record {
       closing = λ q c at shut. still_closed (D q) (cond (q == s) ds []) (C.closing q c (ap (λ (z : Side E). slice_get z.senders q) (sym d) ∙ at) shut);
       ended = λ j f at ends. still_closed (D f.owner.0) (cond (f.owner.0 == s) ds []) (C.ended j f at ends);
     }
     turn_closings s word (Some c) i d ds =
-        let part = h.keeps.sending.parts s c i in
+        let part = h.keeps.sending.parts s c (is_there b s c i) in
         let z = situation_of X c in
         subst (λ l. Closings (slice_get l) (frames_after X c z frames) (λ q. D q ++ cond (q == s) ds [])) (sym (ap (λ (l : Side E). l.senders) d))
-        (closings_after b.side.senders frames D C s c i ds (core_after X c z b.side.home (number_found (slice_index b.side.words) (op_at X c z word)) word) (frames_after X c z frames)
-        (λ e. own_closed (slice_get b.side.senders) frames D C s c i ds (turn_closing X c z b.side.home (number_found (slice_index b.side.words) (op_at X c z word)) word e))
-        (turn_frames X c z frames (λ f. Closed (D f.owner.0 ++ cond (f.owner.0 == s) ds [])) (frames_later (slice_get b.side.senders) frames D C s c i ds)
-        (λ t e. subst (λ q. Closed (D q ++ cond (q == s) ds [])) (sym part.sender) (own_closed (slice_get b.side.senders) frames D C s c i ds e))))
+        (closings_after b.side.senders frames D C s c (is_there b s c i) ds (core_after X c z b.side.home (number_found (slice_index b.side.words) (op_at X c z word)) word) (frames_after X c z frames)
+        (λ e. own_closed (slice_get b.side.senders) frames D C s c (is_there b s c i) ds (turn_closing X c z b.side.home (number_found (slice_index b.side.words) (op_at X c z word)) word e))
+        (turn_frames X c z frames (λ f. Closed (D f.owner.0 ++ cond (f.owner.0 == s) ds [])) (frames_later (slice_get b.side.senders) frames D C s c (is_there b s c i) ds)
+        (λ t e. subst (λ q. Closed (D q ++ cond (q == s) ds [])) (sym part.sender) (own_closed (slice_get b.side.senders) frames D C s c (is_there b s c i) ds e))))
 
     event_closings : (e : Event) (a : Answer) → Happens X b e b' → Answers X b e a b' → Closings (slice_get b'.side.senders) (event_frames X b e frames) (λ q. D q ++ deeds_of X b e a q)
-    event_closings (Put s bytes) a d w = subst (λ t. Closings (slice_get b'.side.senders) frames (λ q. D q ++ cond (q == s) (put_deeds bytes t) [])) (sym w.2) (put_closings s bytes (slice_get b.side.senders s) refl d.0 w.0 w.1)
-    event_closings (Close s) a d w = subst (λ t. Closings (slice_get b'.side.senders) frames (λ q. D q ++ cond (q == s) (close_deeds t) [])) (sym w.1) (close_closings s (slice_get b.side.senders s) refl d.0 w.0)
-    event_closings (Turn s word) a d w = turn_closings s word (slice_get b.side.senders s) refl d.0 (turning_deeds X b.side.words (slice_get b.side.senders s) word a)
+    event_closings (Put s bytes) a d w = subst (λ t. Closings (slice_get b'.side.senders) frames (λ q. D q ++ cond (q == s) (put_deeds bytes t) [])) (sym w.2) (put_closings s bytes (going b s) refl d.0 w.0 w.1)
+    event_closings (Close s) a d w = subst (λ t. Closings (slice_get b'.side.senders) frames (λ q. D q ++ cond (q == s) (close_deeds t) [])) (sym w.1) (close_closings s (going b s) refl d.0 w.0)
+    event_closings (Turn s word) a d w = turn_closings s word (going b s) refl d.0 (turning_deeds X b.side.words (going b s) word a)
     event_closings (Recv r) a d w = subst (λ z. Closings (slice_get z.senders) frames (λ q. D q ++ [])) (sym d.0) (subst (Closings (slice_get b.side.senders) frames) (sym (fun_ext (λ q. append-nil (D q)))) C)
+    event_closings (Stop s) a d w = subst (λ z. Closings (slice_get z.senders) frames (λ q. D q ++ [])) (sym d.0) (subst (Closings (slice_get b.side.senders) frames) (sym (fun_ext (λ q. append-nil (D q)))) C)
 
   -- ---- the receivers
   -- each has heard what stands below its place, and where there is none nothing is heard
@@ -274,6 +278,7 @@ module _ {E : Type 0} (X : Election E) (P : Protocol E (Unit {0}) ℕ) (laws : L
     event_heard lawful (Close s) a d w = nobody_hears d.1
     event_heard lawful (Turn s word) a d w = nobody_hears d.1
     event_heard lawful (Recv r) a d w = one_hears d.0 lawful r (slice_get b.receivers r) refl a w
+    event_heard lawful (Stop s) a d w = nobody_hears d.1
 
   -- ---- the numbers of messages
   module _ (b : Bus E) (frames : List Frame) (h : LawfulBus P x b frames) where
@@ -296,15 +301,15 @@ module _ {E : Type 0} (X : Election E) (P : Protocol E (Unit {0}) ℕ) (laws : L
     number_at s c i (phase.Holding t page stored false) e fits idle = absurd (busy_apart c.queue.busy fits.0.busy idle)
     number_at s c i (phase.Giving t reason) e fits idle = absurd fits
 
-    put_number : (s : ℕ) (o : Option (Core E)) → slice_get b.side.senders s ≡ o → (len n : ℕ) → PutGives o len n → n ≡ length (put_by b frames s)
+    put_number : (s : ℕ) (o : Option (Core E)) → going b s ≡ o → (len n : ℕ) → PutGives o len n → n ≡ length (put_by b frames s)
     put_number s None i len n gives = absurd gives
-    put_number s (Some c) i len n gives = gives.1 ∙ number_at s c i c.phase refl (h.keeps.sending.parts s c i).fits (ap (λ z. cond z false true) gives.0.idle)
+    put_number s (Some c) i len n gives = gives.1 ∙ number_at s c (is_there b s c i) c.phase refl (h.keeps.sending.parts s c (is_there b s c i)).fits (ap (λ z. cond z false true) gives.0.idle)
 
     numbers : (b' : Bus E) (e : Event) (a : Answer) → Answers X b e a b' → (q j n : ℕ) (bytes : List ℕ) → slice_get (deeds_of X b e a q) j ≡ Some (HasPut n bytes) → (j ≡ 0) × (n ≡ length (put_by b frames q))
     numbers b' (Put s bytes') a w q j n bytes e = elim (eqb_tells q s) [
       | inl y ↦
           let one = only_deed (HasPut w.0 bytes') j _ (ap (λ t. slice_get (put_deeds bytes' t) j) (sym w.2) ∙ ap (λ t. slice_get (cond t (put_deeds bytes' a) []) j) (sym y.0) ∙ e) in
-          (one.0, sym (same_number _ _ _ _ one.1) ∙ subst (λ z. w.0 ≡ length (put_by b frames z)) (sym y.1) (put_number s (slice_get b.side.senders s) refl (length bytes') w.0 w.1))
+          (one.0, sym (same_number _ _ _ _ one.1) ∙ subst (λ z. w.0 ≡ length (put_by b frames z)) (sym y.1) (put_number s (going b s) refl (length bytes') w.0 w.1))
       | inr y ↦ absurd (none_in j _ (ap (λ t. slice_get (cond t (put_deeds bytes' a) []) j) (sym y.0) ∙ e))
     ]
     numbers b' (Close s) a w q j n bytes e = absurd (by_test (q == s) (ap (λ t. slice_get (cond (q == s) (close_deeds t) []) j) (sym w.1) ∙ e))
@@ -312,7 +317,7 @@ module _ {E : Type 0} (X : Election E) (P : Protocol E (Unit {0}) ℕ) (laws : L
         by_test : (t : Bool) → slice_get (cond t (HasClosed ∷ []) []) j ≡ Some (HasPut n bytes) → ⊥
         by_test true f = closed_apart n bytes (only_deed HasClosed j _ f).1
         by_test false f = none_in j _ f
-    numbers b' (Turn s word) a w q j n bytes e = absurd (turning (q == s) (slice_get b.side.senders s) w e)
+    numbers b' (Turn s word) a w q j n bytes e = absurd (turning (q == s) (going b s) w e)
       where
         by_kind : (k : Option Kind) (tn : Option ℕ) (got : ℕ) (ch : Option ℕ) (t : Answered) → slice_get (step_deed k tn got ch t) j ≡ Some (HasPut n bytes) → ⊥
         by_kind None tn got ch t f = none_in j _ f
@@ -323,6 +328,7 @@ module _ {E : Type 0} (X : Election E) (P : Protocol E (Unit {0}) ℕ) (laws : L
         turning false (Some c) told f = none_in j _ f
         turning true (Some c) told f = by_kind (kind_at X c (situation_of X c)) _ _ _ _ (ap (λ z. slice_get (turning_deeds X b.side.words (Some c) word z) j) (sym told) ∙ f)
     numbers b' (Recv r) a w q j n bytes e = absurd (none_in j _ e)
+    numbers b' (Stop s) a w q j n bytes e = absurd (none_in j _ e)
 
   -- ---- one event, and any list of them
   pub record Kept (b : Bus E) (T : Trails) : Type 0 where

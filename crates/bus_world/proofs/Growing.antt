@@ -8,7 +8,7 @@ use Rattle.bus_tenure.specs.Core.{Core, Election}
 use Rattle.bus_tenure.specs.Situations.{situation_of, line_of}
 use Rattle.bus_world.specs.Headline.{IsPrefix}
 use Rattle.bus_world.specs.Turning.{Side, side_after}
-use Rattle.bus_world.specs.World.{Bus, Event, Put, Close, Turn, Recv, IsEvent, Happens, SenderDoes, with_sender, put_in, close_in}
+use Rattle.bus_world.specs.World.{Bus, Event, Put, Close, Turn, Recv, Stop, going, IsEvent, Happens, SenderDoes, with_sender, put_in, close_in}
 use Rattle.bus_world.specs.declared.events.Event.{Event as Told}
 use Rattle.bus_world.specs.Playing.{event_told, Answers, AllAnswered}
 use Rattle.bus_world.specs.declared.events.Answer.{Answer}
@@ -39,10 +39,11 @@ same_owners side side' None f same d = same_prefix side.owners side'.owners (ap 
 same_owners side side' (Some c) f same d = same_prefix side.owners side'.owners (ap (λ (z : Side _). z.owners) d ∙ same c)
 
 pub event_takers : {E : Type 0} (X : Election E) (b b' : Bus E) (e : Event) → Happens X b e b' → IsPrefix b.side.owners b'.side.owners
-event_takers X b b' (Put s bytes) d = same_owners b.side b'.side (slice_get b.side.senders s) (λ c. with_sender b.side s (put_in c bytes)) (λ c. refl) d.0
-event_takers X b b' (Close s) d = same_owners b.side b'.side (slice_get b.side.senders s) (λ c. with_sender b.side s (close_in c)) (λ c. refl) d.0
-event_takers X b b' (Turn s word) d = turn_owners X b.side b'.side s word (slice_get b.side.senders s) d.0
+event_takers X b b' (Put s bytes) d = same_owners b.side b'.side (going b s) (λ c. with_sender b.side s (put_in c bytes)) (λ c. refl) d.0
+event_takers X b b' (Close s) d = same_owners b.side b'.side (going b s) (λ c. with_sender b.side s (close_in c)) (λ c. refl) d.0
+event_takers X b b' (Turn s word) d = turn_owners X b.side b'.side s word (going b s) d.0
 event_takers X b b' (Recv r) d = same_prefix b.side.owners b'.side.owners (ap (λ (z : Side _). z.owners) d.0)
+event_takers X b b' (Stop s) d = same_prefix b.side.owners b'.side.owners (ap (λ (z : Side _). z.owners) d.0)
 
 -- ---- all events
 pub answered_more : {E : Type 0} (X : Election E) (events : List Event) (old mid new : Bus E) (e : Event) (a : Answer) → AllAnswered X old events mid → IsEvent e → Happens X mid e new → Answers X mid e a new → AllAnswered X old (events ++ e ∷ []) new

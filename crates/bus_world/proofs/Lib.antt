@@ -1,3 +1,4 @@
+pub mod Stopping
 pub mod Waiting
 pub mod TenuresLaws
 pub mod LogLaws
@@ -30,3 +31,4 @@ pub mod Beginning
 pub mod YardWords
 pub mod YardNotes
 pub mod YardLaws
+pub mod StopLaws

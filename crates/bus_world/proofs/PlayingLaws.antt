@@ -1,6 +1,6 @@
 -- What a program holds stays a bus.
-use Rattle.std.proofs.Common.{◌≡◌, ◌≢◌, ℕ, ◌+◌, ◌*◌, ◌-◌, ◌/◌, ◌<◌, ◌≤◌, ◌^◌, Bool, true, false, cond, ◌&&◌, ◌==◌, nat_lt, nat_le, Option, Some, None, ◌⊎◌, inl, inr, List, [], ◌∷◌, ◌++◌, length, map, get_or, slice_get, slice_index, slice_set, arith, refl, sym, ◌∙◌, ap, subst}
-use Rattle.std.specs.Prelude.{Result, Ok, Err, IfOk, IfErr, OnOk, OnErr, IfSome, All}
+use Rattle.std.proofs.Common.{◌≡◌, ◌≢◌, ℕ, zero, suc, ◌+◌, ◌*◌, ◌-◌, ◌/◌, ◌<◌, ◌≤◌, ◌^◌, Bool, true, false, cond, ◌&&◌, ◌==◌, nat_lt, nat_le, Option, Some, None, ◌⊎◌, inl, inr, List, [], ◌∷◌, ◌++◌, length, map, get_or, slice_get, slice_index, slice_set, arith, refl, sym, ◌∙◌, ap, subst}
+use Rattle.std.specs.Prelude.{Result, Ok, Err, IsErr, IsErrAnd, IfOk, IfErr, OnOk, OnErr, IfSome, All}
 use Rattle.std.proofs.lemmas.Bool.{and_parts, leb-true, ltb-true, true≢false}
 use Rattle.std.proofs.lemmas.Bool.Decides.{nat_tests, eqb_tells}
 use Rattle.std.proofs.lemmas.Grind.{common_steps}
@@ -32,15 +32,16 @@ use Rattle.bus_tenure.specs.declared.turns.Turn.TheVariants as turn
 use Rattle.bus_world.specs.Bus.{IsLayout, Part, stands_at, standing_of}
 use Rattle.bus_register.specs.Proved.TableLaws.{push_here}
 use Rattle.bus_world.specs.Turning.{Side, side_after, words_after, number_found, home_after, core_after, owners_after, owners_by}
+use Rattle.bus_world.proofs.Stopping.{goes_on, refused_as, refused_stays, has_stopped_is}
 use Rattle.bus_world.proofs.Waiting.{frames_after}
 use Rattle.bus_world.proofs.TurningLaws.{turn_lawful, IsSide, side_of}
-use Rattle.bus_world.specs.World.{Bus, Event, Put, Close, Turn, Recv, IsEvent, Happens, SenderDoes, ReceiverDoes, RecvDoes, with_sender, put_in, close_in, is_open, can_put, can_close, IsReceiver}
+use Rattle.bus_world.specs.World.{Bus, Event, Put, Close, Turn, Recv, Stop, has_stopped, going, StopDoes, IsEvent, Happens, SenderDoes, ReceiverDoes, RecvDoes, with_sender, put_in, close_in, is_open, can_put, can_close, IsReceiver}
 use Rattle.bus_tenure.proofs.Situated.{tells}
 use Rattle.bus_world.proofs.Accepting.{open_is, not_busy, empty_is}
 use Rattle.bus_world.proofs.WorldLaws.{event_left, numbers_fit}
 use Rattle.bus_world.specs.Trails.{IsServedBus, trails_grown}
 use Rattle.bus_world.specs.Trails.Reached.{Then}
-use Rattle.bus_world.specs.Playing.{SizedBus, Answers, PutGives, PutRefused, CloseGives, CloseRefused, TurnAnswers, TurnRefused, RecvAnswers, RecvRefused}
+use Rattle.bus_world.specs.Playing.{SizedBus, Answers, PutGives, PutRefused, CloseGives, CloseRefused, TurnAnswers, TurnRefused, RecvAnswers, RecvRefused, StopGives, UnlessStopped, Refused}
 use Rattle.bus_world.specs.declared.events.StepFault.{StepFault}
 use Rattle.bus_world.specs.declared.events.StepFault.TheVariants as fault
 use Rattle.bus_world.specs.declared.events.Answer.{Answer}
@@ -56,10 +57,11 @@ length_senders side side' (Some c) f same d = ap (λ (z : Side _). length z.send
 
 -- the senders stay as many
 event_length : {E : Type 0} (X : Election E) (b b' : Bus E) (e : Event) → Happens X b e b' → length b'.side.senders ≡ length b.side.senders
-event_length X b b' (Put s bytes) d = length_senders b.side b'.side (slice_get b.side.senders s) _ (λ c. length-set b.side.senders s (put_in c bytes)) d.0
-event_length X b b' (Close s) d = length_senders b.side b'.side (slice_get b.side.senders s) _ (λ c. length-set b.side.senders s (close_in c)) d.0
-event_length X b b' (Turn s word) d = length_senders b.side b'.side (slice_get b.side.senders s) _ (λ c. length-set b.side.senders s _) d.0
+event_length X b b' (Put s bytes) d = length_senders b.side b'.side (going b s) _ (λ c. length-set b.side.senders s (put_in c bytes)) d.0
+event_length X b b' (Close s) d = length_senders b.side b'.side (going b s) _ (λ c. length-set b.side.senders s (close_in c)) d.0
+event_length X b b' (Turn s word) d = length_senders b.side b'.side (going b s) _ (λ c. length-set b.side.senders s _) d.0
 event_length X b b' (Recv r) d = ap (λ (z : Side _). length z.senders) d.0
+event_length X b b' (Stop s) d = ap (λ (z : Side _). length z.senders) d.0
 
 module _ {E : Type 0} (X : Election E) (P : Protocol E (Unit {0}) ℕ) (x : Layout) (laws : Laws X.op X.fed P OneOwner) (width : x.width ≡ P.width x.senders)
     (starts : (n me at : ℕ) → X.started n me x.rounds at ≡ P.started n me tt at) (owner_is : (e : E) → X.owner e ≡ P.output e) where
@@ -85,6 +87,14 @@ module _ {E : Type 0} (X : Election E) (P : Protocol E (Unit {0}) ℕ) (x : Layo
 refuses : {A F : Type 0} (r : Result A F) (Q : F → Type 0) (P : Type 0) → IfErr r Q → ((e : F) → Q e → P) → OnErr r P
 refuses (Ok a) Q P h f = tt
 refuses (Err e) Q P h f = f e h
+
+pub passed_up : {T F : Type 0} (r : Result T F) (e : F) (P : F → Type 0) → IsErr r × IsErrAnd r (λ y. y ≡ e) → P e → IfErr r P
+passed_up (Ok x) e P h p = absurd h.1
+passed_up (Err y) e P h p = subst P (sym h.1) p
+
+for_each : {A F : Type 0} (r : Result A F) (P Q : F → Type 0) → IfErr r P → ((e : F) → P e → Q e) → IfErr r Q
+for_each (Ok a) P Q h f = tt
+for_each (Err e) P Q h f = f e h
 
 -- ---- tests
 and_no : (a : Bool) → (a && false) ≡ false
@@ -153,6 +163,15 @@ numbers_many senders l = let same = length-map senders (λ (s : SenderNo). s.0) 
 pub there : {A : Type 0} (xs : List A) (p : ℕ) (x : A) → p < length xs → x ≡ get_or xs p x → slice_get xs p ≡ Some x
 there xs p x l e = slice_get-get_or xs p x l ∙ ap Some (sym e)
 
+pub one_there : {A : Type 0} (xs : List A) (r : ℕ) → r < length xs → (v : A) × (slice_get xs r ≡ Some v)
+one_there [] r l = absurd (omega arith)
+one_there (x ∷ xs) zero l = (x, refl)
+one_there (x ∷ xs) (suc r) l = one_there xs r (omega arith)
+
+-- a sender that has stopped is refused as such
+pub stop_unknown : {E : Type 0} {X : Election E} {P : Protocol E (Unit {0}) ℕ} (z : SizedBus E) → IsServedBus X P z → (now : SizedBus E) → z ≡ now → (s : ℕ) → s < length z.bus.side.senders → get_or z.bus.stopped s false ≡ true → Refused now.bus (Stop s) fault.Stopped
+stop_unknown z h now is s l e = subst (λ y. Refused y.bus (Stop s) fault.Stopped) is (has_stopped_is z.bus s (one_there z.bus.side.senders s l) e)
+
 -- the bytes of a program are bytes
 pub small_bytes : (bytes : List ℕ) → ((i : ℕ) → get_or bytes i 0 < 256) → All (λ byte. byte < 256) bytes
 small_bytes bytes f k d l = subst (λ z. z < 256) (same_Some _ _ (sym (slice_get-get_or bytes k 0 l) ∙ slice_get-get_or bytes k d l)) (f k)
@@ -164,46 +183,71 @@ module _ {E : Type 0} (X : Election E) (P : Protocol E (Unit {0}) ℕ) (x : Layo
   served = layout_served X P x laws width starts owner_is b h
 
   abbrev with_core : ℕ → Core E → Bus E
-  with_core s c = record { side = with_sender b.side s c; receivers = b.receivers }
+  with_core s c = record { side = with_sender b.side s c; receivers = b.receivers; stopped = b.stopped }
 
   -- ---- where there is none
-  pub no_sender : (s : ℕ) → length b.side.senders ≤ s → slice_get now.bus.side.senders s ≡ None
-  no_sender s l = subst (λ z. slice_get z.bus.side.senders s ≡ None) is (slice_get_past b.side.senders s l)
+  -- the senders that a program holds are those that there are
+  pub senders_many : (s : ℕ) → s < length now.bus.side.senders → s < length b.side.senders
+  senders_many s l = subst (λ z. s < length z.bus.side.senders) (sym is) l
+
+  -- and of each it can hold whether it has stopped
+  pub stops_fit : (s : ℕ) → s < length b.side.senders → s < 8
+  stops_fit s l = let many = h.senders in let few = h.senders_few in omega arith
 
   no_receiver : (r : ℕ) → length b.receivers ≤ r → slice_get now.bus.receivers r ≡ None
   no_receiver r l = subst (λ z. slice_get z.bus.receivers r ≡ None) is (slice_get_past b.receivers r l)
 
-  pub put_unknown : (s len : ℕ) → length b.side.senders ≤ s → PutRefused (slice_get now.bus.side.senders s) len fault.NoSuchSender
-  put_unknown s len l = subst (λ o. PutRefused o len fault.NoSuchSender) (sym (no_sender s l)) refl
+  -- ---- where there is none, or it has stopped
+  module _ (s : ℕ) (why : StepFault) (refused : Refused now.bus (Stop s) why) where
+    pub put_unknown : (bytes : List ℕ) → Refused now.bus (Put s bytes) why
+    put_unknown bytes = refused_as now.bus s why (λ o. PutRefused o (length bytes) why) (λ e. e) refused
 
-  pub close_unknown : (s : ℕ) → length b.side.senders ≤ s → CloseRefused (slice_get now.bus.side.senders s) fault.NoSuchSender
-  close_unknown s l = subst (λ o. CloseRefused o fault.NoSuchSender) (sym (no_sender s l)) refl
+    pub close_unknown : Refused now.bus (Close s) why
+    close_unknown = refused_as now.bus s why (λ o. CloseRefused o why) (λ e. e) refused
 
-  pub turn_unknown : (s : ℕ) → length b.side.senders ≤ s → TurnRefused (slice_get now.bus.side.senders s) fault.NoSuchSender
-  turn_unknown s l = subst (λ o. TurnRefused o fault.NoSuchSender) (sym (no_sender s l)) refl
+    pub turn_unknown : (word : ℕ) → Refused now.bus (Turn s word) why
+    turn_unknown word = refused_as now.bus s why (λ o. TurnRefused o why) (λ e. e) refused
+
+    pub nobody : going now.bus s ≡ None
+    nobody = refused_stays now.bus s why refused
+
+    -- and nothing happens
+    pub put_idle : (bytes : List ℕ) → Happens X now.bus (Put s bytes) now.bus
+    put_idle bytes = (subst (λ o. SenderDoes now.bus.side o (λ c. with_sender now.bus.side s (put_in c bytes)) now.bus.side) (sym nobody) refl, refl, refl)
+
+    pub close_idle : Happens X now.bus (Close s) now.bus
+    close_idle = (subst (λ o. SenderDoes now.bus.side o (λ c. with_sender now.bus.side s (close_in c)) now.bus.side) (sym nobody) refl, refl, refl)
+
+    pub turn_idle : (word : ℕ) → Happens X now.bus (Turn s word) now.bus
+    turn_idle word = (subst (λ o. SenderDoes now.bus.side o (λ c. side_after X now.bus.side s c (situation_of X c) word) now.bus.side) (sym nobody) refl, refl, refl)
+
+    pub stop_idle : Happens X now.bus (Stop s) now.bus
+    stop_idle = (refl, refl, subst (λ o. StopDoes now.bus.stopped s o now.bus.stopped) (sym nobody) refl)
 
   pub recv_unknown : (r : ℕ) → length b.receivers ≤ r → RecvRefused (slice_get now.bus.receivers r) fault.NoSuchReceiver
   recv_unknown r l = subst (λ o. RecvRefused o fault.NoSuchReceiver) (sym (no_receiver r l)) refl
 
   -- and nothing happens
-  pub put_idle : (s : ℕ) (bytes : List ℕ) → length b.side.senders ≤ s → Happens X now.bus (Put s bytes) now.bus
-  put_idle s bytes l = (subst (λ o. SenderDoes now.bus.side o (λ c. with_sender now.bus.side s (put_in c bytes)) now.bus.side) (sym (no_sender s l)) refl, refl)
-
-  pub close_idle : (s : ℕ) → length b.side.senders ≤ s → Happens X now.bus (Close s) now.bus
-  close_idle s l = (subst (λ o. SenderDoes now.bus.side o (λ c. with_sender now.bus.side s (close_in c)) now.bus.side) (sym (no_sender s l)) refl, refl)
-
-  pub turn_idle : (s word : ℕ) → length b.side.senders ≤ s → Happens X now.bus (Turn s word) now.bus
-  turn_idle s word l = (subst (λ o. SenderDoes now.bus.side o (λ c. side_after X now.bus.side s c (situation_of X c) word) now.bus.side) (sym (no_sender s l)) refl, refl)
-
   pub recv_idle : (r : ℕ) → length b.receivers ≤ r → Happens X now.bus (Recv r) now.bus
-  recv_idle r l = (refl, subst (λ o. ReceiverDoes now.bus.side.words now.bus.receivers r o now.bus.receivers) (sym (no_receiver r l)) refl)
+  recv_idle r l = (refl, subst (λ o. ReceiverDoes now.bus.side.words now.bus.receivers r o now.bus.receivers) (sym (no_receiver r l)) refl, refl)
 
-  module _ (s : ℕ) (c : Core E) (old : slice_get b.side.senders s ≡ Some c) where
+  -- ---- of a sender that goes on
+  module _ (s : ℕ) (c : Core E) (old : slice_get b.side.senders s ≡ Some c) (free : has_stopped now.bus s ≡ false) where
     same_core : with_core s c ≡ b
-    same_core = ap (λ z. record { side = record b.side { senders = z }; receivers = b.receivers }) (set_same b.side.senders s c old)
+    same_core = ap (λ z. record { side = record b.side { senders = z }; receivers = b.receivers; stopped = b.stopped }) (set_same b.side.senders s c old)
 
-    pub now_has : Some c ≡ slice_get now.bus.side.senders s
+    goes : going b s ≡ Some c
+    goes = goes_on b s (subst (λ z. has_stopped z.bus s ≡ false) (sym is) free) ∙ old
+
+    pub now_goes : Some c ≡ going now.bus s
+    now_goes = sym (subst (λ z. going z.bus s ≡ Some c) is goes)
+
+    now_has : Some c ≡ slice_get now.bus.side.senders s
     now_has = sym (subst (λ z. slice_get z.bus.side.senders s ≡ Some c) is old)
+
+    -- it is refused for its own causes alone
+    own_cause : (why : StepFault) (own : Option (Core E) → Type 0) → own (Some c) → UnlessStopped (has_stopped now.bus s) (slice_get now.bus.side.senders s) why (own (slice_get now.bus.side.senders s))
+    own_cause why own e = subst (λ t. UnlessStopped t (slice_get now.bus.side.senders s) why (own (slice_get now.bus.side.senders s))) (sym free) (subst own now_has e)
 
     -- ---- a put
     pub put_fits : next_of c.queue < 2 ^ 48
@@ -211,7 +255,7 @@ module _ {E : Type 0} (X : Election E) (P : Protocol E (Unit {0}) ℕ) (x : Layo
 
     module _ (bytes : List ℕ) (c' : Core E) (put_is : c' ≡ put_in c bytes) where
       put_does : Happens X b (Put s bytes) (with_core s c')
-      put_does = (subst (λ o. SenderDoes b.side o (λ k. with_sender b.side s (put_in k bytes)) (with_sender b.side s c')) (sym old) (ap (with_sender b.side s) put_is), refl)
+      put_does = (subst (λ o. SenderDoes b.side o (λ k. with_sender b.side s (put_in k bytes)) (with_sender b.side s c')) (sym goes) (ap (with_sender b.side s) put_is), refl, refl)
 
       pub put_happens : Happens X now.bus (Put s bytes) (with_core s c')
       put_happens = subst (λ z. Happens X z.bus (Put s bytes) (with_core s c')) is put_does
@@ -226,7 +270,7 @@ module _ {E : Type 0} (X : Election E) (P : Protocol E (Unit {0}) ℕ) (x : Layo
               let sized = and_parts (nat_le (length bytes) 56) (nat_lt (length c.queue.messages) 16) idled.1 in
               let can : CanPut c.queue (length bytes) = record { is_open = open_is c.queue.phase opened.0; idle = not_busy c.queue.busy idled.0; short = leb-true (length bytes) 56 sized.0; room = ltb-true (length c.queue.messages) 16 sized.1 } in
               sitting_after X P x laws width starts owner_is b (with_core s c') (Put s bytes) (answer.Number (next_of c.queue)) h small put_does
-              (next_of c.queue, subst (λ o. PutGives o (length bytes) (next_of c.queue)) (sym old) (can, refl), refl)
+              (next_of c.queue, subst (λ o. PutGives o (length bytes) (next_of c.queue)) (sym goes) (can, refl), refl)
           by_test false e =
               let same : c' ≡ c = put_is ∙ ap (λ t. cond t (record c { queue = record c.queue { messages = c.queue.messages ++ bytes ∷ [] } }) c) e in
               subst (λ z. IsServedBus X P record { layout = x; bus = z }) (sym (ap (with_core s) same ∙ same_core)) h
@@ -236,16 +280,16 @@ module _ {E : Type 0} (X : Election E) (P : Protocol E (Unit {0}) ℕ) (x : Layo
           let same : c' ≡ c = put_is ∙ ap (λ t. cond t (record c { queue = record c.queue { messages = c.queue.messages ++ bytes ∷ [] } }) c) (put_allowed c.queue (length bytes) q.0 q.1) in
           ap (λ z. record { layout = x; bus = with_core s z }) same ∙ ap (λ z. record { layout = x; bus = z }) same_core ∙ is)
 
-    pub put_gives : (len : ℕ) (r : Result ℕ StepFault) → IfOk r (PutGives (Some c) len) → IfOk r (PutGives (slice_get now.bus.side.senders s) len)
-    put_gives len r = subst (λ o. IfOk r (PutGives o len)) now_has
+    pub put_gives : (len : ℕ) (r : Result ℕ StepFault) → IfOk r (PutGives (Some c) len) → IfOk r (PutGives (going now.bus s) len)
+    put_gives len r = subst (λ o. IfOk r (PutGives o len)) now_goes
 
-    pub put_refused : (len : ℕ) (r : Result ℕ StepFault) → IfErr r (PutRefused (Some c) len) → IfErr r (PutRefused (slice_get now.bus.side.senders s) len)
-    put_refused len r = subst (λ o. IfErr r (PutRefused o len)) now_has
+    pub put_refused : (bytes : List ℕ) (r : Result ℕ StepFault) → IfErr r (PutRefused (Some c) (length bytes)) → IfErr r (Refused now.bus (Put s bytes))
+    put_refused bytes r w = for_each r _ _ w (λ why q. own_cause why (λ o. PutRefused o (length bytes) why) q)
 
     -- ---- a close
     module _ (c' : Core E) (close_is : c' ≡ close_in c) where
       close_does : Happens X b (Close s) (with_core s c')
-      close_does = (subst (λ o. SenderDoes b.side o (λ k. with_sender b.side s (close_in k)) (with_sender b.side s c')) (sym old) (ap (with_sender b.side s) close_is), refl)
+      close_does = (subst (λ o. SenderDoes b.side o (λ k. with_sender b.side s (close_in k)) (with_sender b.side s c')) (sym goes) (ap (with_sender b.side s) close_is), refl, refl)
 
       pub close_happens : Happens X now.bus (Close s) (with_core s c')
       close_happens = subst (λ z. Happens X z.bus (Close s) (with_core s c')) is close_does
@@ -258,7 +302,7 @@ module _ {E : Type 0} (X : Election E) (P : Protocol E (Unit {0}) ℕ) (x : Layo
               let opened = and_parts (is_open c.queue.phase) (cond c.queue.busy false true && is_empty c.queue.messages) e in
               let idled = and_parts (cond c.queue.busy false true) (is_empty c.queue.messages) opened.1 in
               let can : CanClose c.queue = record { is_open = open_is c.queue.phase opened.0; idle = not_busy c.queue.busy idled.0; none = empty_is c.queue.messages idled.1 } in
-              sitting_after X P x laws width starts owner_is b (with_core s c') (Close s) answer.Closing h tt close_does (subst CloseGives (sym old) can, refl)
+              sitting_after X P x laws width starts owner_is b (with_core s c') (Close s) answer.Closing h tt close_does (subst CloseGives (sym goes) can, refl)
           by_test false e =
               let same : c' ≡ c = close_is ∙ ap (λ t. cond t (record c { queue = record c.queue { phase = Closing } }) c) e in
               subst (λ z. IsServedBus X P record { layout = x; bus = z }) (sym (ap (with_core s) same ∙ same_core)) h
@@ -268,11 +312,28 @@ module _ {E : Type 0} (X : Election E) (P : Protocol E (Unit {0}) ℕ) (x : Layo
           let same : c' ≡ c = close_is ∙ ap (λ t. cond t (record c { queue = record c.queue { phase = Closing } }) c) (close_allowed c.queue q.0 q.1) in
           ap (λ z. record { layout = x; bus = with_core s z }) same ∙ ap (λ z. record { layout = x; bus = z }) same_core ∙ is)
 
-    pub close_gives : (r : Result (Unit {0}) StepFault) → OnOk r (CloseGives (Some c)) → OnOk r (CloseGives (slice_get now.bus.side.senders s))
-    close_gives r = subst (λ o. OnOk r (CloseGives o)) now_has
+    pub close_gives : (r : Result (Unit {0}) StepFault) → OnOk r (CloseGives (Some c)) → OnOk r (CloseGives (going now.bus s))
+    close_gives r = subst (λ o. OnOk r (CloseGives o)) now_goes
 
-    pub close_refused : (r : Result (Unit {0}) StepFault) → IfErr r (CloseRefused (Some c)) → IfErr r (CloseRefused (slice_get now.bus.side.senders s))
-    close_refused r = subst (λ o. IfErr r (CloseRefused o)) now_has
+    pub close_refused : (r : Result (Unit {0}) StepFault) → IfErr r (CloseRefused (Some c)) → IfErr r (Refused now.bus (Close s))
+    close_refused r w = for_each r _ _ w (λ why q. own_cause why (λ o. CloseRefused o why) q)
+
+    -- ---- a stop
+    module _ (stopped : List Bool) (stopped_are : stopped ≡ slice_set b.stopped s true) where
+      abbrev with_stop : Bus E
+      with_stop = record { side = b.side; receivers = b.receivers; stopped = stopped }
+
+      stop_does : Happens X b (Stop s) with_stop
+      stop_does = (refl, refl, subst (λ o. StopDoes b.stopped s o stopped) (sym goes) stopped_are)
+
+      pub stop_happens : Happens X now.bus (Stop s) with_stop
+      stop_happens = subst (λ z. Happens X z.bus (Stop s) with_stop) is stop_does
+
+      pub stop_sits : IsServedBus X P record { layout = x; bus = with_stop }
+      stop_sits = sitting_after X P x laws width starts owner_is b with_stop (Stop s) answer.Stopped h tt stop_does (subst StopGives (sym goes) tt, refl)
+
+    pub stop_answers : StopGives (going now.bus s) × (answer.Stopped ≡ answer.Stopped)
+    stop_answers = (subst StopGives now_goes tt, refl)
 
     -- ---- a turn
     part : Part x (slice_index b.side.words) h.frames s c
@@ -328,7 +389,7 @@ module _ {E : Type 0} (X : Election E) (P : Protocol E (Unit {0}) ℕ) (x : Layo
       module _ (words : List ℕ) (home : Option Page) (c' : Core E) (owners : List ℕ) (words_are : words ≡ words_after b.side.words (op_at X c (situation_of X c) word)) (home_is : home ≡ home_after X c (situation_of X c) b.side.home)
           (core_is : c' ≡ core_after X c (situation_of X c) b.side.home step_found word) (owners_are : owners ≡ owners_by answered s b.side.owners) where
         abbrev with_turn : Bus E
-        with_turn = record { side = record { words = words; home = home; senders = slice_set b.side.senders s c'; owners = owners }; receivers = b.receivers }
+        with_turn = record { side = record { words = words; home = home; senders = slice_set b.side.senders s c'; owners = owners }; receivers = b.receivers; stopped = b.stopped }
 
         side_is : with_turn.side ≡ side_after X b.side s c (situation_of X c) word
         side_is =
@@ -339,16 +400,16 @@ module _ {E : Type 0} (X : Election E) (P : Protocol E (Unit {0}) ℕ) (x : Layo
             (owners_are ∙ sym (owners_told X c s b.side.owners (situation_of X c) step_found word))
 
         turn_does : Happens X b (Turn s word) with_turn
-        turn_does = (subst (λ o. SenderDoes b.side o (λ k. side_after X b.side s k (situation_of X k) word) with_turn.side) (sym old) side_is, refl)
+        turn_does = (subst (λ o. SenderDoes b.side o (λ k. side_after X b.side s k (situation_of X k) word) with_turn.side) (sym goes) side_is, refl, refl)
 
         pub turn_happens : Happens X now.bus (Turn s word) with_turn
         turn_happens = subst (λ z. Happens X z.bus (Turn s word) with_turn) is turn_does
 
         pub turn_sits : IsServedBus X P record { layout = x; bus = with_turn }
-        turn_sits = sitting_after X P x laws width starts owner_is b with_turn (Turn s word) (answer.Turn answered) h tt turn_does (subst (λ o. TurnAnswers X b.side.words o word (answer.Turn answered)) (sym old) refl)
+        turn_sits = sitting_after X P x laws width starts owner_is b with_turn (Turn s word) (answer.Turn answered) h tt turn_does (subst (λ o. TurnAnswers X b.side.words o word (answer.Turn answered)) (sym goes) refl)
 
-      pub turn_answers : (t : Answered) → t ≡ answered → TurnAnswers X now.bus.side.words (slice_get now.bus.side.senders s) word (answer.Turn t)
-      turn_answers t e = subst (λ z. TurnAnswers X z.bus.side.words (slice_get z.bus.side.senders s) word (answer.Turn t)) is (subst (λ o. TurnAnswers X b.side.words o word (answer.Turn t)) (sym old) (ap answer.Turn e))
+      pub turn_answers : (t : Answered) → t ≡ answered → TurnAnswers X now.bus.side.words (going now.bus s) word (answer.Turn t)
+      turn_answers t e = subst (λ z. TurnAnswers X z.bus.side.words (going z.bus s) word (answer.Turn t)) is (subst (λ o. TurnAnswers X b.side.words o word (answer.Turn t)) (sym goes) (ap answer.Turn e))
 
   -- ---- a turn of a receiver
   module _ (r : ℕ) (v : Receiving) (old : slice_get b.receivers r ≡ Some v) where
@@ -372,11 +433,11 @@ module _ {E : Type 0} (X : Election E) (P : Protocol E (Unit {0}) ℕ) (x : Layo
 
     module _ (turn : RecvTurn) (next : Receiving) (does : RecvDoes (slice_index b.side.words) v turn next) where
       abbrev with_reader : List ℕ → Bus E
-      with_reader words = record { side = record b.side { words = words }; receivers = slice_set b.receivers r next }
+      with_reader words = record { side = record b.side { words = words }; receivers = slice_set b.receivers r next; stopped = b.stopped }
 
       module _ (words : List ℕ) (same : words ≡ b.side.words) where
         recv_does : Happens X b (Recv r) (with_reader words)
-        recv_does = (ap (λ z. record b.side { words = z }) same, subst (λ o. ReceiverDoes b.side.words b.receivers r o (slice_set b.receivers r next)) (sym old) (next, turn, does, refl))
+        recv_does = (ap (λ z. record b.side { words = z }) same, subst (λ o. ReceiverDoes b.side.words b.receivers r o (slice_set b.receivers r next)) (sym old) (next, turn, does, refl), refl)
 
         pub recv_happens : Happens X now.bus (Recv r) (with_reader words)
         recv_happens = subst (λ z. Happens X z.bus (Recv r) (with_reader words)) is recv_does

@@ -8,7 +8,7 @@ use Rattle.bus_tenure.specs.Core.{Election, Layout}
 use Rattle.bus_world.specs.Bus.{IsLayout}
 use Rattle.bus_world.specs.Headline.{given}
 use Rattle.bus_world.specs.Playing.{SizedBus, AllAnswered, Answers, log_of}
-use Rattle.bus_world.proofs.PlayingLaws.{layout_served}
+use Rattle.bus_world.proofs.PlayingLaws.{layout_served, one_there}
 use Rattle.bus_world.specs.Telling.{Tells}
 use Rattle.bus_world.specs.Trails.{Trails, Reached, IsPromised, Takers, Follows, Played, IsServedBus}
 use Rattle.bus_world.specs.World.{Bus, Event, IsEvent, Happens, given_at}
@@ -16,11 +16,6 @@ use Rattle.bus_world.specs.declared.events.Answer.{Answer}
 use Rattle.bus_world.proofs.EventTrails as trails
 use Rattle.bus_world.proofs.Serving.{Serves}
 use Rattle.bus_world.proofs.Tellings.{event_tells}
-
-one_there : {A : Type 0} (xs : List A) (r : ℕ) → r < length xs → (v : A) × (slice_get xs r ≡ Some v)
-one_there [] r l = absurd (omega arith)
-one_there (x ∷ xs) zero l = (x, refl)
-one_there (x ∷ xs) (suc r) l = one_there xs r (omega arith)
 
 module _ {E : Type 0} (X : Election E) (P : Protocol E (Unit {0}) ℕ) (x : Layout) (s : Serves X P x) (b : Bus E) (h : IsServedBus X P record { layout = x; bus = b }) (now : SizedBus E) (is : record { layout = x; bus = b } ≡ now) where
   served : IsLayout x

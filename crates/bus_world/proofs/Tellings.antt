@@ -25,6 +25,7 @@ use Rattle.bus_world.specs.declared.events.Answer.TheVariants as answer
 use Rattle.bus_world.specs.Bus.{IsLayout, Part, Fits}
 use Rattle.bus_world.specs.Headline.{Deed, Stepped, Elected, Took, AreFramed}
 use Rattle.bus_world.specs.Log.{read}
+use Rattle.bus_world.proofs.Stopping.{is_there}
 use Rattle.bus_world.proofs.LogLaws.{length-read, items-append}
 use Rattle.bus_world.specs.Playing.{Answers, TurnAnswers, log_of}
 use Rattle.bus_world.proofs.FrameOfBatch.{counted_frame, length-items}
@@ -32,7 +33,7 @@ use Rattle.bus_world.specs.Telling.{TurnTells, SenderTells, EventTells}
 use Rattle.bus_world.specs.Trails.{Trails, Reached, trails_grown, turn_deeds, turning_deeds, step_deed}
 use Rattle.bus_world.specs.Turning.{Side, number_found}
 use Rattle.bus_world.proofs.TurningLaws.{IsSide, side_of}
-use Rattle.bus_world.specs.World.{Bus, Event, Put, Close, Turn, Recv, Happens}
+use Rattle.bus_world.specs.World.{Bus, Event, Put, Close, Turn, Recv, Stop, going, Happens}
 use Rattle.bus_world.proofs.EventTrails.{reached_kept, follows}
 use Rattle.bus_world.proofs.Framing.{items_owned, framed, front_lawful}
 use Rattle.bus_world.proofs.Places.{got_after}
@@ -176,7 +177,7 @@ module _ {E : Type 0} (X : Election E) (P : Protocol E (Unit {0}) ℕ) (laws : L
     (starts : (n me at : ℕ) → X.started n me x.rounds at ≡ P.started n me tt at) (owner_is : (e : E) → X.owner e ≡ P.output e)
     (named : (e : E) (word : ℕ) → is_some (X.kind_of e) ≡ is_some (X.op e word)) (announces : (e : E) → P.has_begun e ≡ false → X.kind_of e ≡ Some kind.Announce) (apart : (e : E) → X.kind_of e ≡ Some kind.TakePage → ⊥)
     (old new : Bus E) (T : Trails) (r : Reached X x old T) where
-  sender_tells : (s word : ℕ) (o : Option (Core E)) → slice_get old.side.senders s ≡ o → (t : Answered) → TurnAnswers X old.side.words o word (answer.Turn t)
+  sender_tells : (s word : ℕ) (o : Option (Core E)) → going old s ≡ o → (t : Answered) → TurnAnswers X old.side.words o word (answer.Turn t)
       → ((u place : ℕ) → Took (T.deeds s ++ turning_deeds X old.side.words o word (answer.Turn t)) u place → Elected (T.deeds s ++ turning_deeds X old.side.words o word (answer.Turn t)) u s)
       → SenderTells x (log_of record { layout = x; bus = old }) s o (T.deeds s ++ turning_deeds X old.side.words o word (answer.Turn t)) t
   sender_tells s word None i t told own = absurd told
@@ -185,16 +186,16 @@ module _ {E : Type 0} (X : Election E) (P : Protocol E (Unit {0}) ℕ) (laws : L
       let is = same_turn t _ told in
       subst (λ z. ((u place : ℕ) → Took (T.deeds s ++ turning_deeds X old.side.words (Some c) word (answer.Turn z)) u place → Elected (T.deeds s ++ turning_deeds X old.side.words (Some c) word (answer.Turn z)) u s)
       → TurnTells x (log_of record { layout = x; bus = old }) s c (T.deeds s ++ turning_deeds X old.side.words (Some c) word (answer.Turn z)) z) (sym is)
-      (turn_true X P laws x owner_is named old.side k.frames (side_of k.lawful) s c i word (T.deeds s)) own
+      (turn_true X P laws x owner_is named old.side k.frames (side_of k.lawful) s c (is_there old s c i) word (T.deeds s)) own
 
   turn_tells : (s word : ℕ) (t : Answered) → Happens X old (Turn s word) new → Answers X old (Turn s word) (answer.Turn t) new → EventTells x old (Turn s word) (answer.Turn t) (trails_grown X old (Turn s word) (answer.Turn t) T)
   turn_tells s word t d w =
       let f = (follows X P laws x ok width starts owner_is named announces apart old new (Turn s word) (answer.Turn t) tt d w).promised T r in
       by_same (s == s) (eqb_tells s s) (λ u place. f.after.by.promises.took_own u s place)
     where
-      by_same : (b : Bool) → ((b ≡ true) × (s ≡ s)) ⊎ ((b ≡ false) × (s ≡ s → ⊥)) → ((u place : ℕ) → Took (T.deeds s ++ cond b (turning_deeds X old.side.words (slice_get old.side.senders s) word (answer.Turn t)) []) u place → Elected (T.deeds s ++ cond b (turning_deeds X old.side.words (slice_get old.side.senders s) word (answer.Turn t)) []) u s)
-          → SenderTells x (log_of record { layout = x; bus = old }) s (slice_get old.side.senders s) (T.deeds s ++ cond b (turning_deeds X old.side.words (slice_get old.side.senders s) word (answer.Turn t)) []) t
-      by_same true y own = sender_tells s word (slice_get old.side.senders s) refl t w own
+      by_same : (b : Bool) → ((b ≡ true) × (s ≡ s)) ⊎ ((b ≡ false) × (s ≡ s → ⊥)) → ((u place : ℕ) → Took (T.deeds s ++ cond b (turning_deeds X old.side.words (going old s) word (answer.Turn t)) []) u place → Elected (T.deeds s ++ cond b (turning_deeds X old.side.words (going old s) word (answer.Turn t)) []) u s)
+          → SenderTells x (log_of record { layout = x; bus = old }) s (going old s) (T.deeds s ++ cond b (turning_deeds X old.side.words (going old s) word (answer.Turn t)) []) t
+      by_same true y own = sender_tells s word (going old s) refl t w own
       by_same false (inl y) own = absurd (true≢false (sym y.0))
       by_same false (inr y) own = absurd (y.1 refl)
 
@@ -205,4 +206,6 @@ module _ {E : Type 0} (X : Election E) (P : Protocol E (Unit {0}) ℕ) (laws : L
   event_tells (Turn s word) answer.Closing d w = tt
   event_tells (Turn s word) (answer.Turn t) d w = turn_tells s word t d w
   event_tells (Turn s word) (answer.Recv u) d w = tt
+  event_tells (Turn s word) answer.Stopped d w = tt
   event_tells (Recv q) a d w = tt
+  event_tells (Stop s) a d w = tt

@@ -1,5 +1,5 @@
 -- What is read from the words of a bus, and what a new one is made of.
-use Rattle.std.proofs.Common.{◌≡◌, ℕ, zero, suc, ◌+◌, ◌*◌, ◌-◌, ◌^◌, ◌≤◌, Some, List, [], ◌∷◌, ◌++◌, length, map, take, drop, slice_get, slice_index, replicate, nat_lt, arith, refl, sym, ◌∙◌, ap}
+use Rattle.std.proofs.Common.{◌≡◌, ℕ, zero, suc, ◌+◌, ◌*◌, ◌-◌, ◌^◌, ◌≤◌, Bool, Some, List, [], ◌∷◌, ◌++◌, length, map, take, drop, slice_get, slice_index, replicate, nat_lt, arith, refl, sym, ◌∙◌, ap}
 use Rattle.std.proofs.Math.Nat.{mul-le-mul}
 use Rattle.std.proofs.lemmas.List.{get_or-drop, take_more, length-take, length-drop, take-append-drop, take-append-le, take_all}
 use Rattle.std.proofs.lemmas.List.Sums.{count_by-le-length}
@@ -12,7 +12,7 @@ use Rattle.bus_ownerbits.specs.Sizes.{bits_of}
 use Rattle.bus_tenure.specs.Core.{Election, Core, Layout, log_at, words_of}
 use Rattle.bus_world.specs.Log.{read}
 use Rattle.bus_world.proofs.LogLaws.{length-read}
-use Rattle.bus_world.specs.World.{IsNew, new_page}
+use Rattle.bus_world.specs.World.{IsNew, new_page, no_stops}
 use Rattle.bus_world.specs.Playing.{SizedBus, log_of}
 use Rattle.bus_world.specs.Trails.{IsServedBus}
 use Rattle.bus_world.specs.Starting.{AreNewCores, AreNewReaders}
@@ -74,11 +74,12 @@ few_words n rounds w rows capacity few rounds_few narrow rows_few capacity_few =
     omega arith
 
 pub made_new : {E : Type 0} (x : Layout) (w : ℕ) → w ≡ x.width → (words : List ℕ) → words ≡ replicate (2 + x.rows * w + x.capacity) 0 → (senders : List (Core E)) → AreNewCores x x.senders senders → (owners : List ℕ) → owners ≡ []
-    → (many : ℕ) (receivers : List Receiving) → AreNewReaders x.senders (2 + x.rows * w) x.capacity many receivers → IsNew x record { side = record { words = words; home = Some new_page; senders = senders; owners = owners }; receivers = receivers }
-made_new x w same words words_are senders cores owners none many receivers readers = record {
+    → (many : ℕ) (receivers : List Receiving) → AreNewReaders x.senders (2 + x.rows * w) x.capacity many receivers → (stopped : List Bool) → stopped ≡ no_stops → IsNew x record { side = record { words = words; home = Some new_page; senders = senders; owners = owners }; receivers = receivers; stopped = stopped }
+made_new x w same words words_are senders cores owners none many receivers readers stopped nobody = record {
   words = words_are ∙ ap (λ z. replicate (2 + x.rows * z + x.capacity) 0) same;
   home = refl;
   senders = cores.each;
   owners = none;
+  stopped = nobody;
   receivers = λ r v e. let i = readers.each r v e in (i.senders_are, i.log_is ∙ ap (λ z. 2 + x.rows * z) same, i.length_is, i.words_are, i.known, i.place, i.going, i.read);
 }

@@ -5,7 +5,7 @@ use Rattle.bus_deliverylog.specs.Orders.{of_sender}
 use Rattle.bus_tenure.specs.Core.{Core, Election}
 use Rattle.bus_tenure.specs.Situations.{Situation, situation_of, line_of}
 pub use Rattle.bus_world.specs.Waiting.{waiting_at, waiting_of}
-use Rattle.bus_world.specs.World.{Bus, Event, Put, Close, Turn, Recv, can_put}
+use Rattle.bus_world.specs.World.{Bus, Event, Put, Close, Turn, Recv, Stop, going, can_put}
 
 -- ---- the frames of the log
 abbrev pub with_frame : Option Frame → List Frame → List Frame
@@ -24,8 +24,9 @@ frames_by X (Some c) frames = frames_after X c (situation_of X c) frames
 abbrev pub event_frames : {E : Type 0} → Election E → Bus E → Event → List Frame → List Frame
 event_frames X b (Put s bytes) frames = frames
 event_frames X b (Close s) frames = frames
-event_frames X b (Turn s word) frames = frames_by X (slice_get b.side.senders s) frames
+event_frames X b (Turn s word) frames = frames_by X (going b s) frames
 event_frames X b (Recv r) frames = frames
+event_frames X b (Stop s) frames = frames
 
 -- ---- messages
 -- what a sender has put: its messages in the order, and those that are not in it yet
@@ -38,7 +39,8 @@ accepted_by (Some c) bytes = cond (can_put c.queue (length bytes)) (bytes ∷ []
 
 -- the message that an event puts for a sender: none, or the bytes of a put that is accepted
 abbrev pub accepted : {E : Type 0} → Bus E → Event → ℕ → List (List ℕ)
-accepted b (Put s bytes) q = cond (q == s) (accepted_by (slice_get b.side.senders s) bytes) []
+accepted b (Put s bytes) q = cond (q == s) (accepted_by (going b s) bytes) []
 accepted b (Close s) q = []
 accepted b (Turn s word) q = []
 accepted b (Recv r) q = []
+accepted b (Stop s) q = []

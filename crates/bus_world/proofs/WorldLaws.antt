@@ -18,6 +18,7 @@ use Rattle.bus_tenure.specs.declared.phases.Phase.{Phase as SenderPhase}
 use Rattle.bus_tenure.specs.declared.phases.Phase.TheVariants as phase
 use Rattle.bus_deliverylog.specs.Orders.{of_sender}
 use Rattle.bus_world.specs.Log.{read, AreCounted, Logged}
+use Rattle.bus_world.proofs.Stopping.{is_there}
 use Rattle.bus_world.proofs.LogLaws.{length-read, log_words-append}
 use Rattle.bus_world.proofs.ReceivingLaws.{goes_on, Receives-known, Receives-word, Receives-append}
 use Rattle.bus_world.specs.Receiving.{Receives}
@@ -36,7 +37,7 @@ use Rattle.bus_world.proofs.Accepting as accepting
 use Rattle.bus_world.proofs.Accepting.{Accepted, Puts, Closes, accept, AreAccepted, open_is, not_busy, empty_is, idle_rests}
 use Rattle.bus_tenure.specs.declared.phases.Reason.{Reason}
 use Rattle.bus_register.specs.Proved.TableLaws.{get_set_same, get_set_other}
-use Rattle.bus_world.specs.World.{Event, Put, Close, Turn, Recv, IsEvent, Happens, SenderDoes, ReceiverDoes, recv_found, Bus, is_open, can_put, can_close, put_in, close_in, with_sender, LawfulBus, IsReceiver, RecvStep, IsNew, new_page}
+use Rattle.bus_world.specs.World.{Event, Put, Close, Turn, Recv, Stop, going, IsEvent, Happens, SenderDoes, ReceiverDoes, recv_found, Bus, is_open, can_put, can_close, put_in, close_in, with_sender, LawfulBus, IsReceiver, RecvStep, IsNew, new_page}
 use Rattle.bus_world.proofs.Waiting.{with_frame, frames_after, frames_by, event_frames, accepted_by, accepted, waiting_at, put_by, waiting_of}
 
 -- ---- numbers
@@ -181,21 +182,21 @@ module _ {E : Type 0} (X : Election E) (P : Protocol E (Unit {0}) ℕ) (laws : L
       continues = record { more = f ∷ []; together = refl };
     }
 
-    put_left : (s : ℕ) (bytes : List ℕ) → All (λ byte. byte < 256) bytes → (o : Option (Core E)) → slice_get b.side.senders s ≡ o → SenderDoes b.side o (λ c. with_sender b.side s (put_in c bytes)) b'.side → b'.receivers ≡ b.receivers → After frames frames b'
+    put_left : (s : ℕ) (bytes : List ℕ) → All (λ byte. byte < 256) bytes → (o : Option (Core E)) → going b s ≡ o → SenderDoes b.side o (λ c. with_sender b.side s (put_in c bytes)) b'.side → b'.receivers ≡ b.receivers → After frames frames b'
     unfolding quiet longer
     put_left s bytes small None i d same = record { left = quiet (same_side P x frames b.side b'.side d (side_of h)) same; now_is = refl }
-    put_left s bytes small (Some c) i d same = record { left = quiet (same_side P x frames (with_sender b.side s (put_in c bytes)) b'.side d (accept_lawful X P laws x ok width starts owner_is b.side frames (side_of h) s c i (Puts bytes) (small, tt))) same; now_is = refl }
+    put_left s bytes small (Some c) i d same = record { left = quiet (same_side P x frames (with_sender b.side s (put_in c bytes)) b'.side d (accept_lawful X P laws x ok width starts owner_is b.side frames (side_of h) s c (is_there b s c i) (Puts bytes) (small, tt))) same; now_is = refl }
 
-    close_left : (s : ℕ) (o : Option (Core E)) → slice_get b.side.senders s ≡ o → SenderDoes b.side o (λ c. with_sender b.side s (close_in c)) b'.side → b'.receivers ≡ b.receivers → After frames frames b'
+    close_left : (s : ℕ) (o : Option (Core E)) → going b s ≡ o → SenderDoes b.side o (λ c. with_sender b.side s (close_in c)) b'.side → b'.receivers ≡ b.receivers → After frames frames b'
     unfolding quiet longer
     close_left s None i d same = record { left = quiet (same_side P x frames b.side b'.side d (side_of h)) same; now_is = refl }
-    close_left s (Some c) i d same = record { left = quiet (same_side P x frames (with_sender b.side s (close_in c)) b'.side d (accept_lawful X P laws x ok width starts owner_is b.side frames (side_of h) s c i Closes tt)) same; now_is = refl }
+    close_left s (Some c) i d same = record { left = quiet (same_side P x frames (with_sender b.side s (close_in c)) b'.side d (accept_lawful X P laws x ok width starts owner_is b.side frames (side_of h) s c (is_there b s c i) Closes tt)) same; now_is = refl }
 
-    turn_left : (s word : ℕ) (o : Option (Core E)) → slice_get b.side.senders s ≡ o → SenderDoes b.side o (λ c. side_after X b.side s c (situation_of X c) word) b'.side → b'.receivers ≡ b.receivers → After frames (frames_by X o frames) b'
+    turn_left : (s word : ℕ) (o : Option (Core E)) → going b s ≡ o → SenderDoes b.side o (λ c. side_after X b.side s c (situation_of X c) word) b'.side → b'.receivers ≡ b.receivers → After frames (frames_by X o frames) b'
     unfolding quiet longer
     turn_left s word None i d same = record { left = quiet (same_side P x frames b.side b'.side d (side_of h)) same; now_is = refl }
     turn_left s word (Some c) i d same =
-        let side = subst (λ z. IsSide P x z (frames_after X c (situation_of X c) frames)) (sym d) (turning.turn_lawful X P laws x ok width starts owner_is b.side frames (side_of h) s c i word) in
+        let side = subst (λ z. IsSide P x z (frames_after X c (situation_of X c) frames)) (sym d) (turning.turn_lawful X P laws x ok width starts owner_is b.side frames (side_of h) s c (is_there b s c i) word) in
         elim (one_or_none (line_of X c (situation_of X c)).publishes frames) [
           | inl e ↦ record { left = quiet (subst (IsSide P x b'.side) e side) same; now_is = sym e }
           | inr f ↦ record { left = longer f.0 (subst (IsSide P x b'.side) f.1 side) same; now_is = sym f.1 }
@@ -229,12 +230,17 @@ module _ {E : Type 0} (X : Election E) (P : Protocol E (Unit {0}) ℕ) (laws : L
           };
         }
 
+    stop_left : b'.side ≡ b.side → b'.receivers ≡ b.receivers → After frames frames b'
+    unfolding quiet
+    stop_left d same = record { left = quiet (same_side P x frames b.side b'.side d (side_of h)) same; now_is = refl }
+
     -- whatever happens next
     pub event_left : (e : Event) → IsEvent e → Happens X b e b' → After frames (event_frames X b e frames) b'
-    event_left (Put s bytes) is d = put_left s bytes is (slice_get b.side.senders s) refl d.0 d.1
-    event_left (Close s) is d = close_left s (slice_get b.side.senders s) refl d.0 d.1
-    event_left (Turn s word) is d = turn_left s word (slice_get b.side.senders s) refl d.0 d.1
+    event_left (Put s bytes) is d = put_left s bytes is (going b s) refl d.0 d.1
+    event_left (Close s) is d = close_left s (going b s) refl d.0 d.1
+    event_left (Turn s word) is d = turn_left s word (going b s) refl d.0 d.1
     event_left (Recv r) is d = recv_left r (slice_get b.receivers r) refl d.0 d.1
+    event_left (Stop s) is d = stop_left d.0 d.1
 
     -- ---- what it puts
     bus_same : b'.side ≡ b.side → (fs : List Frame) (q : ℕ) → put_by b' fs q ≡ put_by b fs q
@@ -276,40 +282,41 @@ module _ {E : Type 0} (X : Election E) (P : Protocol E (Unit {0}) ℕ) (laws : L
     own_part : (s : ℕ) (c : Core E) → slice_get b.side.senders s ≡ Some c → Part x (slice_index b.side.words) frames s c
     own_part s c i = h.keeps.sending.parts s c i
 
-    put_puts : (s : ℕ) (bytes : List ℕ) (o : Option (Core E)) → slice_get b.side.senders s ≡ o → SenderDoes b.side o (λ c. with_sender b.side s (put_in c bytes)) b'.side → (q : ℕ) → put_by b' frames q ≡ put_by b frames q ++ cond (q == s) (accepted_by o bytes) []
+    put_puts : (s : ℕ) (bytes : List ℕ) (o : Option (Core E)) → going b s ≡ o → SenderDoes b.side o (λ c. with_sender b.side s (put_in c bytes)) b'.side → (q : ℕ) → put_by b' frames q ≡ put_by b frames q ++ cond (q == s) (accepted_by o bytes) []
     put_puts s bytes None i d q = bus_same d frames q ∙ sym (append-nil (put_by b frames q)) ∙ ap (λ z. put_by b frames q ++ z) (sym (same_arms (q == s)))
       where
         same_arms : (t : Bool) → cond {A = List (List ℕ)} t [] [] ≡ []
         same_arms true = refl
         same_arms false = refl
     put_puts s bytes (Some c) i d q = elim (eqb_tells q s) [
-      | inl y ↦ subst (λ z. put_by b' frames z ≡ put_by b frames z ++ cond (q == s) (accepted_by (Some c) bytes) []) (sym y.1) (at_sender s c (put_in c bytes) i (ap (λ (z : Side E). z.senders) d) (accepted_by (Some c) bytes) (put_waits c bytes (own_part s c i).fits)
+      | inl y ↦ subst (λ z. put_by b' frames z ≡ put_by b frames z ++ cond (q == s) (accepted_by (Some c) bytes) []) (sym y.1) (at_sender s c (put_in c bytes) (is_there b s c i) (ap (λ (z : Side E). z.senders) d) (accepted_by (Some c) bytes) (put_waits c bytes (own_part s c (is_there b s c i)).fits)
           ∙ ap (λ t. put_by b frames s ++ cond t (accepted_by (Some c) bytes) []) (sym y.0))
-      | inr y ↦ at_other s c (put_in c bytes) i (ap (λ (z : Side E). z.senders) d) (accepted_by (Some c) bytes) (put_waits c bytes (own_part s c i).fits) q y.1 ∙ sym (append-nil (put_by b frames q)) ∙ ap (λ t. put_by b frames q ++ cond t (accepted_by (Some c) bytes) []) (sym y.0)
+      | inr y ↦ at_other s c (put_in c bytes) (is_there b s c i) (ap (λ (z : Side E). z.senders) d) (accepted_by (Some c) bytes) (put_waits c bytes (own_part s c (is_there b s c i)).fits) q y.1 ∙ sym (append-nil (put_by b frames q)) ∙ ap (λ t. put_by b frames q ++ cond t (accepted_by (Some c) bytes) []) (sym y.0)
     ]
 
-    close_puts : (s : ℕ) (o : Option (Core E)) → slice_get b.side.senders s ≡ o → SenderDoes b.side o (λ c. with_sender b.side s (close_in c)) b'.side → (q : ℕ) → put_by b' frames q ≡ put_by b frames q ++ []
+    close_puts : (s : ℕ) (o : Option (Core E)) → going b s ≡ o → SenderDoes b.side o (λ c. with_sender b.side s (close_in c)) b'.side → (q : ℕ) → put_by b' frames q ≡ put_by b frames q ++ []
     close_puts s None i d q = bus_same d frames q ∙ sym (append-nil (put_by b frames q))
     close_puts s (Some c) i d q = elim (cases_eq q s) [
-      | inl y ↦ subst (λ z. put_by b' frames z ≡ put_by b frames z ++ []) (sym y) (at_sender s c (close_in c) i (ap (λ (z : Side E). z.senders) d) [] (close_waits c (own_part s c i).fits))
-      | inr ne ↦ at_other s c (close_in c) i (ap (λ (z : Side E). z.senders) d) [] (close_waits c (own_part s c i).fits) q ne ∙ sym (append-nil (put_by b frames q))
+      | inl y ↦ subst (λ z. put_by b' frames z ≡ put_by b frames z ++ []) (sym y) (at_sender s c (close_in c) (is_there b s c i) (ap (λ (z : Side E). z.senders) d) [] (close_waits c (own_part s c (is_there b s c i)).fits))
+      | inr ne ↦ at_other s c (close_in c) (is_there b s c i) (ap (λ (z : Side E). z.senders) d) [] (close_waits c (own_part s c (is_there b s c i)).fits) q ne ∙ sym (append-nil (put_by b frames q))
     ]
 
     never_giving : (c : Core E) (ph : SenderPhase E) → c.phase ≡ ph → Fits (slice_index b.side.words) frames c ph → (t : ℕ) (reason : Reason) → ph ≡ phase.Giving t reason → ⊥
     never_giving c ph e fits t reason g = subst (Fits (slice_index b.side.words) frames c) g fits
 
-    turn_event_puts : (s word : ℕ) (o : Option (Core E)) → slice_get b.side.senders s ≡ o → SenderDoes b.side o (λ c. side_after X b.side s c (situation_of X c) word) b'.side → (q : ℕ) → put_by b' (frames_by X o frames) q ≡ put_by b frames q ++ []
+    turn_event_puts : (s word : ℕ) (o : Option (Core E)) → going b s ≡ o → SenderDoes b.side o (λ c. side_after X b.side s c (situation_of X c) word) b'.side → (q : ℕ) → put_by b' (frames_by X o frames) q ≡ put_by b frames q ++ []
     turn_event_puts s word None i d q = bus_same d frames q ∙ sym (append-nil (put_by b frames q))
     turn_event_puts s word (Some c) i d q =
-        let part = own_part s c i in
+        let part = own_part s c (is_there b s c i) in
         ap (λ (z : Side E). map (λ (v : Item). v.message) (of_sender q (order_of (frames_after X c (situation_of X c) frames))) ++ waiting_of (slice_get z.senders q)) d
-        ∙ puts.turn_puts X b.side frames s c i part.queue part.sender word (λ t reason g. never_giving c c.phase refl part.fits t reason g) q ∙ sym (append-nil (put_by b frames q))
+        ∙ puts.turn_puts X b.side frames s c (is_there b s c i) part.queue part.sender word (λ t reason g. never_giving c c.phase refl part.fits t reason g) q ∙ sym (append-nil (put_by b frames q))
 
     pub event_puts : (e : Event) → Happens X b e b' → (q : ℕ) → put_by b' (event_frames X b e frames) q ≡ put_by b frames q ++ accepted b e q
-    event_puts (Put s bytes) d q = put_puts s bytes (slice_get b.side.senders s) refl d.0 q
-    event_puts (Close s) d q = close_puts s (slice_get b.side.senders s) refl d.0 q
-    event_puts (Turn s word) d q = turn_event_puts s word (slice_get b.side.senders s) refl d.0 q
+    event_puts (Put s bytes) d q = put_puts s bytes (going b s) refl d.0 q
+    event_puts (Close s) d q = close_puts s (going b s) refl d.0 q
+    event_puts (Turn s word) d q = turn_event_puts s word (going b s) refl d.0 q
     event_puts (Recv r) d q = bus_same d.0 frames q ∙ sym (append-nil (put_by b frames q))
+    event_puts (Stop s) d q = bus_same d.0 frames q ∙ sym (append-nil (put_by b frames q))
 
   -- ---- a new bus is lawful
   module _ (b : Bus E) (new : IsNew x b) where

@@ -11,6 +11,7 @@ pub mod Faults
 pub mod Trails
 pub mod Telling
 pub mod Refusals
+pub mod Stopping
 pub mod Waiting
 pub mod Guests
 pub mod Yards

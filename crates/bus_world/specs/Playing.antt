@@ -1,5 +1,5 @@
 -- The bus as a program holds it, and what it answers to each event.
-use Rattle.std.specs.Prelude.{◌≡◌, ℕ, ◌<◌, ◌≤◌, ◌⊎◌, Bool, Option, Some, None, List, [], ◌∷◌, length, slice_get, slice_index, slice_set}
+use Rattle.std.specs.Prelude.{◌≡◌, ℕ, ◌<◌, ◌≤◌, ◌⊎◌, Bool, true, false, Option, Some, None, List, [], ◌∷◌, length, slice_get, slice_index, slice_set}
 use Rattle.bus_register.specs.declared.limits.TheConstants.{MOST_SENDERS, MOST_RECEIVERS, MOST_ROUNDS, MOST_ROWS, LEAST_LOG_WORDS, MOST_LOG_WORDS}
 use Rattle.bus_batch.specs.Batches.{next_of, CanPut, IsPutFault, CanClose, IsCloseFault}
 use Rattle.bus_batch.specs.declared.batches.PutFault.{PutFault}
@@ -14,7 +14,7 @@ use Rattle.bus_register.specs.Protocol.{Protocol}
 use Rattle.bus_adoptcommit.specs.declared.verdicts.Verdict.{Verdict}
 use Rattle.bus_world.specs.Log.{read}
 use Rattle.bus_world.specs.Turning.{number_found}
-use Rattle.bus_world.specs.World.{Bus, Event, Put, Close, Turn, Recv, Happens, RecvDoes, IsNew, IsEvent}
+use Rattle.bus_world.specs.World.{Bus, Event, Put, Close, Turn, Recv, Stop, has_stopped, going, Happens, RecvDoes, IsNew, IsEvent}
 use Rattle.bus_world.specs.declared.events.Event.{Event as Told}
 use Rattle.bus_world.specs.declared.events.Event.TheVariants as told
 use Rattle.bus_world.specs.declared.events.Answer.{Answer}
@@ -31,8 +31,8 @@ pub record SizedBus (E : Type 0) : Type 0 where
   pub bus : Bus E
 
 -- the bus of these parts
-abbrev pub sized_bus : {E : Type 0} → Layout → List ℕ → Option Page → List (Core E) → List ℕ → List Receiving → SizedBus E
-sized_bus x words home senders owners receivers = record { layout = x; bus = record { side = record { words = words; home = home; senders = senders; owners = owners }; receivers = receivers } }
+abbrev pub sized_bus : {E : Type 0} → Layout → List ℕ → Option Page → List (Core E) → List ℕ → List Receiving → List Bool → SizedBus E
+sized_bus x words home senders owners receivers stopped = record { layout = x; bus = record { side = record { words = words; home = home; senders = senders; owners = owners }; receivers = receivers; stopped = stopped } }
 
 -- the words of its log below the length
 abbrev pub log_of : {E : Type 0} → SizedBus E → List ℕ
@@ -80,6 +80,7 @@ event_told (told.Put s bytes) = Put s bytes.items
 event_told (told.Close s) = Close s
 event_told (told.Turn s word) = Turn s word
 event_told (told.Recv r) = Recv r
+event_told (told.Stop s) = Stop s
 
 -- ---- what is answered
 -- a message of so many bytes gets the number that was told before
@@ -102,11 +103,18 @@ abbrev pub RecvAnswers : List ℕ → List Receiving → ℕ → Option Receivin
 RecvAnswers words old r None a new = ⊥
 RecvAnswers words old r (Some v) a new = (next : Receiving) × (turn : RecvTurn) × RecvDoes (slice_index words) v turn next × (new ≡ slice_set old r next) × (a ≡ answer.Recv turn)
 
+-- a stop is taken of each sender that goes on, whatever waits at it
+abbrev pub StopGives : {E : Type 0} → Option (Core E) → Type 0
+StopGives None = ⊥
+StopGives (Some c) = Unit {0}
+
+-- no event of a sender that has stopped is answered
 abbrev pub Answers : {E : Type 0} → Election E → Bus E → Event → Answer → Bus E → Type 0
-Answers X old (Put s bytes) a new = (number : ℕ) × PutGives (slice_get old.side.senders s) (length bytes) number × (a ≡ answer.Number number)
-Answers X old (Close s) a new = CloseGives (slice_get old.side.senders s) × (a ≡ answer.Closing)
-Answers X old (Turn s word) a new = TurnAnswers X old.side.words (slice_get old.side.senders s) word a
+Answers X old (Put s bytes) a new = (number : ℕ) × PutGives (going old s) (length bytes) number × (a ≡ answer.Number number)
+Answers X old (Close s) a new = CloseGives (going old s) × (a ≡ answer.Closing)
+Answers X old (Turn s word) a new = TurnAnswers X old.side.words (going old s) word a
 Answers X old (Recv r) a new = RecvAnswers old.side.words old.receivers r (slice_get old.receivers r) a new.receivers
+Answers X old (Stop s) a new = StopGives (going old s) × (a ≡ answer.Stopped)
 
 -- ---- why an event is refused
 abbrev pub PutRefused : {E : Type 0} → Option (Core E) → ℕ → StepFault → Type 0
@@ -125,12 +133,24 @@ abbrev pub RecvRefused : Option Receiving → StepFault → Type 0
 RecvRefused None why = why ≡ fault.NoSuchReceiver
 RecvRefused (Some v) why = ⊥
 
+-- a stop has no cause of its own
+abbrev pub StopRefused : {E : Type 0} → Option (Core E) → StepFault → Type 0
+StopRefused None why = why ≡ fault.NoSuchSender
+StopRefused (Some c) why = ⊥
+
+-- a sender that there is and that has stopped is refused as such, before any cause of the event's own
+abbrev pub UnlessStopped : {E : Type 0} → Bool → Option (Core E) → StepFault → Type 0 → Type 0
+UnlessStopped true (Some c) why own = why ≡ fault.Stopped
+UnlessStopped true None why own = own
+UnlessStopped false o why own = own
+
 -- each fault where its cause holds and no earlier one
 abbrev pub Refused : {E : Type 0} → Bus E → Event → StepFault → Type 0
-Refused b (Put s bytes) why = PutRefused (slice_get b.side.senders s) (length bytes) why
-Refused b (Close s) why = CloseRefused (slice_get b.side.senders s) why
-Refused b (Turn s word) why = TurnRefused (slice_get b.side.senders s) why
+Refused b (Put s bytes) why = UnlessStopped (has_stopped b s) (slice_get b.side.senders s) why (PutRefused (slice_get b.side.senders s) (length bytes) why)
+Refused b (Close s) why = UnlessStopped (has_stopped b s) (slice_get b.side.senders s) why (CloseRefused (slice_get b.side.senders s) why)
+Refused b (Turn s word) why = UnlessStopped (has_stopped b s) (slice_get b.side.senders s) why (TurnRefused (slice_get b.side.senders s) why)
 Refused b (Recv r) why = RecvRefused (slice_get b.receivers r) why
+Refused b (Stop s) why = UnlessStopped (has_stopped b s) (slice_get b.side.senders s) why (StopRefused (slice_get b.side.senders s) why)
 
 -- ---- lists of events
 -- each event is answered, one after another

@@ -14,7 +14,7 @@ use Rattle.bus_world.specs.Headline.{Deed, Elected, Took, AreFramed}
 use Rattle.bus_world.specs.Log.{AreCounted}
 use Rattle.bus_world.specs.Playing.{log_of}
 use Rattle.bus_world.specs.Trails.{Trails, Reached, trails_grown}
-use Rattle.bus_world.specs.World.{Bus, Event, Put, Close, Turn, Recv}
+use Rattle.bus_world.specs.World.{Bus, Event, Put, Close, Turn, Recv, Stop, going}
 use Rattle.bus_world.specs.declared.events.Answer.{Answer}
 use Rattle.bus_world.specs.declared.events.Answer.TheVariants as answer
 
@@ -58,9 +58,11 @@ EventTells x old (Put s bytes) a T' = Unit {0}
 EventTells x old (Close s) a T' = Unit {0}
 EventTells x old (Turn s word) (answer.Number n) T' = Unit {0}
 EventTells x old (Turn s word) answer.Closing T' = Unit {0}
-EventTells x old (Turn s word) (answer.Turn t) T' = SenderTells x (log_of record { layout = x; bus = old }) s (slice_get old.side.senders s) (T'.deeds s) t
+EventTells x old (Turn s word) (answer.Turn t) T' = SenderTells x (log_of record { layout = x; bus = old }) s (going old s) (T'.deeds s) t
 EventTells x old (Turn s word) (answer.Recv r) T' = Unit {0}
+EventTells x old (Turn s word) answer.Stopped T' = Unit {0}
 EventTells x old (Recv r) a T' = Unit {0}
+EventTells x old (Stop s) a T' = Unit {0}
 
 pub record Tells {E : Type 0} (X : Election E) (x : Layout) (old : Bus E) (e : Event) (a : Answer) : Type 0 where
   pub truth : (T : Trails) → Reached X x old T → EventTells x old e a (trails_grown X old e a T)
@@ -70,9 +72,10 @@ abbrev pub SenderCauses : {S : Type 0} → Election (Elector S) → Protocol S B
 SenderCauses X P None = Unit {0}
 SenderCauses X P (Some c) = IsCaused X P c
 
--- the sender whose turn it is has a cause for its step, whatever that is for
+-- the sender whose turn it is, and which goes on, has a cause for its step, whatever that is for
 abbrev pub EventCauses : {S : Type 0} → Election (Elector S) → Protocol S Bool Verdict → Bus (Elector S) → Event → Type 0
 EventCauses X P old (Put s bytes) = Unit {0}
 EventCauses X P old (Close s) = Unit {0}
-EventCauses X P old (Turn s word) = SenderCauses X P (slice_get old.side.senders s)
+EventCauses X P old (Turn s word) = SenderCauses X P (going old s)
 EventCauses X P old (Recv r) = Unit {0}
+EventCauses X P old (Stop s) = Unit {0}

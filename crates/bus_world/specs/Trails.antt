@@ -12,7 +12,7 @@ use Rattle.bus_tenure.specs.Situations.{Situation, situation_of, tenure_at, kind
 use Rattle.bus_tenure.specs.declared.turns.Turn.{Turn as Answered}
 use Rattle.bus_world.specs.Headline.{Deed, HasPut, HasClosed, Stepped, Took, given, IsPrefix, Promises}
 use Rattle.bus_world.specs.Turning.{number_found}
-use Rattle.bus_world.specs.World.{Bus, Event, Put, Close, Turn, Recv, IsEvent, Happens, IsNew, LawfulBus}
+use Rattle.bus_world.specs.World.{Bus, Event, Put, Close, Turn, Recv, Stop, going, IsEvent, Happens, IsNew, LawfulBus}
 use Rattle.bus_world.specs.Playing.{SizedBus, AllAnswered, Answers, Refused, log_of}
 use Rattle.bus_world.specs.declared.events.Answer.{Answer}
 use Rattle.bus_world.specs.declared.events.Answer.TheVariants as answer
@@ -28,6 +28,7 @@ turn_deeds X c z got word (answer.Number n) = []
 turn_deeds X c z got word answer.Closing = []
 turn_deeds X c z got word (answer.Turn t) = step_deed (kind_at X c z) (tenure_at X c z) got (chosen_at X c z got word) t
 turn_deeds X c z got word (answer.Recv t) = []
+turn_deeds X c z got word answer.Stopped = []
 
 -- of the sender that there is
 abbrev pub turning_deeds : {E : Type 0} → Election E → List ℕ → Option (Core E) → ℕ → Answer → List Deed
@@ -40,6 +41,7 @@ put_deeds bytes (answer.Number n) = HasPut n bytes ∷ []
 put_deeds bytes answer.Closing = []
 put_deeds bytes (answer.Turn t) = []
 put_deeds bytes (answer.Recv t) = []
+put_deeds bytes answer.Stopped = []
 
 -- what a close adds, by its answer
 abbrev pub close_deeds : Answer → List Deed
@@ -47,19 +49,22 @@ close_deeds (answer.Number n) = []
 close_deeds answer.Closing = HasClosed ∷ []
 close_deeds (answer.Turn t) = []
 close_deeds (answer.Recv t) = []
+close_deeds answer.Stopped = []
 
--- what an event with this answer adds to the trail of sender q
+-- what an event with this answer adds to the trail of sender q: a stop is no deed
 abbrev pub deeds_of : {E : Type 0} → Election E → Bus E → Event → Answer → ℕ → List Deed
 deeds_of X b (Put s bytes) a q = if q == s then put_deeds bytes a else []
 deeds_of X b (Close s) a q = if q == s then close_deeds a else []
-deeds_of X b (Turn s word) a q = if q == s then turning_deeds X b.side.words (slice_get b.side.senders s) word a else []
+deeds_of X b (Turn s word) a q = if q == s then turning_deeds X b.side.words (going b s) word a else []
 deeds_of X b (Recv r) a q = []
+deeds_of X b (Stop s) a q = []
 
 abbrev pub answer_heard : Answer → List RecvTurn
 answer_heard (answer.Number n) = []
 answer_heard answer.Closing = []
 answer_heard (answer.Turn t) = []
 answer_heard (answer.Recv t) = t ∷ []
+answer_heard answer.Stopped = []
 
 -- what an event and its answer add to the trail of a receiver
 abbrev pub heard_of : Event → Answer → ℕ → List RecvTurn
@@ -67,6 +72,7 @@ heard_of (Put s bytes) a q = []
 heard_of (Close s) a q = []
 heard_of (Turn s word) a q = []
 heard_of (Recv r) a q = if q == r then answer_heard a else []
+heard_of (Stop s) a q = []
 
 -- ---- the trails of all
 pub record Trails : Type 0 where

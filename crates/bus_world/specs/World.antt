@@ -18,17 +18,32 @@ use Rattle.bus_tenure.specs.declared.pages.Page.{Page}
 use Rattle.bus_world.specs.Bus.{Sending}
 use Rattle.bus_world.specs.Turning.{Side, side_after}
 
--- the senders' side, and the receivers
+-- the senders' side, the receivers, and of each sender whether it has stopped
 pub record Bus (E : Type 0) : Type 0 where
   pub side : Side E
   pub receivers : List Receiving
+  pub stopped : List Bool
 
--- what may happen next, in any order and number: nothing is assumed of who is scheduled, of the random words, or of who stops
+abbrev pub is_set : Option Bool → Bool
+is_set None = false
+is_set (Some t) = t
+
+-- the sender s has stopped
+abbrev pub has_stopped : {E : Type 0} → Bus E → ℕ → Bool
+has_stopped b s = is_set (slice_get b.stopped s)
+
+-- the sender s, if there is one and it has not stopped
+abbrev pub going : {E : Type 0} → Bus E → ℕ → Option (Core E)
+going b s = if has_stopped b s then None else slice_get b.side.senders s
+
+-- What may happen next, in any order and number: nothing is assumed of who is scheduled, of the random words, or of who stops.
+-- A sender stops by an event of its own, or just by having none any more.
 pub data Event : Type 0 where
   Put : (sender : ℕ) → (bytes : List ℕ) → Event
   Close : (sender : ℕ) → Event
   Turn : (sender : ℕ) → (word : ℕ) → Event
   Recv : (receiver : ℕ) → Event
+  Stop : (sender : ℕ) → Event
 
 -- bytes are bytes
 abbrev pub IsEvent : Event → Type 0
@@ -36,6 +51,7 @@ IsEvent (Put s bytes) = All (λ byte. byte < 256) bytes
 IsEvent (Close s) = Unit {0}
 IsEvent (Turn s word) = Unit {0}
 IsEvent (Recv r) = Unit {0}
+IsEvent (Stop s) = Unit {0}
 
 abbrev pub is_open : Phase → Bool
 is_open Open = true
@@ -74,7 +90,7 @@ pub record RecvDoes (words : ℕ → ℕ) (old : Receiving) (answer : RecvTurn) 
   pub going : old.ended ≡ false → RecvStep old (recv_found words old) answer new
 
 -- ---- one event
--- of a sender that there is
+-- of a sender that goes on: where there is none, or it has stopped, nothing happens
 abbrev pub SenderDoes : {E : Type 0} → Side E → Option (Core E) → (Core E → Side E) → Side E → Type 0
 SenderDoes old None f new = new ≡ old
 SenderDoes old (Some c) f new = new ≡ f c
@@ -83,11 +99,18 @@ abbrev pub ReceiverDoes : List ℕ → List Receiving → ℕ → Option Receivi
 ReceiverDoes words old r None new = new ≡ old
 ReceiverDoes words old r (Some v) new = (next : Receiving) × (answer : RecvTurn) × RecvDoes (slice_index words) v answer next × (new ≡ slice_set old r next)
 
+-- whoever stops is one more that has stopped
+abbrev pub StopDoes : {E : Type 0} → List Bool → ℕ → Option (Core E) → List Bool → Type 0
+StopDoes old s None new = new ≡ old
+StopDoes old s (Some c) new = new ≡ slice_set old s true
+
+-- A stop takes no step, and changes nothing but who has stopped; and no other event changes that.
 abbrev pub Happens : {E : Type 0} → Election E → Bus E → Event → Bus E → Type 0
-Happens X old (Put s bytes) new = SenderDoes old.side (slice_get old.side.senders s) (λ c. with_sender old.side s (put_in c bytes)) new.side × (new.receivers ≡ old.receivers)
-Happens X old (Close s) new = SenderDoes old.side (slice_get old.side.senders s) (λ c. with_sender old.side s (close_in c)) new.side × (new.receivers ≡ old.receivers)
-Happens X old (Turn s word) new = SenderDoes old.side (slice_get old.side.senders s) (λ c. side_after X old.side s c (situation_of X c) word) new.side × (new.receivers ≡ old.receivers)
-Happens X old (Recv r) new = (new.side ≡ old.side) × ReceiverDoes old.side.words old.receivers r (slice_get old.receivers r) new.receivers
+Happens X old (Put s bytes) new = SenderDoes old.side (going old s) (λ c. with_sender old.side s (put_in c bytes)) new.side × (new.receivers ≡ old.receivers) × (new.stopped ≡ old.stopped)
+Happens X old (Close s) new = SenderDoes old.side (going old s) (λ c. with_sender old.side s (close_in c)) new.side × (new.receivers ≡ old.receivers) × (new.stopped ≡ old.stopped)
+Happens X old (Turn s word) new = SenderDoes old.side (going old s) (λ c. side_after X old.side s c (situation_of X c) word) new.side × (new.receivers ≡ old.receivers) × (new.stopped ≡ old.stopped)
+Happens X old (Recv r) new = (new.side ≡ old.side) × ReceiverDoes old.side.words old.receivers r (slice_get old.receivers r) new.receivers × (new.stopped ≡ old.stopped)
+Happens X old (Stop s) new = (new.side ≡ old.side) × (new.receivers ≡ old.receivers) × StopDoes old.stopped s (going old s) new.stopped
 
 -- ---- what the bus always keeps
 pub record IsReceiver (x : Layout) (frames : List Frame) (len : ℕ) (v : Receiving) : Type 0 where
@@ -118,10 +141,15 @@ new_page = record { next = replicate MOST_SENDERS 0; ended = false; tenures = 0;
 abbrev pub new_core : {E : Type 0} → Layout → ℕ → Core E
 new_core x p = record { layout = x; me = p; queue = record { sender = record { 0 = p }; first = 0; messages = []; phase = Open; busy = false }; least = 0; phase = phase.Resting }
 
--- words of zero, the page at home, senders and receivers at their starts
+-- nobody has stopped
+abbrev pub no_stops : List Bool
+no_stops = replicate MOST_SENDERS false
+
+-- words of zero, the page at home, senders and receivers at their starts, none of which has stopped
 pub record IsNew {E : Type 0} (x : Layout) (bus : Bus E) : Type 0 where
   pub words : bus.side.words ≡ replicate (words_of x) 0
   pub home : bus.side.home ≡ Some new_page
   pub senders : (p : ℕ) (c : Core E) → slice_get bus.side.senders p ≡ Some c → (p < x.senders) × (c ≡ new_core x p)
   pub owners : bus.side.owners ≡ []
+  pub stopped : bus.stopped ≡ no_stops
   pub receivers : (r : ℕ) (v : Receiving) → slice_get bus.receivers r ≡ Some v → (v.frames.senders ≡ x.senders) × (v.log_at ≡ log_at x) × (v.length_at ≡ 0) × (v.log_words ≡ x.capacity) × (v.known ≡ 0) × (v.place ≡ 0) × (v.ended ≡ false) × HasRead x.senders [] [] v.frames

@@ -15,6 +15,9 @@ pub enum Event {
     Turn { sender: u64, word: u32 },
     /// The receiver takes a turn.
     Recv(u64),
+    /// The sender stops for good. This is no step, and it takes none from then on: a page that it
+    /// has stays out. Refused for no sender that there is and that has not stopped.
+    Stop(u64),
 }
 
 /// The answer to an event.
@@ -25,6 +28,7 @@ pub enum Answer {
     Closing,
     Turn(Turn),
     Recv(RecvTurn),
+    Stopped,
 }
 
 /// Why an event is refused; of several causes the first counts. A refused event changes nothing.
@@ -32,6 +36,8 @@ pub enum Answer {
 pub enum StepFault {
     NoSuchSender,
     NoSuchReceiver,
+    /// The sender has stopped. Looked at before all that waits at it.
+    Stopped,
     Put(PutFault),
     Close(CloseFault),
 }

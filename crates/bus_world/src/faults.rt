@@ -34,6 +34,7 @@ impl fmt::Display for StepFault {
         match self {
             StepFault::NoSuchSender => f.write_str("no such sender"),
             StepFault::NoSuchReceiver => f.write_str("no such receiver"),
+            StepFault::Stopped => f.write_str("sender stopped"),
             StepFault::Put(why) => why.fmt(f),
             StepFault::Close(why) => why.fmt(f),
         }

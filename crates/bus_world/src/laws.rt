@@ -6,6 +6,7 @@ ghost use Rattle.bus_world.specs.Bus.{IsLayout};
 ghost use Rattle.bus_world.specs.Playing.{AllAnswered};
 ghost use Rattle.bus_world.specs.Trails.{Trails, Reached, IsPromised, Played};
 ghost use Rattle.bus_world.specs.Refusals.{PromiseRefuses};
+ghost use Rattle.bus_world.specs.Stopping.{StopsAreForGood, StopRefuses};
 ghost use Rattle.bus_world.specs.World.{Bus, Event};
 ghost use Rattle.bus_world.specs.Yards.{Yard, Led, IsKeptYard};
 ghost use Rattle.bus_world.specs.Headline.{Deed};
@@ -57,6 +58,22 @@ pub fn rows_used_again_keep_promises<Q: Ratifier>()
         (layout_with Q.protocol senders rounds tenures capacity) rows yard visits deeds
         → IsKeptYard (layout_with Q.protocol senders rounds tenures capacity) rows
         yard visits deeds }
+{
+    election_is_lawful::<Q>();
+}
+
+/// A stop that is answered changes who has stopped, and nothing else. Whoever has stopped does
+/// nothing any more, whatever happens next: no event of it is answered, its state is what it was,
+/// and it has no deed more. A stop that does nothing is none.
+pub fn stops_are_for_good<Q: Ratifier>()
+    ensures stops { (senders rounds rows capacity : ℕ)
+        → IsLayout (layout_with Q.protocol senders rounds rows capacity)
+        → StopsAreForGood (election_of Q.Ratifier)
+        (layout_with Q.protocol senders rounds rows capacity) }
+    ensures refuses { (senders rounds rows capacity : ℕ)
+        → IsLayout (layout_with Q.protocol senders rounds rows capacity)
+        → StopRefuses (election_of Q.Ratifier)
+        (layout_with Q.protocol senders rounds rows capacity) }
 {
     election_is_lawful::<Q>();
 }

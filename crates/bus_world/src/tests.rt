@@ -1,5 +1,7 @@
 //! Worked calls of a bus.
 
+mod stops;
+
 use super::{Answer, Event, MakeFault, PlayFault, Shape, StepFault, World};
 use bus_adoptcommit::ThreeWord;
 use bus_batch::{CloseFault, PutFault};

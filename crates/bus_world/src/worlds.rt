@@ -1,6 +1,6 @@
 //! A bus that plays events.
 
-ghost use Rattle.std.specs.Prelude.{◌≡◌, ℕ, ◌<◌, length, map, slice_get, List, Some};
+ghost use Rattle.std.specs.Prelude.{◌≡◌, ℕ, ◌<◌, false, length, map, slice_get, List, Some};
 ghost use Rattle.std.specs.Prelude.{All, IfOk, IfErr, OnOk, OnErr};
 ghost use Rattle.std.specs.Option.{option_copied};
 ghost use Rattle.bus_register.specs.declared.registers.SenderNo.{SenderNo as Number};
@@ -10,8 +10,8 @@ ghost use Rattle.bus_deliverylog.specs.Receiving.{Receiving};
 ghost use Rattle.bus_tenure.specs.Elections.{Elector, election_of, elections};
 ghost use Rattle.bus_world.specs.declared.events.Answer.TheVariants as answer;
 ghost use Rattle.bus_world.specs.Headline.{given};
-ghost use Rattle.bus_world.specs.World.{Put, Close, Turn as SenderTurn, Recv, IsEvent, Happens};
-ghost use Rattle.bus_world.specs.World.{given_at};
+ghost use Rattle.bus_world.specs.World.{Put, Close, Turn as SenderTurn, Recv, Stop};
+ghost use Rattle.bus_world.specs.World.{has_stopped, going, IsEvent, Happens, given_at};
 ghost use Rattle.bus_world.specs.Telling.{Tells, SenderCauses, EventCauses};
 ghost use Rattle.bus_world.specs.Trails.{Trails, no_trails, Reached, IsPromised, Takers, Follows};
 ghost use Rattle.bus_world.specs.Trails.{Played, Stops};
@@ -43,6 +43,8 @@ pub struct World<Q: Ratifier> {
     receivers: Vec<Reader>,
     /// Who took the page, by tenure.
     owners: ArrayVec<SenderNo, MOST_ROWS>,
+    /// Whether a sender has stopped, by its number.
+    stopped: [bool; MOST_SENDERS],
 }
 
 impl<Q: Ratifier> Model for World<Q> {
@@ -54,12 +56,12 @@ impl<Q: Ratifier> Model for World<Q> {
     ghost Value = { SizedBus (Elector Q) };
 
     ghost view = { λ w. sized_bus (layout_of Q.protocol w.shape) w.cells w.home w.senders.items
-        (map (λ s. s.0) w.owners.items) w.receivers.items };
+        (map (λ s. s.0) w.owners.items) w.receivers.items w.stopped };
 
     ghost invariant = { λ w. IsServedBus (election_with Q.kind_of Q.op Q.fed Q.protocol)
         (elections Q.protocol w.shape.rounds)
         (sized_bus (layout_of Q.protocol w.shape) w.cells w.home w.senders.items
-        (map (λ s. s.0) w.owners.items) w.receivers.items) };
+        (map (λ s. s.0) w.owners.items) w.receivers.items w.stopped) };
 }
 
 impl<Q: Ratifier + Drop> World<Q> {
@@ -86,7 +88,23 @@ impl<Q: Ratifier + Drop> World<Q> {
             senders,
             receivers,
             owners: ArrayVec::new(),
+            stopped: [false; MOST_SENDERS],
         })
+    }
+
+    /// Wants a sender that there is and that has not stopped.
+    fn goes_on(&self, sender: u64) -> Result<(), StepFault>
+        ensures there { OnOk result (sender < length self.now.bus.side.senders) }
+        ensures goes { OnOk result (has_stopped self.now.bus sender ≡ false) }
+        ensures fault { IfErr result (Refused self.now.bus (Stop sender)) }
+    {
+        if sender >= self.senders.len() as u64 {
+            return Err(StepFault::NoSuchSender);
+        }
+        if self.stopped[sender as usize] {
+            return Err(StepFault::Stopped);
+        }
+        Ok(())
     }
 
     /// A message is put into the batch of a sender.
@@ -96,14 +114,12 @@ impl<Q: Ratifier + Drop> World<Q> {
         ensures happens { let X = election_of Q.Ratifier in
             Happens X self.old.bus (Put sender bytes.now) self.new.bus }
         ensures number { IfOk result
-            (PutGives (slice_get self.old.bus.side.senders sender) (length bytes.now)) }
+            (PutGives (going self.old.bus sender) (length bytes.now)) }
         ensures fault { IfErr result (Refused self.old.bus (Put sender bytes.now)) }
         ensures refused { OnErr result (self.new ≡ self.old) }
     {
         election_is_lawful::<Q>();
-        if sender >= self.senders.len() as u64 {
-            return Err(StepFault::NoSuchSender);
-        }
+        self.goes_on(sender)?;
         put_to(&mut self.senders[sender as usize], bytes)
     }
 
@@ -112,14 +128,12 @@ impl<Q: Ratifier + Drop> World<Q> {
         ensures layout { self.new.layout ≡ self.old.layout }
         ensures happens { let X = election_of Q.Ratifier in
             Happens X self.old.bus (Close sender) self.new.bus }
-        ensures could { OnOk result (CloseGives (slice_get self.old.bus.side.senders sender)) }
+        ensures could { OnOk result (CloseGives (going self.old.bus sender)) }
         ensures fault { IfErr result (Refused self.old.bus (Close sender)) }
         ensures refused { OnErr result (self.new ≡ self.old) }
     {
         election_is_lawful::<Q>();
-        if sender >= self.senders.len() as u64 {
-            return Err(StepFault::NoSuchSender);
-        }
+        self.goes_on(sender)?;
         close_to(&mut self.senders[sender as usize])
     }
 
@@ -131,14 +145,12 @@ impl<Q: Ratifier + Drop> World<Q> {
         ensures answer { let X = election_of Q.Ratifier in
             IfOk result (λ a. Answers X self.old.bus (SenderTurn sender word) a self.new.bus) }
         ensures causes { let X = election_of Q.Ratifier in
-            SenderCauses X Q.protocol (slice_get self.old.bus.side.senders sender) }
+            SenderCauses X Q.protocol (going self.old.bus sender) }
         ensures fault { IfErr result (Refused self.old.bus (SenderTurn sender word)) }
         ensures refused { OnErr result (self.new ≡ self.old) }
     {
         election_is_lawful::<Q>();
-        if sender >= self.senders.len() as u64 {
-            return Err(StepFault::NoSuchSender);
-        }
+        self.goes_on(sender)?;
         let core = &mut self.senders[sender as usize];
         core.has_causes();
         let turn = turn_sender(&mut self.cells, &mut self.home, core, word);
@@ -164,6 +176,22 @@ impl<Q: Ratifier + Drop> World<Q> {
         Ok(Answer::Recv(turn_receiver(&mut self.cells, reader)))
     }
 
+    /// A sender stops.
+    fn stop_at(&mut self, sender: u64) -> Result<Answer, StepFault>
+        ensures layout { self.new.layout ≡ self.old.layout }
+        ensures happens { let X = election_of Q.Ratifier in
+            Happens X self.old.bus (Stop sender) self.new.bus }
+        ensures answer { let X = election_of Q.Ratifier in
+            IfOk result (λ a. Answers X self.old.bus (Stop sender) a self.new.bus) }
+        ensures fault { IfErr result (Refused self.old.bus (Stop sender)) }
+        ensures refused { OnErr result (self.new ≡ self.old) }
+    {
+        election_is_lawful::<Q>();
+        self.goes_on(sender)?;
+        self.stopped[sender as usize] = true;
+        Ok(Answer::Stopped)
+    }
+
     /// A message is put into the batch of a sender, and gets this number. Takes no memory.
     pub fn put(&mut self, sender: SenderNo, bytes: &[u8]) -> Result<u64, StepFault>
         ensures layout { self.new.layout ≡ self.old.layout }
@@ -173,7 +201,7 @@ impl<Q: Ratifier + Drop> World<Q> {
             IfOk result (λ number. Follows X self.old.layout self.old.bus (Put sender.0 bytes.now)
             (answer.Number number) self.new.bus) }
         ensures number { IfOk result
-            (PutGives (slice_get self.old.bus.side.senders sender.0) (length bytes.now)) }
+            (PutGives (going self.old.bus sender.0) (length bytes.now)) }
         ensures fault { IfErr result (Refused self.old.bus (Put sender.0 bytes.now)) }
         ensures refused { OnErr result (self.new ≡ self.old) }
     {
@@ -190,7 +218,7 @@ impl<Q: Ratifier + Drop> World<Q> {
         ensures follows { let X = election_of Q.Ratifier in
             OnOk result (Follows X self.old.layout self.old.bus
             (Close sender.0) answer.Closing self.new.bus) }
-        ensures could { OnOk result (CloseGives (slice_get self.old.bus.side.senders sender.0)) }
+        ensures could { OnOk result (CloseGives (going self.old.bus sender.0)) }
         ensures fault { IfErr result (Refused self.old.bus (Close sender.0)) }
         ensures refused { OnErr result (self.new ≡ self.old) }
     {
@@ -220,6 +248,7 @@ impl<Q: Ratifier + Drop> World<Q> {
             }
             Event::Turn { sender, word } => self.turn_at(*sender, *word),
             Event::Recv(receiver) => self.recv_at(*receiver),
+            Event::Stop(sender) => self.stop_at(*sender),
         }
     }
 

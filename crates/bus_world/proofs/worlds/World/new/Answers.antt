@@ -40,7 +40,7 @@ invariant_of-result g c =
     let served = c.in_default.ensures.served refl in
     let X = election_with g.Q.Machine.kind_of g.Q.Machine.op g.Q.Machine.fed g.Q.Ratifier.protocol in
     let laws = c.election_is_lawful.ensures.lawful.laws c.args.shape.rounds in
-    let new = made_new x c.width-width.result c.width-width.ensures.protocol c.in_ok-cells.cells c.in_ok-cells.ensures c.in_ok-senders.senders.items c.in_ok-senders.ensures _ (ap (map (λ s. s.0)) c.new-2.ensures) c.args.shape.receivers c.in_ok-receivers.receivers.items c.in_ok-receivers.ensures in
+    let new = made_new x c.width-width.result c.width-width.ensures.protocol c.in_ok-cells.cells c.in_ok-cells.ensures c.in_ok-senders.senders.items c.in_ok-senders.ensures _ (ap (map (λ s. s.0)) c.new-2.ensures) c.args.shape.receivers c.in_ok-receivers.receivers.items c.in_ok-receivers.ensures _ refl in
     record {
       senders_few = served.senders.1;
       rows_few = served.rows.1;
@@ -59,10 +59,10 @@ returns-clause-made g c =
     let served = c.in_default.ensures.served refl in
     let X = election_with g.Q.Machine.kind_of g.Q.Machine.op g.Q.Machine.fed g.Q.Ratifier.protocol in
     let laws = c.election_is_lawful.ensures.lawful.laws c.args.shape.rounds in
-    let new = made_new x c.width-width.result c.width-width.ensures.protocol c.in_ok-cells.cells c.in_ok-cells.ensures c.in_ok-senders.senders.items c.in_ok-senders.ensures _ (ap (map (λ s. s.0)) c.new-2.ensures) c.args.shape.receivers c.in_ok-receivers.receivers.items c.in_ok-receivers.ensures in
+    let new = made_new x c.width-width.result c.width-width.ensures.protocol c.in_ok-cells.cells c.in_ok-cells.ensures c.in_ok-senders.senders.items c.in_ok-senders.ensures _ (ap (map (λ s. s.0)) c.new-2.ensures) c.args.shape.receivers c.in_ok-receivers.receivers.items c.in_ok-receivers.ensures _ refl in
     record { served = served; layout = refl; new = new; senders = c.in_ok-senders.ensures.many_are; receivers = c.in_ok-receivers.ensures.many_are }
 
 pub returns-clause-begins : goal.returns-clause-begins
 returns-clause-begins g c =
     let x = layout_with g.Q.Ratifier.protocol c.args.shape.senders c.args.shape.rounds c.args.shape.rows c.args.shape.log_words in
-    New _ (made_new x c.width-width.result c.width-width.ensures.protocol c.in_ok-cells.cells c.in_ok-cells.ensures c.in_ok-senders.senders.items c.in_ok-senders.ensures _ (ap (map (λ s. s.0)) c.new-2.ensures) c.args.shape.receivers c.in_ok-receivers.receivers.items c.in_ok-receivers.ensures)
+    New _ (made_new x c.width-width.result c.width-width.ensures.protocol c.in_ok-cells.cells c.in_ok-cells.ensures c.in_ok-senders.senders.items c.in_ok-senders.ensures _ (ap (map (λ s. s.0)) c.new-2.ensures) c.args.shape.receivers c.in_ok-receivers.receivers.items c.in_ok-receivers.ensures _ refl)

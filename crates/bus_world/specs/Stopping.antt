@@ -1,0 +1,39 @@
+-- What a stop does, and that it is for good.
+use Rattle.std.specs.Prelude.{◌≡◌, ◌≢◌, ℕ, true, false, List, slice_get}
+use Rattle.bus_tenure.specs.Core.{Election, Layout}
+use Rattle.bus_world.specs.Playing.{AllAnswered, Answers}
+use Rattle.bus_world.specs.Trails.{Trails, Reached, trails_grown, trails_after}
+use Rattle.bus_world.specs.World.{Bus, Event, Put, Close, Turn, Stop, has_stopped, Happens}
+use Rattle.bus_world.specs.declared.events.Answer.{Answer}
+
+-- The stop of a sender that went on was answered: it has stopped now, and nothing else has changed. It is no deed of any sender and no
+-- answer of any receiver.
+pub record JustStopped {E : Type 0} (X : Election E) (old : Bus E) (s : ℕ) (a : Answer) (new : Bus E) : Type 0 where
+  pub went_on : has_stopped old s ≡ false
+  pub stopped : has_stopped new s ≡ true
+  pub others : (q : ℕ) → q ≢ s → has_stopped new q ≡ has_stopped old q
+  pub side : new.side ≡ old.side
+  pub receivers : new.receivers ≡ old.receivers
+  pub deeds : (T : Trails) (q : ℕ) → (trails_grown X old (Stop s) a T).deeds q ≡ T.deeds q
+  pub heard : (T : Trails) (r : ℕ) → (trails_grown X old (Stop s) a T).heard r ≡ T.heard r
+
+-- a sender is still stopped, its state is what it was, and it has done nothing more
+pub record StaysStopped {E : Type 0} (old : Bus E) (T : Trails) (s : ℕ) (new : Bus E) (T' : Trails) : Type 0 where
+  pub stopped : has_stopped new s ≡ true
+  pub state : slice_get new.side.senders s ≡ slice_get old.side.senders s
+  pub deeds : T'.deeds s ≡ T.deeds s
+
+-- each stop is one, and whoever has stopped stays so, whatever happens next
+pub record StopsAreForGood {E : Type 0} (X : Election E) (x : Layout) : Type 0 where
+  pub stops : (old new : Bus E) (T : Trails) (s : ℕ) (a : Answer) → Reached X x old T → Happens X old (Stop s) new → Answers X old (Stop s) a new → JustStopped X old s a new
+  pub stays : (old new : Bus E) (events : List Event) (run : AllAnswered X old events new) (T : Trails) (s : ℕ) → has_stopped old s ≡ true → StaysStopped old T s new (trails_after X old events new run T)
+
+-- what is no such thing
+pub record StopRefuses {E : Type 0} (X : Election E) (x : Layout) : Type 0 where
+  -- a stop that does nothing
+  pub idle_stop : (b : Bus E) (T : Trails) (s : ℕ) (a : Answer) → Reached X x b T → Happens X b (Stop s) b → ¬ Answers X b (Stop s) a b
+  -- a turn, a put, a close or a second stop of a sender that has stopped
+  pub late_turn : (old new : Bus E) (s word : ℕ) (a : Answer) → has_stopped old s ≡ true → ¬ Answers X old (Turn s word) a new
+  pub late_put : (old new : Bus E) (s : ℕ) (bytes : List ℕ) (a : Answer) → has_stopped old s ≡ true → ¬ Answers X old (Put s bytes) a new
+  pub late_close : (old new : Bus E) (s : ℕ) (a : Answer) → has_stopped old s ≡ true → ¬ Answers X old (Close s) a new
+  pub second_stop : (old new : Bus E) (s : ℕ) (a : Answer) → has_stopped old s ≡ true → ¬ Answers X old (Stop s) a new
