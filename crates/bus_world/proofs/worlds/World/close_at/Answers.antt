@@ -1,4 +1,4 @@
-use Rattle.std.proofs.Common.{refl, arith}
+use Rattle.std.proofs.Common.{refl}
 use Rattle.bus_tenure.specs.Elections.{elections, election_with, layout_with}
 use Rattle.bus_world.specs.Playing.{Refused}
 use Rattle.bus_world.specs.World.{Close}

@@ -1,4 +1,4 @@
-use Rattle.std.proofs.Common.{refl, subst, arith, ◌∙◌, sym, ap, map}
+use Rattle.std.proofs.Common.{refl, subst, ◌∙◌, sym, ap, map}
 use Rattle.bus_tenure.specs.Elections.{elections, election_with, layout_with}
 use Rattle.bus_world.specs.Turning.{owners_by}
 use Rattle.bus_world.specs.Playing.{Refused}
