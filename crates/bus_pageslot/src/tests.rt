@@ -5,6 +5,7 @@ ghost use Rattle.bus_pageslot.specs.Rule.{known_in};
 ghost use Rattle.bus_pageslot.specs.Seats.{table_of};
 
 mod elections;
+mod stops;
 
 use super::*;
 use bus_adoptcommit::ThreeWord;
