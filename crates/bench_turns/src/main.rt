@@ -1,46 +1,57 @@
 //! `bench_turns turns` prints nanoseconds a turn for each kind of step, with 1, 3 and 8 senders.
-//! `bench_turns storm` runs 2,000 buses whose workers yield or sleep at random turns. `bench_turns
-//! elections` prints own steps of elections, with 1 to 8 senders and either ratifier. With another
-//! argument it tries a little of the first two, and prints what is the same each time.
+//! `bench_turns storm` runs buses whose workers yield, sleep or stop for good at random turns, in
+//! one thread for each processor and then in eight: 10,000 each, or as many as a further argument
+//! says. `bench_turns elections` prints own steps of elections, with 1 to 8 senders and either
+//! ratifier. With another argument it tries a little of the first two, and prints what is the same
+//! each time.
 //!
 //! Exit status: 1 where a run failed.
 #![tactic(auto)]
 
 mod desks;
 mod elections;
+mod figures;
 mod storms;
 mod turns;
+mod workers;
 
 use self::elections::print_elections;
-use self::storms::run;
+use self::figures::storm;
 use self::turns::{print_turns, sums_of};
 use std::alloc::Global;
 use std::env;
 use std::process::ExitCode;
-use std::sync::Wait;
-use std::thread::Threads;
+use std::thread::{Threads, available_parallelism};
 use std::time::Clock;
 
-/// Runs of these numbers, of which those that failed say why. On false one has failed.
-fn run_all<R: Threads + Wait + Clock + Print + Sync>(
+/// Runs of a storm where no argument says how many.
+const MOST_RUNS: u64 = 10_000;
+
+/// Storms in one thread for each processor and in eight. On false a run has failed.
+fn two_storms<R: Threads + Clock + Print + Sync>(
     rt: &R,
     alloc: Global,
     runs: u64,
 ) -> anyhow::Result<bool> {
-    let mut failed: u64 = 0;
-    for seed in 0..runs {
-        if let Err(why) = run(rt, alloc, seed) {
-            failed = failed.saturating_add(1);
-            println!(rt; "run {seed}: {why}")?;
-        }
+    let processors = available_parallelism(rt)?.get() as u64;
+    let mut passed = true;
+    for threads in [processors, processors.saturating_mul(8)] {
+        println!(rt; "{threads} threads")?;
+        let figures = storm(rt, alloc, runs, threads)?;
+        figures.print(rt)?;
+        passed &= figures.failed == 0;
     }
-    println!(rt; "{runs} runs, {failed} failed")?;
-    Ok(failed == 0)
+    Ok(passed)
 }
 
 fn main(rt: HostRuntime) -> anyhow::Result<ExitCode> {
     let alloc = rt.alloc();
-    let mode = env::args(&rt)?.nth(1);
+    let mut args = env::args(&rt)?.skip(1);
+    let mode = args.next();
+    let runs = match args.next() {
+        Some(runs) => runs.as_str().parse()?,
+        None => MOST_RUNS,
+    };
     let passed = match mode.as_ref().map(|mode| mode.as_str()) {
         Some("turns") => {
             for senders in [1, 3, 8] {
@@ -48,14 +59,16 @@ fn main(rt: HostRuntime) -> anyhow::Result<ExitCode> {
             }
             true
         }
-        Some("storm") => run_all(&rt, alloc, 2000)?,
+        Some("storm") => two_storms(&rt, alloc, runs)?,
         Some("elections") => {
             print_elections(&rt, alloc)?;
             true
         }
         _ => {
             sums_of(&rt, alloc, 3, 1)?;
-            run_all(&rt, alloc, 3)?
+            let figures = storm(&rt, alloc, 3, 4)?;
+            println!(&rt; "{} runs, {} failed", figures.runs, figures.failed)?;
+            figures.failed == 0
         }
     };
     Ok(if passed {

@@ -1,161 +1,99 @@
-//! A run whose workers yield or sleep at random turns.
+//! A run whose workers yield, sleep a random while, or stop for good.
 
 ghost use Rattle.std.specs.Prelude.{◌≡◌, ◌≤◌, All, IfOk, OnOk};
 ghost use Rattle.bus_pageslot.specs.Seats.{table_of};
 ghost use Rattle.bus_run.specs.Audit.{OfOrder, IsFair, SendsEach};
 
-use crate::desks::{Desk, desks_of};
+use crate::desks::desks_of;
+use crate::workers::{Listener, MOST_TURNS, Patience, Rest, Teller, listeners_of};
 use anyhow::{bail, ensure};
+use bus_deliverylog::{LogRead, read_log};
 use bus_pageslot::OfBus;
-use bus_receiver::{Ended, RecvTurn, SenderNo, Shape, Turn};
-use bus_register::limits::{MOST_RECEIVERS, MOST_SENDERS};
+use bus_receiver::{EndFault, Ended, SenderNo, Shape};
+use bus_register::limits::MOST_SENDERS;
 use bus_run::Report;
 use bus_run::audits::audit;
-use bus_run::buses::{Bus, Receiver, Sender, Tap, TheBus};
-use bus_run::crews::{Crew, Work};
-use bus_run::workers::{Ear, ears_of};
+use bus_run::buses::{Bus, Sender, Tap, TheBus};
 use rand_core::Rng;
 use rand_pcg::Pcg32;
-use std::alloc::Global;
+use std::alloc::{AllocError, Global};
 use std::marker::Brand;
-use std::sync::Wait;
-use std::sync::atomic::{AtomicBool, AtomicU64, Ordering};
 use std::thread;
 use std::thread::Threads;
 use std::time::{Clock, Duration};
-
-/// What the workers of a run on the bus B share.
-#[derive(Drop)]
-struct Storm<'a, B: OfBus, R> {
-    rt: &'a R,
-    the: &'a TheBus<B>,
-    load: Load,
-    /// How many workers have begun.
-    begun: AtomicU64,
-    /// A worker could not do its work, or was given what nobody sent.
-    has_failed: AtomicBool,
-}
-
-impl<B: OfBus, R: Wait + Clock> Work<Desk<B>> for Storm<'_, B, R> {
-    /// Sends all messages, in batches as the dice fall.
-    fn work(&self, mut desk: Desk<B>) -> Desk<B> {
-        let mut dice = self.dice();
-        for number in 0..self.load.messages {
-            self.see(desk.put());
-            let is_last = number + 1 == self.load.messages || desk.sender.pending() == 16;
-            if is_last || dice.next_u32() % 8 == 0 {
-                let turn = self.send(&mut desk, &mut dice);
-                self.see(matches!(turn, Turn::Delivered { .. }));
-            }
-        }
-        desk
-    }
-}
-
-impl<B: OfBus, R: Wait + Clock> Work<Ear<B>> for Storm<'_, B, R> {
-    /// Takes turns until the end, or until a worker has failed and there is nothing more.
-    fn work(&self, mut ear: Ear<B>) -> Ear<B> {
-        let mut dice = self.dice();
-        for _ in self.rt.forever() {
-            pause(self.rt, &mut dice);
-            match ear.hear(self.the) {
-                RecvTurn::End => return ear,
-                RecvTurn::Empty if self.has_failed.load(Ordering::SeqCst) => return ear,
-                RecvTurn::Empty => thread::yield_now(),
-                RecvTurn::Item(item) => {
-                    self.see(item.message.as_slice() == item.number.to_be_bytes().as_slice());
-                }
-                RecvTurn::Going | RecvTurn::Head { .. } => {}
-            }
-        }
-        unreachable!()
-    }
-}
-
-impl<B: OfBus, R: Wait + Clock> Storm<'_, B, R> {
-    /// The dice of the next worker.
-    fn dice(&self) -> Pcg32 {
-        Pcg32::new(self.load.seed, self.begun.fetch_add(1, Ordering::SeqCst))
-    }
-
-    /// The run has failed unless this is so.
-    fn see(&self, is_so: bool) {
-        if !is_so {
-            self.has_failed.store(true, Ordering::SeqCst);
-        }
-    }
-
-    /// Turns, until there is nothing more to do, or nothing more that can be done.
-    fn send(&self, desk: &mut Desk<B>, dice: &mut Pcg32) -> Turn {
-        for _ in self.rt.forever() {
-            pause(self.rt, dice);
-            match desk.sender.turn(&self.the.bus, dice.next_u32()) {
-                Turn::Waiting => thread::yield_now(),
-                Turn::Going | Turn::Own { .. } | Turn::Lost { .. } => {}
-                turn => return turn,
-            }
-        }
-        unreachable!()
-    }
-
-    /// The first sender closes the bus.
-    fn close(&self, desks: &mut [Desk<B>]) {
-        if let Some(desk) = desks.first_mut() {
-            self.see(desk.sender.close().is_ok());
-            self.see(self.send(desk, &mut self.dice()) == Turn::Closed);
-        }
-    }
-}
-
-/// At one turn in eight lets others run, and at one in 64 sleeps up to 100 microseconds.
-fn pause<R: Clock>(rt: &R, dice: &mut Pcg32) {
-    match dice.next_u32() % 64 {
-        0 => thread::sleep(rt, Duration::from_micros(u64::from(dice.next_u32() % 101))),
-        1..9 => thread::yield_now(),
-        _ => {}
-    }
-}
 
 /// What is asked of a run.
 #[derive(Clone, Copy)]
 struct Load {
     senders: u64,
-    receivers: u64,
     messages: u64,
-    seed: u64,
+    /// So many threads at most, each of which plays its workers by turns.
+    hands: u64,
+    /// Nobody stops, and there are tenures and words for all.
+    is_calm: bool,
 }
 
-/// A run under this seed: 1 to 8 senders of at most 31 messages each, and 1 to 8 receivers.
-pub fn run<R: Threads + Wait + Clock + Sync>(
+/// What came of a run.
+#[derive(Clone, Copy)]
+pub struct Tale {
+    /// How many workers stopped for good.
+    pub stops: u64,
+    /// How many spent their turns in vain.
+    pub gave_up: u64,
+    /// The page was out at its end.
+    pub is_out: bool,
+    /// Nobody was to stop.
+    pub is_calm: bool,
+    /// Nobody was to stop, and all was sent, heard and audited.
+    pub is_whole: bool,
+    /// How many items its order has.
+    pub items: u64,
+}
+
+/// Workers that one thread plays by turns.
+#[derive(Drop)]
+struct Hand<B: OfBus> {
+    tellers: Vec<Teller<B>>,
+    listeners: Vec<Listener<B>>,
+    dice: Pcg32,
+}
+
+/// A run under this seed, in at most so many threads: 1 to 8 senders of at most 31 messages each,
+/// and 1 to 8 receivers. 64 seeds in a row have all these shapes.
+pub fn run<R: Threads + Clock + Sync>(
     rt: &R,
     alloc: Global,
     seed: u64,
-) -> anyhow::Result<Report> {
-    let mut dice = Pcg32::new(seed, u64::MAX);
+    hands: u64,
+) -> anyhow::Result<Tale> {
+    let mut dice = Pcg32::new(seed, 0);
     let load = Load {
-        senders: 1 + u64::from(dice.next_u32() % 8),
-        receivers: 1 + u64::from(dice.next_u32() % 8),
+        senders: 1 + seed % 8,
         messages: u64::from(dice.next_u32() % 32),
-        seed,
+        hands: hands.max(1),
+        is_calm: dice.next_u32() % 4 == 0,
     };
+    let is_scarce = !load.is_calm && dice.next_u32() % 4 == 0;
+    let (rows, log_words) = if is_scarce { (16, 128) } else { (256, 4096) };
     let shape = Shape {
         senders: load.senders,
-        receivers: MOST_RECEIVERS.min(load.receivers + 1),
+        receivers: 1 + seed / 8 % 8,
         rounds: 1 + u64::from(dice.next_u32() % 4),
-        rows: 256,
-        log_words: 4096,
+        rows,
+        log_words,
     };
     let made = Bus::new(alloc, shape)?;
-    run_on::<Brand, R>(rt, alloc, made, load)
+    run_on::<Brand, R>(rt, alloc, made, load, dice)
 }
 
-/// The run on this bus, which is B. A receiver to spare hears all when the others have ended.
-fn run_on<B: OfBus + Send + Sync, R: Threads + Wait + Clock + Sync>(
+/// The run on this bus, which is B.
+fn run_on<B: OfBus + Send + Sync, R: Threads + Clock + Sync>(
     rt: &R,
     alloc: Global,
     made: (Bus, Vec<Sender>, Vec<Tap>),
     load: Load,
-) -> anyhow::Result<Report>
+    mut dice: Pcg32,
+) -> anyhow::Result<Tale>
     requires bus { made.0.table ≡ B.table }
     requires senders { All (λ sender. table_of sender ≡ B.table) made.1.items }
     requires taps { All (λ tap. tap.table_id ≡ B.table) made.2.items }
@@ -163,53 +101,260 @@ fn run_on<B: OfBus + Send + Sync, R: Threads + Wait + Clock + Sync>(
 {
     let (bus, senders, taps) = made;
     let the = TheBus::<B>::new(bus);
-    let mut ears = ears_of::<B>(alloc, taps)?;
-    let is_one_over = ears.len() as u64 > load.receivers;
-    let spare = if is_one_over { ears.pop() } else { None };
-    let crew = Crew::new(alloc, desks_of::<B>(alloc, senders)?, ears)?;
-    let ears = man(rt, &the, load, crew, spare)?;
-    end_and_audit(alloc, the, ears, load)
+    let mut tellers = Vec::with_capacity(alloc, senders.len())?;
+    for desk in desks_of::<B>(alloc, senders)? {
+        let patience = Patience::cast(&mut dice, load.is_calm);
+        tellers.push(Teller::new(desk, load.messages, patience))?;
+    }
+    let listeners = listeners_of::<B>(alloc, taps, &mut dice, load.is_calm)?;
+    let hands = deal(alloc, load, tellers, listeners, &mut dice)?;
+    let hands = thread::map_vec(rt, hands, &|hand| play(rt, &the, hand))?;
+    let (mut tellers, mut listeners) = gather(alloc, hands)?;
+    for teller in tellers.iter_mut() {
+        if teller.close(&the, &mut dice) {
+            break;
+        }
+    }
+    for listener in listeners.iter_mut() {
+        listener.catch_up(&the);
+    }
+    settle(alloc, the, tellers, listeners, load)
 }
 
-/// Lets each of the crew work in a thread of its own, until all have ended, and then the receiver
-/// to spare. Gives the receivers.
-fn man<B: OfBus + Send + Sync, R: Threads + Wait + Clock + Sync>(
-    rt: &R,
-    the: &TheBus<B>,
+/// Deals the workers to so many hands, the senders from the first hand on, and the receivers from
+/// the last.
+fn deal<B: OfBus>(
+    alloc: Global,
     load: Load,
-    crew: Crew<Desk<B>, Ear<B>>,
-    spare: Option<Ear<B>>,
-) -> anyhow::Result<Vec<Ear<B>>> {
-    let storm = Storm {
-        rt,
-        the,
-        load,
-        begun: AtomicU64::new(0),
-        has_failed: AtomicBool::new(false),
-    };
-    let storm = &storm;
-    let Crew { mut ears, .. } = thread::scope(thread::scope_env(), rt, move |scope| {
-        let mut crew = crew;
-        storm.see(crew.start_senders(scope, storm));
-        storm.see(crew.start_receivers(scope, storm));
-        crew.join_senders(rt);
-        storm.close(&mut crew.desks);
-        crew.join_receivers(rt);
-        crew
-    });
-    if let Some(ear) = spare {
-        ears.push(storm.work(ear))?;
+    tellers: Vec<Teller<B>>,
+    listeners: Vec<Listener<B>>,
+    dice: &mut Pcg32,
+) -> Result<Vec<Hand<B>>, AllocError> {
+    let mut hands = Vec::new(alloc);
+    for stream in 0..load.hands {
+        hands.push(Hand {
+            tellers: Vec::new(alloc),
+            listeners: Vec::new(alloc),
+            dice: Pcg32::new(u64::from(dice.next_u32()), stream),
+        })?;
     }
-    let has_failed = storm.has_failed.load(Ordering::SeqCst);
-    ensure!(!has_failed, "a worker failed");
-    Ok(ears)
+    let many = hands.len().max(1);
+    for (place, teller) in tellers.into_iter().enumerate() {
+        if let Some(hand) = hands.get_mut(place % many) {
+            hand.tellers.push(teller)?;
+        }
+    }
+    for (place, listener) in listeners.into_iter().enumerate() {
+        if let Some(hand) = hands.get_mut(many - 1 - place % many) {
+            hand.listeners.push(listener)?;
+        }
+    }
+    Ok(hands)
+}
+
+/// Turns of the workers of a hand as the dice fall, until all rest.
+fn play<B: OfBus, R: Clock>(rt: &R, the: &TheBus<B>, mut hand: Hand<B>) -> Hand<B> {
+    for _ in 0..4 * MOST_TURNS {
+        let mut is_at_work = false;
+        for teller in hand.tellers.iter_mut() {
+            if teller.rest.is_none() {
+                is_at_work = true;
+                let is_idle = pause(rt, &mut hand.dice) && teller.turn(the, &mut hand.dice);
+                yield_if(is_idle);
+            }
+        }
+        for listener in hand.listeners.iter_mut() {
+            if listener.rest.is_none() {
+                is_at_work = true;
+                let is_idle = pause(rt, &mut hand.dice) && listener.turn(the);
+                yield_if(is_idle);
+            }
+        }
+        if !is_at_work {
+            return hand;
+        }
+    }
+    hand
+}
+
+/// At one call in eight lets others run, and at one in 64 sleeps up to 100 microseconds. Says, for
+/// one call in two, that a turn is due.
+fn pause<R: Clock>(rt: &R, dice: &mut Pcg32) -> bool {
+    match dice.next_u32() % 64 {
+        0 => thread::sleep(rt, Duration::from_micros(u64::from(dice.next_u32() % 101))),
+        1..9 => thread::yield_now(),
+        _ => {}
+    }
+    dice.next_u32() % 2 == 0
+}
+
+/// Lets others run.
+fn yield_if(is_idle: bool) {
+    if is_idle {
+        thread::yield_now();
+    }
+}
+
+/// The workers of all hands.
+fn gather<B: OfBus>(
+    alloc: Global,
+    hands: Vec<Hand<B>>,
+) -> Result<(Vec<Teller<B>>, Vec<Listener<B>>), AllocError> {
+    let mut tellers = Vec::new(alloc);
+    let mut listeners = Vec::new(alloc);
+    for hand in hands {
+        let Hand {
+            tellers: some,
+            listeners: others,
+            ..
+        } = hand;
+        for teller in some {
+            tellers.push(teller)?;
+        }
+        for listener in others {
+            listeners.push(listener)?;
+        }
+    }
+    Ok((tellers, listeners))
+}
+
+/// Ends the run: what each worker knows has to go with the log, and with how the bus ends.
+fn settle<B: OfBus>(
+    alloc: Global,
+    the: TheBus<B>,
+    tellers: Vec<Teller<B>>,
+    mut listeners: Vec<Listener<B>>,
+    load: Load,
+) -> anyhow::Result<Tale>
+    requires { load.senders ≤ MOST_SENDERS }
+{
+    let Some(first) = listeners.first_mut() else {
+        bail!("no receiver is there");
+    };
+    let words = first.words(alloc, &the)?;
+    let read = read_log(alloc, words.as_slice(), load.senders)?;
+    have_heard(&read, listeners.as_slice())?;
+    have_told(counts_of(&read)?, tellers.as_slice())?;
+    let tale = tale_of(&read, &tellers, &listeners, load);
+    if tale.is_whole {
+        let report = end_and_audit(alloc, the, listeners, load)?;
+        let is_same = report.ended.log() == words.as_slice();
+        ensure!(is_same, "the log left is another");
+    } else {
+        let is_cut = !load.is_calm || tale.gave_up > 0;
+        ensure!(is_cut, "nobody stopped, and something is missing");
+        end_with(the, listeners, tale.is_out, words.as_slice())?;
+    }
+    Ok(tale)
+}
+
+/// What came of the run with this log.
+fn tale_of<B: OfBus>(
+    read: &LogRead,
+    tellers: &[Teller<B>],
+    listeners: &[Listener<B>],
+    load: Load,
+) -> Tale {
+    let has_sent = tellers.iter().all(|teller| teller.has_sent());
+    Tale {
+        stops: count(tellers, listeners, Rest::Stopped),
+        gave_up: count(tellers, listeners, Rest::GaveUp),
+        is_out: tellers.iter().any(|teller| teller.has_page),
+        is_calm: load.is_calm,
+        is_whole: load.is_calm && has_sent && read.order.ended,
+        items: read.order.items.len() as u64,
+    }
+}
+
+/// How many workers rest for this reason.
+fn count<B: OfBus>(tellers: &[Teller<B>], listeners: &[Listener<B>], rest: Rest) -> u64 {
+    let resting = tellers.iter().filter(|t| t.rest == Some(rest)).count();
+    resting.saturating_add(listeners.iter().filter(|l| l.rest == Some(rest)).count()) as u64
+}
+
+/// What each receiver was given begins the order of the log, and is all of it for one that did not
+/// stop.
+fn have_heard<B: OfBus>(read: &LogRead, listeners: &[Listener<B>]) -> anyhow::Result<()> {
+    let order = read.order.items.as_slice();
+    for listener in listeners {
+        let items = listener.items.as_slice();
+        ensure!(listener.is_sound, "an item given is not the next");
+        ensure!(order.starts_with(items), "another order was given");
+        let is_all = items.len() == order.len() && listener.heard.ended() == read.order.ended;
+        let has_stopped = listener.rest == Some(Rest::Stopped);
+        let has_end = listener.heard.ended();
+        ensure!(is_all || has_stopped, "a receiver was not given all");
+        ensure!(is_all || !has_end, "an end was given too early");
+    }
+    Ok(())
+}
+
+/// How many items each sender has in the log. They carry its numbers from 0 on, one after another.
+fn counts_of(read: &LogRead) -> anyhow::Result<[u64; MOST_SENDERS]> {
+    let mut counts = [0; MOST_SENDERS];
+    for item in read.order.items.iter() {
+        let number = item.number;
+        let Some(next) = counts.get_mut(usize::from(item.sender.0)) else {
+            bail!("an item is of no sender");
+        };
+        ensure!(number == *next, "an item is not the next of its sender");
+        let bytes = number.to_be_bytes();
+        let is_kept = item.message.as_slice() == bytes.as_slice();
+        ensure!(is_kept, "a message is altered");
+        *next = number.saturating_add(1);
+    }
+    Ok(counts)
+}
+
+/// Each sender has in the log what it was told, and nothing that it has not put; and just what it
+/// was told where it has not the page.
+fn have_told<B: OfBus>(counts: [u64; MOST_SENDERS], tellers: &[Teller<B>]) -> anyhow::Result<()> {
+    for teller in tellers {
+        let sender = &teller.desk.sender;
+        let count = counts
+            .get(usize::from(sender.number().0))
+            .copied()
+            .unwrap_or(0);
+        let most = if teller.has_page {
+            sender.next_number()
+        } else {
+            teller.delivered
+        };
+        ensure!(
+            count >= teller.delivered,
+            "a message that was delivered is missing"
+        );
+        ensure!(count <= most, "a message stands in the log too early");
+    }
+    Ok(())
+}
+
+/// Ends the bus by the last receiver: it has just these words, unless its page is out.
+fn end_with<B: OfBus>(
+    the: TheBus<B>,
+    mut listeners: Vec<Listener<B>>,
+    is_out: bool,
+    words: &[u64],
+) -> anyhow::Result<()> {
+    let Some(last) = listeners.pop() else {
+        bail!("no receiver is there");
+    };
+    let Listener { tap, .. } = last;
+    match the.into_bus().end(tap) {
+        Ok(ended) => {
+            ensure!(!is_out, "the bus ended with its page out");
+            ensure!(ended.log() == words, "the log left is another");
+        }
+        Err(EndFault::PageOut) => ensure!(is_out, "the page is home, and the bus did not end"),
+    }
+    Ok(())
 }
 
 /// Ends the bus by the last receiver, and holds what each heard against what the bus left behind.
 fn end_and_audit<B: OfBus>(
     alloc: Global,
     the: TheBus<B>,
-    mut ears: Vec<Ear<B>>,
+    mut listeners: Vec<Listener<B>>,
     load: Load,
 ) -> anyhow::Result<Report>
     requires { load.senders ≤ MOST_SENDERS }
@@ -218,21 +363,17 @@ fn end_and_audit<B: OfBus>(
     ensures sent { IfOk result
         (λ report. OfOrder report.ended (SendsEach load.senders load.messages)) }
 {
-    let mut heards = Vec::with_capacity(alloc, ears.len())?;
-    let Some(last) = ears.pop() else {
+    let mut heards = Vec::with_capacity(alloc, listeners.len())?;
+    let Some(last) = listeners.pop() else {
         bail!("no receiver is there");
     };
-    let Ear {
-        receiver,
-        heard,
-        ..
-    } = last;
+    let Listener { tap, heard, .. } = last;
     heards.push(heard)?;
-    for ear in ears {
-        let Ear { heard, .. } = ear;
+    for listener in listeners {
+        let Listener { heard, .. } = listener;
         heards.push(heard)?;
     }
-    let ended = Receiver::end(the.into_bus(), receiver)?;
+    let ended = the.into_bus().end(tap)?;
     all_sent(&ended, load)?;
     match audit(&ended, heards.as_slice()) {
         Ok(()) => Ok(Report { ended, heards }),

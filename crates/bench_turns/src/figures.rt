@@ -1,0 +1,133 @@
+//! A storm: runs of every shape, as many side by side as make up a number of threads.
+
+use crate::storms::{Tale, run};
+use std::alloc::Global;
+use std::thread::Threads;
+use std::time::Clock;
+use std::{io, thread};
+
+/// Shapes of 1 to 8 senders and 1 to 8 receivers.
+const SHAPES: u64 = 64;
+
+/// What came of runs.
+#[derive(Clone, Copy)]
+pub struct Figures {
+    pub runs: u64,
+    pub failed: u64,
+    calm: u64,
+    whole: u64,
+    out: u64,
+    stops: u64,
+    gave_up: u64,
+    items: u64,
+}
+
+impl Figures {
+    /// Of no run.
+    fn new() -> Figures {
+        Figures {
+            runs: 0,
+            failed: 0,
+            calm: 0,
+            whole: 0,
+            out: 0,
+            stops: 0,
+            gave_up: 0,
+            items: 0,
+        }
+    }
+
+    /// With one run more, that did not fail.
+    fn with(self, tale: Tale) -> Figures {
+        self.and(Figures {
+            runs: 1,
+            failed: 0,
+            calm: u64::from(tale.is_calm),
+            whole: u64::from(tale.is_whole),
+            out: u64::from(tale.is_out),
+            stops: tale.stops,
+            gave_up: tale.gave_up,
+            items: tale.items,
+        })
+    }
+
+    /// With one run more, that failed.
+    fn with_failure(self) -> Figures {
+        self.and(Figures {
+            runs: 1,
+            failed: 1,
+            ..Figures::new()
+        })
+    }
+
+    /// The figures of both.
+    fn and(self, other: Figures) -> Figures {
+        Figures {
+            runs: self.runs.saturating_add(other.runs),
+            failed: self.failed.saturating_add(other.failed),
+            calm: self.calm.saturating_add(other.calm),
+            whole: self.whole.saturating_add(other.whole),
+            out: self.out.saturating_add(other.out),
+            stops: self.stops.saturating_add(other.stops),
+            gave_up: self.gave_up.saturating_add(other.gave_up),
+            items: self.items.saturating_add(other.items),
+        }
+    }
+
+    /// A line for each figure.
+    pub fn print<R: Print>(&self, rt: &R) -> io::Result<()> {
+        println!(rt; "  runs {}, failed {}", self.runs, self.failed)?;
+        println!(rt; "  runs where nobody was to stop {}", self.calm)?;
+        println!(rt; "  of these all sent, heard and audited {}", self.whole)?;
+        println!(rt; "  page out at the end {}", self.out)?;
+        println!(rt; "  workers that stopped {}", self.stops)?;
+        println!(rt; "  workers that waited too long {}", self.gave_up)?;
+        println!(rt; "  items {}", self.items)
+    }
+}
+
+/// Runs under the seeds below `runs`, as many side by side as have room in so many threads, beside
+/// those that wait for them. Those that fail say why.
+pub fn storm<R: Threads + Clock + Print + Sync>(
+    rt: &R,
+    alloc: Global,
+    runs: u64,
+    threads: u64,
+) -> anyhow::Result<Figures> {
+    let mut figures = Figures::new();
+    for shape in 0..SHAPES {
+        let workers = 2 + shape % 8 + shape / 8;
+        let hands = threads.min(workers).max(1);
+        let lanes = (threads / workers).clamp(1, 64);
+        let mut firsts = Vec::new(alloc);
+        for lane in 0..lanes {
+            firsts.push(shape + SHAPES * lane)?;
+        }
+        let apart = SHAPES * lanes;
+        let each = &|first| run_lane(rt, alloc, (first, runs, apart), hands);
+        for told in thread::map_vec(rt, firsts, each)? {
+            figures = figures.and(told);
+        }
+    }
+    Ok(figures)
+}
+
+/// Runs under the seeds from the first, below the second, so far apart, one after another.
+fn run_lane<R: Threads + Clock + Print + Sync>(
+    rt: &R,
+    alloc: Global,
+    (first, end, apart): (u64, u64, u64),
+    hands: u64,
+) -> Figures {
+    let mut figures = Figures::new();
+    for seed in (first..end).step_by(apart.max(1) as usize) {
+        figures = match run(rt, alloc, seed, hands) {
+            Ok(tale) => figures.with(tale),
+            Err(why) => {
+                let _ = println!(rt; "seed {seed}: {why}");
+                figures.with_failure()
+            }
+        };
+    }
+    figures
+}

@@ -1,0 +1,264 @@
+//! Workers of a storm: senders and receivers of the bus B, each of which takes one turn a call, and
+//! rests for good after a number of turns.
+
+ghost use Rattle.std.specs.Prelude.{◌≡◌, All};
+
+use crate::desks::Desk;
+use bus_pageslot::OfBus;
+use bus_receiver::{Heard, Item, RecvTurn, Turn};
+use bus_run::buses::{Tap, TheBus};
+use rand_core::Rng;
+use rand_pcg::Pcg32;
+use std::alloc::{AllocError, Global};
+use std::marker::PhantomData;
+
+/// A worker takes no more turns than these.
+pub const MOST_TURNS: u64 = 100_000;
+
+/// Nor more one after another that find nothing to do.
+const MOST_IDLE: u64 = 2_000;
+
+/// Room for all messages of a run.
+const MOST_ITEMS: usize = 256;
+
+/// Why a worker takes no more turns.
+#[derive(Clone, Copy, Debug, PartialEq, Eq)]
+pub enum Rest {
+    /// It has no more to do.
+    Done,
+    /// It was refused what it had to do.
+    Refused,
+    /// It stopped for good, as the dice fell.
+    Stopped,
+    /// Its turns were spent.
+    GaveUp,
+}
+
+/// How many more turns a worker takes.
+#[derive(Clone, Copy)]
+pub struct Patience {
+    /// None where it does not stop.
+    stops_in: Option<u64>,
+    turns: u64,
+    idle: u64,
+}
+
+impl Patience {
+    /// As many as may be.
+    pub fn all() -> Patience {
+        Patience {
+            stops_in: None,
+            turns: MOST_TURNS,
+            idle: MOST_IDLE,
+        }
+    }
+
+    /// As many; but where workers are to stop, for one in four some number below 2,048, more often
+    /// a small one.
+    pub fn cast(dice: &mut Pcg32, is_calm: bool) -> Patience {
+        let mut patience = Patience::all();
+        if !is_calm && dice.next_u32() % 4 == 0 {
+            let most = 1u32 << (dice.next_u32() % 12);
+            patience.stops_in = Some(u64::from(dice.next_u32() % most));
+        }
+        patience
+    }
+
+    /// Takes a turn off, or says why none is left.
+    fn spend(&mut self) -> Option<Rest> {
+        if self.stops_in == Some(0) {
+            return Some(Rest::Stopped);
+        }
+        if self.turns == 0 || self.idle == 0 {
+            return Some(Rest::GaveUp);
+        }
+        self.stops_in = self.stops_in.map(|turns| turns.saturating_sub(1));
+        self.turns -= 1;
+        None
+    }
+
+    /// The turn has found something to do, or nothing.
+    fn note(&mut self, is_idle: bool) {
+        self.idle = if is_idle {
+            self.idle.saturating_sub(1)
+        } else {
+            MOST_IDLE
+        };
+    }
+}
+
+/// A sender with messages to send.
+#[derive(Drop)]
+pub struct Teller<B: OfBus> {
+    pub desk: Desk<B>,
+    pub rest: Option<Rest>,
+    /// It has taken the page and not given it back.
+    pub has_page: bool,
+    /// So many of its messages stand in the order, by what it was answered.
+    pub delivered: u64,
+    messages: u64,
+    patience: Patience,
+}
+
+impl<B: OfBus> Teller<B> {
+    /// A sender of so many messages that has not begun.
+    pub fn new(desk: Desk<B>, messages: u64, patience: Patience) -> Teller<B> {
+        Teller {
+            desk,
+            rest: None,
+            has_page: false,
+            delivered: 0,
+            messages,
+            patience,
+        }
+    }
+
+    /// All its messages stand in the order.
+    pub fn has_sent(&self) -> bool {
+        self.messages == 0 && self.delivered == self.desk.sender.next_number()
+    }
+
+    /// One turn, unless it rests. Says whether there was nothing to do.
+    pub fn turn(&mut self, the: &TheBus<B>, dice: &mut Pcg32) -> bool {
+        self.rest = self.patience.spend();
+        if self.rest.is_some() {
+            return false;
+        }
+        if self.desk.sender.pending() == 0 {
+            self.fill(dice);
+        }
+        let turn = self.desk.sender.turn(&the.bus, dice.next_u32());
+        self.take_in(turn);
+        self.patience.note(turn == Turn::Waiting);
+        turn == Turn::Waiting
+    }
+
+    /// Puts one to sixteen of the messages that are left.
+    fn fill(&mut self, dice: &mut Pcg32) {
+        for _ in 0..1 + dice.next_u32() % 16 {
+            if self.messages > 0 && self.desk.put() {
+                self.messages -= 1;
+            }
+        }
+    }
+
+    /// Goes by the answer of a turn.
+    fn take_in(&mut self, turn: Turn) {
+        match turn {
+            Turn::Own { .. } => self.has_page = true,
+            Turn::Delivered { last, .. } => {
+                self.has_page = false;
+                self.delivered = last.saturating_add(1);
+            }
+            Turn::Full | Turn::Closed | Turn::Spent => {
+                self.has_page = false;
+                self.rest = Some(Rest::Refused);
+            }
+            Turn::Idle => self.rest = Some(Rest::Done),
+            Turn::Waiting | Turn::Going | Turn::Lost { .. } => {}
+        }
+    }
+
+    /// Where it has done all, it closes the bus if it can. Says whether the close was taken.
+    pub fn close(&mut self, the: &TheBus<B>, dice: &mut Pcg32) -> bool {
+        if self.rest != Some(Rest::Done) || self.desk.sender.close().is_err() {
+            return false;
+        }
+        self.patience = Patience::all();
+        self.rest = None;
+        for _ in 0..=MOST_TURNS {
+            if self.rest.is_none() {
+                self.turn(the, dice);
+            }
+        }
+        true
+    }
+}
+
+/// A receiver of the bus B, with all that it was given.
+#[derive(Drop)]
+pub struct Listener<B: OfBus> {
+    pub tap: Tap,
+    pub heard: Heard,
+    pub items: Vec<Item>,
+    pub rest: Option<Rest>,
+    /// Each item was the next of its sender, and there was room for it.
+    pub is_sound: bool,
+    patience: Patience,
+    of: PhantomData<B>,
+    ghost of_bus: { tap.table_id ≡ B.table },
+}
+
+impl<B: OfBus> Listener<B> {
+    /// A receiver that has not begun.
+    pub fn new(alloc: Global, tap: Tap, patience: Patience) -> Result<Listener<B>, AllocError>
+        requires { tap.table_id ≡ B.table }
+    {
+        Ok(Listener {
+            tap,
+            heard: Heard::new(),
+            items: Vec::with_capacity(alloc, MOST_ITEMS)?,
+            rest: None,
+            is_sound: true,
+            patience,
+            of: PhantomData,
+        })
+    }
+
+    /// One turn, unless it rests. Says whether there was nothing to do.
+    pub fn turn(&mut self, the: &TheBus<B>) -> bool {
+        self.rest = self.patience.spend();
+        self.rest.is_none() && self.hear(the)
+    }
+
+    /// A turn of its receiver. Says whether nothing was found.
+    fn hear(&mut self, the: &TheBus<B>) -> bool {
+        let turn = self.tap.turn(&the.bus);
+        self.is_sound &= self.heard.note(&turn);
+        let is_idle = turn == RecvTurn::Empty;
+        match turn {
+            RecvTurn::Item(item) => self.is_sound &= self.items.push(item).is_ok(),
+            RecvTurn::End => self.rest = Some(Rest::Done),
+            RecvTurn::Empty | RecvTurn::Going | RecvTurn::Head { .. } => {}
+        }
+        self.patience.note(is_idle);
+        is_idle
+    }
+
+    /// Unless it stopped, it goes on to the end of the log.
+    pub fn catch_up(&mut self, the: &TheBus<B>) {
+        for _ in 0..MOST_TURNS {
+            if matches!(self.rest, Some(Rest::Stopped | Rest::Done)) || self.hear(the) {
+                return;
+            }
+        }
+    }
+
+    /// The words of the log, each by a load.
+    pub fn words(&mut self, alloc: Global, the: &TheBus<B>) -> Result<Vec<u64>, AllocError> {
+        let mut words = Vec::new(alloc);
+        let length = self.tap.load_length(&the.bus);
+        for place in 0..length {
+            if place < self.tap.known() {
+                words.push(self.tap.load_word(&the.bus, place))?;
+            }
+        }
+        Ok(words)
+    }
+}
+
+/// A listener for each receiver, in order.
+pub fn listeners_of<B: OfBus>(
+    alloc: Global,
+    taps: Vec<Tap>,
+    dice: &mut Pcg32,
+    is_calm: bool,
+) -> Result<Vec<Listener<B>>, AllocError>
+    requires { All (λ tap. tap.table_id ≡ B.table) taps.items }
+{
+    let mut listeners = Vec::with_capacity(alloc, taps.len())?;
+    for tap in taps {
+        listeners.push(Listener::new(alloc, tap, Patience::cast(dice, is_calm))?)?;
+    }
+    Ok(listeners)
+}
