@@ -19,7 +19,7 @@ use Rattle.bus_presence.specs.declared.visits.Visit.{Visit}
 use Rattle.bus_presence.specs.declared.visits.Visit.TheVariants.{Away, Entering, Looking, Inside, Parting, Barred}
 use Rattle.bus_presence.specs.Visits.{step_at, visit_fed}
 use Rattle.bus_presence.specs.Sweeps.{Sweeping, sweep_op, sweep_fed, is_swept}
-use Rattle.bus_presence.specs.Hall.{Sizes, Hall, Trails, no_trails, presence_at, row_of, found, words_after, grown, sweep_after, IsReady, Begins, Visits as Visited, Parts, Takes, Sweeps as Swept, GivesBack as GaveBack, Stores, Reached, New, Then, Works}
+use Rattle.bus_presence.specs.Hall.{Sizes, Hall, Entry, Trails, no_trails, presence_at, row_of, found, words_after, grown, sweep_after, IsReady, Begins, Visits as Visited, Parts, Takes, Sweeps as Swept, GivesBack as GaveBack, Stores, Reached, New, Then, Works}
 use Rattle.bus_presence.proofs.HallLaws.{Keeps, keeps, safe, put_same, lt_tells}
 use Rattle.bus_presence.proofs.RowLaws.{IsLive, alive_inside}
 use Rattle.bus_tenure.specs.Core.{Core, Election, Layout, row_at, log_at, frame_len, has_room}
@@ -34,7 +34,7 @@ use Rattle.bus_tenure.proofs.Situated.{tells}
 use Rattle.bus_world.specs.Bus.{IsLayout, Part, Fits, Sending, standing_of, least_of, stands_at}
 use Rattle.bus_world.specs.Guests.{Due, sizes_with, log_from, place_for, sweep_due, due_swept, due_home, due_beside, core_looked, core_seen, visit_seen, visit_elected}
 use Rattle.bus_world.specs.Turning.{number_found, core_with_page, core_after, home_after, owners_after}
-use Rattle.bus_world.specs.Yards.{Yard, IsNewYard, Led, IsKeptYard, NewYard, Turned, PutIn, ClosedIn, going_deeds, due_deeds, deeds_with, no_deeds, due_in, words_stepped, word_found, visited, swept, gone, yard_after, trails_with}
+use Rattle.bus_world.specs.Yards.{Yard, IsNewYard, Led, IsKeptYard, YardRefuses, NewYard, Turned, PutIn, ClosedIn, going_deeds, due_deeds, deeds_with, no_deeds, due_in, words_stepped, word_found, visited, swept, gone, yard_after, trails_with}
 use Rattle.bus_world.specs.World.{new_page, can_put, can_close}
 use Rattle.bus_world.proofs.Accepting.{Accepted, Puts, Closes, AreAccepted, accept, grows}
 use Rattle.bus_world.proofs.Beginning.{new_sending}
@@ -928,7 +928,7 @@ module _ {E : Type 0} (X : Election E) (P : Protocol E (Unit {0}) ℕ) (laws : L
   words_read zero w v a b same = refl
   words_read (suc n) w v a b same = ap (λ r. r ++ w (a + n) ∷ []) (words_read n w v a b (λ j l. same j (omega arith))) ∙ ap (λ r. read v b n ++ r ∷ []) (same n (omega arith))
 
-  pub yard_promised : (y : Yard E) (T : Trails) (D : ℕ → List Deed) → Led X x rows y T D → IsKeptYard x rows y T D
+  pub yard_promised : (y : Yard E) (T : Trails) (D : ℕ → List Deed) → Led X x rows y T D → IsKeptYard X x rows y T D
   yard_promised y T D led =
       let k = led_kept y T D led in
       let h = k.kept in
@@ -940,8 +940,16 @@ module _ {E : Type 0} (X : Election E) (P : Protocol E (Unit {0}) ℕ) (laws : L
         order = order_of k.frames;
         owners = map tenure_and_owner k.frames;
         by = record {
+          reached = h.reached;
           safe = safe z two y.hall T (keeps z two y.hall T h.reached);
+          ready = h.ready;
           stands = λ p c t e old elects. (safe z two y.hall T (keeps z two y.hall T h.reached)).stands p t ((h.guests p c old).electing t e elects);
+          within = λ p c t e word o old elects next.
+              let part = h.sending.parts p c old in
+              let b = tenures.within_its_row X.op X.fed P laws x.senders x.rows 2 k.V (k.V 1) (is_some y.home) (λ q. of_some standing_of (y.senders q)) (λ q. least_of (y.senders q)) y.owners h.sending.tenures p t e word o
+              (ap (of_some standing_of) old ∙ ap (λ w. Some (stands_at w)) elects) next in
+              let w = ap (λ n. t * n) width in ((let l = b.1 in omega arith), (let l = b.2 in omega arith));
+          takers = record { took = takers.took; only = takers.only };
           spelled = record {
             frames = k.frames;
             lawful = lawful;
@@ -979,3 +987,17 @@ module _ {E : Type 0} (X : Election E) (P : Protocol E (Unit {0}) ℕ) (laws : L
           };
         };
       }
+
+-- ---- what is no such yard
+module _ {E : Type 0} (X : Election E) (x : Layout) (rows : ℕ) where
+  nowhere : (k : ℕ) (d : Entry) → slice_get [] k ≡ Some d → ⊥
+  nowhere k d e = cc
+
+  pub yards_refused : YardRefuses X x rows
+  yards_refused = record {
+    enters_without_presence = λ y T D p c t e old elects none kept. let s = kept.by.stands p c t e old elects in nowhere s.entered _ (ap (λ w. slice_get w s.entered) (sym none) ∙ s.enters);
+    two_tenures_of_a_row = λ y T D p q c d t u e f old elects other runs row apart kept. apart (kept.by.safe.alone p q t u (kept.by.stands p c t e old elects) (kept.by.stands q d u f other runs) row);
+    holds_without_sweep = λ y T D t held used none kept. (let l = kept.by.ready t held none in omega arith);
+    two_owners = λ y T D t s s' o o' e f apart kept. apart (kept.by.promises.one_owner t s s' o o' e f);
+    owner_without_page = λ y T D t s owns none kept. let took = kept.by.takers.took t s owns in none_in took.0 _ (ap (λ w. slice_get w took.0) (sym none) ∙ took.1.at);
+  }

@@ -1,6 +1,6 @@
 -- Senders of a bus whose rows are used again, in any order: the hall of their visits and of the sweep, whose words are those of the bus,
 -- with the page, the senders and who took the pages. Tenure t uses row t mod rows.
-use Rattle.std.specs.Prelude.{◌≡◌, ℕ, ◌<◌, Option, Some, None, List, [], ◌∷◌, ◌++◌, All, length, ◌==◌, if◌then◌else◌}
+use Rattle.std.specs.Prelude.{◌≡◌, ◌≢◌, ℕ, ◌+◌, ◌*◌, ◌%◌, ◌<◌, ◌≤◌, Option, Some, None, List, [], ◌∷◌, ◌++◌, All, length, slice_get, ◌==◌, if◌then◌else◌}
 use Rattle.bus_register.specs.declared.registers.Op.{Op}
 use Rattle.bus_register.specs.declared.registers.SenderNo.{SenderNo}
 use Rattle.bus_register.specs.Words.{register, after}
@@ -11,18 +11,18 @@ use Rattle.bus_deliverylog.specs.declared.receiving.RecvTurn.{RecvTurn}
 use Rattle.bus_presence.specs.Visits.{visit_fed}
 use Rattle.bus_presence.specs.Standing.{IsSafe, Stands}
 use Rattle.bus_presence.specs.Sweeps.{Sweeping, sweep_fed}
-use Rattle.bus_presence.specs.Hall.{Hall, Trails, no_trails, new_hall, grown, found, words_after as hall_words}
+use Rattle.bus_presence.specs.Hall.{Hall, Trails, no_trails, new_hall, grown, found, words_after as hall_words, Reached}
 use Rattle.bus_presence.specs.declared.visits.Visit.TheVariants.{Away}
-use Rattle.bus_tenure.specs.Core.{Core, Election, Layout}
+use Rattle.bus_tenure.specs.Core.{Core, Election, Layout, stage_at, row_at}
 use Rattle.bus_tenure.specs.Situations.{Situation, line_of, op_at, kind_at, tenure_at, chosen_at}
 use Rattle.bus_tenure.specs.declared.pages.Page.{Page}
 use Rattle.bus_tenure.specs.declared.phases.Phase.TheVariants.{Electing}
 use Rattle.bus_tenure.specs.declared.turns.Turn.{Turn as Answered}
 use Rattle.bus_world.specs.Guests.{sizes_with, log_from, Due, Visits, Sweeps, Goes, due_of, place_for, core_looked, core_going, visit_going, sweep_going}
 use Rattle.bus_world.specs.Turning.{core_moved, after_step, home_after, owners_after}
-use Rattle.bus_world.specs.Headline.{Deed, HasPut, HasClosed, Promises}
+use Rattle.bus_world.specs.Headline.{Deed, HasPut, HasClosed, Elected, Promises}
 use Rattle.bus_world.specs.Log.{read}
-use Rattle.bus_world.specs.Trails.{step_deed}
+use Rattle.bus_world.specs.Trails.{step_deed, Takers}
 use Rattle.bus_world.specs.World.{new_page, new_core, can_put, can_close, put_in, close_in}
 
 pub record Yard (E : Type 0) : Type 0 where
@@ -124,17 +124,38 @@ pub data Led {E : Type 0} (X : Election E) (x : Layout) (rows : ℕ) : Yard E �
 
 -- ---- what is promised of it
 -- of its trails and deeds, with one order and one list of tenures and owners
-pub record KeepsPromises {E : Type 0} (x : Layout) (rows : ℕ) (y : Yard E) (T : Trails) (D : ℕ → List Deed) (order : Order) (owners : List (ℕ × SenderNo)) : Type 0 where
-  -- nobody stores in a row but in the tenure that it stands in, and no row is cleared while somebody stands in a tenure of it
+pub record KeepsPromises {E : Type 0} (X : Election E) (x : Layout) (rows : ℕ) (y : Yard E) (T : Trails) (D : ℕ → List Deed) (order : Order) (owners : List (ℕ × SenderNo)) : Type 0 where
+  -- its trails lead to its hall by moves of a hall: so no row is cleared while somebody stands in a tenure of it, ..
+  pub reached : Reached (sizes_with x rows) y.hall T
   pub safe : IsSafe (sizes_with x rows) y.hall T
+  -- .. and while a page is out, the row of the next tenure was never used, or it is swept
+  pub ready : (t : ℕ) → y.hall.words stage_at ≡ 2 * t + 1 → y.hall.sweep ≡ None → t + 1 < rows
   -- whose election runs stands in its tenure: it stored its presence, then loaded the stage of that tenure, and has not cleared it since
   pub stands : (p : ℕ) (c : Core E) (t : ℕ) (e : E) → y.senders p ≡ Some c → c.phase ≡ Electing t e → Stands (sizes_with x rows) p (T p) t
+  -- and its next step is on a word of that tenure's row
+  pub within : (p : ℕ) (c : Core E) (t : ℕ) (e : E) (word : ℕ) (o : Op) → y.senders p ≡ Some c → c.phase ≡ Electing t e → X.op e word ≡ Some o → (row_at x t ≤ register o) × (register o < row_at x t + x.width)
+  -- who took the pages is who did so by its deeds
+  pub takers : Takers y.owners D
   -- the words below the length spell the order and the owners
   pub spelled : Spells x.senders (read y.hall.words (log_from x rows) (y.hall.words 0)) order owners
   -- the headline's promise, also of tenures whose rows have gone on to others; of receivers nothing is said here
   pub promises : Promises D nobody_hears order owners
 
-pub record IsKeptYard {E : Type 0} (x : Layout) (rows : ℕ) (y : Yard E) (T : Trails) (D : ℕ → List Deed) : Type 0 where
+pub record IsKeptYard {E : Type 0} (X : Election E) (x : Layout) (rows : ℕ) (y : Yard E) (T : Trails) (D : ℕ → List Deed) : Type 0 where
   pub order : Order
   pub owners : List (ℕ × SenderNo)
-  pub by : KeepsPromises x rows y T D order owners
+  pub by : KeepsPromises X x rows y T D order owners
+
+-- ---- what is no such yard
+pub record YardRefuses {E : Type 0} (X : Election E) (x : Layout) (rows : ℕ) : Type 0 where
+  -- the election of a tenure runs of a sender that has stored no presence
+  pub enters_without_presence : (y : Yard E) (T : Trails) (D : ℕ → List Deed) (p : ℕ) (c : Core E) (t : ℕ) (e : E) → y.senders p ≡ Some c → c.phase ≡ Electing t e → T p ≡ [] → ¬ IsKeptYard X x rows y T D
+  -- elections of two tenures of one row run
+  pub two_tenures_of_a_row : (y : Yard E) (T : Trails) (D : ℕ → List Deed) (p q : ℕ) (c d : Core E) (t u : ℕ) (e f : E) → y.senders p ≡ Some c → c.phase ≡ Electing t e → y.senders q ≡ Some d → d.phase ≡ Electing u f
+      → t % rows ≡ u % rows → t ≢ u → ¬ IsKeptYard X x rows y T D
+  -- the page of a tenure is out that has used each row, and nobody sweeps
+  pub holds_without_sweep : (y : Yard E) (T : Trails) (D : ℕ → List Deed) (t : ℕ) → y.hall.words stage_at ≡ 2 * t + 1 → rows ≤ t + 1 → y.hall.sweep ≡ None → ¬ IsKeptYard X x rows y T D
+  -- senders saw the election of one tenure end with two owners
+  pub two_owners : (y : Yard E) (T : Trails) (D : ℕ → List Deed) (t s s' o o' : ℕ) → Elected (D s) t o → Elected (D s') t o' → o ≢ o' → ¬ IsKeptYard X x rows y T D
+  -- an owner of the list took no page
+  pub owner_without_page : (y : Yard E) (T : Trails) (D : ℕ → List Deed) (t s : ℕ) → slice_get y.owners t ≡ Some s → D s ≡ [] → ¬ IsKeptYard X x rows y T D

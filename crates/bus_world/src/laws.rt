@@ -8,7 +8,7 @@ ghost use Rattle.bus_world.specs.Trails.{Trails, Reached, IsPromised, Played};
 ghost use Rattle.bus_world.specs.Refusals.{PromiseRefuses};
 ghost use Rattle.bus_world.specs.Stopping.{StopsAreForGood, StopRefuses};
 ghost use Rattle.bus_world.specs.World.{Bus, Event};
-ghost use Rattle.bus_world.specs.Yards.{Yard, Led, IsKeptYard};
+ghost use Rattle.bus_world.specs.Yards.{Yard, Led, IsKeptYard, YardRefuses};
 ghost use Rattle.bus_world.specs.Headline.{Deed};
 ghost use Rattle.bus_presence.specs.Hall.{Trails as Visiting};
 
@@ -47,20 +47,30 @@ pub fn promise_refuses()
 {}
 
 /// Senders whose rows of words are used again, over two rows or more: whatever they do, one after
-/// another and with any random words, the promise holds of all tenures, also of those whose rows
-/// have gone on to later ones. Nobody stores in a row but in the tenure that it stands in, and no
-/// row is cleared while somebody stands in a tenure of it.
+/// another and with any random words, the headline's promise of senders holds of all tenures, also
+/// of those whose rows have gone on to later ones. Only a sender that stands in a tenure takes a
+/// step of its election, on that tenure's row, and no row is cleared while somebody stands in a
+/// tenure of it.
 pub fn rows_used_again_keep_promises<Q: Ratifier>()
     ensures { (senders rounds tenures capacity rows : ℕ)
         → IsLayout (layout_with Q.protocol senders rounds tenures capacity) → 2 ≤ rows
         → (yard : Yard (Elector Q)) (visits : Visiting) (deeds : ℕ → List Deed)
         → Led (election_of Q.Ratifier)
         (layout_with Q.protocol senders rounds tenures capacity) rows yard visits deeds
-        → IsKeptYard (layout_with Q.protocol senders rounds tenures capacity) rows
-        yard visits deeds }
+        → IsKeptYard (election_of Q.Ratifier)
+        (layout_with Q.protocol senders rounds tenures capacity) rows yard visits deeds }
 {
     election_is_lawful::<Q>();
 }
+
+/// No such yard is one in which an election runs of a sender that stored no presence, or elections
+/// of two tenures of one row; in which a page is out that wants a sweep, and nobody sweeps; in
+/// which a tenure has two owners, or an owner that took no page.
+pub fn yards_refuse<Q: Ratifier>()
+    ensures { (senders rounds tenures capacity rows : ℕ)
+        → YardRefuses (election_of Q.Ratifier)
+        (layout_with Q.protocol senders rounds tenures capacity) rows }
+{}
 
 /// A stop that is answered changes who has stopped, and nothing else. Whoever has stopped does
 /// nothing any more, whatever happens next: no event of it is answered, its state is what it was,
