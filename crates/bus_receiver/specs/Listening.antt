@@ -1,6 +1,7 @@
 -- What a receiver takes and is told, and what two that meet tell one another.
-use Rattle.std.specs.Prelude.{◌≡◌, ℕ, Bool, true, false, List}
+use Rattle.std.specs.Prelude.{◌≡◌, ℕ, Bool, true, false, List, Option, Some, None}
 use Rattle.atomic_table.specs.Seated.{TableId}
+use Rattle.bus_batch.specs.declared.messages.Item.{Item}
 use Rattle.bus_deliverylog.specs.declared.receiving.RecvTurn.{RecvTurn}
 use Rattle.bus_deliverylog.specs.declared.receiving.RecvTurn.TheVariants as turn
 use Rattle.bus_tenure.specs.Core.{Core}
@@ -10,6 +11,8 @@ use Rattle.bus_pageslot.specs.Listening.{Hears}
 use Rattle.bus_pageslot.specs.Rule.{Sat, ear_in, known_in}
 use Rattle.bus_pageslot.specs.Seats.{Spot}
 use Rattle.bus_pageslot.specs.Steps.{Learns, KnowsSent}
+use Rattle.bus_receiver.specs.declared.receivers.Next.{Next}
+use Rattle.bus_receiver.specs.declared.receivers.Next.TheVariants as next
 
 -- the bus that it is of
 abbrev pub bus_of : {E : Type 0} → Spot E → TableId
@@ -35,6 +38,36 @@ pub record Takes {E : Type 0} (first : Sat E) (answer : RecvTurn) (new : Sat E) 
   pub before : HearsOn first old
   pub hears : Hears old answer new
   pub found : is_found answer ≡ true
+
+-- ---- items and the end alone
+-- an item or the end
+abbrev pub is_given : RecvTurn → Bool
+is_given turn.Going = false
+is_given turn.Empty = false
+is_given (turn.Head tenure owner) = false
+is_given (turn.Item item) = true
+is_given turn.End = true
+
+-- turns that found neither an item nor the end led from one seat to another
+pub data PassesOn {E : Type 0} (first : Sat E) : Sat E → Type 0 where
+  Here : PassesOn first first
+  More : (old : Sat E) (answer : RecvTurn) (new : Sat E) → PassesOn first old → Hears old answer new → is_given answer ≡ false → PassesOn first new
+
+-- turns that found neither, and a last one, which answered so
+pub record PassesTo {E : Type 0} (first : Sat E) (answer : RecvTurn) (new : Sat E) : Type 0 where
+  pub old : Sat E
+  pub before : PassesOn first old
+  pub hears : Hears old answer new
+
+-- the answer of the last turn: an item, the end, or that there is nothing more
+abbrev pub last_of : Next → RecvTurn
+last_of (next.Item item) = turn.Item item
+last_of next.End = turn.End
+last_of next.Stopped = turn.Empty
+
+abbrev pub item_or_end : Option Item → RecvTurn
+item_or_end (Some item) = turn.Item item
+item_or_end None = turn.End
 
 -- ---- what it learns of others
 -- it was told by this sender, which has done these deeds, and knows the log at least up to each length that the sender has stored

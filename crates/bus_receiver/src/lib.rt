@@ -14,7 +14,7 @@ pub use bus_register::SenderNo;
 pub use bus_tenure::{Page, Turn};
 pub use bus_world::{MakeFault, Shape};
 pub use hearing::Heard;
-pub use receivers::Receiver;
+pub use receivers::{Next, Receiver};
 
 #[cfg(test)]
 mod tests;

@@ -1,7 +1,7 @@
 //! A receiver of a bus, with its places compared.
 
 ghost use Rattle.std.specs.Prelude.{◌≡◌, ℕ, ◌≤◌, List, length, Some, None, IfOk};
-ghost use Rattle.std.specs.Prelude.{OnErr};
+ghost use Rattle.std.specs.Prelude.{OnErr, false};
 ghost use Rattle.std.specs.Ordering.{nat_cmp};
 ghost use Rattle.bus_tenure.specs.Elections.{election_of};
 ghost use Rattle.bus_world.specs.Playing.{layout_of};
@@ -10,8 +10,10 @@ ghost use Rattle.bus_pageslot.specs.Rule.{ear_in, known_in};
 ghost use Rattle.bus_pageslot.specs.Listening.{Hears};
 ghost use Rattle.bus_pageslot.specs.Seats.{table_of, deeds_of, stored_of};
 ghost use Rattle.bus_receiver.specs.Listening.{bus_of, is_found, Takes, HaveMet, IsTold};
+ghost use Rattle.bus_receiver.specs.Listening.{PassesTo, last_of, item_or_end};
 
 use bus_adoptcommit::Ratifier;
+use bus_batch::Item;
 use bus_deliverylog::RecvTurn;
 use bus_pageslot::{Bus, EndFault, Ended, Sender, Tap};
 use crossbeam_utils::Backoff;
@@ -19,8 +21,19 @@ use std::cmp::Ordering;
 use std::marker::Model;
 use std::sync::Wait;
 
+/// What a wait that can be told to stop came to.
+#[derive(Debug, Drop, PartialEq, Eq)]
+pub enum Next {
+    /// The next message of the order.
+    Item(Item),
+    /// The order has ended, and all of it was given.
+    End,
+    /// It found nothing more, and was told to stop.
+    Stopped,
+}
+
 /// A receiver of a bus: it reads the log word by word, from the first one on. One thread at a time
-/// has it. No call of it takes memory, and none but `take` waits.
+/// has it. No call of it takes memory, and none but `take`, `next_item` and `next_item_while` waits.
 #[derive(Drop)]
 pub struct Receiver<Q: Ratifier> {
     tap: Tap<Q>,
@@ -87,6 +100,58 @@ impl<Q: Ratifier + Drop> Receiver<Q> {
             }
         }
         unreachable!()
+    }
+
+    /// Turns, until one finds an item or the end: the item, and none at the end and ever after. It
+    /// waits as `take` does, and that it ends is not promised.
+    pub fn next_item<W: Wait>(&mut self, wait: &W, bus: &Bus<Q>) -> Option<Item>
+        requires { bus_of self.old ≡ bus.now.table }
+        ensures table { bus_of self.new ≡ bus_of self.old }
+        ensures passes { PassesTo self.old.me (item_or_end result) self.new.me }
+    {
+        match self.next_item_while(wait, bus, || true) {
+            Next::Item(item) => Some(item),
+            Next::End => None,
+            Next::Stopped => unreachable!(),
+        }
+    }
+
+    /// The same, but that it can be told to stop: where a turn finds nothing more it asks
+    /// `go_on`, and answers Stopped where that says no. So what it knows of the log comes first.
+    pub fn next_item_while<W: Wait, F: Fn() -> bool>(
+        &mut self,
+        wait: &W,
+        bus: &Bus<Q>,
+        go_on: F,
+    ) -> Next
+        requires table { bus_of self.old ≡ bus.now.table }
+        requires callable { F.IsAlwaysCallable go_on }
+        ensures table { bus_of self.new ≡ bus_of self.old }
+        ensures passes { PassesTo self.old.me (last_of result) self.new.me }
+        ensures told { result ≡ Next.Stopped → F.post go_on false }
+    {
+        let backoff = Backoff::new();
+        for _ in wait.forever() {
+            match self.turn(bus) {
+                RecvTurn::Item(item) => return Next::Item(item),
+                RecvTurn::End => return Next::End,
+                RecvTurn::Empty => {
+                    if !go_on() {
+                        return Next::Stopped;
+                    }
+                    backoff.snooze();
+                }
+                RecvTurn::Going | RecvTurn::Head { .. } => backoff.reset(),
+            }
+        }
+        unreachable!()
+    }
+
+    /// How many words of the log it knows; 0 before its first load.
+    pub fn known(&self) -> u64
+        ensures { result ≡ length (known_in self.now.me.0) }
+    {
+        self.tap.known()
     }
 
     /// A sender tells it of the log: it knows from then on all that the sender has published.

@@ -141,6 +141,29 @@ fn to_the_end(rt: HostRuntime) {
     assert_eq!(&rt; (ended.log().len(), ended.page().ended), (5, true));
 }
 
+#[test]
+fn items_alone(rt: HostRuntime) {
+    let (bus, mut sender, mut first, mut second) = with_an_a(&rt, rt.alloc());
+    assert_eq!(&rt; (first.known(), second.known()), (3, 0));
+    assert_eq!(&rt; first.next_item_while(&rt, &bus, || false), Next::Stopped);
+    let item = second.next_item_while(&rt, &bus, || false);
+    assert!(&rt; matches!(item, Next::Item(item) if item.message.as_slice() == b"a".as_slice()));
+    assert_eq!(&rt; sender.close(), Ok(()));
+    turns_to(&rt, &bus, &mut sender, Turn::Own { tenure: 1 });
+    turns_to(&rt, &bus, &mut sender, Turn::Closed);
+    assert_eq!(&rt; first.next_item_while(&rt, &bus, || true), Next::End);
+    assert_eq!(&rt; second.next_item(&rt, &bus), None);
+    assert_eq!(&rt; second.next_item(&rt, &bus), None);
+}
+
+#[test]
+fn an_item_is_waited_for(rt: HostRuntime) {
+    let (bus, _sender, _first, mut second) = with_an_a(&rt, rt.alloc());
+    let item = second.next_item(&rt, &bus).expect(&rt, "an item");
+    assert_eq!(&rt; (item.sender, item.number), (SenderNo(0), 0));
+    assert_eq!(&rt; item.message.as_slice(), b"a".as_slice());
+}
+
 /// Notes an answer, and sees whether it is taken.
 fn notes(rt: &impl Abort, heard: &mut Heard, turn: &RecvTurn, want: bool) {
     let taken = heard.note(turn);
