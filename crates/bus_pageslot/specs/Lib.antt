@@ -5,6 +5,8 @@ pub mod Stages
 pub mod Listening
 pub mod Seats
 pub mod Turns
+pub mod Sendings
+pub mod SendFaults
 pub mod Buses
 pub mod Endings
 pub mod Outcomes

@@ -36,3 +36,10 @@ pub record Sends {E : Type 0} (X : Election E) (first : Seated E) (answer : Turn
   pub before : TurnsOn X first old
   pub turned : Turned X old word answer new
   pub last : is_last answer ≡ true
+
+-- turns, none of them a last one, up to one that answered Waiting
+pub record StopsWaiting {E : Type 0} (X : Election E) (first : Seated E) (new : Seated E) : Type 0 where
+  pub old : Seated E
+  pub word : ℕ
+  pub before : TurnsOn X first old
+  pub turned : Turned X old word turn.Waiting new

@@ -15,7 +15,7 @@ mod taps;
 pub use buses::Bus;
 pub use outcomes::{EndFault, Ended};
 pub use rule::{BusRule, Ear, OfBus, Told, Trail, View};
-pub use seats::Sender;
+pub use seats::{SendFault, Sender, Unsent};
 pub use taps::Tap;
 
 #[cfg(test)]

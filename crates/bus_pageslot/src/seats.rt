@@ -1,10 +1,12 @@
 //! A sender with its seat.
 
 ghost use Rattle.std.specs.Prelude.{◌≡◌, ℕ, ◌<◌, List, [], ◌∷◌, ◌++◌, None};
-ghost use Rattle.std.specs.Prelude.{Some, IfSome, IfOk, IfErr, OnOk, OnErr, length};
+ghost use Rattle.std.specs.Prelude.{Some, IfSome, IfOk, IfErr, OnOk, OnErr, length, ◌-◌, ◌≤◌};
+ghost use Rattle.std.specs.Prelude.{false, take, slice_get};
 ghost use Rattle.bus_batch.specs.Batches.{next_of, CanPut, IsPutFault, CanClose, IsCloseFault};
 ghost use Rattle.bus_tenure.specs.Situations.{situation_of, kind_at, op_at, rest_at};
 ghost use Rattle.bus_tenure.specs.Causes.{HasCause};
+ghost use Rattle.bus_tenure.specs.Core.{is_closed};
 ghost use Rattle.bus_tenure.specs.Elections.{election_of};
 ghost use Rattle.bus_tenure.specs.Seen.{turns_of};
 ghost use Rattle.bus_tenure.specs.Situations.{wants_at};
@@ -15,20 +17,68 @@ ghost use Rattle.bus_pageslot.specs.Ears.{Ear};
 ghost use Rattle.bus_pageslot.specs.Rule.{known_in, stored_in};
 ghost use Rattle.bus_pageslot.specs.Steps.{with_message, with_close, Learns, KnowsSent};
 ghost use Rattle.bus_pageslot.specs.Seats.{Shows, Took, table_of, deeds_of, stored_of};
-ghost use Rattle.bus_pageslot.specs.Turns.{Sends, is_last};
+ghost use Rattle.bus_pageslot.specs.Turns.{Sends, is_last, StopsWaiting};
+ghost use Rattle.bus_pageslot.specs.Sendings.{SendsOn, HasSent, IsSendFault};
+ghost use Rattle.bus_pageslot.specs.SendFaults.{send_fault_text};
 
 use crate::buses::Bus;
 use crate::meetings::meeting;
 use crate::rule::Place;
 use crate::steps::{length_after, walk};
 use bus_adoptcommit::Ratifier;
-use bus_batch::{CloseFault, PutFault};
+use bus_batch::{CloseFault, Message, PutFault};
+use bus_register::limits::MOST_MESSAGES;
 use bus_register::{Kind, SenderNo};
 use bus_tenure::{SenderCore, Turn};
 use crossbeam_utils::Backoff;
 use rand_core::Rng;
+use std::error::Error;
+use std::fmt;
 use std::marker::{Brand, Model};
 use std::sync::Wait;
+
+/// Why a sender does not go on.
+#[derive(Clone, Copy, Debug, PartialEq, Eq)]
+pub enum SendFault {
+    /// The next message was not taken.
+    Put(PutFault),
+    /// Messages wait, and this is what sending them was answered.
+    Turn(Turn),
+}
+
+impl Error for SendFault {}
+
+impl fmt::Display for SendFault {
+    ghost output = { λ fault. Some (send_fault_text fault) };
+
+    fn fmt<W: fmt::Write>(&self, f: &mut fmt::Formatter<W>) -> fmt::Result {
+        f.write_str(match self {
+            SendFault::Put(_) => "a message is not taken",
+            SendFault::Turn(_) => "messages wait that are not sent",
+        })
+    }
+}
+
+/// Not all messages were sent. None is lost: those that are not in the order wait in the batch of
+/// the sender, or were not put.
+#[derive(Clone, Copy, Debug, PartialEq, Eq)]
+pub struct Unsent {
+    /// How many were put, from the first on.
+    pub put: usize,
+    /// How many of these do not wait in the batch any more.
+    pub sent: usize,
+    pub fault: SendFault,
+}
+
+impl Error for Unsent {}
+
+impl fmt::Display for Unsent {
+    ghost output = { λ unsent. Some (send_fault_text unsent.fault) };
+
+    fn fmt<W: fmt::Write>(&self, f: &mut fmt::Formatter<W>) -> fmt::Result {
+        write!(f, "{}", self.fault)
+    }
+}
 
 /// A sender of a bus: what it holds, and the seat that it steps with. One thread at a time has it.
 ///
@@ -85,6 +135,13 @@ impl<Q: Ratifier + Drop> Sender<Q> {
         ensures { result ≡ next_of self.now.core.queue }
     {
         self.core.next_number()
+    }
+
+    /// It sends nothing more: it has closed the order, or has learned that the order has ended.
+    pub fn is_closed(&self) -> bool
+        ensures { result ≡ is_closed self.now.core.queue.phase }
+    {
+        self.core.is_closed()
     }
 
     /// The last length of the log, in words, that it has stored; 0 before the first.
@@ -176,20 +233,168 @@ impl<Q: Ratifier + Drop> Sender<Q> {
         ensures sends { let X = election_of Q.Ratifier in Sends X self.old result self.new }
         ensures puts { puts (deeds_of self.new) ≡ puts (deeds_of self.old) }
     {
+        self.send_while(wait, bus, rng, || true).unwrap()
+    }
+
+    /// The same, but that it can be told to stop: where a turn answers Waiting it asks `go_on`, and
+    /// gives None where that says no. The batch is kept then, and any later turn goes on with it.
+    pub fn send_while<W: Wait, R: Rng, F: Fn() -> bool>(
+        &mut self,
+        wait: &W,
+        bus: &Bus<Q>,
+        rng: &mut R,
+        go_on: F,
+    ) -> Option<Turn>
+        requires table { table_of self.old ≡ bus.now.table }
+        requires callable { F.IsAlwaysCallable go_on }
+        ensures table { table_of self.new ≡ table_of self.old }
+        ensures sends { let X = election_of Q.Ratifier in
+            IfSome result (λ turn. Sends X self.old turn self.new) }
+        ensures waits { let X = election_of Q.Ratifier in
+            result ≡ None → StopsWaiting X self.old self.new }
+        ensures told { result ≡ None → F.post go_on false }
+        ensures puts { puts (deeds_of self.new) ≡ puts (deeds_of self.old) }
+    {
         let backoff = Backoff::new();
         for _ in wait.forever() {
             let word = if self.wants_word() { rng.next_u32() } else { 0 };
             let turn = self.turn(bus, word);
             if ends_sending(turn) {
-                return turn;
+                return Some(turn);
             }
-            if turn == Turn::Waiting {
-                backoff.snooze();
-            } else {
-                backoff.reset();
+            match turn {
+                Turn::Waiting => {
+                    if !go_on() {
+                        return None;
+                    }
+                    backoff.snooze();
+                }
+                _ => backoff.reset(),
             }
         }
         unreachable!()
+    }
+
+    /// Sends messages in their order: first what waits in its batch, and then these, in batches of
+    /// at most 16. Ok where none waits any more. It waits as `send` does, and that it ends is not
+    /// promised.
+    pub fn send_all<W: Wait, R: Rng>(
+        &mut self,
+        wait: &W,
+        bus: &Bus<Q>,
+        rng: &mut R,
+        messages: &[Message],
+    ) -> Result<(), Unsent>
+        requires { table_of self.old ≡ bus.now.table }
+        ensures table { table_of self.new ≡ table_of self.old }
+        ensures all { let X = election_of Q.Ratifier in
+            OnOk result (HasSent X self.old messages.now self.new) }
+        ensures none { OnOk result (self.new.core.queue.messages ≡ []) }
+        ensures part { let X = election_of Q.Ratifier in IfErr result
+            (λ unsent. HasSent X self.old (take unsent.put messages.now) self.new) }
+        ensures counts { IfErr result (λ unsent. (unsent.put ≤ length messages.now)
+            × (unsent.sent ≡ unsent.put - length self.new.core.queue.messages)) }
+        ensures fault { let X = election_of Q.Ratifier in IfErr result
+            (λ unsent. IsSendFault X self.new (slice_get messages.now unsent.put) unsent.fault) }
+    {
+        let before = self.send_off(wait, bus, rng);
+        if let Err(fault) = before {
+            return Err(self.unsent(0, fault));
+        }
+        for (put, message) in messages.iter().enumerate() {
+            if let Err(fault) = self.put_or_send(wait, bus, rng, message) {
+                return Err(self.unsent(put, fault));
+            }
+        }
+        let rest = self.send_off(wait, bus, rng);
+        if let Err(fault) = rest {
+            return Err(self.unsent(messages.len(), fault));
+        }
+        Ok(())
+    }
+
+    /// So many messages were put, and then this came up.
+    fn unsent(&self, put: usize, fault: SendFault) -> Unsent
+        ensures put { (result.put ≡ put) × (result.fault ≡ fault) }
+        ensures sent { result.sent ≡ put - length self.now.core.queue.messages }
+    {
+        Unsent {
+            put,
+            sent: put.saturating_sub(self.pending() as usize),
+            fault,
+        }
+    }
+
+    /// Puts a message, once a full batch before it is sent.
+    fn put_or_send<W: Wait, R: Rng>(
+        &mut self,
+        wait: &W,
+        bus: &Bus<Q>,
+        rng: &mut R,
+        message: &Message,
+    ) -> Result<(), SendFault>
+        requires { table_of self.old ≡ bus.now.table }
+        ensures table { table_of self.new ≡ table_of self.old }
+        ensures taken { let X = election_of Q.Ratifier in OnOk result ((first : _)
+            (messages : List (List ℕ)) → SendsOn X first messages self.old
+            → SendsOn X first (messages ++ message.now ∷ []) self.new) }
+        ensures refused { let X = election_of Q.Ratifier in OnErr result ((first : _)
+            (messages : List (List ℕ)) → SendsOn X first messages self.old
+            → SendsOn X first messages self.new) }
+        ensures fault { let X = election_of Q.Ratifier in
+            IfErr result (IsSendFault X self.new (Some message.now)) }
+    {
+        if let Err(fault) = self.make_room(wait, bus, rng) {
+            return Err(fault);
+        }
+        match self.put(message.as_slice()) {
+            Ok(_) => Ok(()),
+            Err(fault) => Err(SendFault::Put(fault)),
+        }
+    }
+
+    /// Sends a full batch.
+    fn make_room<W: Wait, R: Rng>(
+        &mut self,
+        wait: &W,
+        bus: &Bus<Q>,
+        rng: &mut R,
+    ) -> Result<(), SendFault>
+        requires { table_of self.old ≡ bus.now.table }
+        ensures table { table_of self.new ≡ table_of self.old }
+        ensures sends { let X = election_of Q.Ratifier in (first : _)
+            (messages : List (List ℕ)) → SendsOn X first messages self.old
+            → SendsOn X first messages self.new }
+        ensures fault { let X = election_of Q.Ratifier in (next : _)
+            → IfErr result (IsSendFault X self.new next) }
+    {
+        if self.pending() < MOST_MESSAGES as u64 {
+            return Ok(());
+        }
+        self.send_off(wait, bus, rng)
+    }
+
+    /// Sends what waits in the batch. Ok where nothing waits then.
+    fn send_off<W: Wait, R: Rng>(
+        &mut self,
+        wait: &W,
+        bus: &Bus<Q>,
+        rng: &mut R,
+    ) -> Result<(), SendFault>
+        requires { table_of self.old ≡ bus.now.table }
+        ensures table { table_of self.new ≡ table_of self.old }
+        ensures sends { let X = election_of Q.Ratifier in (first : _)
+            (messages : List (List ℕ)) → SendsOn X first messages self.old
+            → SendsOn X first messages self.new }
+        ensures none { OnOk result (self.new.core.queue.messages ≡ []) }
+        ensures fault { let X = election_of Q.Ratifier in (next : _)
+            → IfErr result (IsSendFault X self.new next) }
+    {
+        let turn = self.send(wait, bus, rng);
+        if self.pending() > 0 {
+            return Err(SendFault::Turn(turn));
+        }
+        Ok(())
     }
 
     /// A receiver's seat is joined to its own, which then loads the length; and the two are cut

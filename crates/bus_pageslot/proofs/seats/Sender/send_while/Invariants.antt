@@ -3,7 +3,7 @@ use Rattle.bus_tenure.specs.Elections.{election_with}
 use Rattle.bus_world.specs.Headline.{puts}
 use Rattle.bus_pageslot.specs.Seats.{table_of, deeds_of}
 use Rattle.bus_pageslot.specs.Turns.{TurnsOn}
-use Rattle.bus_pageslot.proofs.seats.Sender.send.Given as goal
+use Rattle.bus_pageslot.proofs.seats.Sender.send_while.Given as goal
 
 abbrev pub invariant-loop : goal.invariant-loop
 invariant-loop g l =

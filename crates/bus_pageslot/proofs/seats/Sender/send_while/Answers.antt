@@ -1,8 +1,8 @@
-use Rattle.std.proofs.Common.{refl, sym, ◌∙◌}
+use Rattle.std.proofs.Common.{refl, sym, subst, ◌∙◌}
 use Rattle.bus_tenure.specs.Elections.{election_with}
 use Rattle.bus_pageslot.specs.Turns.{Turned, Here, More}
 use Rattle.bus_pageslot.proofs.Sending.{turned_puts}
-use Rattle.bus_pageslot.proofs.seats.Sender.send.Goals as goal
+use Rattle.bus_pageslot.proofs.seats.Sender.send_while.Goals as goal
 
 pub loop-init : goal.loop-init
 loop-init g c = (Here, refl, refl)
@@ -21,8 +21,24 @@ returns-then-ends_sending-clause-puts g c =
     let X = election_with g.Q.Machine.kind_of g.Q.Machine.op g.Q.Machine.fed g.Q.Ratifier.protocol in
     turned_puts X c.loop.self c.if-wants_word.word c.turn-turn.result c.turn-turn.new.self (record { rests = c.turn-turn.ensures.rests; steps = c.turn-turn.ensures.steps }) ∙ c.loop.invariant.2
 
-pub loop-preserved-then-eq : goal.loop-preserved-then-eq
-loop-preserved-then-eq g c =
+pub returns-then-not-go_on-clause-waits : goal.returns-then-not-go_on-clause-waits
+returns-then-not-go_on-clause-waits g c =
+    let X = election_with g.Q.Machine.kind_of g.Q.Machine.op g.Q.Machine.fed g.Q.Ratifier.protocol in
+    let turned : Turned X c.loop.self c.if-wants_word.word c.turn-turn.result c.turn-turn.new.self = record { rests = c.turn-turn.ensures.rests; steps = c.turn-turn.ensures.steps } in
+    λ none. record {
+      old = c.loop.self;
+      word = c.if-wants_word.word;
+      before = c.loop.invariant.0;
+      turned = subst (λ a. Turned X c.loop.self c.if-wants_word.word a c.turn-turn.new.self) c.in-Waiting.is turned;
+    }
+
+pub returns-then-not-go_on-clause-puts : goal.returns-then-not-go_on-clause-puts
+returns-then-not-go_on-clause-puts g c =
+    let X = election_with g.Q.Machine.kind_of g.Q.Machine.op g.Q.Machine.fed g.Q.Ratifier.protocol in
+    turned_puts X c.loop.self c.if-wants_word.word c.turn-turn.result c.turn-turn.new.self (record { rests = c.turn-turn.ensures.rests; steps = c.turn-turn.ensures.steps }) ∙ c.loop.invariant.2
+
+pub loop-preserved-in-Waiting : goal.loop-preserved-in-Waiting
+loop-preserved-in-Waiting g c =
     let X = election_with g.Q.Machine.kind_of g.Q.Machine.op g.Q.Machine.fed g.Q.Ratifier.protocol in
     let turned : Turned X c.loop.self c.if-wants_word.word c.turn-turn.result c.turn-turn.new.self = record { rests = c.turn-turn.ensures.rests; steps = c.turn-turn.ensures.steps } in (
       More c.loop.self c.if-wants_word.word c.turn-turn.result c.turn-turn.new.self c.loop.invariant.0 turned (sym c.ends_sending.ensures ∙ c.if-ends_sending.false),
