@@ -2,3 +2,4 @@ pub use Rattle.bus_pageslot.specs.Seats
 pub mod Hearing
 pub mod HearingRuns
 pub mod Listening
+pub mod Sizes

@@ -1,0 +1,16 @@
+-- What a sitting takes of a bus in which each of so many senders sends so many messages of so many bytes, and one closes.
+use Rattle.std.specs.Prelude.{◌+◌, ◌-◌, ◌*◌, ◌/◌, ℕ}
+use Rattle.bus_register.specs.declared.limits.TheConstants.{MOST_MESSAGES}
+use Rattle.bus_batch.specs.Frames.{data_len}
+
+-- how many batches of 16 a sender sends, of which the last may be smaller
+abbrev pub batches_of : ℕ → ℕ
+batches_of messages = (messages + (MOST_MESSAGES - 1)) / MOST_MESSAGES
+
+-- one tenure for each batch, and one for the close
+abbrev pub tenures_of : ℕ → ℕ → ℕ
+tenures_of senders messages = senders * batches_of messages + 1
+
+-- a head for each batch; for each message a word and those of its bytes; two words for the close
+abbrev pub words_of : ℕ → ℕ → ℕ → ℕ
+words_of senders messages bytes = senders * (batches_of messages + messages * (1 + data_len bytes)) + 2
