@@ -12,6 +12,7 @@ use bus_pageslot::{Bus, Sender};
 use bus_register::SenderNo;
 use bus_tenure::Turn;
 use bus_world::Shape;
+use rand_pcg::Pcg32;
 use std::alloc::Global;
 use std::cmp::Ordering;
 use std::process::Abort;
@@ -162,6 +163,53 @@ fn an_item_is_waited_for(rt: HostRuntime) {
     let item = second.next_item(&rt, &bus).expect(&rt, "an item");
     assert_eq!(&rt; (item.sender, item.number), (SenderNo(0), 0));
     assert_eq!(&rt; item.message.as_slice(), b"a".as_slice());
+}
+
+/// The bytes below 17, each a message.
+fn seventeen(rt: &impl Abort, alloc: Global) -> Vec<Message> {
+    let mut messages = Vec::new(alloc);
+    for byte in 0..17u8 {
+        let message = Message::of_bytes(&[byte]).expect(rt, "short");
+        messages.push(message).expect(rt, "memory");
+    }
+    messages
+}
+
+#[test]
+fn all_are_sent(rt: HostRuntime) {
+    let messages = seventeen(&rt, rt.alloc());
+    let mut rng = Pcg32::new(0, 0);
+    let (bus, mut sender, _first, mut second) = small(&rt, rt.alloc());
+    let sent = sender.send_all(&rt, &bus, &mut rng, messages.as_slice());
+    assert_eq!(&rt; (sent, sender.next_number()), (Ok(()), 17));
+    let item = second.next_item(&rt, &bus).expect(&rt, "an item");
+    assert_eq!(&rt;
+        (item.number, item.message.as_slice()),
+        (0, [0u8].as_slice())
+    );
+    let stopped = sender.send_all(&rt, &bus, &mut rng, messages.as_slice());
+    let unsent = Unsent {
+        put: 16,
+        sent: 0,
+        fault: SendFault::Turn(Turn::Spent),
+    };
+    assert_eq!(&rt; stopped, Err(unsent));
+    let stopped = sender.send_while(&rt, &bus, &mut rng, || false);
+    assert_eq!(&rt; (stopped, sender.pending()), (Some(Turn::Spent), 16));
+    assert!(&rt; !sender.is_closed());
+}
+
+#[test]
+fn sizes_of_sittings(rt: HostRuntime) {
+    assert_eq!(&rt;
+        (tenures_needed(3, 100), words_needed(3, 100, 8)),
+        (22, 623)
+    );
+    assert_eq!(&rt;
+        (tenures_needed(8, 400), words_needed(8, 400, 56)),
+        (201, 25_802)
+    );
+    assert_eq!(&rt; (tenures_needed(1, 17), words_needed(1, 17, 8)), (3, 38));
 }
 
 /// Notes an answer, and sees whether it is taken.
