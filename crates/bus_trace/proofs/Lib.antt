@@ -1,0 +1,4 @@
+pub mod RowLemmas
+pub mod RepeatRows
+pub mod PlayRows
+pub mod WatchLemmas

@@ -1,0 +1,106 @@
+-- The line of an event, made of the step that was seen.
+use Rattle.std.proofs.Common.{◌≡◌, ℕ, ◌+◌, ◌==◌, Bool, true, cond, Option, Some, None, List, [], ◌∷◌, ◌++◌, length, slice_get, slice_index, refl, sym, ap, subst, ◌∙◌, append_assoc, arith}
+use Rattle.std.specs.Prelude.{flat_map, decimal}
+use Rattle.std.specs.List.{enumerate_from}
+use Rattle.std.proofs.lemmas.Bool.{eq-eqb}
+use Rattle.std.proofs.lemmas.List.{append-nil, length-append}
+use Rattle.bus_register.specs.declared.kinds.Kind.{Kind}
+use Rattle.bus_register.specs.declared.registers.Op.{Op}
+use Rattle.bus_deliverylog.specs.Receiving.{Receiving, receiving_kind, receiving_op}
+use Rattle.bus_tenure.specs.Core.{Core, Election}
+use Rattle.bus_tenure.specs.Situations.{situation_of, tenure_at, kind_at, op_at, chosen_at}
+use Rattle.bus_tenure.specs.declared.turns.Turn.{Turn as Answered}
+use Rattle.bus_world.specs.Headline.{Deed}
+use Rattle.bus_world.specs.Trails.{turning_deeds, put_deeds, close_deeds, step_deed}
+use Rattle.bus_world.specs.Turning.{number_found}
+use Rattle.bus_world.specs.World.{Bus, Event, Put, Close, Turn, Recv}
+use Rattle.bus_world.specs.Playing.{Answers, TurnAnswers}
+use Rattle.bus_world.specs.declared.events.Answer.{Answer}
+use Rattle.bus_world.specs.declared.events.Answer.TheVariants as answer
+use Rattle.bus_replay.specs.Text.{answer_text}
+use Rattle.bus_register.specs.Words.{register}
+use Rattle.bus_trace.specs.declared.seen.Seen.{Seen}
+use Rattle.bus_trace.specs.Words.{Sizes, word_name}
+use Rattle.bus_trace.specs.Rows.{column, kind_name, tenure_text, no_step, deed_text, deeds_text, load_text, receiving_text, turning_op, who_text, deed_columns, row_text}
+use Rattle.bus_trace.specs.Watching.{step_of, sender_due, receiver_due, due_by, seen_in}
+use Rattle.bus_trace.specs.Told.{seen_columns, seen_told, row_told, numbered_row}
+use Rattle.bus_trace.specs.Traces.{numbered}
+use Rattle.bus_trace.specs.Obeying.{Grows}
+
+own : (s : ℕ) (deeds : List Deed) → cond (s == s) deeds [] ≡ deeds
+own s deeds = ap (λ b. cond b deeds []) (eq-eqb s s refl)
+
+-- of a turn of a sender
+step_told : (p : Sizes) (words : ℕ → ℕ) (s word : ℕ) (tenure : Option ℕ) (k : Option Kind) (o : Option Op) (chose : Option ℕ) (t : Answered) → deeds_text p o (step_deed k tenure (number_found words o) chose t) ≡ seen_told p (Turn s word) (seen_in words (step_of tenure k o))
+step_told p words s word tenure None o chose t = refl
+step_told p words s word tenure (Some k) None chose t = refl
+step_told p words s word tenure (Some k) (Some o) chose t = refl
+
+sender_told : {E : Type 0} (p : Sizes) (X : Election E) (words : List ℕ) (s word : ℕ) (o : Option (Core E)) (a : Answer) → TurnAnswers X words o word a
+    → deeds_text p (turning_op X o word) (turning_deeds X words o word a) ≡ seen_told p (Turn s word) (seen_in (slice_index words) (sender_due X o word))
+sender_told p X words s word None a h = absurd h
+sender_told {E} p X words s word (Some c) a h =
+    let z = situation_of X c in
+    let found = number_found (slice_index words) (op_at X c z word) in
+    ap (λ (b : Answer). deeds_text p (op_at X c z word) (turning_deeds X words (Some c) word b)) h
+    ∙ step_told p (slice_index words) s word (tenure_at X c z) (kind_at X c z) (op_at X c z word) (chosen_at X c z found word) _
+
+-- of a load of a receiver
+load_told : (p : Sizes) (words : ℕ → ℕ) (r : ℕ) (k : Option Kind) (o : Option Op) → load_text p words k o ≡ seen_told p (Recv r) (seen_in words (step_of None k o))
+load_told p words r None o = refl
+load_told p words r (Some k) None = refl
+load_told p words r (Some k) (Some o) = refl
+
+receiver_told : (p : Sizes) (words : ℕ → ℕ) (r : ℕ) (o : Option Receiving) → receiving_text p words o ≡ seen_told p (Recv r) (seen_in words (receiver_due o))
+receiver_told p words r None = refl
+receiver_told p words r (Some v) = load_told p words r (receiving_kind v) (receiving_op v)
+
+columns_told : {E : Type 0} (p : Sizes) (X : Election E) (b b' : Bus E) (e : Event) (a : Answer) → Answers X b e a b' → deed_columns p X b e a ≡ seen_told p e (seen_in (slice_index b.side.words) (due_by X b e))
+columns_told p X b b' (Put s bytes) a h = ap (deeds_text p None) (own s (put_deeds bytes a) ∙ ap (put_deeds bytes) h.2)
+columns_told p X b b' (Close s) a h = ap (deeds_text p None) (own s (close_deeds a) ∙ ap close_deeds h.1)
+columns_told p X b b' (Turn s word) a h =
+    let c = slice_get b.side.senders s in
+    ap (deeds_text p (turning_op X c word)) (own s (turning_deeds X b.side.words c word a)) ∙ sender_told p X b.side.words s word c a h
+columns_told p X b b' (Recv r) a h = receiver_told p (slice_index b.side.words) r (slice_get b.receivers r)
+
+-- the whole line
+pub row_is : {E : Type 0} (p : Sizes) (X : Election E) (line : ℕ) (b b' : Bus E) (e : Event) (a : Answer) → Answers X b e a b' → row_told p line e (seen_in (slice_index b.side.words) (due_by X b e)) a ≡ row_text p X line b e a
+row_is p X line b b' e a h = ap (λ (l : List ℕ). column (decimal line) ++ who_text e ++ l ++ answer_text a) (sym (columns_told p X b b' e a h))
+
+-- ---- lines one after another
+numbered_more : (from : ℕ) (rows more : List (List ℕ)) → numbered from (rows ++ more) ≡ numbered from rows ++ numbered (from + length rows) more
+numbered_more from [] more = ap (λ k. numbered k more) (let z : from ≡ from + 0 = omega arith in z)
+numbered_more from (row ∷ rows) more =
+    ap (λ (l : List ℕ). numbered_row from row ++ l) (numbered_more (from + 1) rows more ∙ ap (λ k. numbered (from + 1) rows ++ numbered k more) (let z : from + 1 + length rows ≡ from + length (row ∷ rows) = omega arith in z))
+    ∙ sym (append_assoc (numbered_row from row) (numbered (from + 1) rows) (numbered (from + length (row ∷ rows)) more))
+
+pub grown_more : (old mid new : List ℕ) (k m n : ℕ) (rows more : List (List ℕ)) → Grows old k mid m rows → Grows mid m new n more → Grows old k new n (rows ++ more)
+grown_more old mid new k m n rows more g h = record {
+  text_is = h.text_is ∙ ap (λ (l : List ℕ). l ++ numbered (m + 1) more) g.text_is ∙ append_assoc old (numbered (k + 1) rows) (numbered (m + 1) more)
+      ∙ ap (λ j. old ++ (numbered (k + 1) rows ++ numbered j more)) (let a = g.lines_are in let z : m + 1 ≡ k + 1 + length rows = omega arith in z)
+      ∙ ap (λ (l : List ℕ). old ++ l) (sym (numbered_more (k + 1) rows more));
+  lines_are = h.lines_are ∙ ap (λ j. j + length more) g.lines_are ∙ (let s = length-append rows more in let z : k + length rows + length more ≡ k + length (rows ++ more) = omega arith in z);
+}
+
+pub grown_none : (old : List ℕ) (k : ℕ) → Grows old k old k []
+grown_none old k = record { text_is = sym (append-nil old); lines_are = (let z : k ≡ k + 0 = omega arith in z) }
+
+-- one line was put
+pub grown_one : (old new : List ℕ) (k n : ℕ) (told row : List ℕ) → told ≡ row → new ≡ old ++ numbered_row (k + 1) told → n ≡ k + 1 → Grows old k new n (row ∷ [])
+grown_one old new k n told row is text lines = record {
+  text_is = text ∙ ap (λ (l : List ℕ). old ++ numbered_row (k + 1) l) is ∙ ap (λ (l : List ℕ). old ++ l) (sym (append-nil (numbered_row (k + 1) row)));
+  lines_are = lines;
+}
+
+-- ---- the columns of a step, put one by one
+six_together : (t a k w n f l : List ℕ) → (((((t ++ a) ++ k) ++ w) ++ n) ++ f) ++ l ≡ t ++ ((((a ++ k) ++ (w ++ n)) ++ f) ++ l)
+six_together t a k w n f l =
+    ap (λ (z : List ℕ). (z ++ f) ++ l) (append_assoc ((t ++ a) ++ k) w n ∙ ap (λ (z : List ℕ). z ++ (w ++ n)) (append_assoc t a k) ∙ append_assoc t (a ++ k) (w ++ n))
+    ∙ ap (λ (z : List ℕ). z ++ l) (append_assoc t ((a ++ k) ++ (w ++ n)) f) ∙ append_assoc t (((a ++ k) ++ (w ++ n)) ++ f) l
+
+pub seen_put : (p : Sizes) (s : Seen) (t0 t1 t2 t3 t4 t5 t6 name : List ℕ) (r : ℕ) → t1 ≡ t0 ++ column (tenure_text s.step.tenure) → name ≡ kind_name s.step.kind → t2 ≡ t1 ++ column name → r ≡ register s.step.op → t3 ≡ t2 ++ word_name p r → t4 ≡ t3 ++ 9 ∷ []
+    → t5 ≡ t4 ++ column (decimal s.found) → t6 ≡ t5 ++ column (decimal s.left) → t6 ≡ t0 ++ seen_columns p s
+seen_put p s t0 t1 t2 t3 t4 t5 t6 name r e1 n e2 g e3 e4 e5 e6 =
+    let tenure = column (tenure_text s.step.tenure) in let kind = column (kind_name s.step.kind) in let word = word_name p (register s.step.op) in let found = column (decimal s.found) in let left = column (decimal s.left) in
+    e6 ∙ ap (λ (z : List ℕ). z ++ left) (e5 ∙ ap (λ (z : List ℕ). z ++ found) (e4 ∙ ap (λ (z : List ℕ). z ++ 9 ∷ []) (e3 ∙ ap (λ i. t2 ++ word_name p i) g ∙ ap (λ (z : List ℕ). z ++ word) (e2 ∙ ap (λ (z : List ℕ). t1 ++ column z) n ∙ ap (λ (z : List ℕ). z ++ kind) e1))))
+    ∙ six_together t0 tenure kind word (9 ∷ []) found left

@@ -1,0 +1,100 @@
+-- The lines of a trace: who took which step, what it found, what stands after it, and what was answered.
+use Rattle.std.specs.Prelude.{ℕ, ◌+◌, Option, Some, None, List, [], ◌∷◌, ◌++◌, codes, decimal, slice_get, slice_index}
+use Rattle.bus_register.specs.declared.kinds.Kind.{Kind}
+use Rattle.bus_register.specs.declared.kinds.Kind.TheVariants as kind
+use Rattle.bus_register.specs.declared.registers.Op.{Op}
+use Rattle.bus_register.specs.Words.{register, after}
+use Rattle.bus_deliverylog.specs.Receiving.{Receiving, receiving_kind, receiving_op}
+use Rattle.bus_tenure.specs.Core.{Core, Election}
+use Rattle.bus_tenure.specs.Situations.{situation_of, op_at}
+use Rattle.bus_world.specs.Headline.{Deed, HasPut, HasClosed, Stepped}
+use Rattle.bus_world.specs.Trails.{deeds_of}
+use Rattle.bus_world.specs.World.{Bus, Event, Put, Close, Turn, Recv}
+use Rattle.bus_world.specs.declared.events.Answer.{Answer}
+use Rattle.bus_replay.specs.Text.{behind, answer_text}
+use Rattle.bus_trace.specs.Words.{Sizes, word_name}
+
+abbrev pub kind_name : Kind → List ℕ
+kind_name kind.LoadStage = codes "LoadStage"
+kind_name kind.Announce = codes "Announce"
+kind_name kind.StoreProposal = codes "StoreProposal"
+kind_name kind.ReadProposal = codes "ReadProposal"
+kind_name kind.StoreVerdict = codes "StoreVerdict"
+kind_name kind.ReadVerdict = codes "ReadVerdict"
+kind_name kind.SetMark = codes "SetMark"
+kind_name kind.ReadOtherMark = codes "ReadOtherMark"
+kind_name kind.Vote = codes "Vote"
+kind_name kind.ReadVotes = codes "ReadVotes"
+kind_name kind.Fallback = codes "Fallback"
+kind_name kind.ReadAnnouncement = codes "ReadAnnouncement"
+kind_name kind.TakePage = codes "TakePage"
+kind_name kind.StoreLogWord = codes "StoreLogWord"
+kind_name kind.StoreLength = codes "StoreLength"
+kind_name kind.GivePageBack = codes "GivePageBack"
+kind_name kind.LoadLength = codes "LoadLength"
+kind_name kind.LoadLogWord = codes "LoadLogWord"
+
+-- a text between two tabs
+abbrev pub column : List ℕ → List ℕ
+column text = text ++ 9 ∷ []
+
+-- the names of the columns
+abbrev pub header : List ℕ
+header = column (codes "number") ++ column (codes "line") ++ column (codes "who") ++ column (codes "tenure") ++ column (codes "kind") ++ column (codes "word") ++ column (codes "found") ++ column (codes "after") ++ codes "answer" ++ 10 ∷ []
+
+abbrev pub tenure_text : Option ℕ → List ℕ
+tenure_text None = codes "-"
+tenure_text (Some t) = decimal t
+
+-- tenure, kind, word, found and after, where there is no step on a word: the kind is this text
+abbrev pub no_step : List ℕ → List ℕ
+no_step kind = column (codes "-") ++ column kind ++ column (codes "-") ++ column (codes "-") ++ column (codes "-")
+
+-- the same columns of a step that found this number
+abbrev pub step_text : Sizes → Option ℕ → Kind → ℕ → Option Op → List ℕ
+step_text p tenure k found None = no_step (codes "-")
+step_text p tenure k found (Some o) = column (tenure_text tenure) ++ column (kind_name k) ++ column (word_name p (register o)) ++ column (decimal found) ++ column (decimal (after o found))
+
+-- of a deed of a sender; a step of it was this one
+abbrev pub deed_text : Sizes → Option Op → Deed → List ℕ
+deed_text p o (HasPut number bytes) = no_step (codes "put")
+deed_text p o HasClosed = no_step (codes "close")
+deed_text p o (Stepped tenure k found chose answer) = step_text p tenure k found o
+
+-- of what an event added to the trail of its sender: a deed, or nothing
+abbrev pub deeds_text : Sizes → Option Op → List Deed → List ℕ
+deeds_text p o [] = no_step (codes "-")
+deeds_text p o (deed ∷ deeds) = deed_text p o deed
+
+-- the step of a sender that there is
+abbrev pub turning_op : {E : Type 0} → Election E → Option (Core E) → ℕ → Option Op
+turning_op X None word = None
+turning_op X (Some c) word = op_at X c (situation_of X c) word
+
+-- the load of a receiver
+abbrev pub load_text : Sizes → (ℕ → ℕ) → Option Kind → Option Op → List ℕ
+load_text p words None o = no_step (codes "-")
+load_text p words (Some k) None = no_step (codes "-")
+load_text p words (Some k) (Some o) = step_text p None k (words (register o)) (Some o)
+
+abbrev pub receiving_text : Sizes → (ℕ → ℕ) → Option Receiving → List ℕ
+receiving_text p words None = no_step (codes "-")
+receiving_text p words (Some v) = load_text p words (receiving_kind v) (receiving_op v)
+
+-- who is asked
+abbrev pub who_text : Event → List ℕ
+who_text (Put s bytes) = column (codes "sender" ++ behind s)
+who_text (Close s) = column (codes "sender" ++ behind s)
+who_text (Turn s word) = column (codes "sender" ++ behind s)
+who_text (Recv r) = column (codes "receiver" ++ behind r)
+
+-- of a sender what the event added to its trail, and of a receiver the load that it makes
+abbrev pub deed_columns : {E : Type 0} → Sizes → Election E → Bus E → Event → Answer → List ℕ
+deed_columns p X b (Put s bytes) a = deeds_text p None (deeds_of X b (Put s bytes) a s)
+deed_columns p X b (Close s) a = deeds_text p None (deeds_of X b (Close s) a s)
+deed_columns p X b (Turn s word) a = deeds_text p (turning_op X (slice_get b.side.senders s) word) (deeds_of X b (Turn s word) a s)
+deed_columns p X b (Recv r) a = receiving_text p (slice_index b.side.words) (slice_get b.receivers r)
+
+-- the line of an event that a line of a script asks for, without its number
+abbrev pub row_text : {E : Type 0} → Sizes → Election E → ℕ → Bus E → Event → Answer → List ℕ
+row_text p X line b e a = column (decimal line) ++ who_text e ++ deed_columns p X b e a ++ answer_text a

@@ -1,0 +1,31 @@
+-- The lines of a trace, as a program that has seen the steps makes them.
+use Rattle.std.specs.Prelude.{ℕ, Option, Some, None, List, [], ◌∷◌, ◌++◌, codes, decimal}
+use Rattle.bus_register.specs.Words.{register}
+use Rattle.bus_world.specs.World.{Event, Put, Close, Turn, Recv}
+use Rattle.bus_world.specs.declared.events.Answer.{Answer}
+use Rattle.bus_replay.specs.Text.{answer_text}
+use Rattle.bus_trace.specs.Words.{Sizes, word_name}
+use Rattle.bus_trace.specs.Rows.{column, kind_name, tenure_text, no_step, who_text}
+use Rattle.bus_trace.specs.declared.seen.Seen.{Seen}
+
+-- what stands in the place of a kind where there is no step
+abbrev pub name_told : Event → List ℕ
+name_told (Put s bytes) = codes "put"
+name_told (Close s) = codes "close"
+name_told (Turn s word) = codes "-"
+name_told (Recv r) = codes "-"
+
+abbrev pub seen_columns : Sizes → Seen → List ℕ
+seen_columns p s = column (tenure_text s.step.tenure) ++ column (kind_name s.step.kind) ++ column (word_name p (register s.step.op)) ++ column (decimal s.found) ++ column (decimal s.left)
+
+abbrev pub seen_told : Sizes → Event → Option Seen → List ℕ
+seen_told p e None = no_step (name_told e)
+seen_told p e (Some s) = seen_columns p s
+
+-- all columns but the number
+abbrev pub row_told : Sizes → ℕ → Event → Option Seen → Answer → List ℕ
+row_told p line e seen a = column (decimal line) ++ who_text e ++ seen_told p e seen ++ answer_text a
+
+-- with the number
+abbrev pub numbered_row : ℕ → List ℕ → List ℕ
+numbered_row number row = column (decimal number) ++ row ++ 10 ∷ []

@@ -1,0 +1,70 @@
+-- What the words of a bus are called, each by what it is.
+use Rattle.std.specs.Prelude.{ℕ, ◌+◌, ◌-◌, ◌/◌, ◌%◌, ◌==◌, Bool, List, ◌∷◌, ◌++◌, codes, decimal, nat_lt, nat_le, if◌then◌else◌}
+use Rattle.bus_register.specs.Protocol.{Protocol}
+use Rattle.bus_adoptcommit.specs.declared.verdicts.Verdict.{Verdict}
+use Rattle.bus_binconsensus.specs.Decisions.{decisions}
+use Rattle.bus_tenure.specs.Core.{log_at}
+use Rattle.bus_world.specs.Playing.{layout_of}
+use Rattle.bus_world.specs.declared.shapes.Shape.{Shape}
+use Rattle.bus_replay.specs.Text.{behind}
+use Rattle.bus_trace.specs.declared.places.Places.{Places}
+
+-- the sizes by which words are named
+pub record Sizes : Type 0 where
+  pub senders : ℕ
+  -- of one binary decision
+  pub rounds : ℕ
+  -- how many words a ratifier has, a binary decision, and a row
+  pub ratifier : ℕ
+  pub decision : ℕ
+  pub row : ℕ
+  -- where the log begins
+  pub log : ℕ
+
+-- as a program holds them
+abbrev pub sizes_told : Places → Sizes
+sizes_told p = record { senders = p.senders; rounds = p.rounds; ratifier = p.ratifier; decision = p.decision; row = p.row; log = p.log }
+
+-- the sizes of a bus of this shape, over such ratifiers
+abbrev pub sizes_of : {S : Type 0} → Protocol S Bool Verdict → Shape → Sizes
+sizes_of P shape = record {
+  senders = shape.senders;
+  rounds = shape.rounds;
+  ratifier = P.width shape.senders;
+  decision = (decisions P shape.rounds).width shape.senders;
+  row = (layout_of P shape).width;
+  log = log_at (layout_of P shape);
+}
+
+-- a ratifier of three words has two inputs and a proposal; the words of another one are numbered
+abbrev pub ratifier_word : Sizes → ℕ → List ℕ
+ratifier_word p k =
+    if p.ratifier == 3 then (if k == 0 then codes "input 0" else (if k == 1 then codes "input 1" else codes "proposal")) else
+    (codes "word" ++ behind k)
+
+-- of a round: the words of its conciliator, and then those of its ratifier
+abbrev pub round_word : Sizes → ℕ → List ℕ
+round_word p k =
+    if k == 0 then codes "mark 0" else
+    (if k == 1 then codes "mark 1" else
+    (if k == 2 then codes "counter" else ratifier_word p (k - 3)))
+
+-- Of a binary decision: its rounds, and then the fallback word. The first round has no conciliator, so three words less.
+abbrev pub decision_word : Sizes → ℕ → List ℕ
+decision_word p k =
+    if (k + 3) / (3 + p.ratifier) == p.rounds then codes "fallback" else
+    (codes "round" ++ behind ((k + 3) / (3 + p.ratifier) + 1) ++ 32 ∷ round_word p ((k + 3) % (3 + p.ratifier)))
+
+-- of a row: the announcements, and then the decision of each bit, from the lowest
+abbrev pub row_word : Sizes → ℕ → List ℕ
+row_word p k =
+    if nat_lt k p.senders then codes "announcement" ++ behind k else
+    (codes "bit" ++ behind ((k - p.senders) / p.decision) ++ 32 ∷ decision_word p ((k - p.senders) % p.decision))
+
+-- the length, the stage, the rows of the tenures, and the log
+abbrev pub word_name : Sizes → ℕ → List ℕ
+word_name p r =
+    if r == 0 then codes "length" else
+    (if r == 1 then codes "stage" else
+    (if nat_le p.log r then codes "log" ++ behind (r - p.log) else
+    (codes "row" ++ behind ((r - 2) / p.row) ++ 32 ∷ row_word p ((r - 2) % p.row))))

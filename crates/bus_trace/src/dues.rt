@@ -1,0 +1,119 @@
+//! Which step an event is to take, and what a receiver's step leaves.
+
+ghost use Rattle.std.specs.Prelude.{◌≡◌, ◌≢◌, ◌+◌, ◌<◌, ◌^◌, Some, IfOk, IfSome, replicate};
+ghost use Rattle.std.specs.Prelude.{slice_get};
+ghost use Rattle.bus_register.specs.Words.{register};
+ghost use Rattle.bus_tenure.specs.Core.{Core, words_of};
+ghost use Rattle.bus_tenure.specs.Elections.{Elector, election_of};
+ghost use Rattle.bus_world.specs.Playing.{event_told};
+ghost use Rattle.bus_trace.specs.Watching.{sender_due, new_spot, spot_due, spot_after};
+ghost use Rattle.bus_trace.specs.Watching.{AreShort, spots_heard};
+
+use crate::seen::{Spot, Step};
+use bus_adoptcommit::Ratifier;
+use bus_deliverylog::RecvTurn;
+use bus_register::{Kind, NoMemory, Op, Reg, SenderNo};
+use bus_world::{Answer, Event, World};
+use std::alloc::Global;
+
+/// So many receivers that have read nothing.
+pub fn new_spots(alloc: Global, receivers: u64) -> Result<Vec<Spot>, NoMemory>
+    ensures { IfOk result (λ spots. spots.items ≡ replicate receivers new_spot) }
+{
+    let mut spots = Vec::new(alloc);
+    for _ in 0..receivers {
+        spots.push(Spot {
+            known: 0,
+            place: 0,
+            ended: false,
+        })?;
+    }
+    Ok(spots)
+}
+
+/// The step that a sender is to take with this random word, if it takes one.
+pub fn due_of_sender<Q: Ratifier + Drop>(world: &World<Q>, sender: u8, word: u32) -> Option<Step>
+    ensures due { let X = election_of Q.Ratifier in
+        result ≡ sender_due X (slice_get world.now.bus.side.senders sender) word }
+    ensures below { IfSome result (λ step. (c : Core (Elector Q))
+        → slice_get world.now.bus.side.senders sender ≡ Some c
+        → register step.op < words_of c.layout) }
+{
+    let Some(core) = world.core(SenderNo(sender)) else {
+        return None;
+    };
+    let Some(kind) = core.kind() else {
+        return None;
+    };
+    let Some(op) = core.next(word) else {
+        return None;
+    };
+    Some(Step {
+        tenure: core.tenure(),
+        kind,
+        op,
+    })
+}
+
+/// The load that a receiver is to make, if it makes one; the log begins at this word.
+pub fn due_of_receiver(spots: &[Spot], log: u64, receiver: u64) -> Option<Step>
+    requires { IfSome (slice_get spots.now receiver) (λ spot. log + spot.place < 2 ^ 64) }
+    ensures { result ≡ spot_due log (slice_get spots.now receiver) }
+{
+    let Some(spot) = spots.get(receiver as usize) else {
+        return None;
+    };
+    if spot.ended {
+        None
+    } else if spot.place == spot.known {
+        Some(Step {
+            tenure: None,
+            kind: Kind::LoadLength,
+            op: Op::Load(Reg(0)),
+        })
+    } else {
+        Some(Step {
+            tenure: None,
+            kind: Kind::LoadLogWord,
+            op: Op::Load(Reg(log + spot.place)),
+        })
+    }
+}
+
+/// How far a receiver is after a load that found this number and was answered so.
+fn spot_after(spot: Spot, found: u64, turn: &RecvTurn) -> Spot
+    requires { spot.place ≢ spot.known → spot.place + 1 < 2 ^ 64 }
+    ensures { result ≡ spot_after spot found turn.now }
+{
+    if spot.place == spot.known {
+        Spot {
+            known: found,
+            place: spot.place,
+            ended: spot.ended,
+        }
+    } else {
+        Spot {
+            known: spot.known,
+            place: spot.place + 1,
+            ended: matches!(turn, RecvTurn::End),
+        }
+    }
+}
+
+/// How far receivers are after an event whose step found this number.
+pub fn hear(spots: &mut Vec<Spot>, event: &Event, found: u64, answer: &Answer)
+    requires { AreShort spots.old.items }
+    ensures { spots.new.items
+        ≡ spots_heard spots.old.items (event_told event.now) found answer.now }
+{
+    let Event::Recv(receiver) = event else {
+        return;
+    };
+    let Answer::Recv(turn) = answer else {
+        return;
+    };
+    let place = *receiver as usize;
+    if place < spots.len() {
+        spots[place] = spot_after(spots[place], found, turn);
+    }
+}

@@ -1,0 +1,158 @@
+//! How the lines of a script move the bus, and what is put on a sheet of each step.
+
+ghost use Rattle.std.specs.Prelude.{◌≡◌, ◌++◌, ◌-◌, ◌<◌, None, IfOk, OnOk, string_bytes};
+ghost use Rattle.bus_tenure.specs.Elections.{election_of};
+ghost use Rattle.bus_world.specs.Playing.{event_told};
+ghost use Rattle.bus_script.specs.declared.places.Place.TheVariants.{AtLine};
+ghost use Rattle.bus_script.specs.Places.{refusal_line};
+ghost use Rattle.bus_replay.specs.Answers.{turn_goes_on, recv_goes_on, goes_on};
+ghost use Rattle.bus_trace.specs.Words.{sizes_told};
+ghost use Rattle.bus_trace.specs.Obeying.{IsCounted, IsRepeated, IsObeyed, ArePlayed};
+
+use crate::places::Places;
+use crate::rows::push_row;
+use crate::sheets::Sheet;
+use crate::watching::Watch;
+use bus_adoptcommit::Ratifier;
+use bus_deliverylog::RecvTurn;
+use bus_register::NoMemory;
+use bus_replay::lines::command_of;
+use bus_replay::names::step_fault_name;
+use bus_script::{Line, Lines, Outcome, Place, refusal_line};
+use bus_tenure::Turn;
+use bus_world::{Answer, Event, StepFault};
+use std::alloc::{AllocError, Global};
+
+fn turn_goes_on(turn: Turn) -> bool
+    ensures { result ≡ turn_goes_on turn }
+{
+    matches!(turn, Turn::Going)
+}
+
+fn recv_goes_on(turn: &RecvTurn) -> bool
+    ensures { result ≡ recv_goes_on turn.now }
+{
+    match turn {
+        RecvTurn::Going | RecvTurn::Head { .. } | RecvTurn::Item(_) => true,
+        RecvTurn::Empty | RecvTurn::End => false,
+    }
+}
+
+/// An event is repeated behind this answer, as `replay` repeats it.
+fn goes_on(answer: &Answer) -> bool
+    ensures { result ≡ goes_on answer.now }
+{
+    match answer {
+        Answer::Number(_) | Answer::Closing => false,
+        Answer::Turn(turn) => turn_goes_on(*turn),
+        Answer::Recv(turn) => recv_goes_on(turn),
+    }
+}
+
+/// An event once, and more while it goes on, up to so many times. Each has its line.
+fn repeat<Q: Ratifier + Drop>(
+    watch: &mut Watch<Q>,
+    sheet: &mut Sheet,
+    places: Places,
+    line: u64,
+    event: &Event,
+    times: u64,
+) -> Result<Option<StepFault>, AllocError>
+    requires some { 0 < times }
+    requires counted { IsCounted (string_bytes sheet.old.text) sheet.old.lines }
+    ensures layout { watch.new.layout ≡ watch.old.layout }
+    ensures repeated { let X = election_of Q.Ratifier in
+        IfOk result (λ fault. IsRepeated (sizes_told places) X line watch.old.bus
+        (event_told event.now) (times - 1) (string_bytes sheet.old.text) sheet.old.lines
+        (string_bytes sheet.new.text) sheet.new.lines fault watch.new.bus) }
+    ensures counts { IfOk result (λ fault. fault ≡ None
+        → IsCounted (string_bytes sheet.new.text) sheet.new.lines) }
+{
+    let (seen, mut last) = match watch.step(event) {
+        Ok(told) => told,
+        Err(fault) => return Ok(Some(fault)),
+    };
+    push_row(sheet, places, line, event, seen, &last)?;
+    let mut more = times - 1;
+    while more > 0 && goes_on(&last) {
+        let (seen, next) = match watch.step(event) {
+            Ok(told) => told,
+            Err(fault) => return Ok(Some(fault)),
+        };
+        push_row(sheet, places, line, event, seen, &next)?;
+        last = next;
+        more -= 1;
+    }
+    Ok(None)
+}
+
+/// Puts the line of a refusal at the end of a text.
+fn push_refusal(alloc: Global, number: u64, name: &str, text: &mut String) -> Result<(), AllocError>
+    ensures { OnOk result
+        (string_bytes text.new ≡ string_bytes text.old ++ refusal_line (AtLine number) name.now) }
+{
+    let line = refusal_line(alloc, Place::AtLine(number), name)?;
+    text.push_str(&line)
+}
+
+/// Does what a line asks for, and puts a line for each event of it, or its refusal, on a sheet.
+fn obey<Q: Ratifier + Drop>(
+    alloc: Global,
+    watch: &mut Watch<Q>,
+    sheet: &mut Sheet,
+    places: Places,
+    line: Line<'_>,
+) -> Result<Outcome, NoMemory>
+    requires { IsCounted (string_bytes sheet.old.text) sheet.old.lines }
+    ensures layout { watch.new.layout ≡ watch.old.layout }
+    ensures obeyed { let X = election_of Q.Ratifier in
+        IfOk result (λ outcome. IsObeyed (sizes_told places) X watch.old.bus
+        (line.entry.number, line.entry.bytes.now) (string_bytes sheet.old.text) sheet.old.lines
+        (string_bytes sheet.new.text) sheet.new.lines outcome watch.new.bus) }
+    ensures counts { IfOk result (λ outcome. outcome ≡ Outcome.Done
+        → IsCounted (string_bytes sheet.new.text) sheet.new.lines) }
+{
+    let Some(command) = command_of(alloc, line.bytes)? else {
+        push_refusal(alloc, line.number, "BadLine", &mut sheet.text)?;
+        return Ok(Outcome::Refused);
+    };
+    match repeat(
+        watch,
+        sheet,
+        places,
+        line.number,
+        &command.event,
+        command.times,
+    )? {
+        None => Ok(Outcome::Done),
+        Some(fault) => {
+            let name = step_fault_name(fault);
+            push_refusal(alloc, line.number, name, &mut sheet.text)?;
+            Ok(Outcome::Refused)
+        }
+    }
+}
+
+/// Obeys lines up to the first that is refused.
+pub fn play<Q: Ratifier + Drop>(
+    alloc: Global,
+    watch: &mut Watch<Q>,
+    sheet: &mut Sheet,
+    places: Places,
+    mut lines: Lines<'_>,
+) -> Result<Outcome, NoMemory>
+    requires { IsCounted (string_bytes sheet.old.text) sheet.old.lines }
+    ensures layout { watch.new.layout ≡ watch.old.layout }
+    ensures played { let X = election_of Q.Ratifier in
+        IfOk result (λ outcome. ArePlayed (sizes_told places) X watch.old.bus lines.entry
+        (string_bytes sheet.old.text) sheet.old.lines (string_bytes sheet.new.text) outcome
+        watch.new.bus) }
+{
+    while let Some(line) = lines.next_line() {
+        match obey(alloc, watch, sheet, places, line)? {
+            Outcome::Done => {}
+            Outcome::Refused => return Ok(Outcome::Refused),
+        }
+    }
+    Ok(Outcome::Done)
+}

@@ -1,0 +1,45 @@
+//! Steps, and how far receivers are.
+
+ghost use Rattle.std.specs.Prelude.{◌≡◌};
+ghost use Rattle.bus_register.specs.Words.{register};
+
+use bus_register::{Kind, Op, Reg};
+
+/// A step on a word.
+#[derive(Clone, Copy, Debug, PartialEq, Eq)]
+pub struct Step {
+    /// The tenure that was begun, if one was.
+    pub tenure: Option<u64>,
+    pub kind: Kind,
+    pub op: Op,
+}
+
+/// A step that was taken.
+#[derive(Clone, Copy, Debug, PartialEq, Eq)]
+pub struct Seen {
+    pub step: Step,
+    /// What stood in its word before it.
+    pub found: u64,
+    /// What stands there after it.
+    pub left: u64,
+}
+
+/// How far a receiver is.
+#[derive(Clone, Copy, Debug, PartialEq, Eq)]
+pub struct Spot {
+    /// The length that it knows.
+    pub known: u64,
+    /// How many words it has read.
+    pub place: u64,
+    /// It has read the end.
+    pub ended: bool,
+}
+
+/// The word that a step is on.
+pub fn register_of(op: Op) -> Reg
+    ensures { result.0 ≡ register op }
+{
+    match op {
+        Op::Load(at) | Op::Store(at, _) | Op::Add(at, _) | Op::Cas(at, _, _) => at,
+    }
+}

@@ -1,0 +1,68 @@
+//! What a script is answered with where its steps are traced.
+
+ghost use Rattle.std.specs.Prelude.{◌≡◌, ◌++◌, IfOk, string_bytes};
+ghost use Rattle.bus_tenure.specs.Elections.{election_of};
+ghost use Rattle.bus_world.specs.Playing.{layout_of};
+ghost use Rattle.bus_script.specs.Places.{refusal_line};
+ghost use Rattle.bus_script.specs.declared.answers.Outcome.TheVariants.{Refused};
+ghost use Rattle.bus_trace.specs.Rows.{header};
+ghost use Rattle.bus_trace.specs.Words.{sizes_of};
+ghost use Rattle.bus_trace.specs.Traces.{IsTrace};
+
+use crate::playing::play;
+use crate::rows::new_sheet;
+use crate::watching::Watch;
+use crate::words::places_of;
+use bus_adoptcommit::Ratifier;
+use bus_register::NoMemory;
+use bus_replay::lines::shape_of;
+use bus_replay::names::make_fault_name;
+use bus_script::{Answer, Lines, Outcome, Place, refusal_line};
+use bus_world::MakeFault;
+use std::alloc::Global;
+
+/// The answer to a script that was refused before there was a bus.
+fn refused(alloc: Global, place: Place, name: &str) -> Result<Answer, NoMemory>
+    ensures outcome { IfOk result (λ answer. answer.outcome ≡ Refused) }
+    ensures text { IfOk result
+        (λ answer. string_bytes answer.text ≡ header ++ refusal_line place name.now) }
+{
+    let mut sheet = new_sheet(alloc)?;
+    let line = refusal_line(alloc, place, name)?;
+    sheet.text.push_str(&line)?;
+    Ok(Answer {
+        outcome: Outcome::Refused,
+        text: sheet.text,
+    })
+}
+
+/// What is written for an input: the names of the columns, and a line for each event that `replay`
+/// plays of it, with ratifiers of this kind, up to the first refusal, which ends it.
+pub fn trace_of<Q: Ratifier + Drop>(alloc: Global, input: &[u8]) -> Result<Answer, NoMemory>
+    ensures { let X = election_of Q.Ratifier in
+        IfOk result (λ answer. IsTrace
+        (λ shape. (X, layout_of Q.protocol shape, sizes_of Q.protocol shape)) input.now
+        answer.outcome (string_bytes answer.text)) }
+{
+    let mut lines = Lines::new(input);
+    let Some(first) = lines.next_line() else {
+        return refused(alloc, Place::AtEnd, "BadLine");
+    };
+    let place = Place::AtLine(first.number);
+    let Some(shape) = shape_of(first.bytes) else {
+        return refused(alloc, place, "BadLine");
+    };
+    match Watch::<Q>::new(alloc, shape) {
+        Ok(mut watch) => {
+            let mut sheet = new_sheet(alloc)?;
+            let places = places_of::<Q>(shape);
+            let outcome = play(alloc, &mut watch, &mut sheet, places, lines)?;
+            Ok(Answer {
+                outcome,
+                text: sheet.text,
+            })
+        }
+        Err(MakeFault::NoMemory) => Err(NoMemory),
+        Err(fault) => refused(alloc, place, make_fault_name(fault)),
+    }
+}
