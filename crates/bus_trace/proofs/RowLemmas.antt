@@ -13,7 +13,8 @@ use Rattle.bus_tenure.specs.declared.turns.Turn.{Turn as Answered}
 use Rattle.bus_world.specs.Headline.{Deed}
 use Rattle.bus_world.specs.Trails.{turning_deeds, put_deeds, close_deeds, step_deed}
 use Rattle.bus_world.specs.Turning.{number_found}
-use Rattle.bus_world.specs.World.{Bus, Event, Put, Close, Turn, Recv}
+use Rattle.bus_trace.proofs.WatchLemmas.{turner_there}
+use Rattle.bus_world.specs.World.{Bus, Event, Put, Close, Turn, Recv, Stop, going}
 use Rattle.bus_world.specs.Playing.{Answers, TurnAnswers}
 use Rattle.bus_world.specs.declared.events.Answer.{Answer}
 use Rattle.bus_world.specs.declared.events.Answer.TheVariants as answer
@@ -59,9 +60,11 @@ columns_told : {E : Type 0} (p : Sizes) (X : Election E) (b b' : Bus E) (e : Eve
 columns_told p X b b' (Put s bytes) a h = ap (deeds_text p None) (own s (put_deeds bytes a) ∙ ap (put_deeds bytes) h.2)
 columns_told p X b b' (Close s) a h = ap (deeds_text p None) (own s (close_deeds a) ∙ ap close_deeds h.1)
 columns_told p X b b' (Turn s word) a h =
-    let c = slice_get b.side.senders s in
+    let c = going b s in
     ap (deeds_text p (turning_op X c word)) (own s (turning_deeds X b.side.words c word a)) ∙ sender_told p X b.side.words s word c a h
+    ∙ ap (λ o. seen_told p (Turn s word) (seen_in (slice_index b.side.words) (sender_due X o word))) (turner_there X b s word c refl a h)
 columns_told p X b b' (Recv r) a h = receiver_told p (slice_index b.side.words) r (slice_get b.receivers r)
+columns_told p X b b' (Stop s) a h = refl
 
 -- the whole line
 pub row_is : {E : Type 0} (p : Sizes) (X : Election E) (line : ℕ) (b b' : Bus E) (e : Event) (a : Answer) → Answers X b e a b' → row_told p line e (seen_in (slice_index b.side.words) (due_by X b e)) a ≡ row_text p X line b e a

@@ -27,12 +27,13 @@ use Rattle.bus_world.specs.Headline.{end_heard}
 use Rattle.bus_world.specs.Log.{Logged, read}
 use Rattle.std.proofs.lemmas.Grind.{common_steps}
 use Rattle.bus_world.specs.Turning.{Side, side_after, words_after}
-use Rattle.bus_world.specs.World.{Bus, Event, Put, Close, Turn, Recv, IsEvent, Happens, SenderDoes, RecvDoes, RecvStep, recv_found, IsReceiver, IsNew}
-use Rattle.bus_world.specs.Playing.{SizedBus, Answers, RecvAnswers}
+use Rattle.bus_world.specs.World.{Bus, Event, Put, Close, Turn, Recv, Stop, going, IsEvent, Happens, SenderDoes, RecvDoes, RecvStep, recv_found, IsReceiver, IsNew}
+use Rattle.bus_world.specs.Playing.{SizedBus, Answers, RecvAnswers, TurnAnswers}
 use Rattle.bus_world.specs.Trails.{IsServedBus, no_trails}
 use Rattle.bus_world.specs.Trails.Reached.{New}
 use Rattle.bus_world.specs.declared.events.Answer.{Answer}
 use Rattle.bus_world.specs.declared.events.Answer.TheVariants as answer
+use Rattle.bus_world.proofs.Stopping.{is_there}
 use Rattle.bus_world.proofs.Serving.{Serves}
 use Rattle.bus_world.proofs.PlayingLaws.{set_same, sitting_after, sums_fit, words_enough, loads_within}
 use Rattle.bus_world.proofs.LogLaws.{length-read}
@@ -154,6 +155,11 @@ side_same : {E : Type 0} (side side' : Side E) (o : Option (Core E)) (f : Core E
 side_same side side' None f same d = ap (λ (z : Side _). z.words) d
 side_same side side' (Some c) f same d = ap (λ (z : Side _). z.words) d ∙ same c
 
+-- who takes a turn is there
+pub turner_there : {E : Type 0} (X : Election E) (b : Bus E) (p word : ℕ) (o : Option (Core E)) → going b p ≡ o → (a : Answer) → TurnAnswers X b.side.words o word a → o ≡ slice_get b.side.senders p
+turner_there X b p word None is a h = absurd h
+turner_there X b p word (Some c) is a h = sym (is_there b p c is)
+
 -- ---- a bus that is watched
 module _ {E : Type 0} (X : Election E) (P : Protocol E (Unit {0}) ℕ) (x : Layout) (s : Serves X P x) where
   module _ (b : Bus E) (h : IsServedBus X P record { layout = x; bus = b }) where
@@ -168,11 +174,12 @@ module _ {E : Type 0} (X : Election E) (P : Protocol E (Unit {0}) ℕ) (x : Layo
     recv_words r None e = refl
     recv_words r (Some v) e = load_keeps b.side.words v v.ended (v.place == v.known) (loads_within X P x s.laws s.width s.starts s.owner_is b h record { layout = x; bus = b } refl r v e)
 
-    pub words_move : (b' : Bus E) (e : Event) → Happens X b e b' → b'.side.words ≡ words_stepped b.side.words (due_by X b e)
-    words_move b' (Put p bytes) d = side_same b.side b'.side (slice_get b.side.senders p) _ (λ c. refl) d.0
-    words_move b' (Close p) d = side_same b.side b'.side (slice_get b.side.senders p) _ (λ c. refl) d.0
-    words_move b' (Turn p word) d = turn_words b'.side p word (slice_get b.side.senders p) d.0
-    words_move b' (Recv r) d = ap (λ (z : Side _). z.words) d.0 ∙ recv_words r (slice_get b.receivers r) refl
+    pub words_move : (b' : Bus E) (e : Event) (a : Answer) → Happens X b e b' → Answers X b e a b' → b'.side.words ≡ words_stepped b.side.words (due_by X b e)
+    words_move b' (Put p bytes) a d w = side_same b.side b'.side (going b p) _ (λ c. refl) d.0
+    words_move b' (Close p) a d w = side_same b.side b'.side (going b p) _ (λ c. refl) d.0
+    words_move b' (Turn p word) a d w = turn_words b'.side p word (going b p) d.0 ∙ ap (λ o. words_stepped b.side.words (sender_due X o word)) (turner_there X b p word (going b p) refl a w)
+    words_move b' (Stop p) a d w = ap (λ (z : Side _). z.words) d.0
+    words_move b' (Recv r) a d w = ap (λ (z : Side _). z.words) d.0 ∙ recv_words r (slice_get b.receivers r) refl
 
     -- ---- receivers
     recv_stays : (r : ℕ) (o : Option Receiving) (a : Answer) (new : List Receiving) → slice_get b.receivers r ≡ o → RecvAnswers b.side.words b.receivers r o a new → receiver_due o ≡ None → new ≡ b.receivers
@@ -185,6 +192,7 @@ module _ {E : Type 0} (X : Election E) (P : Protocol E (Unit {0}) ℕ) (x : Layo
     spots_stay b' (Put p bytes) a none d w = ap (map spot_of) (sym d.1)
     spots_stay b' (Close p) a none d w = ap (map spot_of) (sym d.1)
     spots_stay b' (Turn p word) a none d w = ap (map spot_of) (sym d.1)
+    spots_stay b' (Stop p) a none d w = ap (map spot_of) (sym d.1)
     spots_stay b' (Recv r) a none d w = ap (map spot_of) (sym (recv_stays r (slice_get b.receivers r) a b'.receivers refl w none))
 
     recv_moves : (r : ℕ) (o : Option Receiving) (a : Answer) (new : List Receiving) (step : Step) → slice_get b.receivers r ≡ o → RecvAnswers b.side.words b.receivers r o a new → receiver_due o ≡ Some step
@@ -205,6 +213,7 @@ module _ {E : Type 0} (X : Election E) (P : Protocol E (Unit {0}) ℕ) (x : Layo
     spots_move b' (Put p bytes) a step due d w = ap (map spot_of) (sym d.1)
     spots_move b' (Close p) a step due d w = ap (map spot_of) (sym d.1)
     spots_move b' (Turn p word) a step due d w = ap (map spot_of) (sym d.1)
+    spots_move b' (Stop p) a step due d w = ap (map spot_of) (sym d.1)
     spots_move b' (Recv r) a step due d w = recv_moves r (slice_get b.receivers r) a b'.receivers step refl w due
 
     -- no place passes the log's words
@@ -270,7 +279,7 @@ module _ {E : Type 0} (X : Election E) (P : Protocol E (Unit {0}) ℕ) (x : Layo
   watched_after z z' e a words words' spots spots' w same is d answers words_are spots_are = record {
     layout = same ∙ w.layout;
     served = sitting_after X P x s.laws s.width s.starts s.owner_is z.bus z'.bus e a w.served is d answers;
-    words_are = words_are ∙ ap (λ l. words_stepped l (due_by X z.bus e)) w.words_are ∙ sym (words_move z.bus w.served z'.bus e d);
+    words_are = words_are ∙ ap (λ l. words_stepped l (due_by X z.bus e)) w.words_are ∙ sym (words_move z.bus w.served z'.bus e a d answers);
     spots_are = spots_are (sym w.spots_are);
   }
 

@@ -9,7 +9,7 @@ use Rattle.bus_tenure.specs.Core.{Core, Election}
 use Rattle.bus_tenure.specs.Situations.{situation_of, op_at}
 use Rattle.bus_world.specs.Headline.{Deed, HasPut, HasClosed, Stepped}
 use Rattle.bus_world.specs.Trails.{deeds_of}
-use Rattle.bus_world.specs.World.{Bus, Event, Put, Close, Turn, Recv}
+use Rattle.bus_world.specs.World.{Bus, Event, Put, Close, Turn, Recv, Stop, going}
 use Rattle.bus_world.specs.declared.events.Answer.{Answer}
 use Rattle.bus_replay.specs.Text.{behind, answer_text}
 use Rattle.bus_trace.specs.Words.{Sizes, word_name}
@@ -87,13 +87,15 @@ who_text (Put s bytes) = column (codes "sender" ++ behind s)
 who_text (Close s) = column (codes "sender" ++ behind s)
 who_text (Turn s word) = column (codes "sender" ++ behind s)
 who_text (Recv r) = column (codes "receiver" ++ behind r)
+who_text (Stop s) = column (codes "sender" ++ behind s)
 
 -- of a sender what the event added to its trail, and of a receiver the load that it makes
 abbrev pub deed_columns : {E : Type 0} → Sizes → Election E → Bus E → Event → Answer → List ℕ
 deed_columns p X b (Put s bytes) a = deeds_text p None (deeds_of X b (Put s bytes) a s)
 deed_columns p X b (Close s) a = deeds_text p None (deeds_of X b (Close s) a s)
-deed_columns p X b (Turn s word) a = deeds_text p (turning_op X (slice_get b.side.senders s) word) (deeds_of X b (Turn s word) a s)
+deed_columns p X b (Turn s word) a = deeds_text p (turning_op X (going b s) word) (deeds_of X b (Turn s word) a s)
 deed_columns p X b (Recv r) a = receiving_text p (slice_index b.side.words) (slice_get b.receivers r)
+deed_columns p X b (Stop s) a = no_step (codes "stop")
 
 -- the line of an event that a line of a script asks for, without its number
 abbrev pub row_text : {E : Type 0} → Sizes → Election E → ℕ → Bus E → Event → Answer → List ℕ

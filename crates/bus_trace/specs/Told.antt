@@ -1,7 +1,7 @@
 -- The lines of a trace, as a program that has seen the steps makes them.
 use Rattle.std.specs.Prelude.{ℕ, Option, Some, None, List, [], ◌∷◌, ◌++◌, codes, decimal}
 use Rattle.bus_register.specs.Words.{register}
-use Rattle.bus_world.specs.World.{Event, Put, Close, Turn, Recv}
+use Rattle.bus_world.specs.World.{Event, Put, Close, Turn, Recv, Stop}
 use Rattle.bus_world.specs.declared.events.Answer.{Answer}
 use Rattle.bus_replay.specs.Text.{answer_text}
 use Rattle.bus_trace.specs.Words.{Sizes, word_name}
@@ -14,6 +14,7 @@ name_told (Put s bytes) = codes "put"
 name_told (Close s) = codes "close"
 name_told (Turn s word) = codes "-"
 name_told (Recv r) = codes "-"
+name_told (Stop s) = codes "stop"
 
 abbrev pub seen_columns : Sizes → Seen → List ℕ
 seen_columns p s = column (tenure_text s.step.tenure) ++ column (kind_name s.step.kind) ++ column (word_name p (register s.step.op)) ++ column (decimal s.found) ++ column (decimal s.left)

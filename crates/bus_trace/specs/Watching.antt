@@ -11,7 +11,7 @@ use Rattle.bus_deliverylog.specs.declared.receiving.RecvTurn.{RecvTurn}
 use Rattle.bus_tenure.specs.Core.{Core, Election, Layout}
 use Rattle.bus_tenure.specs.Situations.{situation_of, tenure_at, kind_at, op_at}
 use Rattle.bus_world.specs.Headline.{end_heard}
-use Rattle.bus_world.specs.World.{Bus, Event, Put, Close, Turn, Recv}
+use Rattle.bus_world.specs.World.{Bus, Event, Put, Close, Turn, Recv, Stop}
 use Rattle.bus_world.specs.Playing.{SizedBus}
 use Rattle.bus_world.specs.declared.events.Answer.{Answer}
 use Rattle.bus_world.specs.declared.events.Answer.TheVariants as answer
@@ -40,6 +40,7 @@ due_by X b (Put s bytes) = None
 due_by X b (Close s) = None
 due_by X b (Turn s word) = sender_due X (slice_get b.side.senders s) word
 due_by X b (Recv r) = receiver_due (slice_get b.receivers r)
+due_by X b (Stop s) = None
 
 -- with the number that it finds in these words, and the one that it leaves
 abbrev pub seen_in : (ℕ → ℕ) → Option Step → Option Seen
@@ -83,6 +84,7 @@ abbrev pub answer_heard : List Spot → ℕ → ℕ → Answer → List Spot
 answer_heard spots r found (answer.Number n) = spots
 answer_heard spots r found answer.Closing = spots
 answer_heard spots r found (answer.Turn t) = spots
+answer_heard spots r found answer.Stopped = spots
 answer_heard spots r found (answer.Recv t) = spot_heard spots r (slice_get spots r) found t
 
 -- after an event whose step found this number
@@ -91,6 +93,7 @@ spots_heard spots (Put s bytes) found a = spots
 spots_heard spots (Close s) found a = spots
 spots_heard spots (Turn s word) found a = spots
 spots_heard spots (Recv r) found a = answer_heard spots r found a
+spots_heard spots (Stop s) found a = spots
 
 -- one more word can be counted
 abbrev pub AreShort : List Spot → Type 0

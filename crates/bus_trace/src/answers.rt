@@ -52,6 +52,7 @@ pub fn push_answer(text: &mut String, answer: &Answer) -> Result<(), AllocError>
     match answer {
         Answer::Number(number) => write!(text, "number {number}"),
         Answer::Closing => text.push_str("closing"),
+        Answer::Stopped => text.push_str("stopped"),
         Answer::Turn(turn) => push_turn(text, *turn),
         Answer::Recv(turn) => push_receiving(text, turn),
     }

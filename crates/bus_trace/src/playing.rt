@@ -43,7 +43,7 @@ fn goes_on(answer: &Answer) -> bool
     ensures { result ≡ goes_on answer.now }
 {
     match answer {
-        Answer::Number(_) | Answer::Closing => false,
+        Answer::Number(_) | Answer::Closing | Answer::Stopped => false,
         Answer::Turn(turn) => turn_goes_on(*turn),
         Answer::Recv(turn) => recv_goes_on(turn),
     }

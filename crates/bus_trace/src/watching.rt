@@ -74,7 +74,7 @@ impl<Q: Ratifier + Drop> Watch<Q> {
     {
         election_is_lawful::<Q>();
         match event {
-            Event::Put { .. } | Event::Close(_) => None,
+            Event::Put { .. } | Event::Close(_) | Event::Stop(_) => None,
             Event::Turn { sender, word } => {
                 if *sender > 255 {
                     None

@@ -231,6 +231,41 @@ module _ {E : Type 0} (X : Election E) (P : Protocol E (Unit {0}) ℕ) (x : Layo
   pub recv_idle : (r : ℕ) → length b.receivers ≤ r → Happens X now.bus (Recv r) now.bus
   recv_idle r l = (refl, subst (λ o. ReceiverDoes now.bus.side.words now.bus.receivers r o now.bus.receivers) (sym (no_receiver r l)) refl, refl)
 
+  -- the words and the range that the step of a sender wants, whoever has stopped
+  module _ (s : ℕ) (c : Core E) (old : slice_get b.side.senders s ≡ Some c) where
+    part : Part x (slice_index b.side.words) h.frames s c
+    part = h.lawful.keeps.sending.parts s c old
+
+    pub words_enough : length b.side.words ≡ words_of c.layout
+    words_enough = h.lawful.words ∙ ap words_of (sym part.layout)
+
+    module _ (word : ℕ) where
+      kept_below : (o : Op) (r v : ℕ) → Store record { 0 = r } v ≡ o → SumFits o (slice_index b.side.words (register o))
+      kept_below o r v e = subst (λ z. SumFits z (slice_index b.side.words (register z))) e tt
+
+      -- what an election adds to stays in range
+      election_fits : (t : ℕ) (e : E) → situation_of X c ≡ Elects t e → (o : Op) → X.op e word ≡ Some o → SumFits o (slice_index b.side.words (register o))
+      election_fits t e i o w =
+          let tenures = h.lawful.keeps.sending.tenures in
+          let has = tenures.electing s t e (ap (of_some standing_of) old ∙ ap (λ z. Some (stands_at z)) (tells X c (Elects t e) i).0) in
+          laws.fits x.senders (2 + t * P.width x.senders) (slice_index b.side.words) (tenures.elections t) s e word o (tenures.kept t has.0) has.2 w
+
+      sums_at : (z : Situation E) → situation_of X c ≡ z → (o : Op) → op_at X c z word ≡ Some o → SumFits o (slice_index b.side.words (register o))
+      sums_at IsClosed i o w = absurd cc
+      sums_at IsIdle i o w = absurd cc
+      sums_at IsSpent i o w = absurd cc
+      sums_at LooksAtStage i o w = subst (λ z. SumFits z (slice_index b.side.words (register z))) (same_Some _ _ w) tt
+      sums_at (Elects t e) i o w = election_fits t e i o w
+      sums_at (TakesPage t) i o w = kept_below o 1 (2 * t + 1) (same_Some _ _ w)
+      sums_at (AwaitsPage t) i o w = absurd cc
+      sums_at (StoresWord t page stored) i o w = kept_below o _ _ (same_Some _ _ w)
+      sums_at (StoresLength t page stored) i o w = kept_below o 0 _ (same_Some _ _ w)
+      sums_at (GivesBack t page reason) i o w = kept_below o 1 (2 * t + 2) (same_Some _ _ w)
+      sums_at (HasHanded t reason) i o w = kept_below o 1 (2 * t + 2) (same_Some _ _ w)
+
+      pub sums_fit : (o : Op) → op_at X c (situation_of X c) word ≡ Some o → SumFits o (slice_index b.side.words (register o))
+      sums_fit o w = sums_at (situation_of X c) refl o w
+
   -- ---- of a sender that goes on
   module _ (s : ℕ) (c : Core E) (old : slice_get b.side.senders s ≡ Some c) (free : has_stopped now.bus s ≡ false) where
     same_core : with_core s c ≡ b
@@ -336,38 +371,7 @@ module _ {E : Type 0} (X : Election E) (P : Protocol E (Unit {0}) ℕ) (x : Layo
     stop_answers = (subst StopGives now_goes tt, refl)
 
     -- ---- a turn
-    part : Part x (slice_index b.side.words) h.frames s c
-    part = h.lawful.keeps.sending.parts s c old
-
-    pub words_enough : length b.side.words ≡ words_of c.layout
-    words_enough = h.lawful.words ∙ ap words_of (sym part.layout)
-
     module _ (word : ℕ) where
-      kept_below : (o : Op) (r v : ℕ) → Store record { 0 = r } v ≡ o → SumFits o (slice_index b.side.words (register o))
-      kept_below o r v e = subst (λ z. SumFits z (slice_index b.side.words (register z))) e tt
-
-      -- what an election adds to stays in range
-      election_fits : (t : ℕ) (e : E) → situation_of X c ≡ Elects t e → (o : Op) → X.op e word ≡ Some o → SumFits o (slice_index b.side.words (register o))
-      election_fits t e i o w =
-          let tenures = h.lawful.keeps.sending.tenures in
-          let has = tenures.electing s t e (ap (of_some standing_of) old ∙ ap (λ z. Some (stands_at z)) (tells X c (Elects t e) i).0) in
-          laws.fits x.senders (2 + t * P.width x.senders) (slice_index b.side.words) (tenures.elections t) s e word o (tenures.kept t has.0) has.2 w
-
-      sums_at : (z : Situation E) → situation_of X c ≡ z → (o : Op) → op_at X c z word ≡ Some o → SumFits o (slice_index b.side.words (register o))
-      sums_at IsClosed i o w = absurd cc
-      sums_at IsIdle i o w = absurd cc
-      sums_at IsSpent i o w = absurd cc
-      sums_at LooksAtStage i o w = subst (λ z. SumFits z (slice_index b.side.words (register z))) (same_Some _ _ w) tt
-      sums_at (Elects t e) i o w = election_fits t e i o w
-      sums_at (TakesPage t) i o w = kept_below o 1 (2 * t + 1) (same_Some _ _ w)
-      sums_at (AwaitsPage t) i o w = absurd cc
-      sums_at (StoresWord t page stored) i o w = kept_below o _ _ (same_Some _ _ w)
-      sums_at (StoresLength t page stored) i o w = kept_below o 0 _ (same_Some _ _ w)
-      sums_at (GivesBack t page reason) i o w = kept_below o 1 (2 * t + 2) (same_Some _ _ w)
-      sums_at (HasHanded t reason) i o w = kept_below o 1 (2 * t + 2) (same_Some _ _ w)
-
-      pub sums_fit : (o : Op) → op_at X c (situation_of X c) word ≡ Some o → SumFits o (slice_index b.side.words (register o))
-      sums_fit o w = sums_at (situation_of X c) refl o w
 
       abbrev step_found : ℕ
       step_found = number_found (slice_index b.side.words) (op_at X c (situation_of X c) word)

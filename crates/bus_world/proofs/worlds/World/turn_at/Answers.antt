@@ -16,7 +16,7 @@ turn_sender-turn-requires-clause-room g c =
     let laws = c.election_is_lawful.ensures.lawful.laws shape.rounds in
     let many = senders_many X P x laws refl (λ n me at. refl) (λ e. refl) _ c.self.invariant c.args.self.now c.self.view_is c.args.sender c.in_ok-goes_on.ensures.there in
     let old = there c.self.inside.senders.items c.args.sender c.index_mut-core.result.now many c.index_mut-core.ensures.value in
-    words_enough X P x laws refl (λ n me at. refl) (λ e. refl) _ c.self.invariant c.args.self.now c.self.view_is c.args.sender c.index_mut-core.result.now old c.in_ok-goes_on.ensures.goes
+    words_enough X P x laws refl (λ n me at. refl) (λ e. refl) _ c.self.invariant c.args.self.now c.self.view_is c.args.sender c.index_mut-core.result.now old
 
 pub turn_sender-turn-requires-clause-sums : goal.turn_sender-turn-requires-clause-sums
 turn_sender-turn-requires-clause-sums g c =
@@ -27,7 +27,7 @@ turn_sender-turn-requires-clause-sums g c =
     let laws = c.election_is_lawful.ensures.lawful.laws shape.rounds in
     let many = senders_many X P x laws refl (λ n me at. refl) (λ e. refl) _ c.self.invariant c.args.self.now c.self.view_is c.args.sender c.in_ok-goes_on.ensures.there in
     let old = there c.self.inside.senders.items c.args.sender c.index_mut-core.result.now many c.index_mut-core.ensures.value in
-    sums_fit X P x laws refl (λ n me at. refl) (λ e. refl) _ c.self.invariant c.args.self.now c.self.view_is c.args.sender c.index_mut-core.result.now old c.in_ok-goes_on.ensures.goes c.args.word
+    sums_fit X P x laws refl (λ n me at. refl) (λ e. refl) _ c.self.invariant c.args.self.now c.self.view_is c.args.sender c.index_mut-core.result.now old c.args.word
 
 pub note_owner-requires : goal.note_owner-requires
 note_owner-requires g c t told =
