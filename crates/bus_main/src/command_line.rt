@@ -13,6 +13,7 @@ use std::alloc::Global;
 pub enum Task {
     Ratify,
     Replay,
+    Trace,
     /// Of a run, its summary.
     Run(Request),
     /// Of a run, its log.
@@ -29,6 +30,9 @@ fn bus_command<'a>(alloc: Global) -> Result<Command<'a>, Error> {
     let replay = Command::new(alloc, "replay")
         .about("Moves a bus by a script on standard input")
         .after_help(help::REPLAY);
+    let trace = Command::new(alloc, "trace")
+        .about("Shows each step of a bus that a script on standard input moves")
+        .after_help(help::TRACE);
     let bus = Command::new(alloc, "bus")
         .bin_name("bus")?
         .version(help::VERSION)
@@ -40,6 +44,7 @@ fn bus_command<'a>(alloc: Global) -> Result<Command<'a>, Error> {
         .disable_help_subcommand(true)
         .subcommand(ratify)?
         .subcommand(replay)?
+        .subcommand(trace)?
         .subcommand(run_command(alloc)?)?
         .subcommand(log_command(alloc)?)?;
     Ok(bus)
@@ -50,6 +55,7 @@ pub fn parse<'a>(alloc: Global, words: &'a [String]) -> Result<Task, Error> {
     let matches = bus_command(alloc)?.try_get_matches_from(words)?;
     match matches.subcommand() {
         Some(("replay", _)) => Ok(Task::Replay),
+        Some(("trace", _)) => Ok(Task::Trace),
         Some(("run", given)) if given.get_flag("log") => Ok(Task::RunLog(request_of(given))),
         Some(("run", given)) => Ok(Task::Run(request_of(given))),
         Some(("log", given)) => Ok(Task::Log {

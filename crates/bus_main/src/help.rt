@@ -12,6 +12,7 @@ pub const NAME_AND_VERSION: &str = "bus 0.1.0";
 pub const BUS: &str = "Examples:
   bus ratify < examples/tour/1_adopt_commit.script
   bus replay < examples/tour/3_late_sender.script
+  bus trace < examples/tour/3_late_sender.script
   bus run --senders 3 --receivers 2 --messages 100 --seed 7
   bus run --log | bus log --senders 3
 
@@ -37,6 +38,16 @@ Examples:
   bus replay < examples/tour/3_late_sender.script
 
 All lines and answers stand in docs/FORMATS.md, under 'replay'.";
+
+/// Behind the options of `trace`.
+pub const TRACE: &str =
+    "It takes the scripts of 'replay', and shows each step as a line of columns under one header line:
+number, script line, who, tenure, kind, word, found, left, and the turn's answer.
+
+Example:
+  bus trace < examples/tour/3_late_sender.script
+
+The columns stand in docs/FORMATS.md, under 'trace'.";
 
 /// Behind the options of `run`.
 pub const RUN: &str = "It reads nothing. The order of the messages may differ from run to run.

@@ -1,6 +1,6 @@
-//! The program `bus`. `bus ratify` and `bus replay` read a script from standard input and write its
-//! answer to standard output, and `bus log` the words of a log. `bus run` lets threads share a bus,
-//! and writes what came of it.
+//! The program `bus`. `bus ratify`, `bus replay` and `bus trace` read a script from standard input
+//! and write its answer to standard output, and `bus log` the words of a log. `bus run` lets threads
+//! share a bus, and writes what came of it.
 //!
 //! Exit status: 0 where the script was played, the log was told or the bus was run; 1 where a
 //! script or a log was refused, or the program could not do its work, which standard error then
@@ -16,12 +16,14 @@ mod replay;
 mod streams;
 #[cfg(test)]
 mod tests;
+mod trace;
 
 use self::command_line::{Task, parse};
 use self::log::log;
 use self::printing::{print_log, print_run};
 use self::ratify::ratify;
 use self::replay::replay;
+use self::trace::trace;
 use bus_adoptcommit::ThreeWord;
 use bus_run::RunFault;
 use bus_script::Outcome;
@@ -56,6 +58,10 @@ fn bus<R: AllocGlobal + Env + Input + Print + Eprint + Threads + Wait + Sync>(rt
         Ok(Task::Replay) => end(
             rt,
             replay::<ThreeWord, _, _>(rt.alloc(), &mut rt.reader(), &mut io::writer(rt)),
+        ),
+        Ok(Task::Trace) => end(
+            rt,
+            trace::<ThreeWord, _, _>(rt.alloc(), &mut rt.reader(), &mut io::writer(rt)),
         ),
         Ok(Task::Log { senders }) => end(
             rt,
