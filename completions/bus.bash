@@ -23,12 +23,13 @@ _bus() {
         ;;
     *" --senders" | *" --receivers") names="1 2 3 4 5 6 7 8" ;;
     *" --messages" | *" --seed") ;;
-    " "*) names="ratify replay run log" ;;
+    " "*) names="ratify replay trace run log" ;;
     esac
     if [[ "$word" == -* ]]; then
         case "$command" in
         "") names="-h --help -V --version" ;;
         ratify | replay) names="-h --help" ;;
+        trace) names="--svg -h --help" ;;
         run) names="--senders --receivers --messages --seed --log -h --help" ;;
         log) names="--senders -h --help" ;;
         esac
