@@ -42,7 +42,7 @@ All lines and answers stand in docs/FORMATS.md, under 'replay'.";
 /// Behind the options of `trace`.
 pub const TRACE: &str =
     "It takes the scripts of 'replay', and shows each step as a line of columns under one header line:
-number, script line, who, tenure, kind, word, found, left, and the turn's answer.
+number, script line, who, tenure, kind, word, found, after, and the answer.
 
 Example:
   bus trace < examples/tour/3_late_sender.script
