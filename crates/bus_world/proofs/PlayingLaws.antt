@@ -372,7 +372,6 @@ module _ {E : Type 0} (X : Election E) (P : Protocol E (Unit {0}) ℕ) (x : Layo
 
     -- ---- a turn
     module _ (word : ℕ) where
-
       abbrev step_found : ℕ
       step_found = number_found (slice_index b.side.words) (op_at X c (situation_of X c) word)
 
