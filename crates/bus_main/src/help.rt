@@ -41,7 +41,7 @@ All lines and answers stand in docs/FORMATS.md, under 'replay'.";
 
 /// Behind the options of `trace`.
 pub const TRACE: &str =
-    "It takes the scripts of 'replay', and shows each step as a line of columns under one header line:
+    "It takes the scripts of 'replay', and shows each step as a line of columns under one header:
 number, script line, who, tenure, kind, word, found, after, and the answer.
 
 Example:

@@ -1,6 +1,6 @@
 //! The program `bus`. `bus ratify`, `bus replay` and `bus trace` read a script from standard input
-//! and write its answer to standard output, and `bus log` the words of a log. `bus run` lets threads
-//! share a bus, and writes what came of it.
+//! and write its answer to standard output, and `bus log` the words of a log. `bus run` lets
+//! threads share a bus, and writes what came of it.
 //!
 //! Exit status: 0 where the script was played, the log was told or the bus was run; 1 where a
 //! script or a log was refused, or the program could not do its work, which standard error then

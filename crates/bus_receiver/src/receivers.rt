@@ -33,7 +33,8 @@ pub enum Next {
 }
 
 /// A receiver of a bus: it reads the log word by word, from the first one on. One thread at a time
-/// has it. No call of it takes memory, and none but `take`, `next_item` and `next_item_while` waits.
+/// has it. No call of it takes memory, and none but `take`, `next_item` and `next_item_while`
+/// waits.
 #[derive(Drop)]
 pub struct Receiver<Q: Ratifier> {
     tap: Tap<Q>,

@@ -129,8 +129,8 @@ impl<B: OfBus> Desk<B> {
         self.sender.pending() == 0 && self.put == messages
     }
 
-    /// Its sender closes the bus: it lets an end mark wait, where it can, and sends it. Says whether
-    /// the bus is closed.
+    /// Its sender closes the bus: it lets an end mark wait, where it can, and sends it. Says
+    /// whether the bus is closed.
     pub fn close<W: Wait>(&mut self, wait: &W, the: &TheBus<B>) -> bool
         ensures fault { self.new.fault ≡ self.old.fault }
         ensures closed { result ≡ true → Closes self.old.sender Turn.Closed self.new.sender }
