@@ -45,4 +45,19 @@ pub enum Kind {
     LoadLength,
     /// A receiver loads the log word at its place, which is below the length that it knows.
     LoadLogWord,
+    /// Where rows are used again: a sender has seen the stage of a tenure that it may enter, and
+    /// stores its presence, 1 more than the tenure.
+    Enter,
+    /// After `Enter`: a sender loads the stage. Where that is the tenure's still, it stands in the
+    /// tenure, and its election begins.
+    LoadStageAgain,
+    /// A sender stores 0 in its presence: after `LoadStageAgain` it saw another tenure's stage, or
+    /// it lost the election, or it has just taken the page.
+    Withdraw,
+    /// The holder of the page loads the presences of all senders in rising order: the row of the
+    /// next tenure was used before, and its frame stands in the log or none was begun.
+    ReadPresence,
+    /// After all `ReadPresence`: the holder stores 0 in the words of the row of the next tenure, in
+    /// rising order.
+    ClearRow,
 }

@@ -130,7 +130,7 @@ pub record HasHandedOn {E : Type 0} (c : Core E) : Type 0 where
   pub reason : Reason
   pub gives : c.phase ≡ Giving tenure reason
 
--- the sender has a cause for a step of this kind; the last two kinds are a receiver's
+-- The sender has a cause for a step of this kind. The kinds of the last lines are a receiver's, or come only where rows are used again.
 abbrev pub HasCause : {S : Type 0} → Protocol S Bool Verdict → Core (Elector S) → Kind → Type 0
 HasCause P c kind.LoadStage = LooksForTenure c
 HasCause P c kind.Announce = BeginsElection P c
@@ -150,6 +150,11 @@ HasCause P c kind.StoreLength = HasStoredAll c
 HasCause P c kind.GivePageBack = LeavesPage c ⊎ HasHandedOn c
 HasCause P c kind.LoadLength = ⊥
 HasCause P c kind.LoadLogWord = ⊥
+HasCause P c kind.Enter = ⊥
+HasCause P c kind.LoadStageAgain = ⊥
+HasCause P c kind.Withdraw = ⊥
+HasCause P c kind.ReadPresence = ⊥
+HasCause P c kind.ClearRow = ⊥
 
 -- whatever its next step is for, it has a cause
 abbrev pub IsCaused : {S : Type 0} → Election (Elector S) → Protocol S Bool Verdict → Core (Elector S) → Type 0

@@ -1,6 +1,6 @@
 -- What every sender keeps.
 use Rattle.std.specs.Prelude.{◌≡◌, ◌≢◌, ℕ, ◌+◌, ◌<◌, ◌≤◌, ◌^◌, Bool, true, false}
-use Rattle.bus_register.specs.declared.limits.TheConstants.{MOST_SENDERS, MOST_ROUNDS}
+use Rattle.bus_register.specs.declared.limits.TheConstants.{MOST_SENDERS, MOST_ROUNDS, TENURES}
 use Rattle.bus_batch.specs.Batches.{Pending, HasSomething}
 use Rattle.bus_batch.specs.declared.batches.Phase.TheVariants.{Closed}
 use Rattle.bus_tenure.specs.declared.phases.Phase.{Phase}
@@ -13,7 +13,7 @@ pub record AreSizes (x : Layout) (width : ℕ) : Type 0 where
   pub few : x.senders ≤ MOST_SENDERS
   pub rounds_some : 1 ≤ x.rounds
   pub rounds_few : x.rounds ≤ MOST_ROUNDS
-  pub rows_few : x.rows ≤ 2 ^ 16
+  pub rows_few : x.rows ≤ TENURES
   pub capacity_few : x.capacity ≤ 2 ^ 20
   pub width_is : x.width ≡ width
   pub room : words_of x ≤ 2 ^ 63

@@ -133,6 +133,10 @@ core_begun X c t = record c { queue = record c.queue { busy = true }; phase = El
 abbrev pub waits : {E : Type 0} → Core E → ℕ → Bool
 waits c got = if got % 2 == 0 then nat_lt (got / 2) c.least else true
 
+-- the tenure that it may begin where the stage is this
+abbrev pub tenure_begun : {E : Type 0} → Core E → ℕ → Option ℕ
+tenure_begun c got = if waits c got then None else (if nat_le c.layout.rows (got / 2) then None else Some (got / 2))
+
 abbrev pub core_after_stage : {E : Type 0} → Election E → Core E → ℕ → Core E
 core_after_stage X c got =
     if waits c got then c else

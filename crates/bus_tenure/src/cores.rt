@@ -15,6 +15,7 @@ ghost use Rattle.bus_tenure.specs.Core.{frame_len, has_room, page_after};
 ghost use Rattle.bus_tenure.specs.Situations.{line_of, Situation, LooksAtStage, GivesBack, resting};
 ghost use Rattle.bus_tenure.specs.Situations.{electing, holding, situation_at, situation_of};
 ghost use Rattle.bus_tenure.specs.Situations.{kind_at, op_at, core_at_rest, core_after_stage};
+ghost use Rattle.bus_tenure.specs.Situations.{tenure_begun};
 ghost use Rattle.bus_tenure.specs.Situations.{core_elected, fed_at};
 ghost use Rattle.bus_tenure.specs.Situations.{answer_of_stage, answer_of_election};
 ghost use Rattle.bus_tenure.specs.Situations.{answer_of_return, rest_at, answer_at, wants_at};
@@ -111,7 +112,7 @@ impl<Q: Ratifier + Drop> SenderCore<Q> {
         requires few { senders ≤ MOST_SENDERS }
         requires rounds_some { 1 ≤ rounds }
         requires rounds_few { rounds ≤ MOST_ROUNDS }
-        requires rows_few { rows ≤ 2 ^ 16 }
+        requires rows_few { rows ≤ TENURES }
         requires log_few { log_words ≤ 2 ^ 20 }
         requires room { words_of (layout_with Q.protocol senders rounds rows log_words) ≤ 2 ^ 63 }
         ensures { result ≡ record {
@@ -243,6 +244,18 @@ impl<Q: Ratifier + Drop> SenderCore<Q> {
             Some(Turn::Spent)
         } else {
             None
+        }
+    }
+
+    /// The tenure that it may begin where the stage is this.
+    pub fn may_begin(&self, stage: u64) -> Option<u64>
+        ensures { result ≡ tenure_begun self.now stage }
+    {
+        let tenure = stage / 2;
+        if stage % 2 == 1 || tenure < self.least || tenure >= self.sizes.rows {
+            None
+        } else {
+            Some(tenure)
         }
     }
 

@@ -24,4 +24,7 @@ pub enum Turn {
     Closed,
     /// All tenures of the sitting are spent.
     Spent,
+    /// Where rows are used again: it holds the page, and the presence of this sender names this
+    /// tenure, whose row the next tenure is to use. Its next turn loads that presence again.
+    Behind { tenure: u64, sender: SenderNo },
 }
