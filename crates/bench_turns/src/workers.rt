@@ -155,7 +155,7 @@ impl<B: OfBus> Teller<B> {
                 self.rest = Some(Rest::Refused);
             }
             Turn::Idle => self.rest = Some(Rest::Done),
-            Turn::Waiting | Turn::Going | Turn::Lost { .. } => {}
+            Turn::Waiting | Turn::Going | Turn::Lost { .. } | Turn::Behind { .. } => {}
         }
     }
 

@@ -23,6 +23,7 @@ is_last (turn.Delivered t first last) = true
 is_last turn.Full = true
 is_last turn.Closed = true
 is_last turn.Spent = true
+is_last (turn.Behind t sender) = false
 
 -- turns, none of them a last one, led from one sender to another
 pub data TurnsOn {E : Type 0} (X : Election E) (first : Seated E) : Seated E → Type 0 where

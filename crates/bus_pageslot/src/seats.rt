@@ -421,5 +421,6 @@ fn ends_sending(turn: Turn) -> bool
     match turn {
         Turn::Idle | Turn::Delivered { .. } | Turn::Full | Turn::Closed | Turn::Spent => true,
         Turn::Waiting | Turn::Going | Turn::Lost { .. } | Turn::Own { .. } => false,
+        Turn::Behind { .. } => false,
     }
 }

@@ -37,6 +37,7 @@ turn_goes_on (turn.Delivered t first last) = false
 turn_goes_on turn.Full = false
 turn_goes_on turn.Closed = false
 turn_goes_on turn.Spent = false
+turn_goes_on (turn.Behind t s) = false
 
 abbrev pub recv_goes_on : RecvTurn → Bool
 recv_goes_on recv.Going = true

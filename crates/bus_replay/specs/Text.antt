@@ -45,6 +45,7 @@ turn_text (turn.Delivered t first last) = codes "delivered" ++ behind t ++ behin
 turn_text turn.Full = codes "full"
 turn_text turn.Closed = codes "closed"
 turn_text turn.Spent = codes "spent"
+turn_text (turn.Behind t s) = codes "behind" ++ behind t ++ behind s.0
 
 -- sender, number and message of an item
 abbrev pub item_text : Item → List ℕ

@@ -49,6 +49,7 @@ fn push_turn(text: &mut String, turn: Turn) -> Result<(), AllocError>
         Turn::Full => text.push_str("full"),
         Turn::Closed => text.push_str("closed"),
         Turn::Spent => text.push_str("spent"),
+        Turn::Behind { tenure, sender } => write!(text, "behind {tenure} {}", sender.0),
     }
 }
 

@@ -33,6 +33,11 @@ kind_name kind.StoreLength = codes "StoreLength"
 kind_name kind.GivePageBack = codes "GivePageBack"
 kind_name kind.LoadLength = codes "LoadLength"
 kind_name kind.LoadLogWord = codes "LoadLogWord"
+kind_name kind.Enter = codes "Enter"
+kind_name kind.LoadStageAgain = codes "LoadStageAgain"
+kind_name kind.Withdraw = codes "Withdraw"
+kind_name kind.ReadPresence = codes "ReadPresence"
+kind_name kind.ClearRow = codes "ClearRow"
 
 -- a text between two tabs
 abbrev pub column : List ℕ → List ℕ

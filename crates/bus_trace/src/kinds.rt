@@ -28,5 +28,10 @@ pub fn kind_name(kind: Kind) -> &'static str
         Kind::GivePageBack => "GivePageBack",
         Kind::LoadLength => "LoadLength",
         Kind::LoadLogWord => "LoadLogWord",
+        Kind::Enter => "Enter",
+        Kind::LoadStageAgain => "LoadStageAgain",
+        Kind::Withdraw => "Withdraw",
+        Kind::ReadPresence => "ReadPresence",
+        Kind::ClearRow => "ClearRow",
     }
 }

@@ -35,7 +35,7 @@ pub record HasDelivered (order : Order) (owners : List (ℕ × SenderNo)) (s t f
   pub many : first + length own ≡ last + 1
 
 -- A tenure is lost to the owner with which its election ended, which is another sender, and taken by it. Messages are delivered where the frame of that
--- tenure holds them. The log is full where the sender's frame does not fit behind it.
+-- tenure holds them. The log is full where the sender's frame does not fit behind it. No sender of a bus with a row for each tenure answers Behind.
 abbrev pub TurnTells : {E : Type 0} → Layout → List ℕ → ℕ → Core E → List Deed → Answered → Type 0
 TurnTells x log s c deeds turn.Idle = Unit {0}
 TurnTells x log s c deeds turn.Waiting = Unit {0}
@@ -46,6 +46,7 @@ TurnTells x log s c deeds (turn.Delivered t first last) = (order : Order) × (ow
 TurnTells x log s c deeds turn.Full = x.capacity < length log + frame_len c
 TurnTells x log s c deeds turn.Closed = Unit {0}
 TurnTells x log s c deeds turn.Spent = Unit {0}
+TurnTells x log s c deeds (turn.Behind t p) = ⊥
 
 -- of the sender that there is
 abbrev pub SenderTells : {E : Type 0} → Layout → List ℕ → ℕ → Option (Core E) → List Deed → Answered → Type 0

@@ -101,3 +101,4 @@ owners_by (turn.Delivered t first last) p owners = owners
 owners_by turn.Full p owners = owners
 owners_by turn.Closed p owners = owners
 owners_by turn.Spent p owners = owners
+owners_by (turn.Behind t s) p owners = owners
