@@ -1,1 +1,2 @@
 pub mod HearingLaws
+pub mod Passing

@@ -48,16 +48,20 @@ is_given (turn.Head tenure owner) = false
 is_given (turn.Item item) = true
 is_given turn.End = true
 
--- turns that found neither an item nor the end led from one seat to another
-pub data PassesOn {E : Type 0} (first : Sat E) : Sat E → Type 0 where
-  Here : PassesOn first first
-  More : (old : Sat E) (answer : RecvTurn) (new : Sat E) → PassesOn first old → Hears old answer new → is_given answer ≡ false → PassesOn first new
+-- Turns that found neither an item nor the end led from one seat to another. They went on from an Empty only where it was told to.
+pub data PassesOn {E : Type 0} (TellsOn : Type 0) (first : Sat E) : Sat E → Type 0 where
+  Here : PassesOn TellsOn first first
+  More : (old : Sat E) (answer : RecvTurn) (new : Sat E) → PassesOn TellsOn first old → Hears old answer new → is_given answer ≡ false → (answer ≡ turn.Empty → TellsOn) → PassesOn TellsOn first new
 
--- turns that found neither, and a last one, which answered so
-pub record PassesTo {E : Type 0} (first : Sat E) (answer : RecvTurn) (new : Sat E) : Type 0 where
+-- such turns, and a last one, which answered so
+pub record PassesWhile {E : Type 0} (TellsOn : Type 0) (first : Sat E) (answer : RecvTurn) (new : Sat E) : Type 0 where
   pub old : Sat E
-  pub before : PassesOn first old
+  pub before : PassesOn TellsOn first old
   pub hears : Hears old answer new
+
+-- the same of turns that go on from each Empty
+abbrev pub PassesTo : {E : Type 0} → Sat E → RecvTurn → Sat E → Type 0
+PassesTo first answer new = PassesWhile (Unit {0}) first answer new
 
 -- the answer of the last turn: an item, the end, or that there is nothing more
 abbrev pub last_of : Next → RecvTurn

@@ -1,7 +1,7 @@
 //! A receiver of a bus, with its places compared.
 
 ghost use Rattle.std.specs.Prelude.{◌≡◌, ℕ, ◌≤◌, List, length, Some, None, IfOk};
-ghost use Rattle.std.specs.Prelude.{OnErr, false};
+ghost use Rattle.std.specs.Prelude.{OnErr, true, false};
 ghost use Rattle.std.specs.Ordering.{nat_cmp};
 ghost use Rattle.bus_tenure.specs.Elections.{election_of};
 ghost use Rattle.bus_world.specs.Playing.{layout_of};
@@ -10,7 +10,7 @@ ghost use Rattle.bus_pageslot.specs.Rule.{ear_in, known_in};
 ghost use Rattle.bus_pageslot.specs.Listening.{Hears};
 ghost use Rattle.bus_pageslot.specs.Seats.{table_of, deeds_of, stored_of};
 ghost use Rattle.bus_receiver.specs.Listening.{bus_of, is_found, Takes, HaveMet, IsTold};
-ghost use Rattle.bus_receiver.specs.Listening.{PassesTo, last_of, item_or_end};
+ghost use Rattle.bus_receiver.specs.Listening.{PassesTo, PassesWhile, last_of, item_or_end};
 
 use bus_adoptcommit::Ratifier;
 use bus_batch::Item;
@@ -118,7 +118,8 @@ impl<Q: Ratifier + Drop> Receiver<Q> {
     }
 
     /// The same, but that it can be told to stop: where a turn finds nothing more it asks
-    /// `go_on`, and answers Stopped where that says no. So what it knows of the log comes first.
+    /// `go_on`, goes on only where that says yes, and answers Stopped only where that says no. So
+    /// what it knows of the log comes first.
     pub fn next_item_while<W: Wait, F: Fn() -> bool>(
         &mut self,
         wait: &W,
@@ -128,7 +129,8 @@ impl<Q: Ratifier + Drop> Receiver<Q> {
         requires table { bus_of self.old ≡ bus.now.table }
         requires callable { F.IsAlwaysCallable go_on }
         ensures table { bus_of self.new ≡ bus_of self.old }
-        ensures passes { PassesTo self.old.me (last_of result) self.new.me }
+        ensures passes { PassesWhile (F.post go_on true) self.old.me (last_of result)
+            self.new.me }
         ensures told { result ≡ Next.Stopped → F.post go_on false }
     {
         let backoff = Backoff::new();
