@@ -1,4 +1,3 @@
 pub mod Sizes
 pub mod Ranges
-pub mod Needs
 pub mod Checks

@@ -2,9 +2,12 @@
 
 ghost use Rattle.std.specs.Prelude.{◌≡◌, ◌*◌, ◌<◌, ◌≤◌, ◌⊎◌, IfOk, IfErr};
 ghost use Rattle.std.specs.Prelude.{OnOk, OnErr};
+ghost use Rattle.bus_receiver.specs.Sizes.{tenures_of, words_of};
+ghost use Rattle.bus_bench.specs.Sizes.{bytes_of};
 
 use crate::request::{Request, Size};
-use bus_register::limits::{MOST_LOG_WORDS, MOST_MESSAGES, MOST_ROWS};
+use bus_receiver::{tenures_of_sitting, words_of_sitting};
+use bus_register::limits::{MOST_LOG_WORDS, MOST_ROWS};
 use std::fmt;
 
 /// What a sitting takes that does not fit a bus: it has too few tenures, or log words, or both.
@@ -60,47 +63,24 @@ impl Load {
 }
 
 impl Request {
-    ghost use Rattle.bus_bench.specs.Needs.{batches_of, tenures_of, words_of};
-
-    /// How many batches each sender sends.
-    fn batches(self) -> u128
-        ensures { result ≡ batches_of self }
-    {
-        (u128::from(self.messages) + (MOST_MESSAGES as u128 - 1)) / MOST_MESSAGES as u128
-    }
-
-    /// How many tenures a sitting takes: one for each batch, and one for the close.
-    pub fn tenures_needed(self) -> u128
-        ensures { result ≡ tenures_of self }
-    {
-        u128::from(self.senders) * self.batches() + 1
-    }
-
-    /// How many log words a sitting takes: one for each batch, for each message one and those of
-    /// its bytes, and two for the close.
-    pub fn words_needed(self) -> u128
-        ensures { result ≡ words_of self }
-    {
-        let each = 1 + self.size.bytes() as u128 / 8;
-        u128::from(self.senders) * (self.batches() + u128::from(self.messages) * each) + 2
-    }
-
-    /// The same, if a bus has enough for it.
+    /// The measurement, if a bus has enough tenures and log words for it.
     pub fn load(self) -> Result<Load, Shortage>
         ensures workers { IfOk result (λ load. (load.senders ≡ self.senders)
             × (load.receivers ≡ self.receivers)) }
         ensures messages { IfOk result (λ load. (load.messages ≡ self.messages)
             × (load.size ≡ self.size)) }
         ensures repetitions { IfOk result (λ load. load.repetitions ≡ self.repetitions) }
-        ensures fits { OnOk result ((tenures_of self ≤ MOST_ROWS)
-            × (words_of self ≤ MOST_LOG_WORDS)) }
-        ensures needed { IfErr result (λ short. (short.tenures ≡ tenures_of self)
-            × (short.words ≡ words_of self)) }
-        ensures short { OnErr result ((MOST_ROWS < tenures_of self)
-            ⊎ (MOST_LOG_WORDS < words_of self)) }
+        ensures fits { OnOk result ((tenures_of self.senders self.messages ≤ MOST_ROWS)
+            × (words_of self.senders self.messages (bytes_of self.size) ≤ MOST_LOG_WORDS)) }
+        ensures needed { IfErr result
+            (λ short. (short.tenures ≡ tenures_of self.senders self.messages)
+            × (short.words ≡ words_of self.senders self.messages (bytes_of self.size))) }
+        ensures short { OnErr result ((MOST_ROWS < tenures_of self.senders self.messages)
+            ⊎ (MOST_LOG_WORDS < words_of self.senders self.messages (bytes_of self.size))) }
     {
-        let tenures = self.tenures_needed();
-        let words = self.words_needed();
+        let senders = self.senders as u8;
+        let tenures = tenures_of_sitting(senders, self.messages);
+        let words = words_of_sitting(senders, self.messages, self.size.bytes() as u8);
         if tenures > MOST_ROWS as u128 || words > u128::from(MOST_LOG_WORDS) {
             return Err(Shortage { tenures, words });
         }

@@ -27,7 +27,7 @@ pub use bus_tenure::{Page, Turn};
 pub use bus_world::{MakeFault, Shape};
 pub use hearing::Heard;
 pub use receivers::{Next, Receiver};
-pub use sizes::{tenures_needed, words_needed};
+pub use sizes::{tenures_needed, tenures_of_sitting, words_needed, words_of_sitting};
 
 #[cfg(test)]
 mod tests;

@@ -201,15 +201,20 @@ fn all_are_sent(rt: HostRuntime) {
 
 #[test]
 fn sizes_of_sittings(rt: HostRuntime) {
-    assert_eq!(&rt;
-        (tenures_needed(3, 100), words_needed(3, 100, 8)),
-        (22, 623)
-    );
-    assert_eq!(&rt;
-        (tenures_needed(8, 400), words_needed(8, 400, 56)),
-        (201, 25_802)
-    );
-    assert_eq!(&rt; (tenures_needed(1, 17), words_needed(1, 17, 8)), (3, 38));
+    for (senders, messages, bytes, tenures, words) in [
+        (3, 100, 8, 22, 623),
+        (8, 400, 8, 201, 6_602),
+        (8, 400, 56, 201, 25_802),
+        (1, 1, 8, 2, 5),
+        (1, 16, 8, 2, 35),
+        (1, 17, 8, 3, 38),
+    ] {
+        assert_eq!(&rt; tenures_needed(senders, messages), tenures);
+        assert_eq!(&rt; words_needed(senders, messages, bytes), words);
+    }
+    let words = 148_726_874_094_283_259_898;
+    assert_eq!(&rt; tenures_of_sitting(1, u64::MAX), 1_152_921_504_606_846_977);
+    assert_eq!(&rt; words_of_sitting(1, u64::MAX, 56), words);
 }
 
 /// Notes an answer, and sees whether it is taken.
