@@ -1,4 +1,5 @@
 pub mod Words
+pub mod Names
 pub mod Tables
 pub mod Protocol
 pub mod Digits

@@ -1,5 +1,8 @@
 //! What a step is for.
 
+ghost use Rattle.std.specs.Prelude.{◌≡◌};
+ghost use Rattle.bus_register.specs.Names.{kind_name};
+
 /// The kinds of step of the whole protocol. Each is taken by one seat, of a sender or of a
 /// receiver, and touches one word. `docs/PROTOCOL.md` has them as a table.
 #[derive(Clone, Copy, Debug, PartialEq, Eq)]
@@ -60,4 +63,37 @@ pub enum Kind {
     /// After all `ReadPresence`: the holder stores 0 in the words of the row of the next tenure, in
     /// rising order.
     ClearRow,
+}
+
+impl Kind {
+    /// The name of the kind, as it stands in the program.
+    pub fn name(self) -> &'static str
+        ensures { result.now ≡ kind_name self }
+    {
+        match self {
+            Kind::LoadStage => "LoadStage",
+            Kind::Announce => "Announce",
+            Kind::StoreProposal => "StoreProposal",
+            Kind::ReadProposal => "ReadProposal",
+            Kind::StoreVerdict => "StoreVerdict",
+            Kind::ReadVerdict => "ReadVerdict",
+            Kind::SetMark => "SetMark",
+            Kind::ReadOtherMark => "ReadOtherMark",
+            Kind::Vote => "Vote",
+            Kind::ReadVotes => "ReadVotes",
+            Kind::Fallback => "Fallback",
+            Kind::ReadAnnouncement => "ReadAnnouncement",
+            Kind::TakePage => "TakePage",
+            Kind::StoreLogWord => "StoreLogWord",
+            Kind::StoreLength => "StoreLength",
+            Kind::GivePageBack => "GivePageBack",
+            Kind::LoadLength => "LoadLength",
+            Kind::LoadLogWord => "LoadLogWord",
+            Kind::Enter => "Enter",
+            Kind::LoadStageAgain => "LoadStageAgain",
+            Kind::Withdraw => "Withdraw",
+            Kind::ReadPresence => "ReadPresence",
+            Kind::ClearRow => "ClearRow",
+        }
+    }
 }

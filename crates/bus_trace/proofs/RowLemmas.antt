@@ -22,7 +22,8 @@ use Rattle.bus_replay.specs.Text.{answer_text}
 use Rattle.bus_register.specs.Words.{register}
 use Rattle.bus_trace.specs.declared.seen.Seen.{Seen}
 use Rattle.bus_trace.specs.Words.{Sizes, word_name}
-use Rattle.bus_trace.specs.Rows.{column, kind_name, tenure_text, no_step, deed_text, deeds_text, load_text, receiving_text, turning_op, who_text, deed_columns, row_text}
+use Rattle.bus_register.specs.Names.{kind_name}
+use Rattle.bus_trace.specs.Rows.{column, tenure_text, no_step, deed_text, deeds_text, load_text, receiving_text, turning_op, who_text, deed_columns, row_text}
 use Rattle.bus_trace.specs.Watching.{step_of, sender_due, receiver_due, due_by, seen_in}
 use Rattle.bus_trace.specs.Told.{seen_columns, seen_told, row_told, numbered_row}
 use Rattle.bus_trace.specs.Traces.{numbered}

@@ -1,8 +1,8 @@
 -- The lines of a trace: who took which step, what it found, what stands after it, and what was answered.
 use Rattle.std.specs.Prelude.{ℕ, ◌+◌, Option, Some, None, List, [], ◌∷◌, ◌++◌, codes, decimal, slice_get, slice_index}
 use Rattle.bus_register.specs.declared.kinds.Kind.{Kind}
-use Rattle.bus_register.specs.declared.kinds.Kind.TheVariants as kind
 use Rattle.bus_register.specs.declared.registers.Op.{Op}
+use Rattle.bus_register.specs.Names.{kind_name}
 use Rattle.bus_register.specs.Words.{register, after}
 use Rattle.bus_deliverylog.specs.Receiving.{Receiving, receiving_kind, receiving_op}
 use Rattle.bus_tenure.specs.Core.{Core, Election}
@@ -13,31 +13,6 @@ use Rattle.bus_world.specs.World.{Bus, Event, Put, Close, Turn, Recv, Stop, goin
 use Rattle.bus_world.specs.declared.events.Answer.{Answer}
 use Rattle.bus_replay.specs.Text.{behind, answer_text}
 use Rattle.bus_trace.specs.Words.{Sizes, word_name}
-
-abbrev pub kind_name : Kind → List ℕ
-kind_name kind.LoadStage = codes "LoadStage"
-kind_name kind.Announce = codes "Announce"
-kind_name kind.StoreProposal = codes "StoreProposal"
-kind_name kind.ReadProposal = codes "ReadProposal"
-kind_name kind.StoreVerdict = codes "StoreVerdict"
-kind_name kind.ReadVerdict = codes "ReadVerdict"
-kind_name kind.SetMark = codes "SetMark"
-kind_name kind.ReadOtherMark = codes "ReadOtherMark"
-kind_name kind.Vote = codes "Vote"
-kind_name kind.ReadVotes = codes "ReadVotes"
-kind_name kind.Fallback = codes "Fallback"
-kind_name kind.ReadAnnouncement = codes "ReadAnnouncement"
-kind_name kind.TakePage = codes "TakePage"
-kind_name kind.StoreLogWord = codes "StoreLogWord"
-kind_name kind.StoreLength = codes "StoreLength"
-kind_name kind.GivePageBack = codes "GivePageBack"
-kind_name kind.LoadLength = codes "LoadLength"
-kind_name kind.LoadLogWord = codes "LoadLogWord"
-kind_name kind.Enter = codes "Enter"
-kind_name kind.LoadStageAgain = codes "LoadStageAgain"
-kind_name kind.Withdraw = codes "Withdraw"
-kind_name kind.ReadPresence = codes "ReadPresence"
-kind_name kind.ClearRow = codes "ClearRow"
 
 -- a text between two tabs
 abbrev pub column : List ℕ → List ℕ

@@ -5,7 +5,8 @@ use Rattle.bus_world.specs.World.{Event, Put, Close, Turn, Recv, Stop}
 use Rattle.bus_world.specs.declared.events.Answer.{Answer}
 use Rattle.bus_replay.specs.Text.{answer_text}
 use Rattle.bus_trace.specs.Words.{Sizes, word_name}
-use Rattle.bus_trace.specs.Rows.{column, kind_name, tenure_text, no_step, who_text}
+use Rattle.bus_register.specs.Names.{kind_name}
+use Rattle.bus_trace.specs.Rows.{column, tenure_text, no_step, who_text}
 use Rattle.bus_trace.specs.declared.seen.Seen.{Seen}
 
 -- what stands in the place of a kind where there is no step

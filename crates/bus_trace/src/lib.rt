@@ -3,7 +3,6 @@
 
 pub mod answers;
 pub mod dues;
-pub mod kinds;
 pub mod places;
 pub mod playing;
 pub mod rows;

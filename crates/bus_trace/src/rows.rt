@@ -8,7 +8,6 @@ ghost use Rattle.bus_trace.specs.Obeying.{IsCounted};
 ghost use Rattle.bus_trace.specs.Told.{name_told, seen_columns, row_told, numbered_row};
 
 use crate::answers::push_answer;
-use crate::kinds::kind_name;
 use crate::places::Places;
 use crate::seen::{Seen, register_of};
 use crate::sheets::Sheet;
@@ -72,7 +71,7 @@ fn push_seen(text: &mut String, places: Places, seen: Seen) -> Result<(), AllocE
         (string_bytes text.new ≡ string_bytes text.old ++ seen_columns (sizes_told places) seen) }
 {
     push_tenure(text, seen.step.tenure)?;
-    push_column(text, kind_name(seen.step.kind))?;
+    push_column(text, seen.step.kind.name())?;
     push_word(text, places, register_of(seen.step.op).0)?;
     text.push_str("\t")?;
     push_number(text, seen.found)?;
