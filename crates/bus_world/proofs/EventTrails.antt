@@ -1,9 +1,9 @@
 -- Every event keeps what ties the trails to the bus, and the promise follows from it.
-use Rattle.std.proofs.Common.{◌≡◌, ℕ, zero, suc, ◌+◌, ◌*◌, ◌<◌, ◌≤◌, Bool, true, false, cond, ◌&&◌, ◌==◌, nat_lt, nat_le, Option, Some, None, is_some, inl, inr, List, [], ◌∷◌, ◌++◌, length, map, take, drop, flat_map, slice_get, slice_index, slice_set, arith, refl, sym, ◌∙◌, ap, subst, append_assoc}
+use Rattle.std.proofs.Common.{◌≡◌, ℕ, zero, suc, ◌+◌, ◌*◌, ◌<◌, ◌≤◌, Bool, true, false, cond, ◌&&◌, ◌==◌, nat_lt, nat_le, Option, Some, None, is_some, inl, inr, List, [], ◌∷◌, ◌++◌, length, map, take, flat_map, slice_get, slice_index, slice_set, arith, refl, sym, ◌∙◌, ap, subst, append_assoc}
 use mathlib.Core.Path.{fun_ext}
 use Rattle.std.proofs.lemmas.Bool.Decides.{eqb_tells}
 use Rattle.std.proofs.lemmas.Grind.{flat_map-append}
-use Rattle.std.proofs.lemmas.List.{append-nil, length-append, length-map, take_at, take-append-le, take-append-drop}
+use Rattle.std.proofs.lemmas.List.{append-nil, length-append, length-map, take_at, take-append-le}
 use Rattle.std.proofs.Math.Seq.{take-nil}
 use Rattle.std.proofs.lemmas.Option.{same_Some, slice_get_within}
 use Rattle.bus_register.specs.declared.kinds.Kind.{Kind}
@@ -13,8 +13,7 @@ use Rattle.bus_register.specs.Proved.TableLaws.{get_set_same, get_set_other}
 use Rattle.bus_batch.specs.declared.messages.Item.{Item}
 use Rattle.bus_batch.specs.Batches.{next_of}
 use Rattle.bus_batch.specs.declared.batches.Phase.TheVariants.{Closing}
-use Rattle.bus_batch.specs.Frames.{Frame, Order, AreFrames, log_words, log_pieces, order_of, owners_in, order_in, piece_owners, tenure_and_owner}
-use Rattle.bus_batch.proofs.PieceLaws.{owners_in-log}
+use Rattle.bus_batch.specs.Frames.{Frame, Order, AreFrames, log_words, log_pieces, order_of, owners_in, order_in, tenure_and_owner}
 use Rattle.bus_deliverylog.specs.Orders.{IsPrefixOfOrder, of_sender}
 use Rattle.bus_deliverylog.specs.Receiving.{Receiving}
 use Rattle.bus_deliverylog.specs.declared.receiving.RecvTurn.{RecvTurn}
@@ -41,10 +40,9 @@ use Rattle.bus_world.specs.Bus.{IsLayout, Fits}
 use Rattle.bus_world.proofs.FrameOwners.{counted_from, owner_took, rise}
 use Rattle.bus_world.proofs.Beginning.{zeros}
 use Rattle.bus_world.proofs.BusLaws as bus
-use Rattle.bus_world.specs.Headline.{Deed, HasPut, HasClosed, Stepped, puts, Took, Closed, item_heard, end_heard, given, heads, IsPrefix, Promises}
+use Rattle.bus_world.specs.Headline.{Deed, HasPut, HasClosed, Stepped, puts, Took, Closed, item_heard, end_heard, given, IsPrefix, Promises}
 use Rattle.bus_world.specs.Log.{sent}
 use Rattle.bus_world.proofs.LogLaws.{length-read}
-use Rattle.bus_world.proofs.ReceivingLaws.{given_is_prefix}
 use Rattle.bus_world.specs.Turning.{Side, side_after, core_after, number_found}
 use Rattle.bus_world.specs.World.{Bus, Event, Put, Close, Turn, Recv, Stop, going, IsEvent, Happens, SenderDoes, with_sender, can_put, can_close, put_in, close_in, LawfulBus, IsNew, is_open, given_at}
 use Rattle.bus_world.proofs.TurningLaws.{side_of}
@@ -56,11 +54,11 @@ use Rattle.bus_world.specs.Trails.{Trails, no_trails, trails_grown, trails_after
 use Rattle.bus_world.specs.Trails.Reached.{New, Then}
 use Rattle.bus_world.proofs.Stopping.{is_there}
 use Rattle.bus_world.proofs.Waiting.{frames_after, put_by, waiting_of, waiting_at, accepted, accepted_by, event_frames, frames_by}
-use Rattle.bus_world.proofs.Tying.{AreNumbered, IsSilent, Hears, Tied}
+use Rattle.bus_world.proofs.Tying.{AreNumbered, Hears, Tied}
 use Rattle.bus_world.proofs.Places.{got_split}
 use Rattle.bus_world.proofs.TableTrails.{plain_put, plain_close}
 use Rattle.bus_world.proofs.TurnTrails.{Ties, turn_ties, batch_ties}
-use Rattle.bus_world.proofs.HearTrails.{hears_later, hears_more}
+use Rattle.bus_world.proofs.HearTrails.{IsTold, hears_later, hears_more, delivered_to, heads_to, silent_to}
 use Rattle.bus_world.proofs.Closings.{Closings, still_closed, closings_after, frames_later, own_closed, own_closes, turn_closing, turn_frames}
 use Rattle.bus_world.proofs.Framing.{framed, last_frame, order_grows, owners_grow}
 use Rattle.bus_world.proofs.Growing.{event_takers, same_prefix, prefix_after}
@@ -431,23 +429,12 @@ module _ {E : Type 0} (X : Election E) (P : Protocol E (Unit {0}) ℕ) (laws : L
     one : (t : ℕ) → t < x.rows → OneOwner (inputs P (k.tied.tables.elections t)) (outputs P (k.tied.tables.elections t))
     one t l = laws.outcome x.senders (2 + t * P.width x.senders) (slice_index b.side.words) (k.tied.tables.elections t) (k.tied.tables.kept t l)
 
-    heads_prefix : (n : ℕ) → IsPrefix (owners_in (take n (log_pieces frames))) (map tenure_and_owner frames)
-    heads_prefix n = record {
-      rest = owners_in (drop n (log_pieces frames));
-      together = sym (flat_map-append piece_owners (take n (log_pieces frames)) (drop n (log_pieces frames))) ∙ ap owners_in (take-append-drop n (log_pieces frames)) ∙ owners_in-log frames;
-    }
+    told_of : (r : ℕ) (o : Option Receiving) → slice_get b.receivers r ≡ o → IsTold frames o (T.heard r)
+    told_of r (Some v) i = k.tied.heard r v i
+    told_of r None i = k.tied.silent r i
 
-    delivered_at : (r : ℕ) (o : Option Receiving) → slice_get b.receivers r ≡ o → IsPrefixOfOrder (given (T.heard r)) (order_of frames)
-    delivered_at r (Some v) i = subst (λ z. IsPrefixOfOrder z (order_of frames)) (sym (k.tied.heard r v i).given_is) (given_is_prefix x.senders frames v.place k.lawful.keeps.sending.log.lawful)
-    delivered_at r None i = subst (λ z. IsPrefixOfOrder (given z) (order_of frames)) (sym (k.tied.silent r i)) (given_is_prefix x.senders frames 0 k.lawful.keeps.sending.log.lawful)
-
-    told_at : (r : ℕ) (o : Option Receiving) → slice_get b.receivers r ≡ o → IsPrefix (heads (T.heard r)) (map tenure_and_owner frames)
-    told_at r (Some v) i = subst (λ z. IsPrefix z (map tenure_and_owner frames)) (sym (k.tied.heard r v i).heads_are) (heads_prefix v.place)
-    told_at r None i = subst (λ z. IsPrefix (heads z) (map tenure_and_owner frames)) (sym (k.tied.silent r i)) (heads_prefix 0)
-
-    silent_at : (r : ℕ) (o : Option Receiving) → slice_get b.receivers r ≡ o → IsSilent (T.heard r)
-    silent_at r (Some v) i = (k.tied.heard r v i).silent
-    silent_at r None i = subst IsSilent (sym (k.tied.silent r i)) (λ j m a e l f. absurd (none_in j _ e))
+    told_by : (r : ℕ) → IsTold frames (slice_get b.receivers r) (T.heard r)
+    told_by r = told_of r (slice_get b.receivers r) refl
 
     pub page : Promises T.deeds T.heard (order_of frames) (map tenure_and_owner frames)
     page = record {
@@ -459,14 +446,14 @@ module _ {E : Type 0} (X : Election E) (P : Protocol E (Unit {0}) ℕ) (laws : L
           (same, k.tied.takers.once t s i i' a (subst (λ z. Took (T.deeds z) t i') (sym same) d));
       owned = λ j t o e. k.tied.takers.took t o.0 (owner_took b.side.owners frames k.lawful.keeps.sending.owned j t o e);
       rising = λ i j t u o p e g l. rise x.senders 0 frames k.lawful.keeps.sending.log.lawful i j t u o p e g l;
-      delivered = λ r. delivered_at r (slice_get b.receivers r) refl;
-      told = λ r. told_at r (slice_get b.receivers r) refl;
+      delivered = λ r. delivered_to x.senders frames k.lawful.keeps.sending.log.lawful (slice_get b.receivers r) (T.heard r) (told_by r);
+      told = λ r. heads_to frames (slice_get b.receivers r) (T.heard r) (told_by r);
       faithful = record {
         numbered = λ s q i e. counted_from 0 (of_sender s (order_of frames)) q i (k.lawful.keeps.sending.log.counted s) refl e;
         messages = λ s. subst (IsPrefix (map (λ i. i.message) (of_sender s (order_of frames)))) (sym (k.tied.puts s)) (record { rest = waiting_of (slice_get b.side.senders s); together = refl });
       };
       numbered = k.tied.counted;
-      silent = λ r. silent_at r (slice_get b.receivers r) refl;
+      silent = λ r. silent_to frames (slice_get b.receivers r) (T.heard r) (told_by r);
       closed = λ e.
           let l = last_frame x.senders 0 frames k.lawful.keeps.sending.log.lawful e in
           record {

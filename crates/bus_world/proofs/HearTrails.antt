@@ -1,25 +1,27 @@
 -- A turn of a receiver keeps what ties its trail to its place.
-use Rattle.std.proofs.Common.{◌≡◌, ℕ, zero, suc, ◌+◌, ◌<◌, ◌≤◌, Bool, true, false, cond, ◌||◌, Option, Some, None, ◌⊎◌, inl, inr, List, [], ◌∷◌, ◌++◌, length, flat_map, take, drop, slice_get, slice_index, arith, refl, sym, ◌∙◌, ap, subst}
+use Rattle.std.proofs.Common.{◌≡◌, ℕ, zero, suc, ◌+◌, ◌<◌, ◌≤◌, Bool, true, false, cond, ◌||◌, Option, Some, None, ◌⊎◌, inl, inr, List, [], ◌∷◌, ◌++◌, length, map, flat_map, take, drop, slice_get, slice_index, arith, refl, sym, ◌∙◌, ap, subst}
 use Rattle.std.specs.List.{list_any}
 use Rattle.std.proofs.Math.Bool.{or-false}
 use Rattle.std.proofs.lemmas.Bool.{cases_eq, cases_lt}
 use Rattle.std.proofs.lemmas.Bool.Decides.{eqb_tells}
 use Rattle.std.proofs.lemmas.Grind.{common_steps, flat_map-append}
-use Rattle.std.proofs.lemmas.List.{append-nil, take-append-le, take_more, get_or_append_left}
+use Rattle.std.proofs.lemmas.List.{append-nil, take-append-le, take-append-drop, take_more, get_or_append_left}
 use Rattle.std.proofs.lemmas.List.Folds.{list_any-append}
 use Rattle.std.proofs.lemmas.Option.{same_Some, slice_get_within, get_or_from_slice_get}
 use Rattle.bus_batch.specs.declared.messages.Item.{Item}
 use Rattle.bus_batch.specs.declared.messages.Piece.{Piece}
 use Rattle.bus_batch.specs.declared.messages.Piece.TheVariants as piece
-use Rattle.bus_batch.specs.Frames.{Frame, Order, AreFrames, log_words, log_pieces, frame_pieces, order_in, owners_in, piece_items, piece_owners, is_end}
+use Rattle.bus_batch.specs.Frames.{Frame, Order, AreFrames, log_words, log_pieces, frame_pieces, order_of, order_in, owners_in, piece_items, piece_owners, is_end, tenure_and_owner}
+use Rattle.bus_batch.proofs.PieceLaws.{owners_in-log}
+use Rattle.bus_deliverylog.specs.Orders.{IsPrefixOfOrder}
 use Rattle.bus_deliverylog.specs.Receiving.{Receiving, turn_of}
 use Rattle.bus_deliverylog.specs.declared.receiving.RecvTurn.{RecvTurn}
 use Rattle.bus_deliverylog.specs.declared.receiving.RecvTurn.TheVariants as heard
 use Rattle.bus_tenure.specs.Core.{Layout, log_at}
 use Rattle.bus_world.specs.Log.{read, Logged}
 use Rattle.bus_world.proofs.LogLaws.{length-read}
-use Rattle.bus_world.proofs.ReceivingLaws.{length-log_pieces}
-use Rattle.bus_world.specs.Headline.{item_heard, end_heard, head_heard, given, heads}
+use Rattle.bus_world.proofs.ReceivingLaws.{given_is_prefix, length-log_pieces}
+use Rattle.bus_world.specs.Headline.{item_heard, end_heard, head_heard, given, heads, IsPrefix}
 use Rattle.bus_world.proofs.Places.{got_split}
 use Rattle.bus_world.proofs.Tying.{Hears, IsSilent}
 use Rattle.bus_world.specs.World.{RecvDoes, RecvStep, recv_found, IsReceiver, given_at}
@@ -221,3 +223,27 @@ module _ (x : Layout) (frames : List Frame) (words : ℕ → ℕ) (log : Logged 
       by_end : (q : Bool) → v.ended ≡ q → Hears frames next (trail ++ answer ∷ [])
       by_end true e = let d = does.ended e in again frames v trail h answer next e d.0 d.1
       by_end false e = hears_step e (does.going e)
+
+-- ---- what is promised of answers
+-- a receiver has been told what stands below its place; who is none was told nothing
+abbrev pub IsTold : List Frame → Option Receiving → List RecvTurn → Type 0
+IsTold frames None trail = trail ≡ []
+IsTold frames (Some v) trail = Hears frames v trail
+
+heads_prefix : (frames : List Frame) (n : ℕ) → IsPrefix (owners_in (take n (log_pieces frames))) (map tenure_and_owner frames)
+heads_prefix frames n = record {
+  rest = owners_in (drop n (log_pieces frames));
+  together = sym (flat_map-append piece_owners (take n (log_pieces frames)) (drop n (log_pieces frames))) ∙ ap owners_in (take-append-drop n (log_pieces frames)) ∙ owners_in-log frames;
+}
+
+pub delivered_to : (n : ℕ) (frames : List Frame) → AreFrames n frames → (o : Option Receiving) (trail : List RecvTurn) → IsTold frames o trail → IsPrefixOfOrder (given trail) (order_of frames)
+delivered_to n frames lawful None trail told = subst (λ z. IsPrefixOfOrder (given z) (order_of frames)) (sym told) (given_is_prefix n frames 0 lawful)
+delivered_to n frames lawful (Some v) trail told = subst (λ z. IsPrefixOfOrder z (order_of frames)) (sym told.given_is) (given_is_prefix n frames v.place lawful)
+
+pub heads_to : (frames : List Frame) (o : Option Receiving) (trail : List RecvTurn) → IsTold frames o trail → IsPrefix (heads trail) (map tenure_and_owner frames)
+heads_to frames None trail told = subst (λ z. IsPrefix (heads z) (map tenure_and_owner frames)) (sym told) (heads_prefix frames 0)
+heads_to frames (Some v) trail told = subst (λ z. IsPrefix z (map tenure_and_owner frames)) (sym told.heads_are) (heads_prefix frames v.place)
+
+pub silent_to : (frames : List Frame) (o : Option Receiving) (trail : List RecvTurn) → IsTold frames o trail → IsSilent trail
+silent_to frames None trail told = subst IsSilent (sym told) (λ j k a at l here. absurd cc)
+silent_to frames (Some v) trail told = told.silent

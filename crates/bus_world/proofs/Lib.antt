@@ -30,5 +30,6 @@ pub mod FrameOwners
 pub mod Beginning
 pub mod YardWords
 pub mod YardNotes
+pub mod YardHears
 pub mod YardLaws
 pub mod StopLaws

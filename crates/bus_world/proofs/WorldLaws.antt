@@ -37,7 +37,7 @@ use Rattle.bus_world.proofs.Accepting as accepting
 use Rattle.bus_world.proofs.Accepting.{Accepted, Puts, Closes, accept, AreAccepted, open_is, not_busy, empty_is, idle_rests}
 use Rattle.bus_tenure.specs.declared.phases.Reason.{Reason}
 use Rattle.bus_register.specs.Proved.TableLaws.{get_set_same, get_set_other}
-use Rattle.bus_world.specs.World.{Event, Put, Close, Turn, Recv, Stop, going, IsEvent, Happens, SenderDoes, ReceiverDoes, recv_found, Bus, is_open, can_put, can_close, put_in, close_in, with_sender, LawfulBus, IsReceiver, RecvStep, IsNew, new_page}
+use Rattle.bus_world.specs.World.{Event, Put, Close, Turn, Recv, Stop, going, IsEvent, Happens, SenderDoes, ReceiverDoes, recv_found, Bus, is_open, can_put, can_close, put_in, close_in, with_sender, LawfulBus, IsReceiver, RecvStep, RecvDoes, IsNew, new_page}
 use Rattle.bus_world.proofs.Waiting.{with_frame, frames_after, frames_by, event_frames, accepted_by, accepted, waiting_at, put_by, waiting_of}
 
 -- ---- numbers
@@ -125,6 +125,20 @@ module _ (x : Layout) (frames : List Frame) (words : ℕ → ℕ) (log : Logged 
               }
         ]
 
+    -- a turn of a receiver
+    pub receiver_more : RecvDoes words v answer next → IsReceiver x frames (words 0) next
+    receiver_more does = by_end v.ended refl
+      where
+        goes : RecvStep v (recv_found words v) answer next → IsReceiver x frames (words 0) next
+        goes step = elim (eqb_tells v.place v.known) [
+          | inl y ↦ at_length y.1 (subst (λ z. RecvStep v z answer next) (ap (λ q. cond q (words v.length_at) (words (v.log_at + v.place))) y.0 ∙ ap words h.len_at) step)
+          | inr y ↦ at_word y.1 (subst (λ z. RecvStep v z answer next) (ap (λ q. cond q (words v.length_at) (words (v.log_at + v.place))) y.0 ∙ ap (λ q. words (q + v.place)) h.log) step)
+        ]
+
+        by_end : (q : Bool) → v.ended ≡ q → IsReceiver x frames (words 0) next
+        by_end true e = subst (IsReceiver x frames (words 0)) (sym (does.ended e).1) h
+        by_end false e = goes (does.going e)
+
 -- receivers, where the log has grown
 module _ (x : Layout) (frames : List Frame) (words words' : ℕ → ℕ) (log : Logged x.senders x.capacity (log_at x) words (words 0) frames) where
   same_len : (log' : Logged x.senders x.capacity (log_at x) words' (words' 0) frames) → words' 0 ≡ words 0
@@ -209,15 +223,7 @@ module _ {E : Type 0} (X : Election E) (P : Protocol E (Unit {0}) ℕ) (laws : L
         let words = slice_index b.side.words in
         let log = h.keeps.sending.log in
         let own = h.keeps.receiving r v i in
-        let goes : v.ended ≡ false → RecvStep v (recv_found words v) rs.1 rs.0 → IsReceiver x frames (words 0) rs.0 = λ going step. elim (eqb_tells v.place v.known) [
-          | inl y ↦ at_length x frames words log v own rs.1 rs.0 y.1 (subst (λ z. RecvStep v z rs.1 rs.0) (ap (λ q. cond q (words v.length_at) (words (v.log_at + v.place))) y.0 ∙ ap words own.len_at) step)
-          | inr y ↦ at_word x frames words log v own rs.1 rs.0 y.1 (subst (λ z. RecvStep v z rs.1 rs.0) (ap (λ q. cond q (words v.length_at) (words (v.log_at + v.place))) y.0 ∙ ap (λ q. words (q + v.place)) own.log) step)
-        ] in
-        let ended_or : (q : Bool) → v.ended ≡ q → IsReceiver x frames (words 0) rs.0 = λ q. elim q as (λ z. v.ended ≡ z → IsReceiver x frames (words 0) rs.0) [
-          | true ↦ λ e. subst (IsReceiver x frames (words 0)) (sym (rs.2.ended e).1) own
-          | false ↦ λ e. goes e (rs.2.going e)
-        ] in
-        let next_is = ended_or v.ended refl in
+        let next_is = receiver_more x frames words log v own rs.1 rs.0 rs.2 in
         record {
           now_is = refl;
           left = record {

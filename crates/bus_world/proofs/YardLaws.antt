@@ -14,6 +14,8 @@ use Rattle.bus_batch.specs.Batches.{Pending, next_of, frame_of}
 use Rattle.bus_batch.specs.declared.batches.Phase.TheVariants.{Open, Closing}
 use Rattle.bus_batch.specs.Frames.{Frame, frame_words, order_of, tenure_and_owner}
 use Rattle.bus_deliverylog.specs.Orders.{of_sender}
+use Rattle.bus_deliverylog.specs.Receiving.{Receiving}
+use Rattle.bus_deliverylog.specs.declared.receiving.RecvTurn.{RecvTurn}
 use Rattle.bus_ownerbits.specs.OneOwner.{OneOwner}
 use Rattle.bus_presence.specs.declared.visits.Visit.{Visit}
 use Rattle.bus_presence.specs.declared.visits.Visit.TheVariants.{Away, Entering, Looking, Inside, Parting, Barred}
@@ -34,8 +36,8 @@ use Rattle.bus_tenure.proofs.Situated.{tells}
 use Rattle.bus_world.specs.Bus.{IsLayout, Part, Fits, Sending, standing_of, least_of, stands_at}
 use Rattle.bus_world.specs.Guests.{Due, sizes_with, log_from, place_for, sweep_due, due_swept, due_home, due_beside, core_looked, core_seen, visit_seen, visit_elected}
 use Rattle.bus_world.specs.Turning.{number_found, core_with_page, core_after, home_after, owners_after}
-use Rattle.bus_world.specs.Yards.{Yard, IsNewYard, Led, IsKeptYard, YardRefuses, NewYard, Turned, PutIn, ClosedIn, going_deeds, due_deeds, deeds_with, no_deeds, due_in, words_stepped, word_found, visited, swept, gone, yard_after, trails_with}
-use Rattle.bus_world.specs.World.{new_page, can_put, can_close}
+use Rattle.bus_world.specs.Yards.{Yard, IsNewYard, Led, IsKeptYard, YardRefuses, NewYard, Turned, PutIn, ClosedIn, Heard, no_answers, answers_with, going_deeds, due_deeds, deeds_with, no_deeds, due_in, words_stepped, word_found, visited, swept, gone, yard_after, trails_with}
+use Rattle.bus_world.specs.World.{new_page, RecvDoes, can_put, can_close}
 use Rattle.bus_world.proofs.Accepting.{Accepted, Puts, Closes, AreAccepted, accept, grows}
 use Rattle.bus_world.proofs.Beginning.{new_sending}
 use Rattle.bus_world.proofs.BusLaws as bus
@@ -46,7 +48,6 @@ use Rattle.bus_world.specs.Headline.{Deed, HasPut, HasClosed, Stepped, Took, IsP
 use Rattle.bus_world.specs.Log.{read}
 use Rattle.bus_world.proofs.FrameOwners.{counted_from, owner_took, rise}
 use Rattle.bus_world.proofs.Framing.{framed, last_frame}
-use Rattle.bus_world.proofs.ReceivingLaws.{given_is_prefix}
 use Rattle.std.proofs.lemmas.List.{map-append}
 use Rattle.bus_world.specs.Trails.{step_deed}
 use Rattle.bus_world.proofs.Tying.{next_at, next_tenure, Tables, PageTies}
@@ -56,6 +57,8 @@ use Rattle.bus_world.specs.Headline.{Closed}
 use Rattle.bus_world.specs.Waiting.{waiting_at, waiting_of}
 use Rattle.bus_world.proofs.Closings.{turn_closing, turn_frames, frames_later, own_closed}
 use Rattle.bus_world.proofs.PutLaws.{elected_waits, laid_waits, publish_puts}
+use Rattle.bus_world.proofs.HearTrails.{delivered_to, heads_to, silent_to}
+use Rattle.bus_world.proofs.YardHears.{AllHear, all_new, all_after, turn_hears, one_hears, told_in}
 use Rattle.bus_world.proofs.YardNotes.{sent_by, IsNoted, PutsNothing, noted_turn, noted_over, noted_put, noted_close, steps_put_nothing, nothing_put}
 use Rattle.bus_world.proofs.YardWords.{Laid, put_is, laid_quiet, quiet_same, quiet_visit, quiet_sweep, laid_worked, laid_logged, laid_told, laid_taken, laid_given}
 
@@ -155,7 +158,8 @@ module _ {E : Type 0} (X : Election E) (P : Protocol E (Unit {0}) ℕ) (laws : L
     pub entering : (t : ℕ) → (v ≡ Entering t) ⊎ (v ≡ Looking t) → IsEntering c t
 
   -- what is always kept, of words with a row for each tenure
-  pub record Kept (y : Yard E) (T : Trails) (D : ℕ → List Deed) (V : ℕ → ℕ) (frames : List Frame) : Type 0 where
+  pub record Kept (H : ℕ → List RecvTurn) (y : Yard E) (T : Trails) (D : ℕ → List Deed) (V : ℕ → ℕ) (frames : List Frame) : Type 0 where
+    pub hears : AllHear x rows y.receivers frames H
     pub reached : Reached z y.hall T
     pub sending : Sending P x V y.home y.senders y.owners frames
     pub laid : Laid x rows y.hall V
@@ -164,13 +168,13 @@ module _ {E : Type 0} (X : Election E) (P : Protocol E (Unit {0}) ℕ) (laws : L
     pub guests : (p : ℕ) (c : Core E) → y.senders p ≡ Some c → IsGuest (y.hall.visits p) c
     pub ready : (t : ℕ) → y.hall.words 1 ≡ 2 * t + 1 → y.hall.sweep ≡ None → t + 1 < rows
 
-  pub record HasKept (y : Yard E) (T : Trails) (D : ℕ → List Deed) : Type 0 where
+  pub record HasKept (H : ℕ → List RecvTurn) (y : Yard E) (T : Trails) (D : ℕ → List Deed) : Type 0 where
     pub V : ℕ → ℕ
     pub frames : List Frame
-    pub kept : Kept y T D V frames
+    pub kept : Kept H y T D V frames
 
   -- a turn of sender p
-  module _ (y : Yard E) (T : Trails) (D : ℕ → List Deed) (V : ℕ → ℕ) (frames : List Frame) (k : Kept y T D V frames) (p : ℕ) (c : Core E) (old : y.senders p ≡ Some c) where
+  module _ (H : ℕ → List RecvTurn) (y : Yard E) (T : Trails) (D : ℕ → List Deed) (V : ℕ → ℕ) (frames : List Frame) (k : Kept H y T D V frames) (p : ℕ) (c : Core E) (old : y.senders p ≡ Some c) where
     h : Hall
     h = y.hall
 
@@ -231,11 +235,12 @@ module _ {E : Type 0} (X : Election E) (P : Protocol E (Unit {0}) ℕ) (laws : L
       ready' t held none = k.ready t (k.laid.stage ∙ sym laid'.stage ∙ held) none
 
       -- the sender's part is as it was
-      visit_over : (v : Visit) → y.hall.visits p ≡ v → core_looked X c v got ≡ c → IsGuest (visit_fed v got) c → HasKept (visited X y p c o) trail' same_deeds
+      visit_over : (v : Visit) → y.hall.visits p ≡ v → core_looked X c v got ≡ c → IsGuest (visit_fed v got) c → HasKept H (visited X y p c o) trail' same_deeds
       visit_over v at same is = record {
         V = V;
         frames = frames;
         kept = record {
+          hears = k.hears;
           reached = reached';
           sending = subst (λ s. Sending P x V y.home s y.owners frames) (sym (put_is p (Some (core_looked X c (y.hall.visits p) got)) y.senders (old ∙ ap Some (sym (ap (λ w. core_looked X c w got) at ∙ same))))) k.sending;
           laid = laid';
@@ -249,7 +254,7 @@ module _ {E : Type 0} (X : Election E) (P : Protocol E (Unit {0}) ℕ) (laws : L
       }
 
       -- it begins the tenure
-      visit_begins : (t : ℕ) → y.hall.visits p ≡ Looking t → (got / 2 == t) ≡ true → got / 2 ≡ t → HasKept (visited X y p c o) trail' same_deeds
+      visit_begins : (t : ℕ) → y.hall.visits p ≡ Looking t → (got / 2 == t) ≡ true → got / 2 ≡ t → HasKept H (visited X y p c o) trail' same_deeds
       visit_begins t at told same =
           let v_now : visit_fed (y.hall.visits p) got ≡ Inside t = ap (λ w. visit_fed w got) at ∙ ap (λ b. cond b (Inside t) (Barred t)) told in
           let c_now : core_looked X c (y.hall.visits p) got ≡ core_begun X c t = ap (λ w. core_looked X c w got) at ∙ ap (λ b. cond b (core_begun X c t) c) told in
@@ -260,6 +265,7 @@ module _ {E : Type 0} (X : Election E) (P : Protocol E (Unit {0}) ℕ) (laws : L
             V = V;
             frames = frames;
             kept = record {
+              hears = k.hears;
               reached = reached';
               sending = begins_opened X P laws x ok width starts owner_is V y.home y.senders y.owners frames k.sending p c old 0 V (put p (Some (core_looked X c (y.hall.visits p) got)) y.senders) (put_beside p (Some (core_looked X c (y.hall.visits p) got)) y.senders)
                   e.rests t e.looks (omega arith) e.least e.room (put_here p (Some (core_looked X c (y.hall.visits p) got)) y.senders ∙ ap Some c_now);
@@ -281,7 +287,7 @@ module _ {E : Type 0} (X : Election E) (P : Protocol E (Unit {0}) ℕ) (laws : L
       unelected : (v : Visit) → y.hall.visits p ≡ v → ((t : ℕ) → v ≡ Inside t → ⊥) → (t : ℕ) (e : E) → c.phase ≡ phase.Electing t e → ⊥
       unelected v at out t e i = out t (sym at ∙ guest.electing t e i)
 
-      visit_kept : (v : Visit) → y.hall.visits p ≡ v → HasKept (visited X y p c o) trail' same_deeds
+      visit_kept : (v : Visit) → y.hall.visits p ≡ v → HasKept H (visited X y p c o) trail' same_deeds
       visit_kept Away at = absurd (let bad = sym (ap (λ w. step_at w (presence_at z p) 1) at) ∙ due in cc)
       visit_kept (Entering t) at = visit_over (Entering t) at refl record {
         inside = λ u i. absurd cc;
@@ -309,13 +315,14 @@ module _ {E : Type 0} (X : Election E) (P : Protocol E (Unit {0}) ℕ) (laws : L
       }
 
     -- ---- a step of a sweep
-    sweep_kept : (s : Sweeping) (o : Op) → y.hall.sweep ≡ Some s → sweep_op s ≡ Some o → HasKept (swept y s o) T same_deeds
+    sweep_kept : (s : Sweeping) (o : Op) → y.hall.sweep ≡ Some s → sweep_op s ≡ Some o → HasKept H (swept y s o) T same_deeds
     sweep_kept s o is due =
         let hall' : Hall = record y.hall { words = words_after y.hall o; sweep = Some (sweep_fed s (found y.hall o)) } in
         record {
           V = V;
           frames = frames;
           kept = record {
+            hears = k.hears;
             reached = Then y.hall hall' T T k.reached (Swept y.hall T s o is due);
             sending = k.sending;
             laid = laid_quiet x rows y.hall hall' V (quiet_sweep x rows two y.hall T hall_keeps s is o due) k.laid;
@@ -354,13 +361,14 @@ module _ {E : Type 0} (X : Election E) (P : Protocol E (Unit {0}) ℕ) (laws : L
     module _ (word : ℕ) (answer : Answered) (free : step_at (y.hall.visits p) (presence_at z p) 1 ≡ None) where
       -- nothing happens
       abbrev beside_yard : (ℕ → ℕ) → Visit → Core E → Yard E
-      beside_yard words v c' = record { hall = record { words = words; visits = put p v y.hall.visits; sweep = y.hall.sweep }; home = y.home; senders = put p (Some c') y.senders; owners = y.owners }
+      beside_yard words v c' = record y { hall = record { words = words; visits = put p v y.hall.visits; sweep = y.hall.sweep }; senders = put p (Some c') y.senders }
 
-      idle_kept : (ds : List Deed) → IsPlain ds → PutsNothing ds → HasKept (beside_yard y.hall.words (y.hall.visits p) c) T (deeds_with p ds D)
+      idle_kept : (ds : List Deed) → IsPlain ds → PutsNothing ds → HasKept H (beside_yard y.hall.words (y.hall.visits p) c) T (deeds_with p ds D)
       idle_kept ds plain nothing = record {
         V = V;
         frames = frames;
         kept = record {
+          hears = k.hears;
           reached = subst (λ v. Reached z (record { words = y.hall.words; visits = v; sweep = y.hall.sweep }) T) (sym (put_is p (y.hall.visits p) y.hall.visits refl)) k.reached;
           sending = subst (λ s. Sending P x V y.home s y.owners frames) (sym (put_is p (Some c) y.senders old)) k.sending;
           laid = laid_quiet x rows y.hall (record { words = y.hall.words; visits = put p (y.hall.visits p) y.hall.visits; sweep = y.hall.sweep }) V (quiet_same x rows y.hall (record { words = y.hall.words; visits = put p (y.hall.visits p) y.hall.visits; sweep = y.hall.sweep }) refl refl) k.laid;
@@ -401,10 +409,10 @@ module _ {E : Type 0} (X : Election E) (P : Protocol E (Unit {0}) ℕ) (laws : L
           entering = enters;
         }
 
-        waiting_kept : HasKept (beside_yard y.hall.words Away c) T looked_deeds
-        waiting_kept = subst (λ v. HasKept (beside_yard y.hall.words v c) T looked_deeds) away (idle_kept looked looked_plain looked_nothing)
+        waiting_kept : HasKept H (beside_yard y.hall.words Away c) T looked_deeds
+        waiting_kept = subst (λ v. HasKept H (beside_yard y.hall.words v c) T looked_deeds) away (idle_kept looked looked_plain looked_nothing)
 
-        spent_kept : c.least ≤ stage / 2 → HasKept (beside_yard y.hall.words Away (record c { least = stage / 2 })) T looked_deeds
+        spent_kept : c.least ≤ stage / 2 → HasKept H (beside_yard y.hall.words Away (record c { least = stage / 2 })) T looked_deeds
         spent_kept more =
             let c' : Core E = record c { least = stage / 2 } in
             let visits_same = put_is p Away y.hall.visits away in
@@ -413,6 +421,7 @@ module _ {E : Type 0} (X : Election E) (P : Protocol E (Unit {0}) ℕ) (laws : L
               V = V;
               frames = frames;
               kept = record {
+                hears = k.hears;
                 reached = subst (λ v. Reached z (record { words = y.hall.words; visits = v; sweep = y.hall.sweep }) T) (sym visits_same) k.reached;
                 sending = bus.spends X P laws x ok width V y.home y.senders y.owners frames k.sending p c c' (put p (Some c') y.senders) old (put_here p (Some c') y.senders) (put_beside p (Some c') y.senders) rests rests more
                     record { layout = part.layout; me = part.me; below = part.below; sender = part.sender; queue = part.queue; fits = subst (Fits V frames c') (sym rests) fits };
@@ -424,7 +433,7 @@ module _ {E : Type 0} (X : Election E) (P : Protocol E (Unit {0}) ℕ) (laws : L
               };
             }
 
-        enters_kept : c.least ≤ stage / 2 → stage / 2 < x.rows → HasKept (beside_yard y.hall.words (Entering (stage / 2)) c) T looked_deeds
+        enters_kept : c.least ≤ stage / 2 → stage / 2 < x.rows → HasKept H (beside_yard y.hall.words (Entering (stage / 2)) c) T looked_deeds
         enters_kept more room =
             let t : ℕ = stage / 2 in
             let hall' : Hall = record { words = y.hall.words; visits = put p (Entering t) y.hall.visits; sweep = y.hall.sweep } in
@@ -432,6 +441,7 @@ module _ {E : Type 0} (X : Election E) (P : Protocol E (Unit {0}) ℕ) (laws : L
               V = V;
               frames = frames;
               kept = record {
+                hears = k.hears;
                 reached = Then y.hall hall' T T k.reached (Begins y.hall T p t part.below away);
                 sending = subst (λ s. Sending P x V y.home s y.owners frames) (sym (put_is p (Some c) y.senders old)) k.sending;
                 laid = laid_quiet x rows y.hall hall' V (quiet_same x rows y.hall hall' refl refl) k.laid;
@@ -445,14 +455,14 @@ module _ {E : Type 0} (X : Election E) (P : Protocol E (Unit {0}) ℕ) (laws : L
               };
             }
 
-        looks_kept : HasKept (gone X x rows y p c LooksAtStage word) T looked_deeds
-        looks_kept = subst (λ w. HasKept (beside_yard w (visit_seen c stage) (core_seen c stage)) T looked_deeds) (sym (put_same 1 y.hall.words)) (by_waits (waits c stage) refl)
+        looks_kept : HasKept H (gone X x rows y p c LooksAtStage word) T looked_deeds
+        looks_kept = subst (λ w. HasKept H (beside_yard w (visit_seen c stage) (core_seen c stage)) T looked_deeds) (sym (put_same 1 y.hall.words)) (by_waits (waits c stage) refl)
           where
-            by_room : (b : Bool) → nat_le c.layout.rows (stage / 2) ≡ b → waits c stage ≡ false → HasKept (beside_yard y.hall.words (cond b Away (Entering (stage / 2))) (cond b (record c { least = stage / 2 }) c)) T looked_deeds
+            by_room : (b : Bool) → nat_le c.layout.rows (stage / 2) ≡ b → waits c stage ≡ false → HasKept H (beside_yard y.hall.words (cond b Away (Entering (stage / 2))) (cond b (record c { least = stage / 2 }) c)) T looked_deeds
             by_room true e w = spent_kept (open_stage c stage w).1
             by_room false e w = enters_kept (open_stage c stage w).1 (let a = leb-false c.layout.rows (stage / 2) e in let b = ap (λ (l : Layout). l.rows) part.layout in omega arith)
 
-            by_waits : (b : Bool) → waits c stage ≡ b → HasKept (beside_yard y.hall.words (cond b Away (cond (nat_le c.layout.rows (stage / 2)) Away (Entering (stage / 2)))) (cond b c (cond (nat_le c.layout.rows (stage / 2)) (record c { least = stage / 2 }) c))) T looked_deeds
+            by_waits : (b : Bool) → waits c stage ≡ b → HasKept H (beside_yard y.hall.words (cond b Away (cond (nat_le c.layout.rows (stage / 2)) Away (Entering (stage / 2)))) (cond b c (cond (nat_le c.layout.rows (stage / 2)) (record c { least = stage / 2 }) c))) T looked_deeds
             by_waits true e = waiting_kept
             by_waits false e = by_room (nat_le c.layout.rows (stage / 2)) refl e
 
@@ -518,7 +528,7 @@ module _ {E : Type 0} (X : Election E) (P : Protocol E (Unit {0}) ℕ) (laws : L
           hall_with visits = record { words = put (row_of z t + far) n y.hall.words; visits = visits; sweep = y.hall.sweep }
 
           abbrev done : Visit → Yard E
-          done v = record { hall = hall_with (put p v y.hall.visits); home = y.home; senders = put p (Some c') y.senders; owners = y.owners }
+          done v = record y { hall = hall_with (put p v y.hall.visits); senders = put p (Some c') y.senders }
 
           worked : Reached z (hall_with y.hall.visits) T
           worked = Works y.hall T p t far n k.reached stands low
@@ -535,13 +545,14 @@ module _ {E : Type 0} (X : Election E) (P : Protocol E (Unit {0}) ℕ) (laws : L
               (subst (λ d. Steps d V V' → c' ≡ core_elected c t (X.fed e (number_found V d) word) (X.owner (X.fed e (number_found V d) word)) → TiesOf P x V' (put p (Some c') y.senders) y.owners (deeds_with p (step_deed (X.kind_of e) (Some t) (number_found V d) (X.owner (X.fed e (number_found V d) word)) answer) D)) next
               (ties_on (Elects t e) at V' c') (changes_put o (row_at x t + far) n (sym above) (ap (after o) met_is)) (ap (λ g. core_elected c t (X.fed e g word) (X.owner (X.fed e g word))) met_is))
 
-          done_kept : (v : Visit) → Reached z (hall_with (put p v y.hall.visits)) T → IsGuest v c' → HasKept (done v) T done_deeds
+          done_kept : (v : Visit) → Reached z (hall_with (put p v y.hall.visits)) T → IsGuest v c' → HasKept H (done v) T done_deeds
           done_kept v reached is =
               let laid' = laid_worked x rows y.hall (put p v y.hall.visits) V k.laid t far n bounds.0 low live two in
               record {
                 V = V';
                 frames = frames;
                 kept = record {
+                  hears = k.hears;
                   reached = reached;
                   sending = sending';
                   laid = laid';
@@ -554,8 +565,8 @@ module _ {E : Type 0} (X : Election E) (P : Protocol E (Unit {0}) ℕ) (laws : L
               }
 
           -- it stays in the election
-          stays : visit_elected c t (X.owner later) ≡ Inside t → c' ≡ record c { phase = phase.Electing t later } → HasKept (done (visit_elected c t (X.owner later))) T done_deeds
-          stays v_is c_is = subst (λ v. HasKept (done v) T done_deeds) (sym v_is)
+          stays : visit_elected c t (X.owner later) ≡ Inside t → c' ≡ record c { phase = phase.Electing t later } → HasKept H (done (visit_elected c t (X.owner later))) T done_deeds
+          stays v_is c_is = subst (λ v. HasKept H (done v) T done_deeds) (sym v_is)
               (done_kept (Inside t) (subst (λ v. Reached z (hall_with v) T) (sym (put_is p (Inside t) y.hall.visits stands)) worked)
               (subst (IsGuest (Inside t)) (sym c_is) record {
                 inside = λ u i. (later, ap (λ w. phase.Electing w later) (inside_is t u i));
@@ -564,15 +575,15 @@ module _ {E : Type 0} (X : Election E) (P : Protocol E (Unit {0}) ℕ) (laws : L
               }))
 
           -- it lost it
-          parts : visit_elected c t (X.owner later) ≡ Parting t → c'.phase ≡ phase.Resting → HasKept (done (visit_elected c t (X.owner later))) T done_deeds
-          parts v_is rests = subst (λ v. HasKept (done v) T done_deeds) (sym v_is)
+          parts : visit_elected c t (X.owner later) ≡ Parting t → c'.phase ≡ phase.Resting → HasKept H (done (visit_elected c t (X.owner later))) T done_deeds
+          parts v_is rests = subst (λ v. HasKept H (done v) T done_deeds) (sym v_is)
               (done_kept (Parting t) (Then (hall_with y.hall.visits) (hall_with (put p (Parting t) y.hall.visits)) T T worked (Parts (hall_with y.hall.visits) T p t stands)) record {
                 inside = λ u i. absurd cc;
                 electing = λ u f i. absurd (resting_no_electing u f (sym rests ∙ i));
                 entering = λ u i. absurd (elim i [ inl a ↦ cc | inr a ↦ cc ]);
               })
 
-          by_owner : (owner : Option ℕ) → X.owner later ≡ owner → HasKept (done (visit_elected c t (X.owner later))) T done_deeds
+          by_owner : (owner : Option ℕ) → X.owner later ≡ owner → HasKept H (done (visit_elected c t (X.owner later))) T done_deeds
           by_owner None i = stays (ap (visit_elected c t) i) (ap (core_elected c t later) i)
           by_owner (Some u) i = elim (eqb_tells u c.me) [
             | inl own ↦ stays (ap (visit_elected c t) i ∙ ap (λ b. cond b (Inside t) (Parting t)) own.0)
@@ -584,23 +595,21 @@ module _ {E : Type 0} (X : Election E) (P : Protocol E (Unit {0}) ℕ) (laws : L
         abbrev elected : Option Op → Yard E
         elected d =
             let g = word_found (place_for x rows (Elects t e)) y.hall.words d in
-            record {
+            record y {
               hall = record {
                 words = words_stepped (place_for x rows (Elects t e)) y.hall.words d;
                 visits = put p (visit_elected c t (X.owner (X.fed e g word))) y.hall.visits;
                 sweep = y.hall.sweep;
               };
-              home = y.home;
               senders = put p (Some (core_elected c t (X.fed e g word) (X.owner (X.fed e g word)))) y.senders;
-              owners = y.owners;
             }
 
         abbrev elected_deeds : Option Op → ℕ → List Deed
         elected_deeds d = let g = word_found (place_for x rows (Elects t e)) y.hall.words d in deeds_with p (step_deed (X.kind_of e) (Some t) g (X.owner (X.fed e g word)) answer) D
 
-        elects_kept : is_some (X.owner e) ≡ false → HasKept (gone X x rows y p c (Elects t e) word) T (deeds_with p (going_deeds X x rows y c (Elects t e) word answer) D)
+        elects_kept : is_some (X.owner e) ≡ false → HasKept H (gone X x rows y p c (Elects t e) word) T (deeds_with p (going_deeds X x rows y c (Elects t e) word answer) D)
         elects_kept unowned = elim (some_or_none (X.op e word)) [
-          | inr o ↦ subst (λ d. HasKept (elected d) T (elected_deeds d)) (sym o.1) (by_owner o.0 o.1 (X.owner (X.fed e (y.hall.words (row_of z t + (register o.0 - row_at x t))) word)) refl)
+          | inr o ↦ subst (λ d. HasKept H (elected d) T (elected_deeds d)) (sym o.1) (by_owner o.0 o.1 (X.owner (X.fed e (y.hall.words (row_of z t + (register o.0 - row_at x t))) word)) refl)
           | inl stop ↦ absurd (true≢false (sym (laws.ends e word stop).0 ∙ sym (ap is_some (owner_is e)) ∙ unowned))
         ]
 
@@ -612,7 +621,7 @@ module _ {E : Type 0} (X : Election E) (P : Protocol E (Unit {0}) ℕ) (laws : L
         abbrev hall_taken : (ℕ → Visit) → Hall
         hall_taken visits = record { words = put 1 (2 * t + 1) y.hall.words; visits = visits; sweep = sweep_after z t }
 
-        takes_kept : (u : ℕ) → X.owner e ≡ Some u → HasKept (gone X x rows y p c (TakesPage t) word) T (deeds_with p (going_deeds X x rows y c (TakesPage t) word answer) D)
+        takes_kept : (u : ℕ) → X.owner e ≡ Some u → HasKept H (gone X x rows y p c (TakesPage t) word) T (deeds_with p (going_deeds X x rows y c (TakesPage t) word answer) D)
         takes_kept u own =
             let out : P.output e ≡ Some u = sym (owner_is e) ∙ own in
             let mine : P.output e ≡ Some p = out ∙ ap Some (k.sending.chosen p c t e u old elects out) in
@@ -626,6 +635,7 @@ module _ {E : Type 0} (X : Election E) (P : Protocol E (Unit {0}) ℕ) (laws : L
               V = put 1 (2 * t + 1) V;
               frames = frames;
               kept = record {
+                hears = k.hears;
                 reached = Then (hall_taken y.hall.visits) (hall_taken (put p (Parting t) y.hall.visits)) T T (Then y.hall (hall_taken y.hall.visits) T T k.reached (Takes y.hall T p t stands open_now)) (Parts (hall_taken y.hall.visits) T p t stands);
                 sending = turn_on (TakesPage t) at (put 1 (2 * t + 1) V) taker (changes_put (Store record { 0 = 1 } (2 * t + 1)) 1 (2 * t + 1) refl refl) refl;
                 ties = subst (λ g. TiesOf P x (put 1 (2 * t + 1) V) (put p (Some taker) y.senders) (y.owners ++ p ∷ []) (deeds_with p (Stepped (Some t) kind.TakePage g None answer ∷ []) D)) (sym k.laid.stage)
@@ -685,11 +695,12 @@ module _ {E : Type 0} (X : Election E) (P : Protocol E (Unit {0}) ℕ) (laws : L
               let within = turn_within X P laws x ok width starts owner_is V y.home y.senders y.owners frames k.sending p c old word V y.senders (λ q ne. refl) (Store record { 0 = r } number) (ap (λ s. op_at X c s word) at) in
               omega arith
 
-          stores_kept : HasKept (gone X x rows y p c (StoresWord t page stored) word) T (deeds_with p (going_deeds X x rows y c (StoresWord t page stored) word answer) D)
+          stores_kept : HasKept H (gone X x rows y p c (StoresWord t page stored) word) T (deeds_with p (going_deeds X x rows y c (StoresWord t page stored) word answer) D)
           stores_kept = record {
             V = put (log_at x + spot) number V;
             frames = frames;
             kept = record {
+              hears = k.hears;
               reached = subst (λ v. Reached z (record { words = put (log_from x rows + spot) number y.hall.words; visits = v; sweep = y.hall.sweep }) T) (sym visits_same)
                   (Then y.hall (record y.hall { words = put (log_from x rows + spot) number y.hall.words }) T T k.reached (Stores y.hall T (log_from x rows + spot) number (inr (omega arith))));
               sending = turn_on (StoresWord t page stored) at (put (log_at x + spot) number V) writer (changes_put (Store record { 0 = r } number) (log_at x + spot) number (sym spot_is) refl) refl;
@@ -703,7 +714,7 @@ module _ {E : Type 0} (X : Election E) (P : Protocol E (Unit {0}) ℕ) (laws : L
           }
 
         -- it stores the length
-        tells_kept : published ≡ false → situation_of X c ≡ StoresLength t page stored → HasKept (gone X x rows y p c (StoresLength t page stored) word) T (deeds_with p (going_deeds X x rows y c (StoresLength t page stored) word answer) D)
+        tells_kept : published ≡ false → situation_of X c ≡ StoresLength t page stored → HasKept H (gone X x rows y p c (StoresLength t page stored) word) T (deeds_with p (going_deeds X x rows y c (StoresLength t page stored) word answer) D)
         tells_kept unpublished at =
             let n = page.words + frame_len c in
             let c' : Core E = record c { phase = phase.Holding t page stored true } in
@@ -711,6 +722,7 @@ module _ {E : Type 0} (X : Election E) (P : Protocol E (Unit {0}) ℕ) (laws : L
               V = put 0 n V;
               frames = frames_after X c (StoresLength t page stored) frames;
               kept = record {
+                hears = all_after x rows y.receivers frames (frame_of c.queue t) H k.hears;
                 reached = subst (λ v. Reached z (record { words = put 0 n y.hall.words; visits = v; sweep = y.hall.sweep }) T) (sym visits_same)
                     (Then y.hall (record y.hall { words = put 0 n y.hall.words }) T T k.reached (Stores y.hall T 0 n (inl (omega arith))));
                 sending = turn_on (StoresLength t page stored) at (put 0 n V) c' (changes_put (Store record { 0 = 0 } n) 0 n refl refl) refl;
@@ -729,7 +741,7 @@ module _ {E : Type 0} (X : Election E) (P : Protocol E (Unit {0}) ℕ) (laws : L
             }
 
         -- it gives the page back, where the row of the next tenure is ready
-        gives_kept : (reason : Reason) → situation_of X c ≡ GivesBack t page reason → ((s : Sweeping) → y.hall.sweep ≡ Some s → sweep_op s ≡ None) → HasKept (gone X x rows y p c (GivesBack t page reason) word) T (deeds_with p (going_deeds X x rows y c (GivesBack t page reason) word answer) D)
+        gives_kept : (reason : Reason) → situation_of X c ≡ GivesBack t page reason → ((s : Sweeping) → y.hall.sweep ≡ Some s → sweep_op s ≡ None) → HasKept H (gone X x rows y p c (GivesBack t page reason) word) T (deeds_with p (going_deeds X x rows y c (GivesBack t page reason) word answer) D)
         gives_kept reason at swept =
             let c' : Core E = core_at_rest c reason t in
             let is_ready : IsReady z t y.hall.sweep = by_sweep y.hall.sweep refl in
@@ -737,6 +749,7 @@ module _ {E : Type 0} (X : Election E) (P : Protocol E (Unit {0}) ℕ) (laws : L
               V = put 1 (2 * t + 2) V;
               frames = frames;
               kept = record {
+                hears = k.hears;
                 reached = subst (λ v. Reached z (record { words = put 1 (2 * t + 2) y.hall.words; visits = v; sweep = None }) T) (sym visits_same)
                     (Then y.hall (record y.hall { words = put 1 (2 * t + 2) y.hall.words; sweep = None }) T T k.reached (GaveBack y.hall T t stage_held is_ready));
                 sending = turn_on (GivesBack t page reason) at (put 1 (2 * t + 2) V) c' (changes_put (Store record { 0 = 1 } (2 * t + 2)) 1 (2 * t + 2) refl refl) refl;
@@ -753,7 +766,7 @@ module _ {E : Type 0} (X : Election E) (P : Protocol E (Unit {0}) ℕ) (laws : L
             by_sweep (Some s) e = swept_is s (swept s e)
 
       -- ---- any situation
-      goes_kept : (zz : Situation E) → situation_of X c ≡ zz → ((t : ℕ) (page : Page) (reason : Reason) → zz ≡ GivesBack t page reason → (s : Sweeping) → y.hall.sweep ≡ Some s → sweep_op s ≡ None) → HasKept (gone X x rows y p c zz word) T (deeds_with p (going_deeds X x rows y c zz word answer) D)
+      goes_kept : (zz : Situation E) → situation_of X c ≡ zz → ((t : ℕ) (page : Page) (reason : Reason) → zz ≡ GivesBack t page reason → (s : Sweeping) → y.hall.sweep ≡ Some s → sweep_op s ≡ None) → HasKept H (gone X x rows y p c zz word) T (deeds_with p (going_deeds X x rows y c zz word answer) D)
       goes_kept IsClosed at swept = idle_kept [] plain_none nothing_put
       goes_kept IsIdle at swept = idle_kept [] plain_none nothing_put
       goes_kept IsSpent at swept = idle_kept [] plain_none nothing_put
@@ -772,7 +785,7 @@ module _ {E : Type 0} (X : Election E) (P : Protocol E (Unit {0}) ℕ) (laws : L
 
     -- ---- any turn
     abbrev KeptDue : ℕ → Answered → Due E → Type 0
-    KeptDue word answer d = HasKept (yard_after X x rows y p c d word) (trails_with y p d T) (deeds_with p (due_deeds X x rows y c d word answer) D)
+    KeptDue word answer d = HasKept H (yard_after X x rows y p c d word) (trails_with y p d T) (deeds_with p (due_deeds X x rows y c d word answer) D)
 
     turn_kept : (word : ℕ) (answer : Answered) → KeptDue word answer (due_in X x rows y p c)
     turn_kept word answer = by_visit (step_at (y.hall.visits p) (presence_at z p) 1) refl
@@ -812,11 +825,12 @@ module _ {E : Type 0} (X : Election E) (P : Protocol E (Unit {0}) ℕ) (laws : L
     accepted_deeds (Puts bytes) = cond (can_put c.queue (length bytes)) (HasPut (next_of c.queue) bytes ∷ []) []
     accepted_deeds Closes = cond (can_close c.queue) (HasClosed ∷ []) []
 
-    accept_kept : (a : Accepted) → AreAccepted (a ∷ []) → y.hall.visits p ≡ Away → HasKept (record y { senders = put p (Some (accept c a)) y.senders }) T (deeds_with p (accepted_deeds a) D)
+    accept_kept : (a : Accepted) → AreAccepted (a ∷ []) → y.hall.visits p ≡ Away → HasKept H (record y { senders = put p (Some (accept c a)) y.senders }) T (deeds_with p (accepted_deeds a) D)
     accept_kept a good away = record {
       V = V;
       frames = frames;
       kept = record {
+        hears = k.hears;
         reached = k.reached;
         sending = grows X P laws x ok width V y.home y.owners frames p (a ∷ []) good y.senders k.sending c old (put p (Some (accept c a)) y.senders) (put_beside p (Some (accept c a)) y.senders) (put_here p (Some (accept c a)) y.senders);
         laid = k.laid;
@@ -878,7 +892,7 @@ module _ {E : Type 0} (X : Election E) (P : Protocol E (Unit {0}) ℕ) (laws : L
   nothing_waits None none = refl
   nothing_waits (Some c) none = sym (none c refl)
 
-  start_tables : (y : Yard E) → IsNewYard x y → Tables P x (λ r. 0) y.senders no_deeds
+  start_tables : (y : Yard E) → IsNewYard x rows y → Tables P x (λ r. 0) y.senders no_deeds
   start_tables y new = record {
     elections = λ t p. None;
     kept = λ t l. laws.fresh x.senders (2 + t * P.width x.senders) (λ r. 0) (λ r u v. refl);
@@ -889,11 +903,12 @@ module _ {E : Type 0} (X : Election E) (P : Protocol E (Unit {0}) ℕ) (laws : L
     only_elected = λ t s o a. absurd (none_in a.place _ a.at);
   }
 
-  start_kept : (y : Yard E) → IsNewYard x y → HasKept y no_trails no_deeds
+  start_kept : (y : Yard E) → IsNewYard x rows y → HasKept no_answers y no_trails no_deeds
   start_kept y new = record {
     V = λ r. 0;
     frames = [];
     kept = record {
+      hears = all_new x rows y.receivers new.receivers;
       reached = subst (λ w. Reached z w no_trails) (sym new.hall) New;
       sending = subst (λ w. Sending P x (λ r. 0) w y.senders y.owners []) (sym new.home) (subst (λ w. Sending P x (λ r. 0) (Some new_page) y.senders w []) (sym new.owners)
           (new_sending X P laws x ok (λ r. 0) (λ r. refl) y.senders new.senders));
@@ -916,25 +931,47 @@ module _ {E : Type 0} (X : Election E) (P : Protocol E (Unit {0}) ℕ) (laws : L
     };
   }
 
+  -- ---- a turn of a receiver
+  heard_kept : (H : ℕ → List RecvTurn) (y : Yard E) (T : Trails) (D : ℕ → List Deed) → HasKept H y T D → (r : ℕ) (v next : Receiving) (answer : RecvTurn) → y.receivers r ≡ Some v → RecvDoes y.hall.words v answer next
+      → HasKept (answers_with r answer H) (record y { receivers = put r (Some next) y.receivers }) T D
+  heard_kept H y T D has r v next answer at does =
+      let k = has.kept in
+      record {
+        V = has.V;
+        frames = has.frames;
+        kept = record {
+          hears = one_hears x rows has.frames y.receivers H k.hears r v next answer at (λ h. turn_hears x rows has.frames y.hall.words has.V k.sending.log k.laid.length k.laid.log v (H r) h answer next does);
+          reached = k.reached;
+          sending = k.sending;
+          laid = k.laid;
+          ties = k.ties;
+          notes = k.notes;
+          guests = k.guests;
+          ready = k.ready;
+        };
+      }
+
   -- ---- whatever happens
-  pub led_kept : (y : Yard E) (T : Trails) (D : ℕ → List Deed) → Led X x rows y T D → HasKept y T D
-  led_kept y T D (NewYard w new) = start_kept w new
-  led_kept y T D (Turned w U F p c word answer before old) = let k = led_kept w U F before in turn_kept w U F k.V k.frames k.kept p c old word answer
-  led_kept y T D (PutIn w U F p c bytes before old away small) = let k = led_kept w U F before in accept_kept w U F k.V k.frames k.kept p c old (Puts bytes) (small, tt) away
-  led_kept y T D (ClosedIn w U F p c before old away) = let k = led_kept w U F before in accept_kept w U F k.V k.frames k.kept p c old Closes tt away
+  pub led_kept : (H : ℕ → List RecvTurn) (y : Yard E) (T : Trails) (D : ℕ → List Deed) → Led X x rows y T D H → HasKept H y T D
+  led_kept H y T D (NewYard w new) = start_kept w new
+  led_kept H y T D (Turned w U F J p c word answer before old) = let k = led_kept J w U F before in turn_kept J w U F k.V k.frames k.kept p c old word answer
+  led_kept H y T D (PutIn w U F J p c bytes before old away small) = let k = led_kept J w U F before in accept_kept J w U F k.V k.frames k.kept p c old (Puts bytes) (small, tt) away
+  led_kept H y T D (ClosedIn w U F J p c before old away) = let k = led_kept J w U F before in accept_kept J w U F k.V k.frames k.kept p c old Closes tt away
+  led_kept H y T D (Heard w U F J r v next answer before at does) = heard_kept J w U F (led_kept J w U F before) r v next answer at does
 
   -- ---- what is promised
   words_read : (n : ℕ) (w v : ℕ → ℕ) (a b : ℕ) → ((j : ℕ) → j < n → w (a + j) ≡ v (b + j)) → read w a n ≡ read v b n
   words_read zero w v a b same = refl
   words_read (suc n) w v a b same = ap (λ r. r ++ w (a + n) ∷ []) (words_read n w v a b (λ j l. same j (omega arith))) ∙ ap (λ r. read v b n ++ r ∷ []) (same n (omega arith))
 
-  pub yard_promised : (y : Yard E) (T : Trails) (D : ℕ → List Deed) → Led X x rows y T D → IsKeptYard X x rows y T D
-  yard_promised y T D led =
-      let k = led_kept y T D led in
+  pub yard_promised : (y : Yard E) (T : Trails) (D : ℕ → List Deed) (H : ℕ → List RecvTurn) → Led X x rows y T D H → IsKeptYard X x rows y T D H
+  yard_promised y T D H led =
+      let k = led_kept H y T D led in
       let h = k.kept in
       let lawful = h.sending.log.lawful in
       let tables = h.ties.tables in
       let takers = h.ties.takers in
+      let told = told_in x rows y.receivers k.frames H h.hears in
       let one : (t : ℕ) → t < x.rows → OneOwner (inputs P (tables.elections t)) (outputs P (tables.elections t)) = λ t l. laws.outcome x.senders (2 + t * P.width x.senders) k.V (tables.elections t) (tables.kept t l) in
       record {
         order = order_of k.frames;
@@ -967,14 +1004,14 @@ module _ {E : Type 0} (X : Election E) (P : Protocol E (Unit {0}) ℕ) (laws : L
             owned = λ j t o e. takers.took t o.0 (owner_took y.owners k.frames h.sending.owned j t o e);
             rising = λ i j t u o p e g l. rise x.senders 0 k.frames lawful i j t u o p e g l;
             framed = framed x.senders 0 k.frames lawful;
-            delivered = λ r. given_is_prefix x.senders k.frames 0 lawful;
-            told = λ r. record { rest = map tenure_and_owner k.frames; together = refl };
+            delivered = λ r. delivered_to x.senders k.frames lawful _ (H r) (told r);
+            told = λ r. heads_to k.frames _ (H r) (told r);
             faithful = record {
               numbered = λ s q i e. counted_from 0 (of_sender s (order_of k.frames)) q i (h.sending.log.counted s) refl e;
               messages = λ s. subst (IsPrefix (sent_by k.frames s)) (sym (h.notes.put s)) (record { rest = waiting_of (y.senders s); together = refl });
             };
             numbered = h.notes.counted;
-            silent = λ r j m a e l f. absurd (none_in m _ f);
+            silent = λ r. silent_to k.frames _ (H r) (told r);
             closed = λ e.
                 let l = last_frame x.senders 0 k.frames lawful e in
                 record {
@@ -995,9 +1032,9 @@ module _ {E : Type 0} (X : Election E) (x : Layout) (rows : ℕ) where
 
   pub yards_refused : YardRefuses X x rows
   yards_refused = record {
-    enters_without_presence = λ y T D p c t e old elects none kept. let s = kept.by.stands p c t e old elects in nowhere s.entered _ (ap (λ w. slice_get w s.entered) (sym none) ∙ s.enters);
-    two_tenures_of_a_row = λ y T D p q c d t u e f old elects other runs row apart kept. apart (kept.by.safe.alone p q t u (kept.by.stands p c t e old elects) (kept.by.stands q d u f other runs) row);
-    holds_without_sweep = λ y T D t held used none kept. (let l = kept.by.ready t held none in omega arith);
-    two_owners = λ y T D t s s' o o' e f apart kept. apart (kept.by.promises.one_owner t s s' o o' e f);
-    owner_without_page = λ y T D t s owns none kept. let took = kept.by.takers.took t s owns in none_in took.0 _ (ap (λ w. slice_get w took.0) (sym none) ∙ took.1.at);
+    enters_without_presence = λ y T D H p c t e old elects none kept. let s = kept.by.stands p c t e old elects in nowhere s.entered _ (ap (λ w. slice_get w s.entered) (sym none) ∙ s.enters);
+    two_tenures_of_a_row = λ y T D H p q c d t u e f old elects other runs row apart kept. apart (kept.by.safe.alone p q t u (kept.by.stands p c t e old elects) (kept.by.stands q d u f other runs) row);
+    holds_without_sweep = λ y T D H t held used none kept. (let l = kept.by.ready t held none in omega arith);
+    two_owners = λ y T D H t s s' o o' e f apart kept. apart (kept.by.promises.one_owner t s s' o o' e f);
+    owner_without_page = λ y T D H t s owns none kept. let took = kept.by.takers.took t s owns in none_in took.0 _ (ap (λ w. slice_get w took.0) (sym none) ∙ took.1.at);
   }

@@ -145,6 +145,10 @@ new_core x p = record { layout = x; me = p; queue = record { sender = record { 0
 abbrev pub no_stops : List Bool
 no_stops = replicate MOST_SENDERS false
 
+-- a receiver that has read nothing, of the log that begins at this place
+abbrev pub IsNewReceiver : Layout → ℕ → Receiving → Type 0
+IsNewReceiver x at v = (v.frames.senders ≡ x.senders) × (v.log_at ≡ at) × (v.length_at ≡ 0) × (v.log_words ≡ x.capacity) × (v.known ≡ 0) × (v.place ≡ 0) × (v.ended ≡ false) × HasRead x.senders [] [] v.frames
+
 -- words of zero, the page at home, senders and receivers at their starts, none of which has stopped
 pub record IsNew {E : Type 0} (x : Layout) (bus : Bus E) : Type 0 where
   pub words : bus.side.words ≡ replicate (words_of x) 0
@@ -152,4 +156,4 @@ pub record IsNew {E : Type 0} (x : Layout) (bus : Bus E) : Type 0 where
   pub senders : (p : ℕ) (c : Core E) → slice_get bus.side.senders p ≡ Some c → (p < x.senders) × (c ≡ new_core x p)
   pub owners : bus.side.owners ≡ []
   pub stopped : bus.stopped ≡ no_stops
-  pub receivers : (r : ℕ) (v : Receiving) → slice_get bus.receivers r ≡ Some v → (v.frames.senders ≡ x.senders) × (v.log_at ≡ log_at x) × (v.length_at ≡ 0) × (v.log_words ≡ x.capacity) × (v.known ≡ 0) × (v.place ≡ 0) × (v.ended ≡ false) × HasRead x.senders [] [] v.frames
+  pub receivers : (r : ℕ) (v : Receiving) → slice_get bus.receivers r ≡ Some v → IsNewReceiver x (log_at x) v

@@ -1,5 +1,5 @@
--- Senders of a bus whose rows are used again, in any order: the hall of their visits and of the sweep, whose words are those of the bus,
--- with the page, the senders and who took the pages. Tenure t uses row t mod rows.
+-- Senders and receivers of a bus whose rows are used again, in any order: the hall of the visits and of the sweep, whose words are those
+-- of the bus, with the page, the senders, the receivers and who took the pages. Tenure t uses row t mod rows.
 use Rattle.std.specs.Prelude.{◌≡◌, ◌≢◌, ℕ, ◌+◌, ◌*◌, ◌%◌, ◌<◌, ◌≤◌, Option, Some, None, List, [], ◌∷◌, ◌++◌, All, length, slice_get, ◌==◌, if◌then◌else◌}
 use Rattle.bus_register.specs.declared.registers.Op.{Op}
 use Rattle.bus_register.specs.declared.registers.SenderNo.{SenderNo}
@@ -7,6 +7,7 @@ use Rattle.bus_register.specs.Words.{register, after}
 use Rattle.bus_register.specs.Tables.{put}
 use Rattle.bus_batch.specs.Batches.{next_of}
 use Rattle.bus_batch.specs.Frames.{Order, Spells}
+use Rattle.bus_deliverylog.specs.Receiving.{Receiving}
 use Rattle.bus_deliverylog.specs.declared.receiving.RecvTurn.{RecvTurn}
 use Rattle.bus_presence.specs.Visits.{visit_fed}
 use Rattle.bus_presence.specs.Standing.{IsSafe, Stands}
@@ -23,12 +24,13 @@ use Rattle.bus_world.specs.Turning.{core_moved, after_step, home_after, owners_a
 use Rattle.bus_world.specs.Headline.{Deed, HasPut, HasClosed, Elected, Promises}
 use Rattle.bus_world.specs.Log.{read}
 use Rattle.bus_world.specs.Trails.{step_deed, Takers}
-use Rattle.bus_world.specs.World.{new_page, new_core, can_put, can_close, put_in, close_in}
+use Rattle.bus_world.specs.World.{new_page, new_core, IsNewReceiver, RecvDoes, can_put, can_close, put_in, close_in}
 
 pub record Yard (E : Type 0) : Type 0 where
   pub hall : Hall
   pub home : Option Page
   pub senders : ℕ → Option (Core E)
+  pub receivers : ℕ → Option Receiving
   -- who took the page, by tenure
   pub owners : List ℕ
 
@@ -43,11 +45,9 @@ word_found place words (Some o) = words (place (register o))
 
 -- ---- a turn of sender p, which held this, with this random word
 abbrev pub visited : {E : Type 0} → Election E → Yard E → ℕ → Core E → Op → Yard E
-visited X y p c o = record {
+visited X y p c o = record y {
   hall = record y.hall { words = hall_words y.hall o; visits = put p (visit_fed (y.hall.visits p) (found y.hall o)) y.hall.visits };
-  home = y.home;
   senders = put p (Some (core_looked X c (y.hall.visits p) (found y.hall o))) y.senders;
-  owners = y.owners;
 }
 
 abbrev pub swept : {E : Type 0} → Yard E → Sweeping → Op → Yard E
@@ -55,7 +55,7 @@ swept y s o = record y { hall = record y.hall { words = hall_words y.hall o; swe
 
 -- as a sender that has a row for each tenure, in this situation
 abbrev pub gone : {E : Type 0} → Election E → Layout → ℕ → Yard E → ℕ → Core E → Situation E → ℕ → Yard E
-gone X x rows y p c z word = record {
+gone X x rows y p c z word = record y {
   hall = record {
     words = words_stepped (place_for x rows z) y.hall.words (op_at X c z word);
     visits = put p (visit_going X c (y.hall.visits p) z (word_found (place_for x rows z) y.hall.words (op_at X c z word)) word) y.hall.visits;
@@ -95,36 +95,42 @@ deeds_with p ds D q = D q ++ (if q == p then ds else [])
 abbrev pub no_deeds : ℕ → List Deed
 no_deeds q = []
 
--- there is no receiver
-abbrev pub nobody_hears : ℕ → List RecvTurn
-nobody_hears r = []
+abbrev pub no_answers : ℕ → List RecvTurn
+no_answers r = []
+
+-- this answer joins the trail of receiver r
+abbrev pub answers_with : ℕ → RecvTurn → (ℕ → List RecvTurn) → ℕ → List RecvTurn
+answers_with r answer H q = H q ++ (if q == r then answer ∷ [] else [])
 
 -- ---- what leads to a yard
--- nothing has happened: words of zero, the page at home, senders at their starts
-pub record IsNewYard {E : Type 0} (x : Layout) (y : Yard E) : Type 0 where
+-- nothing has happened: words of zero, the page at home, senders and receivers at their starts
+pub record IsNewYard {E : Type 0} (x : Layout) (rows : ℕ) (y : Yard E) : Type 0 where
   pub hall : y.hall ≡ new_hall
   pub home : y.home ≡ Some new_page
   pub senders : (p : ℕ) (c : Core E) → y.senders p ≡ Some c → (p < x.senders) × (c ≡ new_core x p)
+  pub receivers : (r : ℕ) (v : Receiving) → y.receivers r ≡ Some v → IsNewReceiver x (log_from x rows) v
   pub owners : y.owners ≡ []
 
 -- the turn that sender p takes next, which holds this
 abbrev pub due_in : {E : Type 0} → Election E → Layout → ℕ → Yard E → ℕ → Core E → Due E
 due_in X x rows y p c = due_of X x rows p c (y.hall.visits p) y.hall.sweep
 
--- These trails and deeds lead to a yard: from a new one, by one thing after another, of any sender and in any order. A sender takes a
--- turn with any random word; or one that visits no tenure puts a message, or closes.
-pub data Led {E : Type 0} (X : Election E) (x : Layout) (rows : ℕ) : Yard E → Trails → (ℕ → List Deed) → Type 0 where
-  NewYard : (y : Yard E) → IsNewYard x y → Led X x rows y no_trails no_deeds
-  Turned : (y : Yard E) (T : Trails) (D : ℕ → List Deed) (p : ℕ) (c : Core E) (word : ℕ) (answer : Answered) → Led X x rows y T D → y.senders p ≡ Some c
-      → Led X x rows (yard_after X x rows y p c (due_in X x rows y p c) word) (trails_with y p (due_in X x rows y p c) T) (deeds_with p (due_deeds X x rows y c (due_in X x rows y p c) word answer) D)
-  PutIn : (y : Yard E) (T : Trails) (D : ℕ → List Deed) (p : ℕ) (c : Core E) (bytes : List ℕ) → Led X x rows y T D → y.senders p ≡ Some c → y.hall.visits p ≡ Away → All (λ byte. byte < 256) bytes
-      → Led X x rows (record y { senders = put p (Some (put_in c bytes)) y.senders }) T (deeds_with p (if can_put c.queue (length bytes) then HasPut (next_of c.queue) bytes ∷ [] else []) D)
-  ClosedIn : (y : Yard E) (T : Trails) (D : ℕ → List Deed) (p : ℕ) (c : Core E) → Led X x rows y T D → y.senders p ≡ Some c → y.hall.visits p ≡ Away
-      → Led X x rows (record y { senders = put p (Some (close_in c)) y.senders }) T (deeds_with p (if can_close c.queue then HasClosed ∷ [] else []) D)
+-- These trails, deeds and answers lead to a yard: from a new one, by one thing after another, of anybody and in any order. A sender takes
+-- a turn with any random word; or one that visits no tenure puts a message, or closes; or a receiver takes a turn.
+pub data Led {E : Type 0} (X : Election E) (x : Layout) (rows : ℕ) : Yard E → Trails → (ℕ → List Deed) → (ℕ → List RecvTurn) → Type 0 where
+  NewYard : (y : Yard E) → IsNewYard x rows y → Led X x rows y no_trails no_deeds no_answers
+  Turned : (y : Yard E) (T : Trails) (D : ℕ → List Deed) (H : ℕ → List RecvTurn) (p : ℕ) (c : Core E) (word : ℕ) (answer : Answered) → Led X x rows y T D H → y.senders p ≡ Some c
+      → Led X x rows (yard_after X x rows y p c (due_in X x rows y p c) word) (trails_with y p (due_in X x rows y p c) T) (deeds_with p (due_deeds X x rows y c (due_in X x rows y p c) word answer) D) H
+  PutIn : (y : Yard E) (T : Trails) (D : ℕ → List Deed) (H : ℕ → List RecvTurn) (p : ℕ) (c : Core E) (bytes : List ℕ) → Led X x rows y T D H → y.senders p ≡ Some c → y.hall.visits p ≡ Away → All (λ byte. byte < 256) bytes
+      → Led X x rows (record y { senders = put p (Some (put_in c bytes)) y.senders }) T (deeds_with p (if can_put c.queue (length bytes) then HasPut (next_of c.queue) bytes ∷ [] else []) D) H
+  ClosedIn : (y : Yard E) (T : Trails) (D : ℕ → List Deed) (H : ℕ → List RecvTurn) (p : ℕ) (c : Core E) → Led X x rows y T D H → y.senders p ≡ Some c → y.hall.visits p ≡ Away
+      → Led X x rows (record y { senders = put p (Some (close_in c)) y.senders }) T (deeds_with p (if can_close c.queue then HasClosed ∷ [] else []) D) H
+  Heard : (y : Yard E) (T : Trails) (D : ℕ → List Deed) (H : ℕ → List RecvTurn) (r : ℕ) (v next : Receiving) (answer : RecvTurn) → Led X x rows y T D H → y.receivers r ≡ Some v → RecvDoes y.hall.words v answer next
+      → Led X x rows (record y { receivers = put r (Some next) y.receivers }) T D (answers_with r answer H)
 
 -- ---- what is promised of it
--- of its trails and deeds, with one order and one list of tenures and owners
-pub record KeepsPromises {E : Type 0} (X : Election E) (x : Layout) (rows : ℕ) (y : Yard E) (T : Trails) (D : ℕ → List Deed) (order : Order) (owners : List (ℕ × SenderNo)) : Type 0 where
+-- of its trails, deeds and answers, with one order and one list of tenures and owners
+pub record KeepsPromises {E : Type 0} (X : Election E) (x : Layout) (rows : ℕ) (y : Yard E) (T : Trails) (D : ℕ → List Deed) (H : ℕ → List RecvTurn) (order : Order) (owners : List (ℕ × SenderNo)) : Type 0 where
   -- its trails lead to its hall by moves of a hall: so no row is cleared while somebody stands in a tenure of it, ..
   pub reached : Reached (sizes_with x rows) y.hall T
   pub safe : IsSafe (sizes_with x rows) y.hall T
@@ -138,24 +144,24 @@ pub record KeepsPromises {E : Type 0} (X : Election E) (x : Layout) (rows : ℕ)
   pub takers : Takers y.owners D
   -- the words below the length spell the order and the owners
   pub spelled : Spells x.senders (read y.hall.words (log_from x rows) (y.hall.words 0)) order owners
-  -- the headline's promise, also of tenures whose rows have gone on to others; of receivers nothing is said here
-  pub promises : Promises D nobody_hears order owners
+  -- the headline's promise, also of tenures whose rows have gone on to others
+  pub promises : Promises D H order owners
 
-pub record IsKeptYard {E : Type 0} (X : Election E) (x : Layout) (rows : ℕ) (y : Yard E) (T : Trails) (D : ℕ → List Deed) : Type 0 where
+pub record IsKeptYard {E : Type 0} (X : Election E) (x : Layout) (rows : ℕ) (y : Yard E) (T : Trails) (D : ℕ → List Deed) (H : ℕ → List RecvTurn) : Type 0 where
   pub order : Order
   pub owners : List (ℕ × SenderNo)
-  pub by : KeepsPromises X x rows y T D order owners
+  pub by : KeepsPromises X x rows y T D H order owners
 
 -- ---- what is no such yard
 pub record YardRefuses {E : Type 0} (X : Election E) (x : Layout) (rows : ℕ) : Type 0 where
   -- the election of a tenure runs of a sender that has stored no presence
-  pub enters_without_presence : (y : Yard E) (T : Trails) (D : ℕ → List Deed) (p : ℕ) (c : Core E) (t : ℕ) (e : E) → y.senders p ≡ Some c → c.phase ≡ Electing t e → T p ≡ [] → ¬ IsKeptYard X x rows y T D
+  pub enters_without_presence : (y : Yard E) (T : Trails) (D : ℕ → List Deed) (H : ℕ → List RecvTurn) (p : ℕ) (c : Core E) (t : ℕ) (e : E) → y.senders p ≡ Some c → c.phase ≡ Electing t e → T p ≡ [] → ¬ IsKeptYard X x rows y T D H
   -- elections of two tenures of one row run
-  pub two_tenures_of_a_row : (y : Yard E) (T : Trails) (D : ℕ → List Deed) (p q : ℕ) (c d : Core E) (t u : ℕ) (e f : E) → y.senders p ≡ Some c → c.phase ≡ Electing t e → y.senders q ≡ Some d → d.phase ≡ Electing u f
-      → t % rows ≡ u % rows → t ≢ u → ¬ IsKeptYard X x rows y T D
+  pub two_tenures_of_a_row : (y : Yard E) (T : Trails) (D : ℕ → List Deed) (H : ℕ → List RecvTurn) (p q : ℕ) (c d : Core E) (t u : ℕ) (e f : E) → y.senders p ≡ Some c → c.phase ≡ Electing t e → y.senders q ≡ Some d → d.phase ≡ Electing u f
+      → t % rows ≡ u % rows → t ≢ u → ¬ IsKeptYard X x rows y T D H
   -- the page of a tenure is out that has used each row, and nobody sweeps
-  pub holds_without_sweep : (y : Yard E) (T : Trails) (D : ℕ → List Deed) (t : ℕ) → y.hall.words stage_at ≡ 2 * t + 1 → rows ≤ t + 1 → y.hall.sweep ≡ None → ¬ IsKeptYard X x rows y T D
+  pub holds_without_sweep : (y : Yard E) (T : Trails) (D : ℕ → List Deed) (H : ℕ → List RecvTurn) (t : ℕ) → y.hall.words stage_at ≡ 2 * t + 1 → rows ≤ t + 1 → y.hall.sweep ≡ None → ¬ IsKeptYard X x rows y T D H
   -- senders saw the election of one tenure end with two owners
-  pub two_owners : (y : Yard E) (T : Trails) (D : ℕ → List Deed) (t s s' o o' : ℕ) → Elected (D s) t o → Elected (D s') t o' → o ≢ o' → ¬ IsKeptYard X x rows y T D
+  pub two_owners : (y : Yard E) (T : Trails) (D : ℕ → List Deed) (H : ℕ → List RecvTurn) (t s s' o o' : ℕ) → Elected (D s) t o → Elected (D s') t o' → o ≢ o' → ¬ IsKeptYard X x rows y T D H
   -- an owner of the list took no page
-  pub owner_without_page : (y : Yard E) (T : Trails) (D : ℕ → List Deed) (t s : ℕ) → slice_get y.owners t ≡ Some s → D s ≡ [] → ¬ IsKeptYard X x rows y T D
+  pub owner_without_page : (y : Yard E) (T : Trails) (D : ℕ → List Deed) (H : ℕ → List RecvTurn) (t s : ℕ) → slice_get y.owners t ≡ Some s → D s ≡ [] → ¬ IsKeptYard X x rows y T D H

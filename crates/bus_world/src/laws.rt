@@ -1,6 +1,7 @@
 //! What holds of the bus, whatever happens to it.
 
 ghost use Rattle.std.specs.Prelude.{◌≡◌, ◌≤◌, ℕ, List};
+ghost use Rattle.bus_deliverylog.specs.declared.receiving.RecvTurn.{RecvTurn};
 ghost use Rattle.bus_tenure.specs.Elections.{Elector, election_of, layout_with};
 ghost use Rattle.bus_world.specs.Bus.{IsLayout};
 ghost use Rattle.bus_world.specs.Playing.{AllAnswered};
@@ -46,19 +47,20 @@ pub fn promise_refuses()
     ensures { PromiseRefuses }
 {}
 
-/// Senders whose rows of words are used again, over two rows or more: whatever they do, one after
-/// another and with any random words, the headline's promise of senders holds of all tenures, also
-/// of those whose rows have gone on to later ones. Only a sender that stands in a tenure takes a
-/// step of its election, on that tenure's row, and no row is cleared while somebody stands in a
+/// Senders whose rows of words are used again, over two rows or more, and receivers: whatever they
+/// do, one after another and with any random words, the headline's promise holds of all tenures,
+/// also of those whose rows have gone on to later ones. Only a sender that stands in a tenure takes
+/// a step of its election, on that tenure's row, and no row is cleared while somebody stands in a
 /// tenure of it.
 pub fn rows_used_again_keep_promises<Q: Ratifier>()
     ensures { (senders rounds tenures capacity rows : ℕ)
         → IsLayout (layout_with Q.protocol senders rounds tenures capacity) → 2 ≤ rows
         → (yard : Yard (Elector Q)) (visits : Visiting) (deeds : ℕ → List Deed)
+        (heard : ℕ → List RecvTurn)
         → Led (election_of Q.Ratifier)
-        (layout_with Q.protocol senders rounds tenures capacity) rows yard visits deeds
+        (layout_with Q.protocol senders rounds tenures capacity) rows yard visits deeds heard
         → IsKeptYard (election_of Q.Ratifier)
-        (layout_with Q.protocol senders rounds tenures capacity) rows yard visits deeds }
+        (layout_with Q.protocol senders rounds tenures capacity) rows yard visits deeds heard }
 {
     election_is_lawful::<Q>();
 }
