@@ -367,8 +367,8 @@ module _ {E : Type 0} (X : Election E) (P : Protocol E (Unit {0}) ℕ) (x : Layo
       pub stop_sits : IsServedBus X P record { layout = x; bus = with_stop }
       stop_sits = sitting_after X P x laws width starts owner_is b with_stop (Stop s) answer.Stopped h tt stop_does (subst StopGives (sym goes) tt, refl)
 
-    pub stop_answers : StopGives (going now.bus s) × (answer.Stopped ≡ answer.Stopped)
-    stop_answers = (subst StopGives now_goes tt, refl)
+    pub stop_gives : StopGives (going now.bus s)
+    stop_gives = subst StopGives now_goes tt
 
     -- ---- a turn
     module _ (word : ℕ) where

@@ -16,7 +16,7 @@ ghost use Rattle.bus_world.specs.Telling.{Tells, SenderCauses, EventCauses};
 ghost use Rattle.bus_world.specs.Trails.{Trails, no_trails, Reached, IsPromised, Takers, Follows};
 ghost use Rattle.bus_world.specs.Trails.{Played, Stops};
 ghost use Rattle.bus_world.specs.Playing.{event_told, layout_of, Answers, PutGives, CloseGives};
-ghost use Rattle.bus_world.specs.Playing.{Refused, IsMade, MakeRefused, log_of};
+ghost use Rattle.bus_world.specs.Playing.{StopGives, Refused, IsMade, MakeRefused, log_of};
 
 use crate::events::{Answer, Event, PlayFault, StepFault};
 use crate::shapes::{MakeFault, Shape};
@@ -177,19 +177,18 @@ impl<Q: Ratifier + Drop> World<Q> {
     }
 
     /// A sender stops.
-    fn stop_at(&mut self, sender: u64) -> Result<Answer, StepFault>
+    fn stop_at(&mut self, sender: u64) -> Result<(), StepFault>
         ensures layout { self.new.layout ≡ self.old.layout }
         ensures happens { let X = election_of Q.Ratifier in
             Happens X self.old.bus (Stop sender) self.new.bus }
-        ensures answer { let X = election_of Q.Ratifier in
-            IfOk result (λ a. Answers X self.old.bus (Stop sender) a self.new.bus) }
+        ensures could { OnOk result (StopGives (going self.old.bus sender)) }
         ensures fault { IfErr result (Refused self.old.bus (Stop sender)) }
         ensures refused { OnErr result (self.new ≡ self.old) }
     {
         election_is_lawful::<Q>();
         self.goes_on(sender)?;
         self.stopped[sender as usize] = true;
-        Ok(Answer::Stopped)
+        Ok(())
     }
 
     /// A message is put into the batch of a sender, and gets this number. Takes no memory.
@@ -227,6 +226,23 @@ impl<Q: Ratifier + Drop> World<Q> {
         self.close_at(u64::from(sender.0))
     }
 
+    /// A sender stops: from now on it does nothing any more. Takes no step and no memory.
+    pub fn stop(&mut self, sender: SenderNo) -> Result<(), StepFault>
+        ensures layout { self.new.layout ≡ self.old.layout }
+        ensures happens { let X = election_of Q.Ratifier in
+            Happens X self.old.bus (Stop sender.0) self.new.bus }
+        ensures follows { let X = election_of Q.Ratifier in
+            OnOk result (Follows X self.old.layout self.old.bus
+            (Stop sender.0) answer.Stopped self.new.bus) }
+        ensures could { OnOk result (StopGives (going self.old.bus sender.0)) }
+        ensures fault { IfErr result (Refused self.old.bus (Stop sender.0)) }
+        ensures refused { OnErr result (self.new ≡ self.old) }
+    {
+        election_is_lawful::<Q>();
+        let _ = &self.shape;
+        self.stop_at(u64::from(sender.0))
+    }
+
     /// What happens next, and its answer.
     fn take_in(&mut self, event: &Event) -> Result<Answer, StepFault>
         ensures layout { self.new.layout ≡ self.old.layout }
@@ -248,7 +264,10 @@ impl<Q: Ratifier + Drop> World<Q> {
             }
             Event::Turn { sender, word } => self.turn_at(*sender, *word),
             Event::Recv(receiver) => self.recv_at(*receiver),
-            Event::Stop(sender) => self.stop_at(*sender),
+            Event::Stop(sender) => {
+                self.stop_at(*sender)?;
+                Ok(Answer::Stopped)
+            }
         }
     }
 

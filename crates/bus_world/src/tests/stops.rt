@@ -155,7 +155,7 @@ fn plays<R: Abort + AllocGlobal>(rt: &R, dice: &mut Dice, mut left: u64) -> bool
             turn(rt, &mut world, &mut owners, sender, word);
             left -= 1;
         } else if !stopped {
-            assert!(rt; world.step(&Event::Stop(0)).is_ok());
+            assert_eq!(rt; world.stop(SenderNo(0)), Ok(()));
             stopped = true;
         }
     }
