@@ -138,6 +138,7 @@ impl<Q: Ratifier + Drop> Sender<Q> {
     }
 
     /// It sends nothing more: it has closed the order, or has learned that the order has ended.
+    /// False as long as its close waits to be sent.
     pub fn is_closed(&self) -> bool
         ensures { result ≡ is_closed self.now.core.queue.phase }
     {

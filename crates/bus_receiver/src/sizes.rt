@@ -1,4 +1,4 @@
-//! What a sitting takes of a bus.
+//! What a sitting takes of a bus, as sums.
 
 ghost use Rattle.std.specs.Prelude.{◌≡◌};
 ghost use Rattle.bus_receiver.specs.Sizes.{batches_of, tenures_of, words_of};
@@ -14,7 +14,7 @@ fn batches(messages: u64) -> u128
 
 /// How many tenures a sitting takes in which each of so many senders sends so many messages, in
 /// batches of 16 of which the last may be smaller, and one closes: the `rows` of its shape. A bus
-/// has at most 256.
+/// has at most 256 of them, and 1 to 8 senders; of other numbers it is the same sum.
 pub fn tenures_needed(senders: u8, messages: u32) -> u64
     ensures { result ≡ tenures_of senders messages }
 {
@@ -22,7 +22,8 @@ pub fn tenures_needed(senders: u8, messages: u32) -> u64
 }
 
 /// How many log words such a sitting takes where each message has so many bytes: the `log_words` of
-/// its shape, at least 16. A bus has at most 65,536.
+/// its shape, at least 16. A bus has at most 65,536 of them, and a message at most 56 bytes; of
+/// other numbers it is the same sum.
 pub fn words_needed(senders: u8, messages: u32, bytes: u8) -> u64
     ensures { result ≡ words_of senders messages bytes }
 {

@@ -10,13 +10,15 @@ use Rattle.bus_ownerbits.specs.OneOwner.{OneOwner}
 use Rattle.bus_tenure.specs.Core.{Core, Election, Layout}
 use Rattle.bus_tenure.specs.Situations.{situation_of}
 use Rattle.bus_world.specs.Bus.{IsLayout}
-use Rattle.bus_world.specs.Playing.{AllAnswered, Answers, PutGives, CloseGives, TurnAnswers, StopGives}
+use Rattle.bus_world.specs.Playing.{AllAnswered, Answers, PutGives, CloseGives, TurnAnswers, StopGives, StopRefused, UnlessStopped}
 use Rattle.bus_world.specs.Stopping.{JustStopped, StaysStopped, StopsAreForGood, StopRefuses}
 use Rattle.bus_world.specs.Trails.{Trails, Reached, trails_grown, trails_after, deeds_of, put_deeds, close_deeds, turning_deeds}
 use Rattle.bus_world.specs.Trails.Reached.{New, Then}
 use Rattle.bus_world.specs.Turning.{Side, side_after}
 use Rattle.bus_world.specs.World.{Bus, Event, Put, Close, Turn, Recv, Stop, is_set, has_stopped, going, Happens, SenderDoes, StopDoes, with_sender, put_in, close_in}
 use Rattle.bus_world.specs.declared.events.Answer.{Answer}
+use Rattle.bus_world.specs.declared.events.StepFault.{StepFault}
+use Rattle.bus_world.specs.declared.events.StepFault.TheVariants as fault
 use Rattle.bus_world.proofs.EventTrails as trails
 use Rattle.bus_world.proofs.Stopping.{is_there, not_stopped, stopped_stays}
 
@@ -122,6 +124,25 @@ module _ {E : Type 0} (X : Election E) (P : Protocol E (Unit {0}) ℕ) (laws : L
         heard = λ D q. append-nil (D.heard q);
       }
 
+  -- the fault of who has stopped, and of who has not
+  stopped_first : (t : Bool) (o : Option (Core E)) (c : Core E) (why : StepFault) (own : Type 0) → t ≡ true → o ≡ Some c → UnlessStopped t o why own → why ≡ fault.Stopped
+  stopped_first true None c why own is there w = absurd (let bad : None ≡ Some c = there in cc)
+  stopped_first true (Some d) c why own is there w = w
+  stopped_first false o c why own is there w = absurd (true≢false (sym is))
+
+  own_untimely : (t : Bool) (o : Option (Core E)) (why : StepFault) (own : Type 0) → t ≡ false → UnlessStopped t o why own → own
+  own_untimely true o why own is w = absurd (true≢false is)
+  own_untimely false o why own is w = w
+
+  own_unknown : (t : Bool) (o : Option (Core E)) (why : StepFault) (own : Type 0) → o ≡ None → UnlessStopped t o why own → own
+  own_unknown true None why own is w = w
+  own_unknown true (Some c) why own is w = absurd (let bad : Some c ≡ None = is in cc)
+  own_unknown false o why own is w = w
+
+  never_its_own : (o : Option (Core E)) → StopRefused o fault.Stopped → ⊥
+  never_its_own None e = cc
+  never_its_own (Some c) e = e
+
   pub for_good : StopsAreForGood X x
   for_good = record { stops = stops; stays = λ old new events run T s stop. stays X events old new run T s stop }
 
@@ -132,4 +153,8 @@ module _ {E : Type 0} (X : Election E) (P : Protocol E (Unit {0}) ℕ) (laws : L
     late_put = λ old new s bytes a stop w. subst (λ o. PutGives o (length bytes) w.0) (stopped_stays old s stop) w.1;
     late_close = λ old new s a stop w. subst (λ o. CloseGives o) (stopped_stays old s stop) w.0;
     second_stop = λ old new s a stop w. subst (λ o. StopGives o) (stopped_stays old s stop) w.0;
+    other_put_fault = λ b s c bytes why there stop w. let bad = stopped_first (has_stopped b s) (slice_get b.side.senders s) c (fault.Put why) _ stop there w in cc;
+    other_close_fault = λ b s c why there stop w. let bad = stopped_first (has_stopped b s) (slice_get b.side.senders s) c (fault.Close why) _ stop there w in cc;
+    stopped_untimely = λ b s goes w. never_its_own (slice_get b.side.senders s) (own_untimely (has_stopped b s) (slice_get b.side.senders s) fault.Stopped _ goes w);
+    stopped_unknown = λ b s none w. never_its_own (slice_get b.side.senders s) (own_unknown (has_stopped b s) (slice_get b.side.senders s) fault.Stopped _ none w);
   }
