@@ -1,4 +1,14 @@
 //! The words of a log as lines of text, and what is printed of such lines.
+//!
+//! The log of one frame, in which sender 0 sent one message:
+//!
+//! ```
+//! use bus_logtext::read_log_text;
+//!
+//! let lines = b"4000020000000000\n8040000000000000\n6100000000000000\n";
+//! let answer = read_log_text(rt.alloc(), lines, 2)?;
+//! assert_eq!(rt; answer.text.as_str(), "frame 0 0\nitem 0 0 61\n");
+//! ```
 #![tactic(auto)]
 
 pub mod answers;

@@ -1,4 +1,21 @@
 //! A bus on a table of words, with no lock.
+//!
+//! A bus of one sender and one receiver, from its making to its end:
+//!
+//! ```
+//! use bus_pageslot::Bus;
+//!
+//! let shape = Shape { senders: 1, receivers: 1, rounds: 1, rows: 2, log_words: 16 };
+//! let (bus, mut senders, mut taps) = Bus::<ThreeWord>::new(rt.alloc(), shape)?;
+//! let mut sender = senders.pop().context("a sender")?;
+//! let mut tap = taps.pop().context("a tap")?;
+//! sender.put(b"hello")?;
+//! let sent = sender.send(&rt, &bus, &mut Pcg32::new(0, 0));
+//! assert!(rt; matches!(sent, Turn::Delivered { .. }));
+//! assert_eq!(rt; tap.turn(&bus), RecvTurn::Going);
+//! let ended = bus.end(tap)?;
+//! assert_eq!(rt; ended.page().words, 3);
+//! ```
 #![tactic(auto)]
 
 mod buses;

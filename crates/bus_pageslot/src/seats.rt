@@ -192,7 +192,9 @@ impl<Q: Ratifier + Drop> Sender<Q> {
         self.core.put(bytes)
     }
 
-    /// Lets an end mark wait in place of messages. Takes no step. A fault changes nothing.
+    /// Lets an end mark wait, which ends the order once it is sent. Refused where messages wait,
+    /// in its batch or on their way, and where it is closing or closed. Takes no step. A fault
+    /// changes nothing.
     pub fn close(&mut self) -> Result<(), CloseFault>
         ensures taken { OnOk result (self.new.core ≡ with_close self.old.core) }
         ensures deed { OnOk result (deeds_of self.new ≡ deeds_of self.old ++ HasClosed ∷ []) }
@@ -237,8 +239,9 @@ impl<Q: Ratifier + Drop> Sender<Q> {
         self.send_while(wait, bus, rng, || true).unwrap()
     }
 
-    /// The same, but that it can be told to stop: where a turn answers Waiting it asks `go_on`, and
-    /// gives None where that says no. The batch is kept then, and any later turn goes on with it.
+    /// As `send`, but that it can be told to stop: where a turn answers Waiting it asks `go_on`,
+    /// and gives None where that says no. The batch is kept then, and any later turn goes on with
+    /// it.
     pub fn send_while<W: Wait, R: Rng, F: Fn() -> bool>(
         &mut self,
         wait: &W,

@@ -137,8 +137,9 @@ impl<Q: Ratifier + Drop> Tap<Q> {
         word
     }
 
-    /// Two receivers of one bus meet: each knows the log up to the length that is loaded, which is
-    /// given. What the one behind was answered begins what the other was answered.
+    /// Two receivers of one bus meet: from then on each knows the log up to the length that is
+    /// loaded, which is given. What the one that had read less was answered begins what the other
+    /// was answered.
     pub fn meet(&mut self, other: &mut Tap<Q>, bus: &Bus<Q>) -> u64
         requires table { (self.old.table_id ≡ bus.now.table)
             × (other.old.table_id ≡ bus.now.table) }
@@ -159,9 +160,10 @@ impl<Q: Ratifier + Drop> Tap<Q> {
         length
     }
 
-    /// A sender tells, by one load of the length: what is known then has of this sender exactly
-    /// the messages that it has put, but for its batch until the step that stores the length. Gives
-    /// the length.
+    /// A sender tells the receiver how long the log is, by a load of the length, which is given:
+    /// the receiver knows the log up to it. Of this sender that has exactly the messages that it
+    /// has put, but for those in its batch: these are there once the sender has taken the step that
+    /// stores the length, and not before.
     pub fn told(&mut self, sender: &mut Sender<Q>, bus: &Bus<Q>) -> u64
         requires table { (self.old.table_id ≡ bus.now.table)
             × (table_of sender.old ≡ bus.now.table) }

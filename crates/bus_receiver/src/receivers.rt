@@ -117,7 +117,7 @@ impl<Q: Ratifier + Drop> Receiver<Q> {
         }
     }
 
-    /// The same, but that it can be told to stop: where a turn finds nothing more it asks
+    /// As `next_item`, but that it can be told to stop: where a turn finds nothing more it asks
     /// `go_on`, goes on only where that says yes, and answers Stopped only where that says no. So
     /// what it knows of the log comes first.
     pub fn next_item_while<W: Wait, F: Fn() -> bool>(
@@ -171,8 +171,8 @@ impl<Q: Ratifier + Drop> Receiver<Q> {
         self.tap.told(sender, bus);
     }
 
-    /// Two receivers meet: both know the log up to the length that is loaded from then on, and
-    /// their places are compared.
+    /// Two receivers meet: from then on both know the log up to the length that is loaded. Answers
+    /// how its place compares with the other's: Less where it has read fewer words.
     pub fn meet(&mut self, other: &mut Receiver<Q>, bus: &Bus<Q>) -> Ordering
         requires table { (bus_of self.old ≡ bus.now.table)
             × (bus_of other.old ≡ bus.now.table) }
@@ -187,7 +187,8 @@ impl<Q: Ratifier + Drop> Receiver<Q> {
     }
 
     /// Ends the bus, by a receiver of it: its log and its page, where the page is at home, and
-    /// PageOut where a sender that took it has not given it back. Both are gone in either case.
+    /// PageOut where a sender that took it has not given it back. Bus and receiver are gone in
+    /// either case.
     pub fn end(bus: Bus<Q>, receiver: Receiver<Q>) -> Result<Ended, EndFault>
         requires { bus_of receiver ≡ bus.table }
         ensures ended { let X = election_of Q.Ratifier in

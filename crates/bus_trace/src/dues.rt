@@ -55,7 +55,8 @@ pub fn due_of_sender<Q: Ratifier + Drop>(world: &World<Q>, sender: u8, word: u32
     })
 }
 
-/// The load that a receiver is to make, if it makes one; the log begins at this word.
+/// The load that a receiver is to make, if it makes one. `log` is the place of the log's first
+/// word.
 pub fn due_of_receiver(spots: &[Spot], log: u64, receiver: u64) -> Option<Step>
     requires { IfSome (slice_get spots.now receiver) (λ spot. log + spot.place < 2 ^ 64) }
     ensures { result ≡ spot_due log (slice_get spots.now receiver) }

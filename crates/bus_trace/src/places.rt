@@ -5,8 +5,9 @@ ghost use Rattle.std.specs.Prelude.{◌≤◌, ◌^◌};
 /// The sizes by which words are named.
 #[derive(Clone, Copy)]
 pub struct Places {
+    /// How many senders the bus has.
     pub senders: u64,
-    /// Of one binary decision.
+    /// How many rounds one binary decision has.
     pub rounds: u64,
     /// How many words a ratifier has.
     pub ratifier: u64,
@@ -14,7 +15,7 @@ pub struct Places {
     pub decision: u64,
     /// How many words a row has.
     pub row: u64,
-    /// Where the log begins.
+    /// The place of the log's first word.
     pub log: u64,
     ghost ratifier_few: { ratifier ≤ 2 ^ 32 },
     ghost decision_some: { 1 ≤ decision },

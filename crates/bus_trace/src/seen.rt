@@ -10,7 +10,9 @@ use bus_register::{Kind, Op, Reg};
 pub struct Step {
     /// The tenure that was begun, if one was.
     pub tenure: Option<u64>,
+    /// What it is for.
     pub kind: Kind,
+    /// The word that it is on, and what it does to it.
     pub op: Op,
 }
 

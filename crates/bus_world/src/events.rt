@@ -16,7 +16,7 @@ pub enum Event {
     /// The receiver takes a turn.
     Recv(u64),
     /// The sender stops for good. This is no step, and it takes none from then on: a page that it
-    /// has stays out. Refused for no sender that there is and that has not stopped.
+    /// has stays out. Refused only where there is no such sender, or it has stopped before.
     Stop(u64),
 }
 
@@ -25,9 +25,13 @@ pub enum Event {
 pub enum Answer {
     /// The number of the message that was put.
     Number(u64),
+    /// The end mark waits at the sender.
     Closing,
+    /// What the sender's turn came to.
     Turn(Turn),
+    /// What the receiver's turn came to.
     Recv(RecvTurn),
+    /// The sender has stopped.
     Stopped,
 }
 

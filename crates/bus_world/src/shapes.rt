@@ -15,7 +15,7 @@ pub struct Shape {
     pub senders: u64,
     /// 1 to 8.
     pub receivers: u64,
-    /// Of one binary decision: 1 to 8.
+    /// The rounds of one binary decision: 1 to 8.
     pub rounds: u64,
     /// The tenures of a sitting: 1 to 256.
     pub rows: u64,
@@ -23,7 +23,7 @@ pub struct Shape {
     pub log_words: u64,
 }
 
-/// Why no bus is made; of several causes the first counts.
+/// Why no bus is made: a size out of its range, or no memory. Of several causes the first counts.
 #[derive(Clone, Copy, Debug, PartialEq, Eq)]
 pub enum MakeFault {
     Senders,

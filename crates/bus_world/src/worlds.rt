@@ -209,7 +209,7 @@ impl<Q: Ratifier + Drop> World<Q> {
         self.put_at(u64::from(sender.0), bytes)
     }
 
-    /// A sender is to close the order. Takes no memory.
+    /// A sender is to close the order: an end mark waits at it from then on. Takes no memory.
     pub fn close(&mut self, sender: SenderNo) -> Result<(), StepFault>
         ensures layout { self.new.layout ≡ self.old.layout }
         ensures happens { let X = election_of Q.Ratifier in
@@ -327,7 +327,7 @@ impl<Q: Ratifier + Drop> World<Q> {
         self.owners.as_slice()
     }
 
-    /// The page, where it is at home.
+    /// The page, where it is at home; none where a sender has it.
     pub fn page(&self) -> Option<&Page>
         ensures { option_copied result ≡ self.now.bus.side.home }
     {
@@ -373,8 +373,8 @@ impl<Q: Ratifier + Drop> World<Q> {
         }
     }
 
-    /// What a receiver was given, which there must be: the items and the end that it was answered.
-    /// Memory is its only refusal.
+    /// What the receiver of this number was given: the items and the end that it was answered.
+    /// There must be such a receiver. Memory is its only refusal.
     pub fn given(&self, alloc: Global, receiver: u64) -> Result<Order, NoMemory>
         requires { receiver < length self.now.bus.receivers }
         ensures { let X = election_of Q.Ratifier in
