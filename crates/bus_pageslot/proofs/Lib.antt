@@ -1,6 +1,7 @@
 pub mod Taking
 pub mod AllSeats
 pub mod Sending
+pub mod Batching
 pub mod Accepting
 pub mod Situations
 pub mod Counting

@@ -38,9 +38,29 @@ pub record Sends {E : Type 0} (X : Election E) (first : Seated E) (answer : Turn
   pub turned : Turned X old word answer new
   pub last : is_last answer ≡ true
 
--- turns, none of them a last one, up to one that answered Waiting
-pub record StopsWaiting {E : Type 0} (X : Election E) (first : Seated E) (new : Seated E) : Type 0 where
+-- ---- turns between which a function is asked whether to go on; Tells f told f' where a call of f may tell that, and leaves f'
+-- Turns, none of them a last one, led from one sender to another. After each that answered Waiting, and after no other, the function
+-- was asked once, and told to go on; each call of it found it as the call before had left it.
+pub data AsksOn {E F : Type 0} (X : Election E) (Tells : F → Bool → F → Type 0) (first : Seated E) (given : F) : Seated E → F → Type 0 where
+  Begins : AsksOn X Tells first given first given
+  Goes : (old : Seated E) (f : F) (word : ℕ) (answer : Turn) (new : Seated E) → AsksOn X Tells first given old f → Turned X old word answer new → is_last answer ≡ false → (answer ≡ turn.Waiting → ⊥) → AsksOn X Tells first given new f
+  Asks : (old : Seated E) (f : F) (word : ℕ) (new : Seated E) (f' : F) → AsksOn X Tells first given old f → Turned X old word turn.Waiting new → Tells f true f' → AsksOn X Tells first given new f'
+
+-- such turns up to a last one, which answered so
+pub record SendsAsking {E F : Type 0} (X : Election E) (Tells : F → Bool → F → Type 0) (first : Seated E) (given : F) (answer : Turn) (new : Seated E) : Type 0 where
   pub old : Seated E
+  pub asked : F
   pub word : ℕ
-  pub before : TurnsOn X first old
+  pub before : AsksOn X Tells first given old asked
+  pub turned : Turned X old word answer new
+  pub last : is_last answer ≡ true
+
+-- such turns up to one that answered Waiting, after which the function was asked and told to stop
+pub record StopsWaiting {E F : Type 0} (X : Election E) (Tells : F → Bool → F → Type 0) (first : Seated E) (given : F) (new : Seated E) : Type 0 where
+  pub old : Seated E
+  pub asked : F
+  pub word : ℕ
+  pub before : AsksOn X Tells first given old asked
   pub turned : Turned X old word turn.Waiting new
+  pub left : F
+  pub told : Tells asked false left

@@ -1,7 +1,7 @@
 //! A sender with its seat.
 
 ghost use Rattle.std.specs.Prelude.{◌≡◌, ℕ, ◌<◌, List, [], ◌∷◌, ◌++◌, None};
-ghost use Rattle.std.specs.Prelude.{Some, IfSome, IfOk, IfErr, OnOk, OnErr, length, ◌-◌, ◌≤◌};
+ghost use Rattle.std.specs.Prelude.{Some, IfSome, IfNone, IfOk, IfErr, OnOk, OnErr, length, ◌-◌, ◌≤◌};
 ghost use Rattle.std.specs.Prelude.{false, take, slice_get};
 ghost use Rattle.bus_batch.specs.Batches.{next_of, CanPut, IsPutFault, CanClose, IsCloseFault};
 ghost use Rattle.bus_tenure.specs.Situations.{situation_of, kind_at, op_at, rest_at};
@@ -17,8 +17,9 @@ ghost use Rattle.bus_pageslot.specs.Ears.{Ear};
 ghost use Rattle.bus_pageslot.specs.Rule.{known_in, stored_in};
 ghost use Rattle.bus_pageslot.specs.Steps.{with_message, with_close, Learns, KnowsSent};
 ghost use Rattle.bus_pageslot.specs.Seats.{Shows, Took, table_of, deeds_of, stored_of};
-ghost use Rattle.bus_pageslot.specs.Turns.{Sends, is_last, StopsWaiting};
-ghost use Rattle.bus_pageslot.specs.Sendings.{SendsOn, HasSent, IsSendFault};
+ghost use Rattle.bus_pageslot.specs.Turns.{Sends, is_last, SendsAsking, StopsWaiting};
+ghost use Rattle.bus_pageslot.specs.Sendings.{waiting_of, SendsOff, KeepsFor, FillsBatches};
+ghost use Rattle.bus_pageslot.specs.Sendings.{HasSent, StopsAt, HasSentPart};
 ghost use Rattle.bus_pageslot.specs.SendFaults.{send_fault_text};
 
 use crate::buses::Bus;
@@ -239,24 +240,23 @@ impl<Q: Ratifier + Drop> Sender<Q> {
         self.send_while(wait, bus, rng, || true).unwrap()
     }
 
-    /// As `send`, but that it can be told to stop: where a turn answers Waiting it asks `go_on`,
-    /// and gives None where that says no. The batch is kept then, and any later turn goes on with
-    /// it.
-    pub fn send_while<W: Wait, R: Rng, F: Fn() -> bool>(
+    /// As `send`, but that it can be told to stop: each time a turn answers Waiting it asks `go_on`
+    /// once, goes on where that says yes, and gives None where it says no. It asks nowhere else.
+    /// The batch is kept then, and any later turn goes on with it.
+    pub fn send_while<W: Wait, R: Rng, F: FnMut() -> bool>(
         &mut self,
         wait: &W,
         bus: &Bus<Q>,
         rng: &mut R,
-        go_on: F,
+        mut go_on: F,
     ) -> Option<Turn>
         requires table { table_of self.old ≡ bus.now.table }
         requires callable { F.IsAlwaysCallable go_on }
         ensures table { table_of self.new ≡ table_of self.old }
         ensures sends { let X = election_of Q.Ratifier in
-            IfSome result (λ turn. Sends X self.old turn self.new) }
-        ensures waits { let X = election_of Q.Ratifier in
-            result ≡ None → StopsWaiting X self.old self.new }
-        ensures told { result ≡ None → F.post go_on false }
+            IfSome result (λ turn. SendsAsking X F.step self.old go_on turn self.new) }
+        ensures stops { let X = election_of Q.Ratifier in
+            IfNone result (StopsWaiting X F.step self.old go_on self.new) }
         ensures puts { puts (deeds_of self.new) ≡ puts (deeds_of self.old) }
     {
         let backoff = Backoff::new();
@@ -280,8 +280,9 @@ impl<Q: Ratifier + Drop> Sender<Q> {
     }
 
     /// Sends messages in their order: first what waits in its batch, and then these, in batches of
-    /// at most 16. Ok where none waits any more. It waits as `send` does, and that it ends is not
-    /// promised.
+    /// 16, of which the last may be smaller. Ok where none waits any more. It stops at the first
+    /// batch that is not sent off, which is kept, and at the first message that is refused. It
+    /// waits as `send` does, and that it ends is not promised.
     pub fn send_all<W: Wait, R: Rng>(
         &mut self,
         wait: &W,
@@ -293,13 +294,8 @@ impl<Q: Ratifier + Drop> Sender<Q> {
         ensures table { table_of self.new ≡ table_of self.old }
         ensures all { let X = election_of Q.Ratifier in
             OnOk result (HasSent X self.old messages.now self.new) }
-        ensures none { OnOk result (self.new.core.queue.messages ≡ []) }
-        ensures part { let X = election_of Q.Ratifier in IfErr result
-            (λ unsent. HasSent X self.old (take unsent.put messages.now) self.new) }
-        ensures counts { IfErr result (λ unsent. (unsent.put ≤ length messages.now)
-            × (unsent.sent ≡ unsent.put - length self.new.core.queue.messages)) }
-        ensures fault { let X = election_of Q.Ratifier in IfErr result
-            (λ unsent. IsSendFault X self.new (slice_get messages.now unsent.put) unsent.fault) }
+        ensures part { let X = election_of Q.Ratifier in
+            IfErr result (λ unsent. HasSentPart X self.old messages.now unsent self.new) }
     {
         let before = self.send_off(wait, bus, rng);
         if let Err(fault) = before {
@@ -340,13 +336,11 @@ impl<Q: Ratifier + Drop> Sender<Q> {
         requires { table_of self.old ≡ bus.now.table }
         ensures table { table_of self.new ≡ table_of self.old }
         ensures taken { let X = election_of Q.Ratifier in OnOk result ((first : _)
-            (messages : List (List ℕ)) → SendsOn X first messages self.old
-            → SendsOn X first (messages ++ message.now ∷ []) self.new) }
-        ensures refused { let X = election_of Q.Ratifier in OnErr result ((first : _)
-            (messages : List (List ℕ)) → SendsOn X first messages self.old
-            → SendsOn X first messages self.new) }
-        ensures fault { let X = election_of Q.Ratifier in
-            IfErr result (IsSendFault X self.new (Some message.now)) }
+            (messages : List (List ℕ)) → FillsBatches X first messages self.old
+            → FillsBatches X first (messages ++ message.now ∷ []) self.new) }
+        ensures stops { let X = election_of Q.Ratifier in IfErr result (λ fault. (first : _)
+            (messages : List (List ℕ)) → FillsBatches X first messages self.old
+            → StopsAt X first messages (Some message.now) fault self.new) }
     {
         if let Err(fault) = self.make_room(wait, bus, rng) {
             return Err(fault);
@@ -366,11 +360,12 @@ impl<Q: Ratifier + Drop> Sender<Q> {
     ) -> Result<(), SendFault>
         requires { table_of self.old ≡ bus.now.table }
         ensures table { table_of self.new ≡ table_of self.old }
-        ensures sends { let X = election_of Q.Ratifier in (first : _)
-            (messages : List (List ℕ)) → SendsOn X first messages self.old
-            → SendsOn X first messages self.new }
-        ensures fault { let X = election_of Q.Ratifier in (next : _)
-            → IfErr result (IsSendFault X self.new next) }
+        ensures room { OnOk result (length (waiting_of self.new) < MOST_MESSAGES) }
+        ensures sends { let X = election_of Q.Ratifier in OnOk result ((first : _)
+            (messages : List (List ℕ)) → FillsBatches X first messages self.old
+            → FillsBatches X first messages self.new) }
+        ensures keeps { let X = election_of Q.Ratifier in IfErr result (λ fault.
+            (MOST_MESSAGES ≤ length (waiting_of self.old)) × KeepsFor X self.old fault self.new) }
     {
         if self.pending() < MOST_MESSAGES as u64 {
             return Ok(());
@@ -387,12 +382,10 @@ impl<Q: Ratifier + Drop> Sender<Q> {
     ) -> Result<(), SendFault>
         requires { table_of self.old ≡ bus.now.table }
         ensures table { table_of self.new ≡ table_of self.old }
-        ensures sends { let X = election_of Q.Ratifier in (first : _)
-            (messages : List (List ℕ)) → SendsOn X first messages self.old
-            → SendsOn X first messages self.new }
-        ensures none { OnOk result (self.new.core.queue.messages ≡ []) }
-        ensures fault { let X = election_of Q.Ratifier in (next : _)
-            → IfErr result (IsSendFault X self.new next) }
+        ensures sends { let X = election_of Q.Ratifier in
+            OnOk result (SendsOff X self.old self.new) }
+        ensures keeps { let X = election_of Q.Ratifier in
+            IfErr result (λ fault. KeepsFor X self.old fault self.new) }
     {
         let turn = self.send(wait, bus, rng);
         if self.pending() > 0 {

@@ -1,10 +1,10 @@
 use Rattle.std.proofs.Common.{◌≡◌, take}
 use Rattle.bus_tenure.specs.Elections.{election_with}
 use Rattle.bus_pageslot.specs.Seats.{table_of}
-use Rattle.bus_pageslot.specs.Sendings.{SendsOn}
+use Rattle.bus_pageslot.specs.Sendings.{FillsBatches}
 use Rattle.bus_pageslot.proofs.seats.Sender.send_all.Given as goal
 
 abbrev pub invariant-loop-put : goal.invariant-loop-put
 invariant-loop-put g l =
     let X = election_with g.Q.Machine.kind_of g.Q.Machine.op g.Q.Machine.fed g.Q.Ratifier.protocol in
-    SendsOn X l.fn.self (take l.put l.messages) l.self × (table_of l.self ≡ table_of l.fn.self)
+    FillsBatches X l.fn.self (take l.put l.messages) l.self × (table_of l.self ≡ table_of l.fn.self)

@@ -1,16 +1,9 @@
 use Rattle.std.proofs.Common.{arith}
-use Rattle.bus_pageslot.specs.Sendings.{Send}
+use Rattle.bus_tenure.specs.Elections.{election_with}
+use Rattle.bus_pageslot.proofs.Batching.{keeps}
 use Rattle.bus_pageslot.proofs.seats.Sender.send_off.Goals as goal
 
-pub returns-then-pending-gt0-clause-sends : goal.returns-then-pending-gt0-clause-sends
-returns-then-pending-gt0-clause-sends g c = λ first messages before. Send messages c.args.self.now c.send-turn.result c.send-turn.new.self before c.send-turn.ensures.sends
-
-pub returns-then-pending-gt0-clause-fault : goal.returns-then-pending-gt0-clause-fault
-returns-then-pending-gt0-clause-fault g c = λ next. record {
-  old = c.args.self.now;
-  sends = c.send-turn.ensures.sends;
-  waits = (let is = c.pending.ensures in let more = c.if-pending-gt0.true in omega arith);
-}
-
-pub returns-clause-sends : goal.returns-clause-sends
-returns-clause-sends g c = λ first messages before. Send messages c.args.self.now c.send-turn.result c.send-turn.new.self before c.send-turn.ensures.sends
+pub returns-then-pending-gt0-clause-keeps : goal.returns-then-pending-gt0-clause-keeps
+returns-then-pending-gt0-clause-keeps g c =
+    let X = election_with g.Q.Machine.kind_of g.Q.Machine.op g.Q.Machine.fed g.Q.Ratifier.protocol in
+    keeps X c.args.self.now c.send-turn.result c.send-turn.new.self c.send-turn.ensures.sends (let is = c.pending.ensures in let more = c.if-pending-gt0.true in omega arith)

@@ -1,17 +1,15 @@
-use Rattle.std.proofs.Common.{refl, sym, subst, ◌∙◌}
+use Rattle.std.proofs.Common.{of_calls, refl, sym, subst, ◌∙◌}
 use Rattle.bus_tenure.specs.Elections.{election_with}
-use Rattle.bus_pageslot.specs.Turns.{Turned, Here, More}
+use Rattle.bus_pageslot.specs.Turns.{Turned, Begins, Goes, Asks}
 use Rattle.bus_pageslot.proofs.Sending.{turned_puts}
 use Rattle.bus_pageslot.proofs.seats.Sender.send_while.Goals as goal
-
-pub loop-init : goal.loop-init
-loop-init g c = (Here, refl, refl)
 
 pub returns-then-ends_sending-clause-sends : goal.returns-then-ends_sending-clause-sends
 returns-then-ends_sending-clause-sends g c = record {
   old = c.loop.self;
+  asked = c.loop.go_on;
   word = c.if-wants_word.word;
-  before = c.loop.invariant.0;
+  before = c.loop.invariant.1;
   turned = record { rests = c.turn-turn.ensures.rests; steps = c.turn-turn.ensures.steps };
   last = sym c.ends_sending.ensures ∙ c.if-ends_sending.true;
 }
@@ -19,38 +17,46 @@ returns-then-ends_sending-clause-sends g c = record {
 pub returns-then-ends_sending-clause-puts : goal.returns-then-ends_sending-clause-puts
 returns-then-ends_sending-clause-puts g c =
     let X = election_with g.Q.Machine.kind_of g.Q.Machine.op g.Q.Machine.fed g.Q.Ratifier.protocol in
-    turned_puts X c.loop.self c.if-wants_word.word c.turn-turn.result c.turn-turn.new.self (record { rests = c.turn-turn.ensures.rests; steps = c.turn-turn.ensures.steps }) ∙ c.loop.invariant.2
+    turned_puts X c.loop.self c.if-wants_word.word c.turn-turn.result c.turn-turn.new.self (record { rests = c.turn-turn.ensures.rests; steps = c.turn-turn.ensures.steps }) ∙ c.loop.invariant.3
 
-pub returns-then-not-go_on-clause-waits : goal.returns-then-not-go_on-clause-waits
-returns-then-not-go_on-clause-waits g c =
+pub loop-init : goal.loop-init
+loop-init g c = (c.requires.callable, Begins, refl, refl)
+
+pub returns-then-not-go_on-clause-stops : goal.returns-then-not-go_on-clause-stops
+returns-then-not-go_on-clause-stops g c =
     let X = election_with g.Q.Machine.kind_of g.Q.Machine.op g.Q.Machine.fed g.Q.Ratifier.protocol in
     let turned : Turned X c.loop.self c.if-wants_word.word c.turn-turn.result c.turn-turn.new.self = record { rests = c.turn-turn.ensures.rests; steps = c.turn-turn.ensures.steps } in
-    λ none. record {
+    record {
       old = c.loop.self;
+      asked = c.loop.go_on;
       word = c.if-wants_word.word;
-      before = c.loop.invariant.0;
+      before = c.loop.invariant.1;
       turned = subst (λ a. Turned X c.loop.self c.if-wants_word.word a c.turn-turn.new.self) c.in-Waiting.is turned;
+      left = c.go_on.new.self;
+      told = c.if-not-go_on.ensures;
     }
 
 pub returns-then-not-go_on-clause-puts : goal.returns-then-not-go_on-clause-puts
 returns-then-not-go_on-clause-puts g c =
     let X = election_with g.Q.Machine.kind_of g.Q.Machine.op g.Q.Machine.fed g.Q.Ratifier.protocol in
-    turned_puts X c.loop.self c.if-wants_word.word c.turn-turn.result c.turn-turn.new.self (record { rests = c.turn-turn.ensures.rests; steps = c.turn-turn.ensures.steps }) ∙ c.loop.invariant.2
+    turned_puts X c.loop.self c.if-wants_word.word c.turn-turn.result c.turn-turn.new.self (record { rests = c.turn-turn.ensures.rests; steps = c.turn-turn.ensures.steps }) ∙ c.loop.invariant.3
 
 pub loop-preserved-in-Waiting : goal.loop-preserved-in-Waiting
 loop-preserved-in-Waiting g c =
     let X = election_with g.Q.Machine.kind_of g.Q.Machine.op g.Q.Machine.fed g.Q.Ratifier.protocol in
     let turned : Turned X c.loop.self c.if-wants_word.word c.turn-turn.result c.turn-turn.new.self = record { rests = c.turn-turn.ensures.rests; steps = c.turn-turn.ensures.steps } in (
-      More c.loop.self c.if-wants_word.word c.turn-turn.result c.turn-turn.new.self c.loop.invariant.0 turned (sym c.ends_sending.ensures ∙ c.if-ends_sending.false),
-      c.turn-turn.ensures.table ∙ c.loop.invariant.1,
-      turned_puts X c.loop.self c.if-wants_word.word c.turn-turn.result c.turn-turn.new.self turned ∙ c.loop.invariant.2,
+      search of_calls,
+      Asks c.loop.self c.loop.go_on c.if-wants_word.word c.turn-turn.new.self c.go_on.new.self c.loop.invariant.1 (subst (λ a. Turned X c.loop.self c.if-wants_word.word a c.turn-turn.new.self) c.in-Waiting.is turned) c.if-not-go_on.ensures,
+      c.turn-turn.ensures.table ∙ c.loop.invariant.2,
+      turned_puts X c.loop.self c.if-wants_word.word c.turn-turn.result c.turn-turn.new.self turned ∙ c.loop.invariant.3,
     )
 
 pub loop-preserved : goal.loop-preserved
 loop-preserved g c =
     let X = election_with g.Q.Machine.kind_of g.Q.Machine.op g.Q.Machine.fed g.Q.Ratifier.protocol in
     let turned : Turned X c.loop.self c.if-wants_word.word c.turn-turn.result c.turn-turn.new.self = record { rests = c.turn-turn.ensures.rests; steps = c.turn-turn.ensures.steps } in (
-      More c.loop.self c.if-wants_word.word c.turn-turn.result c.turn-turn.new.self c.loop.invariant.0 turned (sym c.ends_sending.ensures ∙ c.if-ends_sending.false),
-      c.turn-turn.ensures.table ∙ c.loop.invariant.1,
-      turned_puts X c.loop.self c.if-wants_word.word c.turn-turn.result c.turn-turn.new.self turned ∙ c.loop.invariant.2,
+      c.loop.invariant.0,
+      Goes c.loop.self c.loop.go_on c.if-wants_word.word c.turn-turn.result c.turn-turn.new.self c.loop.invariant.1 turned (sym c.ends_sending.ensures ∙ c.if-ends_sending.false) c.in_default.not-Waiting,
+      c.turn-turn.ensures.table ∙ c.loop.invariant.2,
+      turned_puts X c.loop.self c.if-wants_word.word c.turn-turn.result c.turn-turn.new.self turned ∙ c.loop.invariant.3,
     )

@@ -2,10 +2,10 @@ use Rattle.std.proofs.Common.{◌≡◌}
 use Rattle.bus_tenure.specs.Elections.{election_with}
 use Rattle.bus_world.specs.Headline.{puts}
 use Rattle.bus_pageslot.specs.Seats.{table_of, deeds_of}
-use Rattle.bus_pageslot.specs.Turns.{TurnsOn}
+use Rattle.bus_pageslot.specs.Turns.{AsksOn}
 use Rattle.bus_pageslot.proofs.seats.Sender.send_while.Given as goal
 
 abbrev pub invariant-loop : goal.invariant-loop
 invariant-loop g l =
     let X = election_with g.Q.Machine.kind_of g.Q.Machine.op g.Q.Machine.fed g.Q.Ratifier.protocol in
-    TurnsOn X l.fn.self l.self × (table_of l.self ≡ table_of l.fn.self) × (puts (deeds_of l.self) ≡ puts (deeds_of l.fn.self))
+    goal.F-IsAlwaysCallable g l.go_on × AsksOn X (goal.F-step g) l.fn.self l.fn.go_on l.self l.go_on × (table_of l.self ≡ table_of l.fn.self) × (puts (deeds_of l.self) ≡ puts (deeds_of l.fn.self))
