@@ -48,26 +48,39 @@ is_given (turn.Head tenure owner) = false
 is_given (turn.Item item) = true
 is_given turn.End = true
 
--- Turns that found neither an item nor the end led from one seat to another. They went on from an Empty only where it was told to.
-pub data PassesOn {E : Type 0} (TellsOn : Type 0) (first : Sat E) : Sat E → Type 0 where
-  Here : PassesOn TellsOn first first
-  More : (old : Sat E) (answer : RecvTurn) (new : Sat E) → PassesOn TellsOn first old → Hears old answer new → is_given answer ≡ false → (answer ≡ turn.Empty → TellsOn) → PassesOn TellsOn first new
+-- turns that found neither led from one seat to another
+pub data PassesOn {E : Type 0} (first : Sat E) : Sat E → Type 0 where
+  Stays : PassesOn first first
+  Passes : (old : Sat E) (answer : RecvTurn) (new : Sat E) → PassesOn first old → Hears old answer new → is_given answer ≡ false → PassesOn first new
 
--- such turns, and a last one, which answered so
-pub record PassesWhile {E : Type 0} (TellsOn : Type 0) (first : Sat E) (answer : RecvTurn) (new : Sat E) : Type 0 where
+-- turns up to the first that found an item or the end, which answered so
+pub record PassesTo {E : Type 0} (first : Sat E) (answer : RecvTurn) (new : Sat E) : Type 0 where
   pub old : Sat E
-  pub before : PassesOn TellsOn first old
+  pub before : PassesOn first old
   pub hears : Hears old answer new
+  pub given : is_given answer ≡ true
 
--- the same of turns that go on from each Empty
-abbrev pub PassesTo : {E : Type 0} → Sat E → RecvTurn → Sat E → Type 0
-PassesTo first answer new = PassesWhile (Unit {0}) first answer new
+-- Turns that found neither, and between them a function that is asked whether to go on; Tells f told f' where a call of f may tell
+-- that, and leaves f'. After each turn that answered Empty, and after no other, the function was asked once, and told to go on; each
+-- call of it found it as the call before had left it.
+pub data AsksOn {E F : Type 0} (Tells : F → Bool → F → Type 0) (first : Sat E) (given : F) : Sat E → F → Type 0 where
+  Begins : AsksOn Tells first given first given
+  Goes : (old : Sat E) (f : F) (answer : RecvTurn) (new : Sat E) → AsksOn Tells first given old f → Hears old answer new → is_given answer ≡ false → (answer ≡ turn.Empty → ⊥) → AsksOn Tells first given new f
+  Asks : (old : Sat E) (f : F) (new : Sat E) (f' : F) → AsksOn Tells first given old f → Hears old turn.Empty new → Tells f true f' → AsksOn Tells first given new f'
 
 -- the answer of the last turn: an item, the end, or that there is nothing more
 abbrev pub last_of : Next → RecvTurn
 last_of (next.Item item) = turn.Item item
 last_of next.End = turn.End
 last_of next.Stopped = turn.Empty
+
+-- such turns, and a last one, which answered so; after an Empty the function was asked and told to stop
+pub record PassesWhile {E F : Type 0} (Tells : F → Bool → F → Type 0) (first : Sat E) (given : F) (found : Next) (new : Sat E) : Type 0 where
+  pub old : Sat E
+  pub asked : F
+  pub before : AsksOn Tells first given old asked
+  pub hears : Hears old (last_of found) new
+  pub told : found ≡ next.Stopped → (left : F) × Tells asked false left
 
 abbrev pub item_or_end : Option Item → RecvTurn
 item_or_end (Some item) = turn.Item item

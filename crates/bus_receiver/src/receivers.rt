@@ -10,7 +10,7 @@ ghost use Rattle.bus_pageslot.specs.Rule.{ear_in, known_in};
 ghost use Rattle.bus_pageslot.specs.Listening.{Hears};
 ghost use Rattle.bus_pageslot.specs.Seats.{table_of, deeds_of, stored_of};
 ghost use Rattle.bus_receiver.specs.Listening.{bus_of, is_found, Takes, HaveMet, IsTold};
-ghost use Rattle.bus_receiver.specs.Listening.{PassesTo, PassesWhile, last_of, item_or_end};
+ghost use Rattle.bus_receiver.specs.Listening.{PassesTo, PassesWhile, item_or_end};
 
 use bus_adoptcommit::Ratifier;
 use bus_batch::Item;
@@ -117,21 +117,19 @@ impl<Q: Ratifier + Drop> Receiver<Q> {
         }
     }
 
-    /// As `next_item`, but that it can be told to stop: where a turn finds nothing more it asks
-    /// `go_on`, goes on only where that says yes, and answers Stopped only where that says no. So
-    /// what it knows of the log comes first.
-    pub fn next_item_while<W: Wait, F: Fn() -> bool>(
+    /// As `next_item`, but that it can be told to stop: each time a turn finds nothing more it asks
+    /// `go_on` once, goes on where that says yes, and answers Stopped where it says no. It asks
+    /// nowhere else. So what it knows of the log comes first.
+    pub fn next_item_while<W: Wait, F: FnMut() -> bool>(
         &mut self,
         wait: &W,
         bus: &Bus<Q>,
-        go_on: F,
+        mut go_on: F,
     ) -> Next
         requires table { bus_of self.old ≡ bus.now.table }
         requires callable { F.IsAlwaysCallable go_on }
         ensures table { bus_of self.new ≡ bus_of self.old }
-        ensures passes { PassesWhile (F.post go_on true) self.old.me (last_of result)
-            self.new.me }
-        ensures told { result ≡ Next.Stopped → F.post go_on false }
+        ensures passes { PassesWhile F.step self.old.me go_on result self.new.me }
     {
         let backoff = Backoff::new();
         for _ in wait.forever() {
