@@ -34,7 +34,7 @@ use Rattle.bus_tenure.specs.declared.phases.Phase.TheVariants as phase
 use Rattle.bus_tenure.specs.declared.turns.Turn.{Turn as Answered}
 use Rattle.bus_tenure.proofs.Situated.{tells}
 use Rattle.bus_world.specs.Bus.{IsLayout, Part, Fits, Sending, standing_of, least_of, stands_at}
-use Rattle.bus_world.specs.Guests.{Due, sizes_with, log_from, place_for, sweep_due, due_swept, due_home, due_beside, core_looked, core_seen, visit_seen, visit_elected}
+use Rattle.bus_guest.specs.Guests.{Due, sizes_with, log_from, place_for, sweep_due, due_swept, due_home, due_beside, core_looked, core_seen, visit_seen, visit_elected}
 use Rattle.bus_world.specs.Turning.{number_found, core_with_page, core_after, home_after, owners_after}
 use Rattle.bus_world.specs.Yards.{Yard, IsNewYard, Led, IsKeptYard, YardRefuses, NewYard, Turned, PutIn, ClosedIn, Heard, no_answers, answers_with, going_deeds, due_deeds, deeds_with, no_deeds, due_in, words_stepped, word_found, visited, swept, gone, yard_after, trails_with}
 use Rattle.bus_world.specs.World.{new_page, RecvDoes, can_put, can_close}

@@ -15,7 +15,7 @@ use Rattle.bus_presence.specs.Hall.{Sizes, Hall, Trails, presence_at, row_of, te
 use Rattle.bus_presence.proofs.HallLaws.{IsSweep, Keeps, one_of_row, rows_apart, sweep_does, Asks}
 use Rattle.bus_presence.proofs.RowLaws.{IsLive, live_apart, alive_same, visit_place, load_same}
 use Rattle.bus_tenure.specs.Core.{Layout, row_at, log_at}
-use Rattle.bus_world.specs.Guests.{sizes_with, log_from}
+use Rattle.bus_guest.specs.Guests.{sizes_with, log_from}
 
 -- a table stays where what stands at a place is put there
 pub put_is : {A : Type 0} (p : ℕ) (v : A) (table : ℕ → A) → table p ≡ v → put p v table ≡ table

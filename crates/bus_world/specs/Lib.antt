@@ -13,5 +13,4 @@ pub mod Telling
 pub mod Refusals
 pub mod Stopping
 pub mod Waiting
-pub mod Guests
 pub mod Yards
