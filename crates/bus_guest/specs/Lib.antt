@@ -1,1 +1,3 @@
 pub mod Guests
+pub mod Turns
+pub mod Keeping

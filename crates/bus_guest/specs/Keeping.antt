@@ -1,0 +1,80 @@
+-- What every guest keeps.
+use Rattle.std.specs.Prelude.{◌≡◌, ℕ, ◌+◌, ◌-◌, ◌<◌, ◌≤◌, false, true, Option, Some, None}
+use Rattle.bus_register.specs.declared.limits.TheConstants.{TENURES}
+use Rattle.bus_presence.specs.Sweeps.{Sweeping}
+use Rattle.bus_presence.specs.Hall.{Sizes, presence_at, row_of}
+use Rattle.bus_presence.specs.declared.visits.Visit.{Visit}
+use Rattle.bus_presence.specs.declared.visits.Visit.TheVariants.{Away, Entering, Looking, Inside, Parting, Barred}
+use Rattle.bus_tenure.specs.Core.{Core, row_at}
+use Rattle.bus_tenure.specs.Situations.{LooksAtStage, resting}
+use Rattle.bus_tenure.specs.Keeping.{AreSizes}
+use Rattle.bus_tenure.specs.declared.phases.Phase.{Phase}
+use Rattle.bus_tenure.specs.declared.phases.Phase.TheVariants.{Resting, Electing, Taken, Holding, Giving}
+use Rattle.bus_guest.specs.Turns.{Visitor, sizes_of}
+
+-- it has begun no tenure yet, and may begin this one
+pub record IsBound {E : Type 0} (c : Core E) (t : ℕ) : Type 0 where
+  pub rests : c.phase ≡ Resting
+  pub looks : resting c ≡ LooksAtStage
+  pub least : c.least ≤ t
+  pub below : t < c.layout.rows
+
+-- its election of this tenure runs, or has chosen it
+pub record IsInside {E : Type 0} (Belongs : ℕ → E → Type 0) (c : Core E) (t : ℕ) : Type 0 where
+  pub election : E
+  pub is : c.phase ≡ Electing t election
+  pub belongs : Belongs (row_at c.layout t) election
+  pub below : t < c.layout.rows
+
+-- no election runs
+abbrev pub IsOutside : {E : Type 0} → Phase E → Type 0
+IsOutside Resting = Unit {0}
+IsOutside (Electing t e) = false ≡ true
+IsOutside (Taken t) = Unit {0}
+IsOutside (Holding t page stored published) = Unit {0}
+IsOutside (Giving t reason) = Unit {0}
+
+-- an election runs only of a sender that stands in its tenure
+abbrev pub VisitKeeps : {E : Type 0} → (ℕ → E → Type 0) → Core E → Visit → Type 0
+VisitKeeps Belongs c Away = IsOutside c.phase
+VisitKeeps Belongs c (Entering t) = IsBound c t
+VisitKeeps Belongs c (Looking t) = IsBound c t
+VisitKeeps Belongs c (Inside t) = IsInside Belongs c t
+VisitKeeps Belongs c (Parting t) = IsOutside c.phase
+VisitKeeps Belongs c (Barred t) = IsOutside c.phase
+
+-- the tenure whose page it has taken
+abbrev pub held_of : {E : Type 0} → Phase E → Option ℕ
+held_of Resting = None
+held_of (Electing t e) = None
+held_of (Taken t) = Some t
+held_of (Holding t page stored published) = Some t
+held_of (Giving t reason) = Some t
+
+-- it makes the row of the tenure after this one ready, which was used before
+pub record IsSweepAfter (x : Sizes) (t : ℕ) (s : Sweeping) : Type 0 where
+  pub used : x.rows ≤ t + 1
+  pub past : s.past + x.rows ≡ t + 1
+  pub senders : s.senders ≡ x.senders
+  pub presences : s.presences ≡ presence_at x 0
+  pub row : s.row ≡ row_of x (t + 1)
+  pub width : s.width ≡ x.width
+
+-- only a holder of the page sweeps, for the tenure after its own
+pub record IsHeldSweep {E : Type 0} (v : Visitor E) (s : Sweeping) : Type 0 where
+  pub tenure : ℕ
+  pub held : held_of v.core.phase ≡ Some tenure
+  pub after : IsSweepAfter (sizes_of v) tenure s
+
+abbrev pub SweepKeeps : {E : Type 0} → Visitor E → Option Sweeping → Type 0
+SweepKeeps v None = Unit {0}
+SweepKeeps v (Some s) = IsHeldSweep v s
+
+pub record GuestKeeps {E : Type 0} (width : ℕ) (Belongs : ℕ → E → Type 0) (v : Visitor E) : Type 0 where
+  pub sizes : AreSizes v.core.layout width
+  pub tenures : v.core.layout.rows ≡ TENURES
+  pub rows_some : 2 ≤ v.rows
+  pub rows_few : v.rows ≤ 8
+  pub me_below : v.core.me < v.core.layout.senders
+  pub visit : VisitKeeps Belongs v.core v.visit
+  pub sweep : SweepKeeps v v.sweep
