@@ -2,10 +2,11 @@
 use Rattle.std.specs.Prelude.{◌≡◌, ℕ, ◌+◌, ◌-◌, ◌<◌, ◌≤◌, false, true, Option, Some, None}
 use Rattle.bus_register.specs.declared.limits.TheConstants.{TENURES}
 use Rattle.bus_presence.specs.Sweeps.{Sweeping}
+use Rattle.bus_presence.specs.Visits.{Visiting}
 use Rattle.bus_presence.specs.Hall.{Sizes, presence_at, row_of}
 use Rattle.bus_presence.specs.declared.visits.Visit.{Visit}
 use Rattle.bus_presence.specs.declared.visits.Visit.TheVariants.{Away, Entering, Looking, Inside, Parting, Barred}
-use Rattle.bus_tenure.specs.Core.{Core, row_at}
+use Rattle.bus_tenure.specs.Core.{Core, row_at, stage_at}
 use Rattle.bus_tenure.specs.Situations.{LooksAtStage, resting}
 use Rattle.bus_tenure.specs.Keeping.{AreSizes}
 use Rattle.bus_tenure.specs.declared.phases.Phase.{Phase}
@@ -78,3 +79,11 @@ pub record GuestKeeps {E : Type 0} (width : ℕ) (Belongs : ℕ → E → Type 0
   pub me_below : v.core.me < v.core.layout.senders
   pub visit : VisitKeeps Belongs v.core v.visit
   pub sweep : SweepKeeps v v.sweep
+
+-- its fields: the places of its presence and of the stage, how many senders there are, and how many words a row has
+pub record IsTied {E : Type 0} (presence : Visiting) (senders width row_width : ℕ) (Belongs : ℕ → E → Type 0) (v : Visitor E) : Type 0 where
+  pub word : presence.word ≡ presence_at (sizes_of v) v.core.me
+  pub stage : presence.stage ≡ stage_at
+  pub senders_are : senders ≡ v.core.layout.senders
+  pub width_is : width ≡ v.core.layout.width
+  pub keeps : GuestKeeps row_width Belongs v

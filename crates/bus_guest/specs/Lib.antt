@@ -1,3 +1,4 @@
 pub mod Guests
 pub mod Turns
 pub mod Keeping
+pub mod Besides

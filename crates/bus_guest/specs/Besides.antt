@@ -1,0 +1,17 @@
+-- What a guest does next, from what it does beside the turns of a sender.
+use Rattle.std.specs.Prelude.{Option, Some, None}
+use Rattle.bus_presence.specs.Sweeps.{Sweeping}
+use Rattle.bus_tenure.specs.Situations.{Situation}
+use Rattle.bus_guest.specs.Guests.{Due, Visits, Sweeps, Goes}
+use Rattle.bus_guest.specs.declared.besides.Beside.{Beside}
+use Rattle.bus_guest.specs.declared.besides.Beside.TheVariants.{Visit, Sweep, Nothing}
+use Rattle.bus_register.specs.declared.registers.Op.{Op}
+
+abbrev pub sweeps_by : {E : Type 0} → Option Sweeping → Op → Situation E → Due E
+sweeps_by None o z = Goes z
+sweeps_by (Some s) o z = Sweeps s o
+
+abbrev pub due_by : {E : Type 0} → Beside → Option Sweeping → Situation E → Due E
+due_by (Visit o) s z = Visits o
+due_by (Sweep o) s z = sweeps_by s o z
+due_by Nothing s z = Goes z
