@@ -1,5 +1,5 @@
 -- What a guest does next, from what it does beside the turns of a sender.
-use Rattle.std.specs.Prelude.{Option, Some, None}
+use Rattle.std.specs.Prelude.{Option, Some, None, IsSome}
 use Rattle.bus_presence.specs.Sweeps.{Sweeping}
 use Rattle.bus_tenure.specs.Situations.{Situation}
 use Rattle.bus_guest.specs.Guests.{Due, Visits, Sweeps, Goes}
@@ -15,3 +15,9 @@ abbrev pub due_by : {E : Type 0} → Beside → Option Sweeping → Situation E 
 due_by (Visit o) s z = Visits o
 due_by (Sweep o) s z = sweeps_by s o z
 due_by Nothing s z = Goes z
+
+-- it sweeps only where there is a sweep
+abbrev pub HasSweep : Beside → Option Sweeping → Type 0
+HasSweep (Visit o) s = Unit {0}
+HasSweep (Sweep o) s = IsSome s
+HasSweep Nothing s = Unit {0}

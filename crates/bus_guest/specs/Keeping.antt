@@ -6,8 +6,8 @@ use Rattle.bus_presence.specs.Visits.{Visiting}
 use Rattle.bus_presence.specs.Hall.{Sizes, presence_at, row_of}
 use Rattle.bus_presence.specs.declared.visits.Visit.{Visit}
 use Rattle.bus_presence.specs.declared.visits.Visit.TheVariants.{Away, Entering, Looking, Inside, Parting, Barred}
-use Rattle.bus_tenure.specs.Core.{Core, row_at, stage_at}
-use Rattle.bus_tenure.specs.Situations.{LooksAtStage, resting}
+use Rattle.bus_tenure.specs.Core.{Core, Layout, length_at, stage_at, row_at, log_at, words_of}
+use Rattle.bus_tenure.specs.Situations.{Situation, IsClosed, IsIdle, IsSpent, LooksAtStage, Elects, TakesPage, AwaitsPage, StoresWord, StoresLength, GivesBack, HasHanded, resting}
 use Rattle.bus_tenure.specs.Keeping.{AreSizes}
 use Rattle.bus_tenure.specs.declared.phases.Phase.{Phase}
 use Rattle.bus_tenure.specs.declared.phases.Phase.TheVariants.{Resting, Electing, Taken, Holding, Giving}
@@ -87,3 +87,23 @@ pub record IsTied {E : Type 0} (presence : Visiting) (senders width row_width : 
   pub senders_are : senders ≡ v.core.layout.senders
   pub width_is : width ≡ v.core.layout.width
   pub keeps : GuestKeeps row_width Belongs v
+
+-- on which word a sender takes its step that has a row for each tenure
+pub record IsInOwnRow (x : Layout) (v : Visit) (t r : ℕ) : Type 0 where
+  pub inside : v ≡ Inside t
+  pub tenure : t < x.rows
+  pub above : row_at x t ≤ r
+  pub below : r < row_at x t + x.width
+
+abbrev pub LiesApart : {E : Type 0} → Layout → Visit → Situation E → ℕ → Type 0
+LiesApart x v IsClosed r = false ≡ true
+LiesApart x v IsIdle r = false ≡ true
+LiesApart x v IsSpent r = false ≡ true
+LiesApart x v LooksAtStage r = r ≡ stage_at
+LiesApart x v (Elects t e) r = IsInOwnRow x v t r
+LiesApart x v (TakesPage t) r = (v ≡ Inside t) × (r ≡ stage_at)
+LiesApart x v (AwaitsPage t) r = false ≡ true
+LiesApart x v (StoresWord t page stored) r = (log_at x ≤ r) × (r < words_of x)
+LiesApart x v (StoresLength t page stored) r = r ≡ length_at
+LiesApart x v (GivesBack t page reason) r = r ≡ stage_at
+LiesApart x v (HasHanded t reason) r = r ≡ stage_at

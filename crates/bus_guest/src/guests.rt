@@ -15,11 +15,20 @@ ghost use Rattle.bus_tenure.specs.Elections.{election_of, elections, layout_with
 ghost use Rattle.bus_tenure.specs.Seen.{turns_of, HasElection, AwaitsItsPage};
 ghost use Rattle.bus_tenure.specs.Situations.{situation_of, GivesBack};
 ghost use Rattle.bus_tenure.specs.declared.phases.Phase.TheVariants as phase;
-ghost use Rattle.bus_guest.specs.Guests.{Goes};
+ghost use Rattle.std.specs.Prelude.{◌≢◌, ◌%◌};
+ghost use Rattle.bus_presence.specs.Hall.{sweep_after as hall_sweep_after};
+ghost use Rattle.bus_presence.specs.Visits.{visit_fed};
+ghost use Rattle.bus_presence.specs.Sweeps.{Sweeping, sweep_fed, behind_of};
+ghost use Rattle.bus_tenure.specs.Situations.{op_at, resting, LooksAtStage, answer_of_stage};
+ghost use Rattle.bus_tenure.specs.declared.phases.Reason.{Reason};
+ghost use Rattle.bus_guest.specs.Guests.{Goes, place_for, core_looked, core_seen, visit_seen};
+ghost use Rattle.bus_guest.specs.Turns.{placed, LiesGoing, kind_of_visit, answer_of_visit};
+ghost use Rattle.bus_guest.specs.Turns.{answer_of_sweep, visitor_due, answer_due};
+ghost use Rattle.bus_guest.specs.Keeping.{LiesApart};
 ghost use Rattle.bus_guest.specs.Turns.{due, op_next, kind_due, wants_due, rest_due};
 ghost use Rattle.bus_guest.specs.Turns.{tenure_begun_by, LiesAt, words_with, queue_seen};
 ghost use Rattle.bus_guest.specs.Turns.{visitor_after, answer_after, GivesPageBack};
-ghost use Rattle.bus_guest.specs.Besides.{due_by};
+ghost use Rattle.bus_guest.specs.Besides.{due_by, HasSweep};
 
 use super::besides::Beside;
 use bus_adoptcommit::Ratifier;
@@ -115,13 +124,14 @@ impl<Q: Ratifier + Drop> Guest<Q> {
           rows = rows;
         } }
     {
+        let width = Election::<Q>::width(senders, rounds);
         Guest {
             core: SenderCore::new(senders, me, rounds, TENURES, log_words),
             presence: Presence::new(Reg(2 + u64::from(me.0)), STAGE),
             sweep: None,
             lost: None,
             senders,
-            width: Election::<Q>::width(senders, rounds),
+            width,
             rows,
         }
     }
@@ -250,8 +260,9 @@ impl<Q: Ratifier + Drop> Guest<Q> {
 
     /// The step of its visit or of its sweep that is due.
     fn beside(&self) -> Beside
-        ensures { let X = election_of Q.Ratifier in
+        ensures due { let X = election_of Q.Ratifier in
             due X self.now ≡ due_by result self.now.sweep (situation_of X self.now.core) }
+        ensures sweeps { HasSweep result self.now.sweep }
     {
         if let Some(op) = self.presence.next() {
             return Beside::Visit(op);
@@ -265,4 +276,298 @@ impl<Q: Ratifier + Drop> Guest<Q> {
         }
         Beside::Nothing
     }
+
+    /// Where the word lies on which a sender that has a row for each tenure takes its step here.
+    fn place(&self, at: Reg) -> Reg
+        requires { let X = election_of Q.Ratifier in
+            LiesApart self.now.core.layout self.now.visit (situation_of X self.now.core) at.0 }
+        ensures place { let X = election_of Q.Ratifier in
+            result.0 ≡ place_for self.now.core.layout self.now.rows
+            (situation_of X self.now.core) at.0 }
+        ensures lies { let X = election_of Q.Ratifier in
+            LiesGoing self.now.core.layout self.now.rows self.now.visit
+            (situation_of X self.now.core) result.0 }
+        ensures below { result.0 < words_with self.now }
+    {
+        let log = 2 + TENURES * self.width;
+        if at.0 < 2 {
+            return at;
+        }
+        if at.0 >= log {
+            return Reg(2 + self.senders + self.rows * self.width + (at.0 - log));
+        }
+        let Visit::Inside { tenure } = self.presence.visit() else {
+            return at;
+        };
+        let row = 2 + self.senders + tenure % self.rows * self.width;
+        Reg(row + (at.0 - (2 + tenure * self.width)))
+    }
+
+    /// The next step as a sender, where it lies here.
+    fn next_apart(&self, word: u32) -> Option<Op>
+        ensures step { let X = election_of Q.Ratifier in
+            result ≡ placed (place_for self.now.core.layout self.now.rows
+            (situation_of X self.now.core))
+            (op_at X self.now.core (situation_of X self.now.core) word) }
+        ensures lies { let X = election_of Q.Ratifier in
+            IfSome result (λ o. LiesGoing self.now.core.layout self.now.rows self.now.visit
+            (situation_of X self.now.core) (register o)) }
+        ensures below { IfSome result (λ o. register o < words_with self.now) }
+    {
+        match self.core.next(word) {
+            None => None,
+            Some(Op::Load(at)) => Some(Op::Load(self.place(at))),
+            Some(Op::Store(at, number)) => Some(Op::Store(self.place(at), number)),
+            Some(Op::Add(at, number)) => Some(Op::Add(self.place(at), number)),
+            Some(Op::Cas(at, from, to)) => Some(Op::Cas(self.place(at), from, to)),
+        }
+    }
+
+    /// The next step; none where none is due. Takes nothing and changes nothing.
+    pub fn next(&self, word: u32) -> Option<Op>
+        ensures step { let X = election_of Q.Ratifier in result ≡ op_next X self.now word }
+        ensures lies { let X = election_of Q.Ratifier in
+            IfSome result (λ o. LiesAt self.now (due X self.now) (register o)) }
+        ensures below { IfSome result (λ o. register o < words_with self.now) }
+    {
+        match self.beside() {
+            Beside::Visit(op) | Beside::Sweep(op) => Some(op),
+            Beside::Nothing => self.next_apart(word),
+        }
+    }
+
+    /// What the next step is for; none where none is due.
+    pub fn kind(&self) -> Option<Kind>
+        ensures { let X = election_of Q.Ratifier in
+            result ≡ kind_due X self.now (due X self.now) }
+    {
+        match self.beside() {
+            Beside::Visit(_) => visit_kind(self.presence.visit()),
+            Beside::Sweep(Op::Load(_)) => Some(Kind::ReadPresence),
+            Beside::Sweep(_) => Some(Kind::ClearRow),
+            Beside::Nothing => self.core.kind(),
+        }
+    }
+
+    /// The answer where no step is due; Going where one is, or a page is to be laid.
+    pub fn rest(&self) -> Turn
+        ensures { let X = election_of Q.Ratifier in
+            result ≡ rest_due X self.now (due X self.now) }
+    {
+        match self.beside() {
+            Beside::Visit(_) | Beside::Sweep(_) => Turn::Going,
+            Beside::Nothing => self.core.rest(),
+        }
+    }
+
+    /// The next step asks for a random word.
+    pub fn wants_word(&self) -> bool
+        ensures { let X = election_of Q.Ratifier in
+            result ≡ wants_due X self.now (due X self.now) }
+    {
+        match self.beside() {
+            Beside::Visit(_) | Beside::Sweep(_) => false,
+            Beside::Nothing => self.core.wants_word(),
+        }
+    }
+
+    /// How many turns the election takes at most, with the one that takes the page; 0 where none is
+    /// begun. Those of its visit are not among them.
+    pub fn turns_left(&self) -> u64
+        ensures turns { let X = election_of Q.Ratifier in result ≡ turns_of X self.now.core.phase }
+        ensures running { HasElection self.now.core.phase → 1 ≤ result }
+    {
+        self.core.turns_left()
+    }
+
+    /// Takes the next step of its visit.
+    fn visit_on(&mut self, got: u64) -> Turn
+        ensures state { let X = election_of Q.Ratifier in
+            self.new ≡ record self.old {
+              core = core_looked X self.old.core self.old.visit got;
+              visit = visit_fed self.old.visit got;
+              lost = None;
+            } }
+        ensures answer { result ≡ answer_of_visit self.old.visit self.old.lost }
+    {
+        let visit = self.presence.visit();
+        let lost = self.lost;
+        if let Visit::Looking { tenure } = visit {
+            if got / 2 == tenure {
+                self.core.feed(2 * tenure, 0);
+            }
+        }
+        self.presence.feed(got);
+        self.lost = None;
+        match visit {
+            Visit::Parting { tenure } => match lost {
+                Some(owner) => Turn::Lost { tenure, owner },
+                None => Turn::Going,
+            },
+            Visit::Barred { .. } => Turn::Waiting,
+            _ => Turn::Going,
+        }
+    }
+
+    /// Takes the next step of its sweep.
+    fn sweep_on(&mut self, got: u64) -> Turn
+        ensures state { (s : Sweeping) → self.old.sweep ≡ Some s
+            → self.new ≡ record self.old { sweep = Some (sweep_fed s got) } }
+        ensures answer { (s : Sweeping) → self.old.sweep ≡ Some s
+            → result ≡ answer_of_sweep (behind_of s got) }
+    {
+        let Some(sweep) = &mut self.sweep else {
+            return Turn::Going;
+        };
+        match sweep.feed(got) {
+            Some(Behind { tenure, sender }) => Turn::Behind {
+                tenure,
+                sender: SenderNo(sender as u8),
+            },
+            None => Turn::Going,
+        }
+    }
+
+    /// Takes in what the stage is, and enters the tenure that it may begin.
+    fn see_stage(&mut self, got: u64) -> Turn
+        requires rests { self.old.core.phase ≡ phase.Resting }
+        requires looks { resting self.old.core ≡ LooksAtStage }
+        requires away { self.old.visit ≡ visit.Away }
+        ensures state { self.new ≡ record self.old {
+          core = core_seen self.old.core got;
+          visit = visit_seen self.old.core got;
+        } }
+        ensures answer { result ≡ answer_of_stage self.old.core got }
+    {
+        match self.core.may_begin(got) {
+            Some(tenure) => {
+                self.presence.begin(tenure);
+                Turn::Going
+            }
+            None => self.core.feed(got, 0),
+        }
+    }
+
+    /// Goes on as a sender in a tenure.
+    fn go_on(&mut self, got: u64, word: u32) -> Turn
+        requires goes { let X = election_of Q.Ratifier in
+            due X self.old ≡ Goes (situation_of X self.old.core) }
+        requires steps { let X = election_of Q.Ratifier in
+            IsSome (op_at X self.old.core (situation_of X self.old.core) word) }
+        requires begun { self.old.core.phase ≢ phase.Resting }
+        ensures state { let X = election_of Q.Ratifier in
+            self.new ≡ visitor_due X self.old (Goes (situation_of X self.old.core)) got word }
+        ensures answer { let X = election_of Q.Ratifier in
+            result ≡ answer_due X self.old (Goes (situation_of X self.old.core)) got word }
+    {
+        let turn = self.core.feed(got, word);
+        match turn {
+            Turn::Lost { tenure, owner } => {
+                self.presence.part(tenure);
+                self.lost = Some(owner);
+                return Turn::Going;
+            }
+            Turn::Own { tenure } => {
+                self.presence.part(tenure);
+                self.sweep = sweep_after(tenure, self.senders, self.rows, self.width);
+            }
+            Turn::Delivered { .. } | Turn::Full | Turn::Closed => self.sweep = None,
+            _ => {}
+        }
+        turn
+    }
+
+    /// The step that `next` told for the same random word was taken, and found `got`.
+    pub fn feed(&mut self, got: u64, word: u32) -> Turn
+        requires { let X = election_of Q.Ratifier in IsSome (op_next X self.old word) }
+        ensures state { let X = election_of Q.Ratifier in
+            self.new ≡ visitor_after X self.old got word }
+        ensures answer { let X = election_of Q.Ratifier in
+            result ≡ answer_after X self.old got word }
+    {
+        match self.beside() {
+            Beside::Visit(_) => self.visit_on(got),
+            Beside::Sweep(_) => self.sweep_on(got),
+            Beside::Nothing => match self.core.tenure() {
+                None => self.see_stage(got),
+                Some(_) => self.go_on(got, word),
+            },
+        }
+    }
+
+    /// The page is taken and is to be laid.
+    pub fn awaits_page(&self) -> bool
+        ensures { IsTrue result ↔ AwaitsItsPage self.now.core.phase }
+    {
+        self.core.awaits_page()
+    }
+
+    /// Lays the page before it, which it has taken.
+    pub fn lay(&mut self, page: Page)
+        requires { AwaitsItsPage self.old.core.phase }
+        ensures { (t : ℕ) → self.old.core.phase ≡ phase.Taken t
+            → self.new ≡ record self.old {
+              core = record self.old.core { phase = phase.Holding t page 0 false };
+            } }
+    {
+        self.core.lay(page);
+    }
+
+    /// The page is to be given back, and stands before it yet: the row of the next tenure is ready.
+    pub fn gives_back(&self) -> bool
+        ensures { let X = election_of Q.Ratifier in
+            IsTrue result ↔ GivesPageBack (due X self.now) }
+    {
+        match self.beside() {
+            Beside::Visit(_) | Beside::Sweep(_) => false,
+            Beside::Nothing => self.core.gives_back(),
+        }
+    }
+
+    /// Takes the page from it, to be given back.
+    pub fn hand(&mut self) -> Page
+        requires { let X = election_of Q.Ratifier in GivesPageBack (due X self.old) }
+        ensures page { let X = election_of Q.Ratifier in
+            (t : ℕ) (page : Page) (reason : Reason)
+            → situation_of X self.old.core ≡ GivesBack t page reason
+            → result ≡ page_after self.old.core t page reason }
+        ensures state { let X = election_of Q.Ratifier in
+            (t : ℕ) (page : Page) (reason : Reason)
+            → situation_of X self.old.core ≡ GivesBack t page reason
+            → self.new ≡ record self.old {
+              core = record self.old.core { phase = phase.Giving t reason };
+            } }
+    {
+        self.core.hand()
+    }
+}
+
+/// What the next step of a visit is for.
+fn visit_kind(visit: Visit) -> Option<Kind>
+    ensures { result ≡ kind_of_visit visit }
+{
+    match visit {
+        Visit::Away | Visit::Inside { .. } => None,
+        Visit::Entering { .. } => Some(Kind::Enter),
+        Visit::Looking { .. } => Some(Kind::LoadStageAgain),
+        Visit::Parting { .. } | Visit::Barred { .. } => Some(Kind::Withdraw),
+    }
+}
+
+/// The sweep of a holder of this tenure: none where the row of the next one was never used.
+fn sweep_after(tenure: u64, senders: u64, rows: u64, width: u64) -> Option<Sweep>
+    requires tenure { tenure < TENURES }
+    requires senders { senders ≤ MOST_SENDERS }
+    requires rows_some { 2 ≤ rows }
+    requires rows_few { rows ≤ 8 }
+    requires width { width ≤ 2 ^ 23 }
+    ensures { result ≡ hall_sweep_after
+        (record { at = 1; senders = senders; rows = rows; width = width }) tenure }
+{
+    let next = tenure + 1;
+    if next < rows {
+        return None;
+    }
+    let row = Reg(2 + senders + next % rows * width);
+    Some(Sweep::new(next - rows, senders, Reg(2), row, width))
 }
