@@ -1,0 +1,142 @@
+-- What a guest keeps is kept by each of its steps.
+use Rattle.std.proofs.Common.{◌≡◌, ℕ, ◌+◌, ◌*◌, ◌-◌, ◌/◌, ◌%◌, ◌<◌, ◌≤◌, Bool, true, false, Option, Some, None, IsSome, nat_lt, nat_le, ◌==◌, cond, is_some, refl, sym, ◌∙◌, ap, subst, arith}
+use Rattle.std.proofs.lemmas.Option.{same_Some}
+use Rattle.bus_register.specs.declared.registers.Op.{Op}
+use Rattle.bus_register.specs.declared.registers.Op.TheVariants.{Load, Store}
+use Rattle.bus_register.specs.Words.{register}
+use Rattle.bus_ownerbits.proofs.ElectionSteps.{row_within}
+use Rattle.bus_presence.specs.Visits.{Visiting, step_at, visit_fed}
+use Rattle.bus_presence.specs.Sweeps.{Sweeping, sweep_op, sweep_fed}
+use Rattle.bus_presence.specs.Hall.{sweep_after}
+use Rattle.bus_presence.specs.declared.visits.Visit.{Visit}
+use Rattle.bus_presence.specs.declared.visits.Visit.TheVariants.{Away, Entering, Looking, Inside, Parting, Barred}
+use Rattle.bus_tenure.specs.Core.{Core, Election, Layout, length_at, stage_at, row_at, log_at, words_of}
+use Rattle.bus_tenure.specs.Situations.{Situation, IsClosed, IsIdle, IsSpent, LooksAtStage, Elects, TakesPage, AwaitsPage, StoresWord, StoresLength, GivesBack, HasHanded, situation_of, op_at, core_begun, core_elected}
+use Rattle.bus_tenure.specs.Keeping.{AreSizes}
+use Rattle.bus_tenure.specs.declared.pages.Page.{Page}
+use Rattle.bus_tenure.specs.declared.phases.Reason.{Reason}
+use Rattle.bus_tenure.specs.declared.phases.Phase.{Phase}
+use Rattle.bus_tenure.specs.declared.phases.Phase.TheVariants.{Resting, Electing, Taken, Holding, Giving}
+use Rattle.bus_tenure.proofs.Situated.{tells}
+use Rattle.bus_guest.specs.Guests.{sizes_with, log_from, place_for, Due, Visits, Sweeps, Goes, due_beside, due_home, due_swept, sweep_due, core_looked, visit_elected}
+use Rattle.bus_guest.specs.Turns.{Visitor, due, visitor_due, lost_elected, LiesGoing}
+use Rattle.bus_guest.specs.Keeping.{IsBound, IsInside, IsOutside, VisitKeeps, held_of, IsSweepAfter, IsHeldSweep, SweepKeeps, GuestKeeps, IsTied, LiesApart, IsInOwnRow}
+
+-- ---- what it does next
+goes_swept : {E : Type 0} (s : Sweeping) (o : Option Op) (z z' : Situation E) → due_swept s o z ≡ Goes z' → z ≡ z'
+goes_swept s None z z' e = cc
+goes_swept s (Some o) z z' e = absurd cc
+
+goes_home : {E : Type 0} (s : Option Sweeping) (z z' : Situation E) → due_home s z ≡ Goes z' → z ≡ z'
+goes_home None z z' e = cc
+goes_home (Some s) z z' e = goes_swept s (sweep_op s) z z' e
+
+-- it goes on in the situation of its sender
+pub goes_beside : {E : Type 0} (o : Option Op) (s : Option Sweeping) (z z' : Situation E) → due_beside o s z ≡ Goes z' → z ≡ z'
+goes_beside None s z z' e = goes_home (sweep_due z s) z z' e
+goes_beside (Some o) s z z' e = absurd cc
+
+-- ---- where an election runs
+module _ {E : Type 0} (Belongs : ℕ → E → Type 0) where
+  pub runs_inside : (c : Core E) (v : Visit) (t : ℕ) (e : E) → VisitKeeps Belongs c v → c.phase ≡ Electing t e → (v ≡ Inside t) × Belongs (row_at c.layout t) e × (t < c.layout.rows)
+  runs_inside c Away t e k i = absurd (let o : IsOutside (Electing t e) = subst IsOutside i k in cc)
+  runs_inside c (Entering u) t e k i = absurd (let r = sym k.rests ∙ i in cc)
+  runs_inside c (Looking u) t e k i = absurd (let r = sym k.rests ∙ i in cc)
+  runs_inside c (Inside u) t e k i =
+      let r : Electing u k.election ≡ Electing t e = sym k.is ∙ i in
+      let same : u ≡ t = cc in
+      let part : k.election ≡ e = cc in
+      (ap Inside same, subst (λ z. Belongs (row_at c.layout t) z) part (subst (λ z. Belongs (row_at c.layout z) k.election) same k.belongs), subst (λ z. z < c.layout.rows) same k.below)
+  runs_inside c (Parting u) t e k i = absurd (let o : IsOutside (Electing t e) = subst IsOutside i k in cc)
+  runs_inside c (Barred u) t e k i = absurd (let o : IsOutside (Electing t e) = subst IsOutside i k in cc)
+
+  -- a holder visits no more
+  pub stays_outside : (c d : Core E) (v : Visit) (t : ℕ) → VisitKeeps Belongs c v → held_of c.phase ≡ Some t → IsOutside d.phase → VisitKeeps Belongs d v
+  stays_outside c d Away t k h o = o
+  stays_outside c d (Entering u) t k h o = absurd (let r = sym (ap held_of k.rests) ∙ h in cc)
+  stays_outside c d (Looking u) t k h o = absurd (let r = sym (ap held_of k.rests) ∙ h in cc)
+  stays_outside c d (Inside u) t k h o = absurd (let r = sym (ap held_of k.is) ∙ h in cc)
+  stays_outside c d (Parting u) t k h o = o
+  stays_outside c d (Barred u) t k h o = o
+
+held_outside : {E : Type 0} (ph : Phase E) (t : ℕ) → held_of ph ≡ Some t → IsOutside ph
+held_outside Resting t h = tt
+held_outside (Electing u e) t h = absurd cc
+held_outside (Taken u) t h = tt
+held_outside (Holding u page stored published) t h = tt
+held_outside (Giving u reason) t h = tt
+
+-- nobody sweeps but a holder
+unswept : {E : Type 0} (v w : Visitor E) (s : Option Sweeping) → SweepKeeps v s → held_of v.core.phase ≡ None → SweepKeeps w s
+unswept v w None k h = tt
+unswept v w (Some s) k h = absurd (let r = sym h ∙ k.held in cc)
+
+-- ---- where a sender's step lies that has a row for each tenure
+module _ {E : Type 0} (X : Election E) (W : Layout → ℕ) (B : Layout → ℕ → ℕ → E → Type 0) where
+  -- what the elections keep
+  pub record ElectionsKeep : Type 0 where
+    pub starts : (x : Layout) (me at : ℕ) → me < x.senders → x.senders ≤ 64 → B x me at (X.started x.senders me x.rounds at)
+    pub above : (x : Layout) (me at : ℕ) (e : E) (word : ℕ) (o : Op) → B x me at e → X.op e word ≡ Some o → at ≤ register o
+    pub below : (x : Layout) (me at : ℕ) (e : E) (word : ℕ) (o : Op) → B x me at e → X.op e word ≡ Some o → register o < at + W x
+    pub goes : (x : Layout) (me at : ℕ) (e : E) (got word : ℕ) (o : Op) → B x me at e → X.op e word ≡ Some o → B x me at (X.fed e got word)
+
+  module _ (law : ElectionsKeep) where
+    lies : (c : Core E) (v : Visit) (word : ℕ) (o : Op) → AreSizes c.layout (W c.layout) → VisitKeeps (B c.layout c.me) c v → register o < words_of c.layout → (z : Situation E) → situation_of X c ≡ z → op_at X c z word ≡ Some o → LiesApart c.layout v z (register o)
+    lies c v word o sizes k b IsClosed i e = absurd cc
+    lies c v word o sizes k b IsIdle i e = absurd cc
+    lies c v word o sizes k b IsSpent i e = absurd cc
+    lies c v word o sizes k b LooksAtStage i e = sym (ap register (same_Some _ _ e))
+    lies c v word o sizes k b (Elects t p) i e =
+        let t1 = tells X c (Elects t p) i in
+        let r = runs_inside (B c.layout c.me) c v t p k t1.0 in
+        record {
+          inside = r.0;
+          tenure = r.2;
+          above = law.above c.layout c.me (row_at c.layout t) p word o r.1 e;
+          below = subst (λ w. register o < row_at c.layout t + w) (sym sizes.width_is) (law.below c.layout c.me (row_at c.layout t) p word o r.1 e);
+        }
+    lies c v word o sizes k b (TakesPage t) i e = let t1 = tells X c (TakesPage t) i in ((runs_inside (B c.layout c.me) c v t t1.0 k t1.1).0, sym (ap register (same_Some _ _ e)))
+    lies c v word o sizes k b (AwaitsPage t) i e = absurd cc
+    lies c v word o sizes k b (StoresWord t page stored) i e = let r : log_at c.layout + page.words + stored ≡ register o = ap register (same_Some _ _ e) in (omega arith, b)
+    lies c v word o sizes k b (StoresLength t page stored) i e = sym (ap register (same_Some _ _ e))
+    lies c v word o sizes k b (GivesBack t page reason) i e = sym (ap register (same_Some _ _ e))
+    lies c v word o sizes k b (HasHanded t reason) i e = sym (ap register (same_Some _ _ e))
+
+    pub lies_apart : (c d : Core E) (v u : Visit) (word : ℕ) (o : Op) → AreSizes c.layout (W c.layout) → VisitKeeps (B c.layout c.me) c v → c ≡ d → v ≡ u → register o < words_of d.layout → Some o ≡ op_at X d (situation_of X d) word → LiesApart d.layout u (situation_of X d) (register o)
+    lies_apart c d v u word o sizes k same seen b e =
+        subst (λ y. LiesApart d.layout y (situation_of X d) (register o)) seen
+        (subst (λ y. register o < words_of y.layout → Some o ≡ op_at X y (situation_of X y) word → LiesApart y.layout v (situation_of X y) (register o)) same
+        (λ b e. lies c v word o sizes k b (situation_of X c) refl (sym e)) b e)
+
+-- a word that a sender stores at or past the log is one of its frame
+module _ {E : Type 0} (x : Layout) (v : Visit) where
+  pub stores_word : (z : Situation E) (r : ℕ) → LiesApart x v z r → log_at x ≤ r → (t : ℕ) × (page : Page) × (stored : ℕ) × (z ≡ StoresWord t page stored) × (r < words_of x)
+  stores_word IsClosed r h l = absurd cc
+  stores_word IsIdle r h l = absurd cc
+  stores_word IsSpent r h l = absurd cc
+  stores_word LooksAtStage r h l = absurd (omega arith)
+  stores_word (Elects t e) r h l = absurd (let m = row_within t x.rows x.width h.tenure in let a = h.above in let b = h.below in omega arith)
+  stores_word (TakesPage t) r h l = absurd (let a = h.1 in omega arith)
+  stores_word (AwaitsPage t) r h l = absurd cc
+  stores_word (StoresWord t page stored) r h l = (t, page, stored, refl, h.1)
+  stores_word (StoresLength t page stored) r h l = absurd (omega arith)
+  stores_word (GivesBack t page reason) r h l = absurd (omega arith)
+  stores_word (HasHanded t reason) r h l = absurd (omega arith)
+
+  pub high_place : (rows senders width log : ℕ) (z : Situation E) (r : ℕ) → LiesApart x v z r → log_at x ≤ r → senders ≡ x.senders → width ≡ x.width → log ≡ x.rows → 2 + senders + rows * width + (r - (2 + log * width)) ≡ place_for x rows z r
+  high_place rows senders width log z r h l a b d =
+      let s = stores_word z r h l in
+      let at : log_from x rows + (r - log_at x) ≡ place_for x rows z r = sym (ap (λ y. place_for x rows y r) s.3) in
+      ap (λ k. 2 + k + rows * width + (r - (2 + log * width))) a ∙ ap (λ k. 2 + x.senders + rows * k + (r - (2 + log * k))) b ∙ ap (λ k. 2 + x.senders + rows * x.width + (r - (2 + k * x.width))) d ∙ at
+
+  pub high_lies : (rows : ℕ) (z : Situation E) (r : ℕ) → LiesApart x v z r → log_at x ≤ r → (place : ℕ) → place ≡ place_for x rows z r → LiesGoing x rows v z place
+  high_lies rows z r h l place e =
+      let s = stores_word z r h l in
+      let at : place ≡ log_from x rows + (r - log_at x) = e ∙ ap (λ y. place_for x rows y r) s.3 in
+      subst (λ y. LiesGoing x rows v y place) (sym s.3) (let q : log_from x rows ≤ place = omega arith in q)
+
+  pub high_below : (rows : ℕ) (z : Situation E) (r : ℕ) → LiesApart x v z r → log_at x ≤ r → (place : ℕ) → place ≡ place_for x rows z r → place < log_from x rows + x.capacity
+  high_below rows z r h l place e =
+      let s = stores_word z r h l in
+      let at : place ≡ log_from x rows + (r - log_at x) = e ∙ ap (λ y. place_for x rows y r) s.3 in
+      let b = s.4 in omega arith
