@@ -59,18 +59,6 @@ module _ {E : Type 0} (Belongs : ℕ → E → Type 0) where
   stays_outside c d (Parting u) t k h o = o
   stays_outside c d (Barred u) t k h o = o
 
-held_outside : {E : Type 0} (ph : Phase E) (t : ℕ) → held_of ph ≡ Some t → IsOutside ph
-held_outside Resting t h = tt
-held_outside (Electing u e) t h = absurd cc
-held_outside (Taken u) t h = tt
-held_outside (Holding u page stored published) t h = tt
-held_outside (Giving u reason) t h = tt
-
--- nobody sweeps but a holder
-unswept : {E : Type 0} (v w : Visitor E) (s : Option Sweeping) → SweepKeeps v s → held_of v.core.phase ≡ None → SweepKeeps w s
-unswept v w None k h = tt
-unswept v w (Some s) k h = absurd (let r = sym h ∙ k.held in cc)
-
 -- ---- where a sender's step lies that has a row for each tenure
 module _ {E : Type 0} (X : Election E) (W : Layout → ℕ) (B : Layout → ℕ → ℕ → E → Type 0) where
   -- what the elections keep
@@ -81,7 +69,7 @@ module _ {E : Type 0} (X : Election E) (W : Layout → ℕ) (B : Layout → ℕ 
     pub goes : (x : Layout) (me at : ℕ) (e : E) (got word : ℕ) (o : Op) → B x me at e → X.op e word ≡ Some o → B x me at (X.fed e got word)
 
   module _ (law : ElectionsKeep) where
-    lies : (c : Core E) (v : Visit) (word : ℕ) (o : Op) → AreSizes c.layout (W c.layout) → VisitKeeps (B c.layout c.me) c v → register o < words_of c.layout → (z : Situation E) → situation_of X c ≡ z → op_at X c z word ≡ Some o → LiesApart c.layout v z (register o)
+    pub lies : (c : Core E) (v : Visit) (word : ℕ) (o : Op) → AreSizes c.layout (W c.layout) → VisitKeeps (B c.layout c.me) c v → register o < words_of c.layout → (z : Situation E) → situation_of X c ≡ z → op_at X c z word ≡ Some o → LiesApart c.layout v z (register o)
     lies c v word o sizes k b IsClosed i e = absurd cc
     lies c v word o sizes k b IsIdle i e = absurd cc
     lies c v word o sizes k b IsSpent i e = absurd cc
@@ -101,12 +89,6 @@ module _ {E : Type 0} (X : Election E) (W : Layout → ℕ) (B : Layout → ℕ 
     lies c v word o sizes k b (StoresLength t page stored) i e = sym (ap register (same_Some _ _ e))
     lies c v word o sizes k b (GivesBack t page reason) i e = sym (ap register (same_Some _ _ e))
     lies c v word o sizes k b (HasHanded t reason) i e = sym (ap register (same_Some _ _ e))
-
-    pub lies_apart : (c d : Core E) (v u : Visit) (word : ℕ) (o : Op) → AreSizes c.layout (W c.layout) → VisitKeeps (B c.layout c.me) c v → c ≡ d → v ≡ u → register o < words_of d.layout → Some o ≡ op_at X d (situation_of X d) word → LiesApart d.layout u (situation_of X d) (register o)
-    lies_apart c d v u word o sizes k same seen b e =
-        subst (λ y. LiesApart d.layout y (situation_of X d) (register o)) seen
-        (subst (λ y. register o < words_of y.layout → Some o ≡ op_at X y (situation_of X y) word → LiesApart y.layout v (situation_of X y) (register o)) same
-        (λ b e. lies c v word o sizes k b (situation_of X c) refl (sym e)) b e)
 
 -- a word that a sender stores at or past the log is one of its frame
 module _ {E : Type 0} (x : Layout) (v : Visit) where

@@ -25,6 +25,10 @@ ghost use Rattle.bus_guest.specs.Guests.{Goes, place_for, core_looked, core_seen
 ghost use Rattle.bus_guest.specs.Turns.{placed, LiesGoing, kind_of_visit, answer_of_visit};
 ghost use Rattle.bus_guest.specs.Turns.{answer_of_sweep, visitor_due, answer_due};
 ghost use Rattle.bus_guest.specs.Keeping.{LiesApart};
+ghost use Rattle.bus_guest.specs.Following.{visit_by as spec_visit_by};
+ghost use Rattle.bus_guest.specs.Following.{sweep_by as spec_sweep_by};
+ghost use Rattle.bus_guest.specs.Following.{lost_by as spec_lost_by};
+ghost use Rattle.bus_guest.specs.Following.{told_by as spec_told_by};
 ghost use Rattle.bus_guest.specs.Turns.{due, op_next, kind_due, wants_due, rest_due};
 ghost use Rattle.bus_guest.specs.Turns.{tenure_begun_by, LiesAt, words_with, queue_seen};
 ghost use Rattle.bus_guest.specs.Turns.{visitor_after, answer_after, GivesPageBack};
@@ -461,20 +465,11 @@ impl<Q: Ratifier + Drop> Guest<Q> {
             result ≡ answer_due X self.old (Goes (situation_of X self.old.core)) got word }
     {
         let turn = self.core.feed(got, word);
-        match turn {
-            Turn::Lost { tenure, owner } => {
-                self.presence.part(tenure);
-                self.lost = Some(owner);
-                return Turn::Going;
-            }
-            Turn::Own { tenure } => {
-                self.presence.part(tenure);
-                self.sweep = sweep_after(tenure, self.senders, self.rows, self.width);
-            }
-            Turn::Delivered { .. } | Turn::Full | Turn::Closed => self.sweep = None,
-            _ => {}
-        }
-        turn
+        part_after(&mut self.presence, turn);
+        let sweep = self.sweep.take();
+        self.sweep = sweep_by(turn, sweep, self.senders, self.rows, self.width);
+        self.lost = lost_by(turn, self.lost);
+        told_by(turn)
     }
 
     /// The step that `next` told for the same random word was taken, and found `got`.
@@ -570,4 +565,63 @@ fn sweep_after(tenure: u64, senders: u64, rows: u64, width: u64) -> Option<Sweep
     }
     let row = Reg(2 + senders + next % rows * width);
     Some(Sweep::new(next - rows, senders, Reg(2), row, width))
+}
+
+/// Parts from the tenure whose election is over by this answer.
+fn part_after(presence: &mut Presence, turn: Turn)
+    requires lost { (t : ℕ) (o : SenderNo) → turn ≡ Turn.Lost t o
+        → presence.old.visit ≡ visit.Inside t }
+    requires own { (t : ℕ) → turn ≡ Turn.Own t → presence.old.visit ≡ visit.Inside t }
+    ensures { presence.new ≡ record presence.old {
+      visit = spec_visit_by turn presence.old.visit;
+    } }
+{
+    match turn {
+        Turn::Lost { tenure, .. } | Turn::Own { tenure } => presence.part(tenure),
+        _ => {}
+    }
+}
+
+/// The sweep after this answer: it begins with the page that is taken, and is over with the page
+/// that is given back.
+fn sweep_by(
+    turn: Turn,
+    sweep: Option<Sweep>,
+    senders: u64,
+    rows: u64,
+    width: u64,
+) -> Option<Sweep>
+    requires tenure { (t : ℕ) → turn ≡ Turn.Own t → t < TENURES }
+    requires senders { senders ≤ MOST_SENDERS }
+    requires rows_some { 2 ≤ rows }
+    requires rows_few { rows ≤ 8 }
+    requires width { width ≤ 2 ^ 23 }
+    ensures { result ≡ spec_sweep_by
+        (record { at = 1; senders = senders; rows = rows; width = width }) turn sweep }
+{
+    match turn {
+        Turn::Own { tenure } => sweep_after(tenure, senders, rows, width),
+        Turn::Delivered { .. } | Turn::Full | Turn::Closed => None,
+        _ => sweep,
+    }
+}
+
+/// Who owns the tenure that it parts from, after this answer.
+fn lost_by(turn: Turn, lost: Option<SenderNo>) -> Option<SenderNo>
+    ensures { result ≡ spec_lost_by turn lost }
+{
+    match turn {
+        Turn::Lost { owner, .. } => Some(owner),
+        _ => lost,
+    }
+}
+
+/// What it answers where a sender that has a row for each tenure answers this.
+fn told_by(turn: Turn) -> Turn
+    ensures { result ≡ spec_told_by turn }
+{
+    match turn {
+        Turn::Lost { .. } => Turn::Going,
+        _ => turn,
+    }
 }

@@ -1,0 +1,258 @@
+-- A guest keeps what it keeps with each of its steps.
+use Rattle.std.proofs.Common.{◌≡◌, ◌≢◌, ℕ, ◌+◌, ◌*◌, ◌-◌, ◌/◌, ◌%◌, ◌<◌, ◌≤◌, Bool, true, false, Option, Some, None, IsSome, nat_lt, nat_le, ◌==◌, cond, is_some, refl, sym, ◌∙◌, ap, subst, arith}
+use Rattle.std.proofs.lemmas.Bool.{lt-ltb}
+use Rattle.bus_register.specs.declared.limits.TheConstants.{TENURES}
+use Rattle.bus_register.specs.declared.registers.Op.{Op}
+use Rattle.bus_batch.specs.Batches.{Pending}
+use Rattle.bus_presence.specs.Visits.{Visiting, visit_fed}
+use Rattle.bus_presence.specs.Sweeps.{Sweeping, sweep_fed}
+use Rattle.bus_presence.specs.Hall.{sweep_after, presence_at, row_of}
+use Rattle.bus_presence.specs.declared.visits.Visit.{Visit}
+use Rattle.bus_presence.specs.declared.visits.Visit.TheVariants.{Away, Entering, Looking, Inside, Parting, Barred}
+use Rattle.bus_register.specs.declared.registers.SenderNo.{SenderNo}
+use Rattle.bus_tenure.specs.Core.{Core, Election, Layout, row_at, stage_at, is_closing}
+use Rattle.bus_tenure.specs.Situations.{Situation, IsClosed, IsIdle, IsSpent, LooksAtStage, Elects, TakesPage, AwaitsPage, StoresWord, StoresLength, GivesBack, HasHanded, situation_of, op_at, fed_at, answer_at, core_begun, core_elected, answer_of_election, answer_of_return}
+use Rattle.bus_tenure.specs.Keeping.{AreSizes}
+use Rattle.bus_tenure.specs.declared.pages.Page.{Page}
+use Rattle.bus_tenure.specs.declared.phases.Reason.{Reason}
+use Rattle.bus_tenure.specs.declared.phases.Reason.TheVariants.{Sent, FoundEnd, NoRoom}
+use Rattle.bus_tenure.specs.declared.phases.Phase.{Phase}
+use Rattle.bus_tenure.specs.declared.phases.Phase.TheVariants.{Resting, Electing, Taken, Holding, Giving}
+use Rattle.bus_tenure.specs.declared.turns.Turn.{Turn}
+use Rattle.bus_tenure.specs.declared.turns.Turn.TheVariants as turn
+use Rattle.bus_tenure.proofs.Situated.{tells}
+use Rattle.bus_guest.specs.Guests.{sizes_with, Goes, core_looked, core_going, visit_going, sweep_going, visit_elected}
+use Rattle.bus_guest.specs.Turns.{Visitor, sizes_of, visitor_due, answer_going, lost_elected, lost_going}
+use Rattle.bus_guest.specs.Following.{visit_by, lost_by, sweep_by, told_by}
+use Rattle.bus_guest.specs.Keeping.{IsBound, IsInside, IsOutside, VisitKeeps, held_of, IsSweepAfter, IsHeldSweep, SweepKeeps, GuestKeeps, IsTied}
+use Rattle.bus_guest.proofs.Keeps.{runs_inside, stays_outside, ElectionsKeep}
+
+-- nobody sweeps but a holder
+unswept : {E : Type 0} (v w : Visitor E) (s : Option Sweeping) → SweepKeeps v s → held_of v.core.phase ≡ None → SweepKeeps w s
+unswept v w None k h = tt
+unswept v w (Some s) k h = absurd (let r = sym h ∙ k.held in cc)
+
+-- the sweep goes on with another phase of the same tenure
+swept_on : {E : Type 0} (v : Visitor E) (c : Core E) (visit : Visit) (lost : Option SenderNo) (s : Option Sweeping) → SweepKeeps v s → c.layout ≡ v.core.layout → held_of c.phase ≡ held_of v.core.phase
+    → SweepKeeps (record { core = c; visit = visit; sweep = s; lost = lost; rows = v.rows }) s
+swept_on v c visit lost None k same held = tt
+swept_on v c visit lost (Some s) k same held = record { tenure = k.tenure; held = held ∙ k.held; after = subst (λ x. IsSweepAfter (sizes_with x v.rows) k.tenure s) (sym same) k.after }
+
+-- the sweep of a holder that has just taken the page
+begins : {E : Type 0} (w : Visitor E) (t : ℕ) (b : Bool) → held_of w.core.phase ≡ Some t → nat_lt (t + 1) w.rows ≡ b
+    → SweepKeeps w (cond b None (Some record { past = t + 1 - w.rows; senders = w.core.layout.senders; presences = presence_at (sizes_of w) 0; row = row_of (sizes_of w) (t + 1); width = w.core.layout.width; asked = 0; cleared = 0 }))
+begins w t true held e = tt
+begins w t false held e =
+    let late : w.rows ≤ t + 1 = grind (arith, lt-ltb, e) in
+    record { tenure = t; held = held; after = record { used = late; past = omega arith; senders = refl; presences = refl; row = refl; width = refl } }
+
+module _ {E : Type 0} (X : Election E) (W : Layout → ℕ) (B : Layout → ℕ → ℕ → E → Type 0) where
+  abbrev pub Kept : Visitor E → Type 0
+  Kept v = GuestKeeps (W v.core.layout) (B v.core.layout v.core.me) v
+
+  -- what is left, with what its sender answers and what it answers itself
+  pub record Went (v : Visitor E) (core fed : Core E) (visit : Visit) (sweep : Option Sweeping) (lost : Option SenderNo) (answer told : Turn) : Type 0 where
+    pub keeps : Kept record { core = core; visit = visit; sweep = sweep; lost = lost; rows = v.rows }
+    pub layout : core.layout ≡ v.core.layout
+    pub me : core.me ≡ v.core.me
+    pub core_is : core ≡ fed
+    pub visit_is : visit ≡ visit_by answer v.visit
+    pub sweep_is : sweep ≡ sweep_by (sizes_of v) answer v.sweep
+    pub lost_is : lost ≡ lost_by answer v.lost
+    pub told_is : told ≡ told_by answer
+
+  module _ (law : ElectionsKeep X W B) where
+    -- with another phase of the same tenure, and the same else
+    held_on : (v : Visitor E) → Kept v → (t : ℕ) → held_of v.core.phase ≡ Some t → (ph : Phase E) → held_of ph ≡ Some t → IsOutside ph → Kept record v { core = record v.core { phase = ph } }
+    held_on v k t held ph holds out = record {
+      sizes = k.sizes;
+      tenures = k.tenures;
+      rows_some = k.rows_some;
+      rows_few = k.rows_few;
+      me_below = k.me_below;
+      visit = stays_outside (B v.core.layout v.core.me) v.core (record v.core { phase = ph }) v.visit t k.visit held out;
+      sweep = swept_on v (record v.core { phase = ph }) v.visit v.lost v.sweep k.sweep refl (holds ∙ sym held);
+    }
+
+    -- to its rest
+    home : (v : Visitor E) → Kept v → (t : ℕ) → held_of v.core.phase ≡ Some t → (q : Pending) (least : ℕ) → Kept record v { core = record v.core { queue = q; least = least; phase = Resting }; sweep = None }
+    home v k t held q least = record {
+      sizes = k.sizes;
+      tenures = k.tenures;
+      rows_some = k.rows_some;
+      rows_few = k.rows_few;
+      me_below = k.me_below;
+      visit = stays_outside (B v.core.layout v.core.me) v.core (record v.core { queue = q; least = least; phase = Resting }) v.visit t k.visit held tt;
+      sweep = tt;
+    }
+
+    -- its answer tells that the page is gone
+    pub record Ends (v : Visitor E) (answer : Turn) : Type 0 where
+      pub visit : v.visit ≡ visit_by answer v.visit
+      pub sweep : None ≡ sweep_by (sizes_of v) answer v.sweep
+      pub lost : v.lost ≡ lost_by answer v.lost
+      pub told : answer ≡ told_by answer
+
+    ends_sent : (v : Visitor E) (b : Bool) (t first last : ℕ) → Ends v (cond b turn.Closed (turn.Delivered t first last))
+    ends_sent v true t first last = record { visit = refl; sweep = refl; lost = refl; told = refl }
+    ends_sent v false t first last = record { visit = refl; sweep = refl; lost = refl; told = refl }
+
+    ends : (v : Visitor E) (q : Pending) (t : ℕ) (reason : Reason) → Ends v (answer_of_return q t reason)
+    ends v q t Sent = ends_sent v (is_closing q.phase) t q.first _
+    ends v q t FoundEnd = record { visit = refl; sweep = refl; lost = refl; told = refl }
+    ends v q t NoRoom = record { visit = refl; sweep = refl; lost = refl; told = refl }
+
+    -- the election goes on, or is over
+    module _ (v : Visitor E) (k : Kept v) (t : ℕ) (e e' : E) (at : v.core.phase ≡ Electing t e) (b : B v.core.layout v.core.me (row_at v.core.layout t) e') where
+      inside : (v.visit ≡ Inside t) × B v.core.layout v.core.me (row_at v.core.layout t) e × (t < v.core.layout.rows)
+      inside = runs_inside (B v.core.layout v.core.me) v.core v.visit t e k.visit at
+
+      runs : Kept record v { core = record v.core { phase = Electing t e' }; visit = Inside t }
+      runs = record {
+        sizes = k.sizes;
+        tenures = k.tenures;
+        rows_some = k.rows_some;
+        rows_few = k.rows_few;
+        me_below = k.me_below;
+        visit = record { election = e'; is = refl; belongs = b; below = inside.2 };
+        sweep = unswept v (record v { core = record v.core { phase = Electing t e' }; visit = Inside t }) v.sweep k.sweep (ap held_of at);
+      }
+
+      lost : (o : ℕ) → Kept record v { core = record v.core { queue = record v.core.queue { busy = false }; least = t + 1; phase = Resting }; visit = Parting t; lost = Some record { 0 = o } }
+      lost o = record {
+        sizes = k.sizes;
+        tenures = k.tenures;
+        rows_some = k.rows_some;
+        rows_few = k.rows_few;
+        me_below = k.me_below;
+        visit = tt;
+        sweep = unswept v _ v.sweep k.sweep (ap held_of at);
+      }
+
+      chosen : (o : ℕ) (own : Bool)
+          → Went v (cond own (record v.core { phase = Electing t e' }) (record v.core { queue = record v.core.queue { busy = false }; least = t + 1; phase = Resting })) (cond own (record v.core { phase = Electing t e' }) (record v.core { queue = record v.core.queue { busy = false }; least = t + 1; phase = Resting }))
+          (cond own (Inside t) (Parting t)) v.sweep (cond own v.lost (Some record { 0 = o })) (cond own turn.Going (turn.Lost t record { 0 = o })) turn.Going
+      chosen o true = record { keeps = runs; layout = refl; me = refl; core_is = refl; visit_is = sym inside.0; sweep_is = refl; lost_is = refl; told_is = refl }
+      chosen o false = record { keeps = lost o; layout = refl; me = refl; core_is = refl; visit_is = refl; sweep_is = refl; lost_is = refl; told_is = refl }
+
+      elected : (own : Option ℕ) → Went v (core_elected v.core t e' own) (core_elected v.core t e' own) (visit_elected v.core t own) v.sweep (lost_elected v.core v.lost own) (answer_of_election v.core t own) turn.Going
+      elected None = record { keeps = runs; layout = refl; me = refl; core_is = refl; visit_is = sym inside.0; sweep_is = refl; lost_is = refl; told_is = refl }
+      elected (Some o) = chosen o (o == v.core.me)
+
+    some_op : (x : Option Op) → IsSome x → (o : Op) × (x ≡ Some o)
+    some_op None h = absurd (let q : false ≡ true = h in cc)
+    some_op (Some o) h = (o, refl)
+
+    -- a step of a sender in a tenure
+    pub went : (v : Visitor E) (got word : ℕ) → Kept v → (z : Situation E) → situation_of X v.core ≡ z → IsSome (op_at X v.core z word) → v.core.phase ≢ Resting
+        → Went v (core_going X v.core z got word) (fed_at X v.core z got word) (visit_going X v.core v.visit z got word) (sweep_going v.core.layout v.rows v.sweep z) (lost_going X v.core v.lost z got word) (answer_at X v.core z got word) (answer_going X v.core z got word)
+    went v got word k IsClosed i h b = absurd (b (tells X v.core IsClosed i))
+    went v got word k IsIdle i h b = absurd (b (tells X v.core IsIdle i))
+    went v got word k IsSpent i h b = absurd (b (tells X v.core IsSpent i))
+    went v got word k LooksAtStage i h b = absurd (b (tells X v.core LooksAtStage i))
+    went v got word k (Elects t e) i h b =
+        let at = (tells X v.core (Elects t e) i).0 in
+        let o = some_op (X.op e word) h in
+        let in1 = runs_inside (B v.core.layout v.core.me) v.core v.visit t e k.visit at in
+        elected v k t e (X.fed e got word) at (law.goes v.core.layout v.core.me (row_at v.core.layout t) e got word o.0 in1.1 o.1) (X.owner (X.fed e got word))
+    went v got word k (TakesPage t) i h b = record {
+      keeps = record {
+        sizes = k.sizes;
+        tenures = k.tenures;
+        rows_some = k.rows_some;
+        rows_few = k.rows_few;
+        me_below = k.me_below;
+        visit = tt;
+        sweep = begins (record { core = record v.core { phase = Taken t }; visit = Parting t; sweep = sweep_after (sizes_of v) t; lost = v.lost; rows = v.rows }) t (nat_lt (t + 1) v.rows) refl refl;
+      };
+      layout = refl;
+      me = refl;
+      core_is = refl;
+      visit_is = refl;
+      sweep_is = refl;
+      lost_is = refl;
+      told_is = refl;
+    }
+    went v got word k (AwaitsPage t) i h b = absurd (let q : false ≡ true = h in cc)
+    went v got word k (StoresWord t page stored) i h b =
+        record { keeps = held_on v k t (ap held_of (tells X v.core (StoresWord t page stored) i).1) (Holding t page (stored + 1) false) refl tt; layout = refl; me = refl; core_is = refl; visit_is = refl; sweep_is = refl; lost_is = refl; told_is = refl }
+    went v got word k (StoresLength t page stored) i h b =
+        record { keeps = held_on v k t (ap held_of (tells X v.core (StoresLength t page stored) i).1) (Holding t page stored true) refl tt; layout = refl; me = refl; core_is = refl; visit_is = refl; sweep_is = refl; lost_is = refl; told_is = refl }
+    went v got word k (GivesBack t page reason) i h b =
+        let d = ends v v.core.queue t reason in
+        record { keeps = home v k t (ap held_of (tells X v.core (GivesBack t page reason) i).2) _ (t + 1); layout = refl; me = refl; core_is = refl; visit_is = d.visit; sweep_is = d.sweep; lost_is = d.lost; told_is = d.told }
+    went v got word k (HasHanded t reason) i h b =
+        let d = ends v v.core.queue t reason in
+        record { keeps = home v k t (ap held_of (tells X v.core (HasHanded t reason) i)) _ (t + 1); layout = refl; me = refl; core_is = refl; visit_is = d.visit; sweep_is = d.sweep; lost_is = d.lost; told_is = d.told }
+
+  -- ---- from what the calls gave
+  abbrev pub visitor : Core E → Visit → Option Sweeping → Option SenderNo → ℕ → Visitor E
+  visitor c v s l rows = record { core = c; visit = v; sweep = s; lost = l; rows = rows }
+
+  same_visitor : (rows : ℕ) (c c' : Core E) (v v' : Visit) (s s' : Option Sweeping) (l l' : Option SenderNo) → c ≡ c' → v ≡ v' → s ≡ s' → l ≡ l'
+      → visitor c v s l rows ≡ visitor c' v' s' l' rows
+  same_visitor rows c c' v v' s s' l l' a b d e =
+      ap (λ z. visitor z v s l rows) a ∙ ap (λ z. visitor c' z s l rows) b
+      ∙ ap (λ z. visitor c' v' z l rows) d ∙ ap (λ z. visitor c' v' s' z rows) e
+
+  module _ (v : Visitor E) (core fed : Core E) (visit : Visit) (sweep : Option Sweeping) (lost : Option SenderNo) (answer told : Turn) (w : Went v core fed visit sweep lost answer told) (got : Turn) (same : got ≡ answer) where
+    pub joined : (c : Core E) (u : Visit) (s : Option Sweeping) (l : Option SenderNo) (senders width : ℕ) → senders ≡ v.core.layout.senders → width ≡ v.core.layout.width → (old : Option Sweeping) → old ≡ v.sweep
+        → c ≡ fed → u ≡ visit_by got v.visit → s ≡ sweep_by (record { at = 1; senders = senders; rows = v.rows; width = width }) got old → l ≡ lost_by got v.lost
+        → visitor c u s l v.rows ≡ visitor core visit sweep lost v.rows
+    joined c u s l senders width a b old was d e f g =
+        same_visitor v.rows c core u visit s sweep l lost (d ∙ sym w.core_is) (e ∙ ap (λ z. visit_by z v.visit) same ∙ sym w.visit_is)
+        (f ∙ ap (λ z. sweep_by (record { at = 1; senders = z; rows = v.rows; width = width }) got old) a ∙ ap (λ z. sweep_by (record { at = 1; senders = v.core.layout.senders; rows = v.rows; width = z }) got old) b
+        ∙ ap (λ z. sweep_by (sizes_of v) got z) was ∙ ap (λ z. sweep_by (sizes_of v) z v.sweep) same ∙ sym w.sweep_is)
+        (g ∙ ap (λ z. lost_by z v.lost) same ∙ sym w.lost_is)
+
+    pub tied : (p p' : Visiting) (senders width : ℕ) → IsTied p senders width (W v.core.layout) (B v.core.layout v.core.me) v → p'.word ≡ p.word → p'.stage ≡ p.stage → (n : Visitor E) → n ≡ visitor core visit sweep lost v.rows
+        → IsTied p' senders width (W n.core.layout) (B n.core.layout n.core.me) n
+    tied p p' senders width k a b n e = subst (λ y. IsTied p' senders width (W y.core.layout) (B y.core.layout y.core.me) y) (sym e) record {
+      word = a ∙ k.word ∙ ap (λ z. 2 + z) (sym w.me);
+      stage = b ∙ k.stage;
+      senders_are = k.senders_are ∙ ap (λ z. z.senders) (sym w.layout);
+      width_is = k.width_is ∙ ap (λ z. z.width) (sym w.layout);
+      keeps = w.keeps;
+    }
+
+  pub tied_as : (v : Visitor E) (p : Visiting) (senders width : ℕ) → IsTied p senders width (W v.core.layout) (B v.core.layout v.core.me) v → (m : Visitor E) → m.core.layout ≡ v.core.layout → m.core.me ≡ v.core.me → Kept m → (n : Visitor E) → n ≡ m
+      → IsTied p senders width (W n.core.layout) (B n.core.layout n.core.me) n
+  tied_as v p senders width k m layout me keeps n e = subst (λ y. IsTied p senders width (W y.core.layout) (B y.core.layout y.core.me) y) (sym e) record {
+    word = k.word ∙ ap (λ z. 2 + z) (sym me);
+    stage = k.stage;
+    senders_are = k.senders_are ∙ ap (λ z. z.senders) (sym layout);
+    width_is = k.width_is ∙ ap (λ z. z.width) (sym layout);
+    keeps = keeps;
+  }
+
+  -- the page goes from it
+  pub gives_page : (law : ElectionsKeep X W B) (v : Visitor E) → Kept v → (t : ℕ) (page : Page) (reason : Reason) → situation_of X v.core ≡ GivesBack t page reason → Kept record v { core = record v.core { phase = Giving t reason } }
+  gives_page law v k t page reason i = held_on law v k t (ap held_of (tells X v.core (GivesBack t page reason) i).2) (Giving t reason) refl tt
+
+  -- ---- a step of its visit
+  pub keeps_visit : (law : ElectionsKeep X W B) (v : Visitor E) (got : ℕ) → Kept v → Kept record v { core = core_looked X v.core v.visit got; visit = visit_fed v.visit got; lost = None }
+  keeps_visit law v got k = by v.visit k.visit where
+    again : (c : Core E) (u : Visit) → c.layout ≡ v.core.layout → c.me ≡ v.core.me → VisitKeeps (B c.layout c.me) c u → SweepKeeps record { core = c; visit = u; sweep = v.sweep; lost = None; rows = v.rows } v.sweep → Kept record { core = c; visit = u; sweep = v.sweep; lost = None; rows = v.rows }
+    again c u layout me visit sweep = record {
+      sizes = subst (λ x. AreSizes x (W x)) (sym layout) k.sizes;
+      tenures = ap (λ x. x.rows) layout ∙ k.tenures;
+      rows_some = k.rows_some;
+      rows_few = k.rows_few;
+      me_below = let a = ap (λ x. x.senders) layout in let b = k.me_below in omega arith;
+      visit = visit;
+      sweep = sweep;
+    }
+    here : (u : Visit) → SweepKeeps record { core = v.core; visit = u; sweep = v.sweep; lost = None; rows = v.rows } v.sweep
+    here u = swept_on v v.core u None v.sweep k.sweep refl refl
+    looked : (t : ℕ) (b : Bool) → IsBound v.core t → Kept record { core = cond b (core_begun X v.core t) v.core; visit = cond b (Inside t) (Barred t); sweep = v.sweep; lost = None; rows = v.rows }
+    looked t true h = again (core_begun X v.core t) (Inside t) refl refl
+        record { election = X.started v.core.layout.senders v.core.me v.core.layout.rounds (row_at v.core.layout t); is = refl; belongs = law.starts v.core.layout v.core.me (row_at v.core.layout t) k.me_below (let f = k.sizes.few in omega arith); below = h.below }
+        (unswept v _ v.sweep k.sweep (ap held_of h.rests))
+    looked t false h = again v.core (Barred t) refl refl (subst IsOutside (sym h.rests) tt) (here (Barred t))
+    by : (u : Visit) → VisitKeeps (B v.core.layout v.core.me) v.core u → Kept record { core = core_looked X v.core u got; visit = visit_fed u got; sweep = v.sweep; lost = None; rows = v.rows }
+    by Away h = again v.core Away refl refl h (here Away)
+    by (Entering t) h = again v.core (Looking t) refl refl h (here (Looking t))
+    by (Looking t) h = looked t (got / 2 == t) h
+    by (Inside t) h = again v.core (Inside t) refl refl h (here (Inside t))
+    by (Parting t) h = again v.core Away refl refl h (here Away)
+    by (Barred t) h = again v.core Away refl refl h (here Away)
