@@ -11,7 +11,7 @@ use Rattle.bus_presence.specs.declared.visits.Visit.{Visit}
 use Rattle.bus_presence.specs.declared.visits.Visit.TheVariants.{Away, Entering, Looking, Inside, Parting, Barred}
 use Rattle.bus_register.specs.declared.registers.SenderNo.{SenderNo}
 use Rattle.bus_tenure.specs.Core.{Core, Election, Layout, row_at, stage_at, is_closing}
-use Rattle.bus_tenure.specs.Situations.{Situation, IsClosed, IsIdle, IsSpent, LooksAtStage, Elects, TakesPage, AwaitsPage, StoresWord, StoresLength, GivesBack, HasHanded, situation_of, op_at, fed_at, answer_at, core_begun, core_elected, answer_of_election, answer_of_return}
+use Rattle.bus_tenure.specs.Situations.{Situation, IsClosed, IsIdle, IsSpent, LooksAtStage, Elects, TakesPage, AwaitsPage, StoresWord, StoresLength, GivesBack, HasHanded, situation_of, op_at, fed_at, answer_at, core_begun, core_after_stage, waits, tenure_begun, resting, situation_at, core_elected, answer_of_election, answer_of_return}
 use Rattle.bus_tenure.specs.Keeping.{AreSizes}
 use Rattle.bus_tenure.specs.declared.pages.Page.{Page}
 use Rattle.bus_tenure.specs.declared.phases.Reason.{Reason}
@@ -189,7 +189,7 @@ module _ {E : Type 0} (X : Election E) (W : Layout → ℕ) (B : Layout → ℕ 
   abbrev pub visitor : Core E → Visit → Option Sweeping → Option SenderNo → ℕ → Visitor E
   visitor c v s l rows = record { core = c; visit = v; sweep = s; lost = l; rows = rows }
 
-  same_visitor : (rows : ℕ) (c c' : Core E) (v v' : Visit) (s s' : Option Sweeping) (l l' : Option SenderNo) → c ≡ c' → v ≡ v' → s ≡ s' → l ≡ l'
+  pub same_visitor : (rows : ℕ) (c c' : Core E) (v v' : Visit) (s s' : Option Sweeping) (l l' : Option SenderNo) → c ≡ c' → v ≡ v' → s ≡ s' → l ≡ l'
       → visitor c v s l rows ≡ visitor c' v' s' l' rows
   same_visitor rows c c' v v' s s' l l' a b d e =
       ap (λ z. visitor z v s l rows) a ∙ ap (λ z. visitor c' z s l rows) b
@@ -256,3 +256,65 @@ module _ {E : Type 0} (X : Election E) (W : Layout → ℕ) (B : Layout → ℕ 
     by (Inside t) h = again v.core (Inside t) refl refl h (here (Inside t))
     by (Parting t) h = again v.core Away refl refl h (here Away)
     by (Barred t) h = again v.core Away refl refl h (here Away)
+
+  -- ---- a load of the stage with which it begins no tenure
+  pub keeps_seen : (v : Visitor E) (got : ℕ) → Kept v → v.core.phase ≡ Resting → v.visit ≡ Away → tenure_begun v.core got ≡ None → Kept record v { core = core_after_stage X v.core got }
+  keeps_seen v got k rests away none = by (waits v.core got) (nat_le v.core.layout.rows (got / 2)) none where
+    out : IsOutside v.core.phase
+    out = subst IsOutside (sym rests) tt
+    by : (a b : Bool) → cond a None (cond b None (Some (got / 2))) ≡ None → Kept record v { core = cond a v.core (cond b (record v.core { least = got / 2 }) (core_begun X v.core (got / 2))) }
+    by true b e = k
+    by false true e = record {
+      sizes = k.sizes;
+      tenures = k.tenures;
+      rows_some = k.rows_some;
+      rows_few = k.rows_few;
+      me_below = k.me_below;
+      visit = subst (λ u. VisitKeeps (B v.core.layout v.core.me) (record v.core { least = got / 2 }) u) (sym away) out;
+      sweep = swept_on v (record v.core { least = got / 2 }) v.visit v.lost v.sweep k.sweep refl refl;
+    }
+    by false false e = absurd cc
+
+  pub after_stage_layout : (c : Core E) (got : ℕ) → (core_after_stage X c got).layout ≡ c.layout
+  after_stage_layout c got = by (waits c got) (nat_le c.layout.rows (got / 2)) where
+    by : (a b : Bool) → (cond a c (cond b (record c { least = got / 2 }) (core_begun X c (got / 2)))).layout ≡ c.layout
+    by true b = refl
+    by false true = refl
+    by false false = refl
+
+  pub after_stage_me : (c : Core E) (got : ℕ) → (core_after_stage X c got).me ≡ c.me
+  after_stage_me c got = by (waits c got) (nat_le c.layout.rows (got / 2)) where
+    by : (a b : Bool) → (cond a c (cond b (record c { least = got / 2 }) (core_begun X c (got / 2)))).me ≡ c.me
+    by true b = refl
+    by false true = refl
+    by false false = refl
+
+  pub looked_layout : (c : Core E) (u : Visit) (got : ℕ) → (core_looked X c u got).layout ≡ c.layout
+  looked_layout c Away got = refl
+  looked_layout c (Entering t) got = refl
+  looked_layout c (Looking t) got = by (got / 2 == t) where
+    by : (a : Bool) → (cond a (core_begun X c t) c).layout ≡ c.layout
+    by true = refl
+    by false = refl
+  looked_layout c (Inside t) got = refl
+  looked_layout c (Parting t) got = refl
+  looked_layout c (Barred t) got = refl
+
+  pub looked_me : (c : Core E) (u : Visit) (got : ℕ) → (core_looked X c u got).me ≡ c.me
+  looked_me c Away got = refl
+  looked_me c (Entering t) got = refl
+  looked_me c (Looking t) got = by (got / 2 == t) where
+    by : (a : Bool) → (cond a (core_begun X c t) c).me ≡ c.me
+    by true = refl
+    by false = refl
+  looked_me c (Inside t) got = refl
+  looked_me c (Parting t) got = refl
+  looked_me c (Barred t) got = refl
+
+  -- its presence goes on beside
+  pub tied_beside : (p p' : Visiting) (senders width : ℕ) (v : Visitor E) → IsTied p senders width (W v.core.layout) (B v.core.layout v.core.me) v → p'.word ≡ p.word → p'.stage ≡ p.stage → IsTied p' senders width (W v.core.layout) (B v.core.layout v.core.me) v
+  tied_beside p p' senders width v k a b = record { word = a ∙ k.word; stage = b ∙ k.stage; senders_are = k.senders_are; width_is = k.width_is; keeps = k.keeps }
+
+  -- the situation of a sender that rests and looks at the stage
+  pub looks_at : (c : Core E) → c.phase ≡ Resting → resting c ≡ LooksAtStage → situation_of X c ≡ LooksAtStage
+  looks_at c rests looks = ap (situation_at X c) rests ∙ looks

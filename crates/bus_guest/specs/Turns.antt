@@ -129,6 +129,12 @@ LiesAt v (Visits o) r = Unit {0}
 LiesAt v (Sweeps s o) r = Unit {0}
 LiesAt v (Goes z) r = LiesGoing v.core.layout v.rows v.visit z r
 
+-- and it is a word of the bus; a visit's step is on the stage or on the own presence, and a sweep's on a presence or in the row that it clears
+abbrev pub IsBelow : {E : Type 0} → Visitor E → Due E → ℕ → Type 0
+IsBelow v (Visits o) r = Unit {0}
+IsBelow v (Sweeps s o) r = Unit {0}
+IsBelow v (Goes z) r = r < words_with v
+
 -- ---- what it holds after a step that found this number
 -- who lost the tenure remembers to whom, until its presence is cleared
 abbrev pub lost_elected : {E : Type 0} → Core E → Option SenderNo → Option ℕ → Option SenderNo

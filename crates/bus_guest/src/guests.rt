@@ -24,13 +24,13 @@ ghost use Rattle.bus_tenure.specs.declared.phases.Reason.{Reason};
 ghost use Rattle.bus_guest.specs.Guests.{Goes, place_for, core_looked, core_seen, visit_seen};
 ghost use Rattle.bus_guest.specs.Turns.{placed, LiesGoing, kind_of_visit, answer_of_visit};
 ghost use Rattle.bus_guest.specs.Turns.{answer_of_sweep, visitor_due, answer_due};
-ghost use Rattle.bus_guest.specs.Keeping.{LiesApart};
+ghost use Rattle.bus_guest.specs.Keeping.{IsBound, LiesApart};
 ghost use Rattle.bus_guest.specs.Following.{visit_by as spec_visit_by};
 ghost use Rattle.bus_guest.specs.Following.{sweep_by as spec_sweep_by};
 ghost use Rattle.bus_guest.specs.Following.{lost_by as spec_lost_by};
 ghost use Rattle.bus_guest.specs.Following.{told_by as spec_told_by};
 ghost use Rattle.bus_guest.specs.Turns.{due, op_next, kind_due, wants_due, rest_due};
-ghost use Rattle.bus_guest.specs.Turns.{tenure_begun_by, LiesAt, words_with, queue_seen};
+ghost use Rattle.bus_guest.specs.Turns.{tenure_begun_by, LiesAt, IsBelow, words_with, queue_seen};
 ghost use Rattle.bus_guest.specs.Turns.{visitor_after, answer_after, GivesPageBack};
 ghost use Rattle.bus_guest.specs.Besides.{due_by, HasSweep};
 
@@ -332,7 +332,8 @@ impl<Q: Ratifier + Drop> Guest<Q> {
         ensures step { let X = election_of Q.Ratifier in result ≡ op_next X self.now word }
         ensures lies { let X = election_of Q.Ratifier in
             IfSome result (λ o. LiesAt self.now (due X self.now) (register o)) }
-        ensures below { IfSome result (λ o. register o < words_with self.now) }
+        ensures below { let X = election_of Q.Ratifier in
+            IfSome result (λ o. IsBelow self.now (due X self.now) (register o)) }
     {
         match self.beside() {
             Beside::Visit(op) | Beside::Sweep(op) => Some(op),
@@ -395,22 +396,11 @@ impl<Q: Ratifier + Drop> Guest<Q> {
         ensures answer { result ≡ answer_of_visit self.old.visit self.old.lost }
     {
         let visit = self.presence.visit();
-        let lost = self.lost;
-        if let Visit::Looking { tenure } = visit {
-            if got / 2 == tenure {
-                self.core.feed(2 * tenure, 0);
-            }
-        }
+        let turn = visit_turn(visit, self.lost);
+        look_again(&mut self.core, visit, got);
         self.presence.feed(got);
         self.lost = None;
-        match visit {
-            Visit::Parting { tenure } => match lost {
-                Some(owner) => Turn::Lost { tenure, owner },
-                None => Turn::Going,
-            },
-            Visit::Barred { .. } => Turn::Waiting,
-            _ => Turn::Going,
-        }
+        turn
     }
 
     /// Takes the next step of its sweep.
@@ -534,6 +524,33 @@ impl<Q: Ratifier + Drop> Guest<Q> {
             } }
     {
         self.core.hand()
+    }
+}
+
+/// What a step of a visit answers, of a sender that lost its tenure to this owner.
+fn visit_turn(visit: Visit, lost: Option<SenderNo>) -> Turn
+    ensures { result ≡ answer_of_visit visit lost }
+{
+    match visit {
+        Visit::Parting { tenure } => match lost {
+            Some(owner) => Turn::Lost { tenure, owner },
+            None => Turn::Going,
+        },
+        Visit::Barred { .. } => Turn::Waiting,
+        _ => Turn::Going,
+    }
+}
+
+/// Begins the tenure, where it has looked at the stage again and that is the tenure's still.
+fn look_again<Q: Ratifier + Drop>(core: &mut SenderCore<Q>, seen: Visit, got: u64)
+    requires bound { (t : ℕ) → seen ≡ visit.Looking t → IsBound core.old t }
+    requires below { (t : ℕ) → seen ≡ visit.Looking t → t < TENURES }
+    ensures { let X = election_of Q.Ratifier in core.new ≡ core_looked X core.old seen got }
+{
+    if let Visit::Looking { tenure } = seen {
+        if got / 2 == tenure {
+            core.feed(2 * tenure, 0);
+        }
     }
 }
 
