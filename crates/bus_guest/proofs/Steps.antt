@@ -242,13 +242,16 @@ module _ {E : Type 0} (X : Election E) (W : Layout → ℕ) (B : Layout → ℕ 
       visit = visit;
       sweep = sweep;
     }
+
     here : (u : Visit) → SweepKeeps record { core = v.core; visit = u; sweep = v.sweep; lost = None; rows = v.rows } v.sweep
     here u = swept_on v v.core u None v.sweep k.sweep refl refl
+
     looked : (t : ℕ) (b : Bool) → IsBound v.core t → Kept record { core = cond b (core_begun X v.core t) v.core; visit = cond b (Inside t) (Barred t); sweep = v.sweep; lost = None; rows = v.rows }
     looked t true h = again (core_begun X v.core t) (Inside t) refl refl
         record { election = X.started v.core.layout.senders v.core.me v.core.layout.rounds (row_at v.core.layout t); is = refl; belongs = law.starts v.core.layout v.core.me (row_at v.core.layout t) k.me_below (let f = k.sizes.few in omega arith); below = h.below }
         (unswept v _ v.sweep k.sweep (ap held_of h.rests))
     looked t false h = again v.core (Barred t) refl refl (subst IsOutside (sym h.rests) tt) (here (Barred t))
+
     by : (u : Visit) → VisitKeeps (B v.core.layout v.core.me) v.core u → Kept record { core = core_looked X v.core u got; visit = visit_fed u got; sweep = v.sweep; lost = None; rows = v.rows }
     by Away h = again v.core Away refl refl h (here Away)
     by (Entering t) h = again v.core (Looking t) refl refl h (here (Looking t))
@@ -262,6 +265,7 @@ module _ {E : Type 0} (X : Election E) (W : Layout → ℕ) (B : Layout → ℕ 
   keeps_seen v got k rests away none = by (waits v.core got) (nat_le v.core.layout.rows (got / 2)) none where
     out : IsOutside v.core.phase
     out = subst IsOutside (sym rests) tt
+
     by : (a b : Bool) → cond a None (cond b None (Some (got / 2))) ≡ None → Kept record v { core = cond a v.core (cond b (record v.core { least = got / 2 }) (core_begun X v.core (got / 2))) }
     by true b e = k
     by false true e = record {

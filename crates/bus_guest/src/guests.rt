@@ -601,13 +601,7 @@ fn part_after(presence: &mut Presence, turn: Turn)
 
 /// The sweep after this answer: it begins with the page that is taken, and is over with the page
 /// that is given back.
-fn sweep_by(
-    turn: Turn,
-    sweep: Option<Sweep>,
-    senders: u64,
-    rows: u64,
-    width: u64,
-) -> Option<Sweep>
+fn sweep_by(turn: Turn, sweep: Option<Sweep>, senders: u64, rows: u64, width: u64) -> Option<Sweep>
     requires tenure { (t : ℕ) → turn ≡ Turn.Own t → t < TENURES }
     requires senders { senders ≤ MOST_SENDERS }
     requires rows_some { 2 ≤ rows }

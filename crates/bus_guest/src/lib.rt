@@ -6,3 +6,6 @@ pub mod besides;
 pub mod guests;
 
 pub use guests::Guest;
+
+#[cfg(test)]
+mod tests;

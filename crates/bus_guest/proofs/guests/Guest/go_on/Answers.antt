@@ -17,12 +17,12 @@ invariant_of-self g c =
     let z = situation_of X i.core in
     let steps = subst (λ y. IsSome (op_at X y.core (situation_of X y.core) c.args.word)) (sym c.self.view_is) c.requires.steps in
     let w = went X (λ x. (elections P x.rounds).width x.senders) (λ x me. (elections P x.rounds).Belongs x.senders me)
-        (elections_keep g.Q.Machine.kind_of g.Q.Machine.op g.Q.Machine.fed P g.met.Q.Ratifier.laws g.met.Q.Ratifier.wordless)
-        v c.args.got c.args.word c.self.invariant.keeps z refl steps (λ e. c.requires.begun (sym (ap (λ y. y.core.phase) c.self.view_is) ∙ e)) in
+    (elections_keep g.Q.Machine.kind_of g.Q.Machine.op g.Q.Machine.fed P g.met.Q.Ratifier.laws g.met.Q.Ratifier.wordless)
+    v c.args.got c.args.word c.self.invariant.keeps z refl steps (λ e. c.requires.begun (sym (ap (λ y. y.core.phase) c.self.view_is) ∙ e)) in
     let n = joined X (λ x. (elections P x.rounds).width x.senders) (λ x me. (elections P x.rounds).Belongs x.senders me)
-        v _ _ _ _ _ _ _ w c.feed-turn.result c.feed-turn.ensures.answer
-        c.feed-turn.new.self c.part_after.new.presence.visit c.sweep_by-self-inside.result c.lost_by-self-inside.result i.senders i.width c.self.invariant.senders_are c.self.invariant.width_is
-        c.take-sweep.result c.take-sweep.ensures.value c.feed-turn.ensures.state (ap (λ p. p.visit) c.part_after.ensures) c.sweep_by-self-inside.ensures c.lost_by-self-inside.ensures in
+    v _ _ _ _ _ _ _ w c.feed-turn.result c.feed-turn.ensures.answer
+    c.feed-turn.new.self c.part_after.new.presence.visit c.sweep_by-self-inside.result c.lost_by-self-inside.result i.senders i.width c.self.invariant.senders_are c.self.invariant.width_is
+    c.take-sweep.result c.take-sweep.ensures.value c.feed-turn.ensures.state (ap (λ p. p.visit) c.part_after.ensures) c.sweep_by-self-inside.ensures c.lost_by-self-inside.ensures in
     tied X (λ x. (elections P x.rounds).width x.senders) (λ x me. (elections P x.rounds).Belongs x.senders me)
     v _ _ _ _ _ _ _ w c.feed-turn.result c.feed-turn.ensures.answer i.presence c.part_after.new.presence i.senders i.width c.self.invariant
     (ap (λ p. p.word) c.part_after.ensures) (ap (λ p. p.stage) c.part_after.ensures) _ n
@@ -36,12 +36,12 @@ returns-clause-state g c =
     let z = situation_of X i.core in
     let steps = subst (λ y. IsSome (op_at X y.core (situation_of X y.core) c.args.word)) (sym c.self.view_is) c.requires.steps in
     let w = went X (λ x. (elections P x.rounds).width x.senders) (λ x me. (elections P x.rounds).Belongs x.senders me)
-        (elections_keep g.Q.Machine.kind_of g.Q.Machine.op g.Q.Machine.fed P g.met.Q.Ratifier.laws g.met.Q.Ratifier.wordless)
-        v c.args.got c.args.word c.self.invariant.keeps z refl steps (λ e. c.requires.begun (sym (ap (λ y. y.core.phase) c.self.view_is) ∙ e)) in
+    (elections_keep g.Q.Machine.kind_of g.Q.Machine.op g.Q.Machine.fed P g.met.Q.Ratifier.laws g.met.Q.Ratifier.wordless)
+    v c.args.got c.args.word c.self.invariant.keeps z refl steps (λ e. c.requires.begun (sym (ap (λ y. y.core.phase) c.self.view_is) ∙ e)) in
     let n = joined X (λ x. (elections P x.rounds).width x.senders) (λ x me. (elections P x.rounds).Belongs x.senders me)
-        v _ _ _ _ _ _ _ w c.feed-turn.result c.feed-turn.ensures.answer
-        c.feed-turn.new.self c.part_after.new.presence.visit c.sweep_by-self-inside.result c.lost_by-self-inside.result i.senders i.width c.self.invariant.senders_are c.self.invariant.width_is
-        c.take-sweep.result c.take-sweep.ensures.value c.feed-turn.ensures.state (ap (λ p. p.visit) c.part_after.ensures) c.sweep_by-self-inside.ensures c.lost_by-self-inside.ensures in
+    v _ _ _ _ _ _ _ w c.feed-turn.result c.feed-turn.ensures.answer
+    c.feed-turn.new.self c.part_after.new.presence.visit c.sweep_by-self-inside.result c.lost_by-self-inside.result i.senders i.width c.self.invariant.senders_are c.self.invariant.width_is
+    c.take-sweep.result c.take-sweep.ensures.value c.feed-turn.ensures.state (ap (λ p. p.visit) c.part_after.ensures) c.sweep_by-self-inside.ensures c.lost_by-self-inside.ensures in
     n ∙ ap (λ y. visitor_due X y (Goes (situation_of X y.core)) c.args.got c.args.word) c.self.view_is
 
 pub returns-clause-answer : goal.returns-clause-answer
@@ -53,6 +53,6 @@ returns-clause-answer g c =
     let z = situation_of X i.core in
     let steps = subst (λ y. IsSome (op_at X y.core (situation_of X y.core) c.args.word)) (sym c.self.view_is) c.requires.steps in
     let w = went X (λ x. (elections P x.rounds).width x.senders) (λ x me. (elections P x.rounds).Belongs x.senders me)
-        (elections_keep g.Q.Machine.kind_of g.Q.Machine.op g.Q.Machine.fed P g.met.Q.Ratifier.laws g.met.Q.Ratifier.wordless)
-        v c.args.got c.args.word c.self.invariant.keeps z refl steps (λ e. c.requires.begun (sym (ap (λ y. y.core.phase) c.self.view_is) ∙ e)) in
+    (elections_keep g.Q.Machine.kind_of g.Q.Machine.op g.Q.Machine.fed P g.met.Q.Ratifier.laws g.met.Q.Ratifier.wordless)
+    v c.args.got c.args.word c.self.invariant.keeps z refl steps (λ e. c.requires.begun (sym (ap (λ y. y.core.phase) c.self.view_is) ∙ e)) in
     c.told_by.ensures ∙ ap told_by c.feed-turn.ensures.answer ∙ sym w.told_is ∙ ap (λ y. answer_due X y (Goes (situation_of X y.core)) c.args.got c.args.word) c.self.view_is
