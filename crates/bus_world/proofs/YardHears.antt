@@ -11,7 +11,7 @@ use Rattle.bus_batch.specs.Reading.{HasRead}
 use Rattle.bus_deliverylog.specs.Receiving.{Receiving}
 use Rattle.bus_deliverylog.specs.declared.receiving.RecvTurn.{RecvTurn}
 use Rattle.bus_tenure.specs.Core.{Layout, log_at}
-use Rattle.bus_world.specs.Guests.{log_from}
+use Rattle.bus_guest.specs.Guests.{log_from}
 use Rattle.bus_world.specs.Log.{Logged}
 use Rattle.bus_world.specs.World.{IsReceiver, IsNewReceiver, RecvStep, RecvDoes, recv_found}
 use Rattle.bus_world.specs.Yards.{answers_with, no_answers}
