@@ -32,4 +32,5 @@ pub mod YardWords
 pub mod YardNotes
 pub mod YardHears
 pub mod YardLaws
+pub mod RingLaws
 pub mod StopLaws

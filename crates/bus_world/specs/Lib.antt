@@ -14,3 +14,4 @@ pub mod Refusals
 pub mod Stopping
 pub mod Waiting
 pub mod Yards
+pub mod Rings

@@ -10,6 +10,7 @@ ghost use Rattle.bus_world.specs.Refusals.{PromiseRefuses};
 ghost use Rattle.bus_world.specs.Stopping.{StopsAreForGood, StopRefuses};
 ghost use Rattle.bus_world.specs.World.{Bus, Event};
 ghost use Rattle.bus_world.specs.Yards.{Yard, Led, IsKeptYard, YardRefuses};
+ghost use Rattle.bus_world.specs.Rings.{Ring, RingTrails, RingReached, IsKeptRing};
 ghost use Rattle.bus_world.specs.Headline.{Deed};
 ghost use Rattle.bus_presence.specs.Hall.{Trails as Visiting};
 
@@ -61,6 +62,19 @@ pub fn rows_used_again_keep_promises<Q: Ratifier>()
         (layout_with Q.protocol senders rounds tenures capacity) rows yard visits deeds heard
         → IsKeptYard (election_of Q.Ratifier)
         (layout_with Q.protocol senders rounds tenures capacity) rows yard visits deeds heard }
+{
+    election_is_lawful::<Q>();
+}
+
+/// The same of a bus with its words, its page, its senders and its receivers in lists, whatever
+/// happens to it one after another: turns of senders and of receivers, puts, closes and stops.
+pub fn rings_keep_promises<Q: Ratifier>()
+    ensures { (senders rounds tenures capacity : ℕ)
+        → IsLayout (layout_with Q.protocol senders rounds tenures capacity)
+        → (ring : Ring (Elector Q)) (trails : RingTrails)
+        → ring.layout ≡ layout_with Q.protocol senders rounds tenures capacity → 2 ≤ ring.rows
+        → RingReached (election_of Q.Ratifier) ring trails
+        → IsKeptRing (election_of Q.Ratifier) ring trails }
 {
     election_is_lawful::<Q>();
 }
