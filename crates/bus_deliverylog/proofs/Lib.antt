@@ -4,3 +4,4 @@ pub mod WriteLaws
 pub mod WritingSteps
 pub mod FaultLaws
 pub mod PrefixLaws
+mod TextLemmas

@@ -3,4 +3,5 @@ pub mod Logs
 pub mod Writing
 pub mod Receiving
 pub mod Faults
+pub mod Text
 pub mod Proved

@@ -20,6 +20,7 @@ pub mod laws;
 pub mod orders;
 pub mod reading;
 pub mod receiving;
+pub mod texts;
 pub mod writing;
 
 pub use fronts::read_front;

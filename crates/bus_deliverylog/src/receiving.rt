@@ -9,6 +9,8 @@ use bus_register::{Kind, Op, Reg, SenderNo};
 use std::marker::Model;
 
 /// What a receiver answers after one step.
+///
+/// It is written in the words of `replay`, as `head 2 0` or `item 0 3 6869`.
 #[derive(Debug, Drop, PartialEq, Eq)]
 pub enum RecvTurn {
     Going,

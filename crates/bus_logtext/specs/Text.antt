@@ -7,7 +7,8 @@ use Rattle.bus_batch.specs.declared.messages.Piece.TheVariants as piece
 use Rattle.bus_batch.specs.Frames.{Frame, log_pieces}
 use Rattle.bus_script.specs.Places.{refusal_line}
 use Rattle.bus_script.specs.declared.places.Place.TheVariants.{AtLine, AtEnd}
-use Rattle.bus_replay.specs.Text.{behind, item_text}
+use Rattle.bus_deliverylog.specs.Text.{item_text}
+use Rattle.bus_replay.specs.Text.{behind}
 use Rattle.bus_logtext.specs.declared.faults.LineFault.{LineFault}
 use Rattle.bus_logtext.specs.declared.faults.LineFault.TheVariants.{BadLine, TooManyWords}
 use Rattle.bus_logtext.specs.declared.faults.Refusal.{Refusal}
@@ -18,7 +19,7 @@ frame_line tenure owner = codes "frame" ++ behind tenure ++ behind owner.0 ++ 10
 
 -- sender, number and message of an item
 abbrev pub item_line : Item → List ℕ
-item_line item = codes "item" ++ item_text item ++ 10 ∷ []
+item_line item = codes "item " ++ item_text item ++ 10 ∷ []
 
 -- the line of what a word says, where it says something by itself
 abbrev pub piece_line : Option Piece → List ℕ

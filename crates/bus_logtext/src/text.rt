@@ -8,7 +8,7 @@ ghost use Rattle.bus_logtext.specs.Answers.{TellsLog};
 use crate::faults::{LineFault, Refusal};
 use bus_batch::{BadWord, FrameReader, Piece};
 use bus_deliverylog::LogFault;
-use bus_replay::text::push_item;
+use bus_deliverylog::texts::ItemText;
 use bus_script::{Place, refusal_line};
 use std::alloc::{AllocError, Global};
 
@@ -20,9 +20,8 @@ fn push_piece(text: &mut String, found: Option<Piece>) -> Result<(), AllocError>
         None => Ok(()),
         Some(Piece::Head { tenure, owner }) => writeln!(text, "frame {tenure} {}", owner.0),
         Some(Piece::Item(item)) => {
-            text.push_str("item")?;
-            push_item(text, &item)?;
-            text.push_str("\n")
+            let item = ItemText(&item);
+            writeln!(text, "item {item}")
         }
         Some(Piece::End) => text.push_str("end\n"),
     }

@@ -1,16 +1,13 @@
 -- What `replay` prints.
-use Rattle.std.specs.Prelude.{ℕ, ◌+◌, ◌/◌, ◌%◌, Bool, true, false, List, [], ◌∷◌, ◌++◌, length, codes, decimal, flat_map, nat_lt, if◌then◌else◌}
+use Rattle.std.specs.Prelude.{ℕ, Bool, true, false, List, [], ◌∷◌, ◌++◌, length, codes, decimal, flat_map}
 use Rattle.std.specs.List.{enumerate_from}
 use Rattle.bus_batch.specs.declared.batches.CloseFault.{CloseFault}
 use Rattle.bus_batch.specs.declared.batches.CloseFault.TheVariants as close
 use Rattle.bus_batch.specs.declared.batches.PutFault.{PutFault}
 use Rattle.bus_batch.specs.declared.batches.PutFault.TheVariants as put
-use Rattle.bus_batch.specs.declared.messages.Item.{Item}
 use Rattle.bus_batch.specs.Frames.{Order}
-use Rattle.bus_deliverylog.specs.declared.receiving.RecvTurn.{RecvTurn}
-use Rattle.bus_deliverylog.specs.declared.receiving.RecvTurn.TheVariants as recv
-use Rattle.bus_tenure.specs.declared.turns.Turn.{Turn as Turned}
-use Rattle.bus_tenure.specs.declared.turns.Turn.TheVariants as turn
+use Rattle.bus_deliverylog.specs.Text.{item_text, recv_text}
+use Rattle.bus_tenure.specs.Text.{turn_text}
 use Rattle.bus_world.specs.World.{Event, Put, Close, Turn, Recv, Stop}
 use Rattle.bus_world.specs.declared.events.Answer.{Answer}
 use Rattle.bus_world.specs.declared.events.Answer.TheVariants as answer
@@ -19,44 +16,13 @@ use Rattle.bus_world.specs.declared.events.StepFault.TheVariants as fault
 use Rattle.bus_world.specs.declared.shapes.MakeFault.{MakeFault}
 use Rattle.bus_world.specs.declared.shapes.MakeFault.TheVariants as make
 
--- ---- bytes
-
--- a digit below 16, in lower case
-abbrev pub hex_digit : ℕ → ℕ
-hex_digit n = if nat_lt n 10 then 48 + n else 87 + n
-
-abbrev pub hex_text : List ℕ → List ℕ
-hex_text [] = codes "-"
-hex_text (b ∷ bytes) = flat_map (λ byte. hex_digit (byte / 16) ∷ hex_digit (byte % 16) ∷ []) (b ∷ bytes)
+-- ---- numbers
 
 -- a number behind a space
 abbrev pub behind : ℕ → List ℕ
 behind n = 32 ∷ decimal n
 
 -- ---- answers
-
-abbrev pub turn_text : Turned → List ℕ
-turn_text turn.Idle = codes "idle"
-turn_text turn.Waiting = codes "waiting"
-turn_text turn.Going = codes "going"
-turn_text (turn.Lost t o) = codes "lost" ++ behind t ++ behind o.0
-turn_text (turn.Own t) = codes "own" ++ behind t
-turn_text (turn.Delivered t first last) = codes "delivered" ++ behind t ++ behind first ++ behind last
-turn_text turn.Full = codes "full"
-turn_text turn.Closed = codes "closed"
-turn_text turn.Spent = codes "spent"
-turn_text (turn.Behind t s) = codes "behind" ++ behind t ++ behind s.0
-
--- sender, number and message of an item
-abbrev pub item_text : Item → List ℕ
-item_text i = behind i.sender.0 ++ behind i.number ++ 32 ∷ hex_text i.message
-
-abbrev pub recv_text : RecvTurn → List ℕ
-recv_text recv.Going = codes "going"
-recv_text recv.Empty = codes "empty"
-recv_text (recv.Head t o) = codes "head" ++ behind t ++ behind o.0
-recv_text (recv.Item i) = codes "item" ++ item_text i
-recv_text recv.End = codes "end"
 
 abbrev pub answer_text : Answer → List ℕ
 answer_text (answer.Number n) = codes "number" ++ behind n
@@ -121,7 +87,7 @@ order_end false = []
 
 -- a line for each item, and one for the end
 abbrev pub order_text : Order → List ℕ
-order_text q = flat_map (λ i. codes "order" ++ item_text i ++ 10 ∷ []) q.items ++ order_end q.ended
+order_text q = flat_map (λ i. codes "order " ++ item_text i ++ 10 ∷ []) q.items ++ order_end q.ended
 
 abbrev pub given_line : ℕ → Order → List ℕ
 given_line r q = codes "given" ++ behind r ++ behind (length q.items) ++ end_text q.ended ++ 10 ∷ []

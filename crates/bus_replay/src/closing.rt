@@ -7,9 +7,9 @@ ghost use Rattle.bus_world.specs.Trails.{Trails, Reached};
 ghost use Rattle.bus_replay.specs.Text.{owners_line, order_text, given_line, given_text};
 ghost use Rattle.bus_replay.specs.Answers.{Closes, given_by};
 
-use crate::text::push_item;
 use bus_adoptcommit::Ratifier;
 use bus_deliverylog::Order;
+use bus_deliverylog::texts::ItemText;
 use bus_register::{NoMemory, SenderNo};
 use bus_world::World;
 use std::alloc::{AllocError, Global};
@@ -33,9 +33,8 @@ fn push_order(text: &mut String, order: &Order) -> Result<(), AllocError>
         (string_bytes text.new ≡ string_bytes text.old ++ order_text (order_held order.now)) }
 {
     for item in &order.items {
-        text.push_str("order")?;
-        push_item(text, item)?;
-        text.push_str("\n")?;
+        let item = ItemText(item);
+        writeln!(text, "order {item}")?;
     }
     if order.ended {
         text.push_str("order end\n")?;

@@ -6,3 +6,4 @@ pub mod CausesRefuse
 pub mod Keeping
 pub mod Seen
 pub mod Bounds
+pub mod Text

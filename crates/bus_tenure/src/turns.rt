@@ -1,8 +1,14 @@
 //! What a turn of a sender answers.
 
+ghost use Rattle.std.specs.Prelude.{Some};
+ghost use Rattle.bus_tenure.specs.Text.{turn_text};
+
 use bus_register::SenderNo;
+use std::fmt;
 
 /// The answer to one turn of a sender. Tenures and message numbers count from 0.
+///
+/// It is written in the words of `replay`, as `lost 2 0` or `delivered 1 0 3`.
 #[derive(Clone, Copy, Debug, PartialEq, Eq)]
 pub enum Turn {
     /// Nothing is pending, and it is not closing. No step was taken.
@@ -27,4 +33,27 @@ pub enum Turn {
     /// Where rows are used again: it holds the page, and the presence of this sender names this
     /// tenure, whose row the next tenure is to use. Its next turn loads that presence again.
     Behind { tenure: u64, sender: SenderNo },
+}
+
+impl fmt::Display for Turn {
+    ghost output = { λ turn. Some (turn_text turn) };
+
+    fn fmt<W: fmt::Write>(&self, f: &mut fmt::Formatter<W>) -> fmt::Result {
+        match self {
+            Turn::Idle => f.write_str("idle"),
+            Turn::Waiting => f.write_str("waiting"),
+            Turn::Going => f.write_str("going"),
+            Turn::Lost { tenure, owner } => write!(f, "lost {tenure} {}", owner.0),
+            Turn::Own { tenure } => write!(f, "own {tenure}"),
+            Turn::Delivered {
+                tenure,
+                first,
+                last,
+            } => write!(f, "delivered {tenure} {first} {last}"),
+            Turn::Full => f.write_str("full"),
+            Turn::Closed => f.write_str("closed"),
+            Turn::Spent => f.write_str("spent"),
+            Turn::Behind { tenure, sender } => write!(f, "behind {tenure} {}", sender.0),
+        }
+    }
 }
