@@ -1,0 +1,37 @@
+-- Families of kinds, by which marks are shaped.
+use Rattle.std.specs.Prelude.{ℕ, Bool, List, [], ◌∷◌, Option, Some, None, codes, if◌then◌else◌}
+use Rattle.std.specs.List.{list_any}
+use Rattle.std.specs.Str.{bytes_eq}
+use Rattle.bus_picture.specs.declared.families.Family.{Family}
+use Rattle.bus_picture.specs.declared.families.Family.TheVariants as family
+
+-- one of these texts
+abbrev pub is_one_of : List (List ℕ) → List ℕ → Bool
+is_one_of texts text = list_any (λ one. bytes_eq text one) texts
+
+abbrev pub looks : List (List ℕ)
+looks = codes "LoadStage" ∷ codes "ReadProposal" ∷ codes "ReadVerdict" ∷ codes "ReadOtherMark" ∷ codes "ReadVotes" ∷ codes "ReadAnnouncement" ∷ codes "LoadLength" ∷ codes "LoadLogWord" ∷ codes "LoadStageAgain" ∷ codes "ReadPresence" ∷ []
+
+abbrev pub stores : List (List ℕ)
+stores = codes "Announce" ∷ codes "StoreProposal" ∷ codes "StoreVerdict" ∷ codes "SetMark" ∷ codes "StoreLogWord" ∷ codes "StoreLength" ∷ codes "Enter" ∷ codes "Withdraw" ∷ codes "ClearRow" ∷ []
+
+-- the family of what stands in the column of kinds, where that is a kind's name, a call's or a dash
+abbrev pub family_of : List ℕ → Option Family
+family_of kind =
+    if is_one_of looks kind then Some family.Look else
+    (if is_one_of stores kind then Some family.Store else
+    (if bytes_eq kind (codes "Vote") then Some family.Add else
+    (if bytes_eq kind (codes "Fallback") then Some family.Exchange else
+    (if is_one_of (codes "TakePage" ∷ codes "GivePageBack" ∷ []) kind then Some family.Page else
+    (if is_one_of (codes "put" ∷ codes "close" ∷ codes "stop" ∷ []) kind then Some family.Call else
+    (if bytes_eq kind (codes "-") then Some family.Nothing else None))))))
+
+-- the shape of its mark
+abbrev pub mark_name : Family → List ℕ
+mark_name family.Look = codes "look"
+mark_name family.Store = codes "store"
+mark_name family.Add = codes "add"
+mark_name family.Exchange = codes "exchange"
+mark_name family.Page = codes "page"
+mark_name family.Call = codes "call"
+mark_name family.Nothing = codes "nothing"

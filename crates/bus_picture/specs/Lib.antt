@@ -1,0 +1,5 @@
+pub mod Families
+pub mod Processes
+pub mod Rows
+pub mod Finding
+pub mod Places
