@@ -3,3 +3,5 @@ pub mod Processes
 pub mod Rows
 pub mod Finding
 pub mod Places
+pub mod Drawing
+pub mod Shapes

@@ -25,3 +25,7 @@ across c (Receiver n) = 60 + 130 * (c.senders + n)
 -- from the top: time goes downwards
 abbrev pub down : ℕ → ℕ
 down place = 110 + 18 * place
+
+-- from the left: where the columns end
+abbrev pub edge : Columns → ℕ
+edge c = 60 + 130 * (c.senders + c.receivers)

@@ -1,7 +1,7 @@
 //! Which columns a picture has, and where things stand in it.
 
 ghost use Rattle.std.specs.Prelude.{◌≡◌, length, map};
-ghost use Rattle.bus_picture.specs.Places.{wider, columns_from, no_columns, across, down};
+ghost use Rattle.bus_picture.specs.Places.{wider, columns_from, no_columns, across, edge, down};
 ghost use Rattle.bus_picture.specs.Rows.{told};
 
 use crate::processes::Process;
@@ -74,4 +74,11 @@ pub fn down(place: u32) -> u64
     ensures { result ≡ down place }
 {
     110 + 18 * u64::from(place)
+}
+
+/// How far from the left the words beside the columns stand, in units of the picture.
+pub fn edge(columns: Columns) -> u64
+    ensures { result ≡ edge columns }
+{
+    60 + 130 * (u64::from(columns.senders) + u64::from(columns.receivers))
 }

@@ -25,7 +25,8 @@ pub struct Found {
     pub process: Process,
 }
 
-fn is_same(one: Process, other: Process) -> bool
+/// Whether two are one process.
+pub fn is_same(one: Process, other: Process) -> bool
     ensures { result ≡ is_same one other }
 {
     match (one, other) {

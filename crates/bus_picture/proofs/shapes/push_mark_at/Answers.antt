@@ -1,0 +1,8 @@
+use Rattle.std.proofs.Common.{codes, string_bytes, map}
+use Rattle.bus_picture.specs.Shapes.{point, at, down_to, said, use_of, path_end}
+use Rattle.bus_picture.proofs.TextLemmas.{grown}
+use Rattle.bus_picture.proofs.shapes.push_mark_at.Goals as goal
+
+pub returns : goal.returns
+returns c =
+    grown (string_bytes c.args.text.now) _ (said c.args.answer.now) (grown (string_bytes c.args.text.now) _ (at c.args.x c.args.y) (grown (string_bytes c.args.text.now) _ (codes "/><text dx='14' dy='4'") (grown (string_bytes c.args.text.now) _ (at c.args.x c.args.y) c.in_ok-push_use.ensures c.in_ok-push_at.ensures) c.in_ok-push_str.ensures.bytes) c.in_ok-push_at-2.ensures) c.in_ok-push_said.ensures

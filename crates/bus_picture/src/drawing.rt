@@ -1,0 +1,187 @@
+//! What is drawn of a row.
+
+ghost use Rattle.std.specs.Prelude.{◌≡◌, ◌++◌, ◌<◌, ◌^◌, OnOk, length, map, string_bytes};
+ghost use Rattle.bus_picture.specs.Rows.{told};
+ghost use Rattle.bus_picture.specs.Places.{edge, down};
+ghost use Rattle.bus_picture.specs.Shapes.{number_at, words_at};
+ghost use Rattle.bus_picture.specs.Drawing.{source_of, place_or, head_text, band_text, arrow_text};
+ghost use Rattle.bus_picture.specs.Drawing.{mark_text, what_text, row_text};
+
+use crate::columns::{Columns, across, down, edge};
+use crate::finding::{Found, Wanted, is_same, latest};
+use crate::rows::{Row, reads, writes};
+use crate::shapes::{push_arrow_at, push_band_at, push_head_at, push_mark_at};
+use crate::shapes::{push_number_at, push_words_at};
+use std::alloc::AllocError;
+
+/// The store whose value a row found, if it is a load and a store of its word stands above it.
+fn source_of(above: &[Row<'_>], row: &Row<'_>) -> Option<Found>
+    requires { length above.now < 2 ^ 32 }
+    ensures { result ≡ source_of (map told above.now) (told row.now) }
+{
+    if reads(row) {
+        latest(Wanted::Store(row.word), above)
+    } else {
+        None
+    }
+}
+
+/// Where a row stands that was found, or else this place.
+fn place_or(found: Option<Found>, place: u32) -> u32
+    ensures { result ≡ place_or found place }
+{
+    match found {
+        Some(found) => found.place,
+        None => place,
+    }
+}
+
+/// Draws the name of the process and its line, down to its last row, where no row above this one is
+/// of the same process.
+fn push_head(
+    text: &mut String,
+    columns: Columns,
+    rows: &[Row<'_>],
+    above: &[Row<'_>],
+    place: u32,
+    row: &Row<'_>,
+) -> Result<(), AllocError>
+    requires rows { length rows.now < 2 ^ 32 }
+    requires above { length above.now < 2 ^ 32 }
+    ensures { OnOk result (string_bytes text.new ≡ string_bytes text.old
+        ++ head_text columns (map told rows.now) (map told above.now) place (told row.now)) }
+{
+    if latest(Wanted::Of(row.process), above).is_some() {
+        return Ok(());
+    }
+    let x = across(columns, row.process);
+    let bottom = down(place_or(latest(Wanted::Of(row.process), rows), place));
+    push_head_at(text, x, bottom, row.who)
+}
+
+/// Draws the band of a tenure, from this row to the last one of its process in it, where no row
+/// above this one is of the same process in the same tenure.
+fn push_band(
+    text: &mut String,
+    columns: Columns,
+    rows: &[Row<'_>],
+    above: &[Row<'_>],
+    place: u32,
+    row: &Row<'_>,
+) -> Result<(), AllocError>
+    requires rows { length rows.now < 2 ^ 32 }
+    requires above { length above.now < 2 ^ 32 }
+    ensures { OnOk result (string_bytes text.new ≡ string_bytes text.old
+        ++ band_text columns (map told rows.now) (map told above.now) place (told row.now)) }
+{
+    let tenure = row.tenure;
+    if tenure == "-" {
+        return Ok(());
+    }
+    if latest(Wanted::Stay(row.process, tenure), above).is_some() {
+        return Ok(());
+    }
+    let x = across(columns, row.process);
+    let top = down(place);
+    let last = latest(Wanted::Stay(row.process, tenure), rows);
+    let bottom = down(place_or(last, place));
+    push_band_at(text, x, top, bottom, tenure)
+}
+
+/// Draws the arrow to a load from the store whose value it found, where that is another process's.
+fn push_arrow(
+    text: &mut String,
+    columns: Columns,
+    above: &[Row<'_>],
+    place: u32,
+    row: &Row<'_>,
+) -> Result<(), AllocError>
+    requires { length above.now < 2 ^ 32 }
+    ensures { OnOk result (string_bytes text.new ≡ string_bytes text.old
+        ++ arrow_text columns (source_of (map told above.now) (told row.now)) place
+        (told row.now)) }
+{
+    let Some(source) = source_of(above, row) else {
+        return Ok(());
+    };
+    if is_same(source.process, row.process) {
+        return Ok(());
+    }
+    let from_x = across(columns, source.process);
+    let from_y = down(source.place);
+    let x = across(columns, row.process);
+    let y = down(place);
+    push_arrow_at(text, from_x, from_y, x, y)
+}
+
+/// Draws the mark of a row, and its answer beside it.
+fn push_mark(
+    text: &mut String,
+    columns: Columns,
+    place: u32,
+    row: &Row<'_>,
+) -> Result<(), AllocError>
+    ensures { OnOk result (string_bytes text.new ≡ string_bytes text.old
+        ++ mark_text columns place (told row.now)) }
+{
+    let x = across(columns, row.process);
+    let y = down(place);
+    push_mark_at(text, x, y, row.family.mark(), row.answer)
+}
+
+/// Draws the number of a row.
+fn push_number(text: &mut String, place: u32, row: &Row<'_>) -> Result<(), AllocError>
+    ensures { OnOk result (string_bytes text.new ≡ string_bytes text.old
+        ++ number_at (down place) row.now.number.now) }
+{
+    push_number_at(text, down(place), row.number)
+}
+
+/// Begins the words beside the columns.
+fn push_beside(text: &mut String, columns: Columns, place: u32) -> Result<(), AllocError>
+    ensures { OnOk result (string_bytes text.new ≡ string_bytes text.old
+        ++ words_at (edge columns) (down place)) }
+{
+    push_words_at(text, edge(columns), down(place))
+}
+
+/// Puts what a row did at the end of a text: its kind, and of a step its word, what it found there
+/// and what it left.
+fn push_what(text: &mut String, row: &Row<'_>) -> Result<(), AllocError>
+    ensures { OnOk result (string_bytes text.new ≡ string_bytes text.old
+        ++ what_text (told row.now)) }
+{
+    text.push_str(row.kind)?;
+    if writes(row) {
+        write!(text, " {}: {} to {}", row.word, row.found, row.after)
+    } else if reads(row) {
+        write!(text, " {}: {}", row.word, row.found)
+    } else {
+        Ok(())
+    }
+}
+
+/// Draws a row of the rows, with so many of them above it.
+pub fn push_row(
+    text: &mut String,
+    columns: Columns,
+    rows: &[Row<'_>],
+    above: &[Row<'_>],
+    place: u32,
+    row: &Row<'_>,
+) -> Result<(), AllocError>
+    requires rows { length rows.now < 2 ^ 32 }
+    requires above { length above.now < 2 ^ 32 }
+    ensures { OnOk result (string_bytes text.new ≡ string_bytes text.old
+        ++ row_text columns (map told rows.now) (map told above.now) place (told row.now)) }
+{
+    push_head(text, columns, rows, above, place, row)?;
+    push_band(text, columns, rows, above, place, row)?;
+    push_arrow(text, columns, above, place, row)?;
+    push_mark(text, columns, place, row)?;
+    push_number(text, place, row)?;
+    push_beside(text, columns, place)?;
+    push_what(text, row)?;
+    text.push_str("</text>\n")?;
+    Ok(())
+}

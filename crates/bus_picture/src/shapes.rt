@@ -1,0 +1,135 @@
+//! Shapes at places, in units of the picture from its left and its top.
+
+ghost use Rattle.std.specs.Prelude.{◌≡◌, ◌++◌, OnOk, string_bytes};
+ghost use Rattle.bus_picture.specs.Shapes.{point, at, down_to, said, use_of, head_at, band_at};
+ghost use Rattle.bus_picture.specs.Shapes.{arrow_at, mark_at, number_at, words_at};
+
+use std::alloc::AllocError;
+
+/// The two numbers of a point.
+fn push_point(text: &mut String, x: u64, y: u64) -> Result<(), AllocError>
+    ensures { OnOk result (string_bytes text.new ≡ string_bytes text.old ++ point x y) }
+{
+    write!(text, "{x} {y}")
+}
+
+/// Where something stands.
+fn push_at(text: &mut String, x: u64, y: u64) -> Result<(), AllocError>
+    ensures { OnOk result (string_bytes text.new ≡ string_bytes text.old ++ at x y) }
+{
+    write!(text, " x='{x}' y='{y}'")
+}
+
+/// The end of a line straight down.
+fn push_down_to(text: &mut String, y: u64) -> Result<(), AllocError>
+    ensures { OnOk result (string_bytes text.new ≡ string_bytes text.old ++ down_to y) }
+{
+    write!(text, "V{y}'/>")
+}
+
+/// What a text says, and its end.
+fn push_said(text: &mut String, words: &str) -> Result<(), AllocError>
+    ensures { OnOk result (string_bytes text.new ≡ string_bytes text.old ++ said words.now) }
+{
+    write!(text, ">{words}</text>\n")
+}
+
+/// The beginning of a mark.
+fn push_use(text: &mut String, mark: &str) -> Result<(), AllocError>
+    ensures { OnOk result (string_bytes text.new ≡ string_bytes text.old ++ use_of mark.now) }
+{
+    write!(text, "<use href='#{mark}'")
+}
+
+/// The name of a process, and its line down to `bottom`.
+pub fn push_head_at(text: &mut String, x: u64, bottom: u64, who: &str) -> Result<(), AllocError>
+    ensures { OnOk result
+        (string_bytes text.new ≡ string_bytes text.old ++ head_at x bottom who.now) }
+{
+    text.push_str("<path class='life' d='M")?;
+    push_point(text, x, 92)?;
+    push_down_to(text, bottom)?;
+    text.push_str("<text class='head'")?;
+    push_at(text, x, 84)?;
+    push_said(text, who)?;
+    Ok(())
+}
+
+/// A band, with the number of its tenure.
+pub fn push_band_at(
+    text: &mut String,
+    x: u64,
+    top: u64,
+    bottom: u64,
+    tenure: &str,
+) -> Result<(), AllocError>
+    ensures { OnOk result
+        (string_bytes text.new ≡ string_bytes text.old ++ band_at x top bottom tenure.now) }
+{
+    text.push_str("<path class='band' d='M")?;
+    push_point(text, x, top)?;
+    push_down_to(text, bottom)?;
+    text.push_str("<text class='tenure' dx='-12' dy='4'")?;
+    push_at(text, x, top)?;
+    push_said(text, tenure)?;
+    Ok(())
+}
+
+/// An arrow.
+pub fn push_arrow_at(
+    text: &mut String,
+    from_x: u64,
+    from_y: u64,
+    x: u64,
+    y: u64,
+) -> Result<(), AllocError>
+    ensures { OnOk result
+        (string_bytes text.new ≡ string_bytes text.old ++ arrow_at from_x from_y x y) }
+{
+    text.push_str("<path class='arrow' d='M")?;
+    push_point(text, from_x, from_y)?;
+    text.push_str("L")?;
+    push_point(text, x, y)?;
+    text.push_str("'/>\n")?;
+    Ok(())
+}
+
+/// A mark, and the answer beside it.
+pub fn push_mark_at(
+    text: &mut String,
+    x: u64,
+    y: u64,
+    mark: &str,
+    answer: &str,
+) -> Result<(), AllocError>
+    ensures { OnOk result
+        (string_bytes text.new ≡ string_bytes text.old ++ mark_at x y mark.now answer.now) }
+{
+    push_use(text, mark)?;
+    push_at(text, x, y)?;
+    text.push_str("/><text dx='14' dy='4'")?;
+    push_at(text, x, y)?;
+    push_said(text, answer)?;
+    Ok(())
+}
+
+/// The number of a row, at the left.
+pub fn push_number_at(text: &mut String, y: u64, number: &str) -> Result<(), AllocError>
+    ensures { OnOk result
+        (string_bytes text.new ≡ string_bytes text.old ++ number_at y number.now) }
+{
+    text.push_str("<text dy='4'")?;
+    push_at(text, 8, y)?;
+    push_said(text, number)?;
+    Ok(())
+}
+
+/// Where words begin.
+pub fn push_words_at(text: &mut String, x: u64, y: u64) -> Result<(), AllocError>
+    ensures { OnOk result (string_bytes text.new ≡ string_bytes text.old ++ words_at x y) }
+{
+    text.push_str("<text dy='4'")?;
+    push_at(text, x, y)?;
+    text.push_str(">")?;
+    Ok(())
+}
