@@ -1,2 +1,3 @@
 mod RowLemmas
 mod TextLemmas
+mod PictureLemmas

@@ -5,3 +5,4 @@ pub mod Finding
 pub mod Places
 pub mod Drawing
 pub mod Shapes
+pub mod Pictures

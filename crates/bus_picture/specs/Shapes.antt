@@ -48,3 +48,7 @@ words_at x y = codes "<text dy='4'" ++ at x y ++ codes ">"
 
 abbrev pub words_end : List ℕ
 words_end = codes "</text>" ++ 10 ∷ []
+
+-- the beginning of a picture that is so wide and so high
+abbrev pub size : (width height : ℕ) → List ℕ
+size width height = codes "<svg xmlns='http://www.w3.org/2000/svg' font-family='sans-serif' font-size='11' viewBox='0 0 " ++ point width height ++ (codes "'>" ++ 10 ∷ [])

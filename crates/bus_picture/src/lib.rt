@@ -5,6 +5,9 @@ pub mod columns;
 pub mod drawing;
 pub mod families;
 pub mod finding;
+pub mod pictures;
 pub mod processes;
 pub mod rows;
 pub mod shapes;
+
+pub use pictures::picture_of;

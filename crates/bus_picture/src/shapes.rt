@@ -2,7 +2,7 @@
 
 ghost use Rattle.std.specs.Prelude.{◌≡◌, ◌++◌, OnOk, string_bytes};
 ghost use Rattle.bus_picture.specs.Shapes.{point, at, down_to, said, use_of, head_at, band_at};
-ghost use Rattle.bus_picture.specs.Shapes.{arrow_at, mark_at, number_at, words_at};
+ghost use Rattle.bus_picture.specs.Shapes.{arrow_at, mark_at, number_at, words_at, size};
 
 use std::alloc::AllocError;
 
@@ -131,5 +131,18 @@ pub fn push_words_at(text: &mut String, x: u64, y: u64) -> Result<(), AllocError
     text.push_str("<text dy='4'")?;
     push_at(text, x, y)?;
     text.push_str(">")?;
+    Ok(())
+}
+
+/// The beginning of a picture that is so wide and so high.
+pub fn push_size(text: &mut String, width: u64, height: u64) -> Result<(), AllocError>
+    ensures { OnOk result (string_bytes text.new ≡ string_bytes text.old ++ size width height) }
+{
+    text.push_str(
+        "<svg xmlns='http://www.w3.org/2000/svg' font-family='sans-serif' font-size='11' \
+        viewBox='0 0 ",
+    )?;
+    push_point(text, width, height)?;
+    text.push_str("'>\n")?;
     Ok(())
 }

@@ -1,0 +1,41 @@
+-- The picture of a trace.
+use Rattle.std.specs.Prelude.{ℕ, ◌+◌, List, [], ◌∷◌, ◌++◌, codes, decimal, length, take}
+use Rattle.bus_picture.specs.declared.columns.Columns.{Columns}
+use Rattle.bus_picture.specs.Rows.{Shown, rows_of}
+use Rattle.bus_picture.specs.Places.{no_columns, columns_from, down, edge}
+use Rattle.bus_picture.specs.Shapes.{size}
+use Rattle.bus_picture.specs.Drawing.{row_text}
+
+-- of a picture that has these columns and ends at this row
+abbrev pub opening : Columns → ℕ → List ℕ
+opening c place = size (edge c + 440) (down place)
+
+abbrev pub line : List ℕ → List ℕ
+line text = text ++ 10 ∷ []
+
+-- how shapes look, and what they say
+abbrev pub styles : List ℕ
+styles =
+    line (codes "<style>.life{stroke:#999;stroke-dasharray:2 3}.band{stroke:#ddd;stroke-width:18;stroke-linecap:square}.arrow{stroke:#06c;marker-end:url(#tip)}.head{font-weight:bold;text-anchor:middle}.tenure{font-size:9px;text-anchor:end}</style>")
+    ++ line (codes "<defs><marker id='tip' viewBox='0 0 8 8' refX='14' refY='4' markerWidth='8' markerHeight='8' orient='auto'><path d='M0 0L8 4L0 8z' fill='#06c'/></marker>")
+    ++ line (codes "<circle id='look' r='5' fill='#fff' stroke='#06c' stroke-width='2'/><rect id='store' x='-5' y='-5' width='10' height='10' fill='#a50'/>")
+    ++ line (codes "<path id='add' d='M0 -7L7 0L0 7L-7 0z' fill='#080'/><path id='exchange' d='M0 -7L7 5H-7z' fill='#808'/><path id='page' d='M0 -9L2 -2L9 0L2 2L0 9L-2 2L-9 0L-2 -2z' fill='#c00'/>")
+    ++ line (codes "<path id='call' d='M-4 -4L4 4M-4 4L4 -4' stroke='#000' stroke-width='2'/><path id='nothing' d='M-4 0H4' stroke='#000' stroke-width='2'/></defs>")
+    ++ line (codes "<use href='#look' x='16' y='18'/><text x='28' y='22'>load</text><use href='#store' x='76' y='18'/><text x='88' y='22'>store</text><use href='#add' x='138' y='18'/><text x='150' y='22'>add</text>")
+    ++ line (codes "<use href='#exchange' x='192' y='18'/><text x='204' y='22'>compare_exchange</text><use href='#page' x='322' y='18'/><text x='336' y='22'>stores the stage: takes the page, gives it back</text>")
+    ++ line (codes "<use href='#call' x='16' y='42'/><text x='28' y='46'>call</text><use href='#nothing' x='76' y='42'/><text x='88' y='46'>no step</text><path class='band' d='M150 42H160'/><text x='176' y='46'>in a tenure, with its number</text>")
+    ++ line (codes "<path class='arrow' d='M344 42H376'/><text x='382' y='46'>from a store to a load of another process that found it</text>")
+
+-- of rows, of which the first has this place among all
+abbrev pub rows_text : Columns → (all : List Shown) (place : ℕ) → List Shown → List ℕ
+rows_text c all place [] = []
+rows_text c all place (s ∷ rows) = row_text c all (take place all) place s ++ rows_text c all (place + 1) rows
+
+abbrev pub drawn : List Shown → List ℕ
+drawn rows =
+    opening (columns_from no_columns rows) (length rows) ++ styles
+    ++ rows_text (columns_from no_columns rows) rows 0 rows ++ (codes "</svg>" ++ 10 ∷ [])
+
+-- the picture of a trace: of its rows
+abbrev pub picture : List ℕ → List ℕ
+picture trace = drawn (rows_of trace)
