@@ -13,7 +13,10 @@ use std::alloc::Global;
 pub enum Task {
     Ratify,
     Replay,
+    /// Of the steps of a script, their lines.
     Trace,
+    /// Of the steps of a script, their picture.
+    Picture,
     /// Of a run, its summary.
     Run(Request),
     /// Of a run, its log.
@@ -32,7 +35,8 @@ fn bus_command<'a>(alloc: Global) -> Result<Command<'a>, Error> {
         .after_help(help::REPLAY);
     let trace = Command::new(alloc, "trace")
         .about("Shows each step of a bus that a script on standard input moves")
-        .after_help(help::TRACE);
+        .after_help(help::TRACE)
+        .arg(svg_flag(alloc))?;
     let bus = Command::new(alloc, "bus")
         .bin_name("bus")?
         .version(help::VERSION)
@@ -55,6 +59,7 @@ pub fn parse<'a>(alloc: Global, words: &'a [String]) -> Result<Task, Error> {
     let matches = bus_command(alloc)?.try_get_matches_from(words)?;
     match matches.subcommand() {
         Some(("replay", _)) => Ok(Task::Replay),
+        Some(("trace", given)) if given.get_flag("svg") => Ok(Task::Picture),
         Some(("trace", _)) => Ok(Task::Trace),
         Some(("run", given)) if given.get_flag("log") => Ok(Task::RunLog(request_of(given))),
         Some(("run", given)) => Ok(Task::Run(request_of(given))),
@@ -100,6 +105,14 @@ fn log_flag<'a>(alloc: Global) -> Arg<'a> {
         .long("log")
         .action(ArgAction::SetTrue)
         .help("Print the words of the log, one a line, in place of the summary")
+}
+
+/// The option of `trace` that asks for a picture.
+fn svg_flag<'a>(alloc: Global) -> Arg<'a> {
+    Arg::new(alloc, "svg")
+        .long("svg")
+        .action(ArgAction::SetTrue)
+        .help("Write a picture of the steps, as SVG, in place of the lines")
 }
 
 /// An option that has a number.

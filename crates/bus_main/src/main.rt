@@ -1,6 +1,6 @@
 //! The program `bus`. `bus ratify`, `bus replay` and `bus trace` read a script from standard input
-//! and write its answer to standard output, and `bus log` the words of a log. `bus run` lets
-//! threads share a bus, and writes what came of it.
+//! and write its answer to standard output, `bus trace --svg` a picture of it, and `bus log` the
+//! words of a log. `bus run` lets threads share a bus, and writes what came of it.
 //!
 //! Exit status: 0 where the script was played, the log was told or the bus was run; 1 where a
 //! script or a log was refused, or the program could not do its work, which standard error then
@@ -10,6 +10,7 @@
 mod command_line;
 mod help;
 mod log;
+mod picture;
 mod printing;
 mod ratify;
 mod replay;
@@ -20,13 +21,14 @@ mod trace;
 
 use self::command_line::{Task, parse};
 use self::log::log;
+use self::picture::picture;
 use self::printing::{print_log, print_run};
 use self::ratify::ratify;
 use self::replay::replay;
 use self::trace::trace;
 use bus_adoptcommit::ThreeWord;
 use bus_run::RunFault;
-use bus_script::Outcome;
+use bus_script::{Answer, Outcome};
 use clap::error::ErrorKind;
 use std::process::ExitCode;
 use std::rt::Env;
@@ -63,6 +65,10 @@ fn bus<R: AllocGlobal + Env + Input + Print + Eprint + Threads + Wait + Sync>(rt
             rt,
             trace::<ThreeWord, _, _>(rt.alloc(), &mut rt.reader(), &mut io::writer(rt)),
         ),
+        Ok(Task::Picture) => end_picture(
+            rt,
+            picture::<ThreeWord, _, _>(rt.alloc(), &mut rt.reader(), &mut io::writer(rt)),
+        ),
         Ok(Task::Log { senders }) => end(
             rt,
             log(rt.alloc(), senders, &mut rt.reader(), &mut io::writer(rt)),
@@ -82,6 +88,22 @@ fn bus<R: AllocGlobal + Env + Input + Print + Eprint + Threads + Wait + Sync>(rt
 /// The words of the command line, of which the first is the program's name.
 fn given_words<R: AllocGlobal + Env>(rt: &R) -> io::Result<Vec<String>> {
     Ok(env::args(rt)?.collect(rt.alloc())?)
+}
+
+/// Says where a script was refused of which a picture was written, or what kept the program from
+/// that, and gives the exit status.
+fn end_picture<R: Eprint>(rt: &R, ended: Result<Answer, RunFault>) -> ExitCode {
+    match ended {
+        Ok(answer) => {
+            if answer.outcome == Outcome::Refused
+                && let Some(line) = answer.text.lines().last()
+            {
+                let _ = eprintln!(rt; "bus: {line}");
+            }
+            end(rt, Ok(answer.outcome))
+        }
+        Err(fault) => end(rt, Err(fault)),
+    }
 }
 
 /// Says what kept a command from its work, and gives the exit status.

@@ -1,3 +1,4 @@
 mod RowLemmas
 mod TextLemmas
 mod PictureLemmas
+mod FamilyLaws

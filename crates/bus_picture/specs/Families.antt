@@ -2,6 +2,8 @@
 use Rattle.std.specs.Prelude.{ℕ, Bool, List, [], ◌∷◌, Option, Some, None, codes, if◌then◌else◌}
 use Rattle.std.specs.List.{list_any}
 use Rattle.std.specs.Str.{bytes_eq}
+use Rattle.bus_register.specs.declared.kinds.Kind.{Kind}
+use Rattle.bus_register.specs.declared.kinds.Kind.TheVariants as kind
 use Rattle.bus_picture.specs.declared.families.Family.{Family}
 use Rattle.bus_picture.specs.declared.families.Family.TheVariants as family
 
@@ -35,3 +37,29 @@ mark_name family.Exchange = codes "exchange"
 mark_name family.Page = codes "page"
 mark_name family.Call = codes "call"
 mark_name family.Nothing = codes "nothing"
+
+-- of a kind of step: what it does to its word, and whether that is the stage
+abbrev pub family_at : Kind → Family
+family_at kind.LoadStage = family.Look
+family_at kind.Announce = family.Store
+family_at kind.StoreProposal = family.Store
+family_at kind.ReadProposal = family.Look
+family_at kind.StoreVerdict = family.Store
+family_at kind.ReadVerdict = family.Look
+family_at kind.SetMark = family.Store
+family_at kind.ReadOtherMark = family.Look
+family_at kind.Vote = family.Add
+family_at kind.ReadVotes = family.Look
+family_at kind.Fallback = family.Exchange
+family_at kind.ReadAnnouncement = family.Look
+family_at kind.TakePage = family.Page
+family_at kind.StoreLogWord = family.Store
+family_at kind.StoreLength = family.Store
+family_at kind.GivePageBack = family.Page
+family_at kind.LoadLength = family.Look
+family_at kind.LoadLogWord = family.Look
+family_at kind.Enter = family.Store
+family_at kind.LoadStageAgain = family.Look
+family_at kind.Withdraw = family.Store
+family_at kind.ReadPresence = family.Look
+family_at kind.ClearRow = family.Store

@@ -5,6 +5,7 @@ pub mod columns;
 pub mod drawing;
 pub mod families;
 pub mod finding;
+pub mod laws;
 pub mod pictures;
 pub mod processes;
 pub mod rows;
