@@ -28,7 +28,8 @@ _bus() {
     if [[ "$word" == -* ]]; then
         case "$command" in
         "") names="-h --help -V --version" ;;
-        ratify | replay | trace) names="-h --help" ;;
+        ratify | replay) names="-h --help" ;;
+        trace) names="--svg -h --help" ;;
         run) names="--senders --receivers --messages --seed --log -h --help" ;;
         log) names="--senders -h --help" ;;
         esac

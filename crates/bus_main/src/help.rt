@@ -44,10 +44,11 @@ pub const TRACE: &str =
     "It takes the scripts of 'replay', and shows each step as a line of columns under one header:
 number, script line, who, tenure, kind, word, found, after, and the answer.
 
-Example:
+Examples:
   bus trace < examples/tour/3_late_sender.script
+  bus trace --svg < examples/tour/3_late_sender.script > steps.svg
 
-The columns stand in docs/FORMATS.md, under 'trace'.";
+The columns and the picture stand in docs/FORMATS.md, under 'trace'.";
 
 /// Behind the options of `run`.
 pub const RUN: &str = "It reads nothing. The order of the messages may differ from run to run.

@@ -145,6 +145,8 @@ fn tasks(rt: HostRuntime) {
     };
     names_task(&rt, &["ratify"], Task::Ratify);
     names_task(&rt, &["replay"], Task::Replay);
+    names_task(&rt, &["trace"], Task::Trace);
+    names_task(&rt, &["trace", "--svg"], Task::Picture);
     names_task(&rt, &["run"], Task::Run(run));
     names_task(&rt, &["run", "--log"], Task::RunLog(run));
     names_task(&rt, &["log"], Task::Log { senders: 3 });

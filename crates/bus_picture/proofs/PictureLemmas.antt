@@ -1,5 +1,5 @@
 -- The text of rows, with one row more.
-use Rattle.std.proofs.Common.{◌≡◌, ℕ, ◌+◌, ◌<◌, List, ◌∷◌, ◌++◌, length, get_or, take, drop, map, sym, ap, ◌∙◌, append_assoc}
+use Rattle.std.proofs.Common.{◌≡◌, ℕ, ◌+◌, ◌<◌, List, ◌++◌, length, get_or, take, drop, map, sym, ap, ◌∙◌, append_assoc}
 use Rattle.std.proofs.lemmas.List.{take-map, drop_more}
 use Rattle.bus_picture.specs.declared.columns.Columns.{Columns}
 use Rattle.bus_picture.specs.declared.rows.Row.{Row}

@@ -1,5 +1,5 @@
 -- What is drawn of a row, over the rows above it: the head of its process, the band of its tenure, an arrow, a mark, its answer and what it did.
-use Rattle.std.specs.Prelude.{ℕ, ◌+◌, List, [], ◌∷◌, ◌++◌, Option, Some, None, is_some, codes, decimal, if◌then◌else◌}
+use Rattle.std.specs.Prelude.{ℕ, List, [], ◌++◌, Option, Some, None, is_some, codes, if◌then◌else◌}
 use Rattle.std.specs.Str.{bytes_eq}
 use Rattle.bus_picture.specs.declared.columns.Columns.{Columns}
 use Rattle.bus_picture.specs.declared.finding.Found.{Found}

@@ -1,5 +1,5 @@
 -- Rows that are looked for.
-use Rattle.std.specs.Prelude.{ℕ, ◌+◌, ◌==◌, ◌&&◌, Bool, false, List, [], ◌∷◌, Option, Some, None, if◌then◌else◌}
+use Rattle.std.specs.Prelude.{ℕ, ◌+◌, ◌==◌, ◌&&◌, Bool, false, List, [], ◌∷◌, Option, Some, if◌then◌else◌}
 use Rattle.std.specs.Str.{bytes_eq}
 use Rattle.bus_picture.specs.declared.finding.Found.{Found}
 use Rattle.bus_picture.specs.declared.finding.Wanted.{Wanted}

@@ -1,5 +1,5 @@
 -- The picture of a trace.
-use Rattle.std.specs.Prelude.{ℕ, ◌+◌, List, [], ◌∷◌, ◌++◌, codes, decimal, length, take}
+use Rattle.std.specs.Prelude.{ℕ, ◌+◌, List, [], ◌∷◌, ◌++◌, codes, length, take}
 use Rattle.bus_picture.specs.declared.columns.Columns.{Columns}
 use Rattle.bus_picture.specs.Rows.{Shown, rows_of}
 use Rattle.bus_picture.specs.Places.{no_columns, columns_from, down, edge}
@@ -22,7 +22,7 @@ styles =
     ++ line (codes "<path id='add' d='M0 -7L7 0L0 7L-7 0z' fill='#080'/><path id='exchange' d='M0 -7L7 5H-7z' fill='#808'/><path id='page' d='M0 -9L2 -2L9 0L2 2L0 9L-2 2L-9 0L-2 -2z' fill='#c00'/>")
     ++ line (codes "<path id='call' d='M-4 -4L4 4M-4 4L4 -4' stroke='#000' stroke-width='2'/><path id='nothing' d='M-4 0H4' stroke='#000' stroke-width='2'/></defs>")
     ++ line (codes "<use href='#look' x='16' y='18'/><text x='28' y='22'>load</text><use href='#store' x='76' y='18'/><text x='88' y='22'>store</text><use href='#add' x='138' y='18'/><text x='150' y='22'>add</text>")
-    ++ line (codes "<use href='#exchange' x='192' y='18'/><text x='204' y='22'>compare_exchange</text><use href='#page' x='322' y='18'/><text x='336' y='22'>stores the stage: takes the page, gives it back</text>")
+    ++ line (codes "<use href='#exchange' x='192' y='18'/><text x='204' y='22'>compare_exchange</text><use href='#page' x='330' y='18'/><text x='344' y='22'>stores the stage: takes the page, gives it back</text>")
     ++ line (codes "<use href='#call' x='16' y='42'/><text x='28' y='46'>call</text><use href='#nothing' x='76' y='42'/><text x='88' y='46'>no step</text><path class='band' d='M150 42H160'/><text x='176' y='46'>in a tenure, with its number</text>")
     ++ line (codes "<path class='arrow' d='M344 42H376'/><text x='382' y='46'>from a store to a load of another process that found it</text>")
 

@@ -63,9 +63,7 @@ pub fn across(columns: Columns, process: Process) -> u64
 {
     match process {
         Process::Sender(number) => 60 + 130 * u64::from(number),
-        Process::Receiver(number) => {
-            60 + 130 * (u64::from(columns.senders) + u64::from(number))
-        }
+        Process::Receiver(number) => { 60 + 130 * (u64::from(columns.senders) + u64::from(number)) }
     }
 }
 

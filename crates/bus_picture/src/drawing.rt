@@ -10,8 +10,9 @@ ghost use Rattle.bus_picture.specs.Drawing.{mark_text, what_text, row_text};
 use crate::columns::{Columns, across, down, edge};
 use crate::finding::{Found, Wanted, is_same, latest};
 use crate::rows::{Row, reads, writes};
-use crate::shapes::{push_arrow_at, push_band_at, push_head_at, push_mark_at};
-use crate::shapes::{push_number_at, push_words_at};
+use crate::shapes::{
+    push_arrow_at, push_band_at, push_head_at, push_mark_at, push_number_at, push_words_at,
+};
 use std::alloc::AllocError;
 
 /// The store whose value a row found, if it is a load and a store of its word stands above it.

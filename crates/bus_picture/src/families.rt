@@ -27,12 +27,25 @@ pub fn family_of(kind: &str) -> Option<Family>
     ensures { result ≡ family_of kind.now }
 {
     match kind {
-        "LoadStage" | "ReadProposal" | "ReadVerdict" | "ReadOtherMark" | "ReadVotes"
-        | "ReadAnnouncement" | "LoadLength" | "LoadLogWord" | "LoadStageAgain" | "ReadPresence" => {
-            Some(Family::Look)
-        }
-        "Announce" | "StoreProposal" | "StoreVerdict" | "SetMark" | "StoreLogWord"
-        | "StoreLength" | "Enter" | "Withdraw" | "ClearRow" => Some(Family::Store),
+        "LoadStage"
+        | "ReadProposal"
+        | "ReadVerdict"
+        | "ReadOtherMark"
+        | "ReadVotes"
+        | "ReadAnnouncement"
+        | "LoadLength"
+        | "LoadLogWord"
+        | "LoadStageAgain"
+        | "ReadPresence" => { Some(Family::Look) }
+        "Announce"
+        | "StoreProposal"
+        | "StoreVerdict"
+        | "SetMark"
+        | "StoreLogWord"
+        | "StoreLength"
+        | "Enter"
+        | "Withdraw"
+        | "ClearRow" => Some(Family::Store),
         "Vote" => Some(Family::Add),
         "Fallback" => Some(Family::Exchange),
         "TakePage" | "GivePageBack" => Some(Family::Page),

@@ -12,3 +12,6 @@ pub mod rows;
 pub mod shapes;
 
 pub use pictures::picture_of;
+
+#[cfg(test)]
+mod tests;

@@ -22,15 +22,31 @@ fn push_styles(text: &mut String) -> Result<(), AllocError>
     ensures { OnOk result (string_bytes text.new ≡ string_bytes text.old ++ styles) }
 {
     text.push_str(
-        "<style>.life{stroke:#999;stroke-dasharray:2 3}.band{stroke:#ddd;stroke-width:18;stroke-linecap:square}.arrow{stroke:#06c;marker-end:url(#tip)}.head{font-weight:bold;text-anchor:middle}.tenure{font-size:9px;text-anchor:end}</style>\n\
-        <defs><marker id='tip' viewBox='0 0 8 8' refX='14' refY='4' markerWidth='8' markerHeight='8' orient='auto'><path d='M0 0L8 4L0 8z' fill='#06c'/></marker>\n\
-        <circle id='look' r='5' fill='#fff' stroke='#06c' stroke-width='2'/><rect id='store' x='-5' y='-5' width='10' height='10' fill='#a50'/>\n\
-        <path id='add' d='M0 -7L7 0L0 7L-7 0z' fill='#080'/><path id='exchange' d='M0 -7L7 5H-7z' fill='#808'/><path id='page' d='M0 -9L2 -2L9 0L2 2L0 9L-2 2L-9 0L-2 -2z' fill='#c00'/>\n\
-        <path id='call' d='M-4 -4L4 4M-4 4L4 -4' stroke='#000' stroke-width='2'/><path id='nothing' d='M-4 0H4' stroke='#000' stroke-width='2'/></defs>\n\
-        <use href='#look' x='16' y='18'/><text x='28' y='22'>load</text><use href='#store' x='76' y='18'/><text x='88' y='22'>store</text><use href='#add' x='138' y='18'/><text x='150' y='22'>add</text>\n\
-        <use href='#exchange' x='192' y='18'/><text x='204' y='22'>compare_exchange</text><use href='#page' x='322' y='18'/><text x='336' y='22'>stores the stage: takes the page, gives it back</text>\n\
-        <use href='#call' x='16' y='42'/><text x='28' y='46'>call</text><use href='#nothing' x='76' y='42'/><text x='88' y='46'>no step</text><path class='band' d='M150 42H160'/><text x='176' y='46'>in a tenure, with its number</text>\n\
-        <path class='arrow' d='M344 42H376'/><text x='382' y='46'>from a store to a load of another process that found it</text>\n",
+        "<style>.life{stroke:#999;stroke-dasharray:2 3}\
+        .band{stroke:#ddd;stroke-width:18;stroke-linecap:square}\
+        .arrow{stroke:#06c;marker-end:url(#tip)}.head{font-weight:bold;text-anchor:middle}\
+        .tenure{font-size:9px;text-anchor:end}</style>\n\
+        <defs><marker id='tip' viewBox='0 0 8 8' refX='14' refY='4' markerWidth='8' \
+        markerHeight='8' orient='auto'><path d='M0 0L8 4L0 8z' fill='#06c'/></marker>\n\
+        <circle id='look' r='5' fill='#fff' stroke='#06c' stroke-width='2'/>\
+        <rect id='store' x='-5' y='-5' width='10' height='10' fill='#a50'/>\n\
+        <path id='add' d='M0 -7L7 0L0 7L-7 0z' fill='#080'/>\
+        <path id='exchange' d='M0 -7L7 5H-7z' fill='#808'/>\
+        <path id='page' d='M0 -9L2 -2L9 0L2 2L0 9L-2 2L-9 0L-2 -2z' fill='#c00'/>\n\
+        <path id='call' d='M-4 -4L4 4M-4 4L4 -4' stroke='#000' stroke-width='2'/>\
+        <path id='nothing' d='M-4 0H4' stroke='#000' stroke-width='2'/></defs>\n\
+        <use href='#look' x='16' y='18'/><text x='28' y='22'>load</text>\
+        <use href='#store' x='76' y='18'/><text x='88' y='22'>store</text>\
+        <use href='#add' x='138' y='18'/><text x='150' y='22'>add</text>\n\
+        <use href='#exchange' x='192' y='18'/><text x='204' y='22'>compare_exchange</text>\
+        <use href='#page' x='330' y='18'/>\
+        <text x='344' y='22'>stores the stage: takes the page, gives it back</text>\n\
+        <use href='#call' x='16' y='42'/><text x='28' y='46'>call</text>\
+        <use href='#nothing' x='76' y='42'/><text x='88' y='46'>no step</text>\
+        <path class='band' d='M150 42H160'/><text x='176' y='46'>in a tenure, with its number\
+        </text>\n\
+        <path class='arrow' d='M344 42H376'/>\
+        <text x='382' y='46'>from a store to a load of another process that found it</text>\n",
     )?;
     Ok(())
 }

@@ -1,5 +1,6 @@
 //! The commented scripts of `examples/tour/`, word for word, with their outputs.
 
+use crate::picture::picture;
 use crate::ratify::ratify;
 use crate::replay::replay;
 use bus_adoptcommit::ThreeWord;
@@ -22,6 +23,26 @@ fn tour_adopt_commit(rt: HostRuntime) {
     let result = ratify(rt.alloc(), &mut reader, &mut written);
     assert_eq!(rt; result, Ok(Outcome::Done));
     assert_eq!(rt; written.as_slice(), ADOPT_COMMIT_OUTPUT.as_bytes());
+}
+
+#[test]
+fn tour_is_drawn(rt: HostRuntime) {
+    for script in [
+        ONE_MESSAGE,
+        LATE_SENDER,
+        FALLBACK_WORD,
+        TWO_COINS,
+        FULL_LOG,
+        CLOSE,
+    ] {
+        let mut reader = script.as_bytes();
+        let mut written = Vec::new(rt.alloc());
+        let result = picture::<ThreeWord, _, _>(rt.alloc(), &mut reader, &mut written);
+        let answer = result.expect(&rt, "a picture");
+        assert_eq!(rt; answer.outcome, Outcome::Done);
+        assert!(rt; written.as_slice().starts_with(b"<svg "));
+        assert!(rt; written.as_slice().ends_with(b"</svg>\n"));
+    }
 }
 
 #[test]

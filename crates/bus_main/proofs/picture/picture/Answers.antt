@@ -26,7 +26,7 @@ returns-in_err-write_whole-clause-fault g c =
       string_bytes c.in_ok-drawn.drawn,
       c.in_ok-input.ensures.ok,
       c.in_ok-input.ensures.end,
-      (answer.outcome, string_bytes answer.text, subst (λ i. IsTrace of i answer.outcome (string_bytes answer.text)) c.as_slice.ensures.value c.in_ok-answer.ensures, c.in_ok-drawn.ensures ∙ ap picture c.deref.ensures.value),
+      (answer.outcome, string_bytes answer.text, subst (λ i. IsTrace of i answer.outcome (string_bytes answer.text)) c.as_slice.ensures.value c.in_ok-answer.ensures, c.in_ok-drawn.ensures ∙ ap picture c.deref.ensures),
       subst (λ t. WritesPart (g.W.Write.contents c.args.writer.now) (g.W.Write.contents c.write_whole.new.writer) t) c.as_bytes.ensures.value c.in_err-write_whole.ensures.part,
     ))
 
@@ -38,5 +38,5 @@ returns-clause-ok g c =
       c.in_ok-input.input.items,
       c.in_ok-input.ensures.ok,
       subst (λ i. IsTrace of i answer.outcome (string_bytes answer.text)) c.as_slice.ensures.value c.in_ok-answer.ensures,
-      subst (λ t. Appends (g.W.Write.contents c.args.writer.now) (g.W.Write.contents c.write_whole.new.writer) t) (c.as_bytes.ensures.value ∙ c.in_ok-drawn.ensures ∙ ap picture c.deref.ensures.value) c.in_ok-write_whole.ensures.ok,
+      subst (λ t. Appends (g.W.Write.contents c.args.writer.now) (g.W.Write.contents c.write_whole.new.writer) t) (c.as_bytes.ensures.value ∙ c.in_ok-drawn.ensures ∙ ap picture c.deref.ensures) c.in_ok-write_whole.ensures.ok,
     )

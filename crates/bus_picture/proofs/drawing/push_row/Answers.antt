@@ -1,8 +1,8 @@
-use Rattle.std.proofs.Common.{codes, string_bytes, map}
+use Rattle.std.proofs.Common.{string_bytes, map}
 use Rattle.bus_picture.specs.Rows.{told}
 use Rattle.bus_picture.specs.Places.{down, edge}
 use Rattle.bus_picture.specs.Shapes.{number_at, words_at, words_end}
-use Rattle.bus_picture.specs.Drawing.{source_of, head_text, band_text, arrow_text, mark_text, what_text}
+use Rattle.bus_picture.specs.Drawing.{source_of, band_text, arrow_text, mark_text, what_text}
 use Rattle.bus_picture.proofs.TextLemmas.{grown}
 use Rattle.bus_picture.proofs.drawing.push_row.Goals as goal
 

@@ -1,4 +1,4 @@
-use Rattle.std.proofs.Common.{◌≡◌, ◌∙◌, ap, sym, map, ◌++◌, ◌∷◌, [], refl, Some, None}
+use Rattle.std.proofs.Common.{◌∙◌, ap, sym, map, ◌++◌}
 use Rattle.std.proofs.lemmas.List.{append-nil}
 use Rattle.bus_picture.specs.Rows.{row_of}
 use Rattle.bus_picture.proofs.RowLemmas.{rows_more, added}

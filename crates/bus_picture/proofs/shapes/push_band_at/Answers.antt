@@ -1,5 +1,5 @@
-use Rattle.std.proofs.Common.{codes, string_bytes, map}
-use Rattle.bus_picture.specs.Shapes.{point, at, down_to, said, use_of, path_end}
+use Rattle.std.proofs.Common.{codes, string_bytes}
+use Rattle.bus_picture.specs.Shapes.{point, at, down_to, said}
 use Rattle.bus_picture.proofs.TextLemmas.{grown}
 use Rattle.bus_picture.proofs.shapes.push_band_at.Goals as goal
 
