@@ -583,7 +583,7 @@ module _ {E : Type 0} (X : Election E) (P : Protocol E (Unit {0}) ℕ) (laws : L
   ring_led b x T (PutTaken w U s v bytes before goes small) = put_led w x U (ring_led w x U before) s v bytes (guest_there w s v goes) small
   ring_led b x T (CloseTaken w U s v before goes) = close_led w x U (ring_led w x U before) s v (guest_there w s v goes)
   ring_led b x T (RecvTaken w U r v next answer before at does) = recv_led w x U (ring_led w x U before) r v next answer at does
-  ring_led b x T (StopTaken w U s before) = stop_led w x U (ring_led w x U before) s
+  ring_led b x T (StopTaken w U s v before goes) = stop_led w x U (ring_led w x U before) s
 
   pub ring_kept : (b : Ring E) → IsRingLayout b.layout b.rows → (T : RingTrails) → RingReached X b T → IsKeptRing X b T
   ring_kept b x T r =

@@ -960,6 +960,9 @@ module _ {E : Type 0} (X : Election E) (P : Protocol E (Unit {0}) ℕ) (laws : L
   led_kept H y T D (Heard w U F J r v next answer before at does) = heard_kept J w U F (led_kept J w U F before) r v next answer at does
 
   -- ---- what is promised
+  above_it : (a k w : ℕ) → k < w → (a ≤ a + k) × (a + k < a + w)
+  above_it a k w l = ((omega arith), (omega arith))
+
   words_read : (n : ℕ) (w v : ℕ → ℕ) (a b : ℕ) → ((j : ℕ) → j < n → w (a + j) ≡ v (b + j)) → read w a n ≡ read v b n
   words_read zero w v a b same = refl
   words_read (suc n) w v a b same = ap (λ r. r ++ w (a + n) ∷ []) (words_read n w v a b (λ j l. same j (omega arith))) ∙ ap (λ r. read v b n ++ r ∷ []) (same n (omega arith))
@@ -985,7 +988,7 @@ module _ {E : Type 0} (X : Election E) (P : Protocol E (Unit {0}) ℕ) (laws : L
               let part = h.sending.parts p c old in
               let b = tenures.within_its_row X.op X.fed P laws x.senders x.rows 2 k.V (k.V 1) (is_some y.home) (λ q. of_some standing_of (y.senders q)) (λ q. least_of (y.senders q)) y.owners h.sending.tenures p t e word o
               (ap (of_some standing_of) old ∙ ap (λ w. Some (stands_at w)) elects) next in
-              let w = ap (λ n. t * n) width in ((let l = b.1 in omega arith), (let l = b.2 in omega arith));
+              let w = ap (λ n. t * n) width in above_it (row_of z t) (register o - row_at x t) x.width (let l = b.1 in let m = b.2 in omega arith);
           takers = record { took = takers.took; only = takers.only };
           spelled = record {
             frames = k.frames;

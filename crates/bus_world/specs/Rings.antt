@@ -20,10 +20,10 @@ use Rattle.bus_tenure.specs.declared.pages.Page.{Page}
 use Rattle.bus_tenure.specs.declared.turns.Turn.{Turn as Answered}
 use Rattle.bus_world.specs.Headline.{Deed, HasPut, HasClosed}
 use Rattle.bus_world.specs.Turning.{words_after, number_found, home_moved, core_moved, after_step}
-use Rattle.bus_world.specs.World.{is_set, can_put, can_close, new_page, new_core, IsNewReceiver, RecvDoes}
+use Rattle.bus_world.specs.World.{is_set, can_put, can_close, no_stops, new_page, new_core, IsNewReceiver, RecvDoes}
 use Rattle.bus_world.specs.Yards.{Yard, Led, IsKeptYard, no_deeds, no_answers, trails_with, due_deeds, deeds_with, answers_with}
 
--- its sizes, with a tenure for each number below 2^40, and how many rows there are; and of each sender whether it has stopped
+-- its sizes, how many rows there are, and of each sender whether it has stopped
 pub record Ring (E : Type 0) : Type 0 where
   pub layout : Layout
   pub rows : ℕ
@@ -115,15 +115,16 @@ pub record RingTrails : Type 0 where
 abbrev pub no_ring_trails : RingTrails
 no_ring_trails = record { visits = no_trails; deeds = no_deeds; heard = no_answers }
 
--- nothing has happened: words of zero, the page at home, senders and receivers at their starts
+-- nothing has happened: words of zero, the page at home, senders and receivers at their starts, none of which has stopped
 pub record IsNewRing {E : Type 0} (b : Ring E) : Type 0 where
   pub words : b.words ≡ replicate (log_from b.layout b.rows + b.layout.capacity) 0
   pub home : b.home ≡ Some new_page
   pub guests : (p : ℕ) (v : Visitor E) → slice_get b.guests p ≡ Some v → (p < b.layout.senders) × (v ≡ record { core = new_core b.layout p; visit = Away; sweep = None; lost = None; rows = b.rows })
   pub receivers : (r : ℕ) (v : Receiving) → slice_get b.receivers r ≡ Some v → IsNewReceiver b.layout (log_from b.layout b.rows) v
+  pub stopped : b.stopped ≡ no_stops
 
--- One after another: any sender that has not stopped takes a turn with any random word, puts a message, or closes; or any receiver takes
--- a turn; or a sender stops. What a turn of a sender answers is any answer.
+-- One after another: any sender that has not stopped takes a turn with any random word, whose step is on a word of the bus, or puts a
+-- message, or closes, or stops; or any receiver takes a turn. What a turn of a sender answers is any answer.
 pub data RingReached {E : Type 0} (X : Election E) : Ring E → RingTrails → Type 0 where
   NewRing : (b : Ring E) → IsNewRing b → RingReached X b no_ring_trails
   TurnTaken : (b : Ring E) (T : RingTrails) (s : ℕ) (v : Visitor E) (word : ℕ) (answer : Answered) → RingReached X b T → guest_going b s ≡ Some v → IsOnWord b (op_due X v (due X v) word)
@@ -134,7 +135,7 @@ pub data RingReached {E : Type 0} (X : Election E) : Ring E → RingTrails → T
       → RingReached X (with_guest b s (visitor_closed v)) (record T { deeds = deeds_with s (if can_close (queue_seen v.core.queue v.visit) then HasClosed ∷ [] else []) T.deeds })
   RecvTaken : (b : Ring E) (T : RingTrails) (r : ℕ) (v next : Receiving) (answer : RecvTurn) → RingReached X b T → slice_get b.receivers r ≡ Some v → RecvDoes (slice_index b.words) v answer next
       → RingReached X (record b { receivers = slice_set b.receivers r next }) (record T { heard = answers_with r answer T.heard })
-  StopTaken : (b : Ring E) (T : RingTrails) (s : ℕ) → RingReached X b T → RingReached X (record b { stopped = slice_set b.stopped s true }) T
+  StopTaken : (b : Ring E) (T : RingTrails) (s : ℕ) (v : Visitor E) → RingReached X b T → guest_going b s ≡ Some v → RingReached X (record b { stopped = slice_set b.stopped s true }) T
 
 -- ---- what every such bus keeps
 pub record IsRing {E : Type 0} (b : Ring E) : Type 0 where

@@ -12,10 +12,10 @@ use Rattle.bus_deliverylog.specs.declared.receiving.RecvTurn.{RecvTurn}
 use Rattle.bus_presence.specs.Visits.{visit_fed}
 use Rattle.bus_presence.specs.Standing.{IsSafe, Stands}
 use Rattle.bus_presence.specs.Sweeps.{Sweeping, sweep_fed}
-use Rattle.bus_presence.specs.Hall.{Hall, Trails, no_trails, new_hall, grown, found, words_after as hall_words, Reached}
+use Rattle.bus_presence.specs.Hall.{Hall, Trails, row_of, no_trails, new_hall, grown, found, words_after as hall_words, Reached}
 use Rattle.bus_presence.specs.declared.visits.Visit.TheVariants.{Away}
-use Rattle.bus_tenure.specs.Core.{Core, Election, Layout, stage_at, row_at}
-use Rattle.bus_tenure.specs.Situations.{Situation, line_of, op_at, kind_at, tenure_at, chosen_at}
+use Rattle.bus_tenure.specs.Core.{Core, Election, Layout, stage_at}
+use Rattle.bus_tenure.specs.Situations.{Situation, Elects, line_of, op_at, kind_at, tenure_at, chosen_at}
 use Rattle.bus_tenure.specs.declared.pages.Page.{Page}
 use Rattle.bus_tenure.specs.declared.phases.Phase.TheVariants.{Electing}
 use Rattle.bus_tenure.specs.declared.turns.Turn.{Turn as Answered}
@@ -138,8 +138,9 @@ pub record KeepsPromises {E : Type 0} (X : Election E) (x : Layout) (rows : ℕ)
   pub ready : (t : ℕ) → y.hall.words stage_at ≡ 2 * t + 1 → y.hall.sweep ≡ None → t + 1 < rows
   -- whose election runs stands in its tenure: it stored its presence, then loaded the stage of that tenure, and has not cleared it since
   pub stands : (p : ℕ) (c : Core E) (t : ℕ) (e : E) → y.senders p ≡ Some c → c.phase ≡ Electing t e → Stands (sizes_with x rows) p (T p) t
-  -- and its next step is on a word of that tenure's row
-  pub within : (p : ℕ) (c : Core E) (t : ℕ) (e : E) (word : ℕ) (o : Op) → y.senders p ≡ Some c → c.phase ≡ Electing t e → X.op e word ≡ Some o → (row_at x t ≤ register o) × (register o < row_at x t + x.width)
+  -- and its next step is on a word of the row that this tenure uses
+  pub within : (p : ℕ) (c : Core E) (t : ℕ) (e : E) (word : ℕ) (o : Op) → y.senders p ≡ Some c → c.phase ≡ Electing t e → X.op e word ≡ Some o
+      → (row_of (sizes_with x rows) t ≤ place_for x rows (Elects t e) (register o)) × (place_for x rows (Elects t e) (register o) < row_of (sizes_with x rows) t + x.width)
   -- who took the pages is who did so by its deeds
   pub takers : Takers y.owners D
   -- the words below the length spell the order and the owners
