@@ -39,8 +39,8 @@ pub record Sends {E : Type 0} (X : Election E) (first : Seated E) (answer : Turn
   pub last : is_last answer ≡ true
 
 -- ---- turns between which a function is asked whether to go on; Tells f told f' where a call of f may tell that, and leaves f'
--- Turns, none of them a last one, led from one sender to another. After each that answered Waiting, and after no other, the function
--- was asked once, and told to go on; each call of it found it as the call before had left it.
+-- Turns, none of them a last one, led from one sender to another. For each that answered Waiting, and for no other, there is a call of the
+-- function that told to go on; each call found it as the call before had left it. When it was made is not said.
 pub data AsksOn {E F : Type 0} (X : Election E) (Tells : F → Bool → F → Type 0) (first : Seated E) (given : F) : Seated E → F → Type 0 where
   Begins : AsksOn X Tells first given first given
   Goes : (old : Seated E) (f : F) (word : ℕ) (answer : Turn) (new : Seated E) → AsksOn X Tells first given old f → Turned X old word answer new → is_last answer ≡ false → (answer ≡ turn.Waiting → ⊥) → AsksOn X Tells first given new f

@@ -280,7 +280,7 @@ impl<Q: Ratifier + Drop> Sender<Q> {
     }
 
     /// Sends messages in their order: first what waits in its batch, and then these, in batches of
-    /// 16, of which the last may be smaller. Ok where none waits any more. It stops at the first
+    /// 16, of which the last may be smaller. Ok where no message waits any more. It stops at the first
     /// batch that is not sent off, which is kept, and at the first message that is refused. It
     /// waits as `send` does, and that it ends is not promised.
     pub fn send_all<W: Wait, R: Rng>(

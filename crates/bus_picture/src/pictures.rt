@@ -77,8 +77,9 @@ fn drawn(alloc: Global, rows: &[Row<'_>]) -> Result<String, AllocError>
     Ok(text)
 }
 
-/// The picture of a trace, as one text of SVG. Its size grows with the trace, and the time that it
-/// takes with the square of that. 2^32 steps and more are too many to be held.
+/// The picture of a trace as `trace_of` writes it, as one text of SVG; the texts of its columns are
+/// copied as they stand. Its size grows with the trace, and the time that it takes with the square
+/// of that. 2^32 steps and more are answered as memory that was refused.
 pub fn picture_of(alloc: Global, trace: &str) -> Result<String, AllocError>
     ensures { IfOk result (λ text. string_bytes text ≡ picture trace.now) }
 {

@@ -61,8 +61,8 @@ pub record PassesTo {E : Type 0} (first : Sat E) (answer : RecvTurn) (new : Sat 
   pub given : is_given answer ≡ true
 
 -- Turns that found neither, and between them a function that is asked whether to go on; Tells f told f' where a call of f may tell
--- that, and leaves f'. After each turn that answered Empty, and after no other, the function was asked once, and told to go on; each
--- call of it found it as the call before had left it.
+-- that, and leaves f'. For each turn that answered Empty, and for no other, there is a call of it that told to go on; each call found
+-- it as the call before had left it. When it was made is not said.
 pub data AsksOn {E F : Type 0} (Tells : F → Bool → F → Type 0) (first : Sat E) (given : F) : Sat E → F → Type 0 where
   Begins : AsksOn Tells first given first given
   Goes : (old : Sat E) (f : F) (answer : RecvTurn) (new : Sat E) → AsksOn Tells first given old f → Hears old answer new → is_given answer ≡ false → (answer ≡ turn.Empty → ⊥) → AsksOn Tells first given new f

@@ -144,7 +144,14 @@ module _ {E : Type 0} (X : Election E) (P : Protocol E (Unit {0}) ℕ) (laws : L
   never_its_own (Some c) e = e
 
   pub for_good : StopsAreForGood X x
-  for_good = record { stops = stops; stays = λ old new events run T s stop. stays X events old new run T s stop }
+  for_good = record {
+    stops = stops;
+    stays = λ old new events run T s stop. stays X events old new run T s stop;
+    put_refused = λ b s c bytes why there stop w. stopped_first (has_stopped b s) (slice_get b.side.senders s) c why _ stop there w;
+    close_refused = λ b s c why there stop w. stopped_first (has_stopped b s) (slice_get b.side.senders s) c why _ stop there w;
+    turn_refused = λ b s c word why there stop w. stopped_first (has_stopped b s) (slice_get b.side.senders s) c why _ stop there w;
+    stop_refused = λ b s c why there stop w. stopped_first (has_stopped b s) (slice_get b.side.senders s) c why _ stop there w;
+  }
 
   pub refuses : StopRefuses X x
   refuses = record {
@@ -153,8 +160,6 @@ module _ {E : Type 0} (X : Election E) (P : Protocol E (Unit {0}) ℕ) (laws : L
     late_put = λ old new s bytes a stop w. subst (λ o. PutGives o (length bytes) w.0) (stopped_stays old s stop) w.1;
     late_close = λ old new s a stop w. subst (λ o. CloseGives o) (stopped_stays old s stop) w.0;
     second_stop = λ old new s a stop w. subst (λ o. StopGives o) (stopped_stays old s stop) w.0;
-    other_put_fault = λ b s c bytes why there stop w. let bad = stopped_first (has_stopped b s) (slice_get b.side.senders s) c (fault.Put why) _ stop there w in cc;
-    other_close_fault = λ b s c why there stop w. let bad = stopped_first (has_stopped b s) (slice_get b.side.senders s) c (fault.Close why) _ stop there w in cc;
     stopped_untimely = λ b s goes w. never_its_own (slice_get b.side.senders s) (own_untimely (has_stopped b s) (slice_get b.side.senders s) fault.Stopped _ goes w);
     stopped_unknown = λ b s none w. never_its_own (slice_get b.side.senders s) (own_unknown (has_stopped b s) (slice_get b.side.senders s) fault.Stopped _ none w);
   }

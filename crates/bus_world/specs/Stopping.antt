@@ -1,12 +1,11 @@
 -- What a stop does, and that it is for good.
 use Rattle.std.specs.Prelude.{◌≡◌, ◌≢◌, ℕ, true, false, Some, None, List, slice_get}
-use Rattle.bus_batch.specs.declared.batches.PutFault.{PutFault}
-use Rattle.bus_batch.specs.declared.batches.CloseFault.{CloseFault}
 use Rattle.bus_tenure.specs.Core.{Core, Election, Layout}
 use Rattle.bus_world.specs.Playing.{AllAnswered, Answers, Refused}
 use Rattle.bus_world.specs.Trails.{Trails, Reached, trails_grown, trails_after}
 use Rattle.bus_world.specs.World.{Bus, Event, Put, Close, Turn, Stop, has_stopped, Happens}
 use Rattle.bus_world.specs.declared.events.Answer.{Answer}
+use Rattle.bus_world.specs.declared.events.StepFault.{StepFault}
 use Rattle.bus_world.specs.declared.events.StepFault.TheVariants as fault
 
 -- The stop of a sender that went on was answered: it has stopped now, and nothing else has changed. It is no deed of any sender and no
@@ -30,6 +29,11 @@ pub record StaysStopped {E : Type 0} (old : Bus E) (T : Trails) (s : ℕ) (new :
 pub record StopsAreForGood {E : Type 0} (X : Election E) (x : Layout) : Type 0 where
   pub stops : (old new : Bus E) (T : Trails) (s : ℕ) (a : Answer) → Reached X x old T → Happens X old (Stop s) new → Answers X old (Stop s) a new → JustStopped X old s a new
   pub stays : (old new : Bus E) (events : List Event) (run : AllAnswered X old events new) (T : Trails) (s : ℕ) → has_stopped old s ≡ true → StaysStopped old T s new (trails_after X old events new run T)
+  -- whatever else is wrong with an event of one that has stopped, that is its fault
+  pub put_refused : (b : Bus E) (s : ℕ) (c : Core E) (bytes : List ℕ) (why : StepFault) → slice_get b.side.senders s ≡ Some c → has_stopped b s ≡ true → Refused b (Put s bytes) why → why ≡ fault.Stopped
+  pub close_refused : (b : Bus E) (s : ℕ) (c : Core E) (why : StepFault) → slice_get b.side.senders s ≡ Some c → has_stopped b s ≡ true → Refused b (Close s) why → why ≡ fault.Stopped
+  pub turn_refused : (b : Bus E) (s : ℕ) (c : Core E) (word : ℕ) (why : StepFault) → slice_get b.side.senders s ≡ Some c → has_stopped b s ≡ true → Refused b (Turn s word) why → why ≡ fault.Stopped
+  pub stop_refused : (b : Bus E) (s : ℕ) (c : Core E) (why : StepFault) → slice_get b.side.senders s ≡ Some c → has_stopped b s ≡ true → Refused b (Stop s) why → why ≡ fault.Stopped
 
 -- what is no such thing
 pub record StopRefuses {E : Type 0} (X : Election E) (x : Layout) : Type 0 where
@@ -40,9 +44,6 @@ pub record StopRefuses {E : Type 0} (X : Election E) (x : Layout) : Type 0 where
   pub late_put : (old new : Bus E) (s : ℕ) (bytes : List ℕ) (a : Answer) → has_stopped old s ≡ true → ¬ Answers X old (Put s bytes) a new
   pub late_close : (old new : Bus E) (s : ℕ) (a : Answer) → has_stopped old s ≡ true → ¬ Answers X old (Close s) a new
   pub second_stop : (old new : Bus E) (s : ℕ) (a : Answer) → has_stopped old s ≡ true → ¬ Answers X old (Stop s) a new
-  -- a fault of a put or a close of such a sender that is not its stop
-  pub other_put_fault : (b : Bus E) (s : ℕ) (c : Core E) (bytes : List ℕ) (why : PutFault) → slice_get b.side.senders s ≡ Some c → has_stopped b s ≡ true → ¬ Refused b (Put s bytes) (fault.Put why)
-  pub other_close_fault : (b : Bus E) (s : ℕ) (c : Core E) (why : CloseFault) → slice_get b.side.senders s ≡ Some c → has_stopped b s ≡ true → ¬ Refused b (Close s) (fault.Close why)
   -- a stop's fault of a sender that goes on, or that there is none of
   pub stopped_untimely : (b : Bus E) (s : ℕ) → has_stopped b s ≡ false → ¬ Refused b (Stop s) fault.Stopped
   pub stopped_unknown : (b : Bus E) (s : ℕ) → slice_get b.side.senders s ≡ None → ¬ Refused b (Stop s) fault.Stopped

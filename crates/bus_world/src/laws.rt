@@ -90,9 +90,9 @@ pub fn yards_refuse<Q: Ratifier>()
 
 /// A stop that is answered changes who has stopped, and nothing else. Whoever has stopped does
 /// nothing any more, whatever happens next: no event of it is answered, its state is what it was,
-/// and it has no deed more. A stop that does nothing is none. A put or a close of a sender that has
-/// stopped is refused as Stopped, whatever else is wrong with it, and no stop of one that goes on,
-/// or that there is none of.
+/// and it has no deed more; whatever else is wrong with an event of it, it is refused as Stopped.
+/// A stop that does nothing is none. No stop is refused as Stopped of one that goes on, or that
+/// there is none of.
 pub fn stops_are_for_good<Q: Ratifier>()
     ensures stops { (senders rounds rows capacity : ℕ)
         → IsLayout (layout_with Q.protocol senders rounds rows capacity)
