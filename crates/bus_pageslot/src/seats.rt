@@ -1,7 +1,8 @@
 //! A sender with its seat.
 
 ghost use Rattle.std.specs.Prelude.{◌≡◌, ℕ, ◌<◌, List, [], ◌∷◌, ◌++◌, None};
-ghost use Rattle.std.specs.Prelude.{Some, IfSome, IfNone, IfOk, IfErr, OnOk, OnErr, length, ◌-◌, ◌≤◌};
+ghost use Rattle.std.specs.Prelude.{Some, IfSome, IfNone, IfOk, IfErr};
+ghost use Rattle.std.specs.Prelude.{OnOk, OnErr, length, ◌-◌, ◌≤◌};
 ghost use Rattle.std.specs.Prelude.{false, take, slice_get};
 ghost use Rattle.bus_batch.specs.Batches.{next_of, CanPut, IsPutFault, CanClose, IsCloseFault};
 ghost use Rattle.bus_tenure.specs.Situations.{situation_of, kind_at, op_at, rest_at};
@@ -280,9 +281,9 @@ impl<Q: Ratifier + Drop> Sender<Q> {
     }
 
     /// Sends messages in their order: first what waits in its batch, and then these, in batches of
-    /// 16, of which the last may be smaller. Ok where no message waits any more. It stops at the first
-    /// batch that is not sent off, which is kept, and at the first message that is refused. It
-    /// waits as `send` does, and that it ends is not promised.
+    /// 16, of which the last may be smaller. Ok where no message waits any more. It stops at the
+    /// first batch that is not sent off, which is kept, and at the first message that is refused.
+    /// It waits as `send` does, and that it ends is not promised.
     pub fn send_all<W: Wait, R: Rng>(
         &mut self,
         wait: &W,
