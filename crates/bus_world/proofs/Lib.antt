@@ -33,4 +33,5 @@ pub mod YardNotes
 pub mod YardHears
 pub mod YardLaws
 pub mod RingLaws
+pub mod RingFits
 pub mod StopLaws

@@ -84,7 +84,7 @@ module _ {E : Type 0} (X : Election E) (P : Protocol E (Unit {0}) ℕ) (x : Layo
       }
 
 -- ---- results
-refuses : {A F : Type 0} (r : Result A F) (Q : F → Type 0) (P : Type 0) → IfErr r Q → ((e : F) → Q e → P) → OnErr r P
+pub refuses : {A F : Type 0} (r : Result A F) (Q : F → Type 0) (P : Type 0) → IfErr r Q → ((e : F) → Q e → P) → OnErr r P
 refuses (Ok a) Q P h f = tt
 refuses (Err e) Q P h f = f e h
 
@@ -92,7 +92,7 @@ pub passed_up : {T F : Type 0} (r : Result T F) (e : F) (P : F → Type 0) → I
 passed_up (Ok x) e P h p = absurd h.1
 passed_up (Err y) e P h p = subst P (sym h.1) p
 
-for_each : {A F : Type 0} (r : Result A F) (P Q : F → Type 0) → IfErr r P → ((e : F) → P e → Q e) → IfErr r Q
+pub for_each : {A F : Type 0} (r : Result A F) (P Q : F → Type 0) → IfErr r P → ((e : F) → P e → Q e) → IfErr r Q
 for_each (Ok a) P Q h f = tt
 for_each (Err e) P Q h f = f e h
 
@@ -104,7 +104,7 @@ and_no false = refl
 longer : (len : ℕ) → 56 < len → nat_le len 56 ≡ false
 longer len l = grind (arith, nat_tests)
 
-put_allowed : (q : Pending) (len : ℕ) (why : PutFault) → IsPutFault q len why → can_put q len ≡ false
+pub put_allowed : (q : Pending) (len : ℕ) (why : PutFault) → IsPutFault q len why → can_put q len ≡ false
 put_allowed q len put.Closed (inl e) = ap (λ z. is_open z && (cond q.busy false true && (nat_le len 56 && nat_lt (length q.messages) 16))) e
 put_allowed q len put.Closed (inr e) = ap (λ z. is_open z && (cond q.busy false true && (nat_le len 56 && nat_lt (length q.messages) 16))) e
 put_allowed q len put.Busy e = ap (λ z. is_open z && (cond q.busy false true && (nat_le len 56 && nat_lt (length q.messages) 16))) e.0 ∙ ap (λ z. cond z false true && (nat_le len 56 && nat_lt (length q.messages) 16)) e.1
@@ -118,7 +118,7 @@ some_left : {A : Type 0} (xs : List A) → 0 < length xs → is_empty xs ≡ fal
 some_left [] l = absurd (omega arith)
 some_left (x ∷ xs) l = refl
 
-close_allowed : (q : Pending) (why : CloseFault) → IsCloseFault q why → can_close q ≡ false
+pub close_allowed : (q : Pending) (why : CloseFault) → IsCloseFault q why → can_close q ≡ false
 close_allowed q close.Closed (inl e) = ap (λ z. is_open z && (cond q.busy false true && is_empty q.messages)) e
 close_allowed q close.Closed (inr e) = ap (λ z. is_open z && (cond q.busy false true && is_empty q.messages)) e
 close_allowed q close.Busy e = ap (λ z. is_open z && (cond q.busy false true && is_empty q.messages)) e.0 ∙ ap (λ z. cond z false true && is_empty q.messages) e.1

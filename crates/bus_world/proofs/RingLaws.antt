@@ -38,7 +38,7 @@ use Rattle.bus_tenure.specs.declared.turns.Turn.TheVariants as turn
 use Rattle.bus_world.specs.Headline.{Deed, HasPut, HasClosed}
 use Rattle.bus_world.specs.Rings.{Ring, yard_of, visit_in, core_in, Leads, IsRing, IsNewRing, IsOnWord, IsKeptRing, RingTrails, RingReached, NewRing, TurnTaken, PutTaken, CloseTaken, RecvTaken, StopTaken, guest_going, with_guest, visitor_put, visitor_closed, move_due, visitor_moved, ring_after, ring_trails, ring_deeds}
 use Rattle.bus_world.specs.Tenures.Standing.{Holds}
-use Rattle.bus_world.specs.Turning.{words_after, number_found, core_moved, after_step, home_after}
+use Rattle.bus_world.specs.Turning.{words_after, number_found, core_moved, after_step, home_after, owners_after}
 use Rattle.bus_world.specs.Yards.{Yard, Led, NewYard, Turned, PutIn, ClosedIn, Heard, due_in, due_deeds, deeds_with, no_deeds, no_answers, answers_with, trails_with, yard_after, words_stepped, word_found}
 use Rattle.bus_world.specs.World.{RecvDoes, is_set, is_open, can_put, can_close, new_core}
 use Rattle.bus_world.proofs.Beginning.{zeros}
@@ -60,7 +60,7 @@ index_put xs r n l = fun_ext (λ q. elim (cases_eq q r) [
 ])
 
 -- ---- a step on another word
-same_register : (f : ℕ → ℕ) (o : Op) → register (on_place f o) ≡ f (register o)
+pub same_register : (f : ℕ → ℕ) (o : Op) → register (on_place f o) ≡ f (register o)
 same_register f (Load at) = refl
 same_register f (Store at n) = refl
 same_register f (Add at n) = refl
@@ -128,6 +128,12 @@ due_sweeps {E} None s z t o e = by_home (sweep_due z s) refl e
     by_home : (d : Option Sweeping) → sweep_due z s ≡ d → due_home d z ≡ Sweeps t o → IsSweeping z s t
     by_home None is e = absurd cc
     by_home (Some r) is e = by_step r is (sweep_op r) e
+
+-- who took the pages, after the turn that was due
+abbrev pub owners_due : {E : Type 0} → Election E → Visitor E → ℕ → Due E → List ℕ → List ℕ
+owners_due X v s (Visits o) owners = owners
+owners_due X v s (Sweeps r o) owners = owners
+owners_due X v s (Goes z) owners = owners_after X v.core z s owners
 
 -- ---- a turn of sender s, which holds v
 module _ {E : Type 0} (X : Election E) (P : Protocol E (Unit {0}) ℕ) (laws : Laws X.op X.fed P OneOwner) (b : Ring E) (ok : IsLayout b.layout) (width : b.layout.width ≡ P.width b.layout.senders)
@@ -355,8 +361,22 @@ module _ {E : Type 0} (X : Election E) (P : Protocol E (Unit {0}) ℕ) (laws : L
     goes_lead (GivesBack t page reason) here e = goes_as (GivesBack t page reason) here e (λ r f. refl) (nobody_else t (gives_held t page reason here) None)
     goes_lead (HasHanded t reason) here e = absurd (subst (Fits k.V k.frames v.core) (tells X v.core (HasHanded t reason) here) part.fits)
 
+    goes_owners : (z : Situation E) (here : situation_of X v.core ≡ z) (e : due X v ≡ Goes z) (low : (o : Op) → op_due X v (Goes z) word ≡ Some o → register o < length b.words) → (goes_lead z here e low).owners ≡ owners_after X v.core z s l.owners
+    unfolding goes_lead goes_as
+    goes_owners IsClosed here e low = refl
+    goes_owners IsIdle here e low = refl
+    goes_owners IsSpent here e low = refl
+    goes_owners LooksAtStage here e low = refl
+    goes_owners (Elects t g) here e low = refl
+    goes_owners (TakesPage t) here e low = refl
+    goes_owners (AwaitsPage t) here e low = absurd (subst (Fits k.V k.frames v.core) (tells X v.core (AwaitsPage t) here) part.fits)
+    goes_owners (StoresWord t page stored) here e low = refl
+    goes_owners (StoresLength t page stored) here e low = refl
+    goes_owners (GivesBack t page reason) here e low = refl
+    goes_owners (HasHanded t reason) here e low = absurd (subst (Fits k.V k.frames v.core) (tells X v.core (HasHanded t reason) here) part.fits)
+
 -- ---- who goes on as a sender is in its situation
-due_goes : {E : Type 0} (v : Option Op) (s : Option Sweeping) (z w : Situation E) → due_beside v s z ≡ Goes w → z ≡ w
+pub due_goes : {E : Type 0} (v : Option Op) (s : Option Sweeping) (z w : Situation E) → due_beside v s z ≡ Goes w → z ≡ w
 due_goes (Some p) s z w e = absurd cc
 due_goes None s z w e = by_home (sweep_due z s) e
   where
@@ -454,7 +474,7 @@ module _ {E : Type 0} (X : Election E) (b : Ring E) (new : IsNewRing b) where
     };
   }
 
-  new_ring : IsRing b
+  pub new_ring : IsRing b
   new_ring = record {
     rows = λ p v e. ap (λ (u : Visitor E). u.rows) (new.guests p v e).1;
     words = ap length new.words ∙ length-replicate (log_from b.layout b.rows + b.layout.capacity) 0;
@@ -475,7 +495,7 @@ module _ {E : Type 0} (X : Election E) (P : Protocol E (Unit {0}) ℕ) (laws : L
     pub leads : Leads X b T.visits T.deeds T.heard
 
   module _ (b : Ring E) (x : IsRingLayout b.layout b.rows) (T : RingTrails) (h : IsLed b T) where
-    turn_led : (s : ℕ) (v : Visitor E) (word : ℕ) (answer : Answered) → slice_get b.guests s ≡ Some v → (d : Due E) → due X v ≡ d → IsOnWord b (op_due X v d word)
+    pub turn_led : (s : ℕ) (v : Visitor E) (word : ℕ) (answer : Answered) → slice_get b.guests s ≡ Some v → (d : Due E) → due X v ≡ d → IsOnWord b (op_due X v d word)
         → IsLed (ring_after X b s v d word) (record T { visits = ring_trails b s d T.visits; deeds = ring_deeds X b s v d word answer T.deeds })
     turn_led s v word answer at d e low = record {
       is = record {
@@ -493,6 +513,13 @@ module _ {E : Type 0} (X : Election E) (P : Protocol E (Unit {0}) ℕ) (laws : L
       by_due (Sweeps r o) e low = sweeps_lead X P laws b x.ok x.width x.starts owner_is named announces apart x.two h.is T.visits T.deeds T.heard h.leads s v at word answer r o e low
       by_due (Goes z) e low = goes_lead X P laws b x.ok x.width x.starts owner_is named announces apart x.two h.is T.visits T.deeds T.heard h.leads s v at word answer z
           (due_goes _ v.sweep (situation_of X v.core) z e) e (on_word (op_due X v (Goes z) word) low)
+
+    pub turn_owners : (s : ℕ) (v : Visitor E) (word : ℕ) (answer : Answered) (at : slice_get b.guests s ≡ Some v) (d : Due E) (e : due X v ≡ d) (low : IsOnWord b (op_due X v d word))
+        → (turn_led s v word answer at d e low).leads.owners ≡ owners_due X v s d h.leads.owners
+    unfolding turn_led visits_lead sweeps_lead
+    turn_owners s v word answer at (Visits o) e low = refl
+    turn_owners s v word answer at (Sweeps r o) e low = refl
+    turn_owners s v word answer at (Goes z) e low = goes_owners X P laws b x.ok x.width x.starts owner_is named announces apart x.two h.is T.visits T.deeds T.heard h.leads s v at word answer z (due_goes _ v.sweep (situation_of X v.core) z e) e _
 
     abbrev here : Yard E
     here = yard_of b h.leads.sweep h.leads.owners

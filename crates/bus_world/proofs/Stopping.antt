@@ -52,7 +52,7 @@ pub stopped_stays : {E : Type 0} (b : Bus E) (s : ℕ) → has_stopped b s ≡ t
 stopped_stays b s e = ap (λ t. cond t None (slice_get b.side.senders s)) e
 
 -- ---- what is refused as a stop is
-set_there : (l : List Bool) (s : ℕ) → get_or l s false ≡ true → is_set (slice_get l s) ≡ true
+pub set_there : (l : List Bool) (s : ℕ) → get_or l s false ≡ true → is_set (slice_get l s) ≡ true
 set_there [] s e = absurd (let z : false ≡ true = e in cc)
 set_there (t ∷ l) zero e = e
 set_there (t ∷ l) (suc s) e = set_there l s e

@@ -18,7 +18,7 @@ use Rattle.bus_world.specs.Trails.{IsServedBus}
 use Rattle.bus_world.specs.Starting.{AreNewCores, AreNewReaders}
 
 -- words of a list, from a place on
-read-list : (words : List ℕ) (at k : ℕ) → at + k ≤ length words → read (slice_index words) at k ≡ take k (drop at words)
+pub read-list : (words : List ℕ) (at k : ℕ) → at + k ≤ length words → read (slice_index words) at k ≡ take k (drop at words)
 read-list words at zero l = refl
 read-list words at (suc k) l =
     let size = length-drop at words in

@@ -963,7 +963,7 @@ module _ {E : Type 0} (X : Election E) (P : Protocol E (Unit {0}) ℕ) (laws : L
   above_it : (a k w : ℕ) → k < w → (a ≤ a + k) × (a + k < a + w)
   above_it a k w l = ((omega arith), (omega arith))
 
-  words_read : (n : ℕ) (w v : ℕ → ℕ) (a b : ℕ) → ((j : ℕ) → j < n → w (a + j) ≡ v (b + j)) → read w a n ≡ read v b n
+  pub words_read : (n : ℕ) (w v : ℕ → ℕ) (a b : ℕ) → ((j : ℕ) → j < n → w (a + j) ≡ v (b + j)) → read w a n ≡ read v b n
   words_read zero w v a b same = refl
   words_read (suc n) w v a b same = ap (λ r. r ++ w (a + n) ∷ []) (words_read n w v a b (λ j l. same j (omega arith))) ∙ ap (λ r. read v b n ++ r ∷ []) (same n (omega arith))
 

@@ -21,8 +21,8 @@ pub mod events;
 mod faults;
 pub mod laws;
 pub mod shapes;
-mod starts;
-mod turns;
+pub mod starts;
+pub mod turns;
 pub mod worlds;
 
 pub use events::{Answer, Event, PlayFault, StepFault};
