@@ -1,26 +1,24 @@
 -- What a guest keeps is kept by each of its steps.
-use Rattle.std.proofs.Common.{◌≡◌, ℕ, ◌+◌, ◌*◌, ◌-◌, ◌/◌, ◌%◌, ◌<◌, ◌≤◌, Bool, true, false, Option, Some, None, IsSome, nat_lt, nat_le, ◌==◌, cond, is_some, refl, sym, ◌∙◌, ap, subst, arith}
+use Rattle.std.proofs.Common.{◌≡◌, ℕ, ◌+◌, ◌*◌, ◌-◌, ◌<◌, ◌≤◌, Bool, true, false, Option, Some, None, IfSome, nat_lt, cond, refl, sym, ◌∙◌, ap, subst, arith}
 use Rattle.std.proofs.lemmas.Option.{same_Some}
+use Rattle.std.proofs.lemmas.Bool.{lt-ltb}
 use Rattle.bus_register.specs.declared.registers.Op.{Op}
 use Rattle.bus_register.specs.declared.registers.Op.TheVariants.{Load, Store}
 use Rattle.bus_register.specs.Words.{register}
 use Rattle.bus_ownerbits.proofs.ElectionSteps.{row_within}
-use Rattle.bus_presence.specs.Visits.{Visiting, step_at, visit_fed}
-use Rattle.bus_presence.specs.Sweeps.{Sweeping, sweep_op, sweep_fed}
-use Rattle.bus_presence.specs.Hall.{sweep_after}
+use Rattle.bus_presence.specs.Sweeps.{Sweeping, sweep_op, is_swept}
 use Rattle.bus_presence.specs.declared.visits.Visit.{Visit}
 use Rattle.bus_presence.specs.declared.visits.Visit.TheVariants.{Away, Entering, Looking, Inside, Parting, Barred}
-use Rattle.bus_tenure.specs.Core.{Core, Election, Layout, length_at, stage_at, row_at, log_at, words_of}
-use Rattle.bus_tenure.specs.Situations.{Situation, IsClosed, IsIdle, IsSpent, LooksAtStage, Elects, TakesPage, AwaitsPage, StoresWord, StoresLength, GivesBack, HasHanded, situation_of, op_at, core_begun, core_elected}
+use Rattle.bus_tenure.specs.Core.{Core, Election, Layout, row_at, log_at, words_of}
+use Rattle.bus_tenure.specs.Situations.{Situation, IsClosed, IsIdle, IsSpent, LooksAtStage, Elects, TakesPage, AwaitsPage, StoresWord, StoresLength, GivesBack, HasHanded, situation_of, op_at}
 use Rattle.bus_tenure.specs.Keeping.{AreSizes}
 use Rattle.bus_tenure.specs.declared.pages.Page.{Page}
 use Rattle.bus_tenure.specs.declared.phases.Reason.{Reason}
-use Rattle.bus_tenure.specs.declared.phases.Phase.{Phase}
-use Rattle.bus_tenure.specs.declared.phases.Phase.TheVariants.{Resting, Electing, Taken, Holding, Giving}
+use Rattle.bus_tenure.specs.declared.phases.Phase.TheVariants.{Electing}
 use Rattle.bus_tenure.proofs.Situated.{tells}
-use Rattle.bus_guest.specs.Guests.{sizes_with, log_from, place_for, Due, Visits, Sweeps, Goes, due_beside, due_home, due_swept, sweep_due, core_looked, visit_elected}
-use Rattle.bus_guest.specs.Turns.{Visitor, due, visitor_due, lost_elected, LiesGoing}
-use Rattle.bus_guest.specs.Keeping.{IsBound, IsInside, IsOutside, VisitKeeps, held_of, IsSweepAfter, IsHeldSweep, SweepKeeps, GuestKeeps, IsTied, LiesApart, IsInOwnRow}
+use Rattle.bus_guest.specs.Guests.{log_from, place_for, Goes, due_beside, due_home, due_swept, sweep_due}
+use Rattle.bus_guest.specs.Places.{LiesGoing}
+use Rattle.bus_guest.specs.Keeping.{IsOutside, VisitKeeps, held_of, LiesApart}
 
 -- ---- what it does next
 goes_swept : {E : Type 0} (s : Sweeping) (o : Option Op) (z z' : Situation E) → due_swept s o z ≡ Goes z' → z ≡ z'
@@ -35,6 +33,25 @@ goes_home (Some s) z z' e = goes_swept s (sweep_op s) z z' e
 pub goes_beside : {E : Type 0} (o : Option Op) (s : Option Sweeping) (z z' : Situation E) → due_beside o s z ≡ Goes z' → z ≡ z'
 goes_beside None s z z' e = goes_home (sweep_due z s) z z' e
 goes_beside (Some o) s z z' e = absurd cc
+
+-- where the page goes back, the sweep is done
+undue : {E : Type 0} (s : Sweeping) (o : Option Op) (z z' : Situation E) → due_swept s o z ≡ Goes z' → o ≡ None
+undue s None z z' e = refl
+undue s (Some o) z z' e = absurd cc
+
+swept : (s : Sweeping) (a b : Bool) → nat_lt s.asked s.senders ≡ a → nat_lt s.cleared s.width ≡ b
+    → cond a (Some (Load record { 0 = s.presences + s.asked })) (cond b (Some (Store record { 0 = s.row + s.cleared } 0)) None) ≡ None → is_swept s ≡ true
+swept s true b p q e = absurd cc
+swept s false true p q e = absurd cc
+swept s false false p q e = grind (arith, lt-ltb, p, q)
+
+swept_home : {E : Type 0} (s : Option Sweeping) (z z' : Situation E) → due_home s z ≡ Goes z' → IfSome s (λ y. is_swept y ≡ true)
+swept_home None z z' e = tt
+swept_home (Some s) z z' e = swept s (nat_lt s.asked s.senders) (nat_lt s.cleared s.width) refl refl (undue s (sweep_op s) z z' e)
+
+pub swept_beside : {E : Type 0} (o : Option Op) (s : Option Sweeping) (z z' : Situation E) → due_beside o s z ≡ Goes z' → (t : ℕ) (page : Page) (reason : Reason) → z ≡ GivesBack t page reason → IfSome s (λ y. is_swept y ≡ true)
+swept_beside None s z z' e t page reason is = swept_home s z z' (subst (λ y. due_home y z ≡ Goes z') (ap (λ y. sweep_due y s) is) e)
+swept_beside (Some o) s z z' e t page reason is = absurd cc
 
 -- ---- where an election runs
 module _ {E : Type 0} (Belongs : ℕ → E → Type 0) where

@@ -16,7 +16,7 @@ use Rattle.bus_ownerbits.specs.Election.{election_op, election_fed}
 use Rattle.bus_ownerbits.specs.OneOwner.{OneOwner}
 use Rattle.bus_ownerbits.proofs.ElectionIsLawful.{election_laws}
 use Rattle.bus_ownerbits.specs.Sizes.{decision_cost}
-use Rattle.bus_tenure.specs.Elections.{Elector, elections, election_with}
+use Rattle.bus_tenure.specs.Elections.{elections, election_with}
 use Rattle.bus_guest.proofs.Keeps.{ElectionsKeep}
 
 module _ {S : Type 0} (kind : S → Option Kind) (op : S → ℕ → Option Op) (fed : S → ℕ → ℕ → S) (P : Protocol S Bool Verdict) (laws : Laws op fed P Legal) (wordless : (s : S) → P.wants_word s ≡ false) where

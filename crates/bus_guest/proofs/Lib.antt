@@ -1,4 +1,6 @@
 pub mod Widths
 pub mod Keeps
+pub mod Lies
 pub mod Laws
 pub mod Steps
+pub mod Tells

@@ -1,16 +1,16 @@
 -- A guest keeps what it keeps with each of its steps.
-use Rattle.std.proofs.Common.{◌≡◌, ◌≢◌, ℕ, ◌+◌, ◌*◌, ◌-◌, ◌/◌, ◌%◌, ◌<◌, ◌≤◌, Bool, true, false, Option, Some, None, IsSome, nat_lt, nat_le, ◌==◌, cond, is_some, refl, sym, ◌∙◌, ap, subst, arith}
+use Rattle.std.proofs.Common.{◌≡◌, ◌≢◌, ℕ, ◌+◌, ◌-◌, ◌/◌, ◌<◌, ◌≤◌, Bool, true, false, Option, Some, None, IsSome, IfSome, nat_lt, nat_le, ◌==◌, cond, refl, sym, ◌∙◌, ap, subst, arith}
 use Rattle.std.proofs.lemmas.Bool.{lt-ltb}
-use Rattle.bus_register.specs.declared.limits.TheConstants.{TENURES}
+use Rattle.std.proofs.lemmas.Option.{same_Some}
 use Rattle.bus_register.specs.declared.registers.Op.{Op}
 use Rattle.bus_batch.specs.Batches.{Pending}
 use Rattle.bus_presence.specs.Visits.{Visiting, visit_fed}
-use Rattle.bus_presence.specs.Sweeps.{Sweeping, sweep_fed}
-use Rattle.bus_presence.specs.Hall.{sweep_after, presence_at, row_of}
+use Rattle.bus_presence.specs.Sweeps.{Sweeping, is_swept}
+use Rattle.bus_presence.specs.Hall.{Sizes, presence_at, row_of}
 use Rattle.bus_presence.specs.declared.visits.Visit.{Visit}
 use Rattle.bus_presence.specs.declared.visits.Visit.TheVariants.{Away, Entering, Looking, Inside, Parting, Barred}
 use Rattle.bus_register.specs.declared.registers.SenderNo.{SenderNo}
-use Rattle.bus_tenure.specs.Core.{Core, Election, Layout, row_at, stage_at, is_closing}
+use Rattle.bus_tenure.specs.Core.{Core, Election, Layout, row_at, is_closing}
 use Rattle.bus_tenure.specs.Situations.{Situation, IsClosed, IsIdle, IsSpent, LooksAtStage, Elects, TakesPage, AwaitsPage, StoresWord, StoresLength, GivesBack, HasHanded, situation_of, op_at, fed_at, answer_at, core_begun, core_after_stage, waits, tenure_begun, resting, situation_at, core_elected, answer_of_election, answer_of_return}
 use Rattle.bus_tenure.specs.Keeping.{AreSizes}
 use Rattle.bus_tenure.specs.declared.pages.Page.{Page}
@@ -21,30 +21,37 @@ use Rattle.bus_tenure.specs.declared.phases.Phase.TheVariants.{Resting, Electing
 use Rattle.bus_tenure.specs.declared.turns.Turn.{Turn}
 use Rattle.bus_tenure.specs.declared.turns.Turn.TheVariants as turn
 use Rattle.bus_tenure.proofs.Situated.{tells}
-use Rattle.bus_guest.specs.Guests.{sizes_with, Goes, core_looked, core_going, visit_going, sweep_going, visit_elected}
-use Rattle.bus_guest.specs.Turns.{Visitor, sizes_of, visitor_due, answer_going, lost_elected, lost_going}
+use Rattle.bus_guest.specs.Guests.{sizes_with, core_looked, core_going, visit_going, sweep_going, visit_elected}
+use Rattle.bus_guest.specs.Turns.{Visitor, sizes_of, answer_going, lost_elected, lost_going}
 use Rattle.bus_guest.specs.Following.{visit_by, lost_by, sweep_by, told_by}
-use Rattle.bus_guest.specs.Keeping.{IsBound, IsInside, IsOutside, VisitKeeps, held_of, IsSweepAfter, IsHeldSweep, SweepKeeps, GuestKeeps, IsTied}
+use Rattle.bus_guest.specs.Keeping.{IsBound, IsOutside, VisitKeeps, held_of, SweepKeeps, LostKeeps, GuestKeeps, IsTied}
 use Rattle.bus_guest.proofs.Keeps.{runs_inside, stays_outside, ElectionsKeep}
 
 -- nobody sweeps but a holder
-unswept : {E : Type 0} (v w : Visitor E) (s : Option Sweeping) → SweepKeeps v s → held_of v.core.phase ≡ None → SweepKeeps w s
-unswept v w None k h = tt
-unswept v w (Some s) k h = absurd (let r = sym h ∙ k.held in cc)
+unswept : {E : Type 0} (x : Sizes) (p q : Phase E) (s : Option Sweeping) → SweepKeeps x p s → held_of p ≡ None → held_of q ≡ None → SweepKeeps x q s
+unswept x p q None k h g = λ t e. absurd (let r = sym g ∙ e in cc)
+unswept x p q (Some s) k h g = absurd (let r = sym h ∙ k.held in cc)
 
--- the sweep goes on with another phase of the same tenure
-swept_on : {E : Type 0} (v : Visitor E) (c : Core E) (visit : Visit) (lost : Option SenderNo) (s : Option Sweeping) → SweepKeeps v s → c.layout ≡ v.core.layout → held_of c.phase ≡ held_of v.core.phase
-    → SweepKeeps (record { core = c; visit = visit; sweep = s; lost = lost; rows = v.rows }) s
-swept_on v c visit lost None k same held = tt
-swept_on v c visit lost (Some s) k same held = record { tenure = k.tenure; held = held ∙ k.held; after = subst (λ x. IsSweepAfter (sizes_with x v.rows) k.tenure s) (sym same) k.after }
+-- the sweep goes on with another phase of the same tenure, and is done where the page is handed on
+swept_on : {E : Type 0} (x : Sizes) (p q : Phase E) (s : Option Sweeping) → SweepKeeps x p s → held_of q ≡ held_of p → ((t : ℕ) (reason : Reason) → q ≡ Giving t reason → IfSome s (λ y. is_swept y ≡ true)) → SweepKeeps x q s
+swept_on x p q None k held done = λ t e. k t (sym held ∙ e)
+swept_on x p q (Some s) k held done = record { tenure = k.tenure; held = held ∙ k.held; after = k.after; handed = done }
 
 -- the sweep of a holder that has just taken the page
-begins : {E : Type 0} (w : Visitor E) (t : ℕ) (b : Bool) → held_of w.core.phase ≡ Some t → nat_lt (t + 1) w.rows ≡ b
-    → SweepKeeps w (cond b None (Some record { past = t + 1 - w.rows; senders = w.core.layout.senders; presences = presence_at (sizes_of w) 0; row = row_of (sizes_of w) (t + 1); width = w.core.layout.width; asked = 0; cleared = 0 }))
-begins w t true held e = tt
-begins w t false held e =
-    let late : w.rows ≤ t + 1 = grind (arith, lt-ltb, e) in
-    record { tenure = t; held = held; after = record { used = late; past = omega arith; senders = refl; presences = refl; row = refl; width = refl } }
+begins : {E : Type 0} (x : Sizes) (p : Phase E) (t : ℕ) (b : Bool) → p ≡ Taken t → nat_lt (t + 1) x.rows ≡ b
+    → SweepKeeps x p (cond b None (Some record { past = t + 1 - x.rows; senders = x.senders; presences = presence_at x 0; row = row_of x (t + 1); width = x.width; asked = 0; cleared = 0 }))
+begins x p t true is e = λ u held.
+    let same : t ≡ u = same_Some _ _ (sym (ap held_of is) ∙ held) in
+    let early : t + 1 < x.rows = grind (arith, lt-ltb, e) in
+    subst (λ w. w + 1 < x.rows) same early
+begins x p t false is e =
+    let late : x.rows ≤ t + 1 = grind (arith, lt-ltb, e) in
+    record { tenure = t; held = ap held_of is; after = record { used = late; past = omega arith; senders = refl; presences = refl; row = refl; width = refl }; handed = λ u reason g. absurd (let r = sym is ∙ g in cc) }
+
+-- nobody remembers an owner that has begun a tenure
+pub unlost : {E : Type 0} (p q : Phase E) (u w : Visit) (l : Option SenderNo) → LostKeeps p u l → p ≢ Resting → LostKeeps q w l
+unlost p q u w None k h = tt
+unlost p q u w (Some o) k h = absurd (h k.rests)
 
 module _ {E : Type 0} (X : Election E) (W : Layout → ℕ) (B : Layout → ℕ → ℕ → E → Type 0) where
   abbrev pub Kept : Visitor E → Type 0
@@ -63,15 +70,17 @@ module _ {E : Type 0} (X : Election E) (W : Layout → ℕ) (B : Layout → ℕ 
 
   module _ (law : ElectionsKeep X W B) where
     -- with another phase of the same tenure, and the same else
-    held_on : (v : Visitor E) → Kept v → (t : ℕ) → held_of v.core.phase ≡ Some t → (ph : Phase E) → held_of ph ≡ Some t → IsOutside ph → Kept record v { core = record v.core { phase = ph } }
-    held_on v k t held ph holds out = record {
+    held_on : (v : Visitor E) → Kept v → (t : ℕ) → held_of v.core.phase ≡ Some t → (ph : Phase E) → held_of ph ≡ Some t → IsOutside ph
+        → ((u : ℕ) (reason : Reason) → ph ≡ Giving u reason → IfSome v.sweep (λ y. is_swept y ≡ true)) → Kept record v { core = record v.core { phase = ph } }
+    held_on v k t held ph holds out done = record {
       sizes = k.sizes;
       tenures = k.tenures;
       rows_some = k.rows_some;
       rows_few = k.rows_few;
       me_below = k.me_below;
       visit = stays_outside (B v.core.layout v.core.me) v.core (record v.core { phase = ph }) v.visit t k.visit held out;
-      sweep = swept_on v (record v.core { phase = ph }) v.visit v.lost v.sweep k.sweep refl (holds ∙ sym held);
+      sweep = swept_on (sizes_of v) v.core.phase ph v.sweep k.sweep (holds ∙ sym held) done;
+      lost = unlost v.core.phase ph v.visit v.visit v.lost k.lost (λ e. let r = sym (ap held_of e) ∙ held in cc);
     }
 
     -- to its rest
@@ -83,7 +92,8 @@ module _ {E : Type 0} (X : Election E) (W : Layout → ℕ) (B : Layout → ℕ 
       rows_few = k.rows_few;
       me_below = k.me_below;
       visit = stays_outside (B v.core.layout v.core.me) v.core (record v.core { queue = q; least = least; phase = Resting }) v.visit t k.visit held tt;
-      sweep = tt;
+      sweep = λ u e. absurd cc;
+      lost = unlost v.core.phase Resting v.visit v.visit v.lost k.lost (λ e. let r = sym (ap held_of e) ∙ held in cc);
     }
 
     -- its answer tells that the page is gone
@@ -107,6 +117,9 @@ module _ {E : Type 0} (X : Election E) (W : Layout → ℕ) (B : Layout → ℕ 
       inside : (v.visit ≡ Inside t) × B v.core.layout v.core.me (row_at v.core.layout t) e × (t < v.core.layout.rows)
       inside = runs_inside (B v.core.layout v.core.me) v.core v.visit t e k.visit at
 
+      begun : v.core.phase ≢ Resting
+      begun e = let r = sym at ∙ e in cc
+
       runs : Kept record v { core = record v.core { phase = Electing t e' }; visit = Inside t }
       runs = record {
         sizes = k.sizes;
@@ -115,7 +128,8 @@ module _ {E : Type 0} (X : Election E) (W : Layout → ℕ) (B : Layout → ℕ 
         rows_few = k.rows_few;
         me_below = k.me_below;
         visit = record { election = e'; is = refl; belongs = b; below = inside.2 };
-        sweep = unswept v (record v { core = record v.core { phase = Electing t e' }; visit = Inside t }) v.sweep k.sweep (ap held_of at);
+        sweep = unswept (sizes_of v) v.core.phase (Electing t e') v.sweep k.sweep (ap held_of at) refl;
+        lost = unlost v.core.phase (Electing t e') v.visit (Inside t) v.lost k.lost begun;
       }
 
       lost : (o : ℕ) → Kept record v { core = record v.core { queue = record v.core.queue { busy = false }; least = t + 1; phase = Resting }; visit = Parting t; lost = Some record { 0 = o } }
@@ -126,7 +140,8 @@ module _ {E : Type 0} (X : Election E) (W : Layout → ℕ) (B : Layout → ℕ 
         rows_few = k.rows_few;
         me_below = k.me_below;
         visit = tt;
-        sweep = unswept v _ v.sweep k.sweep (ap held_of at);
+        sweep = unswept (sizes_of v) v.core.phase Resting v.sweep k.sweep (ap held_of at) refl;
+        lost = record { tenure = t; parts = refl; rests = refl };
       }
 
       chosen : (o : ℕ) (own : Bool)
@@ -163,7 +178,8 @@ module _ {E : Type 0} (X : Election E) (W : Layout → ℕ) (B : Layout → ℕ 
         rows_few = k.rows_few;
         me_below = k.me_below;
         visit = tt;
-        sweep = begins (record { core = record v.core { phase = Taken t }; visit = Parting t; sweep = sweep_after (sizes_of v) t; lost = v.lost; rows = v.rows }) t (nat_lt (t + 1) v.rows) refl refl;
+        sweep = begins (sizes_of v) (Taken t) t (nat_lt (t + 1) v.rows) refl refl;
+        lost = unlost v.core.phase (Taken t) v.visit (Parting t) v.lost k.lost b;
       };
       layout = refl;
       me = refl;
@@ -175,9 +191,9 @@ module _ {E : Type 0} (X : Election E) (W : Layout → ℕ) (B : Layout → ℕ 
     }
     went v got word k (AwaitsPage t) i h b = absurd (let q : false ≡ true = h in cc)
     went v got word k (StoresWord t page stored) i h b =
-        record { keeps = held_on v k t (ap held_of (tells X v.core (StoresWord t page stored) i).1) (Holding t page (stored + 1) false) refl tt; layout = refl; me = refl; core_is = refl; visit_is = refl; sweep_is = refl; lost_is = refl; told_is = refl }
+        record { keeps = held_on v k t (ap held_of (tells X v.core (StoresWord t page stored) i).1) (Holding t page (stored + 1) false) refl tt (λ u reason e. absurd cc); layout = refl; me = refl; core_is = refl; visit_is = refl; sweep_is = refl; lost_is = refl; told_is = refl }
     went v got word k (StoresLength t page stored) i h b =
-        record { keeps = held_on v k t (ap held_of (tells X v.core (StoresLength t page stored) i).1) (Holding t page stored true) refl tt; layout = refl; me = refl; core_is = refl; visit_is = refl; sweep_is = refl; lost_is = refl; told_is = refl }
+        record { keeps = held_on v k t (ap held_of (tells X v.core (StoresLength t page stored) i).1) (Holding t page stored true) refl tt (λ u reason e. absurd cc); layout = refl; me = refl; core_is = refl; visit_is = refl; sweep_is = refl; lost_is = refl; told_is = refl }
     went v got word k (GivesBack t page reason) i h b =
         let d = ends v v.core.queue t reason in
         record { keeps = home v k t (ap held_of (tells X v.core (GivesBack t page reason) i).2) _ (t + 1); layout = refl; me = refl; core_is = refl; visit_is = d.visit; sweep_is = d.sweep; lost_is = d.lost; told_is = d.told }
@@ -226,13 +242,13 @@ module _ {E : Type 0} (X : Election E) (W : Layout → ℕ) (B : Layout → ℕ 
   }
 
   -- the page goes from it
-  pub gives_page : (law : ElectionsKeep X W B) (v : Visitor E) → Kept v → (t : ℕ) (page : Page) (reason : Reason) → situation_of X v.core ≡ GivesBack t page reason → Kept record v { core = record v.core { phase = Giving t reason } }
-  gives_page law v k t page reason i = held_on law v k t (ap held_of (tells X v.core (GivesBack t page reason) i).2) (Giving t reason) refl tt
+  pub gives_page : (law : ElectionsKeep X W B) (v : Visitor E) → Kept v → (t : ℕ) (page : Page) (reason : Reason) → situation_of X v.core ≡ GivesBack t page reason → IfSome v.sweep (λ y. is_swept y ≡ true) → Kept record v { core = record v.core { phase = Giving t reason } }
+  gives_page law v k t page reason i done = held_on law v k t (ap held_of (tells X v.core (GivesBack t page reason) i).2) (Giving t reason) refl tt (λ u r e. done)
 
   -- ---- a step of its visit
   pub keeps_visit : (law : ElectionsKeep X W B) (v : Visitor E) (got : ℕ) → Kept v → Kept record v { core = core_looked X v.core v.visit got; visit = visit_fed v.visit got; lost = None }
   keeps_visit law v got k = by v.visit k.visit where
-    again : (c : Core E) (u : Visit) → c.layout ≡ v.core.layout → c.me ≡ v.core.me → VisitKeeps (B c.layout c.me) c u → SweepKeeps record { core = c; visit = u; sweep = v.sweep; lost = None; rows = v.rows } v.sweep → Kept record { core = c; visit = u; sweep = v.sweep; lost = None; rows = v.rows }
+    again : (c : Core E) (u : Visit) → c.layout ≡ v.core.layout → c.me ≡ v.core.me → VisitKeeps (B c.layout c.me) c u → SweepKeeps (sizes_with c.layout v.rows) c.phase v.sweep → Kept record { core = c; visit = u; sweep = v.sweep; lost = None; rows = v.rows }
     again c u layout me visit sweep = record {
       sizes = subst (λ x. AreSizes x (W x)) (sym layout) k.sizes;
       tenures = ap (λ x. x.rows) layout ∙ k.tenures;
@@ -241,24 +257,22 @@ module _ {E : Type 0} (X : Election E) (W : Layout → ℕ) (B : Layout → ℕ 
       me_below = let a = ap (λ x. x.senders) layout in let b = k.me_below in omega arith;
       visit = visit;
       sweep = sweep;
+      lost = tt;
     }
-
-    here : (u : Visit) → SweepKeeps record { core = v.core; visit = u; sweep = v.sweep; lost = None; rows = v.rows } v.sweep
-    here u = swept_on v v.core u None v.sweep k.sweep refl refl
 
     looked : (t : ℕ) (b : Bool) → IsBound v.core t → Kept record { core = cond b (core_begun X v.core t) v.core; visit = cond b (Inside t) (Barred t); sweep = v.sweep; lost = None; rows = v.rows }
     looked t true h = again (core_begun X v.core t) (Inside t) refl refl
         record { election = X.started v.core.layout.senders v.core.me v.core.layout.rounds (row_at v.core.layout t); is = refl; belongs = law.starts v.core.layout v.core.me (row_at v.core.layout t) k.me_below (let f = k.sizes.few in omega arith); below = h.below }
-        (unswept v _ v.sweep k.sweep (ap held_of h.rests))
-    looked t false h = again v.core (Barred t) refl refl (subst IsOutside (sym h.rests) tt) (here (Barred t))
+        (unswept (sizes_of v) v.core.phase (Electing t (X.started v.core.layout.senders v.core.me v.core.layout.rounds (row_at v.core.layout t))) v.sweep k.sweep (ap held_of h.rests) refl)
+    looked t false h = again v.core (Barred t) refl refl (subst IsOutside (sym h.rests) tt) k.sweep
 
     by : (u : Visit) → VisitKeeps (B v.core.layout v.core.me) v.core u → Kept record { core = core_looked X v.core u got; visit = visit_fed u got; sweep = v.sweep; lost = None; rows = v.rows }
-    by Away h = again v.core Away refl refl h (here Away)
-    by (Entering t) h = again v.core (Looking t) refl refl h (here (Looking t))
+    by Away h = again v.core Away refl refl h k.sweep
+    by (Entering t) h = again v.core (Looking t) refl refl h k.sweep
     by (Looking t) h = looked t (got / 2 == t) h
-    by (Inside t) h = again v.core (Inside t) refl refl h (here (Inside t))
-    by (Parting t) h = again v.core Away refl refl h (here Away)
-    by (Barred t) h = again v.core Away refl refl h (here Away)
+    by (Inside t) h = again v.core (Inside t) refl refl h k.sweep
+    by (Parting t) h = again v.core Away refl refl h k.sweep
+    by (Barred t) h = again v.core Away refl refl h k.sweep
 
   -- ---- a load of the stage with which it begins no tenure
   pub keeps_seen : (v : Visitor E) (got : ℕ) → Kept v → v.core.phase ≡ Resting → v.visit ≡ Away → tenure_begun v.core got ≡ None → Kept record v { core = core_after_stage X v.core got }
@@ -275,7 +289,8 @@ module _ {E : Type 0} (X : Election E) (W : Layout → ℕ) (B : Layout → ℕ 
       rows_few = k.rows_few;
       me_below = k.me_below;
       visit = subst (λ u. VisitKeeps (B v.core.layout v.core.me) (record v.core { least = got / 2 }) u) (sym away) out;
-      sweep = swept_on v (record v.core { least = got / 2 }) v.visit v.lost v.sweep k.sweep refl refl;
+      sweep = k.sweep;
+      lost = k.lost;
     }
     by false false e = absurd cc
 

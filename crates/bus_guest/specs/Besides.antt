@@ -21,3 +21,9 @@ abbrev pub HasSweep : Beside → Option Sweeping → Type 0
 HasSweep (Visit o) s = Unit {0}
 HasSweep (Sweep o) s = IsSome s
 HasSweep Nothing s = Unit {0}
+
+-- the step that it takes beside those of a sender
+abbrev pub op_beside : Beside → Option Op
+op_beside (Visit o) = Some o
+op_beside (Sweep o) = Some o
+op_beside Nothing = None

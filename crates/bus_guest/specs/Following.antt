@@ -1,5 +1,5 @@
 -- What an answer of a sender that has a row for each tenure tells the guest.
-use Rattle.std.specs.Prelude.{ℕ, Option, Some, None}
+use Rattle.std.specs.Prelude.{Option, Some, None}
 use Rattle.bus_register.specs.declared.registers.SenderNo.{SenderNo}
 use Rattle.bus_presence.specs.Sweeps.{Sweeping}
 use Rattle.bus_presence.specs.Hall.{Sizes, sweep_after}

@@ -1,7 +1,8 @@
 -- What every guest keeps.
-use Rattle.std.specs.Prelude.{◌≡◌, ℕ, ◌+◌, ◌-◌, ◌<◌, ◌≤◌, false, true, Option, Some, None}
+use Rattle.std.specs.Prelude.{◌≡◌, ℕ, ◌+◌, ◌<◌, ◌≤◌, false, true, Option, Some, None}
+use Rattle.bus_register.specs.declared.registers.SenderNo.{SenderNo}
 use Rattle.bus_register.specs.declared.limits.TheConstants.{TENURES}
-use Rattle.bus_presence.specs.Sweeps.{Sweeping}
+use Rattle.bus_presence.specs.Sweeps.{Sweeping, is_swept}
 use Rattle.bus_presence.specs.Visits.{Visiting}
 use Rattle.bus_presence.specs.Hall.{Sizes, presence_at, row_of}
 use Rattle.bus_presence.specs.declared.visits.Visit.{Visit}
@@ -9,6 +10,7 @@ use Rattle.bus_presence.specs.declared.visits.Visit.TheVariants.{Away, Entering,
 use Rattle.bus_tenure.specs.Core.{Core, Layout, length_at, stage_at, row_at, log_at, words_of}
 use Rattle.bus_tenure.specs.Situations.{Situation, IsClosed, IsIdle, IsSpent, LooksAtStage, Elects, TakesPage, AwaitsPage, StoresWord, StoresLength, GivesBack, HasHanded, resting}
 use Rattle.bus_tenure.specs.Keeping.{AreSizes}
+use Rattle.bus_tenure.specs.declared.phases.Reason.{Reason}
 use Rattle.bus_tenure.specs.declared.phases.Phase.{Phase}
 use Rattle.bus_tenure.specs.declared.phases.Phase.TheVariants.{Resting, Electing, Taken, Holding, Giving}
 use Rattle.bus_guest.specs.Turns.{Visitor, sizes_of}
@@ -61,15 +63,27 @@ pub record IsSweepAfter (x : Sizes) (t : ℕ) (s : Sweeping) : Type 0 where
   pub row : s.row ≡ row_of x (t + 1)
   pub width : s.width ≡ x.width
 
--- only a holder of the page sweeps, for the tenure after its own
-pub record IsHeldSweep {E : Type 0} (v : Visitor E) (s : Sweeping) : Type 0 where
+-- Only a holder of the page sweeps, for the tenure after its own. Once it has handed the page on, it is done with that.
+pub record IsHeldSweep {E : Type 0} (x : Sizes) (phase : Phase E) (s : Sweeping) : Type 0 where
   pub tenure : ℕ
-  pub held : held_of v.core.phase ≡ Some tenure
-  pub after : IsSweepAfter (sizes_of v) tenure s
+  pub held : held_of phase ≡ Some tenure
+  pub after : IsSweepAfter x tenure s
+  pub handed : (t : ℕ) (reason : Reason) → phase ≡ Giving t reason → is_swept s ≡ true
 
-abbrev pub SweepKeeps : {E : Type 0} → Visitor E → Option Sweeping → Type 0
-SweepKeeps v None = Unit {0}
-SweepKeeps v (Some s) = IsHeldSweep v s
+-- a holder that does not sweep has a tenure whose next one uses a row that was never used before
+abbrev pub SweepKeeps : {E : Type 0} → Sizes → Phase E → Option Sweeping → Type 0
+SweepKeeps x phase None = (t : ℕ) → held_of phase ≡ Some t → t + 1 < x.rows
+SweepKeeps x phase (Some s) = IsHeldSweep x phase s
+
+-- who remembers an owner parts from the tenure that it lost, and has begun no other
+pub record HasLost {E : Type 0} (phase : Phase E) (visit : Visit) : Type 0 where
+  pub tenure : ℕ
+  pub parts : visit ≡ Parting tenure
+  pub rests : phase ≡ Resting
+
+abbrev pub LostKeeps : {E : Type 0} → Phase E → Visit → Option SenderNo → Type 0
+LostKeeps phase visit None = Unit {0}
+LostKeeps phase visit (Some o) = HasLost phase visit
 
 pub record GuestKeeps {E : Type 0} (width : ℕ) (Belongs : ℕ → E → Type 0) (v : Visitor E) : Type 0 where
   pub sizes : AreSizes v.core.layout width
@@ -78,7 +92,8 @@ pub record GuestKeeps {E : Type 0} (width : ℕ) (Belongs : ℕ → E → Type 0
   pub rows_few : v.rows ≤ 8
   pub me_below : v.core.me < v.core.layout.senders
   pub visit : VisitKeeps Belongs v.core v.visit
-  pub sweep : SweepKeeps v v.sweep
+  pub sweep : SweepKeeps (sizes_of v) v.core.phase v.sweep
+  pub lost : LostKeeps v.core.phase v.visit v.lost
 
 -- its fields: the places of its presence and of the stage, how many senders there are, and how many words a row has
 pub record IsTied {E : Type 0} (presence : Visiting) (senders width row_width : ℕ) (Belongs : ℕ → E → Type 0) (v : Visitor E) : Type 0 where

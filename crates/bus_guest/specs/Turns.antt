@@ -1,6 +1,6 @@
 -- The turns of a guest: its next step, and on which word; what it holds after that step, and what it answers. It goes by the
 -- definitions of a guest, and the table of a sender's turns.
-use Rattle.std.specs.Prelude.{◌≡◌, ℕ, ◌+◌, ◌<◌, ◌≤◌, Bool, true, false, Option, Some, None, nat_lt, ◌==◌, if◌then◌else◌}
+use Rattle.std.specs.Prelude.{◌≡◌, ℕ, ◌+◌, Bool, true, false, Option, Some, None, nat_lt, ◌==◌, if◌then◌else◌}
 use Rattle.bus_register.specs.declared.kinds.Kind.{Kind}
 use Rattle.bus_register.specs.declared.kinds.Kind.TheVariants as kind
 use Rattle.bus_register.specs.declared.registers.Op.{Op}
@@ -9,12 +9,12 @@ use Rattle.bus_register.specs.declared.registers.SenderNo.{SenderNo}
 use Rattle.bus_batch.specs.Batches.{Pending}
 use Rattle.bus_presence.specs.Visits.{visit_fed}
 use Rattle.bus_presence.specs.Sweeps.{Sweeping, sweep_fed, behind_of}
-use Rattle.bus_presence.specs.Hall.{Sizes, row_of}
+use Rattle.bus_presence.specs.Hall.{Sizes}
 use Rattle.bus_presence.specs.declared.sweeps.Behind.{Behind}
 use Rattle.bus_presence.specs.declared.visits.Visit.{Visit}
 use Rattle.bus_presence.specs.declared.visits.Visit.TheVariants.{Away, Entering, Looking, Inside, Parting, Barred}
-use Rattle.bus_tenure.specs.Core.{Core, Election, Layout, length_at, stage_at}
-use Rattle.bus_tenure.specs.Situations.{Situation, IsClosed, IsIdle, IsSpent, LooksAtStage, Elects, TakesPage, AwaitsPage, StoresWord, StoresLength, GivesBack, HasHanded, situation_of, op_at, kind_at, wants_at, rest_at, answer_at}
+use Rattle.bus_tenure.specs.Core.{Core, Election}
+use Rattle.bus_tenure.specs.Situations.{Situation, IsClosed, IsIdle, IsSpent, LooksAtStage, Elects, TakesPage, AwaitsPage, StoresWord, StoresLength, GivesBack, HasHanded, op_at, kind_at, wants_at, rest_at, answer_at}
 use Rattle.bus_tenure.specs.Seen.{tenure_of}
 use Rattle.bus_tenure.specs.declared.pages.Page.{Page}
 use Rattle.bus_tenure.specs.declared.phases.Reason.{Reason}
@@ -102,38 +102,6 @@ tenure_begun_by c (Looking t) = Some t
 tenure_begun_by c (Inside t) = Some t
 tenure_begun_by c (Parting t) = Some t
 tenure_begun_by c (Barred t) = Some t
-
--- ---- where a step lies, but for the steps of visits and sweeps
--- on a word of the row of this tenure
-pub record IsInRow (x : Sizes) (t r : ℕ) : Type 0 where
-  pub place : ℕ
-  pub below : place < x.width
-  pub is : r ≡ row_of x t + place
-
--- A step on a word of a row is the election's, on the row of the tenure that the sender stands in. No other is on a row.
-abbrev pub LiesGoing : {E : Type 0} → Layout → ℕ → Visit → Situation E → ℕ → Type 0
-LiesGoing x rows v IsClosed r = Unit {0}
-LiesGoing x rows v IsIdle r = Unit {0}
-LiesGoing x rows v IsSpent r = Unit {0}
-LiesGoing x rows v LooksAtStage r = r ≡ stage_at
-LiesGoing x rows v (Elects t e) r = (v ≡ Inside t) × IsInRow (sizes_with x rows) t r
-LiesGoing x rows v (TakesPage t) r = (v ≡ Inside t) × (r ≡ stage_at)
-LiesGoing x rows v (AwaitsPage t) r = Unit {0}
-LiesGoing x rows v (StoresWord t page stored) r = log_from x rows ≤ r
-LiesGoing x rows v (StoresLength t page stored) r = r ≡ length_at
-LiesGoing x rows v (GivesBack t page reason) r = r ≡ stage_at
-LiesGoing x rows v (HasHanded t reason) r = r ≡ stage_at
-
-abbrev pub LiesAt : {E : Type 0} → Visitor E → Due E → ℕ → Type 0
-LiesAt v (Visits o) r = Unit {0}
-LiesAt v (Sweeps s o) r = Unit {0}
-LiesAt v (Goes z) r = LiesGoing v.core.layout v.rows v.visit z r
-
--- and it is a word of the bus; a visit's step is on the stage or on the own presence, and a sweep's on a presence or in the row that it clears
-abbrev pub IsBelow : {E : Type 0} → Visitor E → Due E → ℕ → Type 0
-IsBelow v (Visits o) r = Unit {0}
-IsBelow v (Sweeps s o) r = Unit {0}
-IsBelow v (Goes z) r = r < words_with v
 
 -- ---- what it holds after a step that found this number
 -- who lost the tenure remembers to whom, until its presence is cleared

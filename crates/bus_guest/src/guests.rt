@@ -22,7 +22,7 @@ ghost use Rattle.bus_presence.specs.Sweeps.{Sweeping, sweep_fed, behind_of};
 ghost use Rattle.bus_tenure.specs.Situations.{op_at, resting, LooksAtStage, answer_of_stage};
 ghost use Rattle.bus_tenure.specs.declared.phases.Reason.{Reason};
 ghost use Rattle.bus_guest.specs.Guests.{Goes, place_for, core_looked, core_seen, visit_seen};
-ghost use Rattle.bus_guest.specs.Turns.{placed, LiesGoing, kind_of_visit, answer_of_visit};
+ghost use Rattle.bus_guest.specs.Turns.{placed, kind_of_visit, answer_of_visit};
 ghost use Rattle.bus_guest.specs.Turns.{answer_of_sweep, visitor_due, answer_due};
 ghost use Rattle.bus_guest.specs.Keeping.{IsBound, LiesApart};
 ghost use Rattle.bus_guest.specs.Following.{visit_by as spec_visit_by};
@@ -30,9 +30,11 @@ ghost use Rattle.bus_guest.specs.Following.{sweep_by as spec_sweep_by};
 ghost use Rattle.bus_guest.specs.Following.{lost_by as spec_lost_by};
 ghost use Rattle.bus_guest.specs.Following.{told_by as spec_told_by};
 ghost use Rattle.bus_guest.specs.Turns.{due, op_next, kind_due, wants_due, rest_due};
-ghost use Rattle.bus_guest.specs.Turns.{tenure_begun_by, LiesAt, IsBelow, words_with, queue_seen};
+ghost use Rattle.bus_guest.specs.Turns.{tenure_begun_by, words_with, queue_seen};
+ghost use Rattle.bus_guest.specs.Places.{LiesGoing, LiesAt};
+ghost use Rattle.bus_guest.specs.Telling.{FeedTells};
 ghost use Rattle.bus_guest.specs.Turns.{visitor_after, answer_after, GivesPageBack};
-ghost use Rattle.bus_guest.specs.Besides.{due_by, HasSweep};
+ghost use Rattle.bus_guest.specs.Besides.{due_by, HasSweep, op_beside};
 
 use super::besides::Beside;
 use bus_adoptcommit::Ratifier;
@@ -267,6 +269,9 @@ impl<Q: Ratifier + Drop> Guest<Q> {
         ensures due { let X = election_of Q.Ratifier in
             due X self.now ≡ due_by result self.now.sweep (situation_of X self.now.core) }
         ensures sweeps { HasSweep result self.now.sweep }
+        ensures lies { let X = election_of Q.Ratifier in
+            IfSome (op_beside result) (λ o. LiesAt self.now (due X self.now) (register o)) }
+        ensures below { IfSome (op_beside result) (λ o. register o < words_with self.now) }
     {
         if let Some(op) = self.presence.next() {
             return Beside::Visit(op);
@@ -332,8 +337,7 @@ impl<Q: Ratifier + Drop> Guest<Q> {
         ensures step { let X = election_of Q.Ratifier in result ≡ op_next X self.now word }
         ensures lies { let X = election_of Q.Ratifier in
             IfSome result (λ o. LiesAt self.now (due X self.now) (register o)) }
-        ensures below { let X = election_of Q.Ratifier in
-            IfSome result (λ o. IsBelow self.now (due X self.now) (register o)) }
+        ensures below { IfSome result (λ o. register o < words_with self.now) }
     {
         match self.beside() {
             Beside::Visit(op) | Beside::Sweep(op) => Some(op),
@@ -469,6 +473,7 @@ impl<Q: Ratifier + Drop> Guest<Q> {
             self.new ≡ visitor_after X self.old got word }
         ensures answer { let X = election_of Q.Ratifier in
             result ≡ answer_after X self.old got word }
+        ensures tells { let X = election_of Q.Ratifier in FeedTells X self.old got word result }
     {
         match self.beside() {
             Beside::Visit(_) => self.visit_on(got),

@@ -1,8 +1,8 @@
-use Rattle.std.proofs.Common.{◌≡◌, IsSome, sym, ◌∙◌, ap, subst, refl}
+use Rattle.std.proofs.Common.{IsSome, sym, ◌∙◌, ap, subst, refl}
 use Rattle.bus_tenure.specs.Elections.{Elector, election_with, elections}
-use Rattle.bus_tenure.specs.Situations.{situation_of, op_at, fed_at, answer_at}
-use Rattle.bus_guest.specs.Guests.{Goes, core_going, visit_going, sweep_going}
-use Rattle.bus_guest.specs.Turns.{Visitor, lost_going, answer_going, visitor_due, answer_due}
+use Rattle.bus_tenure.specs.Situations.{situation_of, op_at}
+use Rattle.bus_guest.specs.Guests.{Goes}
+use Rattle.bus_guest.specs.Turns.{Visitor, visitor_due, answer_due}
 use Rattle.bus_guest.proofs.Steps.{went, joined, tied}
 use Rattle.bus_guest.specs.Following.{told_by}
 use Rattle.bus_guest.proofs.Laws.{elections_keep}

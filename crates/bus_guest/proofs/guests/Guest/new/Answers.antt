@@ -1,5 +1,4 @@
-use Rattle.std.proofs.Common.{sym, ◌∙◌, ◌≡◌, arith}
-use Rattle.bus_ownerbits.specs.Electors.{elections}
+use Rattle.std.proofs.Common.{sym, ◌∙◌, arith}
 use Rattle.bus_guest.proofs.Widths.{few_words}
 use Rattle.bus_guest.proofs.guests.Guest.new.Goals as goal
 

@@ -1,9 +1,10 @@
-use Rattle.std.proofs.Common.{◌≡◌, ◌≤◌, ◌<◌, ℕ, ◌+◌, ◌*◌, ◌-◌, sym, ◌∙◌, ap, subst, arith}
+use Rattle.std.proofs.Common.{◌≡◌, ◌≤◌, ◌<◌, ◌+◌, ◌*◌, ◌-◌, sym, ap, subst, arith}
 use Rattle.bus_tenure.specs.Core.{log_at}
 use Rattle.bus_tenure.specs.Elections.{election_with}
 use Rattle.bus_tenure.specs.Situations.{situation_of}
 use Rattle.bus_guest.specs.Guests.{place_for}
-use Rattle.bus_guest.specs.Turns.{LiesGoing, words_with}
+use Rattle.bus_guest.specs.Turns.{words_with}
+use Rattle.bus_guest.specs.Places.{LiesGoing}
 use Rattle.bus_guest.proofs.Keeps.{high_place, high_lies, high_below}
 use Rattle.bus_guest.specs.Keeping.{LiesApart}
 use Rattle.bus_guest.proofs.guests.Guest.place.Goals as goal

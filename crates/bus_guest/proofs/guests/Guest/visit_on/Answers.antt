@@ -1,13 +1,8 @@
-use Rattle.std.proofs.Common.{◌≡◌, ◌<◌, sym, ◌∙◌, ap, subst, refl}
-use Rattle.bus_presence.specs.Visits.{CanShow}
-use Rattle.bus_presence.specs.declared.visits.Visit.TheVariants.{Away, Looking}
+use Rattle.std.proofs.Common.{◌∙◌, ap, refl}
 use Rattle.bus_tenure.specs.Elections.{Elector, election_with, elections}
-use Rattle.bus_tenure.specs.declared.phases.Phase.TheVariants.{Resting}
-use Rattle.bus_tenure.specs.Situations.{situation_of, fed_at, resting, LooksAtStage, tenure_begun}
-use Rattle.bus_guest.specs.Keeping.{VisitKeeps}
 use Rattle.bus_guest.specs.Guests.{core_looked}
 use Rattle.bus_guest.specs.Turns.{Visitor}
-use Rattle.bus_guest.proofs.Steps.{tied_as, tied_beside, keeps_visit, keeps_seen, after_stage_layout, after_stage_me, looked_layout, looked_me, looks_at, same_visitor}
+use Rattle.bus_guest.proofs.Steps.{tied_as, tied_beside, keeps_visit, looked_layout, looked_me, same_visitor}
 use Rattle.bus_guest.proofs.Laws.{elections_keep}
 use Rattle.bus_guest.proofs.guests.Guest.visit_on.Goals as goal
 
