@@ -1,13 +1,13 @@
 //! What a script of `replay` is answered with.
 
 ghost use Rattle.std.specs.Prelude.{◌≡◌, ℕ, List, IfOk, string_bytes};
-ghost use Rattle.bus_tenure.specs.Elections.{Elector, election_of};
-ghost use Rattle.bus_world.specs.Playing.{layout_of};
+ghost use Rattle.bus_tenure.specs.Elections.{election_of};
 ghost use Rattle.bus_script.specs.Places.{refusal_line};
 ghost use Rattle.bus_replay.specs.Answers.{End, Prints, Ends, IsReplay};
 
 use crate::closing::push_closing;
 use crate::lines::shape_of;
+use crate::machines::Playable;
 use crate::names::make_fault_name;
 use crate::playing::play;
 use bus_adoptcommit::Ratifier;
@@ -28,21 +28,20 @@ fn refused(alloc: Global, place: Place, name: &str) -> Result<Answer, NoMemory>
     })
 }
 
-/// The answer to the lines behind the shape, which move a new bus.
-fn answer_from<Q: Ratifier + Drop>(
+/// The answer to the lines behind the first one, which move a new bus.
+fn answer_from<M: Playable + Drop>(
     alloc: Global,
-    mut world: World<Q>,
+    mut bus: M,
     lines: Lines<'_>,
 ) -> Result<Answer, NoMemory>
-    ensures { let X = election_of Q.Ratifier in
-        IfOk result (λ answer. (text : List ℕ) × (end : End (Elector Q))
-        × Prints X world.bus lines.entry text end
-        × Ends X world.layout end text answer.outcome (string_bytes answer.text)) }
+    ensures { IfOk result (λ answer. (text : List ℕ) × (end : End M)
+        × Prints M.Playable bus lines.entry text end
+        × Ends M.Playable end text answer.outcome (string_bytes answer.text)) }
 {
     let mut text = String::new(alloc);
-    match play(alloc, &mut world, lines, &mut text)? {
+    match play(alloc, &mut bus, lines, &mut text)? {
         Outcome::Done => {
-            push_closing(alloc, &world, &mut text)?;
+            push_closing(alloc, &bus, &mut text)?;
             Ok(Answer {
                 outcome: Outcome::Done,
                 text,
@@ -59,8 +58,8 @@ fn answer_from<Q: Ratifier + Drop>(
 /// the script gives, with ratifiers of this kind; or the answers up to the first refusal.
 pub fn answer_to<Q: Ratifier + Drop>(alloc: Global, input: &[u8]) -> Result<Answer, NoMemory>
     ensures { let X = election_of Q.Ratifier in
-        IfOk result (λ answer. IsReplay (λ shape. (X, layout_of Q.protocol shape)) input.now
-        answer.outcome (string_bytes answer.text)) }
+        IfOk result (λ answer. IsReplay X Q.protocol input.now answer.outcome
+        (string_bytes answer.text)) }
 {
     let mut lines = Lines::new(input);
     let Some(first) = lines.next_line() else {

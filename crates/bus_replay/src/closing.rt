@@ -2,16 +2,14 @@
 
 ghost use Rattle.std.specs.Prelude.{◌≡◌, ◌++◌, ℕ, List, map, OnOk, IfErr, string_bytes};
 ghost use Rattle.bus_deliverylog.specs.Orders.{order_held};
-ghost use Rattle.bus_tenure.specs.Elections.{election_of};
-ghost use Rattle.bus_world.specs.Trails.{Trails, Reached};
+ghost use Rattle.bus_world.specs.Trails.{Trails};
 ghost use Rattle.bus_replay.specs.Text.{owners_line, order_text, given_line, given_text};
 ghost use Rattle.bus_replay.specs.Answers.{Closes, given_by};
 
-use bus_adoptcommit::Ratifier;
+use crate::machines::Playable;
 use bus_deliverylog::Order;
 use bus_deliverylog::texts::ItemText;
 use bus_register::{NoMemory, SenderNo};
-use bus_world::World;
 use std::alloc::{AllocError, Global};
 
 /// Puts the line of the owners at the end of a text.
@@ -56,36 +54,26 @@ fn push_given(text: &mut String, receiver: u64, order: &Order) -> Result<(), All
 }
 
 /// Puts the lines of all receivers at the end of a text.
-fn push_all_given<Q: Ratifier + Drop>(
-    alloc: Global,
-    world: &World<Q>,
-    text: &mut String,
-) -> Result<(), NoMemory>
-    ensures text { let X = election_of Q.Ratifier in
-        OnOk result ((trails : Trails) → Reached X world.now.layout world.now.bus trails
+fn push_all_given<M: Playable>(alloc: Global, bus: &M, text: &mut String) -> Result<(), NoMemory>
+    ensures { OnOk result ((trails : Trails) → M.reached bus.now trails
         → string_bytes text.new ≡ string_bytes text.old ++ given_text
-        (given_by trails world.now.bus.receivers)) }
+        (given_by trails (M.receivers bus.now))) }
 {
-    for receiver in 0..world.receivers() {
-        let given = world.given(alloc, receiver)?;
+    for receiver in 0..bus.receivers() {
+        let given = bus.given(alloc, receiver)?;
         push_given(text, receiver, &given)?;
     }
     Ok(())
 }
 
 /// Puts the closing lines at the end of a text.
-pub fn push_closing<Q: Ratifier + Drop>(
-    alloc: Global,
-    world: &World<Q>,
-    text: &mut String,
-) -> Result<(), NoMemory>
-    ensures text { let X = election_of Q.Ratifier in
-        OnOk result ((closing : List ℕ) × Closes X world.now closing
+pub fn push_closing<M: Playable>(alloc: Global, bus: &M, text: &mut String) -> Result<(), NoMemory>
+    ensures { OnOk result ((closing : List ℕ) × Closes M.Playable bus.now closing
         × (string_bytes text.new ≡ string_bytes text.old ++ closing)) }
 {
-    world.promises();
-    let order = world.order(alloc)?;
-    push_owners(text, world.owners())?;
+    bus.reached();
+    let order = bus.order(alloc)?;
+    push_owners(text, bus.owners())?;
     push_order(text, &order)?;
-    push_all_given(alloc, world, text)
+    push_all_given(alloc, bus, text)
 }

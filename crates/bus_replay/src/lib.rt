@@ -22,11 +22,14 @@ pub mod closing;
 pub mod commands;
 pub mod hex;
 pub mod lines;
+pub mod machines;
 pub mod names;
 pub mod playing;
 pub mod text;
+pub mod worlds;
 
 pub use answers::answer_to;
+pub use machines::Playable;
 
 #[cfg(test)]
 mod tests;

@@ -2,22 +2,22 @@
 
 ghost use Rattle.std.specs.Prelude.{◌≡◌, ◌++◌, ◌-◌, ℕ, ◌<◌, List, IfOk, IfErr};
 ghost use Rattle.std.specs.Prelude.{OnOk, string_bytes};
-ghost use Rattle.bus_tenure.specs.Elections.{election_of};
-ghost use Rattle.bus_world.specs.Playing.{event_told, Refused};
+ghost use Rattle.bus_world.specs.Playing.{event_told};
 ghost use Rattle.bus_script.specs.declared.places.Place.TheVariants.{AtLine};
 ghost use Rattle.bus_script.specs.Places.{refusal_line};
-ghost use Rattle.bus_replay.specs.Answers.{turn_goes_on, recv_goes_on, goes_on, Repeats};
+ghost use Rattle.bus_replay.specs.Answers.{Repeats};
+ghost use Rattle.bus_replay.specs.GoingOn.{turn_goes_on, recv_goes_on, goes_on};
 ghost use Rattle.bus_replay.specs.Told.{IsObeyed, ArePlayed};
 
 use crate::lines::command_of;
+use crate::machines::Playable;
 use crate::names::step_fault_name;
 use crate::text::push_answer_line;
-use bus_adoptcommit::Ratifier;
 use bus_deliverylog::RecvTurn;
 use bus_register::NoMemory;
 use bus_script::{Line, Lines, Outcome, Place, refusal_line};
 use bus_tenure::Turn;
-use bus_world::{Answer, Event, StepFault, World};
+use bus_world::{Answer, Event, StepFault};
 use std::alloc::{AllocError, Global};
 
 fn turn_goes_on(turn: Turn) -> bool
@@ -47,22 +47,16 @@ fn goes_on(answer: &Answer) -> bool
 }
 
 /// An event once, and more while it goes on, up to so many times. The answer is the last one.
-fn repeat<Q: Ratifier + Drop>(
-    world: &mut World<Q>,
-    event: &Event,
-    times: u64,
-) -> Result<Answer, StepFault>
+fn repeat<M: Playable>(bus: &mut M, event: &Event, times: u64) -> Result<Answer, StepFault>
     requires { 0 < times }
-    ensures layout { world.new.layout ≡ world.old.layout }
-    ensures last { let X = election_of Q.Ratifier in
-        IfOk result (λ last. Repeats X world.old.bus
-        (event_told event.now) (times - 1) last world.new.bus) }
-    ensures fault { IfErr result (Refused world.old.bus (event_told event.now)) }
+    ensures last { IfOk result
+        (λ last. Repeats M.Playable bus.old (event_told event.now) (times - 1) last bus.new) }
+    ensures fault { IfErr result (M.refused bus.old (event_told event.now)) }
 {
-    let mut last = world.step(event)?;
+    let mut last = bus.step(event)?;
     let mut more = times - 1;
     while more > 0 && goes_on(&last) {
-        last = world.step(event)?;
+        last = bus.step(event)?;
         more -= 1;
     }
     Ok(last)
@@ -78,23 +72,21 @@ fn push_refusal(alloc: Global, number: u64, name: &str, text: &mut String) -> Re
 }
 
 /// Does what a line asks for, and puts its answer or its refusal at the end of a text.
-fn obey<Q: Ratifier + Drop>(
+fn obey<M: Playable>(
     alloc: Global,
-    world: &mut World<Q>,
+    bus: &mut M,
     line: Line<'_>,
     text: &mut String,
 ) -> Result<Outcome, NoMemory>
-    ensures layout { world.new.layout ≡ world.old.layout }
-    ensures obeyed { let X = election_of Q.Ratifier in
-        IfOk result (λ outcome. (added : List ℕ)
-        × IsObeyed X world.old.bus (line.entry.number, line.entry.bytes.now) outcome added
-        world.new.bus × (string_bytes text.new ≡ string_bytes text.old ++ added)) }
+    ensures { IfOk result (λ outcome. (added : List ℕ)
+        × IsObeyed M.Playable bus.old (line.entry.number, line.entry.bytes.now) outcome added
+        bus.new × (string_bytes text.new ≡ string_bytes text.old ++ added)) }
 {
     let Some(command) = command_of(alloc, line.bytes)? else {
         push_refusal(alloc, line.number, "BadLine", text)?;
         return Ok(Outcome::Refused);
     };
-    match repeat(world, &command.event, command.times) {
+    match repeat(bus, &command.event, command.times) {
         Ok(answer) => {
             push_answer_line(text, &command.event, &answer)?;
             Ok(Outcome::Done)
@@ -107,20 +99,18 @@ fn obey<Q: Ratifier + Drop>(
 }
 
 /// Obeys lines, and puts the answers at the end of a text, up to the first refusal.
-pub fn play<Q: Ratifier + Drop>(
+pub fn play<M: Playable>(
     alloc: Global,
-    world: &mut World<Q>,
+    bus: &mut M,
     mut lines: Lines<'_>,
     text: &mut String,
 ) -> Result<Outcome, NoMemory>
-    ensures layout { world.new.layout ≡ world.old.layout }
-    ensures played { let X = election_of Q.Ratifier in
-        IfOk result (λ outcome. (added : List ℕ)
-        × ArePlayed X world.old.bus lines.entry outcome added world.new.bus
+    ensures { IfOk result (λ outcome. (added : List ℕ)
+        × ArePlayed M.Playable bus.old lines.entry outcome added bus.new
         × (string_bytes text.new ≡ string_bytes text.old ++ added)) }
 {
     while let Some(line) = lines.next_line() {
-        match obey(alloc, world, line, text)? {
+        match obey(alloc, bus, line, text)? {
             Outcome::Done => {}
             Outcome::Refused => return Ok(Outcome::Refused),
         }

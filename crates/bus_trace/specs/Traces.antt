@@ -3,8 +3,8 @@ use Rattle.std.specs.Prelude.{◌≡◌, ◌≢◌, ◌-◌, ℕ, zero, suc, ◌
 use mathlib.Core.Logic.{inl, inr}
 use Rattle.std.specs.List.{enumerate_from}
 use Rattle.bus_tenure.specs.Core.{Election, Layout}
-use Rattle.bus_world.specs.World.{Bus, Event}
-use Rattle.bus_world.specs.Playing.{MakeRefused, IsMade}
+use Rattle.bus_world.specs.World.{Event}
+use Rattle.bus_world.specs.Playing.{SizedBus, MakeRefused, IsMade}
 use Rattle.bus_world.specs.declared.events.Answer.{Answer}
 use Rattle.bus_world.specs.declared.shapes.Shape.{Shape}
 use Rattle.bus_world.specs.declared.shapes.MakeFault.{MakeFault}
@@ -17,40 +17,41 @@ use Rattle.bus_script.specs.Places.{refusal_line}
 use Rattle.bus_replay.specs.Lines.{Command, shape_of, command_of}
 use Rattle.bus_replay.specs.Text.{make_fault_name}
 use Rattle.bus_replay.specs.Answers.{End, Left, Stopped, Repeats, Asked, Prints}
+use Rattle.bus_replay.specs.Worlds.{world_moves}
 use Rattle.bus_trace.specs.Words.{Sizes}
 use Rattle.bus_trace.specs.Rows.{header, row_text}
 use Rattle.bus_trace.specs.Told.{numbered_row}
 
 -- ---- the lines of what `replay` plays: one for each event of the run
 -- of an event that was repeated while it went on
-abbrev pub repeat_rows : {E : Type 0} (p : Sizes) (X : Election E) (line : ℕ) (b : Bus E) (e : Event) (more : ℕ) (last : Answer) (new : Bus E) → Repeats X b e more last new → List (List ℕ)
-repeat_rows p X line b e zero last new run = row_text p X line b e last ∷ []
-repeat_rows p X line b e (suc more) last new (inl once) = row_text p X line b e last ∷ []
-repeat_rows p X line b e (suc more) last new (inr run) = row_text p X line b e run.1 ∷ repeat_rows p X line run.0 e more last new run.5
+abbrev pub repeat_rows : {E : Type 0} (p : Sizes) (X : Election E) (line : ℕ) (b : SizedBus E) (e : Event) (more : ℕ) (last : Answer) (new : SizedBus E) → Repeats (world_moves X) b e more last new → List (List ℕ)
+repeat_rows p X line b e zero last new run = row_text p X line b.bus e last ∷ []
+repeat_rows p X line b e (suc more) last new (inl once) = row_text p X line b.bus e last ∷ []
+repeat_rows p X line b e (suc more) last new (inr run) = row_text p X line b.bus e run.1 ∷ repeat_rows p X line run.0 e more last new run.5
 
 -- of a line of the script, and of those behind it
-abbrev pub asked_rows : {E : Type 0} (p : Sizes) (X : Election E) (b : Bus E) (line : ℕ) (c : Option Command) (Behind : Bus E → List ℕ → End E → Type 0) → ((mid : Bus E) (rest : List ℕ) (end : End E) → Behind mid rest end → List (List ℕ)) → (text : List ℕ) (end : End E)
-    → Asked X b line c Behind text end → List (List ℕ)
+abbrev pub asked_rows : {E : Type 0} (p : Sizes) (X : Election E) (b : SizedBus E) (line : ℕ) (c : Option Command) (Behind : SizedBus E → List ℕ → End (SizedBus E) → Type 0) → ((mid : SizedBus E) (rest : List ℕ) (end : End (SizedBus E)) → Behind mid rest end → List (List ℕ)) → (text : List ℕ) (end : End (SizedBus E))
+    → Asked (world_moves X) b line c Behind text end → List (List ℕ)
 asked_rows p X b line None Behind behind text end run = []
 asked_rows p X b line (Some c) Behind behind text end (inl refused) = []
 asked_rows p X b line (Some c) Behind behind text end (inr run) = repeat_rows p X line b c.event (c.times - 1) run.1 run.0 run.3 ++ behind run.0 run.2 end run.4
 
 -- of all lines
-abbrev pub printed_rows : {E : Type 0} (p : Sizes) (X : Election E) (b : Bus E) (lines : List (ℕ × List ℕ)) (text : List ℕ) (end : End E) → Prints X b lines text end → List (List ℕ)
+abbrev pub printed_rows : {E : Type 0} (p : Sizes) (X : Election E) (b : SizedBus E) (lines : List (ℕ × List ℕ)) (text : List ℕ) (end : End (SizedBus E)) → Prints (world_moves X) b lines text end → List (List ℕ)
 printed_rows p X b [] text end run = []
 printed_rows p X b (line ∷ lines) text end run =
-    asked_rows p X b line.0 (command_of line.1) (λ mid rest stop. Prints X mid lines rest stop) (λ mid rest stop behind. printed_rows p X mid lines rest stop behind) text end run
+    asked_rows p X b line.0 (command_of line.1) (λ mid rest stop. Prints (world_moves X) mid lines rest stop) (λ mid rest stop behind. printed_rows p X mid lines rest stop behind) text end run
 
 -- numbered from this number on
 abbrev pub numbered : ℕ → List (List ℕ) → List ℕ
 numbered from rows = flat_map (λ row. numbered_row row.0 row.1) (enumerate_from from rows)
 
 -- ---- the whole text
-abbrev pub refusal_of : {E : Type 0} → End E → List ℕ
+abbrev pub refusal_of : {Z : Type 0} → End Z → List ℕ
 refusal_of (Left b) = []
 refusal_of (Stopped refusal) = refusal
 
-abbrev pub outcome_of : {E : Type 0} → End E → Outcome
+abbrev pub outcome_of : {Z : Type 0} → End Z → Outcome
 outcome_of (Left b) = Done
 outcome_of (Stopped refusal) = Refused
 
@@ -62,7 +63,7 @@ IsRefused refusal outcome whole = (outcome ≡ Refused) × (whole ≡ header ++ 
 abbrev pub Opened : {E : Type 0} → Election E → Layout → Sizes → Shape → ℕ → List (ℕ × List ℕ) → Outcome → List ℕ → Type 0
 Opened {E} X x p shape line lines outcome whole =
     ((why : MakeFault) × MakeRefused shape why × (why ≢ make.NoMemory) × IsRefused (refusal_line (AtLine line) (make_fault_name why)) outcome whole)
-    ⊎ ((b : Bus E) × IsMade x shape (record { layout = x; bus = b }) × (answers : List ℕ) × (end : End E) × (run : Prints X b lines answers end) × (outcome ≡ outcome_of end)
+    ⊎ ((b : SizedBus E) × IsMade x shape b × (answers : List ℕ) × (end : End (SizedBus E)) × (run : Prints (world_moves X) b lines answers end) × (outcome ≡ outcome_of end)
     × (whole ≡ header ++ numbered 1 (printed_rows p X b lines answers end run) ++ refusal_of end))
 
 abbrev pub Begins : {E : Type 0} → (Shape → Election E × Layout × Sizes) → ℕ → Option Shape → List (ℕ × List ℕ) → Outcome → List ℕ → Type 0

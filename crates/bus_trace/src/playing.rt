@@ -5,7 +5,7 @@ ghost use Rattle.bus_tenure.specs.Elections.{election_of};
 ghost use Rattle.bus_world.specs.Playing.{event_told};
 ghost use Rattle.bus_script.specs.declared.places.Place.TheVariants.{AtLine};
 ghost use Rattle.bus_script.specs.Places.{refusal_line};
-ghost use Rattle.bus_replay.specs.Answers.{turn_goes_on, recv_goes_on, goes_on};
+ghost use Rattle.bus_replay.specs.GoingOn.{turn_goes_on, recv_goes_on, goes_on};
 ghost use Rattle.bus_trace.specs.Words.{sizes_told};
 ghost use Rattle.bus_trace.specs.Obeying.{IsCounted, IsRepeated, IsObeyed, ArePlayed};
 
@@ -62,9 +62,9 @@ fn repeat<Q: Ratifier + Drop>(
     requires counted { IsCounted (string_bytes sheet.old.text) sheet.old.lines }
     ensures layout { watch.new.layout ≡ watch.old.layout }
     ensures repeated { let X = election_of Q.Ratifier in
-        IfOk result (λ fault. IsRepeated (sizes_told places) X line watch.old.bus
+        IfOk result (λ fault. IsRepeated (sizes_told places) X line watch.old
         (event_told event.now) (times - 1) (string_bytes sheet.old.text) sheet.old.lines
-        (string_bytes sheet.new.text) sheet.new.lines fault watch.new.bus) }
+        (string_bytes sheet.new.text) sheet.new.lines fault watch.new) }
     ensures counts { IfOk result (λ fault. fault ≡ None
         → IsCounted (string_bytes sheet.new.text) sheet.new.lines) }
 {
@@ -106,9 +106,9 @@ fn obey<Q: Ratifier + Drop>(
     requires { IsCounted (string_bytes sheet.old.text) sheet.old.lines }
     ensures layout { watch.new.layout ≡ watch.old.layout }
     ensures obeyed { let X = election_of Q.Ratifier in
-        IfOk result (λ outcome. IsObeyed (sizes_told places) X watch.old.bus
+        IfOk result (λ outcome. IsObeyed (sizes_told places) X watch.old
         (line.entry.number, line.entry.bytes.now) (string_bytes sheet.old.text) sheet.old.lines
-        (string_bytes sheet.new.text) sheet.new.lines outcome watch.new.bus) }
+        (string_bytes sheet.new.text) sheet.new.lines outcome watch.new) }
     ensures counts { IfOk result (λ outcome. outcome ≡ Outcome.Done
         → IsCounted (string_bytes sheet.new.text) sheet.new.lines) }
 {
@@ -144,9 +144,9 @@ pub fn play<Q: Ratifier + Drop>(
     requires { IsCounted (string_bytes sheet.old.text) sheet.old.lines }
     ensures layout { watch.new.layout ≡ watch.old.layout }
     ensures played { let X = election_of Q.Ratifier in
-        IfOk result (λ outcome. ArePlayed (sizes_told places) X watch.old.bus lines.entry
+        IfOk result (λ outcome. ArePlayed (sizes_told places) X watch.old lines.entry
         (string_bytes sheet.old.text) sheet.old.lines (string_bytes sheet.new.text) outcome
-        watch.new.bus) }
+        watch.new) }
 {
     while let Some(line) = lines.next_line() {
         match obey(alloc, watch, sheet, places, line)? {

@@ -1,13 +1,9 @@
-use Rattle.std.proofs.Common.{◌≡◌, length, string_bytes}
-use Rattle.bus_tenure.specs.Elections.{election_with}
+use Rattle.std.proofs.Common.{length, string_bytes}
 use Rattle.bus_replay.proofs.PlayLemmas.{Played}
 use Rattle.bus_replay.proofs.playing.play.Given as goal
 
 abbrev pub invariant-loop-line : goal.invariant-loop-line
-invariant-loop-line g l = record {
-  layout : l.world.layout ≡ l.fn.world.layout;
-  played : Played (election_with g.Q.Machine.kind_of g.Q.Machine.op g.Q.Machine.fed g.Q.Ratifier.protocol) l.fn.world.bus l.fn.lines l.lines (string_bytes l.fn.text) (string_bytes l.text) l.world.bus;
-}
+invariant-loop-line g l = Played g.M.Playable l.fn.bus l.fn.lines l.lines (string_bytes l.fn.text) (string_bytes l.text) l.bus
 
 abbrev pub decreases-loop-line : goal.decreases-loop-line
 decreases-loop-line g l = length l.lines

@@ -1,7 +1,6 @@
 use Rattle.std.proofs.Common.{◌-◌, ◌++◌, ◌∙◌, string_bytes, sym, ap, subst}
 use Rattle.std.specs.Option.{option_map}
 use Rattle.bus_tenure.specs.Elections.{election_with}
-use Rattle.bus_world.specs.Playing.{event_told}
 use Rattle.bus_script.specs.declared.places.Place.TheVariants.{AtLine}
 use Rattle.bus_script.specs.Places.{refusal_line}
 use Rattle.bus_replay.specs.Told.{command_told}
@@ -17,8 +16,8 @@ returns-in-None-clause-obeyed g c =
     let command = command_told c.in-Some.command in
     let old = string_bytes c.args.sheet.now.text in
     let new = string_bytes c.repeat.new.sheet.text in
-    answered p X c.args.watch.now.bus (c.args.line.number, c.args.line.bytes.now) command c.repeat.new.watch.bus old c.args.sheet.now.lines new c.repeat.new.sheet.lines (sym (ap (option_map command_told) c.in-Some.is) ∙ c.in_ok-command.ensures)
-    (subst (λ f. IsRepeated p X c.args.line.number c.args.watch.now.bus command.event (command.times - 1) old c.args.sheet.now.lines new c.repeat.new.sheet.lines f c.repeat.new.watch.bus) c.in-None.is c.in_ok-repeat.ensures.repeated)
+    answered p X c.args.watch.now (c.args.line.number, c.args.line.bytes.now) command c.repeat.new.watch old c.args.sheet.now.lines new c.repeat.new.sheet.lines (sym (ap (option_map command_told) c.in-Some.is) ∙ c.in_ok-command.ensures)
+    (subst (λ f. IsRepeated p X c.args.line.number c.args.watch.now command.event (command.times - 1) old c.args.sheet.now.lines new c.repeat.new.sheet.lines f c.repeat.new.watch) c.in-None.is c.in_ok-repeat.ensures.repeated)
 
 pub returns-clause-obeyed : goal.returns-clause-obeyed
 returns-clause-obeyed g c =
@@ -27,6 +26,6 @@ returns-clause-obeyed g c =
     let command = command_told c.in-Some.command in
     let old = string_bytes c.args.sheet.now.text in
     let new = string_bytes c.repeat.new.sheet.text in
-    let stopped = subst (λ f. IsRepeated p X c.args.line.number c.args.watch.now.bus command.event (command.times - 1) old c.args.sheet.now.lines new c.repeat.new.sheet.lines f c.repeat.new.watch.bus) c.in-Some-2.is c.in_ok-repeat.ensures.repeated in
-    refused p X c.args.watch.now.bus (c.args.line.number, c.args.line.bytes.now) command c.in-Some-2.fault c.repeat.new.watch.bus old c.args.sheet.now.lines new (string_bytes c.push_refusal-in-Some-2.new.text) c.repeat.new.sheet.lines
+    let stopped = subst (λ f. IsRepeated p X c.args.line.number c.args.watch.now command.event (command.times - 1) old c.args.sheet.now.lines new c.repeat.new.sheet.lines f c.repeat.new.watch) c.in-Some-2.is c.in_ok-repeat.ensures.repeated in
+    refused p X c.args.watch.now (c.args.line.number, c.args.line.bytes.now) command c.in-Some-2.fault c.repeat.new.watch old c.args.sheet.now.lines new (string_bytes c.push_refusal-in-Some-2.new.text) c.repeat.new.sheet.lines
     (sym (ap (option_map command_told) c.in-Some.is) ∙ c.in_ok-command.ensures) stopped.0 stopped.1 (c.in_ok-push_refusal-in-Some-2.ensures ∙ ap (λ n. new ++ refusal_line (AtLine c.args.line.number) n) c.step_fault_name-name.ensures)

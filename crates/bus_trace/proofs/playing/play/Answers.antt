@@ -7,7 +7,7 @@ use Rattle.bus_trace.proofs.playing.play.Goals as goal
 pub loop-line-init : goal.loop-line-init
 loop-line-init g c =
     let X = election_with g.Q.Machine.kind_of g.Q.Machine.op g.Q.Machine.fed g.Q.Ratifier.protocol in
-    record { layout = refl; counted = c.requires; played = none_played (sizes_told c.args.places) X c.args.watch.now.bus c.args.lines (string_bytes c.args.sheet.now.text) c.args.sheet.now.lines }
+    record { layout = refl; counted = c.requires; played = none_played (sizes_told c.args.places) X c.args.watch.now c.args.lines (string_bytes c.args.sheet.now.text) c.args.sheet.now.lines }
 
 pub loop-line-preserved : goal.loop-line-preserved
 loop-line-preserved g c =
@@ -15,20 +15,20 @@ loop-line-preserved g c =
     record {
       layout = c.in_ok-obey.ensures.layout ∙ c.loop-line.invariant.layout;
       counted = c.in_ok-obey.ensures.counts c.in-Done.is;
-      played = one_played (sizes_told c.args.places) X c.args.watch.now.bus c.args.lines c.loop-line.lines c.next_line.new.self (c.in-Some.line.number, c.in-Some.line.bytes.now) (string_bytes c.args.sheet.now.text) c.args.sheet.now.lines
-          (string_bytes c.loop-line.sheet.text) c.loop-line.sheet.lines (string_bytes c.obey.new.sheet.text) c.obey.new.sheet.lines c.loop-line.watch.bus c.obey.new.watch.bus c.in_ok-obey.field-0 c.loop-line.invariant.played (sym c.in-Some.ensures.some)
+      played = one_played (sizes_told c.args.places) X c.args.watch.now c.args.lines c.loop-line.lines c.next_line.new.self (c.in-Some.line.number, c.in-Some.line.bytes.now) (string_bytes c.args.sheet.now.text) c.args.sheet.now.lines
+          (string_bytes c.loop-line.sheet.text) c.loop-line.sheet.lines (string_bytes c.obey.new.sheet.text) c.obey.new.sheet.lines c.loop-line.watch c.obey.new.watch c.in_ok-obey.field-0 c.loop-line.invariant.played (sym c.in-Some.ensures.some)
           c.in-Done.is c.in_ok-obey.ensures.obeyed;
     }
 
 pub returns-in-Refused-clause-played : goal.returns-in-Refused-clause-played
 returns-in-Refused-clause-played g c =
     let X = election_with g.Q.Machine.kind_of g.Q.Machine.op g.Q.Machine.fed g.Q.Ratifier.protocol in
-    one_refused (sizes_told c.args.places) X c.args.watch.now.bus c.args.lines c.loop-line.lines c.next_line.new.self (c.in-Some.line.number, c.in-Some.line.bytes.now) (string_bytes c.args.sheet.now.text) c.args.sheet.now.lines
-    (string_bytes c.loop-line.sheet.text) c.loop-line.sheet.lines (string_bytes c.obey.new.sheet.text) c.obey.new.sheet.lines c.loop-line.watch.bus c.obey.new.watch.bus c.in_ok-obey.field-0 c.loop-line.invariant.played (sym c.in-Some.ensures.some)
+    one_refused (sizes_told c.args.places) X c.args.watch.now c.args.lines c.loop-line.lines c.next_line.new.self (c.in-Some.line.number, c.in-Some.line.bytes.now) (string_bytes c.args.sheet.now.text) c.args.sheet.now.lines
+    (string_bytes c.loop-line.sheet.text) c.loop-line.sheet.lines (string_bytes c.obey.new.sheet.text) c.obey.new.sheet.lines c.loop-line.watch c.obey.new.watch c.in_ok-obey.field-0 c.loop-line.invariant.played (sym c.in-Some.ensures.some)
     c.in-Refused.is c.in_ok-obey.ensures.obeyed
 
 pub returns-clause-played : goal.returns-clause-played
 returns-clause-played g c =
     let X = election_with g.Q.Machine.kind_of g.Q.Machine.op g.Q.Machine.fed g.Q.Ratifier.protocol in
-    all_played (sizes_told c.args.places) X c.args.watch.now.bus c.args.lines c.loop-line.lines (string_bytes c.args.sheet.now.text) c.args.sheet.now.lines (string_bytes c.loop-line.sheet.text) c.loop-line.sheet.lines c.loop-line.watch.bus
+    all_played (sizes_told c.args.places) X c.args.watch.now c.args.lines c.loop-line.lines (string_bytes c.args.sheet.now.text) c.args.sheet.now.lines (string_bytes c.loop-line.sheet.text) c.loop-line.sheet.lines c.loop-line.watch
     c.loop-line.invariant.played c.in_default.ensures.none

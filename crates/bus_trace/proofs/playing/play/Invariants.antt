@@ -9,8 +9,8 @@ abbrev pub invariant-loop-line : goal.invariant-loop-line
 invariant-loop-line g l = record {
   layout : l.watch.layout ≡ l.fn.watch.layout;
   counted : IsCounted (string_bytes l.sheet.text) l.sheet.lines;
-  played : Played (sizes_told l.places) (election_with g.Q.Machine.kind_of g.Q.Machine.op g.Q.Machine.fed g.Q.Ratifier.protocol) l.fn.watch.bus l.fn.lines l.lines (string_bytes l.fn.sheet.text) l.fn.sheet.lines
-      (string_bytes l.sheet.text) l.sheet.lines l.watch.bus;
+  played : Played (sizes_told l.places) (election_with g.Q.Machine.kind_of g.Q.Machine.op g.Q.Machine.fed g.Q.Ratifier.protocol) l.fn.watch l.fn.lines l.lines (string_bytes l.fn.sheet.text) l.fn.sheet.lines
+      (string_bytes l.sheet.text) l.sheet.lines l.watch;
 }
 
 abbrev pub decreases-loop-line : goal.decreases-loop-line

@@ -10,7 +10,7 @@ abbrev pub invariant-loop-more : goal.invariant-loop-more
 invariant-loop-more g l = record {
   layout : l.watch.layout ≡ l.fn.watch.layout;
   counted : IsCounted (string_bytes l.sheet.text) l.sheet.lines;
-  repeated : Repeated (sizes_told l.places) (election_with g.Q.Machine.kind_of g.Q.Machine.op g.Q.Machine.fed g.Q.Ratifier.protocol) l.line (event_told l.event) l.fn.watch.bus (l.fn.times - 1) l.more l.last l.watch.bus
+  repeated : Repeated (sizes_told l.places) (election_with g.Q.Machine.kind_of g.Q.Machine.op g.Q.Machine.fed g.Q.Ratifier.protocol) l.line (event_told l.event) l.fn.watch (l.fn.times - 1) l.more l.last l.watch
       (string_bytes l.fn.sheet.text) l.fn.sheet.lines (string_bytes l.sheet.text) l.sheet.lines;
 }
 
