@@ -1,0 +1,217 @@
+-- A turn of a guest in its three parts: the page comes home, the step is taken, the page is laid.
+use Rattle.std.proofs.Common.{◌≡◌, ℕ, ◌+◌, ◌/◌, ◌==◌, Bool, true, false, cond, nat_le, Option, Some, None, List, refl, sym, ◌∙◌, ap, subst, slice_index}
+use Rattle.std.specs.Prelude.{IsSome}
+use Rattle.bus_register.specs.declared.registers.Op.{Op}
+use Rattle.bus_presence.specs.Sweeps.{Sweeping, sweep_op}
+use Rattle.bus_presence.specs.Hall.{presence_at}
+use Rattle.bus_presence.specs.Visits.{step_at}
+use Rattle.bus_presence.specs.declared.visits.Visit.{Visit}
+use Rattle.bus_presence.specs.declared.visits.Visit.TheVariants.{Away, Entering, Looking, Inside, Parting, Barred}
+use Rattle.bus_guest.specs.Guests.{Due, Visits, Sweeps, Goes, sizes_with, due_beside, due_home, due_swept, sweep_due, core_looked, core_seen}
+use Rattle.bus_guest.specs.Turns.{Visitor, due, op_due, op_next, placed, visitor_due, visitor_after, answer_due, answer_after}
+use Rattle.bus_tenure.specs.Core.{Core, Election, stage_at}
+use Rattle.bus_tenure.specs.Seen.{AwaitsItsPage}
+use Rattle.bus_tenure.specs.Situations.{Situation, IsClosed, IsIdle, IsSpent, LooksAtStage, Elects, TakesPage, AwaitsPage, StoresWord, StoresLength, GivesBack, HasHanded, PageMove, Stays, Comes, Returns, situation_of, op_at, waits, core_begun, core_elected}
+use Rattle.bus_tenure.specs.declared.pages.Page.{Page}
+use Rattle.bus_tenure.specs.declared.phases.Phase.{Phase}
+use Rattle.bus_tenure.specs.declared.phases.Phase.TheVariants as phase
+use Rattle.bus_tenure.specs.declared.phases.Reason.{Reason}
+use Rattle.bus_tenure.proofs.Situated.{tells}
+use Rattle.bus_world.specs.Rings.{move_due, visitor_moved}
+use Rattle.bus_world.specs.Turning.{words_after, number_found, home_moved, core_moved, before_step, after_step, laying}
+use Rattle.bus_world.proofs.RingLaws.{due_goes}
+
+-- ---- what is due
+due_free : {E : Type 0} (o : Option Op) (s : Option Sweeping) (z w : Situation E) → due_beside o s z ≡ Goes w → o ≡ None
+due_free (Some p) s z w e = absurd cc
+due_free None s z w e = refl
+
+none_is : (o : Op) → ◌≡◌ {A = Option Op} (Some o) None → ⊥
+none_is o e = cc
+
+-- a step is due of an election that runs
+some_step : (x : Option Op) → IsSome x → x ≡ None → ⊥
+some_step None h e = let q : false ≡ true = h in cc
+some_step (Some o) h e = cc
+
+placed_none : (f : ℕ → ℕ) (x : Option Op) → placed f x ≡ None → x ≡ None
+placed_none f None e = refl
+placed_none f (Some o) e = absurd (let bad : Some _ ≡ None = e in cc)
+
+module _ {E : Type 0} (X : Election E) (v : Visitor E) (word : ℕ) where
+  -- where no step is due, nothing changes
+  module _ (goes : (t : ℕ) (e : E) → situation_of X v.core ≡ Elects t e → IsSome (X.op e word)) where
+    idle_at : (z : Situation E) → situation_of X v.core ≡ z → op_at X v.core z word ≡ None → v ≡ visitor_due X v (Goes z) 0 word
+    idle_at IsClosed i e = refl
+    idle_at IsIdle i e = refl
+    idle_at IsSpent i e = refl
+    idle_at LooksAtStage i e = absurd cc
+    idle_at (Elects t f) i e = absurd (some_step (X.op f word) (goes t f i) e)
+    idle_at (TakesPage t) i e = absurd cc
+    idle_at (AwaitsPage t) i e = refl
+    idle_at (StoresWord t page stored) i e = absurd cc
+    idle_at (StoresLength t page stored) i e = absurd cc
+    idle_at (GivesBack t page reason) i e = absurd cc
+    idle_at (HasHanded t reason) i e = absurd cc
+
+    idle_due : (d : Due E) → due X v ≡ d → op_due X v d word ≡ None → v ≡ visitor_due X v d (number_found (λ r. 0) (op_due X v d word)) word
+    idle_due (Visits o) i e = absurd (none_is o e)
+    idle_due (Sweeps s o) i e = absurd (none_is o e)
+    idle_due (Goes z) i e =
+        idle_at z (due_goes _ v.sweep (situation_of X v.core) z i) (placed_none _ _ e)
+        ∙ ap (λ o. visitor_due X v (Goes z) (number_found (λ r. 0) o) word) (sym e)
+
+    pub idle_turn : (words : ℕ → ℕ) → op_next X v word ≡ None → v ≡ visitor_after X v (number_found words (op_next X v word)) word
+    idle_turn words e =
+        idle_due (due X v) refl e
+        ∙ ap (λ o. visitor_after X v (number_found (λ r. 0) o) word) e
+        ∙ sym (ap (λ o. visitor_after X v (number_found words o) word) e)
+
+-- ---- the page goes home before the step
+module _ {E : Type 0} (X : Election E) (v : Visitor E) (home : Option Page) (word : ℕ) where
+  abbrev handed : Due E → Visitor E
+  handed d = visitor_moved (before_step (move_due X v d)) home v
+
+  -- whose page was handed over is to store the stage
+  hands : (t : ℕ) (page : Page) (reason : Reason) → due X v ≡ Goes (GivesBack t page reason) → due X record v { core = record v.core { phase = phase.Giving t reason } } ≡ Goes (HasHanded t reason)
+  hands t page reason e =
+      ap (λ o. due_beside o v.sweep (HasHanded t reason)) (due_free (step_at v.visit (presence_at (sizes_with v.core.layout v.rows) v.core.me) stage_at) v.sweep (situation_of X v.core) (GivesBack t page reason) e)
+
+  record AsBefore (d : Due E) : Type 0 where
+    same_op : op_next X (handed d) word ≡ op_due X v d word
+    same_after : (got : ℕ) → visitor_after X (handed d) got word ≡ visitor_due X v d got word
+    same_answer : (got : ℕ) → answer_after X (handed d) got word ≡ answer_due X v d got word
+
+  stays : (d : Due E) → due X v ≡ d → handed d ≡ v → AsBefore d
+  stays d e same = record {
+    same_op = ap (λ g. op_next X g word) same ∙ ap (λ w. op_due X v w word) e;
+    same_after = λ got. ap (λ g. visitor_after X g got word) same ∙ ap (λ w. visitor_due X v w got word) e;
+    same_answer = λ got. ap (λ g. answer_after X g got word) same ∙ ap (λ w. answer_due X v w got word) e;
+  }
+
+  as_before : (d : Due E) → due X v ≡ d → AsBefore d
+  as_before (Visits o) e = stays (Visits o) e refl
+  as_before (Sweeps s o) e = stays (Sweeps s o) e refl
+  as_before (Goes IsClosed) e = stays (Goes IsClosed) e refl
+  as_before (Goes IsIdle) e = stays (Goes IsIdle) e refl
+  as_before (Goes IsSpent) e = stays (Goes IsSpent) e refl
+  as_before (Goes LooksAtStage) e = stays (Goes LooksAtStage) e refl
+  as_before (Goes (Elects t f)) e = stays (Goes (Elects t f)) e refl
+  as_before (Goes (TakesPage t)) e = stays (Goes (TakesPage t)) e refl
+  as_before (Goes (AwaitsPage t)) e = stays (Goes (AwaitsPage t)) e refl
+  as_before (Goes (StoresWord t page stored)) e = stays (Goes (StoresWord t page stored)) e refl
+  as_before (Goes (StoresLength t page stored)) e = stays (Goes (StoresLength t page stored)) e refl
+  as_before (Goes (GivesBack t page reason)) e =
+      let g : Visitor E = record v { core = record v.core { phase = phase.Giving t reason } } in
+      let now = hands t page reason e in
+      record {
+        same_op = ap (λ w. op_due X g w word) now;
+        same_after = λ got. ap (λ w. visitor_due X g w got word) now;
+        same_answer = λ got. ap (λ w. answer_due X g w got word) now;
+      }
+  as_before (Goes (HasHanded t reason)) e = stays (Goes (HasHanded t reason)) e refl
+
+-- ---- the phase that a step has left tells whether the page is laid
+module _ {E : Type 0} (X : Election E) (v : Visitor E) (laid : AwaitsItsPage v.core.phase → ⊥) (word : ℕ) where
+  quiet : (p : Phase E) → (AwaitsItsPage p → ⊥) → laying p ≡ Stays
+  quiet phase.Resting free = refl
+  quiet (phase.Electing t e) free = refl
+  quiet (phase.Taken t) free = absurd (free record { tenure = t; is = refl })
+  quiet (phase.Holding t page stored published) free = refl
+  quiet (phase.Giving t reason) free = refl
+
+  was : laying v.core.phase ≡ Stays
+  was = quiet v.core.phase laid
+
+  looked_lays : (u : Visit) (got : ℕ) → laying (core_looked X v.core u got).phase ≡ Stays
+  looked_lays Away got = was
+  looked_lays (Entering t) got = was
+  looked_lays (Looking t) got = by_test (got / 2 == t)
+    where
+      by_test : (a : Bool) → laying (cond a (core_begun X v.core t) v.core).phase ≡ Stays
+      by_test true = refl
+      by_test false = was
+  looked_lays (Inside t) got = was
+  looked_lays (Parting t) got = was
+  looked_lays (Barred t) got = was
+
+  seen_lays : (got : ℕ) → laying (core_seen v.core got).phase ≡ Stays
+  seen_lays got = by_tests (waits v.core got) (nat_le v.core.layout.rows (got / 2))
+    where
+      by_tests : (a b : Bool) → laying (cond a v.core (cond b (record v.core { least = got / 2 }) v.core)).phase ≡ Stays
+      by_tests true b = was
+      by_tests false true = was
+      by_tests false false = was
+
+  elected_lays : (t : ℕ) (e : E) (o : Option ℕ) → laying (core_elected v.core t e o).phase ≡ Stays
+  elected_lays t e None = refl
+  elected_lays t e (Some o) = by_test (o == v.core.me)
+    where
+      by_test : (a : Bool) → laying (cond a (record v.core { phase = phase.Electing t e }) (record v.core { queue = record v.core.queue { busy = false }; least = t + 1; phase = phase.Resting })).phase ≡ Stays
+      by_test true = refl
+      by_test false = refl
+
+  going_lays : (z : Situation E) → situation_of X v.core ≡ z → (got : ℕ) → laying (visitor_due X v (Goes z) got word).core.phase ≡ after_step (move_due X v (Goes z))
+  going_lays IsClosed i got = was
+  going_lays IsIdle i got = was
+  going_lays IsSpent i got = was
+  going_lays LooksAtStage i got = seen_lays got
+  going_lays (Elects t e) i got = elected_lays t (X.fed e got word) (X.owner (X.fed e got word))
+  going_lays (TakesPage t) i got = refl
+  going_lays (AwaitsPage t) i got = absurd (laid record { tenure = t; is = tells X v.core (AwaitsPage t) i })
+  going_lays (StoresWord t page stored) i got = refl
+  going_lays (StoresLength t page stored) i got = refl
+  going_lays (GivesBack t page reason) i got = refl
+  going_lays (HasHanded t reason) i got = refl
+
+  lays : (d : Due E) → due X v ≡ d → (got : ℕ) → laying (visitor_due X v d got word).core.phase ≡ after_step (move_due X v d)
+  lays (Visits o) e got = looked_lays v.visit got
+  lays (Sweeps s o) e got = was
+  lays (Goes z) e got = going_lays z (due_goes _ v.sweep (situation_of X v.core) z e) got
+
+-- ---- a move is its two parts
+home_parts : (m : PageMove) (home : Option Page) → home_moved (after_step m) (home_moved (before_step m) home) ≡ home_moved m home
+home_parts Stays home = refl
+home_parts (Comes t) home = refl
+home_parts (Returns t reason page) home = refl
+
+guest_parts : {E : Type 0} (m : PageMove) (home : Option Page) (now : Visitor E) → visitor_moved (after_step m) (home_moved (before_step m) home) now ≡ visitor_moved (after_step m) home now
+guest_parts Stays home now = refl
+guest_parts (Comes t) home now = refl
+guest_parts (Returns t reason page) home now = refl
+
+-- ---- a turn
+module _ {E : Type 0} (X : Election E) (v : Visitor E) (laid : AwaitsItsPage v.core.phase → ⊥) (cells : List ℕ) (word : ℕ) (home : Option Page) (given : Visitor E) (taken : given ≡ visitor_moved (before_step (move_due X v (due X v))) home v) where
+  before : AsBefore X v home word (due X v)
+  before = as_before X v home word (due X v) refl
+
+  abbrev got : ℕ
+  got = number_found (slice_index cells) (op_next X v word)
+
+  pub step_same : op_next X given word ≡ op_next X v word
+  step_same = ap (λ g. op_next X g word) taken ∙ before.same_op
+
+  pub words_so : words_after cells (op_next X given word) ≡ words_after cells (op_next X v word)
+  words_so = ap (words_after cells) step_same
+
+  pub answer_so : answer_after X given (number_found (slice_index cells) (op_next X given word)) word ≡ answer_after X v got word
+  answer_so = ap (λ o. answer_after X given (number_found (slice_index cells) o) word) step_same ∙ ap (λ g. answer_after X g got word) taken ∙ before.same_answer got
+
+  module _ (now : Visitor E) (rest : Option Page) (went : now ≡ visitor_after X given (number_found (slice_index cells) (op_next X given word)) word) (at_home : rest ≡ home_moved (before_step (move_due X v (due X v))) home) where
+    now_is : now ≡ visitor_after X v got word
+    now_is = went ∙ ap (λ o. visitor_after X given (number_found (slice_index cells) o) word) step_same ∙ ap (λ g. visitor_after X g got word) taken ∙ before.same_after got
+
+    laid_so : laying now.core.phase ≡ after_step (move_due X v (due X v))
+    laid_so = ap (λ (g : Visitor E). laying g.core.phase) now_is ∙ lays X v laid word (due X v) refl got
+
+    pub home_so : home_moved (laying now.core.phase) rest ≡ home_moved (move_due X v (due X v)) home
+    home_so = ap (λ m. home_moved m rest) laid_so ∙ ap (home_moved (after_step (move_due X v (due X v)))) at_home ∙ home_parts (move_due X v (due X v)) home
+
+    pub guest_so : visitor_moved (laying now.core.phase) rest now ≡ visitor_moved (after_step (move_due X v (due X v))) home (visitor_after X v got word)
+    guest_so =
+        ap (λ m. visitor_moved m rest now) laid_so ∙ ap (λ r. visitor_moved (after_step (move_due X v (due X v))) r now) at_home
+        ∙ guest_parts (move_due X v (due X v)) home now ∙ ap (visitor_moved (after_step (move_due X v (due X v))) home) now_is
+
+-- ---- the sums of a step, after the page has gone home
+pub sums_so : {E : Type 0} (X : Election E) (v given : Visitor E) (word : ℕ) (Fits : Op → Type 0) → op_next X given word ≡ op_next X v word → ((o : Op) → op_next X v word ≡ Some o → Fits o) → (o : Op) → op_next X given word ≡ Some o → Fits o
+sums_so X v given word Fits same fits o e = fits o (sym same ∙ e)

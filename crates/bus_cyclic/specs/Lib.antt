@@ -1,0 +1,4 @@
+pub mod Cyclic
+pub mod Starting
+pub mod Happening
+pub mod Following
