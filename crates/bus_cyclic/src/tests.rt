@@ -163,6 +163,7 @@ fn who_stops_is_refused(rt: HostRuntime) {
         why: StepFault::Stopped,
     };
     assert_eq!(rt; world.play(&events), Err(fault));
-    assert_eq!(rt; world.play(&events[2..]), Ok(()));
+    let heard = [Event::Recv(0)];
+    assert_eq!(rt; world.play(&heard), Ok(()));
     world.promises();
 }
