@@ -1,25 +1,17 @@
 -- The lines of a script of `replay`, obeyed one by one.
 use Rattle.std.specs.Prelude.{OnOk}
-use Rattle.std.proofs.Common.{Bool, ◌≡◌, ℕ, List, [], ◌∷◌, ◌++◌, Some, Result, Ok, Err, IfOk, refl, sym, ap, subst, ◌∙◌, append_assoc, inr}
+use Rattle.std.proofs.Common.{◌≡◌, ℕ, List, [], ◌∷◌, ◌++◌, Result, Ok, Err, IfOk, refl, sym, ap, subst, ◌∙◌, append_assoc, inr}
 use Rattle.std.proofs.lemmas.List.{append_cancel_left}
 use Rattle.bus_register.specs.declared.registers.SenderNo.{SenderNo}
-use Rattle.bus_register.specs.Protocol.{Protocol}
-use Rattle.bus_adoptcommit.specs.declared.verdicts.Verdict.{Verdict}
 use Rattle.bus_batch.specs.Frames.{Order, Spells}
-use Rattle.bus_tenure.specs.Core.{Election}
-use Rattle.bus_tenure.specs.Elections.{Elector}
-use Rattle.bus_world.specs.Playing.{SizedBus, layout_of, IsMade}
 use Rattle.bus_world.specs.Trails.{Trails}
-use Rattle.bus_world.specs.declared.shapes.Shape.{Shape}
+use Rattle.bus_world.specs.declared.shapes.MakeFault.{MakeFault}
 use Rattle.bus_script.specs.declared.answers.Outcome.{Outcome}
 use Rattle.bus_script.specs.declared.answers.Outcome.TheVariants as outcome
-use Rattle.bus_script.specs.Grammar.{script_lines}
 use Rattle.bus_replay.specs.declared.machines.Playable.{Ghosts as Moves}
-use Rattle.bus_replay.specs.Lines.{shape_of}
 use Rattle.bus_replay.specs.Text.{owners_line, order_text, given_text}
-use Rattle.bus_replay.specs.Answers.{given_by, End, Left, Stopped, Prints, Closes, Ends, Begins, Replays, IsReplay}
+use Rattle.bus_replay.specs.Answers.{given_by, End, Left, Stopped, Prints, Closes, Ends, Opened}
 use Rattle.bus_replay.specs.Told.{IsObeyed, ArePlayed}
-use Rattle.bus_replay.specs.Worlds.{world_moves}
 
 -- ---- all lines
 
@@ -107,11 +99,10 @@ stopped {Z} M b new lines o old whole refused none played =
     let ends : ArePlayed M b lines outcome.Refused played.0 new = subst (λ r. ArePlayed M b lines r played.0 new) refused played.1 in
     (ends.0, Stopped ends.1, ends.2, (refl, played.2 ∙ ap (λ (l : List ℕ). l ++ played.0) none ∙ ends.3))
 
--- a new bus of a shape was made, and the lines behind its shape moved it
-pub opened : {S : Type 0} (X : Election (Elector S)) (P : Protocol S Bool Verdict) (input : List ℕ) (line : ℕ × List ℕ) (lines : List (ℕ × List ℕ)) (shape : Shape) (z : SizedBus (Elector S)) (o : Outcome) (whole : List ℕ) → script_lines input ≡ line ∷ lines
-    → shape_of line.1 ≡ Some shape → IsMade (layout_of P shape) shape z → (text : List ℕ) × (end : End (SizedBus (Elector S))) × Prints (world_moves X) z lines text end × Ends (world_moves X) end text o whole → IsReplay X P input o whole
-opened X P input line lines shape z o whole is shape_is made answered =
-    subst (λ l. Replays X P l o whole) (sym is) (subst (λ s. Begins X P line.0 s lines o whole) (sym shape_is) (inr (z, made, answered.0, answered.1, answered.2, answered.3)))
+-- a new bus was made, and the lines behind the first one moved it
+pub opened : {Z : Type 0} (M : Moves Z) (IsNew : Z → Type 0) (IsUnmade : MakeFault → Type 0) (number : ℕ) (lines : List (ℕ × List ℕ)) (b : Z) (o : Outcome) (whole : List ℕ) → IsNew b
+    → (text : List ℕ) × (end : End Z) × Prints M b lines text end × Ends M end text o whole → Opened M IsNew IsUnmade number lines o whole
+opened M IsNew IsUnmade number lines b o whole made answered = inr (b, made, answered.0, answered.1, answered.2, answered.3)
 
 -- what follows from a fact of a value
 pub if_ok : {A F : Type 0} (P Q : A → Type 0) (r : Result A F) → ((a : A) → P a → Q a) → IfOk r P → IfOk r Q

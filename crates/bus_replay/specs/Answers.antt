@@ -13,9 +13,9 @@ use Rattle.bus_world.specs.World.{Event}
 use Rattle.bus_world.specs.Playing.{layout_of, MakeRefused, IsMade}
 use Rattle.bus_world.specs.declared.events.Answer.{Answer}
 use Rattle.bus_world.specs.declared.events.StepFault.{StepFault}
-use Rattle.bus_world.specs.declared.shapes.Shape.{Shape}
 use Rattle.bus_world.specs.declared.shapes.MakeFault.{MakeFault}
 use Rattle.bus_world.specs.declared.shapes.MakeFault.TheVariants as make
+use Rattle.bus_cyclic.specs.Cyclic as cyclic
 use Rattle.bus_script.specs.declared.places.Place.TheVariants.{AtLine, AtEnd}
 use Rattle.bus_script.specs.declared.answers.Outcome.{Outcome}
 use Rattle.bus_script.specs.declared.answers.Outcome.TheVariants.{Done, Refused}
@@ -23,9 +23,11 @@ use Rattle.bus_script.specs.Grammar.{script_lines}
 use Rattle.bus_script.specs.Places.{refusal_line}
 use Rattle.bus_replay.specs.declared.machines.Playable.{Ghosts as Moves}
 use Rattle.bus_replay.specs.GoingOn.{goes_on}
-use Rattle.bus_replay.specs.Lines.{Command, shape_of, command_of}
+use Rattle.bus_replay.specs.declared.lines.FirstLine.{FirstLine}
+use Rattle.bus_replay.specs.declared.lines.FirstLine.TheVariants.{Shape as Shaped, Cycle as Cycled}
+use Rattle.bus_replay.specs.Lines.{Command, first_of, command_of}
 use Rattle.bus_replay.specs.Text.{answer_line, step_fault_name, make_fault_name, owners_line, order_text, given_text}
-use Rattle.bus_replay.specs.Worlds.{world_moves}
+use Rattle.bus_replay.specs.Worlds.{world_moves, cycle_moves}
 
 -- an event, once and then at most so many times more while it goes on, with the last answer
 abbrev pub Repeats : {Z : Type 0} → Moves Z → Z → Event → ℕ → Answer → Z → Type 0
@@ -76,14 +78,15 @@ Opened {Z} M IsNew IsUnmade number lines outcome whole =
     ((why : MakeFault) × IsUnmade why × (why ≢ make.NoMemory) × (outcome ≡ Refused) × (whole ≡ refusal_line (AtLine number) (make_fault_name why)))
     ⊎ ((b : Z) × IsNew b × (text : List ℕ) × (end : End Z) × Prints M b lines text end × Ends M end text outcome whole)
 
--- by what the first line says: a bus of a shape
-abbrev pub Begins : {S : Type 0} → Election (Elector S) → Protocol S Bool Verdict → ℕ → Option Shape → List (ℕ × List ℕ) → Outcome → List ℕ → Type 0
+-- by what the first line asks for
+abbrev pub Begins : {S : Type 0} → Election (Elector S) → Protocol S Bool Verdict → ℕ → Option FirstLine → List (ℕ × List ℕ) → Outcome → List ℕ → Type 0
 Begins X P number None lines outcome whole = (outcome ≡ Refused) × (whole ≡ refusal_line (AtLine number) (codes "BadLine"))
-Begins X P number (Some shape) lines outcome whole = Opened (world_moves X) (IsMade (layout_of P shape) shape) (MakeRefused shape) number lines outcome whole
+Begins X P number (Some (Shaped shape)) lines outcome whole = Opened (world_moves X) (IsMade (layout_of P shape) shape) (MakeRefused shape) number lines outcome whole
+Begins X P number (Some (Cycled shape)) lines outcome whole = Opened (cycle_moves X) (cyclic.IsMade (cyclic.layout_of P shape) shape) (cyclic.MakeRefused shape) number lines outcome whole
 
 abbrev pub Replays : {S : Type 0} → Election (Elector S) → Protocol S Bool Verdict → List (ℕ × List ℕ) → Outcome → List ℕ → Type 0
 Replays X P [] outcome whole = (outcome ≡ Refused) × (whole ≡ refusal_line AtEnd (codes "BadLine"))
-Replays X P (line ∷ lines) outcome whole = Begins X P line.0 (shape_of line.1) lines outcome whole
+Replays X P (line ∷ lines) outcome whole = Begins X P line.0 (first_of line.1) lines outcome whole
 
 -- the text that answers an input, where senders go by this election, made of ratifiers of this protocol
 abbrev pub IsReplay : {S : Type 0} → Election (Elector S) → Protocol S Bool Verdict → List ℕ → Outcome → List ℕ → Type 0

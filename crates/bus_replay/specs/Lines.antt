@@ -1,8 +1,11 @@
 -- What the lines of a script of `replay` say.
 use Rattle.std.specs.Prelude.{ℕ, ◌+◌, ◌-◌, ◌*◌, ◌^◌, Bool, ◌&&◌, List, [], ◌∷◌, length, Option, Some, None, codes, nat_lt, nat_le, if◌then◌else◌, option_and_then}
+use Rattle.std.specs.Option.{option_map}
 use Rattle.std.specs.Str.{bytes_eq}
 use Rattle.bus_world.specs.World.{Event, Put, Close, Turn, Recv, Stop}
 use Rattle.bus_world.specs.declared.shapes.Shape.{Shape}
+use Rattle.bus_replay.specs.declared.lines.FirstLine.{FirstLine}
+use Rattle.bus_replay.specs.declared.lines.FirstLine.TheVariants.{Shape as Shaped, Cycle as Cycled}
 use Rattle.bus_script.specs.Grammar.{number_of, and_before, each_of, arguments_of}
 
 -- what a line asks for: an event, at most so many times
@@ -32,6 +35,13 @@ hex_of word = if bytes_eq word (codes "-") then Some [] else (if nat_lt 0 (lengt
 
 -- ---- lines
 
+abbrev pub or_else : {A : Type 0} → Option A → Option A → Option A
+or_else (Some x) y = Some x
+or_else None y = y
+
+abbrev pub numbers_behind : List ℕ → List ℕ → Option (List ℕ)
+numbers_behind keyword line = option_and_then (each_of number_of) (arguments_of keyword line)
+
 -- five numbers: senders, receivers, rounds, rows, log words
 abbrev pub shape_from : List ℕ → Option Shape
 shape_from [] = None
@@ -44,7 +54,15 @@ shape_from (n ∷ m ∷ r ∷ t ∷ l ∷ x ∷ more) = None
 
 -- what a line `shape N M R T L` says
 abbrev pub shape_of : List ℕ → Option Shape
-shape_of line = option_and_then shape_from (option_and_then (each_of number_of) (arguments_of (codes "shape") line))
+shape_of line = option_and_then shape_from (numbers_behind (codes "shape") line)
+
+-- what a line `cycle N M R T L` says
+abbrev pub cycle_of : List ℕ → Option Shape
+cycle_of line = option_and_then shape_from (numbers_behind (codes "cycle") line)
+
+-- what the first line asks for
+abbrev pub first_of : List ℕ → Option FirstLine
+first_of line = or_else (option_map Shaped (shape_of line)) (option_map Cycled (cycle_of line))
 
 abbrev pub put_of : Option ℕ → Option (List ℕ) → Option Command
 put_of None bytes = None
@@ -88,13 +106,6 @@ abbrev pub stop_from : List ℕ → Option Command
 stop_from [] = None
 stop_from (s ∷ []) = Some (record { event = Stop s; times = 1 })
 stop_from (s ∷ x ∷ more) = None
-
-abbrev pub or_else : {A : Type 0} → Option A → Option A → Option A
-or_else (Some x) y = Some x
-or_else None y = y
-
-abbrev pub numbers_behind : List ℕ → List ℕ → Option (List ℕ)
-numbers_behind keyword line = option_and_then (each_of number_of) (arguments_of keyword line)
 
 -- what a line behind the first one says
 abbrev pub command_of : List ℕ → Option Command

@@ -1,2 +1,3 @@
 -- What an impl gives as its laws: proofs, to be passed over.
 pub mod WorldLaws
+pub mod CycleLaws

@@ -1,19 +1,20 @@
 //! What a script of `replay` is answered with.
 
-ghost use Rattle.std.specs.Prelude.{◌≡◌, ℕ, List, IfOk, string_bytes};
+ghost use Rattle.std.specs.Prelude.{◌≡◌, ℕ, List, Some, IfOk, string_bytes};
 ghost use Rattle.bus_tenure.specs.Elections.{election_of};
 ghost use Rattle.bus_script.specs.Places.{refusal_line};
-ghost use Rattle.bus_replay.specs.Answers.{End, Prints, Ends, IsReplay};
+ghost use Rattle.bus_replay.specs.Answers.{End, Prints, Ends, Begins, IsReplay};
 
 use crate::closing::push_closing;
-use crate::lines::shape_of;
+use crate::lines::{FirstLine, first_of};
 use crate::machines::Playable;
 use crate::names::make_fault_name;
 use crate::playing::play;
 use bus_adoptcommit::Ratifier;
+use bus_cyclic::CyclicWorld;
 use bus_register::NoMemory;
 use bus_script::{Answer, Lines, Outcome, Place, refusal_line};
-use bus_world::{MakeFault, World};
+use bus_world::{MakeFault, Shape, World};
 use std::alloc::Global;
 
 /// The answer to a script that was refused before there was a bus.
@@ -54,6 +55,42 @@ fn answer_from<M: Playable + Drop>(
     }
 }
 
+/// The answer to the lines behind a first one that asks for a bus with a row for each tenure.
+fn answer_of_shape<Q: Ratifier + Drop>(
+    alloc: Global,
+    shape: Shape,
+    number: u64,
+    lines: Lines<'_>,
+) -> Result<Answer, NoMemory>
+    ensures { let X = election_of Q.Ratifier in
+        IfOk result (λ answer. Begins X Q.protocol number (Some (FirstLine.Shape shape))
+        lines.entry answer.outcome (string_bytes answer.text)) }
+{
+    match World::<Q>::new(alloc, shape) {
+        Ok(world) => answer_from(alloc, world, lines),
+        Err(MakeFault::NoMemory) => Err(NoMemory),
+        Err(fault) => refused(alloc, Place::AtLine(number), make_fault_name(fault)),
+    }
+}
+
+/// The answer to the lines behind a first one that asks for a bus whose rows are used again.
+fn answer_of_cycle<Q: Ratifier + Drop>(
+    alloc: Global,
+    shape: Shape,
+    number: u64,
+    lines: Lines<'_>,
+) -> Result<Answer, NoMemory>
+    ensures { let X = election_of Q.Ratifier in
+        IfOk result (λ answer. Begins X Q.protocol number (Some (FirstLine.Cycle shape))
+        lines.entry answer.outcome (string_bytes answer.text)) }
+{
+    match CyclicWorld::<Q>::new(alloc, shape) {
+        Ok(world) => answer_from(alloc, world, lines),
+        Err(MakeFault::NoMemory) => Err(NoMemory),
+        Err(fault) => refused(alloc, Place::AtLine(number), make_fault_name(fault)),
+    }
+}
+
 /// What is written for an input: the answers and the closing lines of a new bus of the shape that
 /// the script gives, with ratifiers of this kind; or the answers up to the first refusal.
 pub fn answer_to<Q: Ratifier + Drop>(alloc: Global, input: &[u8]) -> Result<Answer, NoMemory>
@@ -65,13 +102,9 @@ pub fn answer_to<Q: Ratifier + Drop>(alloc: Global, input: &[u8]) -> Result<Answ
     let Some(first) = lines.next_line() else {
         return refused(alloc, Place::AtEnd, "BadLine");
     };
-    let place = Place::AtLine(first.number);
-    let Some(shape) = shape_of(first.bytes) else {
-        return refused(alloc, place, "BadLine");
-    };
-    match World::<Q>::new(alloc, shape) {
-        Ok(world) => answer_from(alloc, world, lines),
-        Err(MakeFault::NoMemory) => Err(NoMemory),
-        Err(fault) => refused(alloc, place, make_fault_name(fault)),
+    match first_of(first.bytes) {
+        Some(FirstLine::Shape(shape)) => { answer_of_shape::<Q>(alloc, shape, first.number, lines) }
+        Some(FirstLine::Cycle(shape)) => { answer_of_cycle::<Q>(alloc, shape, first.number, lines) }
+        None => refused(alloc, Place::AtLine(first.number), "BadLine"),
     }
 }

@@ -20,6 +20,7 @@
 pub mod answers;
 pub mod closing;
 pub mod commands;
+pub mod cycles;
 pub mod hex;
 pub mod lines;
 pub mod machines;

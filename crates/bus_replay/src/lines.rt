@@ -4,7 +4,8 @@ ghost use Rattle.std.specs.Prelude.{◌≡◌, ◌⊎◌, [], None, Some, IfOk, 
 ghost use Rattle.std.specs.Prelude.{MatchOption, codes, option_and_then};
 ghost use Rattle.std.specs.Option.{option_map};
 ghost use Rattle.bus_script.specs.Grammar.{number_of, each_of, and_before, arguments_of};
-ghost use Rattle.bus_replay.specs.Lines.{shape_of, put_of, put_from, close_from, are_times};
+ghost use Rattle.bus_replay.specs.Lines.{shape_from, shape_of, first_of};
+ghost use Rattle.bus_replay.specs.Lines.{put_of, put_from, close_from, are_times};
 ghost use Rattle.bus_replay.specs.Lines.{turn_from, recv_from, stop_from, numbers_behind};
 ghost use Rattle.bus_replay.specs.Lines.{command_of, hex_of};
 ghost use Rattle.bus_replay.specs.Told.{command_told};
@@ -24,11 +25,20 @@ fn next_number(words: &mut Words<'_>) -> Option<u64>
     number_of(words.next_word()?)
 }
 
-/// The sizes that the first line gives.
-pub fn shape_of(line: &[u8]) -> Option<Shape>
-    ensures { result ≡ shape_of line.now }
+/// What the first line of a script asks for.
+#[derive(Debug, PartialEq, Eq, Clone, Copy)]
+pub enum FirstLine {
+    /// `shape N M R T L`: a bus that has a row for each tenure.
+    Shape(Shape),
+    /// `cycle N M R T L`: a bus whose rows are used again.
+    Cycle(Shape),
+}
+
+/// The sizes that stand behind a first line's keyword.
+fn sizes_behind(line: &[u8], keyword: &[u8]) -> Option<Shape>
+    ensures { result ≡ option_and_then shape_from (numbers_behind keyword.now line.now) }
 {
-    let mut words = words_behind(line, b"shape")?;
+    let mut words = words_behind(line, keyword)?;
     let senders = next_number(&mut words)?;
     let receivers = next_number(&mut words)?;
     let rounds = next_number(&mut words)?;
@@ -44,6 +54,23 @@ pub fn shape_of(line: &[u8]) -> Option<Shape>
         rows,
         log_words,
     })
+}
+
+/// The sizes of a bus that has a row for each tenure, where the line asks for one.
+pub fn shape_of(line: &[u8]) -> Option<Shape>
+    ensures { result ≡ shape_of line.now }
+{
+    sizes_behind(line, b"shape")
+}
+
+/// What the first line asks for.
+pub fn first_of(line: &[u8]) -> Option<FirstLine>
+    ensures { result ≡ first_of line.now }
+{
+    match shape_of(line) {
+        Some(shape) => Some(FirstLine::Shape(shape)),
+        None => Some(FirstLine::Cycle(sizes_behind(line, b"cycle")?)),
+    }
 }
 
 /// The sender of a message, and the word that spells its bytes.

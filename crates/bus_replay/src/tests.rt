@@ -1,6 +1,7 @@
 //! What no clause says: worked scripts with their texts, and bad input.
 
 mod bytes;
+mod cycles;
 mod random;
 
 use super::answer_to;

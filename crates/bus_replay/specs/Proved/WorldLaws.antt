@@ -15,7 +15,7 @@ use Rattle.bus_world.specs.declared.events.StepFault.{StepFault}
 use Rattle.bus_world.proofs.Stopping.{is_there, not_stopped}
 use Rattle.bus_replay.specs.GoingOn.{goes_on}
 
-stops_so : (a b : Answer) → a ≡ b → goes_on b ≡ false → goes_on a ≡ true → ⊥
+pub stops_so : (a b : Answer) → a ≡ b → goes_on b ≡ false → goes_on a ≡ true → ⊥
 stops_so a b e stops goes = true≢false (sym goes ∙ ap goes_on e ∙ stops)
 
 turn_stays : {E : Type 0} (X : Election E) (b b' : Bus E) (s word : ℕ) (o : Option (Core E)) (a : Answer) (why : StepFault) → going b s ≡ o → SenderDoes b.side o (λ c. side_after X b.side s c (situation_of X c) word) b'.side → b'.stopped ≡ b.stopped

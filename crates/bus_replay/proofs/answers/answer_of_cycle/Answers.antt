@@ -1,0 +1,13 @@
+use Rattle.std.proofs.Common.{string_bytes}
+use Rattle.bus_cyclic.specs.Cyclic.{layout_of, IsMade, MakeRefused}
+use Rattle.bus_tenure.specs.Elections.{election_with}
+use Rattle.bus_replay.specs.Worlds.{cycle_moves}
+use Rattle.bus_replay.proofs.PlayLemmas.{opened, if_ok}
+use Rattle.bus_replay.proofs.answers.answer_of_cycle.Goals as goal
+
+pub returns-in-Ok : goal.returns-in-Ok
+returns-in-Ok g c =
+    let X = election_with g.Q.Machine.kind_of g.Q.Machine.op g.Q.Machine.fed g.Q.Ratifier.protocol in
+    if_ok _ _ c.answer_from.result
+    (λ answer. opened (cycle_moves X) (IsMade (layout_of g.Q.Ratifier.protocol c.args.shape) c.args.shape) (MakeRefused c.args.shape) c.args.number c.args.lines c.in-Ok.world answer.outcome (string_bytes answer.text) c.in-Ok.ensures.made)
+    c.answer_from.ensures

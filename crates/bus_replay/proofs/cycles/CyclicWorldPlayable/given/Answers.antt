@@ -1,0 +1,10 @@
+use Rattle.std.proofs.Common.{◌≡◌}
+use Rattle.bus_deliverylog.specs.Orders.{order_held}
+use Rattle.bus_world.specs.Headline.{given}
+use Rattle.bus_world.specs.Rings.{RingTrails}
+use Rattle.bus_world.specs.Trails.{Trails}
+use Rattle.bus_replay.proofs.PlayLemmas.{if_ok}
+use Rattle.bus_replay.proofs.cycles.CyclicWorldPlayable.given.Goals as goal
+
+pub returns : goal.returns
+returns g c = if_ok _ _ c.given.result (λ order h trails reached. h (record { visits = reached.0; deeds = trails.deeds; heard = trails.heard }) reached.1) c.given.ensures
