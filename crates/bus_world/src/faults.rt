@@ -18,7 +18,7 @@ impl fmt::Display for MakeFault {
             MakeFault::Senders => "not 1 to 8 senders",
             MakeFault::Receivers => "not 1 to 8 receivers",
             MakeFault::Rounds => "not 1 to 8 rounds",
-            MakeFault::Rows => "not 1 to 256 rows",
+            MakeFault::Rows => "not 1 to 256 rows, or 2 to 8 used again",
             MakeFault::LogWords => "not 16 to 65536 log words",
             MakeFault::NoMemory => "no memory",
         })
