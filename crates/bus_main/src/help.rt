@@ -32,6 +32,8 @@ The format stands in docs/FORMATS.md, under 'ratify'.";
 pub const REPLAY: &str =
     "The first line of a script is 'shape N M R T L': N senders and M receivers (1 to 8 of each),
 R rounds for each bit (1 to 8), T tenures (1 to 256) and L log words (16 to 65536).
+With 'cycle' in the place of 'shape' there are T rows (2 to 8), which are used again, for up to
+2^40 tenures.
 
 Examples:
   printf 'shape 1 1 1 4 16\\nput 0 6869\\nturn 0 0 99\\nturn 0 0 99\\nrecv 0 99\\n' | bus replay
