@@ -6,19 +6,19 @@
 #include <stdlib.h>
 #include <string.h>
 typedef uint64_t u64;
-enum { REST, ELECT, HOLD };
+enum { REST, ENTER, LOOK, WITHDRAW, ELECT, HOLD }; // ENTER, LOOK and WITHDRAW only where rows are used again
 enum { ANNOUNCE, BRING, READ_PROPOSAL, PROPOSE, READ_OTHER, MARK, OTHER_MARK, VOTE, READ_VOTES, FALLBACK, SEARCH, WON };
 struct round { u64 brought[2], proposal, mark[2], votes; }; // a conciliator, and the ratifier behind it
 struct row { u64 announced[8], fallback[3]; struct round round[3][8]; };
 struct page { u64 next[8], ended, words; } home;
 struct sender {
     char *messages[16]; u64 len[16], count, first, least, tenure, stored, words;
-    int closing, closed, stopped, busy, phase, at, bit, spelled, candidate, round, value, j, own_votes, published;
-    struct page page; u64 frame[129];
+    int closing, closed, stopped, busy, phase, at, bit, spelled, candidate, round, value, j, own_votes, published, lost, withdrawn;
+    struct page page; u64 frame[129], presence, asked, cleared;
 } S[8];
 struct receiver { u64 place, known, left, tenure, owner, number, bytes, got, count, fresh; int ended; unsigned char data[64]; } M[9]; // the ninth hears the whole log in the end
 static u64 n, m, R, T, L, B, stage, length, *word_of_log, owners[256], owner_count;
-static struct row *rows;
+static struct row *rows; static int cyclic;
 static char *out; static size_t used, room;
 static void say(const char *format, u64 a, u64 b, u64 c, u64 d) {
     if (room - used < 256) out = realloc(out, room = 2 * room + 4096);
@@ -48,7 +48,7 @@ static int after_ratifier(struct sender *s, u64 me, int commit, int v) {
     return 0;
 }
 static int elect(struct sender *s, u64 me, uint32_t random) {
-    struct row *row = &rows[s->tenure]; struct round *r = &row->round[s->bit][s->round]; u64 w; int v; int64_t total;
+    struct row *row = &rows[s->tenure % T]; struct round *r = &row->round[s->bit][s->round]; u64 w; int v; int64_t total;
     switch (s->at) {
     case ANNOUNCE: row->announced[me] = 1; if (!B) { s->at = WON; return 0; } s->bit = B - 1; start_bit(s); return 0;
     case BRING: r->brought[s->value] = 1; s->at = READ_PROPOSAL; return 0;
@@ -77,23 +77,42 @@ static u64 make_frame(struct sender *s, u64 me) {
 }
 static int give_back(struct sender *s) { home = s->page; stage = 2 * s->tenure + 2; s->least = s->tenure + 1; s->phase = REST; s->busy = 0; return 0; }
 static int turn(u64 me, uint32_t random) { // true where it is going; else its answer stands in the text
-    struct sender *s = &S[me];
+    struct sender *s = &S[me]; u64 end = cyclic ? 1ull << 40 : T, next = s->tenure + 1;
     if (s->phase == REST) {
         if (s->closed) { say("closed\n", 0, 0, 0, 0); return 0; }
         if (!s->count && !s->closing) { say("idle\n", 0, 0, 0, 0); return 0; }
-        if (s->least >= T) { say("spent\n", 0, 0, 0, 0); return 0; }
+        if (s->least >= end) { say("spent\n", 0, 0, 0, 0); return 0; }
         if (stage & 1 || stage / 2 < s->least) { say("waiting\n", 0, 0, 0, 0); return 0; }
-        if (stage / 2 >= T) { s->least = stage / 2; say("spent\n", 0, 0, 0, 0); return 0; }
-        s->tenure = stage / 2; s->phase = ELECT; s->at = ANNOUNCE; s->busy = 1; s->candidate = me; s->spelled = 0;
+        if (stage / 2 >= end) { s->least = stage / 2; say("spent\n", 0, 0, 0, 0); return 0; }
+        s->tenure = stage / 2; s->phase = cyclic ? ENTER : ELECT; s->at = ANNOUNCE; s->busy = 1; s->candidate = me; s->spelled = s->lost = 0;
         return 1;
     }
+    if (s->phase == ENTER) { s->presence = 1 + s->tenure; s->phase = LOOK; return 1; }
+    if (s->phase == LOOK) { s->phase = stage / 2 == s->tenure ? ELECT : WITHDRAW; return 1; }
     if (s->phase == ELECT && s->at != WON) {
-        if (!elect(s, me, random)) return 1;
-        s->phase = REST; s->busy = 0; s->least = s->tenure + 1; say("lost %lu %lu\n", s->tenure, s->spelled, 0, 0); return 0;
+        if (elect(s, me, random)) { s->lost = 1; s->phase = WITHDRAW; }
+        if (cyclic || !s->lost) return 1;
+    }
+    if (s->phase == WITHDRAW) {
+        s->presence = 0; s->phase = REST; s->busy = 0;
+        if (!s->lost) { say("waiting\n", 0, 0, 0, 0); return 0; }
+        s->least = s->tenure + 1; say("lost %lu %lu\n", s->tenure, s->spelled, 0, 0); return 0;
     }
     if (s->phase == ELECT) {
-        stage = 2 * s->tenure + 1; s->page = home; s->phase = HOLD; s->stored = 0; s->published = 0; s->words = make_frame(s, me); owners[owner_count++] = me;
+        stage = 2 * s->tenure + 1; s->page = home; s->phase = HOLD; s->stored = s->asked = s->cleared = 0; s->published = s->withdrawn = 0; s->words = make_frame(s, me); owners[owner_count++ % T] = me;
         say("own %lu\n", s->tenure, 0, 0, 0); return 0;
+    }
+    if (cyclic && !s->withdrawn) { s->presence = 0; s->withdrawn = 1; return 1; }
+    if (!s->page.ended && s->page.words + s->words <= L && !s->published) {
+        if (s->stored < s->words) { word_of_log[s->page.words + s->stored] = s->frame[s->stored]; s->stored++; return 1; }
+        length = s->page.words + s->words; s->published = 1;
+        return 1;
+    }
+    if (cyclic && next >= T) { // the row of the next tenure was used T tenures before that
+        u64 before = next - T, width = n + B * (6 * R - 2);
+        if (s->asked < n && S[s->asked].presence == 1 + before) { say("behind %lu %lu\n", before, s->asked, 0, 0); return 0; }
+        if (s->asked < n) { s->asked++; return 1; }
+        if (s->cleared < width) { if (++s->cleared == width) memset(&rows[next % T], 0, sizeof *rows); return 1; } // a step a word; none is looked at before the last
     }
     if (s->published) {
         s->page.words += s->words; s->page.next[me] = s->first + s->count; s->page.ended = s->closing; give_back(s);
@@ -101,10 +120,7 @@ static int turn(u64 me, uint32_t random) { // true where it is going; else its a
         say("delivered %lu %lu %lu\n", s->tenure, s->first, s->first + s->count - 1, 0); s->first += s->count; s->count = 0; return 0;
     }
     if (s->page.ended) { give_back(s); s->closed = 1; say("closed\n", 0, 0, 0, 0); return 0; }
-    if (s->page.words + s->words > L) { give_back(s); say("full\n", 0, 0, 0, 0); return 0; }
-    if (s->stored < s->words) { word_of_log[s->page.words + s->stored] = s->frame[s->stored]; s->stored++; return 1; }
-    length = s->page.words + s->words; s->published = 1;
-    return 1;
+    give_back(s); say("full\n", 0, 0, 0, 0); return 0;
 }
 static int recv(u64 me) { // true where it goes on
     struct receiver *r = &M[me]; u64 w;
@@ -146,7 +162,7 @@ static int is_good(const char *line, const char *end, int shaped) { // the form 
         if (count == 7) return 0;
     }
     while (numbers + 1 < count && is_number(w[numbers + 1], 0, UINT64_MAX)) numbers++;
-    if (!shaped) return is(w[0], "shape") && count == 6 && numbers == 5;
+    if (!shaped) return (is(w[0], "shape") || is(w[0], "cycle")) && count == 6 && numbers == 5;
     if (is(w[0], "put")) return count == 3 && numbers >= 1 && is_hex(w[2]);
     if (is(w[0], "close") || is(w[0], "stop")) return count == 2 && numbers == 1;
     if (is(w[0], "turn")) return count == 4 && numbers == 3 && is_number(w[2], 0, 4294967295) && is_number(w[3], 1, 10000);
@@ -163,9 +179,9 @@ int main(int argc, char **argv) {
         end = memchr(line, '\n', text + size - line); if (!end) end = text + size; number++; *end = 0;
         if (line == end || *line == '#') continue;
         if (!is_good(line, end, shaped)) { if (refused(passes, number, "BadLine")) goto stop; continue; }
-        if (*line == 's' && line[1] == 'h') {
-            sscanf(line, "shape %lu %lu %lu %lu %lu", &n, &m, &R, &T, &L); while (1u << B < n && n <= 8) B++;
-            const char *why = n < 1 || n > 8 ? "Senders" : m < 1 || m > 8 ? "Receivers" : R < 1 || R > 8 ? "Rounds" : T < 1 || T > 256 ? "Rows" : L < 16 || L > 65536 ? "LogWords" : 0;
+        if (!shaped) {
+            cyclic = *line == 'c'; sscanf(line + 6, "%lu %lu %lu %lu %lu", &n, &m, &R, &T, &L); B = 0; while (1u << B < n && n <= 8) B++;
+            const char *why = n < 1 || n > 8 ? "Senders" : m < 1 || m > 8 ? "Receivers" : R < 1 || R > 8 ? "Rounds" : T < (cyclic ? 2 : 1) || T > (cyclic ? 8 : 256) ? "Rows" : L < 16 || L > 65536 ? "LogWords" : 0;
             if (why) { m = 0; if (refused(passes, number, why)) goto stop; continue; }
             shaped = 1; rows = calloc(T, sizeof *rows); word_of_log = calloc(L, 8);
         } else if (*line == 'p') {
@@ -194,7 +210,7 @@ int main(int argc, char **argv) {
         }
     }
     if (!shaped) { say("end: BadLine\n", 0, 0, 0, 0); goto stop; }
-    status = 0; say("owners", 0, 0, 0, 0); for (u64 i = 0; i < owner_count; i++) say(" %lu", owners[i], 0, 0, 0); say("\n", 0, 0, 0, 0);
+    status = 0; say("owners", 0, 0, 0, 0); for (u64 i = owner_count > T ? owner_count - T : 0; i < owner_count; i++) say(" %lu", owners[i % T], 0, 0, 0); say("\n", 0, 0, 0, 0);
     for (;;) { // the order is what a receiver would be given of the whole log
         size_t before = used; M[8].fresh = used; int more = recv(8);
         if (!strncmp(out + before, "item", 4)) { memmove(out + before + 5, out + before + 4, used - before - 4); memcpy(out + before, "order", 5); used++; } else if (M[8].ended) { used = before; say("order end\n", 0, 0, 0, 0); } else used = before;
