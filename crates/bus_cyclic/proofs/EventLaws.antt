@@ -25,6 +25,7 @@ use Rattle.bus_world.proofs.Stopping.{set_there}
 use Rattle.bus_cyclic.specs.Cyclic.{CyclicBus, IsServedRing, last_of}
 use Rattle.bus_cyclic.specs.Following.{StepsWithin, TurnsWithin, owners_with}
 use Rattle.bus_cyclic.specs.Happening.{Happens, Answers, Refused, GuestDoes, ReaderDoes, TurnAnswers, RecvAnswers, seen}
+use Rattle.bus_cyclic.specs.Telling.{StepTells, TurnTells, Tells}
 use Rattle.bus_cyclic.proofs.CyclicLaws.{sits_after}
 
 on_word : {E : Type 0} (b : Ring E) (o : Option Op) → IfSome o (λ q. register q < length b.words) → IsOnWord b o
@@ -212,6 +213,9 @@ module _ {E : Type 0} (X : Election E) (P : Protocol E (Unit {0}) ℕ) (z : Cycl
 
       pub turn_answers : (t : Answered) → t ≡ answered → TurnAnswers X now.ring.words (guest_going now.ring p) word (answer.Turn t)
       turn_answers t e = subst (λ y. TurnAnswers X y.ring.words (guest_going y.ring p) word (answer.Turn t)) is (subst (λ o. TurnAnswers X b.words o word (answer.Turn t)) (sym goes) (ap answer.Turn e))
+
+      pub turn_tells : (t : Answered) → StepTells X b.words v (op_next X v word) word t → Tells X now.ring (Turn p word) (answer.Turn t)
+      turn_tells t w = subst (λ y. TurnTells X y.ring.words (guest_going y.ring p) word (answer.Turn t)) is (subst (λ o. TurnTells X b.words o word (answer.Turn t)) (sym goes) w)
 
       module _ (words : List ℕ) (home : Option Page) (v' : Visitor E) (words_are : words ≡ words_after b.words (op_next X v word)) (home_is : home ≡ home_moved (move_due X v (due X v)) b.home)
           (guest_is : v' ≡ visitor_moved (after_step (move_due X v (due X v))) b.home (visitor_after X v got word)) where

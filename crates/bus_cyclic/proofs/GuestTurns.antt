@@ -1,25 +1,30 @@
 -- A turn of a guest in its three parts: the page comes home, the step is taken, the page is laid.
-use Rattle.std.proofs.Common.{◌≡◌, ℕ, ◌+◌, ◌/◌, ◌==◌, Bool, true, false, cond, nat_le, Option, Some, None, List, refl, sym, ◌∙◌, ap, subst, slice_index}
+use Rattle.std.proofs.Common.{◌≡◌, inl, inr, ℕ, ◌+◌, ◌*◌, ◌/◌, ◌==◌, Bool, true, false, cond, nat_le, Option, Some, None, List, refl, sym, ◌∙◌, ap, subst, slice_index}
 use Rattle.std.specs.Prelude.{IsSome}
 use Rattle.bus_register.specs.declared.registers.Op.{Op}
-use Rattle.bus_presence.specs.Sweeps.{Sweeping, sweep_op}
+use Rattle.bus_register.specs.declared.registers.Op.TheVariants.{Store}
+use Rattle.bus_presence.specs.Sweeps.{Sweeping}
 use Rattle.bus_presence.specs.Hall.{presence_at}
 use Rattle.bus_presence.specs.Visits.{step_at}
 use Rattle.bus_presence.specs.declared.visits.Visit.{Visit}
 use Rattle.bus_presence.specs.declared.visits.Visit.TheVariants.{Away, Entering, Looking, Inside, Parting, Barred}
-use Rattle.bus_guest.specs.Guests.{Due, Visits, Sweeps, Goes, sizes_with, due_beside, due_home, due_swept, sweep_due, core_looked, core_seen}
-use Rattle.bus_guest.specs.Turns.{Visitor, due, op_due, op_next, placed, visitor_due, visitor_after, answer_due, answer_after}
-use Rattle.bus_tenure.specs.Core.{Core, Election, stage_at}
+use Rattle.bus_guest.specs.Guests.{Due, Visits, Sweeps, Goes, sizes_with, due_beside, core_looked, core_seen}
+use Rattle.bus_guest.specs.Telling.{FeedTells, GivesReady, Returns as Gives, Gives as Hands, Says}
+use Rattle.bus_guest.specs.Turns.{Visitor, due, op_due, op_next, placed, rest_due, visitor_due, visitor_after, answer_due, answer_after}
+use Rattle.bus_tenure.specs.Core.{Election, stage_at}
 use Rattle.bus_tenure.specs.Seen.{AwaitsItsPage}
 use Rattle.bus_tenure.specs.Situations.{Situation, IsClosed, IsIdle, IsSpent, LooksAtStage, Elects, TakesPage, AwaitsPage, StoresWord, StoresLength, GivesBack, HasHanded, PageMove, Stays, Comes, Returns, situation_of, op_at, waits, core_begun, core_elected}
 use Rattle.bus_tenure.specs.declared.pages.Page.{Page}
 use Rattle.bus_tenure.specs.declared.phases.Phase.{Phase}
 use Rattle.bus_tenure.specs.declared.phases.Phase.TheVariants as phase
 use Rattle.bus_tenure.specs.declared.phases.Reason.{Reason}
+use Rattle.bus_tenure.specs.declared.turns.Turn.{Turn as Answered}
+use Rattle.bus_tenure.specs.declared.turns.Turn.TheVariants as turn
 use Rattle.bus_tenure.proofs.Situated.{tells}
 use Rattle.bus_world.specs.Rings.{move_due, visitor_moved}
-use Rattle.bus_world.specs.Turning.{words_after, number_found, home_moved, core_moved, before_step, after_step, laying}
+use Rattle.bus_world.specs.Turning.{words_after, number_found, home_moved, before_step, after_step, laying}
 use Rattle.bus_world.proofs.RingLaws.{due_goes}
+use Rattle.bus_cyclic.specs.Telling.{RestTells, StepTells}
 
 -- ---- what is due
 due_free : {E : Type 0} (o : Option Op) (s : Option Sweeping) (z w : Situation E) → due_beside o s z ≡ Goes w → o ≡ None
@@ -67,6 +72,27 @@ module _ {E : Type 0} (X : Election E) (v : Visitor E) (word : ℕ) where
         ∙ ap (λ o. visitor_after X v (number_found (λ r. 0) o) word) e
         ∙ sym (ap (λ o. visitor_after X v (number_found words o) word) e)
 
+    rest_at_tells : (z : Situation E) → situation_of X v.core ≡ z → due X v ≡ Goes z → RestTells X v (rest_due X v (Goes z))
+    rest_at_tells IsClosed i e = e
+    rest_at_tells IsIdle i e = e
+    rest_at_tells IsSpent i e = e
+    rest_at_tells LooksAtStage i e = tt
+    rest_at_tells (Elects t f) i e = tt
+    rest_at_tells (TakesPage t) i e = tt
+    rest_at_tells (AwaitsPage t) i e = tt
+    rest_at_tells (StoresWord t page stored) i e = tt
+    rest_at_tells (StoresLength t page stored) i e = tt
+    rest_at_tells (GivesBack t page reason) i e = tt
+    rest_at_tells (HasHanded t reason) i e = tt
+
+    rest_tells : (d : Due E) → due X v ≡ d → RestTells X v (rest_due X v d)
+    rest_tells (Visits o) e = tt
+    rest_tells (Sweeps s o) e = tt
+    rest_tells (Goes z) e = rest_at_tells z (due_goes _ v.sweep (situation_of X v.core) z e) e
+
+    pub idle_tells : (cells : List ℕ) (r : Answered) → op_next X v word ≡ None → r ≡ rest_due X v (due X v) → StepTells X cells v (op_next X v word) word r
+    idle_tells cells r e told = subst (λ o. StepTells X cells v o word r) (sym e) (subst (RestTells X v) (sym told) (rest_tells (due X v) refl))
+
 -- ---- the page goes home before the step
 module _ {E : Type 0} (X : Election E) (v : Visitor E) (home : Option Page) (word : ℕ) where
   abbrev handed : Due E → Visitor E
@@ -110,6 +136,62 @@ module _ {E : Type 0} (X : Election E) (v : Visitor E) (home : Option Page) (wor
         same_answer = λ got. ap (λ w. answer_due X g w got word) now;
       }
   as_before (Goes (HasHanded t reason)) e = stays (Goes (HasHanded t reason)) e refl
+
+  -- ---- what its answer tells
+  back : (u t : ℕ) (reason : Reason) (z : Situation E) → Gives u z → z ≡ HasHanded t reason → u ≡ t
+  back u t reason z (Hands page r) e = absurd cc
+  back u t reason z (Says r) e = cc
+
+  module _ (t : ℕ) (page : Page) (reason : Reason) (e : due X v ≡ Goes (GivesBack t page reason)) (n : ℕ) where
+    abbrev g : Visitor E
+    g = record v { core = record v.core { phase = phase.Giving t reason } }
+
+    abbrev storing : Op
+    storing = Store record { 0 = stage_at } (2 * t + 2)
+
+    stores : op_next X g word ≡ Some storing
+    stores = ap (λ w. op_due X g w word) (hands t page reason e)
+
+    here : situation_of X v.core ≡ GivesBack t page reason
+    here = due_goes _ v.sweep (situation_of X v.core) (GivesBack t page reason) e
+
+    readies : (u : ℕ) → GivesReady X g u → GivesReady X v u
+    readies u w = record {
+      due_is = e ∙ ap Goes (sym here);
+      returns = subst (λ (z : Situation E). Gives u z) (sym here) (subst (λ k. Gives {E = E} u (GivesBack k page reason)) (back u t reason _ w.returns refl) (Hands page reason));
+      ready = w.ready;
+    }
+
+    gives_too : (r : Answered) → FeedTells X g n word r → FeedTells X v n word r
+    gives_too turn.Idle w = tt
+    gives_too turn.Waiting (inl w) = absurd (let bad = sym (hands t page reason e) ∙ w.looks in cc)
+    gives_too turn.Waiting (inr w) = inr w
+    gives_too turn.Going w = tt
+    gives_too (turn.Lost u o) w = record { parts = w.parts; lost = w.lost }
+    gives_too (turn.Own u) w = absurd (let bad : HasHanded t reason ≡ TakesPage u = w.takes in cc)
+    gives_too (turn.Delivered u first last) w = readies u w
+    gives_too turn.Full w = record { tenure = w.tenure; gives = readies w.tenure w.gives }
+    gives_too turn.Closed w = record { tenure = w.tenure; gives = readies w.tenure w.gives }
+    gives_too turn.Spent w = tt
+    gives_too (turn.Behind u p) w = absurd (let bad = sym stores ∙ w.loads in cc)
+
+  tells_before : (cells : List ℕ) (r : Answered) (d : Due E) → due X v ≡ d → StepTells X cells (handed d) (op_next X (handed d) word) word r → StepTells X cells v (op_next X v word) word r
+  tells_before cells r (Visits o) e w = w
+  tells_before cells r (Sweeps s o) e w = w
+  tells_before cells r (Goes IsClosed) e w = w
+  tells_before cells r (Goes IsIdle) e w = w
+  tells_before cells r (Goes IsSpent) e w = w
+  tells_before cells r (Goes LooksAtStage) e w = w
+  tells_before cells r (Goes (Elects t f)) e w = w
+  tells_before cells r (Goes (TakesPage t)) e w = w
+  tells_before cells r (Goes (AwaitsPage t)) e w = w
+  tells_before cells r (Goes (StoresWord t page stored)) e w = w
+  tells_before cells r (Goes (StoresLength t page stored)) e w = w
+  tells_before cells r (Goes (GivesBack t page reason)) e w =
+      let now : op_next X v word ≡ Some (storing t page reason e 0) = ap (λ z. op_due X v z word) e in
+      subst (λ o. StepTells X cells v o word r) (sym now)
+      (gives_too t page reason e (slice_index cells stage_at) r (subst (λ o. StepTells X cells (g t page reason e 0) o word r) (stores t page reason e 0) w))
+  tells_before cells r (Goes (HasHanded t reason)) e w = w
 
 -- ---- the phase that a step has left tells whether the page is laid
 module _ {E : Type 0} (X : Election E) (v : Visitor E) (laid : AwaitsItsPage v.core.phase → ⊥) (word : ℕ) where
@@ -196,6 +278,9 @@ module _ {E : Type 0} (X : Election E) (v : Visitor E) (laid : AwaitsItsPage v.c
 
   pub answer_so : answer_after X given (number_found (slice_index cells) (op_next X given word)) word ≡ answer_after X v got word
   answer_so = ap (λ o. answer_after X given (number_found (slice_index cells) o) word) step_same ∙ ap (λ g. answer_after X g got word) taken ∙ before.same_answer got
+
+  pub tells_so : (r : Answered) → StepTells X cells given (op_next X given word) word r → StepTells X cells v (op_next X v word) word r
+  tells_so r w = tells_before X v home word cells r (due X v) refl (subst (λ g. StepTells X cells g (op_next X g word) word r) taken w)
 
   module _ (now : Visitor E) (rest : Option Page) (went : now ≡ visitor_after X given (number_found (slice_index cells) (op_next X given word)) word) (at_home : rest ≡ home_moved (before_step (move_due X v (due X v))) home) where
     now_is : now ≡ visitor_after X v got word

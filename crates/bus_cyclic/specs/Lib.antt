@@ -1,4 +1,5 @@
 pub mod Cyclic
 pub mod Starting
 pub mod Happening
+pub mod Telling
 pub mod Following

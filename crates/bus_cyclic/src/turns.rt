@@ -15,6 +15,7 @@ ghost use Rattle.bus_world.specs.Turning.{before_step, laying, owners_by};
 ghost use Rattle.bus_world.specs.Playing.{PutGives, PutRefused, CloseGives, CloseRefused};
 ghost use Rattle.bus_cyclic.specs.Cyclic.{last_of};
 ghost use Rattle.bus_cyclic.specs.Happening.{seen};
+ghost use Rattle.bus_cyclic.specs.Telling.{StepTells};
 
 use crate::limits::MOST_ROWS;
 use arrayvec::ArrayVec;
@@ -57,6 +58,8 @@ fn take_step<Q: Ratifier + Drop>(cells: &mut Cells, guest: &mut Guest<Q>, word: 
     ensures answer { let X = election_of Q.Ratifier in
         result ≡ answer_after X guest.old
         (number_found (slice_index cells.old) (op_next X guest.old word)) word }
+    ensures tells { let X = election_of Q.Ratifier in
+        StepTells X cells.old guest.old (op_next X guest.old word) word result }
 {
     let Some(op) = guest.next(word) else {
         return guest.rest();
@@ -106,6 +109,8 @@ pub fn turn_guest<Q: Ratifier + Drop>(
     ensures answer { let X = election_of Q.Ratifier in
         result ≡ answer_after X guest.old
         (number_found (slice_index cells.old) (op_next X guest.old word)) word }
+    ensures tells { let X = election_of Q.Ratifier in
+        StepTells X cells.old guest.old (op_next X guest.old word) word result }
 {
     hand_home(home, guest);
     let turn = take_step(cells, guest, word);

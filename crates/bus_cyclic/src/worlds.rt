@@ -19,6 +19,7 @@ ghost use Rattle.bus_cyclic.specs.Cyclic.{AreLastTakers};
 ghost use Rattle.bus_cyclic.specs.Happening.{Happens, Answers, Refused, seen};
 ghost use Rattle.bus_cyclic.specs.Following.{Follows, Played, Stops, StepsWithin};
 ghost use Rattle.bus_cyclic.specs.Following.{owners_with};
+ghost use Rattle.bus_cyclic.specs.Telling.{Tells};
 
 use crate::limits::MOST_ROWS;
 use crate::shapes::fault_of;
@@ -154,6 +155,8 @@ impl<Q: Ratifier + Drop> CyclicWorld<Q> {
         ensures answer { let X = election_of Q.Ratifier in
             IfOk result
             (λ a. Answers X self.old.ring (SenderTurn sender word) a self.new.ring) }
+        ensures tells { let X = election_of Q.Ratifier in
+            IfOk result (λ a. Tells X self.old.ring (SenderTurn sender word) a) }
         ensures owners { IfOk result
             (λ a. self.new.owners ≡ owners_with self.old (SenderTurn sender word) a) }
         ensures within { let X = election_of Q.Ratifier in
@@ -264,6 +267,8 @@ impl<Q: Ratifier + Drop> CyclicWorld<Q> {
             Happens X self.old.ring (event_told event.now) self.new.ring }
         ensures answer { let X = election_of Q.Ratifier in
             IfOk result (λ a. Answers X self.old.ring (event_told event.now) a self.new.ring) }
+        ensures tells { let X = election_of Q.Ratifier in
+            IfOk result (λ a. Tells X self.old.ring (event_told event.now) a) }
         ensures owners { IfOk result
             (λ a. self.new.owners ≡ owners_with self.old (event_told event.now) a) }
         ensures within { let X = election_of Q.Ratifier in
@@ -293,6 +298,8 @@ impl<Q: Ratifier + Drop> CyclicWorld<Q> {
             Happens X self.old.ring (event_told event.now) self.new.ring }
         ensures answer { let X = election_of Q.Ratifier in
             IfOk result (λ a. Answers X self.old.ring (event_told event.now) a self.new.ring) }
+        ensures tells { let X = election_of Q.Ratifier in
+            IfOk result (λ a. Tells X self.old.ring (event_told event.now) a) }
         ensures owners { IfOk result
             (λ a. self.new.owners ≡ owners_with self.old (event_told event.now) a) }
         ensures within { let X = election_of Q.Ratifier in
