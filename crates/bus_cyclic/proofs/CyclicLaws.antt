@@ -1,30 +1,29 @@
 -- What a program holds stays a bus whose rows are used again.
-use Rattle.std.proofs.Common.{◌≡◌, ℕ, ◌+◌, ◌<◌, ◌≤◌, ◌^◌, Bool, true, false, cond, ◌&&◌, nat_le, nat_lt, Option, Some, None, List, [], ◌∷◌, length, slice_get, slice_index, slice_set, refl, sym, ◌∙◌, ap, subst, arith}
+use Rattle.std.proofs.Common.{◌≡◌, ℕ, ◌+◌, ◌<◌, ◌≤◌, ◌^◌, Bool, true, false, cond, ◌&&◌, Option, Some, None, List, [], ◌∷◌, length, slice_get, slice_index, slice_set, refl, sym, ◌∙◌, ap, subst, arith}
 use Rattle.std.specs.Prelude.{All, IfSome}
 use Rattle.std.proofs.Math.ListN.{length-set}
 use Rattle.bus_register.specs.declared.registers.Op.{Op}
 use Rattle.bus_register.specs.Protocol.{Protocol}
 use Rattle.bus_register.specs.Words.{register, SumFits}
-use Rattle.bus_batch.specs.Batches.{Pending, next_of, CanPut, CanClose}
+use Rattle.bus_batch.specs.Batches.{Pending, next_of, CanClose}
 use Rattle.bus_deliverylog.specs.Receiving.{Receiving, receiving_op}
-use Rattle.bus_deliverylog.specs.declared.receiving.RecvTurn.{RecvTurn}
 use Rattle.bus_presence.specs.Sweeps.{behind_of}
 use Rattle.bus_presence.specs.declared.sweeps.Behind.{Behind}
 use Rattle.bus_presence.specs.declared.visits.Visit.{Visit}
 use Rattle.bus_presence.specs.declared.visits.Visit.TheVariants.{Away, Entering, Looking, Inside, Parting, Barred}
 use Rattle.bus_guest.specs.Guests.{Due, Visits, Sweeps, Goes, log_from}
-use Rattle.bus_guest.specs.Turns.{Visitor, due, op_due, op_next, words_with, answer_due, answer_of_visit, answer_of_sweep, answer_of_loss, answer_going, queue_seen}
+use Rattle.bus_guest.specs.Turns.{Visitor, due, op_next, words_with, answer_due, answer_of_visit, answer_of_sweep, answer_of_loss, answer_going, queue_seen}
 use Rattle.bus_register.specs.declared.registers.SenderNo.{SenderNo}
-use Rattle.bus_tenure.specs.Core.{Core, Election, Layout, is_empty}
+use Rattle.bus_tenure.specs.Core.{Election, Layout, is_empty}
 use Rattle.bus_tenure.specs.Seen.{AwaitsItsPage}
-use Rattle.bus_tenure.specs.Situations.{Situation, IsClosed, IsIdle, IsSpent, LooksAtStage, Elects, TakesPage, AwaitsPage, StoresWord, StoresLength, GivesBack, HasHanded, situation_of, situation_at}
+use Rattle.bus_tenure.specs.Situations.{Situation, IsClosed, IsIdle, IsSpent, LooksAtStage, Elects, TakesPage, AwaitsPage, StoresWord, StoresLength, GivesBack, HasHanded, situation_at}
 use Rattle.bus_tenure.specs.declared.turns.Turn.{Turn as Answered}
 use Rattle.bus_world.specs.Bus.{IsLayout}
-use Rattle.bus_world.specs.Headline.{Deed, HasPut, HasClosed}
+use Rattle.bus_world.specs.Headline.{Deed, HasPut, HasClosed, IsPrefix}
 use Rattle.bus_world.specs.Playing.{PutGives, CloseGives, StopGives}
 use Rattle.bus_world.specs.Rings.{Ring, RingTrails, RingReached, TurnTaken, PutTaken, CloseTaken, RecvTaken, StopTaken, IsKeptRing, IsOnWord, guest_going, ring_after, ring_trails, ring_deeds, with_guest, visitor_put, visitor_closed}
 use Rattle.bus_world.specs.Turning.{number_found, owners_by, owners_after}
-use Rattle.bus_world.specs.World.{Event, Put, Close, Turn, Recv, Stop, can_put, can_close, is_open, is_set, RecvDoes}
+use Rattle.bus_world.specs.World.{Event, Put, Close, Turn, Recv, Stop, can_put, can_close, is_open, is_set}
 use Rattle.bus_world.specs.Yards.{deeds_with}
 use Rattle.bus_world.specs.declared.events.Answer.{Answer}
 use Rattle.bus_world.specs.declared.events.Answer.TheVariants as answer
@@ -33,10 +32,10 @@ use Rattle.bus_world.proofs.PlayingLaws.{owners_told}
 use Rattle.bus_world.proofs.RingFits as fits
 use Rattle.bus_world.proofs.RingLaws.{IsRingLayout, IsLed, ring_led, ring_kept, turn_led, turn_owners, owners_due}
 use Rattle.bus_world.proofs.Serving.{Serves}
-use Rattle.bus_cyclic.specs.Cyclic.{CyclicBus, LeadTo, AreLastTakers, IsServedRing, last_of}
+use Rattle.bus_cyclic.specs.Cyclic.{CyclicBus, LeadTo, AreLastTakers, IsServedRing, last_of, log_of}
 use Rattle.bus_cyclic.specs.Following.{Steps, Follows, grown, turn_grown, heard_grown, TurnsWithin}
 use Rattle.bus_cyclic.specs.Following as following
-use Rattle.bus_cyclic.specs.Happening.{Happens, Answers, GuestDoes, ReaderDoes, TurnAnswers, RecvAnswers, seen}
+use Rattle.bus_cyclic.specs.Happening.{Happens, GuestDoes, ReaderDoes, TurnAnswers, RecvAnswers, seen}
 use Rattle.bus_cyclic.proofs.LastTakers.{takers_one, last_told, last_beside, put_takes, close_takes}
 
 -- ---- what an answer tells of who took the page
@@ -261,8 +260,8 @@ module _ {E : Type 0} (X : Election E) (P : Protocol E (Unit {0}) ℕ) where
     pub promised : (T : RingTrails) → LeadTo X z T → IsKeptRing X z.ring T
     promised T l = ring_kept X P s.laws s.owner_is s.named s.announces s.apart z.ring (layout_served z.ring.layout z.ring.rows s ok h.rows_some) T l.reached
 
-    pub follows : (e : Event) (a : Answer) (z' : CyclicBus E) → Steps X z e a z' → Follows X z e a z'
-    follows e a z' d =
+    pub follows : (e : Event) (a : Answer) (z' : CyclicBus E) → Steps X z e a z' → IsPrefix (log_of z.ring) (log_of z'.ring) → Follows X z e a z'
+    follows e a z' d grows =
         let same = event_sizes z.ring z'.ring e d.happens in
         record {
           reached = λ T l. leads_on z s ok h.rows_some T l e a z' d;
@@ -270,6 +269,7 @@ module _ {E : Type 0} (X : Election E) (P : Protocol E (Unit {0}) ℕ) where
               let s' : Serves X P z'.ring.layout = subst (Serves X P) (sym same.layout) s in
               ring_kept X P s'.laws s'.owner_is s'.named s'.announces s'.apart z'.ring (layout_served z'.ring.layout z'.ring.rows s' (subst IsLayout (sym same.layout) ok) (subst (λ n. 2 ≤ n) (sym same.rows) h.rows_some)) (grown X z.ring e a T)
               (leads_on z s ok h.rows_some T l e a z' d).reached;
+          grows = grows;
         }
 
     layout_h : IsRingLayout X P s.laws s.owner_is s.named s.announces s.apart z.ring.layout z.ring.rows

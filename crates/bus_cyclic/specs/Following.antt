@@ -3,7 +3,7 @@ use Rattle.std.specs.Prelude.{◌≡◌, ℕ, Option, Some, None, List, [], ◌�
 use Rattle.bus_deliverylog.specs.declared.receiving.RecvTurn.{RecvTurn}
 use Rattle.bus_guest.specs.Turns.{Visitor, due, op_next}
 use Rattle.bus_tenure.specs.Core.{Election}
-use Rattle.bus_world.specs.Headline.{Deed}
+use Rattle.bus_world.specs.Headline.{IsPrefix}
 use Rattle.bus_world.specs.Rings.{Ring, RingTrails, IsOnWord, IsKeptRing, guest_going, ring_trails, ring_deeds}
 use Rattle.bus_world.specs.Trails.{put_deeds, close_deeds}
 use Rattle.bus_world.specs.Turning.{owners_by}
@@ -12,7 +12,7 @@ use Rattle.bus_world.specs.Yards.{deeds_with, answers_with}
 use Rattle.bus_world.specs.declared.events.Answer.{Answer}
 use Rattle.bus_world.specs.declared.events.Answer.TheVariants as answer
 use Rattle.bus_world.specs.declared.events.StepFault.{StepFault}
-use Rattle.bus_cyclic.specs.Cyclic.{CyclicBus, LeadTo, last_of}
+use Rattle.bus_cyclic.specs.Cyclic.{CyclicBus, LeadTo, last_of, log_of}
 use Rattle.bus_cyclic.specs.Happening.{Happens, Answers, Refused}
 
 -- the trails after a turn of the sender that there is, by its answer
@@ -78,9 +78,11 @@ pub record Steps {E : Type 0} (X : Election E) (old : CyclicBus E) (e : Event) (
   pub owners : new.owners ≡ owners_with old e a
 
 -- Whatever trails led to the old bus, with what this event and its answer add they lead to the new one, and the promise holds of them.
+-- The log is extended, and never otherwise changed: so is the order that its words spell.
 pub record Follows {E : Type 0} (X : Election E) (old : CyclicBus E) (e : Event) (a : Answer) (new : CyclicBus E) : Type 0 where
   pub reached : (T : RingTrails) → LeadTo X old T → LeadTo X new (grown X old.ring e a T)
   pub promised : (T : RingTrails) → LeadTo X old T → IsKeptRing X new.ring (grown X old.ring e a T)
+  pub grows : IsPrefix (log_of old.ring) (log_of new.ring)
 
 -- each event is answered, one after another
 abbrev pub AllAnswered : {E : Type 0} → Election E → CyclicBus E → List Event → CyclicBus E → Type 0
@@ -93,11 +95,12 @@ trails_after X old [] new run T = T
 trails_after X old (e ∷ events) new run T = trails_after X run.0 events new run.3 (grown X old.ring e run.1 T)
 
 -- All events were answered, one after another. Whatever trails led to the old bus, with what the events and their answers add they lead
--- to the new one, and the promise holds of them.
+-- to the new one, and the promise holds of them. The log is extended, and never otherwise changed.
 pub record Played {E : Type 0} (X : Election E) (old : CyclicBus E) (events : List Event) (new : CyclicBus E) : Type 0 where
   pub answered : AllAnswered X old events new
   pub reached : (T : RingTrails) → LeadTo X old T → LeadTo X new (trails_after X old events new answered T)
   pub promised : (T : RingTrails) → LeadTo X old T → IsKeptRing X new.ring (trails_after X old events new answered T)
+  pub grows : IsPrefix (log_of old.ring) (log_of new.ring)
 
 -- the event at a place is the first that is refused: those before it have happened, and no other
 pub record Stops {E : Type 0} (X : Election E) (old : CyclicBus E) (events : List Event) (place : ℕ) (why : StepFault) (new : CyclicBus E) : Type 0 where
