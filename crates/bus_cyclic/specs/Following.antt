@@ -78,7 +78,7 @@ pub record Steps {E : Type 0} (X : Election E) (old : CyclicBus E) (e : Event) (
   pub owners : new.owners ≡ owners_with old e a
 
 -- Whatever trails led to the old bus, with what this event and its answer add they lead to the new one, and the promise holds of them.
--- The log is extended, and never otherwise changed: so is the order that its words spell.
+-- The log below the length is extended, and never otherwise changed.
 pub record Follows {E : Type 0} (X : Election E) (old : CyclicBus E) (e : Event) (a : Answer) (new : CyclicBus E) : Type 0 where
   pub reached : (T : RingTrails) → LeadTo X old T → LeadTo X new (grown X old.ring e a T)
   pub promised : (T : RingTrails) → LeadTo X old T → IsKeptRing X new.ring (grown X old.ring e a T)
@@ -95,7 +95,7 @@ trails_after X old [] new run T = T
 trails_after X old (e ∷ events) new run T = trails_after X run.0 events new run.3 (grown X old.ring e run.1 T)
 
 -- All events were answered, one after another. Whatever trails led to the old bus, with what the events and their answers add they lead
--- to the new one, and the promise holds of them. The log is extended, and never otherwise changed.
+-- to the new one, and the promise holds of them. The log below the length is extended, and never otherwise changed.
 pub record Played {E : Type 0} (X : Election E) (old : CyclicBus E) (events : List Event) (new : CyclicBus E) : Type 0 where
   pub answered : AllAnswered X old events new
   pub reached : (T : RingTrails) → LeadTo X old T → LeadTo X new (trails_after X old events new answered T)
