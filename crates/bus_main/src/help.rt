@@ -17,7 +17,7 @@ pub const BUS: &str = "Examples:
   bus run --log | bus log --senders 3
 
 'bus COMMAND --help' says more of a command. Formats, refusals and exit statuses stand in
-docs/FORMATS.md, and examples/tour has seven commented scripts.";
+docs/FORMATS.md, and examples/tour has eight commented scripts.";
 
 /// Behind the options of `ratify`.
 pub const RATIFY: &str =

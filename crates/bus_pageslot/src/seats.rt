@@ -54,10 +54,10 @@ impl fmt::Display for SendFault {
     ghost output = { λ fault. Some (send_fault_text fault) };
 
     fn fmt<W: fmt::Write>(&self, f: &mut fmt::Formatter<W>) -> fmt::Result {
-        f.write_str(match self {
-            SendFault::Put(_) => "a message is not taken",
-            SendFault::Turn(_) => "messages wait that are not sent",
-        })
+        match self {
+            SendFault::Put(why) => write!(f, "a message is not taken: {why}"),
+            SendFault::Turn(answer) => write!(f, "messages wait that are not sent: {answer}"),
+        }
     }
 }
 
