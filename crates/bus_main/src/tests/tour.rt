@@ -75,6 +75,11 @@ fn tour_close(rt: HostRuntime) {
     plays(&rt, CLOSE, CLOSE_OUTPUT);
 }
 
+#[test]
+fn tour_waiting_holder(rt: HostRuntime) {
+    plays(&rt, WAITING_HOLDER, WAITING_HOLDER_OUTPUT);
+}
+
 const ADOPT_COMMIT: &str =
     "# For `bus ratify`. One adopt-commit object, and nothing else of the bus. Two processes with opposite inputs.
 inputs 0 1
@@ -300,4 +305,48 @@ turn 1: closed
 owners 0 1
 order end
 given 0 0 end
+";
+
+const WAITING_HOLDER: &str =
+    "# Rows used again: two senders, and two rows for all tenures. Tenure 2 is to use the row of tenure 0, tenure 3 that of tenure 1.
+cycle 2 1 1 2 64
+put 0 61
+put 1 62
+# Sender 1 sees that tenure 0 is open, shows in its presence word that it enters it, and sees the stage once more: it is still so.
+# Now it stands in tenure 0, and falls asleep.
+turn 1 0 3
+# Sender 0 enters too, runs its whole election alone, and takes the page.
+turn 0 0 99
+# It clears its own presence word, stores its frame and the length, and gives the page back. The row of tenure 1 is still new.
+turn 0 0 99
+# So it does again in tenure 1: it enters, is elected, and takes the page.
+put 0 63
+turn 0 0 99
+# Its frame and the length are stored. But whoever gives this page back opens tenure 2, whose row has to be clean by then. So it
+# asks first who is still there: its own presence word is 0, but that of sender 1 names tenure 0. Sender 0 is behind it, and waits.
+turn 0 0 99
+# Receivers do not wait: the length is stored, so both frames are there to read.
+recv 0 99
+# Sender 1 wakes up and goes on in the row of tenure 0, which is as it was. It finds 0 proposed, adopts it, decides it by the
+# fallback word, clears its presence word, and learns that it has lost. Had the row been clean, it would have elected itself.
+turn 1 0 99
+# Sender 0 asks again, and nobody is there. It clears the six words of the row, gives the page back, and tenure 2 is open.
+turn 0 0 99
+";
+
+const WAITING_HOLDER_OUTPUT: &str = "put 0: number 0
+put 1: number 0
+turn 1: going
+turn 0: own 0
+turn 0: delivered 0 0 0
+put 0: number 1
+turn 0: own 1
+turn 0: behind 0 1
+recv 0: empty
+turn 1: lost 0 0
+turn 0: delivered 1 1 1
+owners 0 0
+order 0 0 61
+order 0 1 63
+given 0 2
 ";
