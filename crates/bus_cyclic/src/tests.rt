@@ -4,7 +4,7 @@ use super::CyclicWorld;
 use bus_adoptcommit::ThreeWord;
 use bus_batch::PutFault;
 use bus_deliverylog::RecvTurn;
-use bus_register::SenderNo;
+use bus_register::{Reg, SenderNo};
 use bus_tenure::Turn;
 use bus_world::{Answer, Event, MakeFault, PlayFault, Shape, StepFault};
 use std::process::Abort;
@@ -153,6 +153,11 @@ fn who_stops_is_refused(rt: HostRuntime) {
     assert_eq!(rt; world.stop(SenderNo(2)), Err(StepFault::NoSuchSender));
     assert!(rt; world.guest(SenderNo(1)).is_some());
     assert!(rt; world.guest(SenderNo(2)).is_none());
+    assert_eq!(rt; world.senders(), 2);
+    assert_eq!(rt; world.word(Reg(1)), Some(2));
+    assert!(rt; world.word(Reg(1000)).is_none());
+    assert!(rt; world.reader(0).is_some_and(|reader| reader.has_ended()));
+    assert!(rt; world.reader(1).is_none());
     let events = [
         Event::Turn { sender: 1, word: 7 },
         Event::Turn { sender: 0, word: 7 },

@@ -1,6 +1,7 @@
 //! A bus whose rows of words are used again, which plays events.
 
-ghost use Rattle.std.specs.Prelude.{◌≡◌, ℕ, ◌<◌, false, length, map, slice_get, List, Some};
+ghost use Rattle.std.specs.Prelude.{◌≡◌, ℕ, ◌<◌, ◌≤◌, false, length, map, slice_get};
+ghost use Rattle.std.specs.Prelude.{List, Some};
 ghost use Rattle.std.specs.Prelude.{All, IfOk, IfErr, OnOk, OnErr};
 ghost use Rattle.std.specs.Option.{option_copied};
 ghost use Rattle.bus_register.specs.declared.registers.SenderNo.{SenderNo as Number};
@@ -356,6 +357,37 @@ impl<Q: Ratifier + Drop> CyclicWorld<Q> {
         let number = usize::from(sender.0);
         if number < self.guests.len() {
             Some(&self.guests[number])
+        } else {
+            None
+        }
+    }
+
+    /// How many senders there are.
+    pub fn senders(&self) -> u64
+        ensures count { result ≡ length self.now.ring.guests }
+        ensures few { result ≤ MOST_SENDERS }
+    {
+        self.guests.len() as u64
+    }
+
+    /// What stands in a word, where there is such a word. Takes no step.
+    pub fn word(&self, at: Reg) -> Option<u64>
+        ensures { result ≡ slice_get self.now.ring.words at.0 }
+    {
+        if at.0 < self.cells.len() {
+            Some(self.cells.get(at))
+        } else {
+            None
+        }
+    }
+
+    /// A receiver, where there is one of this number.
+    pub fn reader(&self, receiver: u64) -> Option<&Reader>
+        ensures { option_copied result ≡ slice_get self.now.ring.receivers receiver }
+    {
+        let number = receiver as usize;
+        if number < self.receivers.len() {
+            Some(&self.receivers[number])
         } else {
             None
         }
