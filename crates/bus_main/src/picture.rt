@@ -3,10 +3,8 @@
 ghost use Rattle.std.specs.Prelude.{◌≡◌, ℕ, ◌+◌, List, IfOk, OnOk, IfErr, string_bytes};
 ghost use Rattle.std.specs.Io.KnownBytes.{Appends, IsAtEnd};
 ghost use Rattle.bus_tenure.specs.Elections.{election_of};
-ghost use Rattle.bus_world.specs.Playing.{layout_of};
 ghost use Rattle.bus_script.specs.declared.answers.Outcome.{Outcome};
 ghost use Rattle.bus_trace.specs.Traces.{IsTrace};
-ghost use Rattle.bus_trace.specs.Words.{sizes_of};
 ghost use Rattle.bus_picture.specs.Pictures.{picture};
 ghost use Rattle.bus_main.specs.Streams.{ReadsWhole, ReadsAtMost, IsScriptFault};
 
@@ -30,8 +28,7 @@ pub fn picture<Q: Ratifier + Drop, R: Read, W: Write>(
     ensures ok { let X = election_of Q.Ratifier in
         IfOk result (λ answer. (input : List ℕ)
         × ReadsWhole SCRIPT_LIMIT (R.remaining reader.old) input
-        × IsTrace (λ shape. (X, layout_of Q.protocol shape, sizes_of Q.protocol shape)) input
-        answer.outcome (string_bytes answer.text)
+        × IsTrace X Q.protocol input answer.outcome (string_bytes answer.text)
         × Appends (W.contents writer.old) (W.contents writer.new)
         (picture (string_bytes answer.text))) }
 
@@ -39,9 +36,8 @@ pub fn picture<Q: Ratifier + Drop, R: Read, W: Write>(
     // written.
     ensures fault { let X = election_of Q.Ratifier in
         IfErr result (IsScriptFault SCRIPT_LIMIT (λ input text. (outcome : Outcome)
-        × (trace : List ℕ)
-        × IsTrace (λ shape. (X, layout_of Q.protocol shape, sizes_of Q.protocol shape)) input
-        outcome trace × (text ≡ picture trace))
+        × (trace : List ℕ) × IsTrace X Q.protocol input outcome trace
+        × (text ≡ picture trace))
         (R.remaining reader.old) (R.remaining reader.new) (W.contents writer.old)
         (W.contents writer.new)) }
 

@@ -3,10 +3,8 @@
 ghost use Rattle.std.specs.Prelude.{ℕ, ◌+◌, List, IfOk, OnOk, IfErr};
 ghost use Rattle.std.specs.Io.KnownBytes.{Appends, IsAtEnd};
 ghost use Rattle.bus_tenure.specs.Elections.{election_of};
-ghost use Rattle.bus_world.specs.Playing.{layout_of};
 ghost use Rattle.bus_script.specs.declared.answers.Outcome.{Outcome};
 ghost use Rattle.bus_trace.specs.Traces.{IsTrace};
-ghost use Rattle.bus_trace.specs.Words.{sizes_of};
 ghost use Rattle.bus_main.specs.Streams.{ReadsWhole, ReadsAtMost, IsScriptFault};
 
 use crate::streams::{SCRIPT_LIMIT, read_whole, write_whole};
@@ -27,16 +25,14 @@ pub fn trace<Q: Ratifier + Drop, R: Read, W: Write>(
     ensures ok { let X = election_of Q.Ratifier in
         IfOk result (λ outcome. (input text : List ℕ)
         × ReadsWhole SCRIPT_LIMIT (R.remaining reader.old) input
-        × IsTrace (λ shape. (X, layout_of Q.protocol shape, sizes_of Q.protocol shape)) input
-        outcome text
+        × IsTrace X Q.protocol input outcome text
         × Appends (W.contents writer.old) (W.contents writer.new) text) }
 
     // Which faults there are. But for a front of the answer, where a write failed, nothing was
     // written.
     ensures fault { let X = election_of Q.Ratifier in
         IfErr result (IsScriptFault SCRIPT_LIMIT (λ input text. (outcome : Outcome)
-        × IsTrace (λ shape. (X, layout_of Q.protocol shape, sizes_of Q.protocol shape)) input
-        outcome text)
+        × IsTrace X Q.protocol input outcome text)
         (R.remaining reader.old) (R.remaining reader.new) (W.contents writer.old)
         (W.contents writer.new)) }
 

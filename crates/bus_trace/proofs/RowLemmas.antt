@@ -1,6 +1,6 @@
 -- The line of an event, made of the step that was seen.
 use Rattle.std.proofs.Common.{◌≡◌, ℕ, ◌+◌, ◌==◌, Bool, true, cond, Option, Some, None, List, [], ◌∷◌, ◌++◌, length, slice_get, slice_index, refl, sym, ap, subst, ◌∙◌, append_assoc, arith}
-use Rattle.std.specs.Prelude.{flat_map, decimal}
+use Rattle.std.specs.Prelude.{codes, flat_map, decimal}
 use Rattle.std.specs.List.{enumerate_from}
 use Rattle.std.proofs.lemmas.Bool.{eq-eqb}
 use Rattle.std.proofs.lemmas.List.{append-nil, length-append}
@@ -15,7 +15,7 @@ use Rattle.bus_world.specs.Trails.{turning_deeds, put_deeds, close_deeds, step_d
 use Rattle.bus_world.specs.Turning.{number_found}
 use Rattle.bus_trace.proofs.WatchLemmas.{turner_there}
 use Rattle.bus_world.specs.World.{Bus, Event, Put, Close, Turn, Recv, Stop, going}
-use Rattle.bus_world.specs.Playing.{Answers, TurnAnswers}
+use Rattle.bus_world.specs.Playing.{SizedBus, Answers, TurnAnswers}
 use Rattle.bus_world.specs.declared.events.Answer.{Answer}
 use Rattle.bus_world.specs.declared.events.Answer.TheVariants as answer
 use Rattle.bus_replay.specs.Text.{answer_text}
@@ -23,9 +23,9 @@ use Rattle.bus_register.specs.Words.{register}
 use Rattle.bus_trace.specs.declared.seen.Seen.{Seen}
 use Rattle.bus_trace.specs.Words.{Sizes, word_name}
 use Rattle.bus_register.specs.Names.{kind_name}
-use Rattle.bus_trace.specs.Rows.{column, tenure_text, no_step, deed_text, deeds_text, load_text, receiving_text, turning_op, who_text, deed_columns, row_text}
+use Rattle.bus_trace.specs.Rows.{column, tenure_text, no_step, deed_text, deeds_text, due_text, receiving_text, turning_op, who_text, deed_columns, row_text}
 use Rattle.bus_trace.specs.Watching.{step_of, sender_due, receiver_due, due_by, seen_in}
-use Rattle.bus_trace.specs.Told.{seen_columns, seen_told, row_told, numbered_row}
+use Rattle.bus_trace.specs.Told.{name_told, seen_columns, seen_told, row_told, numbered_row}
 use Rattle.bus_trace.specs.Traces.{numbered}
 use Rattle.bus_trace.specs.Obeying.{Grows}
 
@@ -47,15 +47,16 @@ sender_told {E} p X words s word (Some c) a h =
     ap (λ (b : Answer). deeds_text p (op_at X c z word) (turning_deeds X words (Some c) word b)) h
     ∙ step_told p (slice_index words) s word (tenure_at X c z) (kind_at X c z) (op_at X c z word) (chosen_at X c z found word) _
 
--- of a load of a receiver
-load_told : (p : Sizes) (words : ℕ → ℕ) (r : ℕ) (k : Option Kind) (o : Option Op) → load_text p words k o ≡ seen_told p (Recv r) (seen_in words (step_of None k o))
-load_told p words r None o = refl
-load_told p words r (Some k) None = refl
-load_told p words r (Some k) (Some o) = refl
+-- of a step that is due, of an event whose kind stands nowhere but in its step
+due_told : (p : Sizes) (words : ℕ → ℕ) (e : Event) → name_told e ≡ codes "-" → (tenure : Option ℕ) (k : Option Kind) (o : Option Op) → due_text p words tenure k o ≡ seen_told p e (seen_in words (step_of tenure k o))
+due_told p words e plain tenure None o = ap no_step (sym plain)
+due_told p words e plain tenure (Some k) None = ap no_step (sym plain)
+due_told p words e plain tenure (Some k) (Some o) = refl
 
-receiver_told : (p : Sizes) (words : ℕ → ℕ) (r : ℕ) (o : Option Receiving) → receiving_text p words o ≡ seen_told p (Recv r) (seen_in words (receiver_due o))
+-- of a load of a receiver
+pub receiver_told : (p : Sizes) (words : ℕ → ℕ) (r : ℕ) (o : Option Receiving) → receiving_text p words o ≡ seen_told p (Recv r) (seen_in words (receiver_due o))
 receiver_told p words r None = refl
-receiver_told p words r (Some v) = load_told p words r (receiving_kind v) (receiving_op v)
+receiver_told p words r (Some v) = due_told p words (Recv r) refl None (receiving_kind v) (receiving_op v)
 
 columns_told : {E : Type 0} (p : Sizes) (X : Election E) (b b' : Bus E) (e : Event) (a : Answer) → Answers X b e a b' → deed_columns p X b e a ≡ seen_told p e (seen_in (slice_index b.side.words) (due_by X b e))
 columns_told p X b b' (Put s bytes) a h = ap (deeds_text p None) (own s (put_deeds bytes a) ∙ ap (put_deeds bytes) h.2)
@@ -68,8 +69,8 @@ columns_told p X b b' (Recv r) a h = receiver_told p (slice_index b.side.words) 
 columns_told p X b b' (Stop s) a h = refl
 
 -- the whole line
-pub row_is : {E : Type 0} (p : Sizes) (X : Election E) (line : ℕ) (b b' : Bus E) (e : Event) (a : Answer) → Answers X b e a b' → row_told p line e (seen_in (slice_index b.side.words) (due_by X b e)) a ≡ row_text p X line b e a
-row_is p X line b b' e a h = ap (λ (l : List ℕ). column (decimal line) ++ who_text e ++ l ++ answer_text a) (sym (columns_told p X b b' e a h))
+pub row_is : {E : Type 0} (p : Sizes) (X : Election E) (line : ℕ) (z z' : SizedBus E) (e : Event) (a : Answer) → Answers X z.bus e a z'.bus → (seen : Option Seen) → seen ≡ seen_in (slice_index z.bus.side.words) (due_by X z.bus e) → row_told p line e seen a ≡ row_text p X line z e a
+row_is p X line z z' e a h seen is = ap (λ k. row_told p line e k a) is ∙ ap (λ (l : List ℕ). column (decimal line) ++ who_text e ++ l ++ answer_text a) (sym (columns_told p X z.bus z'.bus e a h))
 
 -- ---- lines one after another
 numbered_more : (from : ℕ) (rows more : List (List ℕ)) → numbered from (rows ++ more) ≡ numbered from rows ++ numbered (from + length rows) more

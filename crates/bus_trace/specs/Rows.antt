@@ -10,6 +10,7 @@ use Rattle.bus_tenure.specs.Situations.{situation_of, op_at}
 use Rattle.bus_world.specs.Headline.{Deed, HasPut, HasClosed, Stepped}
 use Rattle.bus_world.specs.Trails.{deeds_of}
 use Rattle.bus_world.specs.World.{Bus, Event, Put, Close, Turn, Recv, Stop, going}
+use Rattle.bus_world.specs.Playing.{SizedBus}
 use Rattle.bus_world.specs.declared.events.Answer.{Answer}
 use Rattle.bus_replay.specs.Text.{behind, answer_text}
 use Rattle.bus_trace.specs.Words.{Sizes, word_name}
@@ -51,15 +52,16 @@ abbrev pub turning_op : {E : Type 0} → Election E → Option (Core E) → ℕ 
 turning_op X None word = None
 turning_op X (Some c) word = op_at X c (situation_of X c) word
 
--- the load of a receiver
-abbrev pub load_text : Sizes → (ℕ → ℕ) → Option Kind → Option Op → List ℕ
-load_text p words None o = no_step (codes "-")
-load_text p words (Some k) None = no_step (codes "-")
-load_text p words (Some k) (Some o) = step_text p None k (words (register o)) (Some o)
+-- a step of this tenure, of this kind, where there is one
+abbrev pub due_text : Sizes → (ℕ → ℕ) → Option ℕ → Option Kind → Option Op → List ℕ
+due_text p words tenure None o = no_step (codes "-")
+due_text p words tenure (Some k) None = no_step (codes "-")
+due_text p words tenure (Some k) (Some o) = step_text p tenure k (words (register o)) (Some o)
 
+-- the load of a receiver
 abbrev pub receiving_text : Sizes → (ℕ → ℕ) → Option Receiving → List ℕ
 receiving_text p words None = no_step (codes "-")
-receiving_text p words (Some v) = load_text p words (receiving_kind v) (receiving_op v)
+receiving_text p words (Some v) = due_text p words None (receiving_kind v) (receiving_op v)
 
 -- who is asked
 abbrev pub who_text : Event → List ℕ
@@ -78,5 +80,5 @@ deed_columns p X b (Recv r) a = receiving_text p (slice_index b.side.words) (sli
 deed_columns p X b (Stop s) a = no_step (codes "stop")
 
 -- the line of an event that a line of a script asks for, without its number
-abbrev pub row_text : {E : Type 0} → Sizes → Election E → ℕ → Bus E → Event → Answer → List ℕ
-row_text p X line b e a = column (decimal line) ++ who_text e ++ deed_columns p X b e a ++ answer_text a
+abbrev pub row_text : {E : Type 0} → Sizes → Election E → ℕ → SizedBus E → Event → Answer → List ℕ
+row_text p X line z e a = column (decimal line) ++ who_text e ++ deed_columns p X z.bus e a ++ answer_text a

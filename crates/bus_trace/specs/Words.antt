@@ -12,6 +12,8 @@ use Rattle.bus_trace.specs.declared.places.Places.{Places}
 -- the sizes by which words are named
 pub record Sizes : Type 0 where
   pub senders : ℕ
+  -- how many presences: none where each tenure has a row of its own, else one for each sender
+  pub presences : ℕ
   -- of one binary decision
   pub rounds : ℕ
   -- how many words a ratifier has, a binary decision, and a row
@@ -23,12 +25,13 @@ pub record Sizes : Type 0 where
 
 -- as a program holds them
 abbrev pub sizes_told : Places → Sizes
-sizes_told p = record { senders = p.senders; rounds = p.rounds; ratifier = p.ratifier; decision = p.decision; row = p.row; log = p.log }
+sizes_told p = record { senders = p.senders; presences = p.presences; rounds = p.rounds; ratifier = p.ratifier; decision = p.decision; row = p.row; log = p.log }
 
--- the sizes of a bus of this shape, over such ratifiers
+-- the sizes of a bus of this shape that has a row for each tenure, over such ratifiers
 abbrev pub sizes_of : {S : Type 0} → Protocol S Bool Verdict → Shape → Sizes
 sizes_of P shape = record {
   senders = shape.senders;
+  presences = 0;
   rounds = shape.rounds;
   ratifier = P.width shape.senders;
   decision = (decisions P shape.rounds).width shape.senders;
@@ -61,10 +64,11 @@ row_word p k =
     if nat_lt k p.senders then codes "announcement" ++ behind k else
     (codes "bit" ++ behind ((k - p.senders) / p.decision) ++ 32 ∷ decision_word p ((k - p.senders) % p.decision))
 
--- the length, the stage, the rows of the tenures, and the log
+-- the length, the stage, the presences, the rows, and the log
 abbrev pub word_name : Sizes → ℕ → List ℕ
 word_name p r =
     if r == 0 then codes "length" else
     (if r == 1 then codes "stage" else
+    (if nat_lt (r - 2) p.presences then codes "presence" ++ behind (r - 2) else
     (if nat_le p.log r then codes "log" ++ behind (r - p.log) else
-    (codes "row" ++ behind ((r - 2) / p.row) ++ 32 ∷ row_word p ((r - 2) % p.row))))
+    (codes "row" ++ behind ((r - 2 - p.presences) / p.row) ++ 32 ∷ row_word p ((r - 2 - p.presences) % p.row)))))

@@ -16,6 +16,7 @@
 
 pub mod answers;
 pub mod dues;
+pub mod machines;
 pub mod places;
 pub mod playing;
 pub mod rows;
@@ -24,6 +25,7 @@ pub mod sheets;
 pub mod traces;
 pub mod watching;
 pub mod words;
+pub mod worlds;
 
 pub use traces::trace_of;
 

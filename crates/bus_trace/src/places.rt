@@ -7,6 +7,8 @@ ghost use Rattle.std.specs.Prelude.{◌≤◌, ◌^◌};
 pub struct Places {
     /// How many senders the bus has.
     pub senders: u64,
+    /// How many presences it has: none where each tenure has a row of its own.
+    pub presences: u64,
     /// How many rounds one binary decision has.
     pub rounds: u64,
     /// How many words a ratifier has.

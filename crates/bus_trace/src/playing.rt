@@ -1,7 +1,6 @@
 //! How the lines of a script move the bus, and what is put on a sheet of each step.
 
 ghost use Rattle.std.specs.Prelude.{◌≡◌, ◌++◌, ◌-◌, ◌<◌, None, IfOk, OnOk, string_bytes};
-ghost use Rattle.bus_tenure.specs.Elections.{election_of};
 ghost use Rattle.bus_world.specs.Playing.{event_told};
 ghost use Rattle.bus_script.specs.declared.places.Place.TheVariants.{AtLine};
 ghost use Rattle.bus_script.specs.Places.{refusal_line};
@@ -9,11 +8,10 @@ ghost use Rattle.bus_replay.specs.GoingOn.{turn_goes_on, recv_goes_on, goes_on};
 ghost use Rattle.bus_trace.specs.Words.{sizes_told};
 ghost use Rattle.bus_trace.specs.Obeying.{IsCounted, IsRepeated, IsObeyed, ArePlayed};
 
+use crate::machines::Traceable;
 use crate::places::Places;
 use crate::rows::push_row;
 use crate::sheets::Sheet;
-use crate::watching::Watch;
-use bus_adoptcommit::Ratifier;
 use bus_deliverylog::RecvTurn;
 use bus_register::NoMemory;
 use bus_replay::lines::command_of;
@@ -50,8 +48,8 @@ fn goes_on(answer: &Answer) -> bool
 }
 
 /// An event once, and more while it goes on, up to so many times. Each has its line.
-fn repeat<Q: Ratifier + Drop>(
-    watch: &mut Watch<Q>,
+fn repeat<W: Traceable>(
+    bus: &mut W,
     sheet: &mut Sheet,
     places: Places,
     line: u64,
@@ -60,22 +58,20 @@ fn repeat<Q: Ratifier + Drop>(
 ) -> Result<Option<StepFault>, AllocError>
     requires some { 0 < times }
     requires counted { IsCounted (string_bytes sheet.old.text) sheet.old.lines }
-    ensures layout { watch.new.layout ≡ watch.old.layout }
-    ensures repeated { let X = election_of Q.Ratifier in
-        IfOk result (λ fault. IsRepeated (sizes_told places) X line watch.old
-        (event_told event.now) (times - 1) (string_bytes sheet.old.text) sheet.old.lines
-        (string_bytes sheet.new.text) sheet.new.lines fault watch.new) }
+    ensures repeated { IfOk result (λ fault. IsRepeated W.moves (W.shows (sizes_told places)) line
+        bus.old (event_told event.now) (times - 1) (string_bytes sheet.old.text) sheet.old.lines
+        (string_bytes sheet.new.text) sheet.new.lines fault bus.new) }
     ensures counts { IfOk result (λ fault. fault ≡ None
         → IsCounted (string_bytes sheet.new.text) sheet.new.lines) }
 {
-    let (seen, mut last) = match watch.step(event) {
+    let (seen, mut last) = match bus.step(event) {
         Ok(told) => told,
         Err(fault) => return Ok(Some(fault)),
     };
     push_row(sheet, places, line, event, seen, &last)?;
     let mut more = times - 1;
     while more > 0 && goes_on(&last) {
-        let (seen, next) = match watch.step(event) {
+        let (seen, next) = match bus.step(event) {
             Ok(told) => told,
             Err(fault) => return Ok(Some(fault)),
         };
@@ -96,19 +92,17 @@ fn push_refusal(alloc: Global, number: u64, name: &str, text: &mut String) -> Re
 }
 
 /// Does what a line asks for, and puts a line for each event of it, or its refusal, on a sheet.
-fn obey<Q: Ratifier + Drop>(
+fn obey<W: Traceable>(
     alloc: Global,
-    watch: &mut Watch<Q>,
+    bus: &mut W,
     sheet: &mut Sheet,
     places: Places,
     line: Line<'_>,
 ) -> Result<Outcome, NoMemory>
     requires { IsCounted (string_bytes sheet.old.text) sheet.old.lines }
-    ensures layout { watch.new.layout ≡ watch.old.layout }
-    ensures obeyed { let X = election_of Q.Ratifier in
-        IfOk result (λ outcome. IsObeyed (sizes_told places) X watch.old
+    ensures obeyed { IfOk result (λ outcome. IsObeyed W.moves (W.shows (sizes_told places)) bus.old
         (line.entry.number, line.entry.bytes.now) (string_bytes sheet.old.text) sheet.old.lines
-        (string_bytes sheet.new.text) sheet.new.lines outcome watch.new) }
+        (string_bytes sheet.new.text) sheet.new.lines outcome bus.new) }
     ensures counts { IfOk result (λ outcome. outcome ≡ Outcome.Done
         → IsCounted (string_bytes sheet.new.text) sheet.new.lines) }
 {
@@ -117,7 +111,7 @@ fn obey<Q: Ratifier + Drop>(
         return Ok(Outcome::Refused);
     };
     match repeat(
-        watch,
+        bus,
         sheet,
         places,
         line.number,
@@ -134,22 +128,20 @@ fn obey<Q: Ratifier + Drop>(
 }
 
 /// Obeys lines up to the first that is refused.
-pub fn play<Q: Ratifier + Drop>(
+pub fn play<W: Traceable>(
     alloc: Global,
-    watch: &mut Watch<Q>,
+    bus: &mut W,
     sheet: &mut Sheet,
     places: Places,
     mut lines: Lines<'_>,
 ) -> Result<Outcome, NoMemory>
     requires { IsCounted (string_bytes sheet.old.text) sheet.old.lines }
-    ensures layout { watch.new.layout ≡ watch.old.layout }
-    ensures played { let X = election_of Q.Ratifier in
-        IfOk result (λ outcome. ArePlayed (sizes_told places) X watch.old lines.entry
-        (string_bytes sheet.old.text) sheet.old.lines (string_bytes sheet.new.text) outcome
-        watch.new) }
+    ensures { IfOk result (λ outcome. ArePlayed W.moves (W.shows (sizes_told places)) bus.old
+        lines.entry (string_bytes sheet.old.text) sheet.old.lines (string_bytes sheet.new.text)
+        outcome bus.new) }
 {
     while let Some(line) = lines.next_line() {
-        match obey(alloc, watch, sheet, places, line)? {
+        match obey(alloc, bus, sheet, places, line)? {
             Outcome::Done => {}
             Outcome::Refused => return Ok(Outcome::Refused),
         }

@@ -1,14 +1,15 @@
 //! What a script is answered with where its steps are traced.
 
-ghost use Rattle.std.specs.Prelude.{◌≡◌, ◌++◌, IfOk, string_bytes};
+ghost use Rattle.std.specs.Prelude.{◌≡◌, ◌++◌, Some, IfOk, string_bytes};
 ghost use Rattle.bus_tenure.specs.Elections.{election_of};
-ghost use Rattle.bus_world.specs.Playing.{layout_of};
 ghost use Rattle.bus_script.specs.Places.{refusal_line};
 ghost use Rattle.bus_script.specs.declared.answers.Outcome.TheVariants.{Refused};
 ghost use Rattle.bus_trace.specs.Rows.{header};
-ghost use Rattle.bus_trace.specs.Words.{sizes_of};
-ghost use Rattle.bus_trace.specs.Traces.{IsTrace};
+ghost use Rattle.bus_trace.specs.Words.{sizes_told};
+ghost use Rattle.bus_trace.specs.Traces.{ArePrinted, Begins, IsTrace};
 
+use crate::machines::Traceable;
+use crate::places::Places;
 use crate::playing::play;
 use crate::rows::new_sheet;
 use crate::watching::Watch;
@@ -18,7 +19,7 @@ use bus_register::NoMemory;
 use bus_replay::lines::shape_of;
 use bus_replay::names::make_fault_name;
 use bus_script::{Answer, Lines, Outcome, Place, refusal_line};
-use bus_world::MakeFault;
+use bus_world::{MakeFault, Shape};
 use std::alloc::Global;
 
 /// The answer to a script that was refused before there was a bus.
@@ -36,34 +37,56 @@ fn refused(alloc: Global, place: Place, name: &str) -> Result<Answer, NoMemory>
     })
 }
 
+/// What is written of the lines behind the first one, which move a new bus.
+fn trace_from<W: Traceable + Drop>(
+    alloc: Global,
+    mut bus: W,
+    places: Places,
+    lines: Lines<'_>,
+) -> Result<Answer, NoMemory>
+    ensures { IfOk result (λ answer. ArePrinted W.moves (W.shows (sizes_told places)) bus
+        lines.entry answer.outcome (string_bytes answer.text)) }
+{
+    let mut sheet = new_sheet(alloc)?;
+    let outcome = play(alloc, &mut bus, &mut sheet, places, lines)?;
+    Ok(Answer {
+        outcome,
+        text: sheet.text,
+    })
+}
+
+/// What is written behind a first line that asks for a bus with a row for each tenure.
+fn trace_of_shape<Q: Ratifier + Drop>(
+    alloc: Global,
+    shape: Shape,
+    number: u64,
+    lines: Lines<'_>,
+) -> Result<Answer, NoMemory>
+    ensures { let X = election_of Q.Ratifier in
+        IfOk result (λ answer. Begins X Q.protocol number (Some shape) lines.entry
+        answer.outcome (string_bytes answer.text)) }
+{
+    match Watch::<Q>::new(alloc, shape) {
+        Ok(watch) => trace_from(alloc, watch, places_of::<Q>(shape), lines),
+        Err(MakeFault::NoMemory) => Err(NoMemory),
+        Err(fault) => refused(alloc, Place::AtLine(number), make_fault_name(fault)),
+    }
+}
+
 /// What is written for an input: the names of the columns, and a line for each event that `replay`
 /// plays of it, with ratifiers of this kind, up to the first refusal, which ends it. It is no error
 /// that a script is refused: the only one is that memory was refused.
 pub fn trace_of<Q: Ratifier + Drop>(alloc: Global, input: &[u8]) -> Result<Answer, NoMemory>
     ensures { let X = election_of Q.Ratifier in
-        IfOk result (λ answer. IsTrace
-        (λ shape. (X, layout_of Q.protocol shape, sizes_of Q.protocol shape)) input.now
-        answer.outcome (string_bytes answer.text)) }
+        IfOk result (λ answer. IsTrace X Q.protocol input.now answer.outcome
+        (string_bytes answer.text)) }
 {
     let mut lines = Lines::new(input);
     let Some(first) = lines.next_line() else {
         return refused(alloc, Place::AtEnd, "BadLine");
     };
-    let place = Place::AtLine(first.number);
-    let Some(shape) = shape_of(first.bytes) else {
-        return refused(alloc, place, "BadLine");
-    };
-    match Watch::<Q>::new(alloc, shape) {
-        Ok(mut watch) => {
-            let mut sheet = new_sheet(alloc)?;
-            let places = places_of::<Q>(shape);
-            let outcome = play(alloc, &mut watch, &mut sheet, places, lines)?;
-            Ok(Answer {
-                outcome,
-                text: sheet.text,
-            })
-        }
-        Err(MakeFault::NoMemory) => Err(NoMemory),
-        Err(fault) => refused(alloc, place, make_fault_name(fault)),
+    match shape_of(first.bytes) {
+        Some(shape) => trace_of_shape::<Q>(alloc, shape, first.number, lines),
+        None => refused(alloc, Place::AtLine(first.number), "BadLine"),
     }
 }

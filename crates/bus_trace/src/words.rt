@@ -12,7 +12,7 @@ use bus_ownerbits::Election;
 use bus_world::Shape;
 use std::alloc::AllocError;
 
-/// The sizes of a bus of this shape.
+/// The sizes of a bus of this shape that has a row for each tenure.
 pub fn places_of<Q: Ratifier + Drop>(shape: Shape) -> Places
     requires { IsServed shape }
     ensures { sizes_told result ≡ sizes_of Q.protocol shape }
@@ -20,6 +20,7 @@ pub fn places_of<Q: Ratifier + Drop>(shape: Shape) -> Places
     let row = Election::<Q>::width(shape.senders, shape.rounds);
     Places {
         senders: shape.senders,
+        presences: 0,
         rounds: shape.rounds,
         ratifier: Q::width(shape.senders),
         decision: Decide::<Q>::width(shape.senders, shape.rounds),
@@ -95,9 +96,13 @@ pub fn push_word(text: &mut String, places: Places, word: u64) -> Result<(), All
     if word == 1 {
         return text.push_str("stage");
     }
+    if word - 2 < places.presences {
+        return write!(text, "presence {}", word - 2);
+    }
     if word >= places.log {
         return write!(text, "log {}", word - places.log);
     }
-    write!(text, "row {} ", (word - 2) / places.row)?;
-    push_row_word(text, places, (word - 2) % places.row)
+    let behind = word - 2 - places.presences;
+    write!(text, "row {} ", behind / places.row)?;
+    push_row_word(text, places, behind % places.row)
 }

@@ -1,5 +1,4 @@
-use Rattle.std.proofs.Common.{◌≡◌, length, string_bytes}
-use Rattle.bus_tenure.specs.Elections.{election_with}
+use Rattle.std.proofs.Common.{length, string_bytes}
 use Rattle.bus_trace.specs.Words.{sizes_told}
 use Rattle.bus_trace.specs.Obeying.{IsCounted}
 use Rattle.bus_trace.proofs.PlayRows.{Played}
@@ -7,10 +6,8 @@ use Rattle.bus_trace.proofs.playing.play.Given as goal
 
 abbrev pub invariant-loop-line : goal.invariant-loop-line
 invariant-loop-line g l = record {
-  layout : l.watch.layout ≡ l.fn.watch.layout;
   counted : IsCounted (string_bytes l.sheet.text) l.sheet.lines;
-  played : Played (sizes_told l.places) (election_with g.Q.Machine.kind_of g.Q.Machine.op g.Q.Machine.fed g.Q.Ratifier.protocol) l.fn.watch l.fn.lines l.lines (string_bytes l.fn.sheet.text) l.fn.sheet.lines
-      (string_bytes l.sheet.text) l.sheet.lines l.watch;
+  played : Played g.W.Traceable.moves (g.W.Traceable.shows (sizes_told l.places)) l.fn.bus l.fn.lines l.lines (string_bytes l.fn.sheet.text) l.fn.sheet.lines (string_bytes l.sheet.text) l.sheet.lines l.bus;
 }
 
 abbrev pub decreases-loop-line : goal.decreases-loop-line
