@@ -2,3 +2,4 @@ pub mod RowLemmas
 pub mod RepeatRows
 pub mod PlayRows
 pub mod WatchLemmas
+pub mod RingRows

@@ -1,7 +1,6 @@
 -- The line of an event, made of the step that was seen.
-use Rattle.std.proofs.Common.{◌≡◌, ℕ, ◌+◌, ◌==◌, Bool, true, cond, Option, Some, None, List, [], ◌∷◌, ◌++◌, length, slice_get, slice_index, refl, sym, ap, subst, ◌∙◌, append_assoc, arith}
-use Rattle.std.specs.Prelude.{codes, flat_map, decimal}
-use Rattle.std.specs.List.{enumerate_from}
+use Rattle.std.proofs.Common.{◌≡◌, ℕ, ◌+◌, ◌==◌, cond, Option, Some, None, List, [], ◌∷◌, ◌++◌, length, slice_get, slice_index, refl, sym, ap, ◌∙◌, append_assoc, arith}
+use Rattle.std.specs.Prelude.{codes, decimal}
 use Rattle.std.proofs.lemmas.Bool.{eq-eqb}
 use Rattle.std.proofs.lemmas.List.{append-nil, length-append}
 use Rattle.bus_register.specs.declared.kinds.Kind.{Kind}
@@ -17,13 +16,12 @@ use Rattle.bus_trace.proofs.WatchLemmas.{turner_there}
 use Rattle.bus_world.specs.World.{Bus, Event, Put, Close, Turn, Recv, Stop, going}
 use Rattle.bus_world.specs.Playing.{SizedBus, Answers, TurnAnswers}
 use Rattle.bus_world.specs.declared.events.Answer.{Answer}
-use Rattle.bus_world.specs.declared.events.Answer.TheVariants as answer
 use Rattle.bus_replay.specs.Text.{answer_text}
 use Rattle.bus_register.specs.Words.{register}
 use Rattle.bus_trace.specs.declared.seen.Seen.{Seen}
 use Rattle.bus_trace.specs.Words.{Sizes, word_name}
 use Rattle.bus_register.specs.Names.{kind_name}
-use Rattle.bus_trace.specs.Rows.{column, tenure_text, no_step, deed_text, deeds_text, due_text, receiving_text, turning_op, who_text, deed_columns, row_text}
+use Rattle.bus_trace.specs.Rows.{column, tenure_text, no_step, deeds_text, due_text, receiving_text, turning_op, who_text, deed_columns, row_text}
 use Rattle.bus_trace.specs.Watching.{step_of, sender_due, receiver_due, due_by, seen_in}
 use Rattle.bus_trace.specs.Told.{name_told, seen_columns, seen_told, row_told, numbered_row}
 use Rattle.bus_trace.specs.Traces.{numbered}
@@ -48,7 +46,7 @@ sender_told {E} p X words s word (Some c) a h =
     ∙ step_told p (slice_index words) s word (tenure_at X c z) (kind_at X c z) (op_at X c z word) (chosen_at X c z found word) _
 
 -- of a step that is due, of an event whose kind stands nowhere but in its step
-due_told : (p : Sizes) (words : ℕ → ℕ) (e : Event) → name_told e ≡ codes "-" → (tenure : Option ℕ) (k : Option Kind) (o : Option Op) → due_text p words tenure k o ≡ seen_told p e (seen_in words (step_of tenure k o))
+pub due_told : (p : Sizes) (words : ℕ → ℕ) (e : Event) → name_told e ≡ codes "-" → (tenure : Option ℕ) (k : Option Kind) (o : Option Op) → due_text p words tenure k o ≡ seen_told p e (seen_in words (step_of tenure k o))
 due_told p words e plain tenure None o = ap no_step (sym plain)
 due_told p words e plain tenure (Some k) None = ap no_step (sym plain)
 due_told p words e plain tenure (Some k) (Some o) = refl

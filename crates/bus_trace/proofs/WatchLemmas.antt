@@ -4,14 +4,14 @@ use Rattle.std.specs.Prelude.{IfSome}
 use Rattle.std.specs.Option.{option_map}
 use Rattle.std.proofs.lemmas.Bool.{true≢false, cases_lt}
 use Rattle.std.proofs.lemmas.Bool.Decides.{eqb_tells}
-use Rattle.std.proofs.lemmas.List.{map-set, length-map, get_or_append_left}
-use Rattle.std.proofs.lemmas.Option.{slice_get-map, slice_get-get_or, slice_get_past, slice_get_within, same_Some}
+use Rattle.std.proofs.lemmas.List.{map-set, get_or_append_left}
+use Rattle.std.proofs.lemmas.Option.{slice_get-map, slice_get-get_or, slice_get_past, same_Some}
 use Rattle.bus_register.specs.declared.limits.TheConstants.{MOST_SENDERS, MOST_ROWS, MOST_LOG_WORDS}
 use Rattle.bus_register.specs.declared.kinds.Kind.{Kind}
 use Rattle.bus_register.specs.declared.kinds.Kind.TheVariants as kind
 use Rattle.bus_register.specs.declared.registers.Op.{Op}
 use Rattle.bus_register.specs.declared.registers.Op.TheVariants.{Load}
-use Rattle.bus_register.specs.Words.{register, after, SumFits}
+use Rattle.bus_register.specs.Words.{register, SumFits}
 use Rattle.bus_register.specs.Protocol.{Protocol}
 use Rattle.bus_batch.specs.Frames.{Frame, IsBadWord, log_words, log_pieces, is_end}
 use Rattle.bus_batch.specs.declared.messages.Piece.{Piece}
@@ -19,10 +19,7 @@ use Rattle.bus_batch.specs.declared.messages.Piece.TheVariants as piece
 use Rattle.bus_deliverylog.specs.Receiving.{Receiving, receiving_kind, receiving_op, turn_of}
 use Rattle.bus_deliverylog.specs.declared.receiving.RecvTurn.{RecvTurn}
 use Rattle.bus_tenure.specs.Core.{Core, Election, Layout, log_at, words_of}
-use Rattle.bus_tenure.specs.Situations.{Situation, IsClosed, IsIdle, IsSpent, LooksAtStage, Elects, TakesPage, AwaitsPage, StoresWord, StoresLength, GivesBack, HasHanded, situation_at, situation_of, tenure_at, kind_at, op_at}
-use Rattle.bus_tenure.specs.Seen.{tenure_of}
-use Rattle.bus_tenure.specs.declared.phases.Phase.{Phase}
-use Rattle.bus_tenure.specs.declared.phases.Phase.TheVariants as phase
+use Rattle.bus_tenure.specs.Situations.{Situation, IsClosed, IsIdle, IsSpent, LooksAtStage, Elects, TakesPage, AwaitsPage, StoresWord, StoresLength, GivesBack, HasHanded, situation_of, tenure_at, kind_at, op_at}
 use Rattle.bus_world.specs.Headline.{end_heard}
 use Rattle.bus_world.specs.Log.{Logged, read}
 use Rattle.std.proofs.lemmas.Grind.{common_steps}
@@ -32,7 +29,6 @@ use Rattle.bus_world.specs.Playing.{SizedBus, Answers, RecvAnswers, TurnAnswers}
 use Rattle.bus_world.specs.Trails.{IsServedBus, no_trails}
 use Rattle.bus_world.specs.Trails.Reached.{New}
 use Rattle.bus_world.specs.declared.events.Answer.{Answer}
-use Rattle.bus_world.specs.declared.events.Answer.TheVariants as answer
 use Rattle.bus_world.proofs.Stopping.{is_there}
 use Rattle.bus_world.proofs.Serving.{Serves}
 use Rattle.bus_world.proofs.PlayingLaws.{set_same, sitting_after, sums_fit, words_enough, loads_within}
@@ -140,7 +136,7 @@ stepped_so words tenure None (Some o) e = absurd (true≢false (sym e))
 stepped_so words tenure (Some k) None e = refl
 stepped_so words tenure (Some k) (Some o) e = refl
 
-op_of_step : (tenure : Option ℕ) (k : Option Kind) (o : Option Op) (step : Step) → step_of tenure k o ≡ Some step → o ≡ Some step.op
+pub op_of_step : (tenure : Option ℕ) (k : Option Kind) (o : Option Op) (step : Step) → step_of tenure k o ≡ Some step → o ≡ Some step.op
 op_of_step tenure None o step e = absurd cc
 op_of_step tenure (Some k) None step e = absurd cc
 op_of_step tenure (Some k) (Some o) step e = ap (λ (z : Step). Some z.op) (same_Some _ _ e)

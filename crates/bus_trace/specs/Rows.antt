@@ -1,14 +1,17 @@
 -- The lines of a trace: who took which step, what it found, what stands after it, and what was answered.
-use Rattle.std.specs.Prelude.{ℕ, ◌+◌, Option, Some, None, List, [], ◌∷◌, ◌++◌, codes, decimal, slice_get, slice_index}
+use Rattle.std.specs.Prelude.{ℕ, Option, Some, None, List, [], ◌∷◌, ◌++◌, codes, decimal, slice_get, slice_index}
 use Rattle.bus_register.specs.declared.kinds.Kind.{Kind}
 use Rattle.bus_register.specs.declared.registers.Op.{Op}
 use Rattle.bus_register.specs.Names.{kind_name}
 use Rattle.bus_register.specs.Words.{register, after}
+use Rattle.bus_cyclic.specs.Cyclic.{CyclicBus}
 use Rattle.bus_deliverylog.specs.Receiving.{Receiving, receiving_kind, receiving_op}
+use Rattle.bus_guest.specs.Turns.{Visitor, due, kind_due, op_next, tenure_begun_by}
 use Rattle.bus_tenure.specs.Core.{Core, Election}
 use Rattle.bus_tenure.specs.Situations.{situation_of, op_at}
 use Rattle.bus_world.specs.Headline.{Deed, HasPut, HasClosed, Stepped}
-use Rattle.bus_world.specs.Trails.{deeds_of}
+use Rattle.bus_world.specs.Rings.{Ring, guest_going}
+use Rattle.bus_world.specs.Trails.{deeds_of, put_deeds, close_deeds}
 use Rattle.bus_world.specs.World.{Bus, Event, Put, Close, Turn, Recv, Stop, going}
 use Rattle.bus_world.specs.Playing.{SizedBus}
 use Rattle.bus_world.specs.declared.events.Answer.{Answer}
@@ -82,3 +85,22 @@ deed_columns p X b (Stop s) a = no_step (codes "stop")
 -- the line of an event that a line of a script asks for, without its number
 abbrev pub row_text : {E : Type 0} → Sizes → Election E → ℕ → SizedBus E → Event → Answer → List ℕ
 row_text p X line z e a = column (decimal line) ++ who_text e ++ deed_columns p X z.bus e a ++ answer_text a
+
+-- ---- of a bus whose rows are used again
+-- Of a turn of a sender that goes on, the step that is due of it: of its visit to a tenure, of its sweep, or as a sender. Its tenure is
+-- the one that it has begun, or whose page it has: while it clears the row of the next tenure, its own.
+abbrev pub visitor_text : {E : Type 0} → Sizes → Election E → (ℕ → ℕ) → Option (Visitor E) → ℕ → List ℕ
+visitor_text p X words None word = no_step (codes "-")
+visitor_text p X words (Some v) word = due_text p words (tenure_begun_by v.core v.visit) (kind_due X v (due X v)) (op_next X v word)
+
+-- of a put and of a close the deed that it added, of a sender's turn the step that is due of it, and of a receiver the load that it makes
+abbrev pub ring_columns : {E : Type 0} → Sizes → Election E → Ring E → Event → Answer → List ℕ
+ring_columns p X b (Put s bytes) a = deeds_text p None (put_deeds bytes a)
+ring_columns p X b (Close s) a = deeds_text p None (close_deeds a)
+ring_columns p X b (Turn s word) a = visitor_text p X (slice_index b.words) (guest_going b s) word
+ring_columns p X b (Recv r) a = receiving_text p (slice_index b.words) (slice_get b.receivers r)
+ring_columns p X b (Stop s) a = no_step (codes "stop")
+
+-- the line of an event that a line of a script asks for, without its number
+abbrev pub ring_row_text : {E : Type 0} → Sizes → Election E → ℕ → CyclicBus E → Event → Answer → List ℕ
+ring_row_text p X line z e a = column (decimal line) ++ who_text e ++ ring_columns p X z.ring e a ++ answer_text a

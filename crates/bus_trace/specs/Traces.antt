@@ -9,21 +9,23 @@ use Rattle.bus_tenure.specs.Elections.{Elector}
 use Rattle.bus_world.specs.World.{Event}
 use Rattle.bus_world.specs.Playing.{layout_of, MakeRefused, IsMade}
 use Rattle.bus_world.specs.declared.events.Answer.{Answer}
-use Rattle.bus_world.specs.declared.shapes.Shape.{Shape}
 use Rattle.bus_world.specs.declared.shapes.MakeFault.{MakeFault}
 use Rattle.bus_world.specs.declared.shapes.MakeFault.TheVariants as make
+use Rattle.bus_cyclic.specs.Cyclic as cyclic
 use Rattle.bus_script.specs.declared.places.Place.TheVariants.{AtLine, AtEnd}
 use Rattle.bus_script.specs.declared.answers.Outcome.{Outcome}
 use Rattle.bus_script.specs.declared.answers.Outcome.TheVariants.{Done, Refused}
 use Rattle.bus_script.specs.Grammar.{script_lines}
 use Rattle.bus_script.specs.Places.{refusal_line}
 use Rattle.bus_replay.specs.declared.machines.Playable.{Ghosts as Moves}
-use Rattle.bus_replay.specs.Lines.{Command, shape_of, command_of}
+use Rattle.bus_replay.specs.declared.lines.FirstLine.{FirstLine}
+use Rattle.bus_replay.specs.declared.lines.FirstLine.TheVariants.{Shape as Shaped, Cycle as Cycled}
+use Rattle.bus_replay.specs.Lines.{Command, first_of, command_of}
 use Rattle.bus_replay.specs.Text.{make_fault_name}
 use Rattle.bus_replay.specs.Answers.{End, Left, Stopped, Repeats, Asked, Prints}
-use Rattle.bus_replay.specs.Worlds.{world_moves}
-use Rattle.bus_trace.specs.Words.{sizes_of}
-use Rattle.bus_trace.specs.Rows.{header, row_text}
+use Rattle.bus_replay.specs.Worlds.{world_moves, cycle_moves}
+use Rattle.bus_trace.specs.Words.{sizes_of, ring_sizes_of}
+use Rattle.bus_trace.specs.Rows.{header, row_text, ring_row_text}
 use Rattle.bus_trace.specs.Told.{numbered_row}
 
 -- what the line of an event is: of a line of the script, of the bus before the event, of the event and of its answer
@@ -79,13 +81,14 @@ Opened {Z} M row IsNew IsUnmade line lines outcome whole =
     ⊎ ((b : Z) × IsNew b × ArePrinted M row b lines outcome whole)
 
 -- by what the first line asks for
-abbrev pub Begins : {S : Type 0} → Election (Elector S) → Protocol S Bool Verdict → ℕ → Option Shape → List (ℕ × List ℕ) → Outcome → List ℕ → Type 0
+abbrev pub Begins : {S : Type 0} → Election (Elector S) → Protocol S Bool Verdict → ℕ → Option FirstLine → List (ℕ × List ℕ) → Outcome → List ℕ → Type 0
 Begins X P line None lines outcome whole = IsRefused (refusal_line (AtLine line) (codes "BadLine")) outcome whole
-Begins X P line (Some shape) lines outcome whole = Opened (world_moves X) (row_text (sizes_of P shape) X) (IsMade (layout_of P shape) shape) (MakeRefused shape) line lines outcome whole
+Begins X P line (Some (Shaped shape)) lines outcome whole = Opened (world_moves X) (row_text (sizes_of P shape) X) (IsMade (layout_of P shape) shape) (MakeRefused shape) line lines outcome whole
+Begins X P line (Some (Cycled shape)) lines outcome whole = Opened (cycle_moves X) (ring_row_text (ring_sizes_of P shape) X) (cyclic.IsMade (cyclic.layout_of P shape) shape) (cyclic.MakeRefused shape) line lines outcome whole
 
 abbrev pub Traces : {S : Type 0} → Election (Elector S) → Protocol S Bool Verdict → List (ℕ × List ℕ) → Outcome → List ℕ → Type 0
 Traces X P [] outcome whole = IsRefused (refusal_line AtEnd (codes "BadLine")) outcome whole
-Traces X P (line ∷ lines) outcome whole = Begins X P line.0 (shape_of line.1) lines outcome whole
+Traces X P (line ∷ lines) outcome whole = Begins X P line.0 (first_of line.1) lines outcome whole
 
 -- the text that answers an input, where senders go by this election, made of ratifiers of this protocol
 abbrev pub IsTrace : {S : Type 0} → Election (Elector S) → Protocol S Bool Verdict → List ℕ → Outcome → List ℕ → Type 0

@@ -1,5 +1,5 @@
 -- A bus and what is seen of it: which step an event is to take, and what stands in its words and in its receivers.
-use Rattle.std.specs.Prelude.{◌≡◌, ◌≢◌, ℕ, ◌+◌, ◌<◌, ◌^◌, Bool, true, false, Option, Some, None, List, length, map, slice_get, slice_index, slice_set, ◌==◌, if◌then◌else◌}
+use Rattle.std.specs.Prelude.{◌≡◌, ◌≢◌, ℕ, ◌+◌, ◌<◌, ◌^◌, false, Option, Some, None, List, length, map, slice_get, slice_index, slice_set, ◌==◌, if◌then◌else◌}
 use Rattle.bus_register.specs.Protocol.{Protocol}
 use Rattle.bus_register.specs.Words.{register, after, SumFits}
 use Rattle.bus_register.specs.declared.kinds.Kind.{Kind}
@@ -8,9 +8,11 @@ use Rattle.bus_register.specs.declared.registers.Op.{Op}
 use Rattle.bus_register.specs.declared.registers.Op.TheVariants.{Load}
 use Rattle.bus_deliverylog.specs.Receiving.{Receiving, receiving_kind, receiving_op}
 use Rattle.bus_deliverylog.specs.declared.receiving.RecvTurn.{RecvTurn}
+use Rattle.bus_guest.specs.Turns.{Visitor, due, kind_due, op_next, tenure_begun_by}
 use Rattle.bus_tenure.specs.Core.{Core, Election, Layout}
 use Rattle.bus_tenure.specs.Situations.{situation_of, tenure_at, kind_at, op_at}
 use Rattle.bus_world.specs.Headline.{end_heard}
+use Rattle.bus_world.specs.Rings.{Ring}
 use Rattle.bus_world.specs.World.{Bus, Event, Put, Close, Turn, Recv, Stop}
 use Rattle.bus_world.specs.Playing.{SizedBus}
 use Rattle.bus_world.specs.declared.events.Answer.{Answer}
@@ -41,6 +43,18 @@ due_by X b (Close s) = None
 due_by X b (Turn s word) = sender_due X (slice_get b.side.senders s) word
 due_by X b (Recv r) = receiver_due (slice_get b.receivers r)
 due_by X b (Stop s) = None
+
+-- and on a bus whose rows are used again
+abbrev pub guest_due : {E : Type 0} → Election E → Option (Visitor E) → ℕ → Option Step
+guest_due X None word = None
+guest_due X (Some v) word = step_of (tenure_begun_by v.core v.visit) (kind_due X v (due X v)) (op_next X v word)
+
+abbrev pub ring_due_by : {E : Type 0} → Election E → Ring E → Event → Option Step
+ring_due_by X b (Put s bytes) = None
+ring_due_by X b (Close s) = None
+ring_due_by X b (Turn s word) = guest_due X (slice_get b.guests s) word
+ring_due_by X b (Recv r) = receiver_due (slice_get b.receivers r)
+ring_due_by X b (Stop s) = None
 
 -- with the number that it finds in these words, and the one that it leaves
 abbrev pub seen_in : (ℕ → ℕ) → Option Step → Option Seen

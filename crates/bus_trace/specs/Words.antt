@@ -1,8 +1,10 @@
 -- What the words of a bus are called, each by what it is.
-use Rattle.std.specs.Prelude.{ℕ, ◌+◌, ◌-◌, ◌/◌, ◌%◌, ◌==◌, Bool, List, ◌∷◌, ◌++◌, codes, decimal, nat_lt, nat_le, if◌then◌else◌}
+use Rattle.std.specs.Prelude.{ℕ, ◌+◌, ◌-◌, ◌/◌, ◌%◌, ◌==◌, Bool, List, ◌∷◌, ◌++◌, codes, nat_lt, nat_le, if◌then◌else◌}
 use Rattle.bus_register.specs.Protocol.{Protocol}
 use Rattle.bus_adoptcommit.specs.declared.verdicts.Verdict.{Verdict}
 use Rattle.bus_binconsensus.specs.Decisions.{decisions}
+use Rattle.bus_cyclic.specs.Cyclic as cyclic
+use Rattle.bus_guest.specs.Guests.{log_from}
 use Rattle.bus_tenure.specs.Core.{log_at}
 use Rattle.bus_world.specs.Playing.{layout_of}
 use Rattle.bus_world.specs.declared.shapes.Shape.{Shape}
@@ -37,6 +39,18 @@ sizes_of P shape = record {
   decision = (decisions P shape.rounds).width shape.senders;
   row = (layout_of P shape).width;
   log = log_at (layout_of P shape);
+}
+
+-- and of one whose rows are used again: it has a presence for each sender
+abbrev pub ring_sizes_of : {S : Type 0} → Protocol S Bool Verdict → Shape → Sizes
+ring_sizes_of P shape = record {
+  senders = shape.senders;
+  presences = shape.senders;
+  rounds = shape.rounds;
+  ratifier = P.width shape.senders;
+  decision = (decisions P shape.rounds).width shape.senders;
+  row = (cyclic.layout_of P shape).width;
+  log = log_from (cyclic.layout_of P shape) shape.rows;
 }
 
 -- a ratifier of three words has two inputs and a proposal; the words of another one are numbered

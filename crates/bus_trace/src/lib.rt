@@ -15,6 +15,7 @@
 #![tactic(auto)]
 
 pub mod answers;
+pub mod cycles;
 pub mod dues;
 pub mod machines;
 pub mod places;

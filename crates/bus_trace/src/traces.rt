@@ -13,10 +13,11 @@ use crate::places::Places;
 use crate::playing::play;
 use crate::rows::new_sheet;
 use crate::watching::Watch;
-use crate::words::places_of;
+use crate::words::{places_of, ring_places_of};
 use bus_adoptcommit::Ratifier;
+use bus_cyclic::CyclicWorld;
 use bus_register::NoMemory;
-use bus_replay::lines::shape_of;
+use bus_replay::lines::{FirstLine, first_of};
 use bus_replay::names::make_fault_name;
 use bus_script::{Answer, Lines, Outcome, Place, refusal_line};
 use bus_world::{MakeFault, Shape};
@@ -63,11 +64,29 @@ fn trace_of_shape<Q: Ratifier + Drop>(
     lines: Lines<'_>,
 ) -> Result<Answer, NoMemory>
     ensures { let X = election_of Q.Ratifier in
-        IfOk result (λ answer. Begins X Q.protocol number (Some shape) lines.entry
-        answer.outcome (string_bytes answer.text)) }
+        IfOk result (λ answer. Begins X Q.protocol number (Some (FirstLine.Shape shape))
+        lines.entry answer.outcome (string_bytes answer.text)) }
 {
     match Watch::<Q>::new(alloc, shape) {
         Ok(watch) => trace_from(alloc, watch, places_of::<Q>(shape), lines),
+        Err(MakeFault::NoMemory) => Err(NoMemory),
+        Err(fault) => refused(alloc, Place::AtLine(number), make_fault_name(fault)),
+    }
+}
+
+/// What is written behind a first line that asks for a bus whose rows are used again.
+fn trace_of_cycle<Q: Ratifier + Drop>(
+    alloc: Global,
+    shape: Shape,
+    number: u64,
+    lines: Lines<'_>,
+) -> Result<Answer, NoMemory>
+    ensures { let X = election_of Q.Ratifier in
+        IfOk result (λ answer. Begins X Q.protocol number (Some (FirstLine.Cycle shape))
+        lines.entry answer.outcome (string_bytes answer.text)) }
+{
+    match CyclicWorld::<Q>::new(alloc, shape) {
+        Ok(world) => trace_from(alloc, world, ring_places_of::<Q>(shape), lines),
         Err(MakeFault::NoMemory) => Err(NoMemory),
         Err(fault) => refused(alloc, Place::AtLine(number), make_fault_name(fault)),
     }
@@ -85,8 +104,9 @@ pub fn trace_of<Q: Ratifier + Drop>(alloc: Global, input: &[u8]) -> Result<Answe
     let Some(first) = lines.next_line() else {
         return refused(alloc, Place::AtEnd, "BadLine");
     };
-    match shape_of(first.bytes) {
-        Some(shape) => trace_of_shape::<Q>(alloc, shape, first.number, lines),
+    match first_of(first.bytes) {
+        Some(FirstLine::Shape(shape)) => trace_of_shape::<Q>(alloc, shape, first.number, lines),
+        Some(FirstLine::Cycle(shape)) => trace_of_cycle::<Q>(alloc, shape, first.number, lines),
         None => refused(alloc, Place::AtLine(first.number), "BadLine"),
     }
 }

@@ -1,9 +1,10 @@
 //! What the words of a bus are called.
 
 ghost use Rattle.std.specs.Prelude.{◌≡◌, ◌++◌, ◌<◌, OnOk, string_bytes};
+ghost use Rattle.bus_cyclic.specs.Cyclic.{IsServed as IsServedRing};
 ghost use Rattle.bus_world.specs.Playing.{IsServed};
 ghost use Rattle.bus_trace.specs.Words.{ratifier_word, round_word, decision_word, row_word};
-ghost use Rattle.bus_trace.specs.Words.{word_name, sizes_told, sizes_of};
+ghost use Rattle.bus_trace.specs.Words.{word_name, sizes_told, sizes_of, ring_sizes_of};
 
 use crate::places::Places;
 use bus_adoptcommit::Ratifier;
@@ -26,6 +27,23 @@ pub fn places_of<Q: Ratifier + Drop>(shape: Shape) -> Places
         decision: Decide::<Q>::width(shape.senders, shape.rounds),
         row,
         log: 2 + shape.rows * row,
+    }
+}
+
+/// The sizes of a bus of this shape whose rows are used again.
+pub fn ring_places_of<Q: Ratifier + Drop>(shape: Shape) -> Places
+    requires { IsServedRing shape }
+    ensures { sizes_told result ≡ ring_sizes_of Q.protocol shape }
+{
+    let row = Election::<Q>::width(shape.senders, shape.rounds);
+    Places {
+        senders: shape.senders,
+        presences: shape.senders,
+        rounds: shape.rounds,
+        ratifier: Q::width(shape.senders),
+        decision: Decide::<Q>::width(shape.senders, shape.rounds),
+        row,
+        log: 2 + shape.senders + shape.rows * row,
     }
 }
 

@@ -1,4 +1,4 @@
-use Rattle.std.proofs.Common.{◌≡◌, ◌-◌, string_bytes}
+use Rattle.std.proofs.Common.{◌-◌, string_bytes}
 use Rattle.bus_world.specs.Playing.{event_told}
 use Rattle.bus_trace.specs.Words.{sizes_told}
 use Rattle.bus_trace.specs.Obeying.{IsCounted}

@@ -1,12 +1,10 @@
-use Rattle.std.proofs.Common.{◌≡◌, ◌+◌, ◌*◌, ◌∙◌, None, Some, map, replicate, slice_index, slice_set, slice_get, refl, sym, ap, subst, arith}
-use Rattle.bus_register.specs.Words.{register, after}
+use Rattle.std.proofs.Common.{◌∙◌, slice_get, sym, ap, subst}
 use Rattle.bus_tenure.specs.Elections.{Elector, elections, election_with, layout_with}
 use Rattle.bus_world.specs.Playing.{SizedBus, event_told}
 use Rattle.bus_world.proofs.Serving.{serves}
-use Rattle.bus_world.proofs.ViewingLaws.{few_words}
-use Rattle.bus_trace.specs.Watching.{spot_due, sender_due, receiver_due, due_by, words_stepped, spots_heard, spot_of, CanStep}
+use Rattle.bus_trace.specs.Watching.{spot_due, due_by, CanStep}
 use Rattle.std.specs.Prelude.{IfSome}
-use Rattle.bus_tenure.specs.Core.{Core, log_at, words_of}
+use Rattle.bus_tenure.specs.Core.{log_at}
 use Rattle.bus_trace.proofs.WatchLemmas.{place_fits, no_sender_due, sender_steps, receiver_is, receiver_steps}
 use Rattle.bus_trace.proofs.watching.Watch.due.Goals as goal
 

@@ -1,10 +1,7 @@
-use Rattle.std.proofs.Common.{◌≡◌, ◌+◌, ◌*◌, ◌∙◌, None, Some, map, replicate, slice_index, slice_set, refl, sym, ap, subst, arith}
-use Rattle.bus_register.specs.Words.{register, after}
+use Rattle.std.proofs.Common.{◌+◌, ◌*◌, ◌∙◌, replicate, ap, arith}
 use Rattle.bus_tenure.specs.Elections.{elections, election_with, layout_with}
-use Rattle.bus_world.specs.Playing.{SizedBus, event_told}
 use Rattle.bus_world.proofs.Serving.{serves}
 use Rattle.bus_world.proofs.ViewingLaws.{few_words}
-use Rattle.bus_trace.specs.Watching.{due_by, words_stepped, spots_heard, spot_of, CanStep}
 use Rattle.bus_trace.proofs.WatchLemmas.{watched_new}
 use Rattle.bus_trace.proofs.watching.Watch.new.Goals as goal
 

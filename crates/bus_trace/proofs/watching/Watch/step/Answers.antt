@@ -1,10 +1,9 @@
-use Rattle.std.proofs.Common.{◌≡◌, ◌+◌, ◌*◌, ◌∙◌, None, Some, map, replicate, slice_index, slice_set, refl, sym, ap, subst, arith}
+use Rattle.std.proofs.Common.{◌≡◌, ◌∙◌, None, Some, slice_index, slice_set, sym, ap}
 use Rattle.bus_register.specs.Words.{register, after}
 use Rattle.bus_tenure.specs.Elections.{Elector, elections, election_with, layout_with}
 use Rattle.bus_world.specs.Playing.{SizedBus, event_told}
 use Rattle.bus_world.proofs.Serving.{serves}
-use Rattle.bus_world.proofs.ViewingLaws.{few_words}
-use Rattle.bus_trace.specs.Watching.{due_by, words_stepped, spots_heard, spot_of, CanStep}
+use Rattle.bus_trace.specs.Watching.{due_by, words_stepped, spots_heard}
 use Rattle.bus_trace.proofs.WatchLemmas.{spots_stay, spots_move, are_short, watched_after}
 use Rattle.bus_trace.proofs.watching.Watch.step.Goals as goal
 

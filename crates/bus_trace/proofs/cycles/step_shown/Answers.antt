@@ -1,0 +1,17 @@
+use Rattle.std.proofs.Common.{◌∙◌, sym, ap, slice_index}
+use Rattle.bus_tenure.specs.Elections.{election_with}
+use Rattle.bus_world.specs.Playing.{event_told}
+use Rattle.bus_trace.specs.Watching.{ring_due_by}
+use Rattle.bus_trace.proofs.RingRows.{leaves, seen_so}
+use Rattle.bus_trace.proofs.cycles.step_shown.Goals as goal
+
+pub returns-clause-seen : goal.returns-clause-seen
+returns-clause-seen g c =
+    let X = election_with g.Q.Machine.kind_of g.Q.Machine.op g.Q.Machine.fed g.Q.Ratifier.protocol in
+    let b = c.args.world.now.ring in
+    let e = event_told c.args.event.now in
+    let step = c.in-Some.step in
+    let due = sym c.in-Some.is ∙ c.due_of.ensures in
+    let told = c.in_ok-answer-2.ensures in
+    seen_so (slice_index b.words) (ring_due_by X b e) step c.standing-found.result c.standing-left.result due (c.standing-found.ensures ∙ ap (slice_index b.words) c.register_of-at.ensures)
+    (c.standing-left.ensures ∙ ap (slice_index c.step-2.new.self.ring.words) c.register_of-at.ensures ∙ leaves X b c.step-2.new.self.ring e c.in_ok-answer-2.answer step told.happens told.answer told.within due)
