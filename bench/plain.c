@@ -6,14 +6,16 @@
 #include <stdlib.h>
 #include <string.h>
 typedef uint64_t u64;
-enum { REST, ENTER, LOOK, WITHDRAW, ELECT, HOLD }; // ENTER, LOOK and WITHDRAW only where rows are used again
+// ENTER, LOOK and WITHDRAW only where rows are used again
+enum { REST, ENTER, LOOK, WITHDRAW, ELECT, HOLD };
 enum { ANNOUNCE, BRING, READ_PROPOSAL, PROPOSE, READ_OTHER, MARK, OTHER_MARK, VOTE, READ_VOTES, FALLBACK, SEARCH, WON };
 struct round { u64 brought[2], proposal, mark[2], votes; }; // a conciliator, and the ratifier behind it
 struct row { u64 announced[8], fallback[3]; struct round round[3][8]; };
 struct page { u64 next[8], ended, words; } home;
 struct sender {
     char *messages[16]; u64 len[16], count, first, least, tenure, stored, words;
-    int closing, closed, stopped, busy, phase, at, bit, spelled, candidate, round, value, j, own_votes, published, lost, withdrawn;
+    int closing, closed, stopped, busy, phase, at, bit, spelled, candidate, round, value, j;
+    int own_votes, published, lost, withdrawn;
     struct page page; u64 frame[129], presence, asked, cleared;
 } S[8];
 struct receiver { u64 place, known, left, tenure, owner, number, bytes, got, count, fresh; int ended; unsigned char data[64]; } M[9]; // the ninth hears the whole log in the end
@@ -48,7 +50,8 @@ static int after_ratifier(struct sender *s, u64 me, int commit, int v) {
     return 0;
 }
 static int elect(struct sender *s, u64 me, uint32_t random) {
-    struct row *row = &rows[s->tenure % T]; struct round *r = &row->round[s->bit][s->round]; u64 w; int v; int64_t total;
+    struct row *row = &rows[s->tenure % T]; struct round *r = &row->round[s->bit][s->round];
+    u64 w; int v; int64_t total;
     switch (s->at) {
     case ANNOUNCE: row->announced[me] = 1; if (!B) { s->at = WON; return 0; } s->bit = B - 1; start_bit(s); return 0;
     case BRING: r->brought[s->value] = 1; s->at = READ_PROPOSAL; return 0;
@@ -84,7 +87,8 @@ static int turn(u64 me, uint32_t random) { // true where it is going; else its a
         if (s->least >= end) { say("spent\n", 0, 0, 0, 0); return 0; }
         if (stage & 1 || stage / 2 < s->least) { say("waiting\n", 0, 0, 0, 0); return 0; }
         if (stage / 2 >= end) { s->least = stage / 2; say("spent\n", 0, 0, 0, 0); return 0; }
-        s->tenure = stage / 2; s->phase = cyclic ? ENTER : ELECT; s->at = ANNOUNCE; s->busy = 1; s->candidate = me; s->spelled = s->lost = 0;
+        s->tenure = stage / 2; s->phase = cyclic ? ENTER : ELECT; s->at = ANNOUNCE; s->busy = 1;
+        s->candidate = me; s->spelled = s->lost = 0;
         return 1;
     }
     if (s->phase == ENTER) { s->presence = 1 + s->tenure; s->phase = LOOK; return 1; }
@@ -99,20 +103,29 @@ static int turn(u64 me, uint32_t random) { // true where it is going; else its a
         s->least = s->tenure + 1; say("lost %lu %lu\n", s->tenure, s->spelled, 0, 0); return 0;
     }
     if (s->phase == ELECT) {
-        stage = 2 * s->tenure + 1; s->page = home; s->phase = HOLD; s->stored = s->asked = s->cleared = 0; s->published = s->withdrawn = 0; s->words = make_frame(s, me); owners[owner_count++ % T] = me;
+        stage = 2 * s->tenure + 1; s->page = home; s->phase = HOLD;
+        s->stored = s->asked = s->cleared = 0; s->published = s->withdrawn = 0;
+        s->words = make_frame(s, me); owners[owner_count++ % T] = me;
         say("own %lu\n", s->tenure, 0, 0, 0); return 0;
     }
     if (cyclic && !s->withdrawn) { s->presence = 0; s->withdrawn = 1; return 1; }
     if (!s->page.ended && s->page.words + s->words <= L && !s->published) {
-        if (s->stored < s->words) { word_of_log[s->page.words + s->stored] = s->frame[s->stored]; s->stored++; return 1; }
+        if (s->stored < s->words) {
+            word_of_log[s->page.words + s->stored] = s->frame[s->stored]; s->stored++; return 1;
+        }
         length = s->page.words + s->words; s->published = 1;
         return 1;
     }
     if (cyclic && next >= T) { // the row of the next tenure was used T tenures before that
         u64 before = next - T, width = n + B * (6 * R - 2);
-        if (s->asked < n && S[s->asked].presence == 1 + before) { say("behind %lu %lu\n", before, s->asked, 0, 0); return 0; }
+        if (s->asked < n && S[s->asked].presence == 1 + before) {
+            say("behind %lu %lu\n", before, s->asked, 0, 0); return 0;
+        }
         if (s->asked < n) { s->asked++; return 1; }
-        if (s->cleared < width) { if (++s->cleared == width) memset(&rows[next % T], 0, sizeof *rows); return 1; } // a step a word; none is looked at before the last
+        if (s->cleared < width) { // a step a word; none is looked at before the last
+            if (++s->cleared == width) memset(&rows[next % T], 0, sizeof *rows);
+            return 1;
+        }
     }
     if (s->published) {
         s->page.words += s->words; s->page.next[me] = s->first + s->count; s->page.ended = s->closing; give_back(s);
@@ -180,8 +193,11 @@ int main(int argc, char **argv) {
         if (line == end || *line == '#') continue;
         if (!is_good(line, end, shaped)) { if (refused(passes, number, "BadLine")) goto stop; continue; }
         if (!shaped) {
-            cyclic = *line == 'c'; sscanf(line + 6, "%lu %lu %lu %lu %lu", &n, &m, &R, &T, &L); B = 0; while (1u << B < n && n <= 8) B++;
-            const char *why = n < 1 || n > 8 ? "Senders" : m < 1 || m > 8 ? "Receivers" : R < 1 || R > 8 ? "Rounds" : T < (cyclic ? 2 : 1) || T > (cyclic ? 8 : 256) ? "Rows" : L < 16 || L > 65536 ? "LogWords" : 0;
+            cyclic = *line == 'c'; sscanf(line + 6, "%lu %lu %lu %lu %lu", &n, &m, &R, &T, &L);
+            B = 0; while (1u << B < n && n <= 8) B++;
+            const char *why = n < 1 || n > 8 ? "Senders" : m < 1 || m > 8 ? "Receivers"
+                : R < 1 || R > 8 ? "Rounds" : T < (cyclic ? 2 : 1) || T > (cyclic ? 8 : 256) ? "Rows"
+                : L < 16 || L > 65536 ? "LogWords" : 0;
             if (why) { m = 0; if (refused(passes, number, why)) goto stop; continue; }
             shaped = 1; rows = calloc(T, sizeof *rows); word_of_log = calloc(L, 8);
         } else if (*line == 'p') {
@@ -210,7 +226,10 @@ int main(int argc, char **argv) {
         }
     }
     if (!shaped) { say("end: BadLine\n", 0, 0, 0, 0); goto stop; }
-    status = 0; say("owners", 0, 0, 0, 0); for (u64 i = owner_count > T ? owner_count - T : 0; i < owner_count; i++) say(" %lu", owners[i % T], 0, 0, 0); say("\n", 0, 0, 0, 0);
+    status = 0; say("owners", 0, 0, 0, 0);
+    for (u64 i = owner_count > T ? owner_count - T : 0; i < owner_count; i++)
+        say(" %lu", owners[i % T], 0, 0, 0);
+    say("\n", 0, 0, 0, 0);
     for (;;) { // the order is what a receiver would be given of the whole log
         size_t before = used; M[8].fresh = used; int more = recv(8);
         if (!strncmp(out + before, "item", 4)) { memmove(out + before + 5, out + before + 4, used - before - 4); memcpy(out + before, "order", 5); used++; } else if (M[8].ended) { used = before; say("order end\n", 0, 0, 0, 0); } else used = before;
