@@ -1,27 +1,46 @@
 -- What a sender accepts between its steps: its deeds as its batch shows them.
 use Rattle.std.proofs.Common.{◌≡◌, ℕ, zero, suc, ◌+◌, ◌≤◌, Bool, true, false, List, [], ◌∷◌, ◌++◌, length, drop, arith, refl, sym, ◌∙◌, ap}
 use Rattle.std.proofs.lemmas.List.{append-nil, length-append, length-drop, drop-append-le}
-use Rattle.bus_batch.specs.Batches.{next_of, CanPut, CanClose}
+use Rattle.bus_batch.specs.Batches.{Pending, next_of, CanPut, CanClose}
 use Rattle.bus_batch.specs.declared.batches.Phase.{Phase}
-use Rattle.bus_batch.specs.declared.batches.Phase.TheVariants.{Open}
-use Rattle.bus_tenure.specs.Core.{Core, is_closing}
+use Rattle.bus_batch.specs.declared.batches.Phase.TheVariants.{Open, Closing}
+use Rattle.bus_tenure.specs.Core.{is_closing}
 use Rattle.bus_world.specs.Headline.{Deed, HasPut, HasClosed}
-use Rattle.bus_pageslot.specs.Steps.{with_message, with_close, Accepts, puts_from, closes_since, accepted_since}
+use Rattle.bus_pageslot.specs.Processes.{Process}
+use Rattle.bus_pageslot.specs.Lawful.{ProcessLaws}
+use Rattle.bus_pageslot.specs.Steps.{Accepts, puts_from, closes_since, accepted_since}
 use Rattle.bus_pageslot.specs.Steps.Accepts.{Nothing, Message, Close}
 
-module _ {E : Type 0} (c : Core E) where
+module _ {C : Type 0} (P : Process C) (L : ProcessLaws P) (c : C) where
   -- the rest of it stays
-  pub record Stays (d : Core E) : Type 0 where
-    pub me : d.me ≡ c.me
-    pub layout : d.layout ≡ c.layout
-    pub phase : d.phase ≡ c.phase
-    pub first : d.queue.first ≡ c.queue.first
-    pub longer : length c.queue.messages ≤ length d.queue.messages
+  pub record Stays (d : C) : Type 0 where
+    pub me : P.me d ≡ P.me c
+    pub extent : P.extent d ≡ P.extent c
+    pub first : (P.queue d).first ≡ (P.queue c).first
+    pub longer : length (P.queue c).messages ≤ length (P.queue d).messages
 
-  pub stays : (d : Core E) (deeds : List Deed) → Accepts c d deeds → Stays d
-  stays d deeds Nothing = record { me = refl; layout = refl; phase = refl; first = refl; longer = omega arith }
-  stays e all (Message d deeds bytes more can small) = let h = stays d deeds more in record { me = h.me; layout = h.layout; phase = h.phase; first = h.first; longer = let a = h.longer in let b = length-append d.queue.messages (bytes ∷ []) in omega arith }
-  stays e all (Close d deeds more can) = let h = stays d deeds more in record { me = h.me; layout = h.layout; phase = h.phase; first = h.first; longer = h.longer }
+  pub stays : (d : C) (deeds : List Deed) → Accepts P c d deeds → Stays d
+  stays d deeds Nothing = record { me = refl; extent = refl; first = refl; longer = omega arith }
+  stays e all (Message d deeds bytes more can small) =
+      let h = stays d deeds more in
+      let k = L.message d bytes in
+      let waits = L.message_waits d bytes in
+      record {
+        me = k.me ∙ h.me;
+        extent = k.extent ∙ h.extent;
+        first = ap (λ (q : Pending). q.first) waits ∙ h.first;
+        longer = let a = h.longer in let b = length-append (P.queue d).messages (bytes ∷ []) in let size = ap (λ (q : Pending). length q.messages) waits in omega arith;
+      }
+  stays e all (Close d deeds more can) =
+      let h = stays d deeds more in
+      let k = L.close d in
+      let waits = L.close_waits d in
+      record {
+        me = k.me ∙ h.me;
+        extent = k.extent ∙ h.extent;
+        first = ap (λ (q : Pending). q.first) waits ∙ h.first;
+        longer = let a = h.longer in let size = ap (λ (q : Pending). length q.messages) waits in omega arith;
+      }
 
 puts_from-snoc : (n : ℕ) (xs : List (List ℕ)) (bytes : List ℕ) (k : ℕ) → k ≡ n + length xs → puts_from n (xs ++ bytes ∷ []) ≡ puts_from n xs ++ HasPut k bytes ∷ []
 puts_from-snoc n [] bytes k e = ap (λ z. HasPut z bytes ∷ []) (let z : n ≡ k = omega arith in z)
@@ -41,35 +60,37 @@ closed_once : (b : Bool) → closes_since b b ≡ []
 closed_once true = refl
 closed_once false = refl
 
-module _ {E : Type 0} (c : Core E) where
-  since_message : (d : Core E) (bytes : List ℕ) → Stays c d → CanPut d.queue (length bytes) → accepted_since c.queue (with_message d bytes).queue ≡ accepted_since c.queue d.queue ++ HasPut (next_of d.queue) bytes ∷ []
-  since_message d bytes h can =
-      let k = length c.queue.messages in
-      let none : closes_since (is_closing c.queue.phase) (is_closing d.queue.phase) ≡ [] = ap (closes_since (is_closing c.queue.phase)) (open_is d.queue.phase can.is_open) in
-      let moved : drop k (d.queue.messages ++ bytes ∷ []) ≡ drop k d.queue.messages ++ bytes ∷ [] = drop-append-le k d.queue.messages (bytes ∷ []) h.longer in
-      let size = length-drop k d.queue.messages in
-      let first = h.first in
-      let longer = h.longer in
-      ap (λ z. puts_from (next_of c.queue) (drop k (d.queue.messages ++ bytes ∷ [])) ++ z) none ∙ append-nil (puts_from (next_of c.queue) (drop k (d.queue.messages ++ bytes ∷ [])))
-      ∙ ap (puts_from (next_of c.queue)) moved ∙ puts_from-snoc (next_of c.queue) (drop k d.queue.messages) bytes (next_of d.queue) (omega arith)
-      ∙ ap (λ z. z ++ HasPut (next_of d.queue) bytes ∷ []) (sym (append-nil (puts_from (next_of c.queue) (drop k d.queue.messages))) ∙ ap (λ z. puts_from (next_of c.queue) (drop k d.queue.messages) ++ z) (sym none))
+-- with one message more in its batch
+since_message : (before now : Pending) (bytes : List ℕ) → now.first ≡ before.first → length before.messages ≤ length now.messages → CanPut now (length bytes) → accepted_since before (record now { messages = now.messages ++ bytes ∷ [] }) ≡ accepted_since before now ++ HasPut (next_of now) bytes ∷ []
+since_message before now bytes first longer can =
+    let k = length before.messages in
+    let none : closes_since (is_closing before.phase) (is_closing now.phase) ≡ [] = ap (closes_since (is_closing before.phase)) (open_is now.phase can.is_open) in
+    let moved : drop k (now.messages ++ bytes ∷ []) ≡ drop k now.messages ++ bytes ∷ [] = drop-append-le k now.messages (bytes ∷ []) longer in
+    let size = length-drop k now.messages in
+    ap (λ z. puts_from (next_of before) (drop k (now.messages ++ bytes ∷ [])) ++ z) none ∙ append-nil (puts_from (next_of before) (drop k (now.messages ++ bytes ∷ [])))
+    ∙ ap (puts_from (next_of before)) moved ∙ puts_from-snoc (next_of before) (drop k now.messages) bytes (next_of now) (omega arith)
+    ∙ ap (λ z. z ++ HasPut (next_of now) bytes ∷ []) (sym (append-nil (puts_from (next_of before) (drop k now.messages))) ∙ ap (λ z. puts_from (next_of before) (drop k now.messages) ++ z) (sym none))
 
-  -- a sender that can close has nothing, and had nothing before
-  since_close : (d : Core E) → Stays c d → CanClose d.queue → (is_closing c.queue.phase ≡ false) → accepted_since c.queue (with_close d).queue ≡ accepted_since c.queue d.queue ++ HasClosed ∷ []
-  since_close d h can was =
-      let k = length c.queue.messages in
-      let none : closes_since (is_closing c.queue.phase) (is_closing d.queue.phase) ≡ [] = ap (closes_since (is_closing c.queue.phase)) (open_is d.queue.phase can.is_open) in
-      let now : closes_since (is_closing c.queue.phase) true ≡ HasClosed ∷ [] = ap (λ z. closes_since z true) was in
-      ap (λ z. puts_from (next_of c.queue) (drop k d.queue.messages) ++ z) now
-      ∙ ap (λ z. z ++ HasClosed ∷ []) (sym (append-nil (puts_from (next_of c.queue) (drop k d.queue.messages))) ∙ ap (λ z. puts_from (next_of c.queue) (drop k d.queue.messages) ++ z) (sym none))
+-- a sender that can close has nothing, and had nothing before
+since_close : (before now : Pending) → CanClose now → (is_closing before.phase ≡ false) → accepted_since before (record now { phase = Closing }) ≡ accepted_since before now ++ HasClosed ∷ []
+since_close before now can was =
+    let k = length before.messages in
+    let none : closes_since (is_closing before.phase) (is_closing now.phase) ≡ [] = ap (closes_since (is_closing before.phase)) (open_is now.phase can.is_open) in
+    let closed : closes_since (is_closing before.phase) true ≡ HasClosed ∷ [] = ap (λ z. closes_since z true) was in
+    ap (λ z. puts_from (next_of before) (drop k now.messages) ++ z) closed
+    ∙ ap (λ z. z ++ HasClosed ∷ []) (sym (append-nil (puts_from (next_of before) (drop k now.messages))) ∙ ap (λ z. puts_from (next_of before) (drop k now.messages) ++ z) (sym none))
 
+module _ {C : Type 0} (P : Process C) (L : ProcessLaws P) (c : C) where
   -- a sender that accepts something was not closing before
-  pub was_open : (d : Core E) (deeds : List Deed) → Accepts c d deeds → d.queue.phase ≡ Open → is_closing c.queue.phase ≡ false
-  was_open d deeds Nothing e = open_is c.queue.phase e
+  pub was_open : (d : C) (deeds : List Deed) → Accepts P c d deeds → (P.queue d).phase ≡ Open → is_closing (P.queue c).phase ≡ false
+  was_open d deeds Nothing e = open_is (P.queue c).phase e
   was_open f all (Message d deeds bytes more can small) e = was_open d deeds more can.is_open
   was_open f all (Close d deeds more can) e = was_open d deeds more can.is_open
 
-  pub since_is : (d : Core E) (deeds : List Deed) → Accepts c d deeds → accepted_since c.queue d.queue ≡ deeds
-  since_is d deeds Nothing = ap (λ z. puts_from (next_of c.queue) z ++ closes_since (is_closing c.queue.phase) (is_closing c.queue.phase)) (none_left (length c.queue.messages) c.queue.messages (omega arith)) ∙ closed_once (is_closing c.queue.phase)
-  since_is f all (Message d deeds bytes more can small) = since_message d bytes (stays c d deeds more) can ∙ ap (λ z. z ++ HasPut (next_of d.queue) bytes ∷ []) (since_is d deeds more)
-  since_is f all (Close d deeds more can) = since_close d (stays c d deeds more) can (was_open d deeds more can.is_open) ∙ ap (λ z. z ++ HasClosed ∷ []) (since_is d deeds more)
+  pub since_is : (d : C) (deeds : List Deed) → Accepts P c d deeds → accepted_since (P.queue c) (P.queue d) ≡ deeds
+  since_is d deeds Nothing =
+      ap (λ z. puts_from (next_of (P.queue c)) z ++ closes_since (is_closing (P.queue c).phase) (is_closing (P.queue c).phase)) (none_left (length (P.queue c).messages) (P.queue c).messages (omega arith)) ∙ closed_once (is_closing (P.queue c).phase)
+  since_is f all (Message d deeds bytes more can small) =
+      let h = stays P L c d deeds more in
+      ap (accepted_since (P.queue c)) (L.message_waits d bytes) ∙ since_message (P.queue c) (P.queue d) bytes h.first h.longer can ∙ ap (λ z. z ++ HasPut (next_of (P.queue d)) bytes ∷ []) (since_is d deeds more)
+  since_is f all (Close d deeds more can) = ap (accepted_since (P.queue c)) (L.close_waits d) ∙ since_close (P.queue c) (P.queue d) can (was_open d deeds more can.is_open) ∙ ap (λ z. z ++ HasClosed ∷ []) (since_is d deeds more)

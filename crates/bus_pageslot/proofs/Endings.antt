@@ -1,30 +1,25 @@
 -- What the close of a table tells of the bus that it was.
-use Rattle.std.proofs.Common.{◌≡◌, ◌≢◌, ℕ, zero, suc, ◌+◌, ◌%◌, ◌≤◌, Bool, true, false, Option, Some, None, is_some, List, [], ◌∷◌, ◌++◌, length, map, slice_index, arith, refl, sym, ◌∙◌, ap, subst}
+use Rattle.std.proofs.Common.{◌≡◌, ◌≢◌, ℕ, zero, suc, ◌+◌, ◌%◌, ◌≤◌, true, false, Option, Some, None, is_some, List, [], ◌∷◌, ◌++◌, length, map, slice_index, arith, refl, sym, ◌∙◌, ap, subst}
 use mathlib.Core.Option.{some, none, some-injective, some-ne-none}
 use mathlib.Core.Option as maybe
 use lib.ListN.{get_elem?}
 use Rattle.std.proofs.lemmas.Bool.{true≢false}
 use Rattle.atomic_table.specs.Table.{Final, Seen}
-use Rattle.bus_register.specs.Protocol.{Protocol}
-use Rattle.bus_tenure.specs.Core.{Core, Election, Layout, words_of, log_at}
+use Rattle.bus_batch.specs.Frames.{order_of, tenure_and_owner}
 use Rattle.bus_tenure.specs.declared.pages.Page.{Page}
 use Rattle.bus_world.specs.Headline.{IsPrefix}
-use Rattle.bus_batch.specs.Frames.{order_of, tenure_and_owner}
 use Rattle.bus_world.specs.Log.{read}
 use Rattle.bus_world.proofs.LogLaws.{length-read}
 use Rattle.bus_world.proofs.ViewingLaws.{frames_spell}
-use Rattle.bus_world.specs.Tenures.{Stage}
-use Rattle.bus_world.specs.Tenures.Stage.{Open, Held}
-use Rattle.bus_world.proofs.Serving.{Serves}
 use Rattle.bus_pageslot.specs.Ears.{Ear}
 use Rattle.bus_pageslot.specs.declared.rule.View.{View}
 use Rattle.bus_pageslot.specs.declared.rule.View.TheVariants.{Tap}
-use Rattle.bus_pageslot.specs.Rule.{slot_of, known_in, log_in_bus, KnowsLog, IsShown}
+use Rattle.bus_pageslot.specs.Processes.{Extent, Process, Automaton, log_below, log_in}
+use Rattle.bus_pageslot.specs.Lawful.{AutomatonLaws}
+use Rattle.bus_pageslot.specs.Rule.{slot_of, known_in, KnowsLog, IsShown}
 use Rattle.bus_pageslot.specs.Endings.{IsLeft}
 use Rattle.bus_pageslot.specs.Outcomes.{IsOutcome}
-use Rattle.bus_pageslot.specs.Promised.{log_below}
 use Rattle.bus_pageslot.proofs.Promising.{seats_promised}
-use Rattle.bus_pageslot.proofs.Reaching.{kept}
 
 -- a word of a list
 pub word_at : (ws : List ℕ) (i w : ℕ) → get_elem? ws i ≡ some w → slice_index ws i ≡ w
@@ -36,88 +31,78 @@ word_at (v ∷ ws) (suc i) w e = word_at ws i w e
 pub read-next : (words : ℕ → ℕ) (at k w : ℕ) → words (at + k) ≡ w → read words at k ++ w ∷ [] ≡ read words at (k + 1)
 read-next words at k w e = ap (λ z. read words at k ++ z ∷ []) (sym e) ∙ ap (read words at) (let one : suc k ≡ k + 1 = omega arith in one)
 
-module _ {E : Type 0} (X : Election E) (P : Protocol E (Unit {0}) ℕ) (x : Layout) (y : Serves X P x) where
-  -- where the stage is odd the page is out, and else at home
-  stage_tells : (ended stage : ℕ) (at_home : Bool) (owners : List ℕ) (standing : _) → Stage {E = E} ended stage at_home owners standing → ((stage % 2 ≡ 1) → at_home ≡ false) × ((stage % 2 ≢ 1) → at_home ≡ true)
-  stage_tells ended stage at_home owners standing (Open is home many) = (λ odd. absurd (omega arith), λ even. home)
-  stage_tells ended stage at_home owners standing (Held holder is home many stands) = (λ odd. home, λ even. absurd (even (omega arith)))
+none_of : (home : Option Page) → is_some home ≡ false → home ≡ None
+none_of None e = refl
+none_of (Some page) e = absurd (true≢false e)
 
-  none_of : (home : Option Page) → is_some home ≡ false → home ≡ None
-  none_of None e = refl
-  none_of (Some page) e = absurd (true≢false e)
+some_of : (home : Option Page) → is_some home ≡ true → (page : Page) × (home ≡ Some page)
+some_of None e = absurd (true≢false (sym e))
+some_of (Some page) e = (page, refl)
 
-  some_of : (home : Option Page) → is_some home ≡ true → (page : Page) × (home ≡ Some page)
-  some_of None e = absurd (true≢false (sym e))
-  some_of (Some page) e = (page, refl)
+-- what is in the slot
+slot_is : (home : Option Page) (page : Page) → slot_of home ≡ slot_of (Some page) → home ≡ Some page
+slot_is None page e = absurd (some-ne-none (Some page) (sym e))
+slot_is (Some other) page e = some-injective (Some other) (Some page) e
 
-  -- what is in the slot
-  slot_is : (home : Option Page) (page : Page) → slot_of home ≡ slot_of (Some page) → home ≡ Some page
-  slot_is None page e = absurd (some-ne-none (Some page) (sym e))
-  slot_is (Some other) page e = some-injective (Some other) (Some page) e
-
-  -- the page is at home only while a tenure is open, and then it knows the frames
-  pub outcome_of : (v : View (Core E)) (log : List ℕ) (page : Page) → IsLeft X x v log (Some page) → IsOutcome record { senders = x.senders; log = log; page = page }
+module _ {C : Type 0} (P : Process C) (A : Automaton C) (L : AutomatonLaws P A) where
+  -- the page at home knows the frames
+  pub outcome_of : (v : View C) (log : List ℕ) (page : Page) → IsLeft P A v log (Some page) → IsOutcome record { senders = A.extent.senders; log = log; page = page }
   outcome_of v log page h =
-      let b = h.shown.bus in
-      let k = kept X P x y h.shown.served b h.shown.trails h.shown.reached in
-      let sending = k.lawful.keeps.sending in
-      let log_is : log_in_bus x b ≡ log = ap (λ (ws : List ℕ). log_below x ws) (sym h.shown.words) ∙ h.log_is in
-      let same : slot_of b.side.home ∷ [] ≡ slot_of (Some page) ∷ [] = sym h.shown.slot ∙ h.home_is in
-      let home : b.side.home ≡ Some page = slot_is b.side.home page (some-injective _ _ (ap (λ (hs : List (maybe.Option (Option Page))). get_elem? hs 0) same)) in
-      elim sending.tenures.stage_is [
-        | Open stage at_home many ↦
-            let knows = (sending.page_knows page _ home stage).0 in
-            record {
-              order = order_of k.frames;
-              owners = map tenure_and_owner k.frames;
-              spells = frames_spell x.senders k.frames log sending.log.lawful (sym log_is ∙ sending.log.words_are);
-              counts = knows.next;
-              ended = knows.ended;
-              words = knows.words ∙ sym (length-read (slice_index b.side.words) (log_at x) (slice_index b.side.words 0)) ∙ ap length log_is;
-            }
-        | Held holder stage away many holds ↦ absurd (true≢false (sym (ap is_some home) ∙ away))
-      ]
+      let z = h.shown.state in
+      let has = L.log z h.shown.reached in
+      let log_is : log_in A z ≡ log = ap (λ (ws : List ℕ). log_below A.extent ws) (sym h.shown.words) ∙ h.log_is in
+      let same : slot_of (A.home z) ∷ [] ≡ slot_of (Some page) ∷ [] = sym h.shown.slot ∙ h.home_is in
+      let home : A.home z ≡ Some page = slot_is (A.home z) page (some-injective _ _ (ap (λ (hs : List (maybe.Option (Option Page))). get_elem? hs 0) same)) in
+      let knows = (L.page_knows z page has.frames h.shown.reached home has.lawful has.words_are).1 in
+      record {
+        order = order_of has.frames;
+        owners = map tenure_and_owner has.frames;
+        spells = frames_spell A.extent.senders has.frames log has.lawful (sym log_is ∙ sym has.words_are);
+        counts = knows.next;
+        ended = knows.ended;
+        words = knows.words ∙ sym (length-read (slice_index (A.words z)) A.extent.log (slice_index (A.words z) 0)) ∙ ap length log_is;
+      }
 
-  module _ (id : ℕ) (v : View (Core E)) (c : Core E) (e : Ear) (is : v ≡ Tap c e) (ws : List ℕ) (xs : List (Option Page)) (f : Final (Seen (IsShown X x) id v) ws xs) where
-    shown : IsShown X x f.0
+  module _ (id : ℕ) (v : View C) (x : Extent) (e : Ear) (is : v ≡ Tap x e) (ws : List ℕ) (xs : List (Option Page)) (f : Final (Seen (IsShown P A) id v) ws xs) where
+    shown : IsShown P A f.0
     shown = f.1.0
 
-    words_are : shown.bus.side.words ≡ ws
+    words_are : A.words shown.state ≡ ws
     words_are = sym shown.words ∙ f.2
 
-    pub wide : length ws ≡ words_of x
-    wide = ap length (sym words_are) ∙ (kept X P x y shown.served shown.bus shown.trails shown.reached).lawful.words
+    pub wide : length ws ≡ A.extent.words
+    wide = ap length (sym words_are) ∙ L.wide shown.state shown.reached
 
-    pub fits : slice_index ws 0 ≤ x.capacity
-    fits = subst (λ l. slice_index l 0 ≤ x.capacity) words_are (kept X P x y shown.served shown.bus shown.trails shown.reached).lawful.keeps.sending.log.fits
+    pub fits : slice_index ws 0 ≤ A.extent.capacity
+    fits = subst (λ l. slice_index l 0 ≤ A.extent.capacity) words_are (L.log shown.state shown.reached).fits
 
-    tells_of : (stage : ℕ) → slice_index ws 1 ≡ stage → ((stage % 2 ≡ 1) → is_some shown.bus.side.home ≡ false) × ((stage % 2 ≢ 1) → is_some shown.bus.side.home ≡ true)
-    tells_of stage at =
-        let h = (kept X P x y shown.served shown.bus shown.trails shown.reached).lawful.keeps.sending.tenures in
-        let t = stage_tells h.ended (slice_index shown.bus.side.words 1) (is_some shown.bus.side.home) shown.bus.side.owners _ h.stage_is in
-        subst (λ n. ((n % 2 ≡ 1) → is_some shown.bus.side.home ≡ false) × ((n % 2 ≢ 1) → is_some shown.bus.side.home ≡ true)) (ap (λ l. slice_index l 1) words_are ∙ at) t
+    stage_is : (stage : ℕ) → slice_index ws 1 ≡ stage → slice_index (A.words shown.state) 1 ≡ stage
+    stage_is stage at = ap (λ l. slice_index l 1) words_are ∙ at
 
     -- what is left, with what is home
-    left : (home : Option Page) → shown.bus.side.home ≡ home → (log : List ℕ) → log ≡ read (slice_index ws) (log_at x) (slice_index ws 0) → IsLeft X x v log home
+    left : (home : Option Page) → A.home shown.state ≡ home → (log : List ℕ) → log ≡ read (slice_index ws) A.extent.log (slice_index ws 0) → IsLeft P A v log home
     left home at log log_is =
-        let k : KnowsLog x shown.bus c e = shown.views id (Tap c e) (f.1.1 ∙ ap (λ (u : View (Core E)). some u) is) in
-        let same : log_in_bus x shown.bus ≡ log = ap (λ l. read (slice_index l) (log_at x) (slice_index l 0)) words_are ∙ sym log_is in
+        let k : KnowsLog A shown.state x e = shown.views id (Tap x e) (f.1.1 ∙ ap (λ (u : View C). some u) is) in
+        let same : log_in A shown.state ≡ log = ap (λ l. read (slice_index l) A.extent.log (slice_index l 0)) words_are ∙ sym log_is in
         record {
           table = f.0;
           shown = shown;
           here = (id, f.1.1);
-          log_is = ap (λ (ws : List ℕ). log_below x ws) f.2 ∙ sym log_is;
+          log_is = ap (λ (ws : List ℕ). log_below A.extent ws) f.2 ∙ sym log_is;
           home_is = shown.slot ∙ ap (λ (u : Option Page). slot_of u ∷ []) at;
-          promised = seats_promised X P x y f.0 shown;
-          front = subst (λ (u : View (Core E)). IsPrefix (known_in u) log) (sym is) (subst (IsPrefix e.known) same k.front);
+          promised = seats_promised P A L f.0 shown;
+          front = subst (λ (u : View C). IsPrefix (known_in u) log) (sym is) (subst (IsPrefix e.known) same k.front);
         }
 
-    pub left_out : (stage : ℕ) → slice_index ws 1 ≡ stage → stage % 2 ≡ 1 → (log : List ℕ) × IsLeft X x v log None
-    left_out stage at odd = (_, left None (none_of shown.bus.side.home ((tells_of stage at).0 odd)) (read (slice_index ws) (log_at x) (slice_index ws 0)) refl)
+    pub left_out : (stage : ℕ) → slice_index ws 1 ≡ stage → stage % 2 ≡ 1 → (log : List ℕ) × IsLeft P A v log None
+    left_out stage at odd =
+        let away = L.odd_away shown.state shown.reached (ap (λ n. n % 2) (stage_is stage at) ∙ odd) in
+        (_, left None (none_of (A.home shown.state) away) (read (slice_index ws) A.extent.log (slice_index ws 0)) refl)
 
-    pub left_home : (stage : ℕ) → slice_index ws 1 ≡ stage → stage % 2 ≢ 1 → (slot : Option Page) → get_elem? xs 0 ≡ some slot → (log : List ℕ) → log ≡ read (slice_index ws) (log_at x) (slice_index ws 0) → (page : Page) × (slot ≡ Some page) × IsLeft X x v log (Some page)
+    pub left_home : (stage : ℕ) → slice_index ws 1 ≡ stage → stage % 2 ≢ 1 → (slot : Option Page) → get_elem? xs 0 ≡ some slot → (log : List ℕ) → log ≡ read (slice_index ws) A.extent.log (slice_index ws 0) → (page : Page) × (slot ≡ Some page) × IsLeft P A v log (Some page)
     left_home stage at even slot in_slot log log_is =
-        let h = some_of shown.bus.side.home ((tells_of stage at).1 even) in
+        let there = L.even_at_home shown.state shown.reached (λ odd. even (ap (λ n. n % 2) (sym (stage_is stage at)) ∙ odd)) in
+        let h = some_of (A.home shown.state) there in
         let there : get_elem? f.0.homes 0 ≡ some (some (Some h.0)) = ap (λ (hs : List (maybe.Option (Option Page))). get_elem? hs 0) (shown.slot ∙ ap (λ (u : Option Page). slot_of u ∷ []) h.1) in
         let same : slot ≡ Some h.0 = some-injective slot (Some h.0) (sym in_slot ∙ f.4 0 (Some h.0) there) in
         (h.0, same, left (Some h.0) h.1 log log_is)

@@ -1,52 +1,50 @@
--- A sender's step extends the log, whatever it is for.
-use Rattle.std.proofs.Common.{◌≡◌, ℕ, ◌<◌, Some, List, [], ◌∷◌, length, slice_get, slice_index, slice_set, arith, sym, ◌∙◌, ap, subst, Option}
+-- A sender's step extends the log, and never makes it shorter.
+use Rattle.std.proofs.Common.{◌≡◌, ℕ, ◌<◌, Option, Some, List, [], ◌∷◌, length, slice_index, slice_set, arith, sym, ◌∙◌, ap, subst}
 use mathlib.Core.Option.{some}
 use lib.ListN.{get_elem?}
 use Rattle.std.proofs.lemmas.List.{get_or-set_same}
-use Rattle.std.proofs.lemmas.Option.{slice_get_within}
 use Rattle.atomic_table.specs.Table.{State}
 use Rattle.bus_register.specs.declared.registers.Op.{Op}
 use Rattle.bus_register.specs.declared.registers.Op.TheVariants.{Store}
-use Rattle.bus_register.specs.Proved.TableLaws.{get_set_same}
-use Rattle.bus_register.specs.Protocol.{Protocol}
-use Rattle.bus_tenure.specs.Core.{Core, Election, Layout, log_at}
+use Rattle.bus_register.specs.Words.{register}
 use Rattle.bus_tenure.specs.declared.pages.Page.{Page}
 use Rattle.bus_world.specs.Headline.{IsPrefix}
 use Rattle.bus_world.specs.Turning.{words_after}
-use Rattle.bus_world.specs.World.{Bus, with_sender}
 use Rattle.bus_world.proofs.LogLaws.{length-read}
-use Rattle.bus_world.proofs.Serving.{Serves}
 use Rattle.bus_pageslot.specs.declared.rule.View.{View}
 use Rattle.bus_pageslot.specs.declared.rule.View.TheVariants.{Sender}
+use Rattle.bus_pageslot.specs.Processes.{Extent, Process, Automaton, log_below}
+use Rattle.bus_pageslot.specs.Lawful.{AutomatonLaws}
 use Rattle.bus_pageslot.specs.Rule.{Sat, trail_in, stored_in, IsSeated, IsShown}
-use Rattle.bus_pageslot.specs.Promised.{log_below}
 use Rattle.bus_pageslot.specs.Steps.{IsDue}
-use Rattle.bus_pageslot.proofs.Reaching.{accepts, steps}
-use Rattle.bus_pageslot.proofs.Ties.{no_shorter}
+use Rattle.bus_pageslot.proofs.Reaching.{accepted}
+use Rattle.bus_pageslot.proofs.Ties.{no_shorter, front}
 
 -- a list that has a word which is not 0 is not empty
 has_word : (ws : List ℕ) (v : ℕ) → v < slice_index ws 0 → 0 < length ws
 has_word [] v l = absurd (omega arith)
 has_word (w ∷ ws) v l = omega arith
 
-module _ {E : Type 0} (X : Election E) (P : Protocol E (Unit {0}) ℕ) (x : Layout) (y : Serves X P x) (s : State (Option Page) (View (Core E))) (r : IsShown X x s) (id : ℕ) (m : Sat E) (at : get_elem? s.views id ≡ some m.0) (d : Core E) (word many : ℕ) where
-  pub extends : (o : Op) → IsDue X d word m many o → IsPrefix (log_below x s.words) (log_below x (words_after s.words (Some o)))
+module _ {C : Type 0} (P : Process C) (A : Automaton C) (L : AutomatonLaws P A) (s : State (Option Page) (View C)) (r : IsShown P A s) (id : ℕ) (m : Sat C) (at : get_elem? s.views id ≡ some m.0) (d : C) (word many : ℕ) where
+  pub extends : (o : Op) → IsDue P d word m many o → IsPrefix (log_below A.extent s.words) (log_below A.extent (words_after s.words (Some o)))
   extends o due =
       let c = due.shown in
-      let seated : IsSeated r.bus r.trails r.seat id c (trail_in m.0) (stored_in m.0) = r.views id (Sender c (trail_in m.0) (stored_in m.0)) (at ∙ ap (λ (y : Sat E). some y.0) due.me) in
-      let grown = accepts X P x y r.served r.bus r.trails c.me c seated.core r.running r.reached d due.deeds due.accepts in
-      let b : Bus E = record { side = with_sender r.bus.side c.me d; receivers = r.bus.receivers; stopped = r.bus.stopped } in
-      let old : slice_get b.side.senders c.me ≡ Some d = get_set_same r.bus.side.senders c.me d (slice_get_within r.bus.side.senders c.me c seated.core) in
-      let done = steps X P x y r.served b grown.trails grown.reached r.running c.me d old word o due.due in
-      let now : words_after s.words (Some o) ≡ done.bus.side.words = ap (λ w. words_after w (Some o)) r.words ∙ sym done.words in
-      subst (λ (w : List ℕ × List ℕ). IsPrefix (log_below x w.0) (log_below x w.1)) (λ i. (sym r.words i, sym now i)) done.front
+      let seated : IsSeated P A r.state r.seat id c (trail_in m.0) (stored_in m.0) = r.views id (Sender c (trail_in m.0) (stored_in m.0)) (at ∙ ap (λ (y : Sat C). some y.0) due.me) in
+      let grown = accepted P A L r.state r.reached c seated.core d due.deeds due.accepts in
+      let z = grown.state in
+      let is = L.senders z (P.me c) d grown.changes.reached grown.changes.here in
+      let within = subst (λ (x : Extent). register o < x.words) is.extent due.below in
+      let done = L.step z (P.me c) d word o grown.changes.reached grown.changes.here due.due within in
+      let before : s.words ≡ A.words z = r.words ∙ sym grown.words in
+      let now : words_after s.words (Some o) ≡ A.words done.state = ap (λ w. words_after w (Some o)) before ∙ sym done.words in
+      subst (λ (w : List ℕ × List ℕ). IsPrefix (log_below A.extent w.0) (log_below A.extent w.1)) (λ i. (sym before i, sym now i)) (front A z done.state done.grows)
 
   -- so no length goes back
-  pub never_shorter : (v : ℕ) → v < slice_index s.words 0 → ¬ IsDue X d word m many (Store record { 0 = 0 } v)
+  pub never_shorter : (v : ℕ) → v < slice_index s.words 0 → ¬ IsDue P d word m many (Store record { 0 = 0 } v)
   never_shorter v less due =
       let W = slice_set s.words 0 v in
-      let front = no_shorter (log_below x s.words) (log_below x W) (extends (Store record { 0 = 0 } v) due) in
-      let before = length-read (slice_index s.words) (log_at x) (slice_index s.words 0) in
-      let after = length-read (slice_index W) (log_at x) (slice_index W 0) in
+      let front = no_shorter (log_below A.extent s.words) (log_below A.extent W) (extends (Store record { 0 = 0 } v) due) in
+      let before = length-read (slice_index s.words) A.extent.log (slice_index s.words 0) in
+      let after = length-read (slice_index W) A.extent.log (slice_index W 0) in
       let stored : slice_index W 0 ≡ v = get_or-set_same s.words 0 v 0 (has_word s.words v less) in
       omega arith

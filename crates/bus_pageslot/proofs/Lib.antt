@@ -3,9 +3,13 @@ pub mod AllSeats
 pub mod Sending
 pub mod Batching
 pub mod Accepting
-pub mod Situations
+pub mod Phases
 pub mod Counting
+pub mod Histories
 pub mod Reaching
+pub mod ApartTurns
+pub mod ApartStates
+pub mod Slots
 pub mod Hearing
 pub mod Ties
 pub mod Extending

@@ -1,5 +1,5 @@
 -- The table at its start, and how senders get their seats.
-use Rattle.std.proofs.Common.{◌≡◌, ◌≢◌, ℕ, zero, suc, ◌+◌, ◌<◌, ◌^◌, eqb, cond, Bool, eq-eqb, ne_eqb, length-set, Option, Some, None, List, [], ◌∷◌, ◌++◌, length, set, slice_get, replicate, arith, refl, sym, ◌∙◌, ap, subst, ⊎_elim, inl, inr, ◌⊎◌}
+use Rattle.std.proofs.Common.{◌≡◌, ◌≢◌, ℕ, zero, suc, ◌+◌, ◌<◌, ◌≤◌, eqb, cond, Bool, false, eq-eqb, ne_eqb, length-set, Option, Some, None, List, [], ◌∷◌, ◌++◌, length, set, slice_get, replicate, arith, refl, sym, ◌∙◌, ap, subst, ⊎_elim, inl, inr, ◌⊎◌}
 use mathlib.Core.Option.{some, some-injective, some-ne-none}
 use lib.ListN.{get_elem?}
 use Rattle.std.proofs.lemmas.Bool.{cases_eq, cases_lt}
@@ -10,29 +10,22 @@ use Rattle.std.proofs.lemmas.List.Elements.{All-nil, All-cons}
 use Rattle.atomic_table.specs.declared.shared.Seat.{Seat}
 use Rattle.atomic_table.specs.Table.{Splits, opening}
 use Rattle.atomic_table.proofs.Lists.{at_set, at_last}
-use Rattle.bus_register.specs.Proved.TableLaws.{some_or_none, here_not, push_here, push_beside}
-use Rattle.bus_register.specs.Protocol.{Protocol}
+use Rattle.bus_register.specs.Proved.TableLaws.{push_here, push_beside}
 use Rattle.bus_batch.specs.Frames.{Frame, AreFrames, log_words}
-use Rattle.bus_tenure.specs.Core.{Core, Election, Layout, words_of}
 use Rattle.bus_tenure.specs.declared.pages.Page.{Page}
-use Rattle.bus_world.specs.Bus.{IsLayout}
-use Rattle.bus_world.proofs.Serving.{Serves}
-use Rattle.bus_world.specs.Starting.{AreNewCores}
-use Rattle.bus_world.proofs.StartingLaws.{one_more_core}
-use Rattle.bus_world.specs.World.{Bus, IsNew, new_core, new_page, no_stops}
-use Rattle.bus_world.specs.Trails.{Trails, no_trails}
-use Rattle.bus_world.specs.Trails.Reached.{New}
+use Rattle.bus_world.specs.World.{new_page}
 use Rattle.bus_pageslot.specs.Ears.{new_ear}
 use Rattle.bus_pageslot.specs.declared.rule.View.{View}
 use Rattle.bus_pageslot.specs.declared.rule.View.TheVariants.{Maker, Sender, Tap, Meeting, Telling, Spent}
-use Rattle.bus_pageslot.specs.Rule.{tap_left, tap_right, trail_in, stored_in, next_core, cut_left, cut_right, log_in_bus, KnowsLog, Knows, IsShown}
-use Rattle.bus_pageslot.specs.Steps.{carried_of, IsCounted}
+use Rattle.bus_pageslot.specs.Processes.{Extent, Process, Automaton, IsCounted, log_in}
+use Rattle.bus_pageslot.specs.Lawful.{AutomatonLaws, Opens}
+use Rattle.bus_pageslot.specs.Rule.{slot_of, tap_left, tap_right, trail_in, stored_in, cut_left, cut_right, KnowsLog, IsTrueOf, IsShown}
+use Rattle.bus_pageslot.specs.Steps.{carried_of}
 use Rattle.bus_pageslot.specs.Steps.Accepts.{Nothing}
 use Rattle.bus_pageslot.specs.Seats.{Seated, Spot, Shows, table_of}
 use Rattle.bus_pageslot.specs.Buses.{IsNewSeat, AreNewSeats, IsNewTap, AreNewTaps}
 use Rattle.bus_pageslot.proofs.AllSeats.{still_seen, seen_longer}
 use Rattle.bus_pageslot.proofs.Hearing.{heard_new}
-use Rattle.bus_pageslot.proofs.Reaching.{kept, log_is}
 use Rattle.atomic_table.specs.Seated.{TableId}
 
 -- one seat replaced
@@ -53,148 +46,115 @@ at_end [] a b (suc j) e = absurd (some-ne-none b (sym e))
 at_end (x ∷ xs) a b zero e = inl e
 at_end (x ∷ xs) a b (suc j) e = ⊎_elim (λ h. inl h) (λ t. inr (ap suc t.0, t.1)) (at_end xs a b j e)
 
--- the first k senders, at their starts
-crowd : {E : Type 0} → Layout → ℕ → List (Core E)
-crowd x zero = []
-crowd x (suc k) = crowd x k ++ new_core x k ∷ []
-
-crowd_new : {E : Type 0} (x : Layout) (k : ℕ) → AreNewCores x k (crowd {E = E} x k)
-unfolding crowd
-crowd_new x zero = record { many_are = refl; each = λ p c e. let bad : None ≡ Some c = e in let wrong : ⊥ = cc in absurd wrong }
-crowd_new {E = E} x (suc k) = subst (λ z. AreNewCores x z (crowd {E = E} x k ++ new_core x k ∷ [])) (let e : k + 1 ≡ suc k = omega arith in e) (one_more_core x k (crowd x k) (new_core x k) (crowd_new x k) refl)
-
-crowd_has : {E : Type 0} (x : Layout) (k p : ℕ) → p < k → slice_get (crowd {E = E} x k) p ≡ Some (new_core x p)
-crowd_has {E = E} x k p l = let h = crowd_new {E = E} x k in elim (some_or_none (slice_get (crowd {E = E} x k) p)) [
-  | inr c ↦ c.1 ∙ ap Some (h.each p c.0 c.1).1
-  | inl nobody ↦ absurd (here_not (crowd {E = E} x k) p (let z = h.many_are in omega arith) nobody)
-]
-
 -- a receiver that knows nothing, of a log with these frames
-knows_new : {E : Type 0} (x : Layout) (b : Bus E) (c : Core E) → c.layout ≡ x → (frames : List Frame) → AreFrames x.senders frames → log_words frames ≡ log_in_bus x b → KnowsLog x b c new_ear
-knows_new x b c layout frames lawful words = record { layout = layout; front = record { rest = log_in_bus x b; together = refl }; below = omega arith; frames = frames; lawful = lawful; words_are = words; heard = heard_new frames }
+knows_new : {C : Type 0} (A : Automaton C) (z : A.State) (x : Extent) → x ≡ A.extent → (frames : List Frame) → AreFrames A.extent.senders frames → log_words frames ≡ log_in A z → KnowsLog A z x new_ear
+knows_new A z x extent frames lawful words = record { extent = extent; front = record { rest = log_in A z; together = refl }; below = omega arith; frames = frames; lawful = lawful; words_are = words; heard = heard_new frames }
 
-module _ {E : Type 0} (X : Election E) (x : Layout) where
-  abbrev first : View (Core E)
-  first = Maker (new_core x 0)
+module _ {C : Type 0} (P : Process C) (A : Automaton C) (L : AutomatonLaws P A) where
+  abbrev first : View C
+  first = Maker (A.started 0)
 
-  abbrev new_bus : List ℕ → Bus E
-  new_bus ws = record { side = record { words = ws; home = Some new_page; senders = crowd x x.senders; owners = [] }; receivers = []; stopped = no_stops }
+  module _ (o : Opens P A) where
+    only : (j : ℕ) (v : View C) → get_elem? (first ∷ []) j ≡ some v → IsTrueOf P A o.state (λ p. 0) j v
+    only zero v e = subst (IsTrueOf P A o.state (λ p. 0) 0) (some-injective first v e) (ap A.started (sym (L.started_me 0)), λ p low high. record { here = refl; core = o.senders p high; deeds = o.deeds p })
+    only (suc j) v e = absurd (some-ne-none v (sym e))
 
-  is_new : (ws : List ℕ) → ws ≡ replicate (words_of x) 0 → IsNew x (new_bus ws)
-  is_new ws zeros = record {
-    words = zeros;
-    home = refl;
-    senders = λ p c e. (crowd_new {E = E} x x.senders).each p c e;
-    owners = refl;
-    stopped = refl;
-    receivers = λ r v e. let bad : None ≡ Some v = e in let wrong : ⊥ = cc in absurd wrong;
-  }
+    pub opens : (ws : List ℕ) → ws ≡ replicate A.extent.words 0 → IsShown P A (opening ws (Some new_page ∷ []) first)
+    opens ws zeros = record {
+      state = o.state;
+      reached = o.reached;
+      words = zeros ∙ sym o.words;
+      slot = ap (λ (h : Option Page). slot_of h ∷ []) (sym o.home);
+      seat = λ p. 0;
+      views = only;
+      all = λ p below. (0, first, refl, let z = L.started_me 0 in omega arith);
+    }
 
-  only : (ws : List ℕ) (j : ℕ) (v : View (Core E)) → get_elem? (first ∷ []) j ≡ some v → Knows x (new_bus ws) no_trails (λ p. 0) j v
-  only ws zero v e = subst (Knows x (new_bus ws) no_trails (λ p. 0) 0) (some-injective first v e) (refl, λ p low high. record { here = refl; core = crowd_has {E = E} x x.senders p high; deeds = refl })
-  only ws (suc j) v e = absurd (some-ne-none v (sym e))
-
-  pub opens : IsLayout x → (ws : List ℕ) → ws ≡ replicate (words_of x) 0 → IsShown X x (opening ws (Some new_page ∷ []) first)
-  opens ok ws zeros = record {
-    served = ok;
-    bus = new_bus ws;
-    trails = no_trails;
-    reached = New (new_bus ws) (is_new ws zeros);
-    alone = refl;
-    running = refl;
-    words = refl;
-    slot = refl;
-    seat = λ p. 0;
-    views = only ws;
-    all = λ p below. (0, first, refl, omega arith);
-  }
-
-  module _ (b : Bus E) (T : Trails) (seat : ℕ → ℕ) (k id count : ℕ) (mine : seat k ≡ id) (j : ℕ) (other : j ≢ id) where
+  module _ (z : A.State) (seat : ℕ → ℕ) (k id count : ℕ) (mine : seat k ≡ id) (j : ℕ) (other : j ≢ id) where
     seats_still : (q : ℕ) → seat q ≡ j → sit seat k count q ≡ j
     seats_still q at = sit_else seat k count q (λ e. other (sym at ∙ ap seat e ∙ mine)) ∙ at
 
-    cut_others : (v : View (Core E)) → Knows x b T seat j v → Knows x b T (sit seat k count) j v
+    cut_others : (v : View C) → IsTrueOf P A z seat j v → IsTrueOf P A z (sit seat k count) j v
     cut_others (Maker c) h = (h.0, λ q low high. let u = h.1 q low high in record { here = seats_still q u.here; core = u.core; deeds = u.deeds })
-    cut_others (Sender c t stored) h = record { here = seats_still c.me h.here; core = h.core; deeds = h.deeds; reached = h.reached }
-    cut_others (Tap c e) h = h
-    cut_others (Meeting c e d f) h = h
-    cut_others (Telling c t stored d e) h = (record { here = seats_still c.me h.0.here; core = h.0.core; deeds = h.0.deeds; reached = h.0.reached }, h.1)
+    cut_others (Sender c t stored) h = record { here = seats_still (P.me c) h.here; core = h.core; deeds = h.deeds; reached = h.reached }
+    cut_others (Tap x e) h = h
+    cut_others (Meeting x e y f) h = h
+    cut_others (Telling c t stored x e) h = (record { here = seats_still (P.me c) h.0.here; core = h.0.core; deeds = h.0.deeds; reached = h.0.reached }, h.1)
     cut_others Spent h = tt
 
   -- a seat for one more sender
-  pub cut_allowed : (id : ℕ) (c : Core E) → c.me < c.layout.senders → Splits (IsShown X x) id (Maker c) (cut_left (Maker c)) (cut_right (Maker c))
+  pub cut_allowed : (id : ℕ) (c : C) → P.me c < (P.extent c).senders → Splits (IsShown P A) id (Maker c) (cut_left P (Maker c)) (cut_right (Maker c))
   cut_allowed id c below s r at =
       let old = r.views id (Maker c) at in
-      let layout : c.layout ≡ x = ap (λ (z : Core E). z.layout) old.0 in
-      let within : c.me < x.senders = subst (λ (z : Layout). c.me < z.senders) layout below in
-      let mine = old.1 c.me (omega arith) within in
+      let extent : P.extent c ≡ A.extent = ap P.extent old.0 ∙ L.started_extent (P.me c) in
+      let within : P.me c < A.extent.senders = subst (λ (z : Extent). P.me c < z.senders) extent below in
+      let mine = old.1 (P.me c) (omega arith) within in
       let count : ℕ = length s.views in
-      let seat : ℕ → ℕ = sit r.seat c.me count in
-      let left : View (Core E) = Maker (next_core c) in
-      let right : View (Core E) = Sender c [] 0 in
+      let seat : ℕ → ℕ = sit r.seat (P.me c) count in
+      let next : P.successor c ≡ A.started (P.me c + 1) = ap P.successor old.0 ∙ L.started_next (P.me c) in
+      let next_me : P.me (P.successor c) ≡ P.me c + 1 = ap P.me next ∙ L.started_me (P.me c + 1) in
+      let left : View C = Maker (P.successor c) in
+      let right : View C = Sender c [] 0 in
       record {
-        served = r.served;
-        bus = r.bus;
-        trails = r.trails;
+        state = r.state;
         reached = r.reached;
-        alone = r.alone;
-        running = r.running;
         words = r.words;
         slot = r.slot;
         seat = seat;
-        all = λ p in_range. elim (cases_eq p c.me) [
+        all = λ p in_range. elim (cases_eq p (P.me c)) [
           | inl e ↦ (count, right, at_last (set s.views id left) right count (length-set s.views id left), sym e)
-          | inr n ↦ seen_longer (set s.views id left) right p (still_seen s.views id (Maker c) left at p (λ is. omega arith) (r.all p in_range))
+          | inr n ↦ seen_longer P (set s.views id left) right p (still_seen P s.views id (Maker c) left at p (λ is. omega (arith, n)) (r.all p in_range))
         ];
         views = λ j v e. elim (at_end (set s.views id left) right v j e) [
           | inl u ↦ ⊎_elim
-              (λ (y : (j ≡ id) × (left ≡ v)). subst (λ (z : ℕ × View (Core E)). Knows x r.bus r.trails seat z.0 z.1) (λ i. (sym y.0 i, y.1 i))
-              (ap (λ (z : Layout). new_core z (c.me + 1)) layout, λ q low high. let w = old.1 q (omega arith) high in record { here = sit_else r.seat c.me count q (λ y. omega (arith, y)) ∙ w.here; core = w.core; deeds = w.deeds }))
-              (λ (y : (j ≢ id) × (get_elem? s.views j ≡ some v)). cut_others r.bus r.trails r.seat c.me id count mine.here j y.0 v (r.views j v y.1))
+              (λ (y : (j ≡ id) × (left ≡ v)). subst (λ (z : ℕ × View C). IsTrueOf P A r.state seat z.0 z.1) (λ i. (sym y.0 i, y.1 i))
+              (next ∙ ap A.started (sym next_me), λ q low high. let w = old.1 q (let m = next_me in omega arith) high in record { here = sit_else r.seat (P.me c) count q (λ y. let m = next_me in omega (arith, y)) ∙ w.here; core = w.core; deeds = w.deeds }))
+              (λ (y : (j ≢ id) × (get_elem? s.views j ≡ some v)). cut_others r.state r.seat (P.me c) id count mine.here j y.0 v (r.views j v y.1))
               (at_set s.views id j left v u)
-          | inr u ↦ subst (λ (z : ℕ × View (Core E)). Knows x r.bus r.trails seat z.0 z.1) (λ i. (sym (u.0 ∙ length-set s.views id left) i, u.1 i))
-              (record { here = sit_here r.seat c.me count; core = mine.core ∙ ap Some (sym old.0); deeds = mine.deeds; reached = omega arith })
+          | inr u ↦ subst (λ (z : ℕ × View C). IsTrueOf P A r.state seat z.0 z.1) (λ i. (sym (u.0 ∙ length-set s.views id left) i, u.1 i))
+              (record { here = sit_here r.seat (P.me c) count; core = mine.core ∙ ap Some (sym old.0); deeds = mine.deeds; reached = omega arith })
         ];
       }
 
   -- a seat for one more receiver
-  pub tap_allowed : (P : Protocol E (Unit {0}) ℕ) → Serves X P x → (id : ℕ) (c : Core E) → Splits (IsShown X x) id (Maker c) (tap_left (Maker c)) (tap_right (Maker c))
-  tap_allowed P y id c s r at = let k = kept X P x y r.served r.bus r.trails r.reached in record {
-    served = r.served;
-    bus = r.bus;
-    trails = r.trails;
-    reached = r.reached;
-    alone = r.alone;
-    running = r.running;
-    words = r.words;
-    slot = r.slot;
-    seat = r.seat;
-    all = λ p below. seen_longer (set s.views id (Maker c)) (Tap c new_ear) p (still_seen s.views id (Maker c) (Maker c) at p (λ is. is) (r.all p below));
-    views = λ j v e. elim (at_end (set s.views id (Maker c)) (Tap c new_ear) v j e) [
-      | inl u ↦ ⊎_elim
-          (λ (y : (j ≡ id) × (Maker c ≡ v)). subst (λ (z : ℕ × View (Core E)). Knows x r.bus r.trails r.seat z.0 z.1) (λ i. (sym y.0 i, y.1 i)) (r.views id (Maker c) at))
-          (λ (y : (j ≢ id) × (get_elem? s.views j ≡ some v)). r.views j v y.1)
-          (at_set s.views id j (Maker c) v u)
-      | inr u ↦ subst (Knows x r.bus r.trails r.seat j) u.1 (knows_new x r.bus c (ap (λ (z : Core E). z.layout) (r.views id (Maker c) at).0) k.frames k.lawful.keeps.sending.log.lawful (sym (log_is X P x y r.served r.bus r.trails k)))
-    ];
-  }
+  pub tap_allowed : (id : ℕ) (c : C) → Splits (IsShown P A) id (Maker c) (tap_left (Maker c)) (tap_right P (Maker c))
+  tap_allowed id c s r at =
+      let log = L.log r.state r.reached in
+      let old = r.views id (Maker c) at in
+      let tap : View C = Tap (P.extent c) new_ear in
+      record {
+        state = r.state;
+        reached = r.reached;
+        words = r.words;
+        slot = r.slot;
+        seat = r.seat;
+        all = λ p below. seen_longer P (set s.views id (Maker c)) tap p (still_seen P s.views id (Maker c) (Maker c) at p (λ is. is) (r.all p below));
+        views = λ j v e. elim (at_end (set s.views id (Maker c)) tap v j e) [
+          | inl u ↦ ⊎_elim
+              (λ (y : (j ≡ id) × (Maker c ≡ v)). subst (λ (z : ℕ × View C). IsTrueOf P A r.state r.seat z.0 z.1) (λ i. (sym y.0 i, y.1 i)) old)
+              (λ (y : (j ≢ id) × (get_elem? s.views j ≡ some v)). r.views j v y.1)
+              (at_set s.views id j (Maker c) v u)
+          | inr u ↦ subst (IsTrueOf P A r.state r.seat j) u.1 (knows_new A r.state (P.extent c) (ap P.extent old.0 ∙ L.started_extent (P.me c)) log.frames log.lawful log.words_are)
+        ];
+      }
 
 -- a sender shows the seat that was made for it
-pub shows_new : {E : Type 0} (x : Layout) (k : ℕ) (c : Core E) (v : View (Core E)) (s : Seat (Option Page) (View (Core E))) → x.capacity < 2 ^ 40 → c ≡ new_core x k → v ≡ Maker (new_core x k) → s.me ≡ (cut_right v, []) → s.table_id.words ≡ words_of x → s.table_id.slots ≡ 1 → Shows c s
-shows_new {E} x k c v s few is maker me words slots =
-    let now : s.me ≡ (Sender c [] 0, []) = me ∙ ap (λ (y : View (Core E)). (cut_right y, [])) maker ∙ ap (λ (y : Core E). (Sender y [] 0, [])) (sym is) in
+pub shows_new : {C : Type 0} (P : Process C) (A : Automaton C) → AutomatonLaws P A → Opens P A → (k : ℕ) (c : C) (v : View C) (s : Seat (Option Page) (View C)) → c ≡ A.started k → v ≡ Maker (A.started k) → s.me ≡ (cut_right v, []) → s.table_id.words ≡ A.extent.words → s.table_id.slots ≡ 1 → Shows P c s
+shows_new {C} P A L o k c v s is maker me words slots =
+    let now : s.me ≡ (Sender c [] 0, []) = me ∙ ap (λ (y : View C). (cut_right y, [])) maker ∙ ap (λ (y : C). (Sender y [] 0, [])) (sym is) in
+    let away : P.holds c ≡ false = ap P.holds is ∙ L.started_away k in
     record {
       shown = c;
       deeds = [];
       accepts = Nothing;
-      counted = subst IsCounted (sym is) (record { first = omega arith; few = omega arith; capacity = few });
-      me = now ∙ (λ i. (Sender c (trail_in (sym now i).0) (stored_in (sym now i).0), carried_of (sym is i).phase));
-      words = words ∙ ap (λ (y : Core E). words_of y.layout) (sym is);
+      counted = subst (IsCounted P) (sym is) (o.counted k);
+      me = now ∙ (λ i. (Sender c (trail_in (sym now i).0) (stored_in (sym now i).0), carried_of (sym away i)));
+      words = words ∙ ap (λ (x : Extent). x.words) (sym (ap P.extent is ∙ L.started_extent k));
       slots = slots;
     }
 
-pub one_more : {E : Type 0} (x : Layout) (table : TableId) (many : ℕ) (senders : List (Seated E)) (s : Seated E) → AreNewSeats x table many senders → IsNewSeat x table many s → AreNewSeats x table (many + 1) (senders ++ s ∷ [])
-one_more x table many senders s h new = record {
+pub one_more : {C : Type 0} (P : Process C) (A : Automaton C) (table : TableId) (many : ℕ) (senders : List (Seated C)) (s : Seated C) → AreNewSeats P A table many senders → IsNewSeat P A table many s → AreNewSeats P A table (many + 1) (senders ++ s ∷ [])
+one_more P A table many senders s h new = record {
   many_are = length-append senders (s ∷ []) ∙ (let z = h.many_are in omega arith);
   each = λ p y e.
       let within = slice_get_within (senders ++ s ∷ []) p y e in let size = length-append senders (s ∷ []) in
@@ -202,12 +162,12 @@ one_more x table many senders s h new = record {
         | inl l ↦ h.each p y (sym (push_beside senders s p (λ i. absurd (omega arith))) ∙ e)
         | inr l ↦
             let here : p ≡ length senders = omega arith in
-            subst (λ z. IsNewSeat x table z y) (sym here) (subst (IsNewSeat x table (length senders)) (same_Some _ _ (sym (push_here senders s (length senders) refl) ∙ ap (slice_get (senders ++ s ∷ [])) (sym here) ∙ e))
-            (subst (λ z. IsNewSeat x table z s) (sym h.many_are) new))
+            subst (λ z. IsNewSeat P A table z y) (sym here) (subst (IsNewSeat P A table (length senders)) (same_Some _ _ (sym (push_here senders s (length senders) refl) ∙ ap (slice_get (senders ++ s ∷ [])) (sym here) ∙ e))
+            (subst (λ z. IsNewSeat P A table z s) (sym h.many_are) new))
       ];
 }
 
-pub one_more_tap : {E : Type 0} (x : Layout) (table : TableId) (many : ℕ) (taps : List (Spot E)) (t : Spot E) → AreNewTaps x table many taps → IsNewTap x table t → AreNewTaps x table (many + 1) (taps ++ t ∷ [])
+pub one_more_tap : {C : Type 0} (x : Extent) (table : TableId) (many : ℕ) (taps : List (Spot C)) (t : Spot C) → AreNewTaps x table many taps → IsNewTap x table t → AreNewTaps x table (many + 1) (taps ++ t ∷ [])
 one_more_tap x table many taps t h new = record {
   many_are = length-append taps (t ∷ []) ∙ (let z = h.many_are in omega arith);
   each = λ r y e.
@@ -225,8 +185,8 @@ by_each : {A : Type 0} (P : A → Type 0) (xs : List A) → ((p : ℕ) (x : A) �
 by_each P [] each = All-nil P
 by_each P (x ∷ xs) each = All-cons P x xs (each 0 x refl) (by_each P xs (λ p. each (suc p)))
 
-pub all_here : {E : Type 0} (x : Layout) (table : TableId) (many : ℕ) (senders : List (Seated E)) → AreNewSeats x table many senders → All (λ s. table_of s ≡ table) senders
-all_here x table many senders h = by_each (λ s. table_of s ≡ table) senders (λ p s e. (h.each p s e).table_is)
+pub all_here : {C : Type 0} (P : Process C) (A : Automaton C) (table : TableId) (many : ℕ) (senders : List (Seated C)) → AreNewSeats P A table many senders → All (λ s. table_of s ≡ table) senders
+all_here P A table many senders h = by_each (λ s. table_of s ≡ table) senders (λ p s e. (h.each p s e).table_is)
 
-pub all_taps_here : {E : Type 0} (x : Layout) (table : TableId) (many : ℕ) (taps : List (Spot E)) → AreNewTaps x table many taps → All (λ t. t.table_id ≡ table) taps
+pub all_taps_here : {C : Type 0} (x : Extent) (table : TableId) (many : ℕ) (taps : List (Spot C)) → AreNewTaps x table many taps → All (λ t. t.table_id ≡ table) taps
 all_taps_here x table many taps h = by_each (λ t. t.table_id ≡ table) taps (λ r t e. (h.each r t e).table_is)

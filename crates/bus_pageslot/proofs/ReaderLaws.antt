@@ -10,10 +10,10 @@ use Rattle.bus_batch.specs.Frames.{AreFrames, GivesPiece, log_words, log_pieces}
 use Rattle.bus_deliverylog.specs.declared.receiving.RecvTurn.{RecvTurn}
 use Rattle.bus_deliverylog.specs.declared.receiving.RecvTurn.TheVariants as turn
 use Rattle.bus_deliverylog.specs.Receiving.{Receiving, HasReceived, TakesLength, TakesWord, TakesGood, turn_of}
-use Rattle.bus_tenure.specs.Core.{Core}
 use Rattle.bus_world.specs.Headline.{IsPrefix}
 use Rattle.bus_pageslot.specs.Ears.{Ear, heard_length, heard_word, length_turn}
 use Rattle.bus_pageslot.specs.declared.rule.View.TheVariants.{Tap}
+use Rattle.bus_pageslot.specs.Processes.{Extent}
 use Rattle.bus_pageslot.specs.Rule.{Sat, ear_in, known_in}
 use Rattle.bus_pageslot.specs.Seats.{knows, IsFit, IsEar}
 use Rattle.bus_pageslot.specs.Listening.{FindsLength, FindsWord, HearsLength, HearsWord, Hears}
@@ -78,7 +78,7 @@ at_length place known got answer at same other = elim (eqb_tells got place) [
   | inr n ↦ other (λ e. n.1 (e ∙ sym at)) ∙ ap (λ b. cond b turn.Empty turn.Going) (sym n.0)
 ]
 
-module _ {E : Type 0} (c : Core E) (e : Ear) (r r' : Receiving) (got : ℕ) (answer : RecvTurn) (fit : IsFit c.layout.senders e r) (known : r.known ≡ length e.known) (at : r.place ≡ r.known) (small : got < 2 ^ 64) (takes : TakesLength r got answer r') where
+module _ (x : Extent) (e : Ear) (r r' : Receiving) (got : ℕ) (answer : RecvTurn) (fit : IsFit x.senders e r) (known : r.known ≡ length e.known) (at : r.place ≡ r.known) (small : got < 2 ^ 64) (takes : TakesLength r got answer r') where
   more_known : (ws : List ℕ) → IsPrefix e.known ws → length ws ≡ got → r.known ≤ got
   more_known ws grows long = let l = not_longer e.known ws grows in omega arith
 
@@ -89,45 +89,45 @@ module _ {E : Type 0} (c : Core E) (e : Ear) (r r' : Receiving) (got : ℕ) (ans
         at_length e.place r.known got answer (sym fit.place ∙ at) (λ same. (takes.same same).0) (λ other. (takes.more (omega arith) (omega arith)).0),
       )
 
-  pub length_heard_at : (m' : Sat E) → (f : FindsLength (Tap c e, []) got m')
-      → (m' ≡ (Tap c (heard_length e f.known answer), [])) × IsFit c.layout.senders (heard_length e f.known answer) r' × HearsLength (Tap c e, []) answer m' × (r'.known ≡ length f.known) × (length f.known ≤ c.layout.capacity)
+  pub length_heard_at : {C : Type 0} (m' : Sat C) → (f : FindsLength (Tap x e, []) got m')
+      → (m' ≡ (Tap x (heard_length e f.known answer), [])) × IsFit x.senders (heard_length e f.known answer) r' × HearsLength (Tap x e, []) answer m' × (r'.known ≡ length f.known) × (length f.known ≤ x.capacity)
   length_heard_at m' f =
       let t = taken (more_known f.known f.grows f.length_is) in
       let e' : Ear = heard_length e f.known answer in
-      let now : m' ≡ (Tap c e', []) = f.now ∙ ap (λ a. (Tap c (heard_length e f.known a), [])) (sym t.1) in
+      let now : m' ≡ (Tap x e', []) = f.now ∙ ap (λ a. (Tap x (heard_length e f.known a), [])) (sym t.1) in
       let reads : r'.known ≡ length f.known = ap (λ (z : Receiving). z.known) t.0 ∙ sym f.length_is in
-      let kept = fits_learnt c.layout.senders e e' r fit refl refl f.grows in
+      let kept = fits_learnt x.senders e e' r fit refl refl f.grows in
       let a = more_known f.known f.grows f.length_is in
       let b = f.length_is in
       let d = fit.within in (
         now,
-        subst (IsFit c.layout.senders e') (sym t.0) (fits_knowing c.layout.senders got e' r kept (omega arith) (omega arith)),
+        subst (IsFit x.senders e') (sym t.0) (fits_knowing x.senders got e' r kept (omega arith) (omega arith)),
         record { got = got; finds = f; answer_is = t.1 },
         reads,
         f.within,
       )
 
 -- the same of a seat
-module _ {E : Type 0} (m m' : Sat E) (words words' : ℕ) (r r' : Receiving) (got : ℕ) (answer : RecvTurn) (f : FindsLength m got m') (same : words' ≡ words) (known : r.known ≡ length (known_in m.0)) (at : r.place ≡ r.known) (small : got < 2 ^ 64) (takes : TakesLength r got answer r') where
+module _ {C : Type 0} (m m' : Sat C) (words words' : ℕ) (r r' : Receiving) (got : ℕ) (answer : RecvTurn) (f : FindsLength m got m') (same : words' ≡ words) (known : r.known ≡ length (known_in m.0)) (at : r.place ≡ r.known) (small : got < 2 ^ 64) (takes : TakesLength r got answer r') where
   module _ (log : ℕ) (h : IsEar m words log r) where
-    found : FindsLength (Tap h.core h.ear, []) got m'
-    found = subst (λ (y : Sat E). FindsLength y got m') h.me f
+    found : FindsLength (Tap h.extent h.ear, []) got m'
+    found = subst (λ (y : Sat C). FindsLength y got m') h.me f
 
-    heard : (m' ≡ (Tap h.core (heard_length h.ear found.known answer), [])) × IsFit h.core.layout.senders (heard_length h.ear found.known answer) r' × HearsLength (Tap h.core h.ear, []) answer m' × (r'.known ≡ length found.known) × (length found.known ≤ h.core.layout.capacity)
-    heard = length_heard_at h.core h.ear r r' got answer h.fit (known ∙ ap (λ (y : Sat E). length (known_in y.0)) h.me) at small takes m' found
+    heard : (m' ≡ (Tap h.extent (heard_length h.ear found.known answer), [])) × IsFit h.extent.senders (heard_length h.ear found.known answer) r' × HearsLength (Tap h.extent h.ear, []) answer m' × (r'.known ≡ length found.known) × (length found.known ≤ h.extent.capacity)
+    heard = length_heard_at h.extent h.ear r r' got answer h.fit (known ∙ ap (λ (y : Sat C). length (known_in y.0)) h.me) at small takes m' found
 
     pub length_ear : IsEar m' words' log r'
-    length_ear = record { core = h.core; ear = heard_length h.ear found.known answer; me = heard.0; log_is = h.log_is; within = heard.4; room = h.room; wide = same ∙ h.wide; fit = heard.1 }
+    length_ear = record { extent = h.extent; ear = heard_length h.ear found.known answer; me = heard.0; log_is = h.log_is; within = heard.4; room = h.room; few = h.few; behind = h.behind; wide = same ∙ h.wide; fit = heard.1 }
 
     pub length_known : r'.known ≡ length (known_in m'.0)
-    length_known = heard.3 ∙ ap (λ (y : Sat E). length (known_in y.0)) (sym heard.0)
+    length_known = heard.3 ∙ ap (λ (y : Sat C). length (known_in y.0)) (sym heard.0)
 
     pub length_is_heard : HearsLength m answer m'
-    length_is_heard = subst (λ (y : Sat E). HearsLength y answer m') (sym h.me) heard.2
+    length_is_heard = subst (λ (y : Sat C). HearsLength y answer m') (sym h.me) heard.2
 
 -- ---- a load of the word at its place, by a turn
-module _ {E : Type 0} (c : Core E) (e : Ear) (r r' : Receiving) (got : ℕ) (answer : RecvTurn) (m' : Sat E) (fit : IsFit c.layout.senders e r) (unread : r.place ≢ r.known) (senders : r'.frames.senders ≡ r.frames.senders) (takes : TakesWord (take r.place e.known) fit.pieces r got answer r')
-    (f : FindsWord (Tap c e, []) got m') where
+module _ {C : Type 0} (x : Extent) (e : Ear) (r r' : Receiving) (got : ℕ) (answer : RecvTurn) (m' : Sat C) (fit : IsFit x.senders e r) (unread : r.place ≢ r.known) (senders : r'.frames.senders ≡ r.frames.senders) (takes : TakesWord (take r.place e.known) fit.pieces r got answer r')
+    (f : FindsWord (Tap x e, []) got m') where
   below : r.place < length e.known
   below = let a = fit.within in let b = fit.below in omega arith
 
@@ -158,10 +158,10 @@ module _ {E : Type 0} (c : Core E) (e : Ear) (r r' : Receiving) (got : ℕ) (ans
       let size : length (take r.place e.known) ≡ e.place = (let l = length-take r.place e.known in let b = below in let p = fit.place in omega arith) in
       same_Some _ _ (sym f.at ∙ ap (slice_get (log_pieces f.frames)) (sym size) ∙ a)
 
-  pub word_now : m' ≡ (Tap c (heard_word e good.found answer), [])
-  word_now = f.now ∙ ap (λ u. (Tap c (heard_word e u (turn_of u)), [])) same ∙ ap (λ a. (Tap c (heard_word e good.found a), [])) (sym good.answer_is)
+  pub word_now : m' ≡ (Tap x (heard_word e good.found answer), [])
+  word_now = f.now ∙ ap (λ u. (Tap x (heard_word e u (turn_of u)), [])) same ∙ ap (λ a. (Tap x (heard_word e good.found a), [])) (sym good.answer_is)
 
-  pub word_fits : IsFit c.layout.senders (heard_word e good.found answer) r'
+  pub word_fits : IsFit x.senders (heard_word e good.found answer) r'
   word_fits =
       let p : r'.place ≡ r.place + 1 = ap (λ (z : Receiving). z.place) good.new_is in
       let q : r'.known ≡ r.known = ap (λ (z : Receiving). z.known) good.new_is in
@@ -177,7 +177,7 @@ module _ {E : Type 0} (c : Core E) (e : Ear) (r r' : Receiving) (got : ℕ) (ans
         received = subst (λ z. HasReceived z (fit.pieces ++ good.found ∷ []) r') (sym front ∙ ap (λ k. take k e.known) (sym p)) good.received;
       }
 
-  pub word_is_heard : HearsWord (Tap c e, []) answer m'
+  pub word_is_heard : HearsWord (Tap x e, []) answer m'
   word_is_heard = record {
     got = got;
     finds = f;
@@ -186,62 +186,66 @@ module _ {E : Type 0} (c : Core E) (e : Ear) (r r' : Receiving) (got : ℕ) (ans
   }
 
 -- the same of a seat
-module _ {E : Type 0} (m m' : Sat E) (words words' log : ℕ) (r r' : Receiving) (got : ℕ) (answer : RecvTurn) (h : IsEar m words log r) (f : FindsWord m got m') (same_words : words' ≡ words) (unread : r.place ≢ r.known) (senders : r'.frames.senders ≡ r.frames.senders)
+module _ {C : Type 0} (m m' : Sat C) (words words' log : ℕ) (r r' : Receiving) (got : ℕ) (answer : RecvTurn) (h : IsEar m words log r) (f : FindsWord m got m') (same_words : words' ≡ words) (unread : r.place ≢ r.known) (senders : r'.frames.senders ≡ r.frames.senders)
     (takes : (ws : List ℕ) (pieces : List (Option Piece)) → HasReceived ws pieces r → TakesWord ws pieces r got answer r') where
-  there : FindsWord (Tap h.core h.ear, []) got m'
-  there = subst (λ (y : Sat E). FindsWord y got m') h.me f
+  there : FindsWord (Tap h.extent h.ear, []) got m'
+  there = subst (λ (y : Sat C). FindsWord y got m') h.me f
 
   takes_it : TakesWord (take r.place h.ear.known) h.fit.pieces r got answer r'
   takes_it = takes (take r.place h.ear.known) h.fit.pieces h.fit.received
 
   pub word_ear : IsEar m' words' log r'
   word_ear = record {
-    core = h.core;
+    extent = h.extent;
     ear = heard_word h.ear _ answer;
-    me = word_now h.core h.ear r r' got answer m' h.fit unread senders takes_it there;
+    me = word_now h.extent h.ear r r' got answer m' h.fit unread senders takes_it there;
     log_is = h.log_is;
     within = h.within;
     room = h.room;
+    few = h.few;
+    behind = h.behind;
     wide = same_words ∙ h.wide;
-    fit = word_fits h.core h.ear r r' got answer m' h.fit unread senders takes_it there;
+    fit = word_fits h.extent h.ear r r' got answer m' h.fit unread senders takes_it there;
   }
 
   pub word_known : known_in m'.0 ≡ known_in m.0
-  word_known = ap (λ (y : Sat E). known_in y.0) (word_now h.core h.ear r r' got answer m' h.fit unread senders takes_it there) ∙ ap (λ (y : Sat E). known_in y.0) (sym h.me)
+  word_known = ap (λ (y : Sat C). known_in y.0) (word_now h.extent h.ear r r' got answer m' h.fit unread senders takes_it there) ∙ ap (λ (y : Sat C). known_in y.0) (sym h.me)
 
   pub word_heard : HearsWord m answer m'
-  word_heard = subst (λ (y : Sat E). HearsWord y answer m') (sym h.me) (word_is_heard h.core h.ear r r' got answer m' h.fit unread senders takes_it there)
+  word_heard = subst (λ (y : Sat C). HearsWord y answer m') (sym h.me) (word_is_heard h.extent h.ear r r' got answer m' h.fit unread senders takes_it there)
 
 -- ---- a turn, once its reader has caught up
-pub caught_ear : {E : Type 0} (m : Sat E) (words log k : ℕ) (old new : Receiving) → IsEar m words log old → k ≡ length (known_in m.0) → (old.place ≡ old.known → new ≡ knows k old) → (old.place ≢ old.known → new ≡ old) → IsEar m words log new
-caught_ear {E} m words log k old new h known here there =
-    let k_is : k ≡ length h.ear.known = known ∙ ap (λ (y : Sat E). length (known_in y.0)) h.me in
+pub caught_ear : {C : Type 0} (m : Sat C) (words log k : ℕ) (old new : Receiving) → IsEar m words log old → k ≡ length (known_in m.0) → (old.place ≡ old.known → new ≡ knows k old) → (old.place ≢ old.known → new ≡ old) → IsEar m words log new
+caught_ear {C} m words log k old new h known here there =
+    let k_is : k ≡ length h.ear.known = known ∙ ap (λ (y : Sat C). length (known_in y.0)) h.me in
     record {
-      core = h.core;
+      extent = h.extent;
       ear = h.ear;
       me = h.me;
       log_is = h.log_is;
       within = h.within;
       room = h.room;
+      few = h.few;
+      behind = h.behind;
       wide = h.wide;
-      fit = caught_up h.core.layout.senders h.ear old new h.fit (λ e. here e ∙ ap (λ n. knows n old) k_is) there;
+      fit = caught_up h.extent.senders h.ear old new h.fit (λ e. here e ∙ ap (λ n. knows n old) k_is) there;
     }
 
-pub hears_length : {E : Type 0} (m m' : Sat E) (words log : ℕ) (r : Receiving) (answer : RecvTurn) → IsEar m words log r → r.ended ≡ false → r.place ≡ length (known_in m.0) → HearsLength m answer m' → Hears m answer m'
-hears_length {E} m m' words log r answer h going at heard =
-    let on : (ear_in m.0).ended ≡ false = ap (λ (y : Sat E). (ear_in y.0).ended) h.me ∙ sym h.fit.ended ∙ going in
-    let place : (ear_in m.0).place ≡ r.place = ap (λ (y : Sat E). (ear_in y.0).place) h.me ∙ sym h.fit.place in
+pub hears_length : {C : Type 0} (m m' : Sat C) (words log : ℕ) (r : Receiving) (answer : RecvTurn) → IsEar m words log r → r.ended ≡ false → r.place ≡ length (known_in m.0) → HearsLength m answer m' → Hears m answer m'
+hears_length {C} m m' words log r answer h going at heard =
+    let on : (ear_in m.0).ended ≡ false = ap (λ (y : Sat C). (ear_in y.0).ended) h.me ∙ sym h.fit.ended ∙ going in
+    let place : (ear_in m.0).place ≡ r.place = ap (λ (y : Sat C). (ear_in y.0).place) h.me ∙ sym h.fit.place in
     record {
       ended = λ e. absurd (let bad : true ≡ false = sym e ∙ on in cc);
       at_length = λ goes here. heard;
       at_word = λ goes l. absurd (omega arith);
     }
 
-pub hears_word : {E : Type 0} (m m' : Sat E) (words log : ℕ) (r : Receiving) (answer : RecvTurn) → IsEar m words log r → r.ended ≡ false → r.place ≢ r.known → HearsWord m answer m' → Hears m answer m'
-hears_word {E} m m' words log r answer h going unread heard =
-    let on : (ear_in m.0).ended ≡ false = ap (λ (y : Sat E). (ear_in y.0).ended) h.me ∙ sym h.fit.ended ∙ going in
-    let place : (ear_in m.0).place ≡ r.place = ap (λ (y : Sat E). (ear_in y.0).place) h.me ∙ sym h.fit.place in
-    let size : length (known_in m.0) ≡ length h.ear.known = ap (λ (y : Sat E). length (known_in y.0)) h.me in
+pub hears_word : {C : Type 0} (m m' : Sat C) (words log : ℕ) (r : Receiving) (answer : RecvTurn) → IsEar m words log r → r.ended ≡ false → r.place ≢ r.known → HearsWord m answer m' → Hears m answer m'
+hears_word {C} m m' words log r answer h going unread heard =
+    let on : (ear_in m.0).ended ≡ false = ap (λ (y : Sat C). (ear_in y.0).ended) h.me ∙ sym h.fit.ended ∙ going in
+    let place : (ear_in m.0).place ≡ r.place = ap (λ (y : Sat C). (ear_in y.0).place) h.me ∙ sym h.fit.place in
+    let size : length (known_in m.0) ≡ length h.ear.known = ap (λ (y : Sat C). length (known_in y.0)) h.me in
     let a = h.fit.within in
     let b = h.fit.below in
     record {
@@ -250,9 +254,9 @@ hears_word {E} m m' words log r answer h going unread heard =
       at_word = λ goes l. heard;
     }
 
-pub hears_end : {E : Type 0} (m : Sat E) (words log : ℕ) (r : Receiving) → IsEar m words log r → r.ended ≡ true → Hears m turn.End m
-hears_end {E} m words log r h over =
-    let off : (ear_in m.0).ended ≡ true = ap (λ (y : Sat E). (ear_in y.0).ended) h.me ∙ sym h.fit.ended ∙ over in
+pub hears_end : {C : Type 0} (m : Sat C) (words log : ℕ) (r : Receiving) → IsEar m words log r → r.ended ≡ true → Hears m turn.End m
+hears_end {C} m words log r h over =
+    let off : (ear_in m.0).ended ≡ true = ap (λ (y : Sat C). (ear_in y.0).ended) h.me ∙ sym h.fit.ended ∙ over in
     record {
       ended = λ e. (refl, refl);
       at_length = λ goes here. absurd (let bad : true ≡ false = sym off ∙ goes in cc);
@@ -260,8 +264,8 @@ hears_end {E} m words log r h over =
     }
 
 -- a turn that takes no step is none, but after the end
-pub no_still_turn : {E : Type 0} (c : Core E) (e : Ear) (answer : RecvTurn) → e.ended ≡ false → e.place ≤ length e.known → Hears (Tap c e, []) answer (Tap c e, []) → ⊥
-no_still_turn {E} c e answer going within h = elim (cases_lt e.place (length e.known)) [
-  | inl l ↦ (let more : e.loads ≡ e.loads + 1 = ap (λ (y : Sat E). (ear_in y.0).loads) (h.at_word going l).finds.now in omega arith)
-  | inr l ↦ (let more : e.loads ≡ e.loads + 1 = ap (λ (y : Sat E). (ear_in y.0).loads) (h.at_length going (omega arith)).finds.now in omega arith)
+pub no_still_turn : {C : Type 0} (x : Extent) (e : Ear) (answer : RecvTurn) → e.ended ≡ false → e.place ≤ length e.known → Hears {C = C} (Tap x e, []) answer (Tap x e, []) → ⊥
+no_still_turn {C} x e answer going within h = elim (cases_lt e.place (length e.known)) [
+  | inl l ↦ (let more : e.loads ≡ e.loads + 1 = ap (λ (y : Sat C). (ear_in y.0).loads) (h.at_word going l).finds.now in omega arith)
+  | inr l ↦ (let more : e.loads ≡ e.loads + 1 = ap (λ (y : Sat C). (ear_in y.0).loads) (h.at_length going (omega arith)).finds.now in omega arith)
 ]

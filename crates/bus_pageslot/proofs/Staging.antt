@@ -4,13 +4,12 @@ use mathlib.Core.Option.{some}
 use lib.ListN.{get_elem?}
 use Rattle.std.proofs.lemmas.Bool.{cases_eq}
 use Rattle.std.proofs.lemmas.List.{get_or-set_other, set-get_or}
-use Rattle.std.proofs.lemmas.Option.{same_Some, slice_get_within}
+use Rattle.std.proofs.lemmas.Option.{same_Some}
 use Rattle.atomic_table.specs.Table.{State}
 use Rattle.bus_register.specs.declared.registers.Op.{Op}
 use Rattle.bus_register.specs.declared.registers.Op.TheVariants.{Load, Store}
 use Rattle.bus_register.specs.Words.{register}
 use Rattle.bus_register.specs.Tables.{of_some}
-use Rattle.bus_register.specs.Proved.TableLaws.{get_set_same}
 use Rattle.bus_register.specs.Protocol.{Protocol}
 use Rattle.bus_batch.specs.Frames.{Frame}
 use Rattle.bus_tenure.specs.Core.{Core, Election, Layout, stage_at, is_closed, is_closing, is_empty}
@@ -21,7 +20,7 @@ use Rattle.bus_tenure.specs.declared.phases.Phase.TheVariants as phase
 use Rattle.bus_world.specs.Bus.{Sending, Fits, standing_of, stands_at, least_of}
 use Rattle.bus_world.specs.Tenures.Standing.{Runs}
 use Rattle.bus_world.specs.Turning.{words_after}
-use Rattle.bus_world.specs.World.{Bus, with_sender}
+use Rattle.bus_world.specs.World.{Bus}
 use Rattle.bus_world.proofs.Serving.{Serves}
 use Rattle.bus_world.proofs.TenuresLaws as tenures
 use Rattle.bus_pageslot.specs.declared.rule.View.{View}
@@ -29,7 +28,10 @@ use Rattle.bus_pageslot.specs.declared.rule.View.TheVariants.{Sender}
 use Rattle.bus_pageslot.specs.Rule.{Sat, trail_in, stored_in, IsSeated, IsShown}
 use Rattle.bus_pageslot.specs.Stages.{TakesPageOf}
 use Rattle.bus_pageslot.specs.Steps.{IsDue}
-use Rattle.bus_pageslot.proofs.Reaching.{accepts, kept}
+use Rattle.bus_pageslot.specs.RowsApart.{process_apart, bus_apart}
+use Rattle.bus_pageslot.proofs.ApartStates.{automaton_laws}
+use Rattle.bus_pageslot.proofs.Histories.{kept}
+use Rattle.bus_pageslot.proofs.Reaching.{accepted}
 
 -- a step on another word leaves the stage
 other_word : (ws : List ℕ) (o : Op) → register o ≢ 1 → slice_index (words_after ws (Some o)) 1 ≡ slice_index ws 1
@@ -122,15 +124,16 @@ leaves_stage X P x y words home senders owners frames h p d old word t is_open o
 leaves_stage X P x y words home senders owners frames h p d old word t is_open o leaves (phase.Giving u reason) e due = absurd (subst (Fits (slice_index words) frames d) e (h.parts p d old).fits)
 
 -- ---- of a table of which the rule holds
-pub owners_leave : {E : Type 0} (X : Election E) (P : Protocol E (Unit {0}) ℕ) (x : Layout) (y : Serves X P x) (s : State (Option Page) (View (Core E))) (r : IsShown X x s) (id : ℕ) (m : Sat E) (at : get_elem? s.views id ≡ some m.0) (d : Core E) (word many t : ℕ) (o : Op) (due : IsDue X d word m many o)
+pub owners_leave : {E : Type 0} (X : Election E) (P : Protocol E (Unit {0}) ℕ) (x : Layout) (y : Serves X P x) (s : State (Option Page) (View (Core E))) (r : IsShown (process_apart X) (bus_apart X x) s) (id : ℕ) (m : Sat (Core E)) (at : get_elem? s.views id ≡ some m.0) (d : Core E) (word many t : ℕ) (o : Op) (due : IsDue (process_apart X) d word m many o)
     → slice_index s.words 1 ≡ 2 * t → (slice_index (words_after s.words (Some o)) 1 ≡ 2 * t → ⊥) → TakesPageOf X d t o
 owners_leave {E} X P x y s r id m at d word many t o due is_open leaves =
+    let A = bus_apart X x in
     let c = due.shown in
-    let seated : IsSeated r.bus r.trails r.seat id c (trail_in m.0) (stored_in m.0) = r.views id (Sender c (trail_in m.0) (stored_in m.0)) (at ∙ ap (λ (z : Sat E). some z.0) due.me) in
-    let grown = accepts X P x y r.served r.bus r.trails c.me c seated.core r.running r.reached d due.deeds due.accepts in
-    let b : Bus E = record { side = with_sender r.bus.side c.me d; receivers = r.bus.receivers; stopped = r.bus.stopped } in
-    let old : slice_get b.side.senders c.me ≡ Some d = get_set_same r.bus.side.senders c.me d (slice_get_within r.bus.side.senders c.me c seated.core) in
-    let k = kept X P x y r.served b grown.trails grown.reached in
-    let same : s.words ≡ b.side.words = r.words in
-    leaves_stage X P x y b.side.words b.side.home (slice_get b.side.senders) b.side.owners k.frames k.lawful.keeps.sending c.me d old word t (subst (λ w. slice_index w 1 ≡ 2 * t) same is_open) o
+    let seated : IsSeated (process_apart X) A r.state r.seat id c (trail_in m.0) (stored_in m.0) = r.views id (Sender c (trail_in m.0) (stored_in m.0)) (at ∙ ap (λ (z : Sat (Core E)). some z.0) due.me) in
+    let grown = accepted (process_apart X) A (automaton_laws X P x y) r.state r.reached c seated.core d due.deeds due.accepts in
+    let b : Bus E = grown.state.bus in
+    let h = grown.changes.reached in
+    let k = kept X P x y h.served b grown.state.trails h.reached in
+    let same : s.words ≡ b.side.words = r.words ∙ sym grown.words in
+    leaves_stage X P x y b.side.words b.side.home (slice_get b.side.senders) b.side.owners k.frames k.lawful.keeps.sending c.me d grown.changes.here word t (subst (λ w. slice_index w 1 ≡ 2 * t) same is_open) o
     (subst (λ w. slice_index (words_after w (Some o)) 1 ≡ 2 * t → ⊥) same leaves) d.phase refl due.due

@@ -1,16 +1,16 @@
--- A sender that can accept something accepts it; and an element put where it stands.
-use Rattle.std.proofs.Common.{◌≡◌, ℕ, zero, suc, ◌&&◌, true, false, cond, Some, List, [], ◌∷◌, length, slice_get, slice_set, sym, ◌∙◌, ap}
-use Rattle.std.proofs.lemmas.Option.{same_Some}
+-- A sender of a bus with a row for each tenure that can accept something accepts it.
+use Rattle.std.proofs.Common.{◌≡◌, ℕ, ◌&&◌, true, false, cond, List, [], ◌∷◌, ◌++◌, length, ◌∙◌, ap}
 use Rattle.bus_batch.specs.Batches.{CanPut, CanClose}
+use Rattle.bus_batch.specs.declared.batches.Phase.TheVariants.{Closing}
 use Rattle.bus_tenure.specs.Core.{Core, is_empty}
 use Rattle.bus_world.specs.World.{is_open, put_in, close_in}
 use Rattle.bus_world.proofs.EventTrails as events
-use Rattle.bus_pageslot.specs.Steps.{with_message, with_close}
 
-pub set_there : {A : Type 0} (xs : List A) (p : ℕ) (x : A) → slice_get xs p ≡ Some x → slice_set xs p x ≡ xs
-set_there [] p x e = absurd cc
-set_there (y ∷ xs) zero x e = ap (λ z. z ∷ xs) (sym (same_Some _ _ e))
-set_there (y ∷ xs) (suc p) x e = ap (λ z. y ∷ z) (set_there xs p x e)
+abbrev pub with_message : {E : Type 0} → Core E → List ℕ → Core E
+with_message c bytes = record c { queue = record c.queue { messages = c.queue.messages ++ bytes ∷ [] } }
+
+abbrev pub with_close : {E : Type 0} → Core E → Core E
+with_close c = record c { queue = record c.queue { phase = Closing } }
 
 module _ {E : Type 0} (d : Core E) where
   pub put_taken : (bytes : List ℕ) → CanPut d.queue (length bytes) → put_in d bytes ≡ with_message d bytes

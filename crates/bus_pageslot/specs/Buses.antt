@@ -2,15 +2,14 @@
 use Rattle.std.specs.Prelude.{◌≡◌, ℕ, ◌≤◌, ◌^◌, Option, Some, List, [], length, slice_get}
 use Rattle.atomic_table.specs.declared.shared.Seat.{Seat}
 use Rattle.atomic_table.specs.Seated.{TableId}
-use Rattle.bus_tenure.specs.Core.{Core, Layout, words_of}
 use Rattle.bus_tenure.specs.declared.pages.Page.{Page}
-use Rattle.bus_world.specs.World.{new_core}
 use Rattle.bus_world.specs.declared.shapes.Shape.{Shape}
 use Rattle.bus_pageslot.specs.declared.rule.View.{View}
 use Rattle.bus_pageslot.specs.declared.rule.View.TheVariants.{Maker}
 use Rattle.bus_pageslot.specs.Seats.{Seated, Spot, table_of, deeds_of, stored_of}
 use Rattle.bus_pageslot.specs.Ears.{new_ear}
-use Rattle.bus_pageslot.specs.Rule.{ear_in, senders_in, capacity_in}
+use Rattle.bus_pageslot.specs.Processes.{Extent, Process, Automaton}
+use Rattle.bus_pageslot.specs.Rule.{ear_in, extent_in}
 
 -- a bus: its table, and the sizes that were asked for
 pub record Site : Type 0 where
@@ -18,33 +17,32 @@ pub record Site : Type 0 where
   pub shape : Shape
 
 -- a table of these sizes, and the seat of its maker
-pub record IsBoard {E : Type 0} (x : Layout) (table : TableId) (maker : Seat (Option Page) (View (Core E))) : Type 0 where
+pub record IsBoard {C : Type 0} (A : Automaton C) (table : TableId) (maker : Seat (Option Page) (View C)) : Type 0 where
   pub table_is : maker.table_id ≡ table
-  pub room : words_of x ≤ 2 ^ 63
-  pub words : table.words ≡ words_of x
+  pub room : A.extent.words ≤ 2 ^ 63
+  pub words : table.words ≡ A.extent.words
   pub slots : table.slots ≡ 1
-  pub me : maker.me ≡ (Maker (new_core x 0), [])
+  pub me : maker.me ≡ (Maker (A.started 0), [])
 
 -- a sender of this table before its first turn
-pub record IsNewSeat {E : Type 0} (x : Layout) (table : TableId) (p : ℕ) (s : Seated E) : Type 0 where
-  pub core : s.core ≡ new_core x p
+pub record IsNewSeat {C : Type 0} (P : Process C) (A : Automaton C) (table : TableId) (p : ℕ) (s : Seated C) : Type 0 where
+  pub core : s.core ≡ A.started p
   pub table_is : table_of s ≡ table
-  pub deeds : deeds_of s ≡ []
+  pub deeds : deeds_of P s ≡ []
   pub stored : stored_of s ≡ 0
 
 -- so many of them, in order
-pub record AreNewSeats {E : Type 0} (x : Layout) (table : TableId) (many : ℕ) (senders : List (Seated E)) : Type 0 where
+pub record AreNewSeats {C : Type 0} (P : Process C) (A : Automaton C) (table : TableId) (many : ℕ) (senders : List (Seated C)) : Type 0 where
   pub many_are : length senders ≡ many
-  pub each : (p : ℕ) (s : Seated E) → slice_get senders p ≡ Some s → IsNewSeat x table p s
+  pub each : (p : ℕ) (s : Seated C) → slice_get senders p ≡ Some s → IsNewSeat P A table p s
 
 -- a receiver of this table before its first turn
-pub record IsNewTap {E : Type 0} (x : Layout) (table : TableId) (t : Spot E) : Type 0 where
+pub record IsNewTap {C : Type 0} (x : Extent) (table : TableId) (t : Spot C) : Type 0 where
   pub table_is : t.table_id ≡ table
   pub ear : ear_in t.me.0 ≡ new_ear
-  pub senders_are : senders_in t.me.0 ≡ x.senders
-  pub capacity : capacity_in t.me.0 ≡ x.capacity
+  pub extent : extent_in t.me.0 ≡ x
 
 -- so many of them, in order
-pub record AreNewTaps {E : Type 0} (x : Layout) (table : TableId) (many : ℕ) (taps : List (Spot E)) : Type 0 where
+pub record AreNewTaps {C : Type 0} (x : Extent) (table : TableId) (many : ℕ) (taps : List (Spot C)) : Type 0 where
   pub many_are : length taps ≡ many
-  pub each : (r : ℕ) (t : Spot E) → slice_get taps r ≡ Some t → IsNewTap x table t
+  pub each : (r : ℕ) (t : Spot C) → slice_get taps r ≡ Some t → IsNewTap x table t

@@ -3,20 +3,20 @@ use Rattle.std.specs.Prelude.{◌≡◌, ℕ, List, [], ◌∷◌, Option}
 use mathlib.Core.Option.{some}
 use lib.ListN.{get_elem?}
 use Rattle.atomic_table.specs.Table.{State}
-use Rattle.bus_tenure.specs.Core.{Core, Election, Layout}
 use Rattle.bus_tenure.specs.declared.pages.Page.{Page}
 use Rattle.bus_world.specs.Headline.{IsPrefix}
 use Rattle.bus_pageslot.specs.declared.rule.View.{View}
 use Rattle.bus_pageslot.specs.Rule.{slot_of, known_in, IsShown}
-use Rattle.bus_pageslot.specs.Promised.{log_below, IsPromised}
+use Rattle.bus_pageslot.specs.Processes.{Process, Automaton, log_below}
+use Rattle.bus_pageslot.specs.Promised.{IsPromised}
 
 -- A table of which the rule holds, with this log below the length and this page at home, where a receiver's seat shows what it showed
 -- when the bus was ended. So the headline's page holds of what its seats show, and what that receiver knew begins the log.
-pub record IsLeft {E : Type 0} (X : Election E) (x : Layout) (seen : View (Core E)) (log : List ℕ) (home : Option Page) : Type 0 where
-  pub table : State (Option Page) (View (Core E))
-  pub shown : IsShown X x table
+pub record IsLeft {C : Type 0} (P : Process C) (A : Automaton C) (seen : View C) (log : List ℕ) (home : Option Page) : Type 0 where
+  pub table : State (Option Page) (View C)
+  pub shown : IsShown P A table
   pub here : (seat : ℕ) × (get_elem? table.views seat ≡ some seen)
-  pub log_is : log_below x table.words ≡ log
+  pub log_is : log_below A.extent table.words ≡ log
   pub home_is : table.homes ≡ slot_of home ∷ []
-  pub promised : IsPromised x table
+  pub promised : IsPromised P A.extent table
   pub front : IsPrefix (known_in seen) log

@@ -11,7 +11,7 @@ use Rattle.bus_pageslot.specs.Rule.{Sat, ear_in, known_in, with_ear, senders_in,
 
 -- ---- what the step tells
 -- of the length: what the receiver knows of the log grows, up to the length that was found
-pub record FindsLength {E : Type 0} (m : Sat E) (got : ℕ) (m' : Sat E) : Type 0 where
+pub record FindsLength {C : Type 0} (m : Sat C) (got : ℕ) (m' : Sat C) : Type 0 where
   pub known : List ℕ
   pub grows : IsPrefix (known_in m.0) known
   pub length_is : length known ≡ got
@@ -19,7 +19,7 @@ pub record FindsLength {E : Type 0} (m : Sat E) (got : ℕ) (m' : Sat E) : Type 
   pub now : m' ≡ (with_ear m.0 (heard_length (ear_in m.0) known (length_turn (ear_in m.0).place got)), m.1)
 
 -- of the word at the receiver's place: it is the one that it knows there, and gives what it gives in some log that goes on so
-pub record FindsWord {E : Type 0} (m : Sat E) (got : ℕ) (m' : Sat E) : Type 0 where
+pub record FindsWord {C : Type 0} (m : Sat C) (got : ℕ) (m' : Sat C) : Type 0 where
   pub got_is : got ≡ slice_index (known_in m.0) (ear_in m.0).place
   pub found : Option Piece
   pub frames : List Frame
@@ -31,14 +31,14 @@ pub record FindsWord {E : Type 0} (m : Sat E) (got : ℕ) (m' : Sat E) : Type 0 
 
 -- ---- what the turn tells
 -- The step found the length: the answer is Empty exactly where that is the receiver's place.
-pub record HearsLength {E : Type 0} (m : Sat E) (answer : RecvTurn) (m' : Sat E) : Type 0 where
+pub record HearsLength {C : Type 0} (m : Sat C) (answer : RecvTurn) (m' : Sat C) : Type 0 where
   pub got : ℕ
   pub finds : FindsLength m got m'
   pub answer_is : answer ≡ length_turn (ear_in m.0).place got
 
 -- The step found the word at the receiver's place: the answer is what it gives after the words that were read, in each log that goes
 -- on so.
-pub record HearsWord {E : Type 0} (m : Sat E) (answer : RecvTurn) (m' : Sat E) : Type 0 where
+pub record HearsWord {C : Type 0} (m : Sat C) (answer : RecvTurn) (m' : Sat C) : Type 0 where
   pub got : ℕ
   pub finds : FindsWord m got m'
   pub gives : GivesPiece (senders_in m.0) (take (ear_in m.0).place (known_in m.0)) got finds.found
@@ -46,7 +46,7 @@ pub record HearsWord {E : Type 0} (m : Sat E) (answer : RecvTurn) (m' : Sat E) :
 
 -- One turn of a receiver. After the end it answers so for good, and takes no step. Where it has read all that it knows it loads the
 -- length, and else the word at its place.
-pub record Hears {E : Type 0} (m : Sat E) (answer : RecvTurn) (m' : Sat E) : Type 0 where
+pub record Hears {C : Type 0} (m : Sat C) (answer : RecvTurn) (m' : Sat C) : Type 0 where
   pub ended : (ear_in m.0).ended ≡ true → (answer ≡ turn.End) × (m' ≡ m)
   pub at_length : (ear_in m.0).ended ≡ false → (ear_in m.0).place ≡ length (known_in m.0) → HearsLength m answer m'
   pub at_word : (ear_in m.0).ended ≡ false → (ear_in m.0).place < length (known_in m.0) → HearsWord m answer m'

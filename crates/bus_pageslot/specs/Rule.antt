@@ -1,19 +1,15 @@
--- The rule of the table. Its words and its slot are those of a bus that events lead to, with the deeds that the views of its
+-- The rule of the table. Its words and its slot are those of a state that executions of a bus lead to, with the deeds that the views of its
 -- seats show: so between any two steps all that is promised of the machine holds of what threads did.
-use Rattle.std.specs.Prelude.{◌≡◌, ℕ, ◌+◌, ◌<◌, ◌≤◌, List, [], ◌∷◌, length, Option, Some, None, slice_get, slice_index}
+use Rattle.std.specs.Prelude.{◌≡◌, ℕ, ◌<◌, ◌≤◌, List, [], ◌∷◌, length, Option, Some, None, slice_index}
 use mathlib.Core.Option.{some, none}
 use mathlib.Core.Option as maybe
 use lib.ListN.{get_elem?}
 use Rattle.atomic_table.specs.Table.{State, Me}
 use Rattle.bus_batch.specs.Frames.{Frame, AreFrames, log_words}
-use Rattle.bus_tenure.specs.Core.{Core, Election, Layout, log_at}
 use Rattle.bus_tenure.specs.declared.pages.Page.{Page}
-use Rattle.bus_world.specs.Bus.{IsLayout}
 use Rattle.bus_world.specs.Headline.{Deed, IsPrefix}
-use Rattle.bus_world.specs.Playing.{log_of}
-use Rattle.bus_world.specs.Trails.{Trails, Reached}
-use Rattle.bus_world.specs.World.{Bus, new_core, no_stops}
 use Rattle.bus_pageslot.specs.Ears.{Ear, new_ear, learnt, HasHeard}
+use Rattle.bus_pageslot.specs.Processes.{Extent, no_extent, Process, Automaton, log_in}
 use Rattle.bus_pageslot.specs.declared.rule.View.{View}
 use Rattle.bus_pageslot.specs.declared.rule.View.TheVariants.{Maker, Sender, Tap, Meeting, Telling, Spent}
 
@@ -21,224 +17,202 @@ abbrev pub slot_of : Option Page → maybe.Option (Option Page)
 slot_of (Some page) = some (Some page)
 slot_of None = none
 
--- the view of a seat of a bus whose senders hold Core E, and the slots that are out with it
+-- the view of a seat of a bus whose senders hold C, and the slots that are out with it
 abbrev pub Sat : Type 0 → Type 0
-Sat E = Me (Option Page) (View (Core E))
+Sat C = Me (Option Page) (View C)
 
-abbrev pub trail_in : {E : Type 0} → View (Core E) → List Deed
+abbrev pub trail_in : {C : Type 0} → View C → List Deed
 trail_in (Maker c) = []
 trail_in (Sender c trail stored) = trail
-trail_in (Tap c e) = []
-trail_in (Meeting c e d f) = []
-trail_in (Telling c trail stored d e) = trail
+trail_in (Tap x e) = []
+trail_in (Meeting x e y f) = []
+trail_in (Telling c trail stored x e) = trail
 trail_in Spent = []
 
 -- the last length that its sender has stored; 0 before the first
-abbrev pub stored_in : {E : Type 0} → View (Core E) → ℕ
+abbrev pub stored_in : {C : Type 0} → View C → ℕ
 stored_in (Maker c) = 0
 stored_in (Sender c trail stored) = stored
-stored_in (Tap c e) = 0
-stored_in (Meeting c e d f) = 0
-stored_in (Telling c trail stored d e) = stored
+stored_in (Tap x e) = 0
+stored_in (Meeting x e y f) = 0
+stored_in (Telling c trail stored x e) = stored
 stored_in Spent = 0
 
--- the next sender, which has done nothing
-abbrev pub next_core : {E : Type 0} → Core E → Core E
-next_core c = new_core c.layout (c.me + 1)
-
 -- the view of the maker of seats, before and after a seat is made
-abbrev pub cut_left : {E : Type 0} → View (Core E) → View (Core E)
-cut_left (Maker c) = Maker (next_core c)
-cut_left (Sender c trail stored) = Sender c trail stored
-cut_left (Tap c e) = Tap c e
-cut_left (Meeting c e d f) = Meeting c e d f
-cut_left (Telling c trail stored d e) = Telling c trail stored d e
-cut_left Spent = Spent
+abbrev pub cut_left : {C : Type 0} → Process C → View C → View C
+cut_left P (Maker c) = Maker (P.successor c)
+cut_left P (Sender c trail stored) = Sender c trail stored
+cut_left P (Tap x e) = Tap x e
+cut_left P (Meeting x e y f) = Meeting x e y f
+cut_left P (Telling c trail stored x e) = Telling c trail stored x e
+cut_left P Spent = Spent
 
-abbrev pub cut_right : {E : Type 0} → View (Core E) → View (Core E)
+abbrev pub cut_right : {C : Type 0} → View C → View C
 cut_right (Maker c) = Sender c [] 0
 cut_right (Sender c trail stored) = Spent
-cut_right (Tap c e) = Spent
-cut_right (Meeting c e d f) = Spent
-cut_right (Telling c trail stored d e) = Spent
+cut_right (Tap x e) = Spent
+cut_right (Meeting x e y f) = Spent
+cut_right (Telling c trail stored x e) = Spent
 cut_right Spent = Spent
 
 -- the view of the maker of seats, before and after a receiver's seat is made
-abbrev pub tap_left : {E : Type 0} → View (Core E) → View (Core E)
+abbrev pub tap_left : {C : Type 0} → View C → View C
 tap_left v = v
 
-abbrev pub tap_right : {E : Type 0} → View (Core E) → View (Core E)
-tap_right (Maker c) = Tap c new_ear
-tap_right (Sender c trail stored) = Spent
-tap_right (Tap c e) = Spent
-tap_right (Meeting c e d f) = Spent
-tap_right (Telling c trail stored d e) = Spent
-tap_right Spent = Spent
+abbrev pub tap_right : {C : Type 0} → Process C → View C → View C
+tap_right P (Maker c) = Tap (P.extent c) new_ear
+tap_right P (Sender c trail stored) = Spent
+tap_right P (Tap x e) = Spent
+tap_right P (Meeting x e y f) = Spent
+tap_right P (Telling c trail stored x e) = Spent
+tap_right P Spent = Spent
 
 -- what a receiver's seat knows, has read and was answered
-abbrev pub ear_in : {E : Type 0} → View (Core E) → Ear
+abbrev pub ear_in : {C : Type 0} → View C → Ear
 ear_in (Maker c) = new_ear
 ear_in (Sender c trail stored) = new_ear
-ear_in (Tap c e) = e
-ear_in (Meeting c e d f) = e
-ear_in (Telling c trail stored d e) = e
+ear_in (Tap x e) = e
+ear_in (Meeting x e y f) = e
+ear_in (Telling c trail stored x e) = e
 ear_in Spent = new_ear
 
-abbrev pub known_in : {E : Type 0} → View (Core E) → List ℕ
+abbrev pub known_in : {C : Type 0} → View C → List ℕ
 known_in v = (ear_in v).known
 
-abbrev pub with_ear : {E : Type 0} → View (Core E) → Ear → View (Core E)
+abbrev pub with_ear : {C : Type 0} → View C → Ear → View C
 with_ear (Maker c) e = Maker c
 with_ear (Sender c trail stored) e = Sender c trail stored
-with_ear (Tap c old) e = Tap c e
-with_ear (Meeting c old d f) e = Meeting c e d f
-with_ear (Telling c trail stored d old) e = Telling c trail stored d e
+with_ear (Tap x old) e = Tap x e
+with_ear (Meeting x old y f) e = Meeting x e y f
+with_ear (Telling c trail stored x old) e = Telling c trail stored x e
 with_ear Spent e = Spent
 
-abbrev pub senders_in : {E : Type 0} → View (Core E) → ℕ
-senders_in (Maker c) = 0
-senders_in (Sender c trail stored) = 0
-senders_in (Tap c e) = c.layout.senders
-senders_in (Meeting c e d f) = c.layout.senders
-senders_in (Telling c trail stored d e) = d.layout.senders
-senders_in Spent = 0
+-- how large a receiver's bus is
+abbrev pub extent_in : {C : Type 0} → View C → Extent
+extent_in (Maker c) = no_extent
+extent_in (Sender c trail stored) = no_extent
+extent_in (Tap x e) = x
+extent_in (Meeting x e y f) = x
+extent_in (Telling c trail stored x e) = x
+extent_in Spent = no_extent
 
-abbrev pub log_in : {E : Type 0} → View (Core E) → ℕ
-log_in (Maker c) = 0
-log_in (Sender c trail stored) = 0
-log_in (Tap c e) = log_at c.layout
-log_in (Meeting c e d f) = log_at c.layout
-log_in (Telling c trail stored d e) = log_at d.layout
-log_in Spent = 0
+abbrev pub senders_in : {C : Type 0} → View C → ℕ
+senders_in v = (extent_in v).senders
 
-abbrev pub capacity_in : {E : Type 0} → View (Core E) → ℕ
-capacity_in (Maker c) = 0
-capacity_in (Sender c trail stored) = 0
-capacity_in (Tap c e) = c.layout.capacity
-capacity_in (Meeting c e d f) = c.layout.capacity
-capacity_in (Telling c trail stored d e) = d.layout.capacity
-capacity_in Spent = 0
+abbrev pub capacity_in : {C : Type 0} → View C → ℕ
+capacity_in v = (extent_in v).capacity
 
 -- two seats joined: of two receivers, or of a sender and a receiver
-abbrev pub joined : {E : Type 0} → View (Core E) → View (Core E) → View (Core E)
-joined (Tap c e) (Tap d f) = Meeting c e d f
-joined (Sender c trail stored) (Tap d e) = Telling c trail stored d e
+abbrev pub joined : {C : Type 0} → View C → View C → View C
+joined (Tap x e) (Tap y f) = Meeting x e y f
+joined (Sender c trail stored) (Tap x e) = Telling c trail stored x e
 joined (Maker c) w = Spent
 joined (Sender c trail stored) (Maker d) = Spent
 joined (Sender c trail stored) (Sender d other length) = Spent
-joined (Sender c trail stored) (Meeting d e a f) = Spent
-joined (Sender c trail stored) (Telling d other length a e) = Spent
+joined (Sender c trail stored) (Meeting x e y f) = Spent
+joined (Sender c trail stored) (Telling d other length x e) = Spent
 joined (Sender c trail stored) Spent = Spent
-joined (Tap c e) (Maker d) = Spent
-joined (Tap c e) (Sender d trail stored) = Spent
-joined (Tap c e) (Meeting d f a g) = Spent
-joined (Tap c e) (Telling d trail length a f) = Spent
-joined (Tap c e) Spent = Spent
-joined (Meeting c e d f) w = Spent
-joined (Telling c trail stored d e) w = Spent
+joined (Tap x e) (Maker d) = Spent
+joined (Tap x e) (Sender d trail stored) = Spent
+joined (Tap x e) (Meeting y f z g) = Spent
+joined (Tap x e) (Telling d trail length y f) = Spent
+joined (Tap x e) Spent = Spent
+joined (Meeting x e y f) w = Spent
+joined (Telling c trail stored x e) w = Spent
 joined Spent w = Spent
 
 -- a seat that another may go into
-abbrev pub IsFirst : {E : Type 0} → View (Core E) → Type 0
+abbrev pub IsFirst : {C : Type 0} → View C → Type 0
 IsFirst (Maker c) = ⊥
 IsFirst (Sender c trail stored) = Unit {0}
-IsFirst (Tap c e) = Unit {0}
-IsFirst (Meeting c e d f) = ⊥
-IsFirst (Telling c trail stored d e) = ⊥
+IsFirst (Tap x e) = Unit {0}
+IsFirst (Meeting x e y f) = ⊥
+IsFirst (Telling c trail stored x e) = ⊥
 IsFirst Spent = ⊥
 
-abbrev pub IsPair : {E : Type 0} → View (Core E) → Type 0
+abbrev pub IsPair : {C : Type 0} → View C → Type 0
 IsPair (Maker c) = ⊥
 IsPair (Sender c trail stored) = ⊥
-IsPair (Tap c e) = ⊥
-IsPair (Meeting c e d f) = Unit {0}
-IsPair (Telling c trail stored d e) = Unit {0}
+IsPair (Tap x e) = ⊥
+IsPair (Meeting x e y f) = Unit {0}
+IsPair (Telling c trail stored x e) = Unit {0}
 IsPair Spent = ⊥
 
 -- and cut apart again
-abbrev pub first_of : {E : Type 0} → View (Core E) → View (Core E)
+abbrev pub first_of : {C : Type 0} → View C → View C
 first_of (Maker c) = Maker c
 first_of (Sender c trail stored) = Sender c trail stored
-first_of (Tap c e) = Tap c e
-first_of (Meeting c e d f) = Tap c e
-first_of (Telling c trail stored d e) = Sender c trail stored
+first_of (Tap x e) = Tap x e
+first_of (Meeting x e y f) = Tap x e
+first_of (Telling c trail stored x e) = Sender c trail stored
 first_of Spent = Spent
 
-abbrev pub second_of : {E : Type 0} → View (Core E) → View (Core E)
+abbrev pub second_of : {C : Type 0} → View C → View C
 second_of (Maker c) = Spent
 second_of (Sender c trail stored) = Spent
-second_of (Tap c e) = Spent
-second_of (Meeting c e d f) = Tap d f
-second_of (Telling c trail stored d e) = Tap d e
+second_of (Tap x e) = Spent
+second_of (Meeting x e y f) = Tap y f
+second_of (Telling c trail stored x e) = Tap x e
 second_of Spent = Spent
 
 -- the receivers that are joined have loaded the length, and know this
-abbrev pub all_knowing : {E : Type 0} → View (Core E) → List ℕ → View (Core E)
+abbrev pub all_knowing : {C : Type 0} → View C → List ℕ → View C
 all_knowing (Maker c) known = Maker c
 all_knowing (Sender c trail stored) known = Sender c trail stored
-all_knowing (Tap c e) known = Tap c (learnt e known)
-all_knowing (Meeting c e d f) known = Meeting c (learnt e known) d (learnt f known)
-all_knowing (Telling c trail stored d e) known = Telling c trail stored d (learnt e known)
+all_knowing (Tap x e) known = Tap x (learnt e known)
+all_knowing (Meeting x e y f) known = Meeting x (learnt e known) y (learnt f known)
+all_knowing (Telling c trail stored x e) known = Telling c trail stored x (learnt e known)
 all_knowing Spent known = Spent
 
 -- ---- what the views say of a bus
--- the words of its log
-abbrev pub log_in_bus : {E : Type 0} → Layout → Bus E → List ℕ
-log_in_bus x b = log_of (record { layout = x; bus = b })
-
 -- the seat j is that of this sender, which has done these deeds, and has stored no length but those that the log has reached
-pub record IsSeated {E : Type 0} (b : Bus E) (T : Trails) (seat : ℕ → ℕ) (j : ℕ) (c : Core E) (trail : List Deed) (stored : ℕ) : Type 0 where
-  pub here : seat c.me ≡ j
-  pub core : slice_get b.side.senders c.me ≡ Some c
-  pub deeds : T.deeds c.me ≡ trail
-  pub reached : stored ≤ slice_index b.side.words 0
+pub record IsSeated {C : Type 0} (P : Process C) (A : Automaton C) (z : A.State) (seat : ℕ → ℕ) (j : ℕ) (c : C) (trail : List Deed) (stored : ℕ) : Type 0 where
+  pub here : seat (P.me c) ≡ j
+  pub core : A.sender z (P.me c) ≡ Some c
+  pub deeds : A.deeds z (P.me c) ≡ trail
+  pub reached : stored ≤ slice_index (A.words z) 0
 
 -- the sender p has no seat of its own yet, and has done nothing: the seat j is to make one for it
-pub record IsUnseated {E : Type 0} (x : Layout) (b : Bus E) (T : Trails) (seat : ℕ → ℕ) (j p : ℕ) : Type 0 where
+pub record IsUnseated {C : Type 0} (A : Automaton C) (z : A.State) (seat : ℕ → ℕ) (j p : ℕ) : Type 0 where
   pub here : seat p ≡ j
-  pub core : slice_get b.side.senders p ≡ Some (new_core x p)
-  pub deeds : T.deeds p ≡ []
+  pub core : A.sender z p ≡ Some (A.started p)
+  pub deeds : A.deeds z p ≡ []
 
 -- A receiver knows a beginning of the log, which has some frames; and its turns have answered just what these give, up to its place.
-pub record KnowsLog {E : Type 0} (x : Layout) (b : Bus E) (c : Core E) (e : Ear) : Type 0 where
-  pub layout : c.layout ≡ x
-  pub front : IsPrefix e.known (log_in_bus x b)
+pub record KnowsLog {C : Type 0} (A : Automaton C) (z : A.State) (x : Extent) (e : Ear) : Type 0 where
+  pub extent : x ≡ A.extent
+  pub front : IsPrefix e.known (log_in A z)
   pub below : e.place ≤ length e.known
   pub frames : List Frame
-  pub lawful : AreFrames x.senders frames
-  pub words_are : log_words frames ≡ log_in_bus x b
+  pub lawful : AreFrames A.extent.senders frames
+  pub words_are : log_words frames ≡ log_in A z
   pub heard : HasHeard frames e
 
-abbrev pub Knows : {E : Type 0} → Layout → Bus E → Trails → (ℕ → ℕ) → ℕ → View (Core E) → Type 0
-Knows x b T seat j (Maker c) = (c ≡ new_core x c.me) × ((p : ℕ) → c.me ≤ p → p < x.senders → IsUnseated x b T seat j p)
-Knows x b T seat j (Sender c trail stored) = IsSeated b T seat j c trail stored
-Knows x b T seat j (Tap c e) = KnowsLog x b c e
-Knows x b T seat j (Meeting c e d f) = KnowsLog x b c e × KnowsLog x b d f
-Knows x b T seat j (Telling c trail stored d e) = IsSeated b T seat j c trail stored × KnowsLog x b d e
-Knows x b T seat j Spent = Unit {0}
+abbrev pub IsTrueOf : {C : Type 0} → Process C → (A : Automaton C) → A.State → (ℕ → ℕ) → ℕ → View C → Type 0
+IsTrueOf P A z seat j (Maker c) = (c ≡ A.started (P.me c)) × ((p : ℕ) → P.me c ≤ p → p < A.extent.senders → IsUnseated A z seat j p)
+IsTrueOf P A z seat j (Sender c trail stored) = IsSeated P A z seat j c trail stored
+IsTrueOf P A z seat j (Tap x e) = KnowsLog A z x e
+IsTrueOf P A z seat j (Meeting x e y f) = KnowsLog A z x e × KnowsLog A z y f
+IsTrueOf P A z seat j (Telling c trail stored x e) = IsSeated P A z seat j c trail stored × KnowsLog A z x e
+IsTrueOf P A z seat j Spent = Unit {0}
 
 -- the sender p shows in this view: in its own, or in that of the maker of seats while it has none of its own
-abbrev pub Seats : {E : Type 0} → ℕ → View (Core E) → Type 0
-Seats p (Maker c) = c.me ≤ p
-Seats p (Sender c trail stored) = c.me ≡ p
-Seats p (Tap c e) = ⊥
-Seats p (Meeting c e d f) = ⊥
-Seats p (Telling c trail stored d e) = c.me ≡ p
-Seats p Spent = ⊥
+abbrev pub Seats : {C : Type 0} → Process C → ℕ → View C → Type 0
+Seats P p (Maker c) = P.me c ≤ p
+Seats P p (Sender c trail stored) = P.me c ≡ p
+Seats P p (Tap x e) = ⊥
+Seats P p (Meeting x e y f) = ⊥
+Seats P p (Telling c trail stored x e) = P.me c ≡ p
+Seats P p Spent = ⊥
 
--- Some events lead to a bus with these words, with its page in the slot where that is at home, without receivers of its own, and
--- none of them a stop: a sender that is dropped just has no event any more;
--- the views of the seats are true of it; and each of its senders shows in one of them.
-pub record IsShown {E : Type 0} (X : Election E) (x : Layout) (s : State (Option Page) (View (Core E))) : Type 0 where
-  pub served : IsLayout x
-  pub bus : Bus E
-  pub trails : Trails
-  pub reached : Reached X x bus trails
-  pub alone : bus.receivers ≡ []
-  pub running : bus.stopped ≡ no_stops
-  pub words : s.words ≡ bus.side.words
-  pub slot : s.homes ≡ slot_of bus.side.home ∷ []
+-- Executions of the bus lead to a state with these words, and with its page in the slot where that is at home; the views of the seats are
+-- true of it; and each of its senders shows in one of them.
+pub record IsShown {C : Type 0} (P : Process C) (A : Automaton C) (s : State (Option Page) (View C)) : Type 0 where
+  pub state : A.State
+  pub reached : A.IsReached state
+  pub words : s.words ≡ A.words state
+  pub slot : s.homes ≡ slot_of (A.home state) ∷ []
   -- of each sender the seat that shows it
   pub seat : ℕ → ℕ
-  pub views : (j : ℕ) (v : View (Core E)) → get_elem? s.views j ≡ some v → Knows x bus trails seat j v
-  pub all : (p : ℕ) → p < x.senders → (j : ℕ) × (v : View (Core E)) × (get_elem? s.views j ≡ some v) × Seats p v
+  pub views : (j : ℕ) (v : View C) → get_elem? s.views j ≡ some v → IsTrueOf P A state seat j v
+  pub all : (p : ℕ) → p < A.extent.senders → (j : ℕ) × (v : View C) × (get_elem? s.views j ≡ some v) × Seats P p v

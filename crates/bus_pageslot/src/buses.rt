@@ -3,18 +3,16 @@
 ghost use Rattle.std.specs.Prelude.{All, ◌≡◌, ℕ, List, Some, None, IfOk, OnErr, IfErr, []};
 ghost use Rattle.std.specs.Prelude.{◌≤◌};
 ghost use Rattle.std.specs.Vec.{vec_len, vec_capacity};
-ghost use Rattle.bus_tenure.specs.Elections.{election_of};
-ghost use Rattle.bus_world.specs.Playing.{layout_of, IsServed, MakeRefused};
 ghost use Rattle.bus_pageslot.specs.Buses.{AreNewSeats, AreNewTaps};
 ghost use Rattle.bus_pageslot.specs.Seats.{table_of};
 ghost use Rattle.bus_pageslot.specs.Endings.{IsLeft};
 
 use crate::outcomes::{EndFault, Ended, leave};
 use crate::rule::Board;
+use crate::seatables::Seatable;
 use crate::seating::{board, seat_all, tap_all};
-use crate::seats::Sender;
-use crate::taps::Tap;
-use bus_adoptcommit::Ratifier;
+use crate::seats::SenderOf;
+use crate::taps::TapOf;
 use bus_register::NoMemory;
 use bus_world::{MakeFault, Shape};
 use std::alloc::Global;
@@ -23,14 +21,16 @@ use std::marker::Model;
 /// A bus that threads share by `&`, without a lock: each step of a sender or of a receiver is one
 /// atomic step on one word of its table.
 #[derive(Drop)]
-pub struct Bus<Q: Ratifier> {
-    pub(crate) table: Board<Q>,
+pub struct BusOf<S: Seatable> {
+    pub(crate) table: Board<S>,
     senders: u64,
+    /// The place of the log's first word.
+    log: u64,
     log_words: u64,
     room: Vec<u64>,
 }
 
-impl<Q: Ratifier> Model for Bus<Q> {
+impl<S: Seatable> Model for BusOf<S> {
     ghost use Rattle.std.specs.Prelude.{◌≡◌, ◌≤◌, []};
     ghost use Rattle.std.specs.Vec.{vec_len, vec_capacity};
     ghost use Rattle.bus_pageslot.specs.Buses.{Site};
@@ -40,41 +40,44 @@ impl<Q: Ratifier> Model for Bus<Q> {
     ghost view = { λ b. record { table = b.table.shared.table_id; shape = b.table.shared.key } };
 
     ghost invariant = { λ b. (b.senders ≡ b.table.shared.key.senders)
-        × (b.log_words ≡ b.table.shared.key.log_words)
+        × (b.senders ≡ (S.automaton b.table.shared.key).extent.senders)
+        × (b.log ≡ (S.automaton b.table.shared.key).extent.log)
+        × (b.log_words ≡ (S.automaton b.table.shared.key).extent.capacity)
         × (b.room.items ≡ []) × (vec_len b.room ≡ 0)
         × (b.log_words ≤ vec_capacity b.room) };
 }
 
-impl<Q: Ratifier + Drop> Bus<Q> {
+impl<S: Seatable + Drop> BusOf<S> {
     /// A new bus of this shape, with its words at zero and its page at home, and each of its
     /// senders and receivers, in order. All memory is taken here: no later call takes any.
     pub fn new(
         alloc: Global,
         shape: Shape,
-    ) -> Result<(Bus<Q>, Vec<Sender<Q>>, Vec<Tap<Q>>), MakeFault>
+    ) -> Result<(BusOf<S>, Vec<SenderOf<S>>, Vec<TapOf<S>>), MakeFault>
         ensures shape { IfOk result (λ made. made.0.shape ≡ shape) }
         ensures senders { IfOk result
-            (λ made. AreNewSeats (layout_of Q.protocol shape) made.0.table shape.senders
+            (λ made. AreNewSeats S.process (S.automaton shape) made.0.table shape.senders
             made.1.items) }
         ensures taps { IfOk result
-            (λ made. AreNewTaps (layout_of Q.protocol shape) made.0.table shape.receivers
+            (λ made. AreNewTaps (S.automaton shape).extent made.0.table shape.receivers
             made.2.items) }
         ensures table { IfOk result (λ made. All (λ s. table_of s ≡ made.0.table) made.1.items
             × All (λ t. t.table_id ≡ made.0.table) made.2.items) }
-        ensures served { IfOk result (λ _. IsServed shape) }
-        ensures fault { IfErr result (MakeRefused shape) }
+        ensures served { IfOk result (λ _. S.Serves shape) }
+        ensures fault { IfErr result (S.Refuses shape) }
     {
-        if let Some(fault) = shape.fault() {
+        if let Some(fault) = S::fault(shape) {
             return Err(fault);
         }
         let (table, maker) = board(alloc, shape)?;
-        let log = table.word_count() as u64 - shape.log_words;
+        let log = S::log_at(shape);
         let (senders, maker) = seat_all(alloc, shape, &table.shared, maker)?;
         let taps = tap_all(alloc, shape, &table.shared, maker, log)?;
         let room = roomy(alloc, shape.log_words)?;
-        let bus = Bus {
+        let bus = BusOf {
             table,
             senders: shape.senders,
+            log,
             log_words: shape.log_words,
             room,
         };
@@ -84,23 +87,23 @@ impl<Q: Ratifier + Drop> Bus<Q> {
     /// Ends the bus, by a receiver of it: its log and its page, where the page is at home, and
     /// PageOut where a sender that took it has not given it back. Bus and receiver are gone in
     /// either case.
-    pub fn end(self, tap: Tap<Q>) -> Result<Ended, EndFault>
+    pub fn end(self, tap: TapOf<S>) -> Result<Ended, EndFault>
         requires { tap.table_id ≡ self.table }
-        ensures ended { let X = election_of Q.Ratifier in
-            IfOk result (λ left. IsLeft X (layout_of Q.protocol self.shape) tap.me.0
+        ensures ended { IfOk result
+            (λ left. IsLeft S.process (S.automaton self.shape) tap.me.0
             left.log (Some left.page)) }
         ensures senders { IfOk result (λ left. left.senders ≡ self.shape.senders) }
-        ensures out { let X = election_of Q.Ratifier in
-            OnErr result ((log : List ℕ)
-            × IsLeft X (layout_of Q.protocol self.shape) tap.me.0 log None) }
+        ensures out { OnErr result ((log : List ℕ)
+            × IsLeft S.process (S.automaton self.shape) tap.me.0 log None) }
     {
-        let Bus {
+        let BusOf {
             table,
             senders,
+            log,
             log_words,
             room,
         } = self;
-        leave(table, tap.into_seat(), senders, log_words, room)
+        leave(table, tap.into_seat(), senders, log, log_words, room)
     }
 }
 

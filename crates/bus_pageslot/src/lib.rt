@@ -18,22 +18,26 @@
 //! ```
 #![tactic(auto)]
 
+mod apart;
 mod buses;
 pub mod laws;
 mod listening;
 mod meetings;
 mod outcomes;
 mod rule;
+mod seatables;
 mod seating;
 mod seats;
 mod steps;
 mod taps;
 
-pub use buses::Bus;
+pub use apart::{Bus, Sender, Tap};
+pub use buses::BusOf;
 pub use outcomes::{EndFault, Ended};
-pub use rule::{BusRule, Ear, OfBus, Told, Trail, View};
-pub use seats::{SendFault, Sender, Unsent};
-pub use taps::Tap;
+pub use rule::{BusRule, Ear, Extent, OfBus, Told, Trail, View};
+pub use seatables::Seatable;
+pub use seats::{SendFault, SenderOf, Unsent};
+pub use taps::TapOf;
 
 #[cfg(test)]
 mod tests;

@@ -7,9 +7,8 @@ ghost use Rattle.bus_pageslot.specs.Seats.{IsEar, knows};
 ghost use Rattle.bus_pageslot.specs.Listening.{Hears, HearsLength, HearsWord};
 
 use crate::rule::{LoadsLengthInTurn, LoadsWordInTurn, Place, Top};
-use bus_adoptcommit::Ratifier;
+use crate::seatables::Seatable;
 use bus_deliverylog::{Reader, RecvTurn};
-use bus_ownerbits::laws::election_is_lawful;
 
 /// A reader that has read all that it knows is told the length that its seat knows.
 fn catch_up(reader: &mut Reader, known: u64)
@@ -26,9 +25,9 @@ fn catch_up(reader: &mut Reader, known: u64)
 }
 
 /// The length is loaded.
-fn hear_length<Q: Ratifier + Drop>(
-    top: &Top<Q>,
-    seat: &mut Place<Q>,
+fn hear_length<S: Seatable + Drop>(
+    top: &Top<S>,
+    seat: &mut Place<S>,
     reader: &mut Reader,
 ) -> RecvTurn
     requires table { seat.old.table_id ≡ top.now.table_id }
@@ -42,15 +41,15 @@ fn hear_length<Q: Ratifier + Drop>(
     ensures known { reader.new.known ≡ length (known_in seat.new.me.0) }
     ensures hears { HearsLength seat.old.me result seat.new.me }
 {
-    election_is_lawful::<Q>();
-    let length = top.load::<LoadsLengthInTurn<Q>>(seat, 0);
+    S::is_lawful();
+    let length = top.load::<LoadsLengthInTurn<S>>(seat, 0);
     reader.feed(length)
 }
 
 /// The word at the reader's place is loaded.
-fn hear_word<Q: Ratifier + Drop>(
-    top: &Top<Q>,
-    seat: &mut Place<Q>,
+fn hear_word<S: Seatable + Drop>(
+    top: &Top<S>,
+    seat: &mut Place<S>,
     log: u64,
     reader: &mut Reader,
 ) -> RecvTurn
@@ -63,15 +62,15 @@ fn hear_word<Q: Ratifier + Drop>(
     ensures known { known_in seat.new.me.0 ≡ known_in seat.old.me.0 }
     ensures hears { HearsWord seat.old.me result seat.new.me }
 {
-    let word = top.load::<LoadsWordInTurn<Q>>(seat, (log + reader.place()) as usize);
+    let word = top.load::<LoadsWordInTurn<S>>(seat, (log + reader.place()) as usize);
     reader.feed(word)
 }
 
 /// The turn of a receiver that has not ended. `log` is the place of the log's first word, and
 /// `known` is how many words of it the receiver knows.
-pub(crate) fn hear<Q: Ratifier + Drop>(
-    top: &Top<Q>,
-    seat: &mut Place<Q>,
+pub(crate) fn hear<S: Seatable + Drop>(
+    top: &Top<S>,
+    seat: &mut Place<S>,
     log: u64,
     known: &mut u64,
     reader: &mut Reader,

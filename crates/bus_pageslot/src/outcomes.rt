@@ -8,19 +8,15 @@ ghost use Rattle.std.specs.Slots.{slots_items, slots_len, IsFull};
 ghost use Rattle.bus_register.specs.declared.registers.SenderNo.{SenderNo as Number};
 ghost use Rattle.bus_batch.specs.Frames.{Order, Spells};
 ghost use Rattle.bus_deliverylog.specs.Orders.{of_sender};
-ghost use Rattle.bus_tenure.specs.Elections.{election_of};
-ghost use Rattle.bus_tenure.specs.Core.{log_at};
 ghost use Rattle.bus_world.specs.Log.{read};
-ghost use Rattle.bus_world.specs.Playing.{layout_of};
 ghost use Rattle.bus_pageslot.specs.declared.rule.View.TheVariants.{Tap};
 ghost use Rattle.bus_pageslot.specs.Ears.{Ear};
 ghost use Rattle.bus_pageslot.specs.Endings.{IsLeft};
 
 use crate::rule::{Board, Place};
+use crate::seatables::Seatable;
 use atomic_table::Closed;
-use bus_adoptcommit::Ratifier;
 use bus_batch::laws::spells_one;
-use bus_ownerbits::laws::election_is_lawful;
 use bus_register::SenderNo;
 use bus_register::limits::MOST_SENDERS;
 use bus_tenure::Page;
@@ -104,33 +100,33 @@ impl Ended {
 }
 
 /// What this table, of which this is the seat of a receiver, leaves behind.
-pub(crate) fn leave<Q: Ratifier + Drop>(
-    table: Board<Q>,
-    seat: Place<Q>,
+pub(crate) fn leave<S: Seatable + Drop>(
+    table: Board<S>,
+    seat: Place<S>,
     senders: u64,
+    log: u64,
     log_words: u64,
     room: Vec<u64>,
 ) -> Result<Ended, EndFault>
     requires table { seat.table_id ≡ table.shared.table_id }
     requires tap { (d : _) × (e : Ear) × (seat.me ≡ (Tap d e, [])) }
     requires empty { (room.items ≡ []) × (vec_len room ≡ 0) }
-    requires senders { senders ≡ table.shared.key.senders }
-    requires log_words { log_words ≡ table.shared.key.log_words }
+    requires senders { senders ≡ (S.automaton table.shared.key).extent.senders }
+    requires log { log ≡ (S.automaton table.shared.key).extent.log }
+    requires log_words { log_words ≡ (S.automaton table.shared.key).extent.capacity }
     requires roomy { log_words ≤ vec_capacity room }
-    ensures ended { let X = election_of Q.Ratifier in
-        IfOk result (λ left. IsLeft X (layout_of Q.protocol table.shared.key) seat.me.0
+    ensures ended { IfOk result
+        (λ left. IsLeft S.process (S.automaton table.shared.key) seat.me.0
         left.log (Some left.page)) }
     ensures senders { IfOk result (λ left. left.senders ≡ senders) }
-    ensures out { let X = election_of Q.Ratifier in
-        OnErr result ((log : List ℕ)
-        × IsLeft X (layout_of Q.protocol table.shared.key) seat.me.0 log None) }
+    ensures out { OnErr result ((log : List ℕ)
+        × IsLeft S.process (S.automaton table.shared.key) seat.me.0 log None) }
 {
-    election_is_lawful::<Q>();
+    S::is_lawful();
     let mut closed = table.close_with(seat);
     let stage = closed.word(1);
     let length = closed.word(0);
-    let first = closed.words.len() as u64 - log_words;
-    let log = words_from(&closed, first, length, room);
+    let words = words_from(&closed, log, length, room);
     let page = closed.take(0);
     closed.free();
     if stage % 2 == 1 {
@@ -138,7 +134,7 @@ pub(crate) fn leave<Q: Ratifier + Drop>(
     }
     Ok(Ended {
         senders,
-        log,
+        log: words,
         page: page.unwrap(),
     })
 }

@@ -1,8 +1,8 @@
 //! The rule of the table: its words, its slot and the views of its seats are a run of the machine.
 
+use crate::seatables::Seatable;
 use atomic_table::{Join, Play, Seat, Shared, Split, Table, TableRule};
-use bus_adoptcommit::Ratifier;
-use bus_tenure::{Page, SenderCore};
+use bus_tenure::Page;
 use bus_world::Shape;
 use std::alloc::Global;
 use std::marker::{Brand, Model, PhantomData};
@@ -19,6 +19,19 @@ impl Model for Trail {
     ghost Value = { List Deed };
 
     ghost view = { λ _. [] };
+}
+
+/// How large a bus is. No value of it is made.
+pub struct Extent {
+    of: PhantomData<()>,
+}
+
+impl Model for Extent {
+    ghost use Rattle.bus_pageslot.specs.Processes.{Extent, no_extent};
+
+    ghost Value = { Extent };
+
+    ghost view = { λ _. no_extent };
 }
 
 /// What a receiver knows of the log, what it has read of that, and what it was answered. No value
@@ -42,31 +55,28 @@ pub enum View<C> {
     /// A sender as it was after its last step, all that it did until then, and the last length
     /// that it has stored.
     Sender(C, Trail, u64),
-    /// A receiver as it was after its last load, on a bus of such senders.
-    Tap(C, Ear),
+    /// A receiver as it was after its last load, on a bus that is so large.
+    Tap(Extent, Ear),
     /// Two receivers, joined while they meet.
-    Meeting(C, Ear, C, Ear),
+    Meeting(Extent, Ear, Extent, Ear),
     /// A sender and a receiver, joined while the one tells the other.
-    Telling(C, Trail, u64, C, Ear),
+    Telling(C, Trail, u64, Extent, Ear),
     /// A seat that went into another.
     Spent,
 }
 
-/// The rule: some events lead to the bus that the table is, with the deeds that its seats show.
-pub struct BusRule<Q> {
-    of: PhantomData<Q>,
+/// The rule: executions lead to the bus that the table is, with the deeds that its seats show.
+pub struct BusRule<S> {
+    of: PhantomData<S>,
 }
 
-impl<Q: Ratifier> TableRule<Option<Page>, View<SenderCore<Q>>, Shape> for BusRule<Q> {
-    ghost use Rattle.bus_tenure.specs.Elections.{election_of};
-    ghost use Rattle.bus_world.specs.Playing.{layout_of};
-    ghost use Rattle.bus_world.specs.World.{new_core};
+impl<S: Seatable> TableRule<Option<Page>, View<S>, Shape> for BusRule<S> {
     ghost use Rattle.bus_pageslot.specs.declared.rule.View.TheVariants.{Maker};
     ghost use Rattle.bus_pageslot.specs.Rule.{IsShown};
 
-    ghost holds = { λ key. IsShown (election_of Q.Ratifier) (layout_of Q.protocol key) };
+    ghost holds = { λ key. IsShown S.process (S.automaton key) };
 
-    ghost first = { λ key. Maker (new_core (layout_of Q.protocol key) 0) };
+    ghost first = { λ key. Maker ((S.automaton key).started 0) };
 }
 
 /// Which bus it is: the table of one, which whoever makes it picks. A struct that is generic in it
@@ -101,93 +111,92 @@ impl<C> Told<C> for Brand {
 }
 
 /// The seat shows the sender that was picked, with the turn that it took.
-pub(crate) struct Goes<Q, K> {
-    of: PhantomData<(Q, K)>,
+pub(crate) struct Goes<S, K> {
+    of: PhantomData<(S, K)>,
 }
 
-impl<Q: Ratifier, K: Told<SenderCore<Q>>> Play<Option<Page>, View<SenderCore<Q>>> for Goes<Q, K> {
-    ghost use Rattle.bus_tenure.specs.Elections.{election_of};
+impl<S: Seatable, K: Told<S>> Play<Option<Page>, View<S>> for Goes<S, K> {
     ghost use Rattle.bus_pageslot.specs.Steps.{GoesOn};
 
-    ghost then = { λ _ m got m'. GoesOn (election_of Q.Ratifier) K.core K.word m got m' };
+    ghost then = { λ _ m got m'. GoesOn S.process K.core K.word m got m' };
 }
 
 /// The next sender's seat is made.
-pub(crate) struct Cut<Q> {
-    of: PhantomData<Q>,
+pub(crate) struct Cut<S> {
+    of: PhantomData<S>,
 }
 
-impl<Q: Ratifier> Split<View<SenderCore<Q>>> for Cut<Q> {
+impl<S: Seatable> Split<View<S>> for Cut<S> {
     ghost use Rattle.bus_pageslot.specs.Rule.{cut_left, cut_right};
 
-    ghost left = { cut_left };
+    ghost left = { cut_left S.process };
 
     ghost right = { cut_right };
 }
 
 /// A receiver's seat is made.
-pub(crate) struct CutTap<Q> {
-    of: PhantomData<Q>,
+pub(crate) struct CutTap<S> {
+    of: PhantomData<S>,
 }
 
-impl<Q: Ratifier> Split<View<SenderCore<Q>>> for CutTap<Q> {
+impl<S: Seatable> Split<View<S>> for CutTap<S> {
     ghost use Rattle.bus_pageslot.specs.Rule.{tap_left, tap_right};
 
     ghost left = { tap_left };
 
-    ghost right = { tap_right };
+    ghost right = { tap_right S.process };
 }
 
 /// A receiver's seat loaded the length.
-pub(crate) struct LoadsLength<Q> {
-    of: PhantomData<Q>,
+pub(crate) struct LoadsLength<S> {
+    of: PhantomData<S>,
 }
 
-impl<Q: Ratifier> Play<Option<Page>, View<SenderCore<Q>>> for LoadsLength<Q> {
+impl<S: Seatable> Play<Option<Page>, View<S>> for LoadsLength<S> {
     ghost use Rattle.bus_pageslot.specs.Steps.{Learns};
 
     ghost then = { λ _ m got m'. Learns m got m' };
 }
 
 /// A receiver's seat loaded a word that it knows.
-pub(crate) struct LoadsWord<Q> {
-    of: PhantomData<Q>,
+pub(crate) struct LoadsWord<S> {
+    of: PhantomData<S>,
 }
 
-impl<Q: Ratifier> Play<Option<Page>, View<SenderCore<Q>>> for LoadsWord<Q> {
+impl<S: Seatable> Play<Option<Page>, View<S>> for LoadsWord<S> {
     ghost use Rattle.bus_pageslot.specs.Steps.{Reads};
 
     ghost then = { λ step m got m'. Reads m step.word got m' };
 }
 
 /// By a turn of it a receiver's seat loaded the length.
-pub(crate) struct LoadsLengthInTurn<Q> {
-    of: PhantomData<Q>,
+pub(crate) struct LoadsLengthInTurn<S> {
+    of: PhantomData<S>,
 }
 
-impl<Q: Ratifier> Play<Option<Page>, View<SenderCore<Q>>> for LoadsLengthInTurn<Q> {
+impl<S: Seatable> Play<Option<Page>, View<S>> for LoadsLengthInTurn<S> {
     ghost use Rattle.bus_pageslot.specs.Listening.{FindsLength};
 
     ghost then = { λ _ m got m'. FindsLength m got m' };
 }
 
 /// By a turn of it a receiver's seat loaded the word at its place.
-pub(crate) struct LoadsWordInTurn<Q> {
-    of: PhantomData<Q>,
+pub(crate) struct LoadsWordInTurn<S> {
+    of: PhantomData<S>,
 }
 
-impl<Q: Ratifier> Play<Option<Page>, View<SenderCore<Q>>> for LoadsWordInTurn<Q> {
+impl<S: Seatable> Play<Option<Page>, View<S>> for LoadsWordInTurn<S> {
     ghost use Rattle.bus_pageslot.specs.Listening.{FindsWord};
 
     ghost then = { λ _ m got m'. FindsWord m got m' };
 }
 
 /// A receiver's seat goes into another seat.
-pub(crate) struct Meet<Q> {
-    of: PhantomData<Q>,
+pub(crate) struct Meet<S> {
+    of: PhantomData<S>,
 }
 
-impl<Q: Ratifier> Join<View<SenderCore<Q>>> for Meet<Q> {
+impl<S: Seatable> Join<View<S>> for Meet<S> {
     ghost use Rattle.bus_pageslot.specs.declared.rule.View.TheVariants.{Spent};
     ghost use Rattle.bus_pageslot.specs.Rule.{joined};
 
@@ -197,11 +206,11 @@ impl<Q: Ratifier> Join<View<SenderCore<Q>>> for Meet<Q> {
 }
 
 /// It comes out of it again.
-pub(crate) struct Part<Q> {
-    of: PhantomData<Q>,
+pub(crate) struct Part<S> {
+    of: PhantomData<S>,
 }
 
-impl<Q: Ratifier> Split<View<SenderCore<Q>>> for Part<Q> {
+impl<S: Seatable> Split<View<S>> for Part<S> {
     ghost use Rattle.bus_pageslot.specs.Rule.{first_of, second_of};
 
     ghost left = { first_of };
@@ -210,18 +219,18 @@ impl<Q: Ratifier> Split<View<SenderCore<Q>>> for Part<Q> {
 }
 
 /// Two joined seats loaded the length.
-pub(crate) struct LoadsJoined<Q> {
-    of: PhantomData<Q>,
+pub(crate) struct LoadsJoined<S> {
+    of: PhantomData<S>,
 }
 
-impl<Q: Ratifier> Play<Option<Page>, View<SenderCore<Q>>> for LoadsJoined<Q> {
+impl<S: Seatable> Play<Option<Page>, View<S>> for LoadsJoined<S> {
     ghost use Rattle.bus_pageslot.specs.Steps.{Meets};
 
-    ghost then = { λ _ m got m'. Meets m got m' };
+    ghost then = { λ _ m got m'. Meets S.process m got m' };
 }
 
-pub(crate) type Board<Q> = Table<Option<Page>, View<SenderCore<Q>>, Shape, BusRule<Q>, Global>;
+pub(crate) type Board<S> = Table<Option<Page>, View<S>, Shape, BusRule<S>, Global>;
 
-pub(crate) type Top<Q> = Shared<Option<Page>, View<SenderCore<Q>>, Shape, BusRule<Q>>;
+pub(crate) type Top<S> = Shared<Option<Page>, View<S>, Shape, BusRule<S>>;
 
-pub(crate) type Place<Q> = Seat<Option<Page>, View<SenderCore<Q>>>;
+pub(crate) type Place<S> = Seat<Option<Page>, View<S>>;

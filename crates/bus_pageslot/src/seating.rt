@@ -2,36 +2,31 @@
 
 ghost use Rattle.std.specs.Prelude.{◌≡◌, ℕ, ◌+◌, ◌<◌, ◌≤◌, ◌^◌, List, []};
 ghost use Rattle.std.specs.Prelude.{IfOk};
-ghost use Rattle.bus_tenure.specs.Core.{words_of, log_at};
-ghost use Rattle.bus_world.specs.Playing.{layout_of, IsServed};
-ghost use Rattle.bus_world.specs.World.{new_core};
 ghost use Rattle.bus_pageslot.specs.declared.rule.View.TheVariants.{Maker};
 ghost use Rattle.bus_pageslot.specs.Buses.{IsBoard, IsNewSeat, AreNewSeats, IsNewTap, AreNewTaps};
 
 use crate::rule::{Board, Cut, CutTap, Place, Top};
-use crate::seats::Sender;
-use crate::taps::Tap;
+use crate::seatables::Seatable;
+use crate::seats::SenderOf;
+use crate::taps::TapOf;
 use atomic_table::Table;
-use bus_adoptcommit::Ratifier;
-use bus_ownerbits::Election;
-use bus_ownerbits::laws::election_is_lawful;
 use bus_register::{NoMemory, SenderNo};
-use bus_tenure::{Page, SenderCore};
+use bus_tenure::Page;
 use bus_world::Shape;
 use std::alloc::Global;
 
 /// The table of a new bus, and the seat that the senders' seats are cut from.
-pub(crate) fn board<Q: Ratifier + Drop>(
+pub(crate) fn board<S: Seatable + Drop>(
     alloc: Global,
     shape: Shape,
-) -> Result<(Board<Q>, Place<Q>), NoMemory>
-    requires { IsServed shape }
+) -> Result<(Board<S>, Place<S>), NoMemory>
+    requires { S.Serves shape }
     ensures board { IfOk result
-        (λ made. IsBoard (layout_of Q.protocol shape) made.0.shared.table_id made.1) }
+        (λ made. IsBoard (S.automaton shape) made.0.shared.table_id made.1) }
     ensures shape { IfOk result (λ made. made.0.shared.key ≡ shape) }
 {
-    let width = Election::<Q>::width(shape.senders, shape.rounds);
-    let words = vec![in alloc; 0u64; (2 + shape.rows * width + shape.log_words) as usize]?;
+    S::is_lawful();
+    let words = vec![in alloc; 0u64; (S::log_at(shape) + shape.log_words) as usize]?;
     let mut slots = Vec::with_capacity(alloc, 1)?;
     slots.push(Some(NEW_PAGE))?;
     match Table::new(alloc, words.as_slice(), slots, &shape) {
@@ -41,48 +36,45 @@ pub(crate) fn board<Q: Ratifier + Drop>(
 }
 
 /// The next sender, with its seat.
-fn seat_next<Q: Ratifier + Drop>(
-    top: &Top<Q>,
-    maker: &mut Place<Q>,
+fn seat_next<S: Seatable + Drop>(
+    top: &Top<S>,
+    maker: &mut Place<S>,
     shape: Shape,
     me: u64,
-) -> Sender<Q>
+) -> SenderOf<S>
     requires table { maker.old.table_id ≡ top.now.table_id }
-    requires served { IsServed shape }
-    requires room { words_of (layout_of Q.protocol shape) ≤ 2 ^ 63 }
-    requires wide { (maker.old.table_id.words ≡ words_of (layout_of Q.protocol shape))
+    requires served { S.Serves shape }
+    requires room { (S.automaton shape).extent.words ≤ 2 ^ 63 }
+    requires wide { (maker.old.table_id.words ≡ (S.automaton shape).extent.words)
         × (maker.old.table_id.slots ≡ 1) }
     requires below { me < shape.senders }
-    requires maker { maker.old.me ≡ (Maker (new_core (layout_of Q.protocol shape) me), []) }
+    requires senders { shape.senders ≡ (S.automaton shape).extent.senders }
+    requires maker { maker.old.me ≡ (Maker ((S.automaton shape).started me), []) }
     ensures table { maker.new.table_id ≡ maker.old.table_id }
-    ensures maker { maker.new.me ≡ (Maker (new_core (layout_of Q.protocol shape) (me + 1)), []) }
-    ensures seat { IsNewSeat (layout_of Q.protocol shape) maker.old.table_id me result }
+    ensures maker { maker.new.me ≡ (Maker ((S.automaton shape).started (me + 1)), []) }
+    ensures seat { IsNewSeat S.process (S.automaton shape) maker.old.table_id me result }
 {
-    let seat = top.split_seat::<Cut<Q>>(maker);
-    let core = SenderCore::new(
-        shape.senders,
-        SenderNo(me as u8),
-        shape.rounds,
-        shape.rows,
-        shape.log_words,
-    );
-    Sender::seated(core, seat)
+    S::is_lawful();
+    let seat = top.split_seat::<Cut<S>>(maker);
+    let core = S::start(shape, SenderNo(me as u8));
+    SenderOf::seated(core, seat)
 }
 
 /// All senders, in order.
-pub(crate) fn seat_all<Q: Ratifier + Drop>(
+pub(crate) fn seat_all<S: Seatable + Drop>(
     alloc: Global,
     shape: Shape,
-    top: &Top<Q>,
-    mut maker: Place<Q>,
-) -> Result<(Vec<Sender<Q>>, Place<Q>), NoMemory>
-    requires served { IsServed shape }
-    requires board { IsBoard (layout_of Q.protocol shape) top.now.table_id maker }
+    top: &Top<S>,
+    mut maker: Place<S>,
+) -> Result<(Vec<SenderOf<S>>, Place<S>), NoMemory>
+    requires served { S.Serves shape }
+    requires board { IsBoard (S.automaton shape) top.now.table_id maker }
+    requires senders { shape.senders ≡ (S.automaton shape).extent.senders }
     ensures senders { IfOk result
-        (λ made. AreNewSeats (layout_of Q.protocol shape) top.now.table_id shape.senders
+        (λ made. AreNewSeats S.process (S.automaton shape) top.now.table_id shape.senders
         made.0.items) }
     ensures maker { IfOk result (λ made. (made.1.table_id ≡ top.now.table_id)
-        × (made.1.me ≡ (Maker (new_core (layout_of Q.protocol shape) shape.senders), []))) }
+        × (made.1.me ≡ (Maker ((S.automaton shape).started shape.senders), []))) }
 {
     let mut senders = Vec::new(alloc);
     for me in 0..shape.senders {
@@ -93,44 +85,46 @@ pub(crate) fn seat_all<Q: Ratifier + Drop>(
 }
 
 /// The next receiver, with its seat, of a maker that has made the seats of so many senders.
-fn tap_next<Q: Ratifier + Drop>(
-    top: &Top<Q>,
-    maker: &mut Place<Q>,
+fn tap_next<S: Seatable + Drop>(
+    top: &Top<S>,
+    maker: &mut Place<S>,
     shape: Shape,
     made: u64,
     log: u64,
-) -> Tap<Q>
+) -> TapOf<S>
     requires table { maker.old.table_id ≡ top.now.table_id }
-    requires room { words_of (layout_of Q.protocol shape) ≤ 2 ^ 63 }
-    requires wide { maker.old.table_id.words ≡ words_of (layout_of Q.protocol shape) }
-    requires log { log ≡ log_at (layout_of Q.protocol shape) }
-    requires maker { maker.old.me ≡ (Maker (new_core (layout_of Q.protocol shape) made), []) }
+    requires room { (S.automaton shape).extent.words ≤ 2 ^ 63 }
+    requires wide { maker.old.table_id.words ≡ (S.automaton shape).extent.words }
+    requires log { log ≡ (S.automaton shape).extent.log }
+    requires senders { shape.senders ≡ (S.automaton shape).extent.senders }
+    requires maker { maker.old.me ≡ (Maker ((S.automaton shape).started made), []) }
     ensures table { maker.new.table_id ≡ maker.old.table_id }
     ensures maker { maker.new.me ≡ maker.old.me }
-    ensures tap { IsNewTap (layout_of Q.protocol shape) maker.old.table_id result }
+    ensures tap { IsNewTap (S.automaton shape).extent maker.old.table_id result }
 {
     let _ = made;
-    election_is_lawful::<Q>();
-    let seat = top.split_seat::<CutTap<Q>>(maker);
-    Tap::seated(seat, log, shape.senders)
+    S::is_lawful();
+    let seat = top.split_seat::<CutTap<S>>(maker);
+    TapOf::seated(seat, log, shape.senders)
 }
 
 /// All receivers, in order. `log` is the place of the log's first word.
-pub(crate) fn tap_all<Q: Ratifier + Drop>(
+pub(crate) fn tap_all<S: Seatable + Drop>(
     alloc: Global,
     shape: Shape,
-    top: &Top<Q>,
-    mut maker: Place<Q>,
+    top: &Top<S>,
+    mut maker: Place<S>,
     log: u64,
-) -> Result<Vec<Tap<Q>>, NoMemory>
+) -> Result<Vec<TapOf<S>>, NoMemory>
     requires table { maker.table_id ≡ top.now.table_id }
-    requires room { words_of (layout_of Q.protocol shape) ≤ 2 ^ 63 }
-    requires wide { top.now.table_id.words ≡ words_of (layout_of Q.protocol shape) }
-    requires log { log ≡ log_at (layout_of Q.protocol shape) }
+    requires room { (S.automaton shape).extent.words ≤ 2 ^ 63 }
+    requires wide { top.now.table_id.words ≡ (S.automaton shape).extent.words }
+    requires log { log ≡ (S.automaton shape).extent.log }
+    requires senders { shape.senders ≡ (S.automaton shape).extent.senders }
     requires maker { maker.me
-        ≡ (Maker (new_core (layout_of Q.protocol shape) shape.senders), []) }
+        ≡ (Maker ((S.automaton shape).started shape.senders), []) }
     ensures { IfOk result
-        (λ taps. AreNewTaps (layout_of Q.protocol shape) top.now.table_id shape.receivers
+        (λ taps. AreNewTaps (S.automaton shape).extent top.now.table_id shape.receivers
         taps.items) }
 {
     let mut taps = Vec::new(alloc);

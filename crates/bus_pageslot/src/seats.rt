@@ -3,35 +3,29 @@
 ghost use Rattle.std.specs.Prelude.{◌≡◌, ℕ, ◌<◌, List, [], ◌∷◌, ◌++◌, None};
 ghost use Rattle.std.specs.Prelude.{Some, IfSome, IfNone, IfOk, IfErr};
 ghost use Rattle.std.specs.Prelude.{OnOk, OnErr, length, ◌-◌, ◌≤◌};
-ghost use Rattle.std.specs.Prelude.{false, take, slice_get};
 ghost use Rattle.bus_batch.specs.Batches.{next_of, CanPut, IsPutFault, CanClose, IsCloseFault};
-ghost use Rattle.bus_tenure.specs.Situations.{situation_of, kind_at, op_at, rest_at};
-ghost use Rattle.bus_tenure.specs.Causes.{HasCause};
 ghost use Rattle.bus_tenure.specs.Core.{is_closed};
-ghost use Rattle.bus_tenure.specs.Elections.{election_of};
-ghost use Rattle.bus_tenure.specs.Seen.{turns_of};
-ghost use Rattle.bus_tenure.specs.Situations.{wants_at};
 ghost use Rattle.bus_register.specs.declared.registers.Op.{Op};
 ghost use Rattle.bus_world.specs.Headline.{HasPut, HasClosed, puts};
 ghost use Rattle.bus_pageslot.specs.declared.rule.View.TheVariants.{Tap};
 ghost use Rattle.bus_pageslot.specs.Ears.{Ear};
 ghost use Rattle.bus_pageslot.specs.Rule.{known_in, stored_in};
-ghost use Rattle.bus_pageslot.specs.Steps.{with_message, with_close, Learns, KnowsSent};
+ghost use Rattle.bus_pageslot.specs.Steps.{Learns, KnowsSent};
 ghost use Rattle.bus_pageslot.specs.Seats.{Shows, Took, table_of, deeds_of, stored_of};
 ghost use Rattle.bus_pageslot.specs.Turns.{Sends, is_last, SendsAsking, StopsWaiting};
 ghost use Rattle.bus_pageslot.specs.Sendings.{waiting_of, SendsOff, KeepsFor, FillsBatches};
 ghost use Rattle.bus_pageslot.specs.Sendings.{HasSent, StopsAt, HasSentPart};
 ghost use Rattle.bus_pageslot.specs.SendFaults.{send_fault_text};
 
-use crate::buses::Bus;
+use crate::buses::BusOf;
 use crate::meetings::meeting;
 use crate::rule::Place;
+use crate::seatables::Seatable;
 use crate::steps::{length_after, walk};
-use bus_adoptcommit::Ratifier;
 use bus_batch::{CloseFault, Message, PutFault};
 use bus_register::limits::MOST_MESSAGES;
 use bus_register::{Kind, SenderNo};
-use bus_tenure::{SenderCore, Turn};
+use bus_tenure::Turn;
 use crossbeam_utils::Backoff;
 use rand_core::Rng;
 use std::error::Error;
@@ -86,32 +80,31 @@ impl fmt::Display for Unsent {
 ///
 /// `put` and `close` take no step on the bus. `turn` takes at most one, and waits for nothing.
 #[derive(Drop)]
-pub struct Sender<Q: Ratifier> {
-    core: SenderCore<Q>,
-    seat: Place<Q>,
+pub struct SenderOf<S: Seatable> {
+    core: S,
+    seat: Place<S>,
     stored: u64,
 }
 
-impl<Q: Ratifier> Model for Sender<Q> {
+impl<S: Seatable> Model for SenderOf<S> {
     ghost use Rattle.std.specs.Prelude.{◌≡◌};
-    ghost use Rattle.bus_tenure.specs.Elections.{Elector};
     ghost use Rattle.bus_pageslot.specs.Rule.{stored_in};
     ghost use Rattle.bus_pageslot.specs.Seats.{Seated, Shows};
 
-    ghost Value = { Seated (Elector Q) };
+    ghost Value = { Seated S };
 
     ghost view = { λ s. record { core = s.core; seat = s.seat } };
 
-    ghost invariant = { λ s. Shows s.core s.seat × (s.stored ≡ stored_in s.seat.me.0) };
+    ghost invariant = { λ s. Shows S.process s.core s.seat × (s.stored ≡ stored_in s.seat.me.0) };
 }
 
-impl<Q: Ratifier + Drop> Sender<Q> {
-    pub(crate) fn seated(core: SenderCore<Q>, seat: Place<Q>) -> Sender<Q>
-        requires shows { Shows core seat }
+impl<S: Seatable + Drop> SenderOf<S> {
+    pub(crate) fn seated(core: S, seat: Place<S>) -> SenderOf<S>
+        requires shows { Shows S.process core seat }
         requires stored { stored_in seat.me.0 ≡ 0 }
         ensures { result ≡ record { core = core; seat = seat } }
     {
-        Sender {
+        SenderOf {
             core,
             seat,
             stored: 0,
@@ -120,21 +113,21 @@ impl<Q: Ratifier + Drop> Sender<Q> {
 
     /// The sender's number, from 0 on.
     pub fn number(&self) -> SenderNo
-        ensures { result.0 ≡ self.now.core.me }
+        ensures { result.0 ≡ S.process.me self.now.core }
     {
         self.core.number()
     }
 
     /// How many messages wait in its batch, at most 16.
     pub fn pending(&self) -> u64
-        ensures { result ≡ length self.now.core.queue.messages }
+        ensures { result ≡ length (waiting_of S.process self.now) }
     {
         self.core.pending()
     }
 
     /// The number that the next message gets.
     pub fn next_number(&self) -> u64
-        ensures { result ≡ next_of self.now.core.queue }
+        ensures { result ≡ next_of (S.process.queue self.now.core) }
     {
         self.core.next_number()
     }
@@ -142,7 +135,7 @@ impl<Q: Ratifier + Drop> Sender<Q> {
     /// It sends nothing more: it has closed the order, or has learned that the order has ended.
     /// False as long as its close waits to be sent.
     pub fn is_closed(&self) -> bool
-        ensures { result ≡ is_closed self.now.core.queue.phase }
+        ensures { result ≡ is_closed (S.process.queue self.now.core).phase }
     {
         self.core.is_closed()
     }
@@ -156,17 +149,15 @@ impl<Q: Ratifier + Drop> Sender<Q> {
 
     /// What its next step is for; none where none is due.
     pub fn kind(&self) -> Option<Kind>
-        ensures kind { let X = election_of Q.Ratifier in
-            result ≡ kind_at X self.now.core (situation_of X self.now.core) }
-        ensures cause { IfSome result (λ k. HasCause Q.protocol self.now.core k) }
+        ensures kind { result ≡ S.process.kind self.now.core }
+        ensures cause { IfSome result (S.HasCause self.now.core) }
     {
         self.core.kind()
     }
 
     /// Its next step asks for a random word.
     pub fn wants_word(&self) -> bool
-        ensures { let X = election_of Q.Ratifier in
-            result ≡ wants_at X self.now.core (situation_of X self.now.core) }
+        ensures { result ≡ S.process.wants_word self.now.core }
     {
         self.core.wants_word()
     }
@@ -174,7 +165,7 @@ impl<Q: Ratifier + Drop> Sender<Q> {
     /// How many turns its election takes at most, with the one that takes the page; 0 where none
     /// is begun.
     pub fn turns_left(&self) -> u64
-        ensures { let X = election_of Q.Ratifier in result ≡ turns_of X self.now.core.phase }
+        ensures { result ≡ S.process.turns_left self.now.core }
     {
         self.core.turns_left()
     }
@@ -182,15 +173,19 @@ impl<Q: Ratifier + Drop> Sender<Q> {
     /// Appends a message of at most 56 bytes to its batch of at most 16, and gives its number,
     /// which counts the messages of this sender from 0 on. Takes no step. A fault changes nothing.
     pub fn put(&mut self, bytes: &[u8]) -> Result<u64, PutFault>
-        ensures number { IfOk result (λ number. number ≡ next_of self.old.core.queue) }
-        ensures taken { OnOk result (self.new.core ≡ with_message self.old.core bytes.now) }
+        ensures number { IfOk result (λ number. number ≡ next_of (S.process.queue self.old.core)) }
+        ensures taken { OnOk result
+            (self.new.core ≡ S.process.with_message self.old.core bytes.now) }
         ensures deed { IfOk result
-            (λ number. deeds_of self.new ≡ deeds_of self.old ++ HasPut number bytes.now ∷ []) }
-        ensures could { OnOk result (CanPut self.old.core.queue (length bytes.now)) }
-        ensures fault { IfErr result (IsPutFault self.old.core.queue (length bytes.now)) }
+            (λ number. deeds_of S.process self.new
+            ≡ deeds_of S.process self.old ++ HasPut number bytes.now ∷ []) }
+        ensures could { OnOk result (CanPut (S.process.queue self.old.core) (length bytes.now)) }
+        ensures fault { IfErr result
+            (IsPutFault (S.process.queue self.old.core) (length bytes.now)) }
         ensures refused { OnErr result (self.new.core ≡ self.old.core) }
         ensures seat { self.new.seat ≡ self.old.seat }
     {
+        S::is_lawful();
         self.core.put(bytes)
     }
 
@@ -198,45 +193,44 @@ impl<Q: Ratifier + Drop> Sender<Q> {
     /// in its batch or on their way, and where it is closing or closed. Takes no step. A fault
     /// changes nothing.
     pub fn close(&mut self) -> Result<(), CloseFault>
-        ensures taken { OnOk result (self.new.core ≡ with_close self.old.core) }
-        ensures deed { OnOk result (deeds_of self.new ≡ deeds_of self.old ++ HasClosed ∷ []) }
-        ensures could { OnOk result (CanClose self.old.core.queue) }
-        ensures fault { IfErr result (IsCloseFault self.old.core.queue) }
+        ensures taken { OnOk result (self.new.core ≡ S.process.with_close self.old.core) }
+        ensures deed { OnOk result
+            (deeds_of S.process self.new ≡ deeds_of S.process self.old ++ HasClosed ∷ []) }
+        ensures could { OnOk result (CanClose (S.process.queue self.old.core)) }
+        ensures fault { IfErr result (IsCloseFault (S.process.queue self.old.core)) }
         ensures refused { OnErr result (self.new.core ≡ self.old.core) }
         ensures seat { self.new.seat ≡ self.old.seat }
     {
+        S::is_lawful();
         self.core.close()
     }
 
     /// One turn: at most one step on one word of the bus that it is a sender of. `word` is the
     /// random word of a vote; other steps do not look at it.
-    pub fn turn(&mut self, bus: &Bus<Q>, word: u32) -> Turn
+    pub fn turn(&mut self, bus: &BusOf<S>, word: u32) -> Turn
         requires { table_of self.old ≡ bus.now.table }
         ensures table { table_of self.new ≡ table_of self.old }
-        ensures rests { let X = election_of Q.Ratifier in
-            op_at X self.old.core (situation_of X self.old.core) word ≡ None
-            → (self.new ≡ self.old)
-            × (result ≡ rest_at X self.old.core (situation_of X self.old.core)) }
-        ensures steps { let X = election_of Q.Ratifier in
-            (op : Op) → op_at X self.old.core (situation_of X self.old.core) word ≡ Some op
-            → Took X self.old word result self.new }
+        ensures rests { S.process.op self.old.core word ≡ None
+            → (self.new ≡ self.old) × (result ≡ S.process.rest self.old.core) }
+        ensures steps { (op : Op) → S.process.op self.old.core word ≡ Some op
+            → Took S.process self.old word result self.new }
     {
         let top = &bus.table.shared;
         let Some(op) = self.core.next(word) else {
             return self.core.rest();
         };
-        self.stored = length_after(&self.core, op, word, self.stored);
-        walk::<Q, Brand>(top, &mut self.seat, &mut self.core, op, word)
+        self.stored = length_after(op, self.stored);
+        walk::<S, Brand>(top, &mut self.seat, &mut self.core, op, word)
     }
 
     /// Turns, until there is nothing more to do, or nothing more that can be done: Idle, Delivered,
     /// Full, Closed or Spent. Each vote takes one word of `rng`. It waits for nothing but its own
     /// next turn, and that it ends is not promised.
-    pub fn send<W: Wait, R: Rng>(&mut self, wait: &W, bus: &Bus<Q>, rng: &mut R) -> Turn
+    pub fn send<W: Wait, R: Rng>(&mut self, wait: &W, bus: &BusOf<S>, rng: &mut R) -> Turn
         requires { table_of self.old ≡ bus.now.table }
         ensures table { table_of self.new ≡ table_of self.old }
-        ensures sends { let X = election_of Q.Ratifier in Sends X self.old result self.new }
-        ensures puts { puts (deeds_of self.new) ≡ puts (deeds_of self.old) }
+        ensures sends { Sends S.process self.old result self.new }
+        ensures puts { puts (deeds_of S.process self.new) ≡ puts (deeds_of S.process self.old) }
     {
         self.send_while(wait, bus, rng, || true).unwrap()
     }
@@ -247,19 +241,19 @@ impl<Q: Ratifier + Drop> Sender<Q> {
     pub fn send_while<W: Wait, R: Rng, F: FnMut() -> bool>(
         &mut self,
         wait: &W,
-        bus: &Bus<Q>,
+        bus: &BusOf<S>,
         rng: &mut R,
         mut go_on: F,
     ) -> Option<Turn>
         requires table { table_of self.old ≡ bus.now.table }
         requires callable { F.IsAlwaysCallable go_on }
         ensures table { table_of self.new ≡ table_of self.old }
-        ensures sends { let X = election_of Q.Ratifier in
-            IfSome result (λ turn. SendsAsking X F.step self.old go_on turn self.new) }
-        ensures stops { let X = election_of Q.Ratifier in
-            IfNone result (StopsWaiting X F.step self.old go_on self.new) }
-        ensures puts { puts (deeds_of self.new) ≡ puts (deeds_of self.old) }
+        ensures sends { IfSome result
+            (λ turn. SendsAsking S.process F.step self.old go_on turn self.new) }
+        ensures stops { IfNone result (StopsWaiting S.process F.step self.old go_on self.new) }
+        ensures puts { puts (deeds_of S.process self.new) ≡ puts (deeds_of S.process self.old) }
     {
+        S::is_lawful();
         let backoff = Backoff::new();
         for _ in wait.forever() {
             let word = if self.wants_word() { rng.next_u32() } else { 0 };
@@ -287,17 +281,17 @@ impl<Q: Ratifier + Drop> Sender<Q> {
     pub fn send_all<W: Wait, R: Rng>(
         &mut self,
         wait: &W,
-        bus: &Bus<Q>,
+        bus: &BusOf<S>,
         rng: &mut R,
         messages: &[Message],
     ) -> Result<(), Unsent>
         requires { table_of self.old ≡ bus.now.table }
         ensures table { table_of self.new ≡ table_of self.old }
-        ensures all { let X = election_of Q.Ratifier in
-            OnOk result (HasSent X self.old messages.now self.new) }
-        ensures part { let X = election_of Q.Ratifier in
-            IfErr result (λ unsent. HasSentPart X self.old messages.now unsent self.new) }
+        ensures all { OnOk result (HasSent S.process self.old messages.now self.new) }
+        ensures part { IfErr result
+            (λ unsent. HasSentPart S.process self.old messages.now unsent self.new) }
     {
+        S::is_lawful();
         let before = self.send_off(wait, bus, rng);
         if let Err(fault) = before {
             return Err(self.unsent(0, fault));
@@ -317,7 +311,7 @@ impl<Q: Ratifier + Drop> Sender<Q> {
     /// So many messages were put, and then this came up.
     fn unsent(&self, put: usize, fault: SendFault) -> Unsent
         ensures put { (result.put ≡ put) × (result.fault ≡ fault) }
-        ensures sent { result.sent ≡ put - length self.now.core.queue.messages }
+        ensures sent { result.sent ≡ put - length (waiting_of S.process self.now) }
     {
         Unsent {
             put,
@@ -330,19 +324,20 @@ impl<Q: Ratifier + Drop> Sender<Q> {
     fn put_or_send<W: Wait, R: Rng>(
         &mut self,
         wait: &W,
-        bus: &Bus<Q>,
+        bus: &BusOf<S>,
         rng: &mut R,
         message: &Message,
     ) -> Result<(), SendFault>
         requires { table_of self.old ≡ bus.now.table }
         ensures table { table_of self.new ≡ table_of self.old }
-        ensures taken { let X = election_of Q.Ratifier in OnOk result ((first : _)
-            (messages : List (List ℕ)) → FillsBatches X first messages self.old
-            → FillsBatches X first (messages ++ message.now ∷ []) self.new) }
-        ensures stops { let X = election_of Q.Ratifier in IfErr result (λ fault. (first : _)
-            (messages : List (List ℕ)) → FillsBatches X first messages self.old
-            → StopsAt X first messages (Some message.now) fault self.new) }
+        ensures taken { OnOk result ((first : _)
+            (messages : List (List ℕ)) → FillsBatches S.process first messages self.old
+            → FillsBatches S.process first (messages ++ message.now ∷ []) self.new) }
+        ensures stops { IfErr result (λ fault. (first : _)
+            (messages : List (List ℕ)) → FillsBatches S.process first messages self.old
+            → StopsAt S.process first messages (Some message.now) fault self.new) }
     {
+        S::is_lawful();
         if let Err(fault) = self.make_room(wait, bus, rng) {
             return Err(fault);
         }
@@ -356,18 +351,20 @@ impl<Q: Ratifier + Drop> Sender<Q> {
     fn make_room<W: Wait, R: Rng>(
         &mut self,
         wait: &W,
-        bus: &Bus<Q>,
+        bus: &BusOf<S>,
         rng: &mut R,
     ) -> Result<(), SendFault>
         requires { table_of self.old ≡ bus.now.table }
         ensures table { table_of self.new ≡ table_of self.old }
-        ensures room { OnOk result (length (waiting_of self.new) < MOST_MESSAGES) }
-        ensures sends { let X = election_of Q.Ratifier in OnOk result ((first : _)
-            (messages : List (List ℕ)) → FillsBatches X first messages self.old
-            → FillsBatches X first messages self.new) }
-        ensures keeps { let X = election_of Q.Ratifier in IfErr result (λ fault.
-            (MOST_MESSAGES ≤ length (waiting_of self.old)) × KeepsFor X self.old fault self.new) }
+        ensures room { OnOk result (length (waiting_of S.process self.new) < MOST_MESSAGES) }
+        ensures sends { OnOk result ((first : _)
+            (messages : List (List ℕ)) → FillsBatches S.process first messages self.old
+            → FillsBatches S.process first messages self.new) }
+        ensures keeps { IfErr result (λ fault.
+            (MOST_MESSAGES ≤ length (waiting_of S.process self.old))
+            × KeepsFor S.process self.old fault self.new) }
     {
+        S::is_lawful();
         if self.pending() < MOST_MESSAGES as u64 {
             return Ok(());
         }
@@ -378,16 +375,15 @@ impl<Q: Ratifier + Drop> Sender<Q> {
     fn send_off<W: Wait, R: Rng>(
         &mut self,
         wait: &W,
-        bus: &Bus<Q>,
+        bus: &BusOf<S>,
         rng: &mut R,
     ) -> Result<(), SendFault>
         requires { table_of self.old ≡ bus.now.table }
         ensures table { table_of self.new ≡ table_of self.old }
-        ensures sends { let X = election_of Q.Ratifier in
-            OnOk result (SendsOff X self.old self.new) }
-        ensures keeps { let X = election_of Q.Ratifier in
-            IfErr result (λ fault. KeepsFor X self.old fault self.new) }
+        ensures sends { OnOk result (SendsOff S.process self.old self.new) }
+        ensures keeps { IfErr result (λ fault. KeepsFor S.process self.old fault self.new) }
     {
+        S::is_lawful();
         let turn = self.send(wait, bus, rng);
         if self.pending() > 0 {
             return Err(SendFault::Turn(turn));
@@ -397,7 +393,7 @@ impl<Q: Ratifier + Drop> Sender<Q> {
 
     /// A receiver's seat is joined to its own, which then loads the length; and the two are cut
     /// apart again.
-    pub(crate) fn tell(&mut self, bus: &Bus<Q>, tap: Place<Q>) -> (u64, Place<Q>)
+    pub(crate) fn tell(&mut self, bus: &BusOf<S>, tap: Place<S>) -> (u64, Place<S>)
         requires table { (table_of self.old ≡ bus.now.table) × (tap.table_id ≡ bus.now.table) }
         requires tap { (d : _) × (e : Ear) × (tap.me ≡ (Tap d e, [])) }
         ensures table { (table_of self.new ≡ table_of self.old)
@@ -405,9 +401,11 @@ impl<Q: Ratifier + Drop> Sender<Q> {
         ensures same { (self.new.core ≡ self.old.core)
             × (self.new.seat.me ≡ self.old.seat.me) }
         ensures learns { Learns tap.me result.0 result.1.me }
-        ensures sent { KnowsSent self.old.core (deeds_of self.old) (stored_of self.old)
+        ensures sent { KnowsSent S.process self.old.core (deeds_of S.process self.old)
+            (stored_of self.old)
             (known_in result.1.me.0) }
     {
+        S::is_lawful();
         meeting(&bus.table.shared, &mut self.seat, tap)
     }
 }

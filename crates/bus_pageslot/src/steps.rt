@@ -1,75 +1,63 @@
 //! One step of a sender on one word, with which the page comes to it or goes home.
 
-ghost use Rattle.std.specs.Prelude.{◌≡◌, ℕ, ◌+◌, ◌<◌, List, [], ◌∷◌};
-ghost use Rattle.std.specs.Prelude.{◌++◌, Option, Some};
-ghost use Rattle.atomic_table.specs.Table.{rest};
+ghost use Rattle.std.specs.Prelude.{◌≡◌, ℕ, ◌<◌, ◌∷◌, true, [], Some, IsSome};
 ghost use Rattle.bus_register.specs.Words.{register};
-ghost use Rattle.bus_tenure.specs.Core.{words_of};
-ghost use Rattle.bus_tenure.specs.Situations.{situation_of, op_at};
-ghost use Rattle.bus_tenure.specs.Elections.{election_of};
-ghost use Rattle.bus_tenure.specs.Seen.{AwaitsItsPage};
-ghost use Rattle.bus_pageslot.specs.Steps.{handed, laid_at, carried_of, out_with, stored_at};
-ghost use Rattle.bus_pageslot.specs.Steps.{GoesOn};
-ghost use Rattle.bus_pageslot.specs.Steps.{Due, slot_in, emptied};
+ghost use Rattle.bus_pageslot.specs.Steps.{laid_at, carried_of, out_with, stored_by};
+ghost use Rattle.bus_pageslot.specs.Steps.{GoesOn, Due, slot_in, emptied};
 ghost use Rattle.bus_pageslot.specs.Seats.{Shows, Took};
 
 use crate::rule::{Goes, Place, Told, Top};
-use bus_adoptcommit::Ratifier;
-use bus_ownerbits::laws::election_is_lawful;
-use bus_register::{Kind, Op};
-use bus_tenure::{SenderCore, Turn};
+use crate::seatables::Seatable;
+use bus_register::{Op, Reg};
+use bus_tenure::Turn;
 
 /// A sender that is to give the page back puts it into its slot.
-fn put_out<Q: Ratifier + Drop>(top: &Top<Q>, seat: &mut Place<Q>, core: &mut SenderCore<Q>)
+fn put_out<S: Seatable + Drop>(top: &Top<S>, seat: &mut Place<S>, core: &mut S)
     requires table { seat.old.table_id ≡ top.now.table_id }
-    requires carried { seat.old.me.1 ≡ carried_of core.old.phase }
-    ensures core { let X = election_of Q.Ratifier in
-        core.new ≡ handed X core.old (situation_of X core.old) }
+    requires carried { seat.old.me.1 ≡ carried_of (S.process.holds core.old) }
+    requires due { (word : ℕ) × IsSome (S.process.op core.old word) }
+    ensures core { core.new ≡ S.process.handed core.old }
     ensures table { (seat.new.table_id ≡ seat.old.table_id) × (seat.new.id ≡ seat.old.id) }
-    ensures me { let X = election_of Q.Ratifier in
-        seat.new.me ≡ (seat.old.me.0, out_with core.old (situation_of X core.old) seat.old.me.1) }
+    ensures me { seat.new.me
+        ≡ (seat.old.me.0, out_with (S.process.move core.old) seat.old.me.1) }
 {
-    if core.gives_back() {
-        let page = core.hand();
+    S::is_lawful();
+    if let Some(page) = core.put_out() {
         let _none = top.exchange(seat, 0, Some(page));
     }
 }
 
 /// The step itself. At a store it gives what was stored.
-fn step<Q: Ratifier + Drop, K: Told<SenderCore<Q>>>(
-    top: &Top<Q>,
-    seat: &mut Place<Q>,
-    op: Op,
-) -> u64
+fn step<S: Seatable + Drop, K: Told<S>>(top: &Top<S>, seat: &mut Place<S>, op: Op) -> u64
     requires table { seat.old.table_id ≡ top.now.table_id }
-    requires due { let X = election_of Q.Ratifier in
-        Due X K.core K.word seat.old.me seat.old.table_id.words op }
+    requires due { Due S.process K.core K.word seat.old.me seat.old.table_id.words op }
     ensures table { (seat.new.table_id ≡ seat.old.table_id) × (seat.new.id ≡ seat.old.id) }
-    ensures goes { let X = election_of Q.Ratifier in
-        GoesOn X K.core K.word seat.old.me result seat.new.me }
+    ensures goes { GoesOn S.process K.core K.word seat.old.me result seat.new.me }
 {
-    election_is_lawful::<Q>();
+    S::is_lawful();
     match op {
-        Op::Load(at) => top.load::<Goes<Q, K>>(seat, at.0 as usize),
+        Op::Load(at) => top.load::<Goes<S, K>>(seat, at.0 as usize),
         Op::Store(at, value) => {
-            top.store::<Goes<Q, K>>(seat, at.0 as usize, value);
+            top.store::<Goes<S, K>>(seat, at.0 as usize, value);
             value
         }
-        Op::Add(at, value) => top.fetch_add::<Goes<Q, K>>(seat, at.0 as usize, value),
+        Op::Add(at, value) => top.fetch_add::<Goes<S, K>>(seat, at.0 as usize, value),
         Op::Cas(at, expected, value) => {
-            top.compare_exchange::<Goes<Q, K>>(seat, at.0 as usize, expected, value)
+            top.compare_exchange::<Goes<S, K>>(seat, at.0 as usize, expected, value)
         }
     }
 }
 
 /// A sender that has taken the page takes it out of its slot.
-fn take_in<Q: Ratifier + Drop>(top: &Top<Q>, seat: &mut Place<Q>, core: &mut SenderCore<Q>)
+fn take_in<S: Seatable + Drop>(top: &Top<S>, seat: &mut Place<S>, core: &mut S)
     requires table { seat.old.table_id ≡ top.now.table_id }
-    requires page { AwaitsItsPage core.old.phase → (page : _)
+    requires page { S.process.awaits core.old ≡ true → (page : _)
         × (seat.old.me.1 ≡ (0, Some page) ∷ []) }
-    ensures core { core.new ≡ laid_at core.old core.old.phase (slot_in seat.old.me.1) }
+    ensures core { core.new
+        ≡ laid_at S.process core.old (S.process.awaits core.old) (slot_in seat.old.me.1) }
     ensures table { (seat.new.table_id ≡ seat.old.table_id) × (seat.new.id ≡ seat.old.id) }
-    ensures me { seat.new.me ≡ (seat.old.me.0, emptied core.old.phase seat.old.me.1) }
+    ensures me { seat.new.me
+        ≡ (seat.old.me.0, emptied (S.process.awaits core.old) seat.old.me.1) }
 {
     if core.awaits_page() {
         let page = top.exchange(seat, 0, None).unwrap();
@@ -78,54 +66,41 @@ fn take_in<Q: Ratifier + Drop>(top: &Top<Q>, seat: &mut Place<Q>, core: &mut Sen
 }
 
 /// The turn of a sender of which a step is due.
-pub(crate) fn walk<Q: Ratifier + Drop, K: Told<SenderCore<Q>>>(
-    top: &Top<Q>,
-    seat: &mut Place<Q>,
-    core: &mut SenderCore<Q>,
+pub(crate) fn walk<S: Seatable + Drop, K: Told<S>>(
+    top: &Top<S>,
+    seat: &mut Place<S>,
+    core: &mut S,
     op: Op,
     word: u32,
 ) -> Turn
     requires table { seat.old.table_id ≡ top.now.table_id }
     requires told { (K.core ≡ Some core.old) × (K.word ≡ word) }
-    requires shows { Shows core.old seat.old }
-    requires due { let X = election_of Q.Ratifier in
-        op_at X core.old (situation_of X core.old) word ≡ Some op }
-    requires below { register op < words_of core.old.layout }
+    requires shows { Shows S.process core.old seat.old }
+    requires due { S.process.op core.old word ≡ Some op }
+    requires below { register op < (S.process.extent core.old).words }
     ensures table { (seat.new.table_id ≡ seat.old.table_id) × (seat.new.id ≡ seat.old.id) }
-    ensures shows { Shows core.new seat.new }
-    ensures took { let X = election_of Q.Ratifier in
-        Took X (record { core = core.old; seat = seat.old }) word result (record {
+    ensures shows { Shows S.process core.new seat.new }
+    ensures took { Took S.process (record { core = core.old; seat = seat.old }) word result
+        (record {
           core = core.new;
           seat = seat.new;
         }) }
 {
+    S::is_lawful();
     put_out(top, seat, core);
-    let got = step::<Q, K>(top, seat, op);
+    let got = step::<S, K>(top, seat, op);
     let turn = core.feed(got, word);
     take_in(top, seat, core);
     turn
 }
 
-/// The last length that a sender has stored, once this step of it is taken. `before` is the one
-/// that it had stored until then.
-pub(crate) fn length_after<Q: Ratifier + Drop>(
-    core: &SenderCore<Q>,
-    op: Op,
-    word: u32,
-    before: u64,
-) -> u64
-    requires { let X = election_of Q.Ratifier in
-        op_at X core.now (situation_of X core.now) word ≡ Some op }
-    ensures { let X = election_of Q.Ratifier in
-        result ≡ stored_at core.now (situation_of X core.now) before }
+/// The last length that a sender has stored, once it takes this step. `before` is the one that it
+/// had stored until then.
+pub(crate) fn length_after(op: Op, before: u64) -> u64
+    ensures { result ≡ stored_by (Some op) before }
 {
-    let _ = word;
-    let Op::Store(_, value) = op else {
-        return before;
-    };
-    if core.kind() == Some(Kind::StoreLength) && core.turns_left() == 0 {
-        value
-    } else {
-        before
+    match op {
+        Op::Store(Reg(0), value) => value,
+        _ => before,
     }
 }

@@ -8,14 +8,13 @@ ghost use Rattle.bus_pageslot.specs.Steps.{Learns, KnowsSent};
 ghost use Rattle.bus_pageslot.specs.Seats.{IsFresh, spot, table_of, deeds_of, stored_of};
 ghost use Rattle.bus_pageslot.specs.Listening.{Hears};
 
-use crate::buses::Bus;
+use crate::buses::BusOf;
 use crate::listening::hear;
 use crate::meetings::meeting;
 use crate::rule::{LoadsLength, LoadsWord, Place};
-use crate::seats::Sender;
-use bus_adoptcommit::Ratifier;
+use crate::seatables::Seatable;
+use crate::seats::SenderOf;
 use bus_deliverylog::{Reader, RecvTurn};
-use bus_ownerbits::laws::election_is_lawful;
 use bus_register::Reg;
 use std::marker::Model;
 
@@ -25,31 +24,30 @@ use std::marker::Model;
 /// Its seat shows what its turns have answered, and counts a load for each call that loads; only a
 /// step on the table adds to either.
 #[derive(Drop)]
-pub struct Tap<Q: Ratifier> {
-    seat: Option<Place<Q>>,
+pub struct TapOf<S: Seatable> {
+    seat: Option<Place<S>>,
     log: u64,
     known: u64,
     /// It may know a shorter length than the seat.
     reader: Reader,
 }
 
-impl<Q: Ratifier> Model for Tap<Q> {
-    ghost use Rattle.bus_tenure.specs.Elections.{Elector};
+impl<S: Seatable> Model for TapOf<S> {
     ghost use Rattle.bus_pageslot.specs.Seats.{Spot, spot_of, IsTap};
 
-    ghost Value = { Spot (Elector Q) };
+    ghost Value = { Spot S };
 
     ghost view = { λ t. spot_of t.seat };
 
     ghost invariant = { λ t. IsTap (spot_of t.seat) t.log t.known t.reader };
 }
 
-impl<Q: Ratifier + Drop> Tap<Q> {
-    pub(crate) fn seated(seat: Place<Q>, log: u64, senders: u64) -> Tap<Q>
+impl<S: Seatable + Drop> TapOf<S> {
+    pub(crate) fn seated(seat: Place<S>, log: u64, senders: u64) -> TapOf<S>
         requires { IsFresh (spot seat) log senders }
         ensures { result ≡ spot seat }
     {
-        Tap {
+        TapOf {
             seat: Some(seat),
             log,
             known: 0,
@@ -58,11 +56,11 @@ impl<Q: Ratifier + Drop> Tap<Q> {
     }
 
     /// Its seat.
-    pub(crate) fn into_seat(self) -> Place<Q>
+    pub(crate) fn into_seat(self) -> Place<S>
         ensures spot { spot result ≡ self }
         ensures tap { (d : _) × (e : Ear) × (result.me ≡ (View.Tap d e, [])) }
     {
-        let Tap { seat, .. } = self;
+        let TapOf { seat, .. } = self;
         seat.unwrap()
     }
 
@@ -90,7 +88,7 @@ impl<Q: Ratifier + Drop> Tap<Q> {
 
     /// One turn: a load of the length where it has read all that it knows, else a load of the word
     /// at its place. After the end it takes no step.
-    pub fn turn(&mut self, bus: &Bus<Q>) -> RecvTurn
+    pub fn turn(&mut self, bus: &BusOf<S>) -> RecvTurn
         requires { self.old.table_id ≡ bus.now.table }
         ensures table { self.new.table_id ≡ self.old.table_id }
         ensures hears { Hears self.old.me result self.new.me }
@@ -106,21 +104,21 @@ impl<Q: Ratifier + Drop> Tap<Q> {
     }
 
     /// Loads the length, in words, and gives it: it knows the log up to it from then on.
-    pub fn load_length(&mut self, bus: &Bus<Q>) -> u64
+    pub fn load_length(&mut self, bus: &BusOf<S>) -> u64
         requires { self.old.table_id ≡ bus.now.table }
         ensures table { self.new.table_id ≡ self.old.table_id }
         ensures learns { Learns self.old.me result self.new.me }
     {
-        election_is_lawful::<Q>();
+        S::is_lawful();
         let mut seat = self.seat.take().unwrap();
-        let length = bus.table.shared.load::<LoadsLength<Q>>(&mut seat, 0);
+        let length = bus.table.shared.load::<LoadsLength<S>>(&mut seat, 0);
         self.seat = Some(seat);
         self.known = length;
         length
     }
 
     /// Loads a word of the log that it knows; `place` counts the words of the log from 0 on.
-    pub fn load_word(&mut self, bus: &Bus<Q>, place: u64) -> u64
+    pub fn load_word(&mut self, bus: &BusOf<S>, place: u64) -> u64
         requires table { self.old.table_id ≡ bus.now.table }
         requires below { place < length (known_in self.old.me.0) }
         ensures table { self.new.table_id ≡ self.old.table_id }
@@ -132,7 +130,7 @@ impl<Q: Ratifier + Drop> Tap<Q> {
         let word = bus
             .table
             .shared
-            .load::<LoadsWord<Q>>(&mut seat, (self.log + place) as usize);
+            .load::<LoadsWord<S>>(&mut seat, (self.log + place) as usize);
         self.seat = Some(seat);
         word
     }
@@ -140,7 +138,7 @@ impl<Q: Ratifier + Drop> Tap<Q> {
     /// Two receivers of one bus meet: from then on each knows the log up to the length that is
     /// loaded, which is given. What the one that had read less was answered begins what the other
     /// was answered.
-    pub fn meet(&mut self, other: &mut Tap<Q>, bus: &Bus<Q>) -> u64
+    pub fn meet(&mut self, other: &mut TapOf<S>, bus: &BusOf<S>) -> u64
         requires table { (self.old.table_id ≡ bus.now.table)
             × (other.old.table_id ≡ bus.now.table) }
         ensures table { (self.new.table_id ≡ self.old.table_id)
@@ -164,7 +162,7 @@ impl<Q: Ratifier + Drop> Tap<Q> {
     /// the receiver knows the log up to it. Of this sender that has exactly the messages that it
     /// has put, but for those in its batch: these are there once the sender has taken the step that
     /// stores the length, and not before.
-    pub fn told(&mut self, sender: &mut Sender<Q>, bus: &Bus<Q>) -> u64
+    pub fn told(&mut self, sender: &mut SenderOf<S>, bus: &BusOf<S>) -> u64
         requires table { (self.old.table_id ≡ bus.now.table)
             × (table_of sender.old ≡ bus.now.table) }
         ensures table { (self.new.table_id ≡ self.old.table_id)
@@ -172,8 +170,8 @@ impl<Q: Ratifier + Drop> Tap<Q> {
         ensures sender { (sender.new.core ≡ sender.old.core)
             × (sender.new.seat.me ≡ sender.old.seat.me) }
         ensures learns { Learns self.old.me result self.new.me }
-        ensures sent { KnowsSent sender.old.core (deeds_of sender.old) (stored_of sender.old)
-            (known_in self.new.me.0) }
+        ensures sent { KnowsSent S.process sender.old.core (deeds_of S.process sender.old)
+            (stored_of sender.old) (known_in self.new.me.0) }
     {
         let mine = self.seat.take().unwrap();
         let (length, mine) = sender.tell(bus, mine);

@@ -1,11 +1,5 @@
-use Rattle.bus_tenure.specs.Elections.{elections, election_with, layout_with}
-use Rattle.bus_world.proofs.Serving.{serves}
 use Rattle.bus_pageslot.proofs.Promising.{seats_promised}
 use Rattle.bus_pageslot.proofs.laws.seats_keep_promises.Goals as goal
 
 pub returns : goal.returns
-returns g c shape s r =
-    let Q = g.Q.Ratifier.protocol in
-    let X = election_with g.Q.Machine.kind_of g.Q.Machine.op g.Q.Machine.fed Q in
-    let y = serves g.Q.Machine.kind_of g.Q.Machine.op g.Q.Machine.fed Q g.met.Q.Machine.names_each_step g.met.Q.Ratifier.own_kinds shape.senders shape.rounds shape.rows shape.log_words (c.election_is_lawful.ensures.lawful.laws shape.rounds) in
-    seats_promised X (elections Q shape.rounds) (layout_with Q shape.senders shape.rounds shape.rows shape.log_words) y s r
+returns g c shape s r = seats_promised g.S.Seatable.process (g.S.Seatable.automaton shape) (c.is_lawful.ensures.automaton shape) s r

@@ -1,7 +1,6 @@
 use Rattle.std.proofs.Common.{◌≡◌, ◌+◌, ◌<◌, length, arith, subst, sym, ◌∙◌, ap}
 use Rattle.atomic_table.specs.Seated.{TableId}
 use Rattle.atomic_table.specs.Table.{Allows}
-use Rattle.bus_tenure.specs.Elections.{election_with, layout_with}
 use Rattle.bus_pageslot.specs.Rule.{IsShown}
 use Rattle.bus_pageslot.specs.Listening.{FindsWord}
 use Rattle.bus_pageslot.proofs.Loads.{word_heard_allowed}
@@ -10,17 +9,16 @@ use Rattle.bus_pageslot.proofs.listening.hear_word.Goals as goal
 
 pub load-word-requires : goal.load-word-requires
 load-word-requires g c =
-    let key = c.args.top.now.key in
-    let X = election_with g.Q.Machine.kind_of g.Q.Machine.op g.Q.Machine.fed g.Q.Ratifier.protocol in
-    let x = layout_with g.Q.Ratifier.protocol key.senders key.rounds key.rows key.log_words in
+    let P = g.S.Seatable.process in
+    let A = g.S.Seatable.automaton c.args.top.now.key in
     let h = c.requires.ear in
     let seat = c.args.seat.now in
     let place : c.place.result ≡ h.ear.place = c.place.ensures.place ∙ h.fit.place in
     let below : h.ear.place < length h.ear.known = (let a = h.fit.within in let b = h.fit.below in let p = h.fit.place in let n = c.requires.below in omega (arith, n)) in (
       c.requires.table,
-      subst (λ (z : TableId). c.args.log + c.place.result < z.words) c.requires.table (let a = h.log_is in let d = h.within in let w = h.wide in omega arith),
-      subst (λ n. Allows (IsShown X x) c.args.top.now.table_id.slots seat.id seat.me n (λ n. n) (λ n. FindsWord seat.me n)) (λ i. sym h.log_is i + sym place i)
-          (word_heard_allowed X x c.args.top.now.table_id.slots seat.id seat.me h.core h.ear (ap (λ m. m.0) h.me) (sym h.fit.ended ∙ c.requires.going) below),
+      subst (λ (z : TableId). c.args.log + c.place.result < z.words) c.requires.table (let a = h.log_is in let d = h.within in let w = h.wide in let room = h.room in omega arith),
+      subst (λ n. Allows (IsShown P A) c.args.top.now.table_id.slots seat.id seat.me n (λ n. n) (λ n. FindsWord seat.me n)) (λ i. sym h.log_is i + sym place i)
+          (word_heard_allowed P A c.args.top.now.table_id.slots seat.id seat.me h.extent h.ear (ap (λ m. m.0) h.me) (sym h.fit.ended ∙ c.requires.going) below),
     )
 
 pub returns-clause-ear : goal.returns-clause-ear

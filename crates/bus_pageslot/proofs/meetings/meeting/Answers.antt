@@ -1,65 +1,53 @@
 use Rattle.std.proofs.Common.{sym, ◌∙◌, ap, subst}
 use Rattle.atomic_table.specs.Table.{Joins}
-use Rattle.bus_tenure.specs.Elections.{Elector, elections, election_with, layout_with}
-use Rattle.bus_tenure.specs.Core.{Core}
 use Rattle.bus_pageslot.specs.declared.rule.View.{View}
 use Rattle.bus_pageslot.specs.declared.rule.View.TheVariants.{Spent}
 use Rattle.bus_pageslot.specs.Rule.{IsPair, IsShown, joined}
-use Rattle.bus_world.proofs.Serving.{serves}
 use Rattle.bus_pageslot.proofs.Joining.{joins_allowed, parts_allowed, meets_allowed, pairs, still_pair}
 use Rattle.bus_pageslot.proofs.meetings.meeting.Goals as goal
 
 pub join_seat-requires : goal.join_seat-requires
 join_seat-requires g c =
-    let Q = g.Q.Ratifier.protocol in
-    let X = election_with g.Q.Machine.kind_of g.Q.Machine.op g.Q.Machine.fed Q in
-    let key = c.args.top.now.key in
-    let P = elections Q key.rounds in
-    let x = layout_with Q key.senders key.rounds key.rows key.log_words in
-    let y = serves g.Q.Machine.kind_of g.Q.Machine.op g.Q.Machine.fed Q g.met.Q.Machine.names_each_step g.met.Q.Ratifier.own_kinds key.senders key.rounds key.rows key.log_words (c.election_is_lawful.ensures.lawful.laws key.rounds) in
-    let V : Type 0 = View (Core (Elector g.row.Q.Denot)) in
+    let P = g.S.Seatable.process in
+    let A = g.S.Seatable.automaton c.args.top.now.key in
+    let L = c.is_lawful.ensures.automaton c.args.top.now.key in
+    let V : Type 0 = View g.row.S.Denot in
     let n = c.requires.second in
     let v : V = c.args.seat.now.me.0 in (
       c.requires.table.0,
       c.requires.table.1,
       ap (λ m. m.1) n.2,
       c.requires.table.2,
-      subst (λ (w : V). Joins (IsShown X x) c.args.seat.now.id v c.args.other.id w (joined v w) Spent) (sym (ap (λ m. m.0) n.2)) (joins_allowed X x v c.requires.first n.0 n.1 c.args.seat.now.id c.args.other.id),
+      subst (λ (w : V). Joins (IsShown P A) c.args.seat.now.id v c.args.other.id w (joined v w) Spent) (sym (ap (λ m. m.0) n.2)) (joins_allowed P A v c.requires.first n.0 n.1 c.args.seat.now.id c.args.other.id),
     )
 
 pub load-length-requires : goal.load-length-requires
 load-length-requires g c =
-    let Q = g.Q.Ratifier.protocol in
-    let X = election_with g.Q.Machine.kind_of g.Q.Machine.op g.Q.Machine.fed Q in
-    let key = c.args.top.now.key in
-    let P = elections Q key.rounds in
-    let x = layout_with Q key.senders key.rounds key.rows key.log_words in
-    let y = serves g.Q.Machine.kind_of g.Q.Machine.op g.Q.Machine.fed Q g.met.Q.Machine.names_each_step g.met.Q.Ratifier.own_kinds key.senders key.rounds key.rows key.log_words (c.election_is_lawful.ensures.lawful.laws key.rounds) in
-    let V : Type 0 = View (Core (Elector g.row.Q.Denot)) in
+    let P = g.S.Seatable.process in
+    let A = g.S.Seatable.automaton c.args.top.now.key in
+    let L = c.is_lawful.ensures.automaton c.args.top.now.key in
+    let V : Type 0 = View g.row.S.Denot in
     let n = c.requires.second in
     let v : V = c.args.seat.now.me.0 in
     let m = c.join_seat.new.seat.me in
-    let pair : IsPair m.0 = subst (λ (w : V). IsPair w) (sym (ap (λ m. m.0) c.join_seat.ensures.2)) (subst (λ (w : V). IsPair (joined v w)) (sym (ap (λ m. m.0) n.2)) (pairs X x v c.requires.first n.0 n.1)) in (
+    let pair : IsPair m.0 = subst (λ (w : V). IsPair w) (sym (ap (λ m. m.0) c.join_seat.ensures.2)) (subst (λ (w : V). IsPair (joined v w)) (sym (ap (λ m. m.0) n.2)) (pairs P A v c.requires.first n.0 n.1)) in (
       c.join_seat.ensures.0 ∙ c.requires.table.0,
       c.requires.table.2,
-      meets_allowed X P x y m.0 m.1 pair _ _,
+      meets_allowed P A L m.0 m.1 pair _ _,
     )
 
 pub split_seat-part-requires : goal.split_seat-part-requires
 split_seat-part-requires g c =
-    let Q = g.Q.Ratifier.protocol in
-    let X = election_with g.Q.Machine.kind_of g.Q.Machine.op g.Q.Machine.fed Q in
-    let key = c.args.top.now.key in
-    let P = elections Q key.rounds in
-    let x = layout_with Q key.senders key.rounds key.rows key.log_words in
-    let y = serves g.Q.Machine.kind_of g.Q.Machine.op g.Q.Machine.fed Q g.met.Q.Machine.names_each_step g.met.Q.Ratifier.own_kinds key.senders key.rounds key.rows key.log_words (c.election_is_lawful.ensures.lawful.laws key.rounds) in
-    let V : Type 0 = View (Core (Elector g.row.Q.Denot)) in
+    let P = g.S.Seatable.process in
+    let A = g.S.Seatable.automaton c.args.top.now.key in
+    let L = c.is_lawful.ensures.automaton c.args.top.now.key in
+    let V : Type 0 = View g.row.S.Denot in
     let n = c.requires.second in
     let v : V = c.args.seat.now.me.0 in
     let m = c.join_seat.new.seat.me in
-    let pair : IsPair m.0 = subst (λ (w : V). IsPair w) (sym (ap (λ m. m.0) c.join_seat.ensures.2)) (subst (λ (w : V). IsPair (joined v w)) (sym (ap (λ m. m.0) n.2)) (pairs X x v c.requires.first n.0 n.1)) in
+    let pair : IsPair m.0 = subst (λ (w : V). IsPair w) (sym (ap (λ m. m.0) c.join_seat.ensures.2)) (subst (λ (w : V). IsPair (joined v w)) (sym (ap (λ m. m.0) n.2)) (pairs P A v c.requires.first n.0 n.1)) in
     let l = c.load-length.ensures.2 in (
       c.load-length.ensures.0 ∙ c.join_seat.ensures.0 ∙ c.requires.table.0,
       c.requires.table.2,
-      parts_allowed X x c.load-length.new.seat.me.0 (subst (λ (w : V). IsPair w) (sym (ap (λ m. m.0) l.now)) (still_pair X x m.0 l.known pair)) _,
+      parts_allowed P A c.load-length.new.seat.me.0 (subst (λ (w : V). IsPair w) (sym (ap (λ m. m.0) l.now)) (still_pair P A m.0 l.known pair)) _,
     )

@@ -1,7 +1,5 @@
 use Rattle.std.proofs.Common.{◌≡◌, [], ◌+◌, arith, subst, sym, ◌∙◌, ap}
 use Rattle.atomic_table.specs.Seated.{TableId}
-use Rattle.bus_tenure.specs.Elections.{layout_with}
-use Rattle.bus_world.specs.World.{new_core}
 use Rattle.bus_pageslot.specs.declared.rule.View.TheVariants.{Maker}
 use Rattle.bus_pageslot.specs.Buses.{IsNewSeat, AreNewSeats}
 use Rattle.bus_pageslot.proofs.Openings.{one_more}
@@ -12,24 +10,27 @@ seat_next-sender-requires-clause-wide g c = (ap (λ (z : TableId). z.words) c.lo
 
 pub loop-me-preserved : goal.loop-me-preserved
 loop-me-preserved g c =
-    let x = layout_with g.Q.Ratifier.protocol c.args.shape.senders c.args.shape.rounds c.args.shape.rows c.args.shape.log_words in
+    let P = g.S.Seatable.process in
+    let A = g.S.Seatable.automaton c.args.shape in
     let table = c.args.top.now.table_id in
     record {
       below = omega arith;
-      senders = subst (AreNewSeats x table (c.loop-me.me + 1)) (sym c.in_ok-push.ensures.items) (one_more x table c.loop-me.me c.loop-me.senders.items c.seat_next-sender.result c.loop-me.invariant.senders
-          (subst (λ z. IsNewSeat x z c.loop-me.me c.seat_next-sender.result) c.loop-me.invariant.table c.seat_next-sender.ensures.seat));
+      senders = subst (AreNewSeats P A table (c.loop-me.me + 1)) (sym c.in_ok-push.ensures.items) (one_more P A table c.loop-me.me c.loop-me.senders.items c.seat_next-sender.result c.loop-me.invariant.senders
+          (subst (λ z. IsNewSeat P A z c.loop-me.me c.seat_next-sender.result) c.loop-me.invariant.table c.seat_next-sender.ensures.seat));
       table = c.seat_next-sender.ensures.table ∙ c.loop-me.invariant.table;
       maker = c.seat_next-sender.ensures.maker;
     }
 
 pub returns-clause-senders : goal.returns-clause-senders
 returns-clause-senders g c =
-    let x = layout_with g.Q.Ratifier.protocol c.args.shape.senders c.args.shape.rounds c.args.shape.rows c.args.shape.log_words in
+    let P = g.S.Seatable.process in
+    let A = g.S.Seatable.automaton c.args.shape in
     let all : c.loop-me.me ≡ c.args.shape.senders = let b = c.loop-me.invariant.below in omega arith in
-    subst (λ n. AreNewSeats x c.args.top.now.table_id n c.loop-me.senders.items) all c.loop-me.invariant.senders
+    subst (λ n. AreNewSeats P A c.args.top.now.table_id n c.loop-me.senders.items) all c.loop-me.invariant.senders
 
 pub returns-clause-maker : goal.returns-clause-maker
 returns-clause-maker g c =
-    let x = layout_with g.Q.Ratifier.protocol c.args.shape.senders c.args.shape.rounds c.args.shape.rows c.args.shape.log_words in
+    let P = g.S.Seatable.process in
+    let A = g.S.Seatable.automaton c.args.shape in
     let all : c.loop-me.me ≡ c.args.shape.senders = let b = c.loop-me.invariant.below in omega arith in
-    (c.loop-me.invariant.table, c.loop-me.invariant.maker ∙ ap (λ k. (Maker (new_core x k), [])) all)
+    (c.loop-me.invariant.table, c.loop-me.invariant.maker ∙ ap (λ k. (Maker (A.started k), [])) all)

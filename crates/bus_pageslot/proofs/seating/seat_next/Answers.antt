@@ -1,49 +1,62 @@
 use Rattle.std.proofs.Common.{◌<◌, [], arith, subst, sym, ◌∙◌, ap}
 use Rattle.atomic_table.specs.Seated.{TableId}
 use Rattle.atomic_table.specs.Table.{Splits}
-use Rattle.bus_tenure.specs.Core.{Core}
-use Rattle.bus_tenure.specs.Elections.{Elector, election_with, layout_with}
-use Rattle.bus_world.specs.World.{new_core}
 use Rattle.bus_pageslot.specs.declared.rule.View.{View}
-use Rattle.bus_pageslot.specs.declared.rule.View.TheVariants.{Sender}
+use Rattle.bus_pageslot.specs.declared.rule.View.TheVariants.{Maker, Sender}
+use Rattle.bus_pageslot.specs.Processes.{Extent}
 use Rattle.bus_pageslot.specs.Rule.{stored_in, cut_left, cut_right, IsShown}
 use Rattle.bus_pageslot.specs.Steps.{deeds_in}
+use Rattle.bus_pageslot.specs.Steps.Accepts.{Nothing}
 use Rattle.bus_pageslot.specs.Seats.{deeds_of, stored_of}
+use Rattle.bus_pageslot.proofs.Accepting.{since_is}
 use Rattle.bus_pageslot.proofs.Openings.{cut_allowed, shows_new}
 use Rattle.bus_pageslot.proofs.seating.seat_next.Goals as goal
 
+pub overflow_cast-me : goal.overflow_cast-me
+overflow_cast-me g c = let few = g.met.S.Seatable.few_senders c.args.shape c.requires.served in let below = c.requires.below in omega arith
+
 pub split_seat-seat-requires : goal.split_seat-seat-requires
 split_seat-seat-requires g c =
-    let x = layout_with g.Q.Ratifier.protocol c.args.shape.senders c.args.shape.rounds c.args.shape.rows c.args.shape.log_words in
-    let key = c.args.top.now.key in
-    let X = election_with g.Q.Machine.kind_of g.Q.Machine.op g.Q.Machine.fed g.Q.Ratifier.protocol in
-    let y = layout_with g.Q.Ratifier.protocol key.senders key.rounds key.rows key.log_words in (
+    let P = g.S.Seatable.process in
+    let B = g.S.Seatable.automaton c.args.shape in
+    let M = c.is_lawful.ensures.automaton c.args.shape in
+    let A = g.S.Seatable.automaton c.args.top.now.key in
+    let L = c.is_lawful.ensures.automaton c.args.top.now.key in
+    let me = B.started c.args.me in
+    let room = M.room in
+    let behind = M.behind in
+    let below = subst (λ n. P.me me < n) (ap (λ (x : Extent). x.senders) (sym (M.started_extent c.args.me))) (let at = M.started_me c.args.me in let l = c.requires.below in let s = c.requires.senders in omega arith) in (
       c.requires.table,
       subst (λ (z : TableId). 0 < z.words) c.requires.table (let w = c.requires.wide.0 in omega arith),
-      subst (λ (v : View (Core (Elector g.row.Q.Denot))). Splits (IsShown X y) c.args.maker.now.id v (cut_left v) (cut_right v)) (sym (ap (λ m. m.0) c.requires.maker)) (cut_allowed X y c.args.maker.now.id (new_core x c.args.me) c.requires.below),
+      subst (λ (v : View g.row.S.Denot). Splits (IsShown P A) c.args.maker.now.id v (cut_left P v) (cut_right v)) (sym (ap (λ m. m.0) c.requires.maker)) (cut_allowed P A L c.args.maker.now.id me below),
     )
 
 pub seated-requires-clause-shows : goal.seated-requires-clause-shows
 seated-requires-clause-shows g c =
-    let x = layout_with g.Q.Ratifier.protocol c.args.shape.senders c.args.shape.rounds c.args.shape.rows c.args.shape.log_words in
+    let P = g.S.Seatable.process in
+    let A = g.S.Seatable.automaton c.args.shape in
     let split = c.split_seat-seat.ensures in
-    shows_new x c.args.me c.new-core.result c.args.maker.now.me.0 c.split_seat-seat.result (let most = c.requires.served.log_words.1 in omega arith) c.new-core.ensures (ap (λ m. m.0) c.requires.maker) split.4
+    shows_new P A (c.is_lawful.ensures.automaton c.args.shape) (c.is_lawful.ensures.opens c.args.shape c.requires.served) c.args.me c.start-core.result c.args.maker.now.me.0 c.split_seat-seat.result c.start-core.ensures (ap (λ m. m.0) c.requires.maker) split.4
     (ap (λ (z : TableId). z.words) split.3 ∙ c.requires.wide.0) (ap (λ (z : TableId). z.slots) split.3 ∙ c.requires.wide.1)
 
 pub seated-requires-clause-stored : goal.seated-requires-clause-stored
 seated-requires-clause-stored g c = ap (λ m. stored_in m.0) c.split_seat-seat.ensures.4 ∙ ap (λ m. stored_in (cut_right m.0)) c.requires.maker
 
 pub returns-clause-maker : goal.returns-clause-maker
-returns-clause-maker g c = c.split_seat-seat.ensures.2 ∙ (λ i. (cut_left (c.requires.maker i).0, (c.requires.maker i).1))
+returns-clause-maker g c =
+    let P = g.S.Seatable.process in
+    let M = c.is_lawful.ensures.automaton c.args.shape in
+    c.split_seat-seat.ensures.2 ∙ (λ i. (cut_left P (c.requires.maker i).0, (c.requires.maker i).1)) ∙ ap (λ d. (Maker d, [])) (M.started_next c.args.me)
 
 pub returns-clause-seat : goal.returns-clause-seat
 returns-clause-seat g c =
+    let P = g.S.Seatable.process in
+    let A = g.S.Seatable.automaton c.args.shape in
     let split = c.split_seat-seat.ensures in
-    let x = layout_with g.Q.Ratifier.protocol c.args.shape.senders c.args.shape.rounds c.args.shape.rows c.args.shape.log_words in
     let me = split.4 ∙ ap (λ m. (cut_right m.0, [])) c.requires.maker in
     record {
-      core = ap (λ s. s.core) c.seated.ensures ∙ c.new-core.ensures;
+      core = ap (λ s. s.core) c.seated.ensures ∙ c.start-core.ensures;
       table_is = ap (λ s. s.seat.table_id) c.seated.ensures ∙ split.3;
-      deeds = ap deeds_of c.seated.ensures ∙ ap (λ m. deeds_in m.0 c.new-core.result) me ∙ ap (λ d. deeds_in (Sender (new_core x c.args.me) [] 0) d) c.new-core.ensures;
+      deeds = ap (deeds_of P) c.seated.ensures ∙ ap (λ m. deeds_in P m.0 c.start-core.result) me ∙ ap (λ d. deeds_in P (Sender (A.started c.args.me) [] 0) d) c.start-core.ensures ∙ since_is P c.is_lawful.ensures.process (A.started c.args.me) (A.started c.args.me) [] Nothing;
       stored = ap stored_of c.seated.ensures ∙ ap (λ m. stored_in m.0) me;
     }

@@ -1,6 +1,5 @@
 use Rattle.std.proofs.Common.{◌≡◌, ◌+◌, arith, subst, sym, ◌∙◌, ap}
 use Rattle.atomic_table.specs.Seated.{TableId}
-use Rattle.bus_tenure.specs.Elections.{layout_with}
 use Rattle.bus_pageslot.specs.Buses.{IsNewTap, AreNewTaps}
 use Rattle.bus_pageslot.proofs.Openings.{one_more_tap}
 use Rattle.bus_pageslot.proofs.seating.tap_all.Goals as goal
@@ -10,7 +9,7 @@ tap_next-tap-requires-clause-wide g c = ap (λ (z : TableId). z.words) c.loop.in
 
 pub loop-preserved : goal.loop-preserved
 loop-preserved g c =
-    let n = layout_with g.Q.Ratifier.protocol c.args.shape.senders c.args.shape.rounds c.args.shape.rows c.args.shape.log_words in
+    let n = (g.S.Seatable.automaton c.args.shape).extent in
     let table = c.args.top.now.table_id in
     record {
       below = omega arith;
@@ -23,4 +22,4 @@ loop-preserved g c =
 pub returns : goal.returns
 returns g c =
     let all : c.loop.counter ≡ c.args.shape.receivers = let b = c.loop.invariant.below in omega arith in
-    subst (λ n. AreNewTaps (layout_with g.Q.Ratifier.protocol c.args.shape.senders c.args.shape.rounds c.args.shape.rows c.args.shape.log_words) c.args.top.now.table_id n c.loop.taps.items) all c.loop.invariant.taps
+    subst (λ n. AreNewTaps (g.S.Seatable.automaton c.args.shape).extent c.args.top.now.table_id n c.loop.taps.items) all c.loop.invariant.taps

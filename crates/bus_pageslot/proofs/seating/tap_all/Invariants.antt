@@ -1,6 +1,4 @@
 use Rattle.std.proofs.Common.{◌≡◌, ◌≤◌, []}
-use Rattle.bus_tenure.specs.Elections.{layout_with}
-use Rattle.bus_world.specs.World.{new_core}
 use Rattle.bus_pageslot.specs.Buses.{AreNewTaps}
 use Rattle.bus_pageslot.specs.declared.rule.View.TheVariants.{Maker}
 use Rattle.bus_pageslot.proofs.seating.tap_all.Given as goal
@@ -8,7 +6,7 @@ use Rattle.bus_pageslot.proofs.seating.tap_all.Given as goal
 abbrev pub invariant-loop : goal.invariant-loop
 invariant-loop g l = record {
   below : l.counter ≤ l.shape.receivers;
-  taps : AreNewTaps (layout_with g.Q.Ratifier.protocol l.shape.senders l.shape.rounds l.shape.rows l.shape.log_words) l.top.table_id l.counter l.taps.items;
+  taps : AreNewTaps (g.S.Seatable.automaton l.shape).extent l.top.table_id l.counter l.taps.items;
   table : l.maker.table_id ≡ l.top.table_id;
-  maker : l.maker.me ≡ (Maker (new_core (layout_with g.Q.Ratifier.protocol l.shape.senders l.shape.rounds l.shape.rows l.shape.log_words) l.shape.senders), []);
+  maker : l.maker.me ≡ (Maker ((g.S.Seatable.automaton l.shape).started l.shape.senders), []);
 }

@@ -1,0 +1,50 @@
+-- What a situation tells of the phase.
+use Rattle.std.proofs.Common.{◌≡◌, ℕ, Bool, true, false, cond, ◌&&◌, nat_lt, nat_le, is_some, refl, subst}
+use Rattle.bus_tenure.specs.Core.{Core, Election, frame_len, has_room, is_empty, is_closing, is_closed}
+use Rattle.bus_tenure.specs.Situations.{Situation, IsClosed, IsIdle, IsSpent, LooksAtStage, Elects, TakesPage, AwaitsPage, StoresWord, StoresLength, GivesBack, HasHanded, situation_at, situation_of}
+use Rattle.bus_tenure.specs.declared.pages.Page.{Page}
+use Rattle.bus_tenure.specs.declared.phases.Reason.TheVariants.{Sent, FoundEnd, NoRoom}
+use Rattle.bus_tenure.specs.declared.phases.Phase.{Phase}
+use Rattle.bus_tenure.specs.declared.phases.Phase.TheVariants as phase
+
+module _ {E : Type 0} (X : Election E) (c : Core E) where
+  -- what a situation tells of the phase
+  abbrev pub Tells : Situation E → Phase E → Type 0
+  Tells IsClosed ph = ph ≡ phase.Resting
+  Tells IsIdle ph = ph ≡ phase.Resting
+  Tells IsSpent ph = ph ≡ phase.Resting
+  Tells LooksAtStage ph = ph ≡ phase.Resting
+  Tells (Elects t e) ph = ph ≡ phase.Electing t e
+  Tells (TakesPage t) ph = (e : E) × (ph ≡ phase.Electing t e) × (is_some (X.owner e) ≡ true)
+  Tells (AwaitsPage t) ph = ph ≡ phase.Taken t
+  Tells (StoresWord t page stored) ph = (published : Bool) × (ph ≡ phase.Holding t page stored published)
+  Tells (StoresLength t page stored) ph = (published : Bool) × (ph ≡ phase.Holding t page stored published)
+  Tells (GivesBack t page reason) ph = (stored : ℕ) × (published : Bool) × (ph ≡ phase.Holding t page stored published)
+  Tells (HasHanded t reason) ph = ph ≡ phase.Giving t reason
+
+  by_rest : (a b d : Bool) → Tells (cond {A = Situation E} a IsClosed (cond b IsIdle (cond d IsSpent LooksAtStage))) phase.Resting
+  by_rest true b d = refl
+  by_rest false true d = refl
+  by_rest false false true = refl
+  by_rest false false false = refl
+
+  by_owner : (a : Bool) (t : ℕ) (e : E) → is_some (X.owner e) ≡ a → Tells (cond {A = Situation E} a (TakesPage t) (Elects t e)) (phase.Electing t e)
+  by_owner true t e i = (e, refl, i)
+  by_owner false t e i = refl
+
+  by_hold : (a b d f published : Bool) (t stored : ℕ) (page : Page) → Tells (cond {A = Situation E} a (GivesBack t page Sent) (cond b (GivesBack t page FoundEnd) (cond d (cond f (StoresWord t page stored) (StoresLength t page stored)) (GivesBack t page NoRoom)))) (phase.Holding t page stored published)
+  by_hold true b d f published t stored page = (stored, published, refl)
+  by_hold false true d f published t stored page = (stored, published, refl)
+  by_hold false false true true published t stored page = (published, refl)
+  by_hold false false true false published t stored page = (published, refl)
+  by_hold false false false f published t stored page = (stored, published, refl)
+
+  tells_at : (ph : Phase E) → Tells (situation_at X c ph) ph
+  tells_at phase.Resting = by_rest (is_closed c.queue.phase) (is_empty c.queue.messages && cond (is_closing c.queue.phase) false true) (nat_le c.layout.rows c.least)
+  tells_at (phase.Electing t e) = by_owner (is_some (X.owner e)) t e refl
+  tells_at (phase.Taken t) = refl
+  tells_at (phase.Holding t page stored published) = by_hold published page.ended (has_room c page) (nat_lt stored (frame_len c)) published t stored page
+  tells_at (phase.Giving t reason) = refl
+
+  pub tells : (z : Situation E) → situation_of X c ≡ z → Tells z c.phase
+  tells z i = subst (λ z. Tells z c.phase) i (tells_at c.phase)

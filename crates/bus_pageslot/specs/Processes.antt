@@ -1,0 +1,89 @@
+-- What threads go by. A sender is a process, which says by itself what its next turn is; and a bus is an automaton, of which executions lead to
+-- some states. A bus with a row of words for each tenure is one, and a bus whose rows are used again is another.
+use Rattle.std.specs.Prelude.{◌≡◌, ℕ, ◌+◌, ◌≤◌, ◌<◌, ◌^◌, Bool, true, false, Option, Some, None, List, length, slice_index}
+use Rattle.bus_register.specs.declared.kinds.Kind.{Kind}
+use Rattle.bus_register.specs.declared.registers.Op.{Op}
+use Rattle.bus_batch.specs.Batches.{Pending}
+use Rattle.bus_tenure.specs.Situations.{PageMove}
+use Rattle.bus_tenure.specs.declared.pages.Page.{Page}
+use Rattle.bus_tenure.specs.declared.turns.Turn.{Turn}
+use Rattle.bus_world.specs.Headline.{Deed}
+use Rattle.bus_world.specs.Log.{read}
+
+-- how large a bus is: its senders, all its words, where the first word of its log stands, and how many words the log has
+pub record Extent : Type 0 where
+  pub senders : ℕ
+  pub words : ℕ
+  pub log : ℕ
+  pub capacity : ℕ
+
+abbrev pub no_extent : Extent
+no_extent = record { senders = 0; words = 0; log = 0; capacity = 0 }
+
+-- ---- a sender that holds C
+pub record Process (C : Type 0) : Type 0 where
+  -- its number, and how large its bus is
+  pub me : C → ℕ
+  pub extent : C → Extent
+  -- the sender of the next number, at its start
+  pub successor : C → C
+  -- its batch, as a put and a close find it; and it with this message more, or with an end mark that waits
+  pub queue : C → Pending
+  pub with_message : C → (bytes : List ℕ) → C
+  pub with_close : C → C
+  -- the messages that it has accepted and that are in no frame of the log
+  pub waiting : C → List (List ℕ)
+  -- ---- its next turn
+  -- the step, with this random word, and what it is for; none where none is due
+  pub op : C → (word : ℕ) → Option Op
+  pub kind : C → Option Kind
+  pub wants_word : C → Bool
+  -- how many turns its election takes at most, with the one that takes the page
+  pub turns_left : C → ℕ
+  -- the answer where no step is due
+  pub rest : C → Turn
+  -- what becomes of the page
+  pub move : C → PageMove
+  -- what it holds after a step that found this number, with that random word, where this page was at home
+  pub after : C → (home : Option Page) → (got word : ℕ) → C
+  pub answer : C → (got word : ℕ) → Turn
+  -- what such a step adds to its trail
+  pub deeds : C → (got word : ℕ) → List Deed
+  -- ---- the same turn, part by part
+  -- it holds the page between two turns
+  pub holds : C → Bool
+  -- with the page out of its hands that it gives back; then fed the number that its step found; and then with this page laid before it
+  pub handed : C → C
+  pub fed : C → (got word : ℕ) → C
+  pub awaits : C → Bool
+  pub laid : C → Page → C
+
+-- the numbers of a sender's messages stay far below 2^64: each item has a word of the log, and a batch has few messages
+pub record IsCounted {C : Type 0} (P : Process C) (c : C) : Type 0 where
+  pub first : (P.queue c).first ≤ (P.extent c).capacity
+  pub few : length (P.queue c).messages ≤ 16
+  pub capacity : (P.extent c).capacity < 2 ^ 40
+
+-- ---- a bus whose senders hold C
+pub record Automaton (C : Type 0) : Type 1 where
+  pub extent : Extent
+  -- a sender at its start
+  pub started : ℕ → C
+  pub State : Type 0
+  -- Executions lead to this state, whatever its senders did and in whichever order: in none has a receiver taken part, and no sender has
+  -- stopped by an event of its own. One that is dropped just takes no step any more.
+  pub IsReached : State → Type 0
+  pub words : State → List ℕ
+  -- the page, where it is at home
+  pub home : State → Option Page
+  pub sender : State → ℕ → Option C
+  -- all that a sender did
+  pub deeds : State → ℕ → List Deed
+
+-- the words below the length
+abbrev pub log_below : Extent → List ℕ → List ℕ
+log_below x words = read (slice_index words) x.log (slice_index words 0)
+
+-- of a state
+abbrev pub log_in : {C : Type 0} → (A : Automaton C) → A.State → List ℕ
+log_in A z = log_below A.extent (A.words z)
