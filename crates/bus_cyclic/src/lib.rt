@@ -22,7 +22,7 @@
 #![tactic(auto)]
 
 pub mod limits;
-mod shapes;
+pub mod shapes;
 mod starts;
 mod turns;
 pub mod worlds;

@@ -13,12 +13,13 @@ use Rattle.bus_batch.specs.declared.messages.Item.{Item}
 use Rattle.bus_batch.specs.Frames.{Frame, AreFrames, Order, log_words, order_of}
 use Rattle.bus_batch.proofs.FrameLaws.{same_log}
 use Rattle.bus_deliverylog.specs.Orders.{IsPrefixOfOrder, of_sender}
+use Rattle.bus_deliverylog.specs.declared.receiving.RecvTurn.{RecvTurn}
 use Rattle.bus_deliverylog.specs.declared.receiving.RecvTurn.TheVariants as recv
 use Rattle.bus_tenure.specs.Core.{Core, Election, Layout, log_at, words_of}
 use Rattle.bus_tenure.specs.Situations.{Situation, IsClosed, IsIdle, IsSpent, LooksAtStage, Elects, TakesPage, AwaitsPage, StoresWord, StoresLength, GivesBack, HasHanded, Stays, Comes, Returns, situation_of, line_of, op_at}
 use Rattle.bus_tenure.specs.declared.pages.Page.{Page}
 use Rattle.bus_world.specs.Bus.{IsLayout}
-use Rattle.bus_world.specs.Headline.{Deed, HasPut, HasClosed, IsPrefix, puts}
+use Rattle.bus_world.specs.Headline.{Deed, HasPut, HasClosed, puts, Promises}
 use Rattle.bus_world.specs.Log.{Knows}
 use Rattle.bus_world.specs.Playing.{IsServed}
 use Rattle.bus_world.specs.Starting.{AreNewCores}
@@ -33,16 +34,35 @@ use Rattle.bus_world.proofs.Serving.{Serves}
 use Rattle.bus_world.proofs.StartingLaws.{one_more_core}
 use Rattle.bus_world.proofs.LogLaws.{length-read}
 use Rattle.bus_pageslot.specs.Processes.{IsCounted}
-use Rattle.bus_pageslot.specs.Lawful.{AutomatonLaws, IsSender, AcceptsIn, StepsIn, HasLog, IsPromisedOf, Opens}
+use Rattle.bus_pageslot.specs.Lawful.{AutomatonLaws, IsSender, AcceptsIn, StepsIn, HasLog, IsPromisedOf, Opens, no_answers}
 use Rattle.bus_pageslot.specs.RowsApart.{process_apart, bus_apart, extent_of, History, IsHistory}
+use Rattle.bus_pageslot.proofs.ApartTurns.{ends, takes_it}
 use Rattle.bus_pageslot.proofs.Counting.{first_below}
 use Rattle.bus_pageslot.proofs.Histories.{Kept, kept, nobody_did, log_is, log_in_bus, deeds_at, Reaches, takes_message, takes_close, steps, sum_fits, taken}
 use Rattle.bus_pageslot.proofs.Taking.{with_message, with_close}
 
 -- where the stage is odd the page is out, and else at home
-stage_tells : {E : Type 0} (ended stage : ℕ) (at_home : Bool) (owners : List ℕ) (standing : _) → Stage {E = E} ended stage at_home owners standing → ((stage % 2 ≡ 1) → at_home ≡ false) × ((stage % 2 ≢ 1) → at_home ≡ true)
+pub stage_tells : {E : Type 0} (ended stage : ℕ) (at_home : Bool) (owners : List ℕ) (standing : _) → Stage {E = E} ended stage at_home owners standing → ((stage % 2 ≡ 1) → at_home ≡ false) × ((stage % 2 ≢ 1) → at_home ≡ true)
 stage_tells ended stage at_home owners standing (Open is home many) = (λ odd. absurd (omega arith), λ even. home)
 stage_tells ended stage at_home owners standing (Held holder is home many stands) = (λ odd. home, λ even. absurd (even (omega arith)))
+
+-- the page of promises, of receivers that were answered nothing
+pub silent_page : (deeds : ℕ → List Deed) (heard : ℕ → List RecvTurn) (order : Order) (owners : List (ℕ × SenderNo)) → Promises deeds heard order owners → Promises deeds no_answers order owners
+silent_page deeds heard order owners q = record {
+  one_owner = q.one_owner;
+  announced = q.announced;
+  took_own = q.took_own;
+  took_once = q.took_once;
+  owned = q.owned;
+  rising = q.rising;
+  delivered = λ n. record { later = order.items; items = refl; ended = λ e. absurd (let bad : false ≡ true = e in cc) };
+  told = λ n. record { rest = owners; together = refl };
+  faithful = q.faithful;
+  numbered = q.numbered;
+  silent = λ n j k a at l here. absurd (let bad : None ≡ Some recv.End = at in let wrong : ⊥ = cc in wrong);
+  closed = q.closed;
+  framed = q.framed;
+}
 
 module _ {E : Type 0} (X : Election E) (P : Protocol E (Unit {0}) ℕ) (x : Layout) (y : Serves X P x) (z : History E) (h : IsHistory X x z) where
   abbrev b : Bus E
@@ -105,22 +125,8 @@ module _ {E : Type 0} (X : Election E) (P : Protocol E (Unit {0}) ℕ) (x : Layo
           grows = record { frames = s.grows.frames; more = s.grows.more; lawful = s.grows.lawful; lawful_now = s.grows.lawful_now; words_are = s.grows.words_are; words_now = s.grows.words_now };
         }
 
-    -- a step with which the page comes takes it
-    takes_it : (s : Situation E) (word : ℕ) (o : Op) (t : ℕ) → op_at X c s word ≡ Some o → (line_of X c s).move ≡ Comes t → s ≡ TakesPage t
-    takes_it IsClosed word o t due is = absurd (let bad : None ≡ Some o = due in let wrong : ⊥ = cc in wrong)
-    takes_it IsIdle word o t due is = absurd (let bad : None ≡ Some o = due in let wrong : ⊥ = cc in wrong)
-    takes_it IsSpent word o t due is = absurd (let bad : None ≡ Some o = due in let wrong : ⊥ = cc in wrong)
-    takes_it LooksAtStage word o t due is = absurd (let bad : Stays ≡ Comes t = is in let wrong : ⊥ = cc in wrong)
-    takes_it (Elects u e) word o t due is = absurd (let bad : Stays ≡ Comes t = is in let wrong : ⊥ = cc in wrong)
-    takes_it (TakesPage u) word o t due is = let same : Comes u ≡ Comes t = is in cc
-    takes_it (AwaitsPage u) word o t due is = absurd (let bad : None ≡ Some o = due in let wrong : ⊥ = cc in wrong)
-    takes_it (StoresWord u page stored) word o t due is = absurd (let bad : Stays ≡ Comes t = is in let wrong : ⊥ = cc in wrong)
-    takes_it (StoresLength u page stored) word o t due is = absurd (let bad : Stays ≡ Comes t = is in let wrong : ⊥ = cc in wrong)
-    takes_it (GivesBack u page reason) word o t due is = absurd (let bad : Returns u reason _ ≡ Comes t = is in let wrong : ⊥ = cc in wrong)
-    takes_it (HasHanded u reason) word o t due is = absurd (let bad : Stays ≡ Comes t = is in let wrong : ⊥ = cc in wrong)
-
     finds_home : (word : ℕ) (o : Op) (t : ℕ) → op_at X c (situation_of X c) word ≡ Some o → (line_of X c (situation_of X c)).move ≡ Comes t → is_some b.side.home ≡ true
-    finds_home word o t due is = ap is_some (taken X P x y h.served b T h.reached h.running p c old word o due t (takes_it (situation_of X c) word o t due is)).1
+    finds_home word o t due is = ap is_some (taken X P x y h.served b T h.reached h.running p c old word o due t (takes_it X c (situation_of X c) word o t due is)).1
 
     -- the log has of it what it put, but for what waits
     sent : (frames : List Frame) → AreFrames x.senders frames → log_words frames ≡ log_in_bus x b → map (λ (i : Item). i.message) (of_sender p (order_of frames)) ++ waiting_at c c.phase ≡ puts (T.deeds p)
@@ -149,26 +155,11 @@ module _ {E : Type 0} (X : Election E) (P : Protocol E (Unit {0}) ℕ) (x : Layo
   promised : IsPromisedOf (bus_apart X x) z
   promised =
       let p = events.promised X P y.laws x h.served y.width y.starts y.owner_is y.named y.announces y.apart b T h.reached in
-      let q = p.by.promises in
       record {
         order = p.order;
         owners = p.owners;
         spelled = p.by.spelled;
-        promises = record {
-          one_owner = q.one_owner;
-          announced = q.announced;
-          took_own = q.took_own;
-          took_once = q.took_once;
-          owned = q.owned;
-          rising = q.rising;
-          delivered = λ n. record { later = p.order.items; items = refl; ended = λ e. absurd (let bad : false ≡ true = e in cc) };
-          told = λ n. record { rest = p.owners; together = refl };
-          faithful = q.faithful;
-          numbered = q.numbered;
-          silent = λ n j k a at l here. absurd (let bad : None ≡ Some recv.End = at in let wrong : ⊥ = cc in wrong);
-          closed = q.closed;
-          framed = q.framed;
-        };
+        promises = silent_page T.deeds T.heard p.order p.owners p.by.promises;
       }
 
 pub automaton_laws : {E : Type 0} (X : Election E) (P : Protocol E (Unit {0}) ℕ) (x : Layout) → Serves X P x → AutomatonLaws (process_apart X) (bus_apart X x)
@@ -185,6 +176,7 @@ automaton_laws X P x y = record {
   message = λ z p c bytes h old can small. accepts_in X P x y z h p c old (with_message c bytes) (HasPut (next_of c.queue) bytes ∷ []) (takes_message X P x y h.served z.bus z.trails h.reached h.running p c old bytes can small);
   close = λ z p c h old can. accepts_in X P x y z h p c old (with_close c) (HasClosed ∷ []) (takes_close X P x y h.served z.bus z.trails h.reached h.running p c old can);
   step = λ z p c word o h old due within. steps_in X P x y z h p c old word o due;
+  ends = λ z p c word o h old due home got. ends X c (situation_of X c) refl word o due home got;
   fits = λ z p c word o h old due. sum_fits X P x y h.served z.bus z.trails h.reached h.running p c old word o due;
   finds_home = λ z p c word o t h old due is. finds_home X P x y z h p c old word o t due is;
   even_at_home = λ z h even. (tells X P x y z h (slice_index z.bus.side.words 1) refl).1 even;

@@ -8,7 +8,7 @@ use Rattle.bus_register.specs.declared.registers.Op.TheVariants.{Load, Store}
 use Rattle.bus_register.specs.Protocol.{Protocol, Laws}
 use Rattle.bus_ownerbits.specs.OneOwner.{OneOwner}
 use Rattle.bus_tenure.specs.Core.{Core, Election, is_closed, is_closing, is_empty, frame_len, has_room}
-use Rattle.bus_tenure.specs.Situations.{Situation, IsClosed, IsIdle, IsSpent, LooksAtStage, Elects, TakesPage, AwaitsPage, StoresWord, StoresLength, GivesBack, HasHanded, situation_at, situation_of, line_of, kind_at, tenure_at, op_at, fed_at, answer_at, rest_at, chosen_at, waits, core_begun, core_elected, core_at_rest, answer_of_election, answer_of_return}
+use Rattle.bus_tenure.specs.Situations.{Situation, IsClosed, IsIdle, IsSpent, LooksAtStage, Elects, TakesPage, AwaitsPage, StoresWord, StoresLength, GivesBack, HasHanded, Stays, Comes, Returns, situation_at, situation_of, line_of, kind_at, tenure_at, op_at, fed_at, answer_at, rest_at, chosen_at, waits, core_begun, core_elected, core_at_rest, answer_of_election, answer_of_return}
 use Rattle.bus_tenure.specs.declared.pages.Page.{Page}
 use Rattle.bus_tenure.specs.declared.phases.Reason.{Reason}
 use Rattle.bus_tenure.specs.declared.phases.Reason.TheVariants.{Sent, FoundEnd, NoRoom}
@@ -19,9 +19,10 @@ use Rattle.bus_tenure.specs.declared.turns.Turn.TheVariants as turn
 use Rattle.bus_world.specs.Headline.{puts}
 use Rattle.bus_world.specs.Trails.{step_deed}
 use Rattle.bus_world.specs.Turning.{core_after, core_moved, core_with_page, before_step}
-use Rattle.bus_pageslot.specs.Lawful.{ProcessLaws, EndsBy}
+use Rattle.bus_pageslot.specs.Lawful.{ProcessLaws}
 use Rattle.bus_pageslot.specs.RowsApart.{is_holding, is_taken, extent_of, process_apart}
 use Rattle.bus_pageslot.specs.Sendings.{is_refusal}
+use Rattle.bus_pageslot.specs.Steps.{EndsBy, page_given}
 use Rattle.bus_pageslot.specs.Turns.{is_last}
 use Rattle.bus_pageslot.proofs.Phases.{tells}
 
@@ -76,7 +77,7 @@ module _ {E : Type 0} (X : Election E) (d : Core E) where
   kept_laid t None = refl
   kept_laid t (Some page) = refl
 
-  layout_stays : (z : Situation E) (home : Option Page) (got word : ℕ) → (core_after X d z home got word).layout ≡ d.layout
+  pub layout_stays : (z : Situation E) (home : Option Page) (got word : ℕ) → (core_after X d z home got word).layout ≡ d.layout
   layout_stays IsClosed home got word = refl
   layout_stays IsIdle home got word = refl
   layout_stays IsSpent home got word = refl
@@ -155,7 +156,7 @@ module _ {E : Type 0} (X : Election E) (d : Core E) where
   left_at_rest t FoundEnd = inl refl
   left_at_rest t NoRoom = inl refl
 
-  left_after : (z : Situation E) (home : Option Page) (got word : ℕ) → Leaves (core_after X d z home got word)
+  pub left_after : (z : Situation E) (home : Option Page) (got word : ℕ) → Leaves (core_after X d z home got word)
   left_after IsClosed home got word = inl refl
   left_after IsIdle home got word = inl refl
   left_after IsSpent home got word = inl refl
@@ -175,7 +176,7 @@ module _ {E : Type 0} (X : Election E) (d : Core E) where
   no_last : (a : Turn) → is_last a ≡ false → (left : List (List ℕ)) → Refused a left
   no_last a going left = λ last some. absurd (let bad : true ≡ false = sym last ∙ going in let wrong : ⊥ = cc in wrong)
 
-  refused_stage : (a b : Bool) (left : List (List ℕ)) → Refused (cond a turn.Waiting (cond b turn.Spent turn.Going)) left
+  pub refused_stage : (a b : Bool) (left : List (List ℕ)) → Refused (cond a turn.Waiting (cond b turn.Spent turn.Going)) left
   refused_stage true b left = no_last turn.Waiting refl left
   refused_stage false true left = λ last some. refl
   refused_stage false false left = no_last turn.Going refl left
@@ -188,12 +189,12 @@ module _ {E : Type 0} (X : Election E) (d : Core E) where
       by_owner true = refl
       by_owner false = refl
 
-  refused_return : (t : ℕ) (reason : Reason) → Refused (answer_of_return d.queue t reason) (core_at_rest d reason t).queue.messages
+  pub refused_return : (t : ℕ) (reason : Reason) → Refused (answer_of_return d.queue t reason) (core_at_rest d reason t).queue.messages
   refused_return t Sent = λ last some. absurd (omega (arith, some))
   refused_return t FoundEnd = λ last some. refl
   refused_return t NoRoom = λ last some. refl
 
-  refused_after : (z : Situation E) (word : ℕ) (o : Op) → op_at X d z word ≡ Some o → (home : Option Page) (got : ℕ) → Refused (answer_at X d z got word) (core_after X d z home got word).queue.messages
+  pub refused_after : (z : Situation E) (word : ℕ) (o : Op) → op_at X d z word ≡ Some o → (home : Option Page) (got : ℕ) → Refused (answer_at X d z got word) (core_after X d z home got word).queue.messages
   refused_after IsClosed word o due home got = absurd (let bad : None ≡ Some o = due in let wrong : ⊥ = cc in wrong)
   refused_after IsIdle word o due home got = absurd (let bad : None ≡ Some o = due in let wrong : ⊥ = cc in wrong)
   refused_after IsSpent word o due home got = absurd (let bad : None ≡ Some o = due in let wrong : ⊥ = cc in wrong)
@@ -252,7 +253,7 @@ module _ {E : Type 0} (X : Election E) (d : Core E) where
   none_empty [] e some = omega (arith, some)
   none_empty (x ∷ left) e some = let bad : false ≡ true = e in cc
 
-  refused_rest : (z : Situation E) → situation_of X d ≡ z → Refused (rest_at X d z) d.queue.messages
+  pub refused_rest : (z : Situation E) → situation_of X d ≡ z → Refused (rest_at X d z) d.queue.messages
   refused_rest IsClosed i = λ last some. refl
   refused_rest IsIdle i = λ last some. absurd (none_empty d.queue.messages (subst Empty i (empty_at d.phase)) some)
   refused_rest IsSpent i = λ last some. refl
@@ -266,6 +267,9 @@ module _ {E : Type 0} (X : Election E) (d : Core E) where
   refused_rest (HasHanded t reason) i = no_last turn.Going refl d.queue.messages
 
 -- ---- how a turn ends
+pub none_given : (page : Page) → None ≡ Some page → ⊥
+none_given page e = cc
+
 module _ {E : Type 0} (X : Election E) (d : Core E) where
   abbrev Plain : Core E → Type 0
   Plain s = (is_taken s.phase ≡ false) × (is_holding s.phase ≡ is_holding d.phase)
@@ -278,7 +282,7 @@ module _ {E : Type 0} (X : Election E) (d : Core E) where
   plain_elected t e None away = (refl, sym away)
   plain_elected t e (Some o) away = plain_if (o == d.me) (record d { phase = phase.Electing t e }) (record d { queue = record d.queue { busy = false }; least = t + 1; phase = phase.Resting }) (refl, sym away) (refl, sym away)
 
-  ends : (z : Situation E) → situation_of X d ≡ z → (word : ℕ) (o : Op) → op_at X d z word ≡ Some o → (home : Option Page) (got : ℕ) → EndsBy (process_apart X) d (fed_at X d z got word) (core_after X d z home got word) home (line_of X d z).move
+  pub ends : (z : Situation E) → situation_of X d ≡ z → (word : ℕ) (o : Op) → op_at X d z word ≡ Some o → (home : Option Page) (got : ℕ) → EndsBy (process_apart X) d (fed_at X d z got word) (core_after X d z home got word) home (line_of X d z).move
   ends IsClosed i word o due home got = absurd (let bad : None ≡ Some o = due in let wrong : ⊥ = cc in wrong)
   ends IsIdle i word o due home got = absurd (let bad : None ≡ Some o = due in let wrong : ⊥ = cc in wrong)
   ends IsSpent i word o due home got = absurd (let bad : None ≡ Some o = due in let wrong : ⊥ = cc in wrong)
@@ -295,8 +299,35 @@ module _ {E : Type 0} (X : Election E) (d : Core E) where
   ends (GivesBack t page reason) i word o due home got = (refl, refl, ap is_holding (tells X d (GivesBack t page reason) i).2, refl)
   ends (HasHanded t reason) i word o due home got = (refl, refl, sym (ap is_holding (tells X d (HasHanded t reason) i)))
 
+  pub gives_held : (z : Situation E) → situation_of X d ≡ z → (page : Page) → page_given (line_of X d z).move ≡ Some page → is_holding d.phase ≡ true
+  gives_held IsClosed i page is = absurd (none_given page is)
+  gives_held IsIdle i page is = absurd (none_given page is)
+  gives_held IsSpent i page is = absurd (none_given page is)
+  gives_held LooksAtStage i page is = absurd (none_given page is)
+  gives_held (Elects t e) i page is = absurd (none_given page is)
+  gives_held (TakesPage t) i page is = absurd (none_given page is)
+  gives_held (AwaitsPage t) i page is = absurd (none_given page is)
+  gives_held (StoresWord t other stored) i page is = absurd (none_given page is)
+  gives_held (StoresLength t other stored) i page is = absurd (none_given page is)
+  gives_held (GivesBack t other reason) i page is = ap is_holding (tells X d (GivesBack t other reason) i).2
+  gives_held (HasHanded t reason) i page is = absurd (none_given page is)
+
+  -- a step with which the page comes takes it
+  pub takes_it : (s : Situation E) (word : ℕ) (o : Op) (t : ℕ) → op_at X d s word ≡ Some o → (line_of X d s).move ≡ Comes t → s ≡ TakesPage t
+  takes_it IsClosed word o t due is = absurd (let bad : None ≡ Some o = due in let wrong : ⊥ = cc in wrong)
+  takes_it IsIdle word o t due is = absurd (let bad : None ≡ Some o = due in let wrong : ⊥ = cc in wrong)
+  takes_it IsSpent word o t due is = absurd (let bad : None ≡ Some o = due in let wrong : ⊥ = cc in wrong)
+  takes_it LooksAtStage word o t due is = absurd (let bad : Stays ≡ Comes t = is in let wrong : ⊥ = cc in wrong)
+  takes_it (Elects u e) word o t due is = absurd (let bad : Stays ≡ Comes t = is in let wrong : ⊥ = cc in wrong)
+  takes_it (TakesPage u) word o t due is = let same : Comes u ≡ Comes t = is in cc
+  takes_it (AwaitsPage u) word o t due is = absurd (let bad : None ≡ Some o = due in let wrong : ⊥ = cc in wrong)
+  takes_it (StoresWord u page stored) word o t due is = absurd (let bad : Stays ≡ Comes t = is in let wrong : ⊥ = cc in wrong)
+  takes_it (StoresLength u page stored) word o t due is = absurd (let bad : Stays ≡ Comes t = is in let wrong : ⊥ = cc in wrong)
+  takes_it (GivesBack u page reason) word o t due is = absurd (let bad : Returns u reason _ ≡ Comes t = is in let wrong : ⊥ = cc in wrong)
+  takes_it (HasHanded u reason) word o t due is = absurd (let bad : Stays ≡ Comes t = is in let wrong : ⊥ = cc in wrong)
+
 -- ---- no step puts a message
-step_puts : (k : Option Kind) (t : Option ℕ) (found : ℕ) (chose : Option ℕ) (a : Turn) → puts (step_deed k t found chose a) ≡ []
+pub step_puts : (k : Option Kind) (t : Option ℕ) (found : ℕ) (chose : Option ℕ) (a : Turn) → puts (step_deed k t found chose a) ≡ []
 step_puts None t found chose a = refl
 step_puts (Some k) t found chose a = refl
 
@@ -317,5 +348,5 @@ process_laws X P laws = record {
   handed_op = λ c word. op_handed X c (situation_of X c) refl word;
   handed_answer = λ c got word. answer_handed X c (situation_of X c) refl got word;
   handed_fed = λ c got word. fed_handed X c (situation_of X c) refl got word;
-  ends = λ c word o due home got. ends X c (situation_of X c) refl word o due home got;
+  gives_held = λ c page is. gives_held X c (situation_of X c) refl page is;
 }

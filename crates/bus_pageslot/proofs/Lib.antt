@@ -9,6 +9,8 @@ pub mod Histories
 pub mod Reaching
 pub mod ApartTurns
 pub mod ApartStates
+pub mod AgainTurns
+pub mod AgainStates
 pub mod Slots
 pub mod Hearing
 pub mod Ties

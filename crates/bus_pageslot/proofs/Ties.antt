@@ -251,6 +251,7 @@ module _ {C : Type 0} (P : Process C) (A : Automaton C) (K : ProcessLaws P) (L :
         core = blind n (A.home r.state);
         answer = mute n;
         counted = is_now.counted;
+        ends = L.ends z p d word o grown.changes.reached grown.changes.here due.due (A.home r.state) (g n);
         now = λ i. (Sender d_now trail stored, moved.carried_now i);
       },
     )

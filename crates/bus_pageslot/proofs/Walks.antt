@@ -1,7 +1,6 @@
 -- The parts of a sender's turn, put together: what it holds afterwards, and that its seat shows it.
 use Rattle.std.proofs.Common.{◌≡◌, ℕ, ◌<◌, ◌==◌, Bool, true, false, cond, Option, Some, None, List, [], ◌∷◌, ◌++◌, arith, refl, sym, ◌∙◌, ap, subst}
 use prog.Atomic.{either}
-use Rattle.std.specs.Prelude.{IsSome}
 use Rattle.std.proofs.lemmas.Bool.{true≢false}
 use Rattle.std.proofs.lemmas.List.{append-nil}
 use Rattle.atomic_table.specs.Table.{Allows, rest}
@@ -11,9 +10,9 @@ use Rattle.bus_tenure.specs.Situations.{PageMove, Stays, Comes, Returns}
 use Rattle.bus_tenure.specs.declared.pages.Page.{Page}
 use Rattle.bus_pageslot.specs.declared.rule.View.TheVariants.{Sender}
 use Rattle.bus_pageslot.specs.Processes.{Extent, Process, Automaton, IsCounted}
-use Rattle.bus_pageslot.specs.Lawful.{ProcessLaws, AutomatonLaws, EndsBy}
+use Rattle.bus_pageslot.specs.Lawful.{ProcessLaws, AutomatonLaws}
 use Rattle.bus_pageslot.specs.Rule.{Sat, trail_in, stored_in, IsShown}
-use Rattle.bus_pageslot.specs.Steps.{laid_from, laid_at, carried_of, page_given, out_with, carried_by, slot_in, emptied, since_in, deeds_in, stored_by, Told, Gone, GoesOn, Due}
+use Rattle.bus_pageslot.specs.Steps.{EndsBy, laid_from, laid_at, carried_of, out_with, carried_by, slot_in, emptied, since_in, deeds_in, stored_by, Told, Gone, GoesOn, Due}
 use Rattle.bus_pageslot.specs.Steps.Accepts.{Nothing}
 use Rattle.bus_pageslot.proofs.Accepting.{since_is}
 use Rattle.bus_pageslot.proofs.Ties.{goes_allowed}
@@ -60,22 +59,9 @@ module _ {C : Type 0} (P : Process C) (d s s' : C) (home : Option Page) where
       }
   ends_by (Returns t reason page) h taken = ends_plain (rest (carried_of (P.holds d))) h.0 h.1 (ap (λ b. rest (carried_of b)) h.2 ∙ ap carried_of (sym h.3))
 
--- ---- the page that a turn gives back is out with the sender
-returns_of : {C : Type 0} (P : Process C) (c s s' : C) (home : Option Page) (move : PageMove) (page : Page) → page_given move ≡ Some page → EndsBy P c s s' home move → P.holds c ≡ true
-returns_of P c s s' home Stays page is h = absurd (let bad : None ≡ Some page = is in let wrong : ⊥ = cc in wrong)
-returns_of P c s s' home (Comes t) page is h = absurd (let bad : None ≡ Some page = is in let wrong : ⊥ = cc in wrong)
-returns_of P c s s' home (Returns t reason back) page is h = h.2
-
-pub holds_what_it_gives : {C : Type 0} (P : Process C) → ProcessLaws P → (c : C) (word : ℕ) → IsSome (P.op c word) → (page : Page) → page_given (P.move c) ≡ Some page → P.holds c ≡ true
-holds_what_it_gives P K c word some page is = by_step (P.op c word) refl some
-  where
-    by_step : (o : Option Op) → P.op c word ≡ o → IsSome o → P.holds c ≡ true
-    by_step None e some = absurd (let bad : false ≡ true = some in cc)
-    by_step (Some o) e some = returns_of P c (P.fed c 0 word) (P.after c None 0 word) None (P.move c) page is (K.ends c word o e None 0)
-
 module _ {C : Type 0} (P : Process C) (K : ProcessLaws P) (d : C) where
   -- ---- the whole turn
-  module _ (m m1 m2 : Sat C) (word got : ℕ) (o : Op) (due : P.op d word ≡ Some o) (carried : m.1 ≡ carried_of (P.holds d)) (d1 d2 : C)
+  module _ (m m1 m2 : Sat C) (word got : ℕ) (carried : m.1 ≡ carried_of (P.holds d)) (d1 d2 : C)
       (put : d1 ≡ P.handed d) (put_me : m1 ≡ (m.0, out_with (P.move d) m.1)) (gone : Gone P d word m1 got m2) (fed : d2 ≡ P.fed d1 got word) where
     fed_is : d2 ≡ P.fed d got word
     fed_is = fed ∙ ap (λ k. P.fed k got word) put ∙ K.handed_fed d got word
@@ -85,7 +71,7 @@ module _ {C : Type 0} (P : Process C) (K : ProcessLaws P) (d : C) where
 
     pub ended : Ends P d2 (P.after d gone.home got word) m2.1
     ended = subst (λ (y : C × List (ℕ × Option Page)). Ends P y.0 (P.after d gone.home got word) y.1) (λ i. (sym fed_is i, sym out_is i))
-        (ends_by P d (P.fed d got word) (P.after d gone.home got word) gone.home (P.move d) (K.ends d word o due gone.home got) gone.taken)
+        (ends_by P d (P.fed d got word) (P.after d gone.home got word) gone.home (P.move d) gone.ends gone.taken)
 
     module _ (m3 : Sat C) (d3 : C) (laid_is : d3 ≡ laid_at P d2 (P.awaits d2) (slot_in m2.1)) (me_is : m3 ≡ (m2.0, emptied (P.awaits d2) m2.1)) where
       pub core_is : d3 ≡ P.after d gone.home got word

@@ -18,6 +18,7 @@ use Rattle.bus_world.specs.Turning.{words_after, home_moved}
 use Rattle.bus_world.specs.World.{new_page}
 use Rattle.bus_pageslot.specs.Processes.{Process, Automaton, IsCounted, log_in}
 use Rattle.bus_pageslot.specs.Sendings.{is_refusal}
+use Rattle.bus_pageslot.specs.Steps.{EndsBy, page_given}
 use Rattle.bus_pageslot.specs.Turns.{is_last}
 
 -- ---- a process
@@ -26,12 +27,6 @@ pub record Keeps {C : Type 0} (P : Process C) (c d : C) : Type 0 where
   pub me : P.me d ≡ P.me c
   pub extent : P.extent d ≡ P.extent c
   pub holds : P.holds d ≡ P.holds c
-
--- The parts of a turn are the whole turn: c has taken its step, is s once it was told what that found, and s' is what it holds after the turn.
-abbrev pub EndsBy : {C : Type 0} → Process C → C → C → C → Option Page → PageMove → Type 0
-EndsBy P c s s' home Stays = (s' ≡ s) × (P.awaits s ≡ false) × (P.holds s' ≡ P.holds c)
-EndsBy P c s s' home (Comes t) = (P.awaits s ≡ true) × (P.holds c ≡ false) × ((page : Page) → home ≡ Some page → (s' ≡ P.laid s page) × (P.holds s' ≡ true))
-EndsBy P c s s' home (Returns t reason page) = (s' ≡ s) × (P.awaits s ≡ false) × (P.holds c ≡ true) × (P.holds s' ≡ false)
 
 pub record ProcessLaws {C : Type 0} (P : Process C) : Type 0 where
   -- a bus has a word for its length, and one for its stage; and a step changes no bus's size
@@ -55,8 +50,8 @@ pub record ProcessLaws {C : Type 0} (P : Process C) : Type 0 where
   pub handed_op : (c : C) (word : ℕ) → P.op (P.handed c) word ≡ P.op c word
   pub handed_answer : (c : C) (got word : ℕ) → P.answer (P.handed c) got word ≡ P.answer c got word
   pub handed_fed : (c : C) (got word : ℕ) → P.fed (P.handed c) got word ≡ P.fed c got word
-  -- .. and ends as the whole turn does
-  pub ends : (c : C) (word : ℕ) (o : Op) → P.op c word ≡ Some o → (home : Option Page) (got : ℕ) → EndsBy P c (P.fed c got word) (P.after c home got word) home (P.move c)
+  -- .. and a page that it gives back is out with it
+  pub gives_held : (c : C) (page : Page) → page_given (P.move c) ≡ Some page → P.holds c ≡ true
 
 -- ---- an automaton
 -- a sender of it
@@ -130,6 +125,8 @@ pub record AutomatonLaws {C : Type 0} (P : Process C) (A : Automaton C) : Type 0
   pub message : (z : A.State) (p : ℕ) (c : C) (bytes : List ℕ) → A.IsReached z → A.sender z p ≡ Some c → CanPut (P.queue c) (length bytes) → All (λ byte. byte < 256) bytes → AcceptsIn A z p (P.with_message c bytes) (HasPut (next_of (P.queue c)) bytes ∷ [])
   pub close : (z : A.State) (p : ℕ) (c : C) → A.IsReached z → A.sender z p ≡ Some c → CanClose (P.queue c) → AcceptsIn A z p (P.with_close c) (HasClosed ∷ [])
   pub step : (z : A.State) (p : ℕ) (c : C) (word : ℕ) (o : Op) → A.IsReached z → A.sender z p ≡ Some c → P.op c word ≡ Some o → register o < A.extent.words → StepsIn P A z p c word o
+  -- the parts of a turn are the whole turn
+  pub ends : (z : A.State) (p : ℕ) (c : C) (word : ℕ) (o : Op) → A.IsReached z → A.sender z p ≡ Some c → P.op c word ≡ Some o → (home : Option Page) (got : ℕ) → EndsBy P c (P.fed c got word) (P.after c home got word) home (P.move c)
   -- what a step adds to stays in range
   pub fits : (z : A.State) (p : ℕ) (c : C) (word : ℕ) (o : Op) → A.IsReached z → A.sender z p ≡ Some c → P.op c word ≡ Some o → SumFits o (slice_index (A.words z) (register o))
   -- the page is at home where it is taken; the stage is even just where it is at home; and there it knows the log

@@ -2,6 +2,7 @@ pub mod Ears
 pub mod Processes
 pub mod Lawful
 pub mod RowsApart
+pub mod RowsAgain
 pub mod Rule
 pub mod Steps
 pub mod Stages

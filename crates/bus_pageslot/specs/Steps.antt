@@ -93,6 +93,12 @@ abbrev pub laid_at : {C : Type 0} → Process C → C → Bool → Option Page �
 laid_at P c true slot = laid_from P c slot
 laid_at P c false slot = c
 
+-- The parts of a turn are the whole turn: c has taken its step, is s once it was told what that found, and s' is what it holds after the turn.
+abbrev pub EndsBy : {C : Type 0} → Process C → C → C → C → Option Page → PageMove → Type 0
+EndsBy P c s s' home Stays = (s' ≡ s) × (P.awaits s ≡ false) × (P.holds s' ≡ P.holds c)
+EndsBy P c s s' home (Comes t) = (P.awaits s ≡ true) × (P.holds c ≡ false) × ((page : Page) → home ≡ Some page → (s' ≡ P.laid s page) × (P.holds s' ≡ true))
+EndsBy P c s s' home (Returns t reason page) = (s' ≡ s) × (P.awaits s ≡ false) × (P.holds c ≡ true) × (P.holds s' ≡ false)
+
 -- ---- one step
 -- the length that it stores, else the one stored before
 abbrev pub stored_by : Option Op → ℕ → ℕ
@@ -119,6 +125,7 @@ pub record Gone {C : Type 0} (P : Process C) (d : C) (word : ℕ) (m : Sat C) (g
   pub core : P.after d home got word ≡ P.after d home found word
   pub answer : P.answer d got word ≡ P.answer d found word
   pub counted : IsCounted P (P.after d home got word)
+  pub ends : EndsBy P d (P.fed d got word) (P.after d home got word) home (P.move d)
   pub now : m' ≡ (Sender (P.after d home got word) (deeds_in P m.0 d ++ P.deeds d found word) (stored_by (P.op d word) (stored_in m.0)), carried_by (P.move d) home m.1)
 
 -- the same of the sender that a call picks

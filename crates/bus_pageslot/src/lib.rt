@@ -18,6 +18,7 @@
 //! ```
 #![tactic(auto)]
 
+mod again;
 mod apart;
 mod buses;
 pub mod laws;
@@ -31,6 +32,7 @@ mod seats;
 mod steps;
 mod taps;
 
+pub use again::{CyclicBus, CyclicSender, CyclicTap};
 pub use apart::{Bus, Sender, Tap};
 pub use buses::BusOf;
 pub use outcomes::{EndFault, Ended};

@@ -1,6 +1,6 @@
 //! One step of a sender on one word, with which the page comes to it or goes home.
 
-ghost use Rattle.std.specs.Prelude.{◌≡◌, ℕ, ◌<◌, ◌∷◌, true, [], Some, IsSome};
+ghost use Rattle.std.specs.Prelude.{◌≡◌, ◌<◌, ◌∷◌, true, [], Some};
 ghost use Rattle.bus_register.specs.Words.{register};
 ghost use Rattle.bus_pageslot.specs.Steps.{laid_at, carried_of, out_with, stored_by};
 ghost use Rattle.bus_pageslot.specs.Steps.{GoesOn, Due, slot_in, emptied};
@@ -15,7 +15,6 @@ use bus_tenure::Turn;
 fn put_out<S: Seatable + Drop>(top: &Top<S>, seat: &mut Place<S>, core: &mut S)
     requires table { seat.old.table_id ≡ top.now.table_id }
     requires carried { seat.old.me.1 ≡ carried_of (S.process.holds core.old) }
-    requires due { (word : ℕ) × IsSome (S.process.op core.old word) }
     ensures core { core.new ≡ S.process.handed core.old }
     ensures table { (seat.new.table_id ≡ seat.old.table_id) × (seat.new.id ≡ seat.old.id) }
     ensures me { seat.new.me

@@ -5,9 +5,6 @@ use Rattle.bus_pageslot.specs.Steps.{Gone, GoesOn}
 use Rattle.bus_pageslot.proofs.Walks.{ended, core_is, stored_now, me_now, all_now, counted_now, wide_now}
 use Rattle.bus_pageslot.proofs.steps.walk.Goals as goal
 
-pub put_out-requires-clause-due : goal.put_out-requires-clause-due
-put_out-requires-clause-due g c = (c.args.word, subst IsSome (sym c.requires.due) refl)
-
 pub feed-turn-requires : goal.feed-turn-requires
 feed-turn-requires g c =
     let P = g.S.Seatable.process in
@@ -20,7 +17,7 @@ take_in-requires-clause-page g c =
     let K = c.is_lawful.ensures.process in
     let d = c.args.core.now in
     let gone : Gone P d c.args.word c.put_out.new.seat.me c.step-got.result c.step-got.new.seat.me = subst (λ (y : Option g.row.S.Denot × ℕ). GoesOn P y.0 y.1 c.put_out.new.seat.me c.step-got.result c.step-got.new.seat.me) (λ i. (c.requires.told.0 i, c.requires.told.1 i)) c.step-got.ensures.goes in
-    (ended P K d c.args.seat.now.me c.put_out.new.seat.me c.step-got.new.seat.me c.args.word c.step-got.result c.args.op c.requires.due (ap (λ x. x.1) c.requires.shows.me) c.put_out.new.core c.feed-turn.new.self c.put_out.ensures.core c.put_out.ensures.me gone c.feed-turn.ensures.state).page
+    (ended P K d c.args.seat.now.me c.put_out.new.seat.me c.step-got.new.seat.me c.args.word c.step-got.result (ap (λ x. x.1) c.requires.shows.me) c.put_out.new.core c.feed-turn.new.self c.put_out.ensures.core c.put_out.ensures.me gone c.feed-turn.ensures.state).page
 
 pub returns-clause-shows : goal.returns-clause-shows
 returns-clause-shows g c =
@@ -33,11 +30,11 @@ returns-clause-shows g c =
       shown = c.take_in.new.core;
       deeds = [];
       accepts = Nothing;
-      counted = counted_now P K d c.args.seat.now.me c.put_out.new.seat.me c.step-got.new.seat.me c.args.word c.step-got.result c.args.op c.requires.due (ap (λ x. x.1) c.requires.shows.me) c.put_out.new.core c.feed-turn.new.self c.put_out.ensures.core c.put_out.ensures.me gone c.feed-turn.ensures.state
+      counted = counted_now P K d c.args.seat.now.me c.put_out.new.seat.me c.step-got.new.seat.me c.args.word c.step-got.result (ap (λ x. x.1) c.requires.shows.me) c.put_out.new.core c.feed-turn.new.self c.put_out.ensures.core c.put_out.ensures.me gone c.feed-turn.ensures.state
           c.take_in.new.seat.me c.take_in.new.core c.take_in.ensures.core c.take_in.ensures.me;
-      me = me_now P K d c.args.seat.now.me c.put_out.new.seat.me c.step-got.new.seat.me c.args.word c.step-got.result c.args.op c.requires.due (ap (λ x. x.1) c.requires.shows.me) c.put_out.new.core c.feed-turn.new.self c.put_out.ensures.core c.put_out.ensures.me gone c.feed-turn.ensures.state
+      me = me_now P K d c.args.seat.now.me c.put_out.new.seat.me c.step-got.new.seat.me c.args.word c.step-got.result (ap (λ x. x.1) c.requires.shows.me) c.put_out.new.core c.feed-turn.new.self c.put_out.ensures.core c.put_out.ensures.me gone c.feed-turn.ensures.state
           c.take_in.new.seat.me c.take_in.new.core c.take_in.ensures.core c.take_in.ensures.me;
-      words = wide_now P K d c.args.seat.now.me c.put_out.new.seat.me c.step-got.new.seat.me c.args.word c.step-got.result c.args.op c.requires.due (ap (λ x. x.1) c.requires.shows.me) c.put_out.new.core c.feed-turn.new.self c.put_out.ensures.core c.put_out.ensures.me gone c.feed-turn.ensures.state
+      words = wide_now P K d c.args.seat.now.me c.put_out.new.seat.me c.step-got.new.seat.me c.args.word c.step-got.result (ap (λ x. x.1) c.requires.shows.me) c.put_out.new.core c.feed-turn.new.self c.put_out.ensures.core c.put_out.ensures.me gone c.feed-turn.ensures.state
           c.take_in.new.seat.me c.take_in.new.core c.take_in.ensures.core c.take_in.ensures.me c.take_in.new.seat.table_id.words (ap (λ (z : TableId). z.words) table ∙ c.requires.shows.words);
       slots = ap (λ (z : TableId). z.slots) table ∙ c.requires.shows.slots;
     }
@@ -56,11 +53,11 @@ returns-clause-took g c =
       taken = gone.taken;
       same_core = gone.core;
       same_answer = gone.answer;
-      core = core_is P K d c.args.seat.now.me c.put_out.new.seat.me c.step-got.new.seat.me c.args.word c.step-got.result c.args.op c.requires.due (ap (λ x. x.1) c.requires.shows.me) c.put_out.new.core c.feed-turn.new.self c.put_out.ensures.core c.put_out.ensures.me gone c.feed-turn.ensures.state
+      core = core_is P K d c.args.seat.now.me c.put_out.new.seat.me c.step-got.new.seat.me c.args.word c.step-got.result (ap (λ x. x.1) c.requires.shows.me) c.put_out.new.core c.feed-turn.new.self c.put_out.ensures.core c.put_out.ensures.me gone c.feed-turn.ensures.state
           c.take_in.new.seat.me c.take_in.new.core c.take_in.ensures.core c.take_in.ensures.me;
       answer = c.feed-turn.ensures.answer ∙ ap (λ k. P.answer k c.step-got.result c.args.word) c.put_out.ensures.core ∙ K.handed_answer d c.step-got.result c.args.word;
-      deeds = all_now P K d c.args.seat.now.me c.put_out.new.seat.me c.step-got.new.seat.me c.args.word c.step-got.result c.args.op c.requires.due (ap (λ x. x.1) c.requires.shows.me) c.put_out.new.core c.feed-turn.new.self c.put_out.ensures.core c.put_out.ensures.me gone c.feed-turn.ensures.state
+      deeds = all_now P K d c.args.seat.now.me c.put_out.new.seat.me c.step-got.new.seat.me c.args.word c.step-got.result (ap (λ x. x.1) c.requires.shows.me) c.put_out.new.core c.feed-turn.new.self c.put_out.ensures.core c.put_out.ensures.me gone c.feed-turn.ensures.state
           c.take_in.new.seat.me c.take_in.new.core c.take_in.ensures.core c.take_in.ensures.me;
-      stored = stored_now P K d c.args.seat.now.me c.put_out.new.seat.me c.step-got.new.seat.me c.args.word c.step-got.result c.args.op c.requires.due (ap (λ x. x.1) c.requires.shows.me) c.put_out.new.core c.feed-turn.new.self c.put_out.ensures.core c.put_out.ensures.me gone c.feed-turn.ensures.state
+      stored = stored_now P K d c.args.seat.now.me c.put_out.new.seat.me c.step-got.new.seat.me c.args.word c.step-got.result (ap (λ x. x.1) c.requires.shows.me) c.put_out.new.core c.feed-turn.new.self c.put_out.ensures.core c.put_out.ensures.me gone c.feed-turn.ensures.state
           c.take_in.new.seat.me c.take_in.new.core c.take_in.ensures.core c.take_in.ensures.me;
     }

@@ -1,0 +1,506 @@
+-- A bus whose rows are used again is an automaton, and it begins as it should.
+use Rattle.std.proofs.Common.{◌≡◌, ◌≢◌, ℕ, zero, suc, ◌+◌, ◌-◌, ◌*◌, ◌%◌, ◌/◌, ◌<◌, ◌≤◌, ◌^◌, ◌==◌, cond, eqb, eq-eqb, ne_eqb, Bool, true, false, Option, Some, None, is_some, List, [], ◌∷◌, ◌++◌, length, map, slice_get, slice_index, slice_set, replicate, nat_le, inl, inr, arith, refl, sym, ◌∙◌, ap, subst, append_assoc, ◌&&◌}
+use Rattle.std.specs.Prelude.{◌⊎◌, All}
+use Rattle.std.proofs.lemmas.Bool.{true≢false, cases_eq, cases_lt}
+use Rattle.std.proofs.lemmas.List.{append-nil}
+use Rattle.std.proofs.lemmas.Option.{same_Some, slice_get_within}
+use Rattle.bus_register.specs.declared.registers.Op.{Op}
+use Rattle.bus_register.specs.Words.{register, SumFits}
+use Rattle.bus_register.specs.Proved.TableLaws.{some_or_none, here_not, get_set_same, get_set_other}
+use Rattle.bus_register.specs.Protocol.{Protocol}
+use Rattle.bus_batch.specs.Batches.{Pending, next_of, CanPut, CanClose}
+use Rattle.bus_batch.specs.declared.batches.Phase.TheVariants.{Closing}
+use Rattle.bus_batch.specs.declared.messages.Item.{Item}
+use Rattle.bus_batch.specs.Frames.{Frame, AreFrames, AreFramesFrom, Spells, frame_words, log_words, order_of}
+use Rattle.bus_batch.proofs.FrameLaws.{same_frame, same_log}
+use Rattle.bus_cyclic.specs.Cyclic.{CyclicBus, LeadTo, last_of}
+use Rattle.bus_cyclic.specs.Following.{TurnsWithin}
+use Rattle.bus_cyclic.specs.Happening.{GuestDoes}
+use Rattle.bus_cyclic.proofs.CyclicLaws.{next_seen}
+use Rattle.bus_cyclic.proofs.LogGrowing.{log_grows}
+use Rattle.bus_cyclic.proofs.StartingLaws.{one_more_guest}
+use Rattle.bus_cyclic.specs.Starting.{AreNewGuests}
+use Rattle.bus_deliverylog.specs.Orders.{of_sender}
+use Rattle.bus_guest.specs.Guests.{Due, Visits, Sweeps, Goes, place_for, log_from, core_looked}
+use Rattle.bus_guest.specs.Turns.{Visitor, due, op_due, op_next, on_place, placed, visitor_due, answer_due, queue_seen}
+use Rattle.bus_presence.specs.declared.visits.Visit.{Visit}
+use Rattle.bus_presence.specs.declared.visits.Visit.TheVariants.{Away, Entering, Looking, Inside, Parting, Barred}
+use Rattle.bus_tenure.specs.Core.{Core, Election, Layout, log_at, is_empty}
+use Rattle.bus_tenure.specs.Situations.{Situation, IsClosed, IsIdle, IsSpent, LooksAtStage, Elects, TakesPage, AwaitsPage, StoresWord, StoresLength, GivesBack, HasHanded, Stays, Comes, Returns, situation_of, line_of, op_at, kind_at, tenure_at, chosen_at, waits, core_begun}
+use Rattle.bus_tenure.specs.declared.pages.Page.{Page}
+use Rattle.bus_tenure.specs.declared.phases.Phase.{Phase}
+use Rattle.bus_tenure.specs.declared.turns.Turn.{Turn as Answered}
+use Rattle.bus_tenure.specs.declared.phases.Phase.TheVariants as phase
+use Rattle.bus_register.specs.Tables.{of_some}
+use Rattle.bus_world.specs.Bus.{IsLayout, Fits, Part, Sending, least_of, standing_of, stands_at}
+use Rattle.bus_world.specs.Tenures.Standing.{Runs}
+use Rattle.bus_world.proofs.TenuresLaws as tenures
+use Rattle.bus_world.specs.Headline.{Deed, HasPut, HasClosed, IsPrefix, puts}
+use Rattle.bus_world.specs.Log.{Knows, read}
+use Rattle.bus_world.specs.Rings.{Ring, RingTrails, RingReached, Leads, IsOnWord, yard_of, core_in, visit_in, guest_going, move_due, visitor_moved, visitor_put, visitor_closed, with_guest, ring_after, ring_trails, ring_deeds, no_ring_trails, IsNewRing}
+use Rattle.bus_world.specs.Rings.RingReached.{NewRing, TurnTaken, PutTaken, CloseTaken, RecvTaken, StopTaken}
+use Rattle.bus_world.specs.Tenures.Stage.{Open, Held}
+use Rattle.bus_world.specs.Trails.{step_deed}
+use Rattle.bus_world.specs.Turning.{words_after, number_found, after_step, core_with_page}
+use Rattle.bus_world.specs.Waiting.{waiting_at, waiting_of}
+use Rattle.bus_world.specs.World.{Turn, can_put, can_close, no_stops, is_set, new_page, new_core, is_open}
+use Rattle.bus_world.specs.Yards.{Yard, word_found, deeds_with, due_deeds}
+use Rattle.bus_world.proofs.EventTrails as events
+use Rattle.bus_world.proofs.LogLaws.{length-read}
+use Rattle.bus_world.proofs.RingFits as fits
+use Rattle.bus_world.proofs.RingLaws.{IsRingLayout, IsLed, ring_led, same_register, due_goes}
+use Rattle.bus_world.proofs.Serving.{Serves}
+use Rattle.bus_world.proofs.YardLaws.{HasKept, led_kept, words_read, yard_promised}
+use Rattle.bus_pageslot.specs.Processes.{IsCounted, log_below, log_in}
+use Rattle.bus_pageslot.specs.Lawful.{AutomatonLaws, IsSender, AcceptsIn, StepsIn, LogGrows, HasLog, IsPromisedOf, Opens}
+use Rattle.bus_pageslot.specs.RowsApart.{process_apart, is_holding, is_taken}
+use Rattle.bus_pageslot.specs.RowsAgain.{extent_again, started_again, deeds_due, process_again, bus_again, RingHistory, IsRingHistory}
+use Rattle.bus_pageslot.specs.Steps.{EndsBy}
+use Rattle.bus_pageslot.proofs.AgainTurns.{seen_messages, seen_first}
+use Rattle.bus_pageslot.proofs.ApartTurns as apart
+use Rattle.bus_pageslot.proofs.ApartStates.{stage_tells, silent_page}
+use Rattle.bus_pageslot.proofs.Counting.{first_below}
+use Rattle.bus_pageslot.proofs.Phases.{tells}
+
+-- ---- frames
+no_head : (f : Frame) (us : List ℕ) → frame_words f ++ us ≡ [] → ⊥
+no_head f us e = cc
+
+-- frames whose words begin those of others begin them
+frames_begin : (senders least least' : ℕ) (fs gs : List Frame) (rest : List ℕ) → AreFramesFrom senders least fs → AreFramesFrom senders least' gs → log_words fs ++ rest ≡ log_words gs → (more : List Frame) × (gs ≡ fs ++ more)
+frames_begin senders least least' [] gs rest lawful lawful' e = (gs, refl)
+frames_begin senders least least' (f ∷ fs) [] rest lawful lawful' e = absurd (no_head f (log_words fs ++ rest) (sym (append_assoc (frame_words f) (log_words fs) rest) ∙ e))
+frames_begin senders least least' (f ∷ fs) (g ∷ gs) rest lawful lawful' e =
+    let s = same_frame senders f g (log_words fs ++ rest) (log_words gs) lawful.0 lawful'.0 (sym (append_assoc (frame_words f) (log_words fs) rest) ∙ e) in
+    let later = frames_begin senders (f.tenure + 1) (g.tenure + 1) fs gs rest lawful.3 lawful'.3 s.1 in
+    (later.0, λ i. sym s.0 i ∷ later.1 i)
+
+-- ---- who goes on
+none_set : (n s : ℕ) → is_set (slice_get (replicate n false) s) ≡ false
+none_set zero s = refl
+none_set (suc n) zero = refl
+none_set (suc n) (suc s) = none_set n s
+
+all_go : {E : Type 0} (b : Ring E) → b.stopped ≡ no_stops → (s : ℕ) → guest_going b s ≡ slice_get b.guests s
+all_go b none s = ap (λ t. cond t None (slice_get b.guests s)) (ap (λ l. is_set (slice_get l s)) none ∙ none_set 8 s)
+
+there_shown : {A : Type 0} (t : Bool) (o : Option A) (v : A) → cond t None o ≡ Some v → o ≡ Some v
+there_shown true o v e = absurd (let bad : None ≡ Some v = e in let wrong : ⊥ = cc in wrong)
+there_shown false o v e = e
+
+-- ---- deeds
+own_deeds : (s : ℕ) (ds : List Deed) (D : ℕ → List Deed) → deeds_with s ds D s ≡ D s ++ ds
+own_deeds s ds D = ap (λ b. D s ++ cond b ds []) (eq-eqb s s refl)
+
+other_deeds : (s : ℕ) (ds : List Deed) (D : ℕ → List Deed) (q : ℕ) → q ≢ s → deeds_with s ds D q ≡ D q
+other_deeds s ds D q ne = ap (λ b. D q ++ cond b ds []) (ne_eqb q s ne) ∙ append-nil (D q)
+
+close_can : (q : Pending) → CanClose q → can_close q ≡ true
+close_can q can =
+    ap (λ z. is_open z && (cond q.busy false true && is_empty q.messages)) can.is_open ∙ ap (λ z. cond z false true && is_empty q.messages) can.idle ∙ ap is_empty can.none
+
+-- between turns no page is under way
+not_taken : {E : Type 0} (words : ℕ → ℕ) (frames : List Frame) (c : Core E) (ph : Phase E) → Fits words frames c ph → is_taken ph ≡ false
+not_taken words frames c phase.Resting f = refl
+not_taken words frames c (phase.Electing t e) f = refl
+not_taken words frames c (phase.Taken t) f = absurd f
+not_taken words frames c (phase.Holding t page stored published) f = refl
+not_taken words frames c (phase.Giving t reason) f = refl
+
+-- ---- the page is at home where it is taken
+finds_home : {E : Type 0} (X : Election E) (P : Protocol E (Unit {0}) ℕ) (x : Layout) (s : Serves X P x) (V : ℕ → ℕ) (home : Option Page) (senders : ℕ → Option (Core E)) (owners : List ℕ) (frames : List Frame) → Sending P x V home senders owners frames
+    → (p : ℕ) (d : Core E) → senders p ≡ Some d → (t : ℕ) → situation_of X d ≡ TakesPage t → is_some home ≡ true
+finds_home X P x s V home senders owners frames h p d old t i =
+    let w = tells X d (TakesPage t) i in
+    elim (some_or_none (X.owner w.0)) [
+      | inl nobody ↦ absurd (true≢false (sym w.2 ∙ ap is_some nobody))
+      | inr own ↦
+          let out : P.output w.0 ≡ Some own.0 = sym (s.owner_is w.0) ∙ own.1 in
+          let mine : own.0 ≡ p = h.chosen p d t w.0 own.0 old w.1 out in
+          let stands = ap (of_some standing_of) old ∙ ap (λ u. Some (stands_at u)) w.1 in
+          (tenures.finds_home X.op X.fed P s.laws x.senders x.rows 2 V (V 1) (is_some home) (λ q. of_some standing_of (senders q)) (λ q. least_of (senders q)) owners h.tenures p t w.0 stands (out ∙ ap Some mine)).1
+    ]
+
+module _ {E : Type 0} (X : Election E) (P : Protocol E (Unit {0}) ℕ) (x : Layout) (rows : ℕ) (y : Serves X P x) where
+  -- ---- of any ring of these sizes that something leads to
+  module _ (b : Ring E) (T : RingTrails) (ok : IsLayout x) (two : 2 ≤ rows) (same : b.layout ≡ x) (rows_are : b.rows ≡ rows) (reached : RingReached X b T) where
+    serves : Serves X P b.layout
+    serves = subst (Serves X P) (sym same) y
+
+    layout : IsRingLayout X P serves.laws serves.owner_is serves.named serves.announces serves.apart b.layout b.rows
+    layout = record { ok = subst IsLayout (sym same) ok; width = serves.width; starts = serves.starts; two = subst (λ n. 2 ≤ n) (sym rows_are) two }
+
+    led : IsLed X P serves.laws serves.owner_is serves.named serves.announces serves.apart b T
+    led = ring_led X P serves.laws serves.owner_is serves.named serves.announces serves.apart b layout T reached
+
+    abbrev yard : Yard E
+    yard = yard_of b led.leads.sweep led.leads.owners
+
+    k : HasKept X P serves.laws b.layout layout.ok layout.width layout.starts serves.owner_is serves.named serves.announces serves.apart b.rows layout.two T.heard yard T.visits T.deeds
+    k = led_kept X P serves.laws b.layout layout.ok layout.width layout.starts serves.owner_is serves.named serves.announces serves.apart b.rows layout.two T.heard yard T.visits T.deeds led.leads.led
+
+    sizes_are : extent_again b.layout b.rows ≡ extent_again x rows
+    sizes_are = λ i. extent_again (same i) (rows_are i)
+
+    log_read : read (slice_index b.words) (log_from b.layout b.rows) (slice_index b.words 0) ≡ log_words k.frames
+    log_read =
+        let capacity = k.kept.sending.log.fits in
+        ap (read (slice_index b.words) (log_from b.layout b.rows)) k.kept.laid.length
+        ∙ words_read X P serves.laws b.layout layout.ok layout.width layout.starts serves.owner_is serves.named serves.announces serves.apart b.rows layout.two (k.V 0) (slice_index b.words) k.V (log_from b.layout b.rows) (log_at b.layout) (λ j l. k.kept.laid.log j (omega arith))
+        ∙ k.kept.sending.log.words_are
+
+    log_here : log_words k.frames ≡ log_below (extent_again x rows) b.words
+    log_here = sym log_read ∙ ap (λ e. log_below e b.words) sizes_are
+
+    frames_are : AreFrames x.senders k.frames
+    frames_are = subst (λ (l : Layout). AreFrames l.senders k.frames) same k.kept.sending.log.lawful
+
+    wide : length b.words ≡ (extent_again x rows).words
+    wide = led.is.words ∙ (λ i. (sizes_are i).words)
+
+    short : slice_index b.words 0 ≤ x.capacity
+    short = subst (λ (l : Layout). slice_index b.words 0 ≤ l.capacity) same (fits.log_below X P serves.laws serves.owner_is serves.named serves.announces serves.apart b layout T led)
+
+    -- any frames of its log are those that it keeps
+    same_frames : (frames : List Frame) → AreFrames x.senders frames → log_words frames ≡ log_below (extent_again x rows) b.words → k.frames ≡ frames
+    same_frames frames lawful words = same_log x.senders 0 0 k.frames frames frames_are lawful (log_here ∙ sym words)
+
+    -- where the stage is odd the page is out, and else at home
+    stage_is : ((slice_index b.words 1 % 2 ≡ 1) → is_some b.home ≡ false) × ((slice_index b.words 1 % 2 ≢ 1) → is_some b.home ≡ true)
+    stage_is =
+        let t = k.kept.sending.tenures in
+        subst (λ n. ((n % 2 ≡ 1) → is_some b.home ≡ false) × ((n % 2 ≢ 1) → is_some b.home ≡ true)) (sym k.kept.laid.stage) (stage_tells t.ended (k.V 1) (is_some b.home) led.leads.owners _ t.stage_is)
+
+    -- the page is at home only while a tenure is open, and then it knows the frames
+    page_knows : (page : Page) (frames : List Frame) → b.home ≡ Some page → AreFrames x.senders frames → log_words frames ≡ log_below (extent_again x rows) b.words → (past : ℕ) × Knows page frames past (slice_index b.words 0)
+    page_knows page frames home lawful words =
+        let sending = k.kept.sending in
+        elim sending.tenures.stage_is [
+          | Open stage at_home many ↦ (sending.tenures.ended, subst (λ n. Knows page frames sending.tenures.ended n) (sym k.kept.laid.length) (subst (λ fs. Knows page fs sending.tenures.ended (k.V 0)) (same_frames frames lawful words) (sending.page_knows page sending.tenures.ended home stage).0))
+          | Held holder stage away many holds ↦ absurd (true≢false (sym (ap is_some home) ∙ away))
+        ]
+
+    -- ---- a sender
+    module _ (p : ℕ) (v : Visitor E) (at : slice_get b.guests p ≡ Some v) where
+      old : yard.senders p ≡ Some v.core
+      old = ap core_in at
+
+      part : Part b.layout k.V k.frames p v.core
+      part = k.kept.sending.parts p v.core old
+
+      counted : IsCounted (process_again X) v
+      counted =
+          let size : length (log_words k.frames) ≡ k.V 0 = sym (ap length k.kept.sending.log.words_are) ∙ length-read k.V (log_at b.layout) (k.V 0) in
+          let first = first_below k.V k.frames v.core v.core.phase part.fits in
+          let short = k.kept.sending.log.fits in
+          let capacity = ap (λ (z : Layout). z.capacity) part.layout in
+          let most = layout.ok.capacity in
+          let seen = seen_first v.core.queue v.visit in
+          record { first = omega arith; few = (let few = part.queue.few in let same = ap length (seen_messages v.core.queue v.visit) in omega arith); capacity = omega arith }
+
+      is_sender : IsSender (process_again X) (bus_again X x rows) p v
+      is_sender = record {
+        me = part.me;
+        below = subst (λ (l : Layout). p < l.senders) same part.below;
+        extent = λ i. extent_again ((part.layout ∙ same) i) ((led.is.rows p v at ∙ rows_are) i);
+        counted = counted;
+      }
+
+      -- the log has of it what it put, but for what waits
+      sent : (frames : List Frame) → AreFrames x.senders frames → log_words frames ≡ log_below (extent_again x rows) b.words → map (λ (i : Item). i.message) (of_sender p (order_of frames)) ++ waiting_at v.core v.core.phase ≡ puts (T.deeds p)
+      sent frames lawful words =
+          ap (λ fs. map (λ (i : Item). i.message) (of_sender p (order_of fs)) ++ waiting_at v.core v.core.phase) (sym (same_frames frames lawful words))
+          ∙ ap (λ o. map (λ (i : Item). i.message) (of_sender p (order_of k.frames)) ++ waiting_of o) (sym old) ∙ sym (k.kept.notes.put p)
+
+      -- ---- how its turn ends
+      away_of : is_taken v.core.phase ≡ false
+      away_of = not_taken k.V k.frames v.core v.core.phase part.fits
+
+      abbrev Plain : Core E → Type 0
+      Plain c = (is_taken c.phase ≡ false) × (is_holding c.phase ≡ is_holding v.core.phase)
+
+      plain_if : (t : Bool) (s u : Core E) → Plain s → Plain u → Plain (cond t s u)
+      plain_if true s u e f = e
+      plain_if false s u e f = f
+
+      plain_here : Plain v.core
+      plain_here = (away_of, refl)
+
+      plain_looked : (u : Visit) → v.visit ≡ u → (got : ℕ) → Plain (core_looked X v.core u got)
+      plain_looked Away is got = plain_here
+      plain_looked (Entering t) is got = plain_here
+      plain_looked (Looking t) is got =
+          let rests = ((k.kept.guests p v.core old).entering t (inr (ap visit_in at ∙ is))).rests in
+          plain_if (got / 2 == t) (core_begun X v.core t) v.core (refl, sym (ap is_holding rests)) plain_here
+      plain_looked (Inside t) is got = plain_here
+      plain_looked (Parting t) is got = plain_here
+      plain_looked (Barred t) is got = plain_here
+
+      abbrev s_of : Due E → ℕ → ℕ → Visitor E
+      s_of d got word = visitor_due X v d got word
+
+      abbrev after_of : Due E → Option Page → ℕ → ℕ → Visitor E
+      after_of d home got word = visitor_moved (after_step (move_due X v d)) home (s_of d got word)
+
+      ends_going : (z : Situation E) → situation_of X v.core ≡ z → (word : ℕ) (o : Op) → op_at X v.core z word ≡ Some o → (home : Option Page) (got : ℕ) → EndsBy (process_again X) v (s_of (Goes z) got word) (after_of (Goes z) home got word) home (line_of X v.core z).move
+      ends_going IsClosed i word o due home got = absurd (let bad : None ≡ Some o = due in let wrong : ⊥ = cc in wrong)
+      ends_going IsIdle i word o due home got = absurd (let bad : None ≡ Some o = due in let wrong : ⊥ = cc in wrong)
+      ends_going IsSpent i word o due home got = absurd (let bad : None ≡ Some o = due in let wrong : ⊥ = cc in wrong)
+      ends_going LooksAtStage i word o due home got =
+          let h = plain_if (waits v.core got) v.core (cond (nat_le v.core.layout.rows (got / 2)) (record v.core { least = got / 2 }) v.core) plain_here (plain_if (nat_le v.core.layout.rows (got / 2)) (record v.core { least = got / 2 }) v.core plain_here plain_here) in
+          (refl, h.0, h.1)
+      ends_going (Elects t e) i word o due home got = let h = apart.ends X v.core (Elects t e) i word o due home got in (refl, h.1, h.2)
+      ends_going (TakesPage t) i word o due home got =
+          let h = apart.ends X v.core (TakesPage t) i word o due home got in
+          (refl, h.1, λ page here. (ap (λ c. record (s_of (Goes (TakesPage t)) got word) { core = c }) (h.2 page here).0, (h.2 page here).1))
+      ends_going (AwaitsPage t) i word o due home got = absurd (let bad : None ≡ Some o = due in let wrong : ⊥ = cc in wrong)
+      ends_going (StoresWord t page stored) i word o due home got = let h = apart.ends X v.core (StoresWord t page stored) i word o due home got in (refl, h.1, h.2)
+      ends_going (StoresLength t page stored) i word o due home got = let h = apart.ends X v.core (StoresLength t page stored) i word o due home got in (refl, h.1, h.2)
+      ends_going (GivesBack t page reason) i word o due home got = let h = apart.ends X v.core (GivesBack t page reason) i word o due home got in (refl, h.1, h.2, h.3)
+      ends_going (HasHanded t reason) i word o due home got = let h = apart.ends X v.core (HasHanded t reason) i word o due home got in (refl, h.1, h.2)
+
+      some_step : (f : ℕ → ℕ) (o : Option Op) (u : Op) → placed f o ≡ Some u → (q : Op) × (o ≡ Some q)
+      some_step f None u e = absurd (let wrong : ⊥ = cc in wrong)
+      some_step f (Some q) u e = (q, refl)
+
+      ends_due : (d : Due E) → due X v ≡ d → (word : ℕ) (o : Op) → op_due X v d word ≡ Some o → (home : Option Page) (got : ℕ) → EndsBy (process_again X) v (s_of d got word) (after_of d home got word) home (move_due X v d)
+      ends_due (Visits u) e word o op home got = let h = plain_looked v.visit refl got in (refl, h.0, h.1)
+      ends_due (Sweeps r u) e word o op home got = (refl, away_of, refl)
+      ends_due (Goes z) e word o op home got = let is = some_step _ _ o op in ends_going z (due_goes _ v.sweep (situation_of X v.core) z e) word is.0 is.1 home got
+
+      -- what it adds to stays in range
+      sum_fits : (word : ℕ) (o : Op) → op_next X v word ≡ Some o → SumFits o (slice_index b.words (register o))
+      sum_fits word o op = fits.sums_fit X P serves.laws serves.owner_is serves.named serves.announces serves.apart b layout T led p v at word o op
+
+      -- a page comes only to a sender that was elected, and finds it at home
+      comes_home : (d : Due E) → due X v ≡ d → (word : ℕ) (o : Op) (t : ℕ) → op_due X v d word ≡ Some o → move_due X v d ≡ Comes t → is_some b.home ≡ true
+      comes_home (Visits u) e word o t op is = absurd (let bad : Stays ≡ Comes t = is in let wrong : ⊥ = cc in wrong)
+      comes_home (Sweeps r u) e word o t op is = absurd (let bad : Stays ≡ Comes t = is in let wrong : ⊥ = cc in wrong)
+      comes_home (Goes z) e word o t op is =
+          let step = some_step _ _ o op in
+          let takes = apart.takes_it X v.core z word step.0 t step.1 is in
+          finds_home X P b.layout serves k.V b.home yard.senders led.leads.owners k.frames k.kept.sending p v.core old t (due_goes _ v.sweep (situation_of X v.core) z e ∙ takes)
+
+      -- ---- a step
+      module _ (running : b.stopped ≡ no_stops) (word : ℕ) (o : Op) (op : op_next X v word ≡ Some o) (low : register o < length b.words) where
+        goes : guest_going b p ≡ Some v
+        goes = all_go b running p ∙ at
+
+        abbrev found : ℕ
+        found = slice_index b.words (register o)
+
+        on_word : IsOnWord b (op_due X v (due X v) word)
+        on_word = subst (IsOnWord b) (sym op) low
+
+        abbrev told : Answered
+        told = answer_due X v (due X v) found word
+
+        abbrev later : Ring E
+        later = ring_after X b p v (due X v) word
+
+        abbrev trails : RingTrails
+        trails = record T { visits = ring_trails b p (due X v) T.visits; deeds = ring_deeds X b p v (due X v) word told T.deeds }
+
+        reaches : RingReached X later trails
+        reaches = TurnTaken b T p v word told reached goes on_word
+
+        found_is : number_found (slice_index b.words) (op_due X v (due X v) word) ≡ found
+        found_is = ap (number_found (slice_index b.words)) op
+
+        -- its deeds are those of the number that its word had
+        found_at : (z : Situation E) (q : Option Op) → placed (place_for v.core.layout v.rows z) q ≡ Some o → word_found (place_for b.layout b.rows z) (slice_index b.words) q ≡ found
+        found_at z None e = absurd (let wrong : ⊥ = cc in wrong)
+        found_at z (Some q) e =
+            let f = place_for v.core.layout v.rows z in
+            let places : place_for b.layout b.rows z ≡ f = λ i. place_for (sym part.layout i) (sym (led.is.rows p v at) i) z in
+            ap (λ g. slice_index b.words (g (register q))) places ∙ ap (slice_index b.words) (sym (same_register f q) ∙ ap register (same_Some _ _ e))
+
+        deeds_same : (d : Due E) → op_due X v d word ≡ Some o → (a : Answered) → a ≡ answer_due X v d found word → due_deeds X b.layout b.rows (yard_of b None []) v.core d word a ≡ deeds_due X v d found word
+        deeds_same (Visits u) e a is = refl
+        deeds_same (Sweeps r u) e a is = refl
+        deeds_same (Goes z) e a is =
+            let got = found_at z (op_at X v.core z word) e in
+            (λ i. step_deed (kind_at X v.core z) (tenure_at X v.core z) (got i) (chosen_at X v.core z (got i) word) (is i))
+
+        abbrev more : List Deed
+        more = due_deeds X b.layout b.rows (yard_of b None []) v.core (due X v) word told
+
+        here_now : slice_get later.guests p ≡ Some (after_of (due X v) b.home found word)
+        here_now = get_set_same b.guests p _ (slice_get_within b.guests p v at) ∙ ap (λ n. Some (after_of (due X v) b.home n word)) found_is
+
+        -- the log goes on
+        prefix : IsPrefix (log_below (extent_again x rows) b.words) (log_below (extent_again x rows) later.words)
+        prefix =
+            let z : CyclicBus E = record { ring = b; owners = last_of b.rows led.leads.owners } in
+            let l : LeadTo X z T = record { reached = reached; owners = record { all = led.leads.owners; takers = fits.takers_are X P serves.laws serves.owner_is serves.named serves.announces serves.apart b layout T led; last_are = refl } } in
+            subst (λ e. IsPrefix (log_below e b.words) (log_below e later.words)) sizes_are
+            (log_grows X P z serves layout.ok layout.two T l (Turn p word) later
+            (subst (λ g. GuestDoes b g (λ u. ring_after X b p u (due X u) word) later) (sym goes) refl) (subst (λ g. TurnsWithin X b g word) (sym goes) on_word))
+
+      -- ---- what it accepts
+      module _ (running : b.stopped ≡ no_stops) (alone : b.receivers ≡ []) where
+        goes_here : guest_going b p ≡ Some v
+        goes_here = all_go b running p ∙ at
+
+        with_batch : (w : Visitor E) (ds : List Deed) → RingReached X (with_guest b p w) (record T { deeds = deeds_with p ds T.deeds }) → AcceptsIn (bus_again X x rows) (record { ring = b; trails = T }) p w ds
+        with_batch w ds r = record {
+          state = record { ring = with_guest b p w; trails = record T { deeds = deeds_with p ds T.deeds } };
+          changes = record {
+            reached = record { served = ok; two = two; layout = same; rows_are = rows_are; reached = r; alone = alone; running = running };
+            here = get_set_same b.guests p w (slice_get_within b.guests p v at);
+            others = λ q ne. get_set_other b.guests p w q ne;
+            deeds = own_deeds p ds T.deeds;
+            nothing_else = λ q ne. other_deeds p ds T.deeds q ne;
+          };
+          words = refl;
+          home = refl;
+        }
+
+        abbrev with_message : List ℕ → Visitor E
+        with_message bytes = record v { core = record v.core { queue = record v.core.queue { messages = v.core.queue.messages ++ bytes ∷ [] } } }
+
+        abbrev with_close : Visitor E
+        with_close = record v { core = record v.core { queue = record v.core.queue { phase = Closing } } }
+
+        takes_message : (bytes : List ℕ) → CanPut (queue_seen v.core.queue v.visit) (length bytes) → All (λ byte. byte < 256) bytes → AcceptsIn (bus_again X x rows) (record { ring = b; trails = T }) p (with_message bytes) (HasPut (next_of (queue_seen v.core.queue v.visit)) bytes ∷ [])
+        takes_message bytes can small = with_batch (with_message bytes) (HasPut (next_of (queue_seen v.core.queue v.visit)) bytes ∷ [])
+            (subst (λ n. RingReached X (with_guest b p (with_message bytes)) (record T { deeds = deeds_with p (HasPut n bytes ∷ []) T.deeds })) (sym (next_seen v.core.queue v.visit))
+            (subst (λ t. RingReached X (with_guest b p (cond t (with_message bytes) v)) (record T { deeds = deeds_with p (cond t (HasPut (next_of v.core.queue) bytes ∷ []) []) T.deeds })) (events.put_taken (queue_seen v.core.queue v.visit) (length bytes) can)
+            (PutTaken b T p v bytes reached goes_here small)))
+
+        takes_close : CanClose (queue_seen v.core.queue v.visit) → AcceptsIn (bus_again X x rows) (record { ring = b; trails = T }) p with_close (HasClosed ∷ [])
+        takes_close can = with_batch with_close (HasClosed ∷ [])
+            (subst (λ t. RingReached X (with_guest b p (cond t with_close v)) (record T { deeds = deeds_with p (cond t (HasClosed ∷ []) []) T.deeds })) (close_can (queue_seen v.core.queue v.visit) can)
+            (CloseTaken b T p v reached goes_here))
+
+    has_log : HasLog (bus_again X x rows) (record { ring = b; trails = T })
+    has_log = record { frames = k.frames; lawful = frames_are; words_are = log_here; fits = short }
+
+    promised : IsPromisedOf (bus_again X x rows) (record { ring = b; trails = T })
+    promised =
+        let q = yard_promised X P serves.laws b.layout layout.ok layout.width layout.starts serves.owner_is serves.named serves.announces serves.apart b.rows layout.two yard T.visits T.deeds T.heard led.leads.led in record {
+          order = q.order;
+          owners = q.owners;
+          spelled = subst (λ (s : ℕ × List ℕ). Spells s.0 s.1 q.order q.owners) (λ i. ((same i).senders, log_below (sizes_are i) b.words)) q.by.spelled;
+          promises = silent_page T.deeds T.heard q.order q.owners q.by.promises;
+        }
+
+    -- who is none of its senders is not there
+    no_guest : (q : ℕ) → x.senders ≤ q → (v : Visitor E) → slice_get b.guests q ≡ Some v → ⊥
+    no_guest q past v at = let below = (is_sender q v at).below in omega arith
+
+  -- ---- a history
+  module _ (z : RingHistory E) (h : IsRingHistory X x rows z) where
+    abbrev b : Ring E
+    b = z.ring
+
+    abbrev T : RingTrails
+    T = z.trails
+
+    module _ (p : ℕ) (v : Visitor E) (at : slice_get b.guests p ≡ Some v) (word : ℕ) (o : Op) (op : op_next X v word ≡ Some o) (low : register o < (extent_again x rows).words) where
+      low_here : register o < length b.words
+      low_here = let w = wide b T h.served h.two h.layout h.rows_are h.reached in omega arith
+
+      abbrev next_ring : Ring E
+      next_ring = later b T h.served h.two h.layout h.rows_are h.reached p v at h.running word o op low_here
+
+      abbrev next_trails : RingTrails
+      next_trails = trails b T h.served h.two h.layout h.rows_are h.reached p v at h.running word o op low_here
+
+      next_reached : RingReached X next_ring next_trails
+      next_reached = reaches b T h.served h.two h.layout h.rows_are h.reached p v at h.running word o op low_here
+
+      steps_in : StepsIn (process_again X) (bus_again X x rows) z p v word o
+      steps_in =
+          let before = has_log b T h.served h.two h.layout h.rows_are h.reached in
+          let next = has_log next_ring next_trails h.served h.two h.layout h.rows_are next_reached in
+          let goes_on = prefix b T h.served h.two h.layout h.rows_are h.reached p v at h.running word o op low_here in
+          let begins = frames_begin x.senders 0 0 before.frames next.frames goes_on.rest before.lawful next.lawful (ap (λ l. l ++ goes_on.rest) before.words_are ∙ goes_on.together ∙ sym next.words_are) in
+          let ds = more b T h.served h.two h.layout h.rows_are h.reached p v at h.running word o op low_here in
+          record {
+            state = record { ring = next_ring; trails = next_trails };
+            changes = record {
+              reached = record { served = h.served; two = h.two; layout = h.layout; rows_are = h.rows_are; reached = next_reached; alone = h.alone; running = h.running };
+              here = here_now b T h.served h.two h.layout h.rows_are h.reached p v at h.running word o op low_here;
+              others = λ q ne. get_set_other b.guests p _ q ne;
+              deeds = own_deeds p ds T.deeds ∙ ap (λ l. T.deeds p ++ l) (deeds_same b T h.served h.two h.layout h.rows_are h.reached p v at h.running word o op low_here (due X v) op _ refl);
+              nothing_else = λ q ne. other_deeds p ds T.deeds q ne;
+            };
+            words = ap (words_after b.words) op;
+            home = refl;
+            grows = record { frames = before.frames; more = begins.0; lawful = before.lawful; lawful_now = subst (AreFrames x.senders) begins.1 next.lawful; words_are = before.words_are; words_now = ap log_words (sym begins.1) ∙ next.words_are };
+          }
+
+  -- who is none of its senders does nothing
+  nobody_did : (b : Ring E) (T : RingTrails) → IsLayout x → 2 ≤ rows → b.layout ≡ x → b.rows ≡ rows → RingReached X b T → (q : ℕ) → x.senders ≤ q → T.deeds q ≡ []
+  nobody_did b T ok two same rows_are (NewRing w new) q past = refl
+  nobody_did b T ok two same rows_are (TurnTaken w U s v word answer before goes low) q past = other_deeds s _ U.deeds q (λ e. no_guest w U ok two same rows_are before q past v (ap (slice_get w.guests) e ∙ there_shown _ _ v goes)) ∙ nobody_did w U ok two same rows_are before q past
+  nobody_did b T ok two same rows_are (PutTaken w U s v bytes before goes small) q past = other_deeds s _ U.deeds q (λ e. no_guest w U ok two same rows_are before q past v (ap (slice_get w.guests) e ∙ there_shown _ _ v goes)) ∙ nobody_did w U ok two same rows_are before q past
+  nobody_did b T ok two same rows_are (CloseTaken w U s v before goes) q past = other_deeds s _ U.deeds q (λ e. no_guest w U ok two same rows_are before q past v (ap (slice_get w.guests) e ∙ there_shown _ _ v goes)) ∙ nobody_did w U ok two same rows_are before q past
+  nobody_did b T ok two same rows_are (RecvTaken w U r v next answer before at does) q past = nobody_did w U ok two same rows_are before q past
+  nobody_did b T ok two same rows_are (StopTaken w U s v before goes) q past = nobody_did w U ok two same rows_are before q past
+
+  pub automaton_laws : AutomatonLaws (process_again X) (bus_again X x rows)
+  automaton_laws = record {
+    room = omega arith;
+    behind = omega arith;
+    started_me = λ p. refl;
+    started_extent = λ p. refl;
+    started_next = λ p. refl;
+    started_away = λ p. refl;
+    wide = λ z h. wide z.ring z.trails h.served h.two h.layout h.rows_are h.reached;
+    senders = λ z p v h at. is_sender z.ring z.trails h.served h.two h.layout h.rows_are h.reached p v at;
+    nobody = λ z q h past. nobody_did z.ring z.trails h.served h.two h.layout h.rows_are h.reached q past;
+    message = λ z p v bytes h at can small. takes_message z.ring z.trails h.served h.two h.layout h.rows_are h.reached p v at h.running h.alone bytes can small;
+    close = λ z p v h at can. takes_close z.ring z.trails h.served h.two h.layout h.rows_are h.reached p v at h.running h.alone can;
+    step = λ z p v word o h at op low. steps_in z h p v at word o op low;
+    ends = λ z p v word o h at op home got. ends_due z.ring z.trails h.served h.two h.layout h.rows_are h.reached p v at (due X v) refl word o op home got;
+    fits = λ z p v word o h at op. sum_fits z.ring z.trails h.served h.two h.layout h.rows_are h.reached p v at word o op;
+    finds_home = λ z p v word o t h at op is. comes_home z.ring z.trails h.served h.two h.layout h.rows_are h.reached p v at (due X v) refl word o t op is;
+    even_at_home = λ z h even. (stage_is z.ring z.trails h.served h.two h.layout h.rows_are h.reached).1 even;
+    odd_away = λ z h odd. (stage_is z.ring z.trails h.served h.two h.layout h.rows_are h.reached).0 odd;
+    page_knows = λ z page frames h home lawful words. page_knows z.ring z.trails h.served h.two h.layout h.rows_are h.reached page frames home lawful words;
+    log = λ z h. has_log z.ring z.trails h.served h.two h.layout h.rows_are h.reached;
+    sent = λ z p v frames h at lawful words. sent z.ring z.trails h.served h.two h.layout h.rows_are h.reached p v at frames lawful words;
+    promised = λ z h. promised z.ring z.trails h.served h.two h.layout h.rows_are h.reached;
+  }
+
+-- ---- it begins with all at their starts
+guests : {E : Type 0} → Layout → ℕ → ℕ → List (Visitor E)
+guests x rows zero = []
+guests x rows (suc k) = guests x rows k ++ started_again x rows k ∷ []
+
+guests_new : {E : Type 0} (x : Layout) (rows k : ℕ) → AreNewGuests x rows k (guests {E = E} x rows k)
+unfolding guests
+guests_new x rows zero = record { many_are = refl; each = λ p c e. absurd (let bad : None ≡ Some c = e in let wrong : ⊥ = cc in wrong) }
+guests_new {E = E} x rows (suc k) = subst (λ z. AreNewGuests x rows z (guests {E = E} x rows k ++ started_again x rows k ∷ [])) (let e : k + 1 ≡ suc k = omega arith in e) (one_more_guest x rows k (guests x rows k) (started_again x rows k) (guests_new x rows k) refl)
+
+guests_has : {E : Type 0} (x : Layout) (rows k p : ℕ) → p < k → slice_get (guests {E = E} x rows k) p ≡ Some (started_again x rows p)
+guests_has {E = E} x rows k p l = let h = guests_new {E = E} x rows k in elim (some_or_none (slice_get (guests {E = E} x rows k) p)) [
+  | inr c ↦ c.1 ∙ ap Some (h.each p c.0 c.1).1
+  | inl nobody ↦ absurd (here_not (guests {E = E} x rows k) p (let z = h.many_are in omega arith) nobody)
+]
+
+none_here : {A : Type 0} {B : Type 0} (v : A) → None ≡ Some v → B
+none_here v e = absurd (let wrong : ⊥ = cc in wrong)
+
+pub opens_again : {E : Type 0} (X : Election E) (x : Layout) (rows : ℕ) → IsLayout x → 2 ≤ rows → Opens (process_again X) (bus_again X x rows)
+opens_again {E} X x rows ok two =
+    let ring : Ring E = record { layout = x; rows = rows; words = replicate (extent_again x rows).words 0; home = Some new_page; guests = guests x rows x.senders; receivers = []; stopped = no_stops } in
+    record {
+      state = record { ring = ring; trails = no_ring_trails };
+      reached = record {
+        served = ok;
+        two = two;
+        layout = refl;
+        rows_are = refl;
+        reached = NewRing ring (record { words = refl; home = refl; guests = λ p v e. (guests_new {E = E} x rows x.senders).each p v e; receivers = λ r v e. none_here v e; stopped = refl });
+        alone = refl;
+        running = refl;
+      };
+      words = refl;
+      home = refl;
+      senders = λ p below. guests_has {E = E} x rows x.senders p below;
+      deeds = λ p. refl;
+      counted = λ p. let few = ok.capacity in record { first = omega arith; few = omega arith; capacity = few };
+    }

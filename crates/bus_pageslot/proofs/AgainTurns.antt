@@ -1,0 +1,402 @@
+-- A sender of a bus whose rows are used again is a process.
+use Rattle.std.proofs.Common.{◌≡◌, ℕ, ◌+◌, ◌/◌, ◌<◌, ◌≤◌, ◌==◌, ◌&&◌, Bool, true, false, cond, nat_lt, nat_le, Option, Some, None, List, [], ◌∷◌, ◌++◌, length, is_some, arith, refl, sym, ◌∙◌, ap, inl, inr, subst}
+use Rattle.std.specs.Prelude.{◌⊎◌}
+use Rattle.std.proofs.lemmas.Option.{same_Some}
+use Rattle.bus_register.specs.declared.registers.Op.{Op}
+use Rattle.bus_register.specs.declared.registers.Op.TheVariants.{Load, Store, Add, Cas}
+use Rattle.bus_register.specs.declared.registers.SenderNo.{SenderNo}
+use Rattle.bus_register.specs.Protocol.{Protocol, Laws}
+use Rattle.bus_batch.specs.Batches.{Pending}
+use Rattle.bus_batch.specs.declared.batches.Phase.TheVariants.{Closing}
+use Rattle.bus_ownerbits.specs.OneOwner.{OneOwner}
+use Rattle.bus_presence.specs.Sweeps.{Sweeping, sweep_op, sweep_fed, behind_of}
+use Rattle.bus_presence.specs.Visits.{step_at, visit_fed}
+use Rattle.bus_presence.specs.declared.sweeps.Behind.{Behind}
+use Rattle.bus_presence.specs.declared.visits.Visit.{Visit}
+use Rattle.bus_presence.specs.declared.visits.Visit.TheVariants.{Away, Entering, Looking, Inside, Parting, Barred}
+use Rattle.bus_guest.specs.Guests.{Due, Visits, Sweeps, Goes, sweep_due, due_swept, due_home, due_beside, core_looked, visit_elected}
+use Rattle.bus_guest.specs.Turns.{Visitor, due, on_place, placed, op_due, visitor_due, answer_due, answer_of_visit, answer_of_loss, answer_of_sweep, rest_due, queue_seen, lost_elected}
+use Rattle.bus_tenure.specs.Core.{Core, Election}
+use Rattle.bus_tenure.specs.Situations.{Situation, IsClosed, IsIdle, IsSpent, LooksAtStage, Elects, TakesPage, AwaitsPage, StoresWord, StoresLength, GivesBack, HasHanded, Stays, Comes, Returns, PageMove, situation_of, line_of, op_at, fed_at, rest_at, kind_at, tenure_at, chosen_at, core_begun, core_elected, waits}
+use Rattle.bus_tenure.specs.declared.pages.Page.{Page}
+use Rattle.bus_tenure.specs.declared.phases.Reason.{Reason}
+use Rattle.bus_tenure.specs.declared.turns.Turn.{Turn}
+use Rattle.bus_tenure.specs.declared.turns.Turn.TheVariants as turn
+use Rattle.bus_world.specs.Headline.{puts}
+use Rattle.bus_world.specs.Rings.{move_due, visitor_moved}
+use Rattle.bus_world.specs.Turning.{core_moved, after_step, before_step}
+use Rattle.bus_world.proofs.RingLaws.{due_goes}
+use Rattle.bus_pageslot.specs.Lawful.{ProcessLaws}
+use Rattle.bus_pageslot.specs.RowsApart.{is_holding}
+use Rattle.bus_pageslot.specs.RowsAgain.{extent_again, process_again, deeds_due}
+use Rattle.bus_pageslot.specs.Sendings.{is_refusal}
+use Rattle.bus_pageslot.specs.Steps.{page_given}
+use Rattle.bus_pageslot.specs.Turns.{is_last}
+use Rattle.bus_pageslot.proofs.ApartTurns as apart
+
+-- ---- its batch
+seen_message : (q : Pending) (u : Visit) (ms : List (List ℕ)) → queue_seen (record q { messages = ms }) u ≡ record (queue_seen q u) { messages = ms }
+seen_message q Away ms = refl
+seen_message q (Entering t) ms = refl
+seen_message q (Looking t) ms = refl
+seen_message q (Inside t) ms = refl
+seen_message q (Parting t) ms = refl
+seen_message q (Barred t) ms = refl
+
+pub seen_messages : (q : Pending) (u : Visit) → (queue_seen q u).messages ≡ q.messages
+seen_messages q Away = refl
+seen_messages q (Entering t) = refl
+seen_messages q (Looking t) = refl
+seen_messages q (Inside t) = refl
+seen_messages q (Parting t) = refl
+seen_messages q (Barred t) = refl
+
+pub seen_first : (q : Pending) (u : Visit) → (queue_seen q u).first ≡ q.first
+seen_first q Away = refl
+seen_first q (Entering t) = refl
+seen_first q (Looking t) = refl
+seen_first q (Inside t) = refl
+seen_first q (Parting t) = refl
+seen_first q (Barred t) = refl
+
+seen_closing : (q : Pending) (u : Visit) → queue_seen (record q { phase = Closing }) u ≡ record (queue_seen q u) { phase = Closing }
+seen_closing q Away = refl
+seen_closing q (Entering t) = refl
+seen_closing q (Looking t) = refl
+seen_closing q (Inside t) = refl
+seen_closing q (Parting t) = refl
+seen_closing q (Barred t) = refl
+
+-- ---- a store does not look at what it found
+Stores : Op → ℕ → ℕ → Type 0
+Stores o r n = o ≡ Store record { 0 = r } n
+
+load_stores : (at r n : ℕ) → Load record { 0 = at } ≡ Store record { 0 = r } n → ⊥
+load_stores at r n e = cc
+
+visit_blind : (v : Visit) (word stage r n : ℕ) → step_at v word stage ≡ Some (Store record { 0 = r } n) → (got got' : ℕ) → visit_fed v got ≡ visit_fed v got'
+visit_blind Away word stage r n e got got' = refl
+visit_blind (Entering t) word stage r n e got got' = refl
+visit_blind (Looking t) word stage r n e got got' = absurd (load_stores stage r n (same_Some _ _ e))
+visit_blind (Inside t) word stage r n e got got' = refl
+visit_blind (Parting t) word stage r n e got got' = refl
+visit_blind (Barred t) word stage r n e got got' = refl
+
+looked_blind : {E : Type 0} (X : Election E) (c : Core E) (v : Visit) (word stage r n : ℕ) → step_at v word stage ≡ Some (Store record { 0 = r } n) → (got got' : ℕ) → core_looked X c v got ≡ core_looked X c v got'
+looked_blind X c Away word stage r n e got got' = refl
+looked_blind X c (Entering t) word stage r n e got got' = refl
+looked_blind X c (Looking t) word stage r n e got got' = absurd (load_stores stage r n (same_Some _ _ e))
+looked_blind X c (Inside t) word stage r n e got got' = refl
+looked_blind X c (Parting t) word stage r n e got got' = refl
+looked_blind X c (Barred t) word stage r n e got got' = refl
+
+sweep_blind : (s : Sweeping) (r n : ℕ) → sweep_op s ≡ Some (Store record { 0 = r } n) → (got got' : ℕ) → sweep_fed s got ≡ sweep_fed s got'
+sweep_blind s r n e got got' = by_tests (nat_lt s.asked s.senders) (nat_lt s.cleared s.width) e
+  where
+    by_tests : (a c : Bool) → cond a (Some (Load record { 0 = s.presences + s.asked })) (cond c (Some (Store record { 0 = s.row + s.cleared } 0)) None) ≡ Some (Store record { 0 = r } n)
+        → cond a (cond (got == 1 + s.past) s (record s { asked = s.asked + 1 })) (cond c (record s { cleared = s.cleared + 1 }) s) ≡ cond a (cond (got' == 1 + s.past) s (record s { asked = s.asked + 1 })) (cond c (record s { cleared = s.cleared + 1 }) s)
+    by_tests true c e = absurd (load_stores (s.presences + s.asked) r n (same_Some _ _ e))
+    by_tests false c e = refl
+
+sweep_mute : (s : Sweeping) (r n : ℕ) → sweep_op s ≡ Some (Store record { 0 = r } n) → (got got' : ℕ) → answer_of_sweep (behind_of s got) ≡ answer_of_sweep (behind_of s got')
+sweep_mute s r n e got got' = by_tests (nat_lt s.asked s.senders) (nat_lt s.cleared s.width) e
+  where
+    by_tests : (a c : Bool) → cond a (Some (Load record { 0 = s.presences + s.asked })) (cond c (Some (Store record { 0 = s.row + s.cleared } 0)) None) ≡ Some (Store record { 0 = r } n)
+        → answer_of_sweep (cond (a && (got == 1 + s.past)) (Some record { tenure = s.past; sender = s.asked }) None) ≡ answer_of_sweep (cond (a && (got' == 1 + s.past)) (Some record { tenure = s.past; sender = s.asked }) None)
+    by_tests true c e = absurd (load_stores (s.presences + s.asked) r n (same_Some _ _ e))
+    by_tests false c e = refl
+
+-- a step that is a store where it lies is one where it would lie
+placed_store : (f : ℕ → ℕ) (o : Option Op) (r n : ℕ) → placed f o ≡ Some (Store record { 0 = r } n) → (q m : ℕ) × (o ≡ Some (Store record { 0 = q } m))
+placed_store f None r n e = absurd (let wrong : ⊥ = cc in wrong)
+placed_store f (Some (Load at)) r n e = absurd (load_stores (f at.0) r n (same_Some _ _ e))
+placed_store f (Some (Store at m)) r n e = (at.0, m, refl)
+placed_store f (Some (Add at m)) r n e = absurd (let bad : Add record { 0 = f at.0 } m ≡ Store record { 0 = r } n = same_Some _ _ e in let wrong : ⊥ = cc in wrong)
+placed_store f (Some (Cas at m k)) r n e = absurd (let bad : Cas record { 0 = f at.0 } m k ≡ Store record { 0 = r } n = same_Some _ _ e in let wrong : ⊥ = cc in wrong)
+
+placed_some : (f : ℕ → ℕ) (o : Option Op) (u : Op) → placed f o ≡ Some u → (p : Op) × (o ≡ Some p)
+placed_some f None u e = absurd (let wrong : ⊥ = cc in wrong)
+placed_some f (Some p) u e = (p, refl)
+
+-- ---- what is due
+due_visits : {E : Type 0} (d : Option Op) (s : Option Sweeping) (z : Situation E) (o : Op) → due_beside d s z ≡ Visits o → d ≡ Some o
+due_visits (Some p) s z o e = ap Some (let same : p ≡ o = cc in same)
+due_visits None s z o e = absurd (by_sweep (sweep_due z s) e)
+  where
+    by_step : {E : Type 0} (r : Sweeping) (d : Option Op) (z : Situation E) → due_swept r d z ≡ Visits o → ⊥
+    by_step r None z e = cc
+    by_step r (Some p) z e = cc
+
+    by_sweep : (r : Option Sweeping) → due_home r z ≡ Visits o → ⊥
+    by_sweep None e = cc
+    by_sweep (Some r) e = by_step r (sweep_op r) z e
+
+due_sweeps : {E : Type 0} (d : Option Op) (s : Option Sweeping) (z : Situation E) (r : Sweeping) (o : Op) → due_beside d s z ≡ Sweeps r o → sweep_op r ≡ Some o
+due_sweeps (Some p) s z r o e = absurd (let wrong : ⊥ = cc in wrong)
+due_sweeps None s z r o e = by_sweep (sweep_due z s) e
+  where
+    by_step : (w : Sweeping) (d : Option Op) → sweep_op w ≡ d → due_swept w d z ≡ Sweeps r o → sweep_op r ≡ Some o
+    by_step w None is e = absurd (let wrong : ⊥ = cc in wrong)
+    by_step w (Some p) is e = let same : w ≡ r = cc in let step : p ≡ o = cc in ap sweep_op (sym same) ∙ is ∙ ap Some step
+
+    by_sweep : (w : Option Sweeping) → due_home w z ≡ Sweeps r o → sweep_op r ≡ Some o
+    by_sweep None e = absurd (let wrong : ⊥ = cc in wrong)
+    by_sweep (Some w) e = by_step w (sweep_op w) refl e
+
+goes_alone : {E : Type 0} (d : Option Op) (s : Option Sweeping) (z w : Situation E) → due_beside d s z ≡ Goes w → d ≡ None
+goes_alone (Some p) s z w e = absurd (let wrong : ⊥ = cc in wrong)
+goes_alone None s z w e = refl
+
+-- ---- what a step makes of a sender
+module _ {E : Type 0} (X : Election E) (P : Protocol E (Unit {0}) ℕ) (laws : Laws X.op X.fed P OneOwner) (v : Visitor E) where
+  abbrev after : Due E → Option Page → ℕ → ℕ → Visitor E
+  after d home got word = visitor_moved (after_step (move_due X v d)) home (visitor_due X v d got word)
+
+  goes_blind : (z : Situation E) (word : ℕ) (q m : ℕ) → op_at X v.core z word ≡ Some (Store record { 0 = q } m) → (got got' : ℕ) (home : Option Page) → after (Goes z) home got word ≡ after (Goes z) home got' word
+  goes_blind IsClosed word q m e got got' home = refl
+  goes_blind IsIdle word q m e got got' home = refl
+  goes_blind IsSpent word q m e got got' home = refl
+  goes_blind LooksAtStage word q m e got got' home = absurd (load_stores 1 q m (same_Some _ _ e))
+  goes_blind (Elects t f) word q m e got got' home = ap (λ u. visitor_moved Stays home (with_election u)) (laws.blind f got got' word (Store record { 0 = q } m) e (q, m, refl))
+    where
+      with_election : E → Visitor E
+      with_election u = record {
+        core = core_elected v.core t u (X.owner u);
+        visit = visit_elected v.core t (X.owner u);
+        sweep = v.sweep;
+        lost = lost_elected v.core v.lost (X.owner u);
+        rows = v.rows;
+      }
+  goes_blind (TakesPage t) word q m e got got' home = refl
+  goes_blind (AwaitsPage t) word q m e got got' home = refl
+  goes_blind (StoresWord t page stored) word q m e got got' home = refl
+  goes_blind (StoresLength t page stored) word q m e got got' home = refl
+  goes_blind (GivesBack t page reason) word q m e got got' home = refl
+  goes_blind (HasHanded t reason) word q m e got got' home = refl
+
+  goes_mute : (z : Situation E) (word : ℕ) (q m : ℕ) → op_at X v.core z word ≡ Some (Store record { 0 = q } m) → (got got' : ℕ) → answer_due X v (Goes z) got word ≡ answer_due X v (Goes z) got' word
+  goes_mute IsClosed word q m e got got' = refl
+  goes_mute IsIdle word q m e got got' = refl
+  goes_mute IsSpent word q m e got got' = refl
+  goes_mute LooksAtStage word q m e got got' = absurd (load_stores 1 q m (same_Some _ _ e))
+  goes_mute (Elects t f) word q m e got got' = refl
+  goes_mute (TakesPage t) word q m e got got' = refl
+  goes_mute (AwaitsPage t) word q m e got got' = refl
+  goes_mute (StoresWord t page stored) word q m e got got' = refl
+  goes_mute (StoresLength t page stored) word q m e got got' = refl
+  goes_mute (GivesBack t page reason) word q m e got got' = refl
+  goes_mute (HasHanded t reason) word q m e got got' = refl
+
+  due_blind : (d : Due E) → due X v ≡ d → (word r n : ℕ) → op_due X v d word ≡ Some (Store record { 0 = r } n) → (got got' : ℕ) (home : Option Page) → after d home got word ≡ after d home got' word
+  due_blind (Visits o) e word r n op got got' home =
+      let step = due_visits _ v.sweep (situation_of X v.core) o e ∙ op in
+      λ i. record { core = looked_blind X v.core v.visit _ _ r n step got got' i; visit = visit_blind v.visit _ _ r n step got got' i; sweep = v.sweep; lost = None; rows = v.rows }
+  due_blind (Sweeps s o) e word r n op got got' home =
+      ap (λ w. record v { sweep = Some w }) (sweep_blind s r n (due_sweeps _ v.sweep (situation_of X v.core) s o e ∙ op) got got')
+  due_blind (Goes z) e word r n op got got' home = let is = placed_store _ _ r n op in goes_blind z word is.0 is.1 is.2 got got' home
+
+  due_mute : (d : Due E) → due X v ≡ d → (word r n : ℕ) → op_due X v d word ≡ Some (Store record { 0 = r } n) → (got got' : ℕ) → answer_due X v d got word ≡ answer_due X v d got' word
+  due_mute (Visits o) e word r n op got got' = refl
+  due_mute (Sweeps s o) e word r n op got got' = sweep_mute s r n (due_sweeps _ v.sweep (situation_of X v.core) s o e ∙ op) got got'
+  due_mute (Goes z) e word r n op got got' = let is = placed_store _ _ r n op in goes_mute z word is.0 is.1 is.2 got got'
+
+module _ {E : Type 0} (X : Election E) (v : Visitor E) where
+  abbrev now_after : Due E → Option Page → ℕ → ℕ → Visitor E
+  now_after d home got word = visitor_moved (after_step (move_due X v d)) home (visitor_due X v d got word)
+
+  -- ---- the size of its bus
+  abbrev Wide : Core E → Type 0
+  Wide c = c.layout ≡ v.core.layout
+
+  wide_if : (b : Bool) (s u : Core E) → Wide s → Wide u → Wide (cond b s u)
+  wide_if true s u e f = e
+  wide_if false s u e f = f
+
+  wide_looked : (u : Visit) (got : ℕ) → Wide (core_looked X v.core u got)
+  wide_looked Away got = refl
+  wide_looked (Entering t) got = refl
+  wide_looked (Looking t) got = wide_if (got / 2 == t) (core_begun X v.core t) v.core refl refl
+  wide_looked (Inside t) got = refl
+  wide_looked (Parting t) got = refl
+  wide_looked (Barred t) got = refl
+
+  wide_going : (z : Situation E) (home : Option Page) (got word : ℕ) → Wide (now_after (Goes z) home got word).core
+  wide_going IsClosed home got word = refl
+  wide_going IsIdle home got word = refl
+  wide_going IsSpent home got word = refl
+  wide_going LooksAtStage home got word = wide_if (waits v.core got) v.core (cond (nat_le v.core.layout.rows (got / 2)) (record v.core { least = got / 2 }) v.core) refl (wide_if (nat_le v.core.layout.rows (got / 2)) (record v.core { least = got / 2 }) v.core refl refl)
+  wide_going (Elects t e) home got word = apart.layout_stays X v.core (Elects t e) home got word
+  wide_going (TakesPage t) home got word = apart.layout_stays X v.core (TakesPage t) home got word
+  wide_going (AwaitsPage t) home got word = apart.layout_stays X v.core (AwaitsPage t) home got word
+  wide_going (StoresWord t page stored) home got word = refl
+  wide_going (StoresLength t page stored) home got word = refl
+  wide_going (GivesBack t page reason) home got word = refl
+  wide_going (HasHanded t reason) home got word = refl
+
+  wide_due : (d : Due E) (home : Option Page) (got word : ℕ) → Wide (now_after d home got word).core
+  wide_due (Visits o) home got word = wide_looked v.visit got
+  wide_due (Sweeps s o) home got word = refl
+  wide_due (Goes z) home got word = wide_going z home got word
+
+  rows_due : (d : Due E) (home : Option Page) (got word : ℕ) → (now_after d home got word).rows ≡ v.rows
+  rows_due (Visits o) home got word = refl
+  rows_due (Sweeps s o) home got word = refl
+  rows_due (Goes z) home got word = refl
+
+  -- ---- the messages that wait
+  abbrev Same : Core E → Type 0
+  Same c = c.queue.messages ≡ v.core.queue.messages
+
+  abbrev Leaves : Core E → Type 0
+  Leaves c = Same c ⊎ (c.queue.messages ≡ [])
+
+  same_if : (b : Bool) (s u : Core E) → Same s → Same u → Same (cond b s u)
+  same_if true s u e f = e
+  same_if false s u e f = f
+
+  same_looked : (u : Visit) (got : ℕ) → Same (core_looked X v.core u got)
+  same_looked Away got = refl
+  same_looked (Entering t) got = refl
+  same_looked (Looking t) got = same_if (got / 2 == t) (core_begun X v.core t) v.core refl refl
+  same_looked (Inside t) got = refl
+  same_looked (Parting t) got = refl
+  same_looked (Barred t) got = refl
+
+  left_going : (z : Situation E) (home : Option Page) (got word : ℕ) → Leaves (now_after (Goes z) home got word).core
+  left_going IsClosed home got word = inl refl
+  left_going IsIdle home got word = inl refl
+  left_going IsSpent home got word = inl refl
+  left_going LooksAtStage home got word = inl (same_if (waits v.core got) v.core (cond (nat_le v.core.layout.rows (got / 2)) (record v.core { least = got / 2 }) v.core) refl (same_if (nat_le v.core.layout.rows (got / 2)) (record v.core { least = got / 2 }) v.core refl refl))
+  left_going (Elects t e) home got word = apart.left_after X v.core (Elects t e) home got word
+  left_going (TakesPage t) home got word = apart.left_after X v.core (TakesPage t) home got word
+  left_going (AwaitsPage t) home got word = apart.left_after X v.core (AwaitsPage t) home got word
+  left_going (StoresWord t page stored) home got word = inl refl
+  left_going (StoresLength t page stored) home got word = inl refl
+  left_going (GivesBack t page reason) home got word = apart.left_after X v.core (GivesBack t page reason) home got word
+  left_going (HasHanded t reason) home got word = apart.left_after X v.core (HasHanded t reason) home got word
+
+  left_due : (d : Due E) (home : Option Page) (got word : ℕ) → Leaves (now_after d home got word).core
+  left_due (Visits o) home got word = inl (same_looked v.visit got)
+  left_due (Sweeps s o) home got word = inl refl
+  left_due (Goes z) home got word = left_going z home got word
+
+  leaves_seen : (w : Visitor E) → Leaves w.core → ((queue_seen w.core.queue w.visit).messages ≡ (queue_seen v.core.queue v.visit).messages) ⊎ ((queue_seen w.core.queue w.visit).messages ≡ [])
+  leaves_seen w (inl same) = inl (seen_messages w.core.queue w.visit ∙ same ∙ sym (seen_messages v.core.queue v.visit))
+  leaves_seen w (inr none) = inr (seen_messages w.core.queue w.visit ∙ none)
+
+  -- ---- a last answer after which messages wait
+  not_last : (a : Turn) → is_last a ≡ false → (left : List (List ℕ)) → is_last a ≡ true → 0 < length left → is_refusal a ≡ true
+  not_last a going left last some = absurd (let bad : true ≡ false = sym last ∙ going in let wrong : ⊥ = cc in wrong)
+
+  visit_going_on : (u : Visit) (l : Option SenderNo) → is_last (answer_of_visit u l) ≡ false
+  visit_going_on Away l = refl
+  visit_going_on (Entering t) l = refl
+  visit_going_on (Looking t) l = refl
+  visit_going_on (Inside t) l = refl
+  visit_going_on (Parting t) None = refl
+  visit_going_on (Parting t) (Some o) = refl
+  visit_going_on (Barred t) l = refl
+
+  sweep_going_on : (b : Option Behind) → is_last (answer_of_sweep b) ≡ false
+  sweep_going_on None = refl
+  sweep_going_on (Some b) = refl
+
+  abbrev Refused : Turn → List (List ℕ) → Type 0
+  Refused a left = is_last a ≡ true → 0 < length left → is_refusal a ≡ true
+
+  refused_going : (z : Situation E) (word : ℕ) (o : Op) → op_at X v.core z word ≡ Some o → (home : Option Page) (got : ℕ) → Refused (answer_due X v (Goes z) got word) (now_after (Goes z) home got word).core.queue.messages
+  refused_going IsClosed word o due home got = absurd (let bad : None ≡ Some o = due in let wrong : ⊥ = cc in wrong)
+  refused_going IsIdle word o due home got = absurd (let bad : None ≡ Some o = due in let wrong : ⊥ = cc in wrong)
+  refused_going IsSpent word o due home got = absurd (let bad : None ≡ Some o = due in let wrong : ⊥ = cc in wrong)
+  refused_going LooksAtStage word o due home got = apart.refused_stage X v.core (waits v.core got) (nat_le v.core.layout.rows (got / 2)) (now_after (Goes LooksAtStage) home got word).core.queue.messages
+  refused_going (Elects t e) word o due home got = not_last turn.Going refl (now_after (Goes (Elects t e)) home got word).core.queue.messages
+  refused_going (TakesPage t) word o due home got = not_last (turn.Own t) refl (now_after (Goes (TakesPage t)) home got word).core.queue.messages
+  refused_going (AwaitsPage t) word o due home got = absurd (let bad : None ≡ Some o = due in let wrong : ⊥ = cc in wrong)
+  refused_going (StoresWord t page stored) word o due home got = not_last turn.Going refl (now_after (Goes (StoresWord t page stored)) home got word).core.queue.messages
+  refused_going (StoresLength t page stored) word o due home got = not_last turn.Going refl (now_after (Goes (StoresLength t page stored)) home got word).core.queue.messages
+  refused_going (GivesBack t page reason) word o due home got = apart.refused_return X v.core t reason
+  refused_going (HasHanded t reason) word o due home got = apart.refused_return X v.core t reason
+
+  refused_due : (d : Due E) (word : ℕ) (o : Op) → op_due X v d word ≡ Some o → (home : Option Page) (got : ℕ) → Refused (answer_due X v d got word) (now_after d home got word).core.queue.messages
+  refused_due (Visits u) word o op home got = not_last (answer_of_visit v.visit v.lost) (visit_going_on v.visit v.lost) (now_after (Visits u) home got word).core.queue.messages
+  refused_due (Sweeps s u) word o op home got = not_last (answer_of_sweep (behind_of s got)) (sweep_going_on (behind_of s got)) (now_after (Sweeps s u) home got word).core.queue.messages
+  refused_due (Goes z) word o op home got = let is = placed_some _ _ o op in refused_going z word is.0 is.1 home got
+
+  refused_seen : (a : Turn) (w : Visitor E) → Refused a w.core.queue.messages → Refused a (queue_seen w.core.queue w.visit).messages
+  refused_seen a w h = subst (Refused a) (sym (seen_messages w.core.queue w.visit)) h
+
+  refused_rest : (d : Due E) → due X v ≡ d → Refused (rest_due X v d) v.core.queue.messages
+  refused_rest (Visits o) e = not_last turn.Going refl v.core.queue.messages
+  refused_rest (Sweeps s o) e = not_last turn.Going refl v.core.queue.messages
+  refused_rest (Goes z) e = apart.refused_rest X v.core z (due_goes _ v.sweep (situation_of X v.core) z e)
+
+  puts_due : (d : Due E) (got word : ℕ) → puts (deeds_due X v d got word) ≡ []
+  puts_due (Visits o) got word = refl
+  puts_due (Sweeps s o) got word = refl
+  puts_due (Goes z) got word = apart.step_puts (kind_at X v.core z) (tenure_at X v.core z) got (chosen_at X v.core z got word) _
+
+  -- ---- with the page out of its hands
+  abbrev handed : Due E → Visitor E
+  handed d = visitor_moved (before_step (move_due X v d)) None v
+
+  abbrev Hands : Visitor E → Type 0
+  Hands w = (word : ℕ) → op_due X w (due X w) word ≡ op_due X v (due X v) word
+
+  abbrev Answers : Visitor E → Type 0
+  Answers w = (got word : ℕ) → answer_due X w (due X w) got word ≡ answer_due X v (due X v) got word
+
+  abbrev Feeds : Visitor E → Type 0
+  Feeds w = (got word : ℕ) → visitor_due X w (due X w) got word ≡ visitor_due X v (due X v) got word
+
+  abbrev Alike : Visitor E → Type 0
+  Alike w = Hands w × Answers w × Feeds w
+
+  alike_given : (t : ℕ) (page : Page) (reason : Reason) → due X v ≡ Goes (GivesBack t page reason) → Alike (handed (Goes (GivesBack t page reason)))
+  alike_given t page reason e =
+      let w = handed (Goes (GivesBack t page reason)) in
+      let alone = goes_alone _ v.sweep (situation_of X v.core) (GivesBack t page reason) e in
+      let now : due X w ≡ Goes (HasHanded t reason) = ap (λ d. due_beside d v.sweep (HasHanded t reason)) alone in (
+        λ word. ap (λ d. op_due X w d word) now ∙ ap (λ d. op_due X v d word) (sym e),
+        λ got word. ap (λ d. answer_due X w d got word) now ∙ ap (λ d. answer_due X v d got word) (sym e),
+        λ got word. ap (λ d. visitor_due X w d got word) now ∙ ap (λ d. visitor_due X v d got word) (sym e),
+      )
+
+  alike : (d : Due E) → due X v ≡ d → Alike (handed d)
+  alike (Visits o) e = (λ word. refl, λ got word. refl, λ got word. refl)
+  alike (Sweeps s o) e = (λ word. refl, λ got word. refl, λ got word. refl)
+  alike (Goes IsClosed) e = (λ word. refl, λ got word. refl, λ got word. refl)
+  alike (Goes IsIdle) e = (λ word. refl, λ got word. refl, λ got word. refl)
+  alike (Goes IsSpent) e = (λ word. refl, λ got word. refl, λ got word. refl)
+  alike (Goes LooksAtStage) e = (λ word. refl, λ got word. refl, λ got word. refl)
+  alike (Goes (Elects t f)) e = (λ word. refl, λ got word. refl, λ got word. refl)
+  alike (Goes (TakesPage t)) e = (λ word. refl, λ got word. refl, λ got word. refl)
+  alike (Goes (AwaitsPage t)) e = (λ word. refl, λ got word. refl, λ got word. refl)
+  alike (Goes (StoresWord t page stored)) e = (λ word. refl, λ got word. refl, λ got word. refl)
+  alike (Goes (StoresLength t page stored)) e = (λ word. refl, λ got word. refl, λ got word. refl)
+  alike (Goes (GivesBack t page reason)) e = alike_given t page reason e
+  alike (Goes (HasHanded t reason)) e = (λ word. refl, λ got word. refl, λ got word. refl)
+
+  gives_held : (d : Due E) → due X v ≡ d → (page : Page) → page_given (move_due X v d) ≡ Some page → is_holding v.core.phase ≡ true
+  gives_held (Visits o) e page is = absurd (apart.none_given page is)
+  gives_held (Sweeps s o) e page is = absurd (apart.none_given page is)
+  gives_held (Goes z) e page is = apart.gives_held X v.core z (due_goes _ v.sweep (situation_of X v.core) z e) page is
+
+pub process_laws : {E : Type 0} (X : Election E) (P : Protocol E (Unit {0}) ℕ) → Laws X.op X.fed P OneOwner → ProcessLaws (process_again X)
+process_laws X P laws = record {
+  some_words = λ v. omega arith;
+  same_extent = λ v home got word. λ i. extent_again (wide_due X v (due X v) home got word i) (rows_due X v (due X v) home got word i);
+  blind = λ v word r n op got got' home. due_blind X P laws v (due X v) refl word r n op got got' home;
+  mute = λ v word r n op got got'. due_mute X P laws v (due X v) refl word r n op got got';
+  leaves = λ v home got word. leaves_seen X v (now_after X v (due X v) home got word) (left_due X v (due X v) home got word);
+  refuses = λ v word o op home got. refused_seen X v _ (now_after X v (due X v) home got word) (refused_due X v (due X v) word o op home got);
+  refuses_at_rest = λ v. refused_seen X v _ v (refused_rest X v (due X v) refl);
+  puts_nothing = λ v got word. puts_due X v (due X v) got word;
+  message = λ v bytes. record { me = refl; extent = refl; holds = refl };
+  message_waits = λ v bytes. seen_message v.core.queue v.visit (v.core.queue.messages ++ bytes ∷ []) ∙ ap (λ ms. record (queue_seen v.core.queue v.visit) { messages = ms ++ bytes ∷ [] }) (sym (seen_messages v.core.queue v.visit));
+  close = λ v. record { me = refl; extent = refl; holds = refl };
+  close_waits = λ v. seen_closing v.core.queue v.visit;
+  handed_op = λ v word. (alike X v (due X v) refl).0 word;
+  handed_answer = λ v got word. (alike X v (due X v) refl).1 got word;
+  handed_fed = λ v got word. (alike X v (due X v) refl).2 got word;
+  gives_held = λ v page is. gives_held X v (due X v) refl page is;
+}

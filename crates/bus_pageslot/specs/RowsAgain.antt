@@ -1,0 +1,83 @@
+-- A bus whose rows of words are used again, as threads go by it: its senders as processes, and the bus as an automaton.
+use Rattle.std.specs.Prelude.{◌≡◌, ℕ, ◌+◌, ◌≤◌, Option, Some, None, List, [], ◌∷◌, ◌++◌, slice_get}
+use Rattle.bus_batch.specs.declared.batches.Phase.TheVariants.{Closing}
+use Rattle.bus_guest.specs.Guests.{Due, Visits, Sweeps, Goes, log_from}
+use Rattle.bus_guest.specs.Turns.{Visitor, due, op_next, kind_due, wants_due, rest_due, visitor_after, answer_going, answer_after, queue_seen}
+use Rattle.bus_presence.specs.declared.visits.Visit.TheVariants.{Away}
+use Rattle.bus_tenure.specs.Core.{Election, Layout}
+use Rattle.bus_tenure.specs.Seen.{turns_of}
+use Rattle.bus_tenure.specs.Situations.{kind_at, tenure_at, chosen_at}
+use Rattle.bus_world.specs.Bus.{IsLayout}
+use Rattle.bus_world.specs.Headline.{Deed}
+use Rattle.bus_world.specs.Rings.{Ring, RingTrails, RingReached, move_due, visitor_moved}
+use Rattle.bus_world.specs.Trails.{step_deed}
+use Rattle.bus_world.specs.Turning.{before_step, after_step, laying}
+use Rattle.bus_world.specs.Waiting.{waiting_at}
+use Rattle.bus_world.specs.World.{new_core, no_stops}
+use Rattle.bus_pageslot.specs.Processes.{Extent, Process, Automaton}
+use Rattle.bus_pageslot.specs.RowsApart.{is_holding, is_taken}
+
+-- with so many rows in place of one for each tenure, and a presence for each sender before them
+abbrev pub extent_again : Layout → ℕ → Extent
+extent_again x rows = record { senders = x.senders; words = log_from x rows + x.capacity; log = log_from x rows; capacity = x.capacity }
+
+abbrev pub started_again : {E : Type 0} → Layout → ℕ → ℕ → Visitor E
+started_again x rows p = record { core = new_core x p; visit = Away; sweep = None; lost = None; rows = rows }
+
+-- What a step adds to the trail: steps of visits and of sweeps are no deeds.
+abbrev pub deeds_due : {E : Type 0} → Election E → Visitor E → Due E → ℕ → ℕ → List Deed
+deeds_due X v (Visits o) got word = []
+deeds_due X v (Sweeps s o) got word = []
+deeds_due X v (Goes z) got word = step_deed (kind_at X v.core z) (tenure_at X v.core z) got (chosen_at X v.core z got word) (answer_going X v.core z got word)
+
+abbrev pub process_again : {E : Type 0} → Election E → Process (Visitor E)
+process_again X = record {
+  me = λ v. v.core.me;
+  extent = λ v. extent_again v.core.layout v.rows;
+  successor = λ v. started_again v.core.layout v.rows (v.core.me + 1);
+  queue = λ v. queue_seen v.core.queue v.visit;
+  with_message = λ v bytes. record v { core = record v.core { queue = record v.core.queue { messages = v.core.queue.messages ++ bytes ∷ [] } } };
+  with_close = λ v. record v { core = record v.core { queue = record v.core.queue { phase = Closing } } };
+  waiting = λ v. waiting_at v.core v.core.phase;
+  op = λ v word. op_next X v word;
+  kind = λ v. kind_due X v (due X v);
+  wants_word = λ v. wants_due X v (due X v);
+  turns_left = λ v. turns_of X v.core.phase;
+  rest = λ v. rest_due X v (due X v);
+  move = λ v. move_due X v (due X v);
+  after = λ v home got word. visitor_moved (after_step (move_due X v (due X v))) home (visitor_after X v got word);
+  answer = λ v got word. answer_after X v got word;
+  deeds = λ v got word. deeds_due X v (due X v) got word;
+  holds = λ v. is_holding v.core.phase;
+  handed = λ v. visitor_moved (before_step (move_due X v (due X v))) None v;
+  fed = λ v got word. visitor_after X v got word;
+  awaits = λ v. is_taken v.core.phase;
+  laid = λ v page. visitor_moved (laying v.core.phase) (Some page) v;
+}
+
+-- a bus, and what has happened to it
+pub record RingHistory (E : Type 0) : Type 0 where
+  pub ring : Ring E
+  pub trails : RingTrails
+
+-- Its senders have taken turns, put messages and closed, in any order. It has no receivers of its own, and nobody has stopped.
+pub record IsRingHistory {E : Type 0} (X : Election E) (x : Layout) (rows : ℕ) (z : RingHistory E) : Type 0 where
+  pub served : IsLayout x
+  pub two : 2 ≤ rows
+  pub layout : z.ring.layout ≡ x
+  pub rows_are : z.ring.rows ≡ rows
+  pub reached : RingReached X z.ring z.trails
+  pub alone : z.ring.receivers ≡ []
+  pub running : z.ring.stopped ≡ no_stops
+
+abbrev pub bus_again : {E : Type 0} → Election E → Layout → ℕ → Automaton (Visitor E)
+bus_again {E} X x rows = record {
+  extent = extent_again x rows;
+  started = started_again x rows;
+  State = RingHistory E;
+  IsReached = IsRingHistory X x rows;
+  words = λ z. z.ring.words;
+  home = λ z. z.ring.home;
+  sender = λ z p. slice_get z.ring.guests p;
+  deeds = λ z. z.trails.deeds;
+}
