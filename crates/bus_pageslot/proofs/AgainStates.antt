@@ -4,6 +4,7 @@ use Rattle.std.specs.Prelude.{◌⊎◌, All}
 use Rattle.std.proofs.lemmas.Bool.{true≢false, cases_eq, cases_lt}
 use Rattle.std.proofs.lemmas.List.{append-nil}
 use Rattle.std.proofs.lemmas.Option.{same_Some, slice_get_within}
+use Rattle.atomic_table.specs.Table.{State}
 use Rattle.bus_register.specs.declared.registers.Op.{Op}
 use Rattle.bus_register.specs.Words.{register, SumFits}
 use Rattle.bus_register.specs.Proved.TableLaws.{some_or_none, here_not, get_set_same, get_set_other}
@@ -37,7 +38,7 @@ use Rattle.bus_world.specs.Tenures.Standing.{Runs}
 use Rattle.bus_world.proofs.TenuresLaws as tenures
 use Rattle.bus_world.specs.Headline.{Deed, HasPut, HasClosed, IsPrefix, puts}
 use Rattle.bus_world.specs.Log.{Knows, read}
-use Rattle.bus_world.specs.Rings.{Ring, RingTrails, RingReached, Leads, IsOnWord, yard_of, core_in, visit_in, guest_going, move_due, visitor_moved, visitor_put, visitor_closed, with_guest, ring_after, ring_trails, ring_deeds, no_ring_trails, IsNewRing}
+use Rattle.bus_world.specs.Rings.{Ring, IsKeptRing, RingTrails, RingReached, Leads, IsOnWord, yard_of, core_in, visit_in, guest_going, move_due, visitor_moved, visitor_put, visitor_closed, with_guest, ring_after, ring_trails, ring_deeds, no_ring_trails, IsNewRing}
 use Rattle.bus_world.specs.Rings.RingReached.{NewRing, TurnTaken, PutTaken, CloseTaken, RecvTaken, StopTaken}
 use Rattle.bus_world.specs.Tenures.Stage.{Open, Held}
 use Rattle.bus_world.specs.Trails.{step_deed}
@@ -48,11 +49,13 @@ use Rattle.bus_world.specs.Yards.{Yard, word_found, deeds_with, due_deeds}
 use Rattle.bus_world.proofs.EventTrails as events
 use Rattle.bus_world.proofs.LogLaws.{length-read}
 use Rattle.bus_world.proofs.RingFits as fits
-use Rattle.bus_world.proofs.RingLaws.{IsRingLayout, IsLed, ring_led, same_register, due_goes}
+use Rattle.bus_world.proofs.RingLaws.{IsRingLayout, IsLed, ring_led, ring_kept, same_register, due_goes}
 use Rattle.bus_world.proofs.Serving.{Serves}
 use Rattle.bus_world.proofs.YardLaws.{HasKept, led_kept, words_read, yard_promised}
+use Rattle.bus_pageslot.specs.declared.rule.View.{View}
 use Rattle.bus_pageslot.specs.Processes.{IsCounted, log_below, log_in}
 use Rattle.bus_pageslot.specs.Lawful.{AutomatonLaws, IsSender, AcceptsIn, StepsIn, LogGrows, HasLog, IsPromisedOf, Opens}
+use Rattle.bus_pageslot.specs.Rule.{IsShown}
 use Rattle.bus_pageslot.specs.RowsApart.{process_apart, is_holding, is_taken}
 use Rattle.bus_pageslot.specs.RowsAgain.{extent_again, started_again, deeds_due, process_again, bus_again, RingHistory, IsRingHistory}
 use Rattle.bus_pageslot.specs.Steps.{EndsBy}
@@ -138,6 +141,9 @@ module _ {E : Type 0} (X : Election E) (P : Protocol E (Unit {0}) ℕ) (x : Layo
 
     k : HasKept X P serves.laws b.layout layout.ok layout.width layout.starts serves.owner_is serves.named serves.announces serves.apart b.rows layout.two T.heard yard T.visits T.deeds
     k = led_kept X P serves.laws b.layout layout.ok layout.width layout.starts serves.owner_is serves.named serves.announces serves.apart b.rows layout.two T.heard yard T.visits T.deeds led.leads.led
+
+    safe : IsKeptRing X b T
+    safe = ring_kept X P serves.laws serves.owner_is serves.named serves.announces serves.apart b layout T reached
 
     sizes_are : extent_again b.layout b.rows ≡ extent_again x rows
     sizes_are = λ i. extent_again (same i) (rows_are i)
@@ -439,6 +445,9 @@ module _ {E : Type 0} (X : Election E) (P : Protocol E (Unit {0}) ℕ) (x : Layo
   nobody_did b T ok two same rows_are (CloseTaken w U s v before goes) q past = other_deeds s _ U.deeds q (λ e. no_guest w U ok two same rows_are before q past v (ap (slice_get w.guests) e ∙ there_shown _ _ v goes)) ∙ nobody_did w U ok two same rows_are before q past
   nobody_did b T ok two same rows_are (RecvTaken w U r v next answer before at does) q past = nobody_did w U ok two same rows_are before q past
   nobody_did b T ok two same rows_are (StopTaken w U s v before goes) q past = nobody_did w U ok two same rows_are before q past
+
+  pub shown_is_safe : (s : State (Option Page) (View (Visitor E))) → (r : IsShown (process_again X) (bus_again X x rows) s) → IsKeptRing X r.state.ring r.state.trails
+  shown_is_safe s r = safe r.state.ring r.state.trails r.reached.served r.reached.two r.reached.layout r.reached.rows_are r.reached.reached
 
   pub automaton_laws : AutomatonLaws (process_again X) (bus_again X x rows)
   automaton_laws = record {

@@ -7,12 +7,15 @@ ghost use lib.ListN.{get_elem?};
 ghost use Rattle.bus_register.specs.declared.registers.Op.{Op};
 ghost use Rattle.bus_register.specs.declared.registers.Op.TheVariants.{Store};
 ghost use Rattle.atomic_table.specs.Table.{State};
+ghost use Rattle.bus_cyclic.specs.Cyclic as cyclic;
 ghost use Rattle.bus_deliverylog.specs.declared.receiving.RecvTurn.{RecvTurn};
+ghost use Rattle.bus_guest.specs.Turns.{Visitor};
 ghost use Rattle.bus_tenure.specs.Core.{Core};
 ghost use Rattle.bus_tenure.specs.Elections.{Elector, election_of};
 ghost use Rattle.bus_tenure.specs.declared.pages.Page.{Page};
 ghost use Rattle.bus_world.specs.Headline.{Deed, IsPrefix};
 ghost use Rattle.bus_world.specs.Playing.{layout_of};
+ghost use Rattle.bus_world.specs.Rings.{IsKeptRing};
 ghost use Rattle.bus_world.specs.Turning.{words_after};
 ghost use Rattle.bus_world.specs.declared.shapes.Shape.{Shape};
 ghost use Rattle.bus_pageslot.specs.Ears.{Ear};
@@ -20,6 +23,7 @@ ghost use Rattle.bus_pageslot.specs.declared.rule.View.{View};
 ghost use Rattle.bus_pageslot.specs.declared.rule.View.TheVariants.{Sender, Tap};
 ghost use Rattle.bus_pageslot.specs.Listening.{Hears};
 ghost use Rattle.bus_pageslot.specs.Processes.{Extent, log_below};
+ghost use Rattle.bus_pageslot.specs.RowsAgain.{process_again, bus_again};
 ghost use Rattle.bus_pageslot.specs.RowsApart.{process_apart, bus_apart};
 ghost use Rattle.bus_pageslot.specs.Rule.{Sat, IsShown};
 ghost use Rattle.bus_pageslot.specs.Promised.{IsPromised};
@@ -94,6 +98,20 @@ pub fn only_owners_leave_the_stage<Q: Ratifier>()
         → get_elem? s.views seat ≡ some m.0
         → IsDue (process_apart X) d word m many o → slice_index s.words 1 ≡ 2 * t
         → (slice_index (words_after s.words (Some o)) 1 ≡ 2 * t → ⊥) → TakesPageOf X d t o }
+{
+    election_is_lawful::<Q>();
+}
+
+/// Where rows of words are used again, the history of steps that the rule shows is a safe one:
+/// a row is made ready while nobody visits a tenure of it, every word that a visitor of a tenure
+/// steps on is of that tenure alone, each tenure has at most one owner, who announced for it, and
+/// the words below the length are a log of what was put.
+pub fn rows_used_again_are_safe<Q: Ratifier>()
+    ensures { let X = election_of Q.Ratifier in (shape : Shape)
+        (s : State (Option Page) (View (Visitor (Elector Q))))
+        → (r : IsShown (process_again X)
+            (bus_again X (cyclic.layout_of Q.protocol shape) shape.rows) s)
+        → IsKeptRing X r.state.ring r.state.trails }
 {
     election_is_lawful::<Q>();
 }
