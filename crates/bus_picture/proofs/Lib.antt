@@ -2,3 +2,5 @@ mod RowLemmas
 mod TextLemmas
 mod PictureLemmas
 mod FamilyLaws
+mod ArrowLaws
+mod Refused

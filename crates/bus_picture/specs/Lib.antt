@@ -3,6 +3,8 @@ pub mod Processes
 pub mod Rows
 pub mod Finding
 pub mod Places
+pub mod Arrows
 pub mod Drawing
 pub mod Shapes
 pub mod Pictures
+pub mod Refusals

@@ -1,10 +1,12 @@
 -- The picture of a trace.
-use Rattle.std.specs.Prelude.{ℕ, ◌+◌, List, [], ◌∷◌, ◌++◌, codes, length, take}
+use Rattle.std.specs.Prelude.{◌≡◌, ℕ, ◌+◌, Option, List, [], ◌∷◌, ◌++◌, codes, length, take}
 use Rattle.bus_picture.specs.declared.columns.Columns.{Columns}
+use Rattle.bus_picture.specs.declared.finding.Found.{Found}
 use Rattle.bus_picture.specs.Rows.{Shown, rows_of}
 use Rattle.bus_picture.specs.Places.{no_columns, columns_from, down, edge}
 use Rattle.bus_picture.specs.Shapes.{size}
-use Rattle.bus_picture.specs.Drawing.{row_text}
+use Rattle.bus_picture.specs.Arrows.{AreArrows}
+use Rattle.bus_picture.specs.Drawing.{arrows_of, row_text}
 
 -- of a picture that has these columns and ends at this row
 abbrev pub opening : Columns → ℕ → List ℕ
@@ -26,16 +28,20 @@ styles =
     ++ line (codes "<use href='#call' x='16' y='42'/><text x='28' y='46'>call</text><use href='#nothing' x='76' y='42'/><text x='88' y='46'>no step</text><path class='band' d='M150 42H160'/><text x='176' y='46'>in a tenure, with its number</text>")
     ++ line (codes "<path class='arrow' d='M344 42H376'/><text x='382' y='46'>from a store to a load of another process that found it</text>")
 
--- of rows, of which the first has this place among all
-abbrev pub rows_text : Columns → (all : List Shown) (place : ℕ) → List Shown → List ℕ
-rows_text c all place [] = []
-rows_text c all place (s ∷ rows) = row_text c all (take place all) place s ++ rows_text c all (place + 1) rows
+-- of rows, of which the first has this place among all; to each place this arrow, if there is one
+abbrev pub rows_text : Columns → (all : List Shown) → (ℕ → Option Found) → (place : ℕ) → List Shown → List ℕ
+rows_text c all arrows place [] = []
+rows_text c all arrows place (s ∷ rows) = row_text c all (take place all) (arrows place) place s ++ rows_text c all arrows (place + 1) rows
 
-abbrev pub drawn : List Shown → List ℕ
-drawn rows =
+abbrev pub drawn : (ℕ → Option Found) → List Shown → List ℕ
+drawn arrows rows =
     opening (columns_from no_columns rows) (length rows) ++ styles
-    ++ rows_text (columns_from no_columns rows) rows 0 rows ++ (codes "</svg>" ++ 10 ∷ [])
+    ++ rows_text (columns_from no_columns rows) rows arrows 0 rows ++ (codes "</svg>" ++ 10 ∷ [])
 
--- the picture of a trace: of its rows
+-- the picture of a trace: of its rows, with their arrows
 abbrev pub picture : List ℕ → List ℕ
-picture trace = drawn (rows_of trace)
+picture trace = drawn (arrows_of (rows_of trace)) (rows_of trace)
+
+-- the text is a picture of the trace that has just its arrows
+abbrev pub HasItsArrows : (trace text : List ℕ) → Type 0
+HasItsArrows trace text = (arrows : ℕ → Option Found) × AreArrows (rows_of trace) arrows × (text ≡ drawn arrows (rows_of trace))

@@ -4,24 +4,36 @@ ghost use Rattle.std.specs.Prelude.{◌≡◌, ◌++◌, ◌<◌, ◌^◌, OnOk,
 ghost use Rattle.bus_picture.specs.Rows.{told};
 ghost use Rattle.bus_picture.specs.Places.{edge, down};
 ghost use Rattle.bus_picture.specs.Shapes.{number_at, words_at};
-ghost use Rattle.bus_picture.specs.Drawing.{source_of, place_or, head_text, band_text, arrow_text};
-ghost use Rattle.bus_picture.specs.Drawing.{mark_text, what_text, row_text};
+ghost use Rattle.bus_picture.specs.Drawing.{of_another, source_of, place_or, head_text};
+ghost use Rattle.bus_picture.specs.Drawing.{band_text, arrow_text, mark_text, what_text, row_text};
 
 use crate::columns::{Columns, across, down, edge};
 use crate::finding::{Found, Wanted, is_same, latest};
+use crate::processes::Process;
 use crate::rows::{Row, reads, writes};
 use crate::shapes::{
     push_arrow_at, push_band_at, push_head_at, push_mark_at, push_number_at, push_words_at,
 };
 use std::alloc::AllocError;
 
-/// The store whose value a row found, if it is a load and a store of its word stands above it.
+/// What was found, where that is another process's.
+fn of_another(process: Process, found: Option<Found>) -> Option<Found>
+    ensures { result ≡ of_another process found }
+{
+    match found {
+        Some(found) if !is_same(found.process, process) => Some(found),
+        _ => None,
+    }
+}
+
+/// Where the arrow to a row comes from: the latest store of its word above it, if the row is a load
+/// and that store is another process's.
 fn source_of(above: &[Row<'_>], row: &Row<'_>) -> Option<Found>
     requires { length above.now < 2 ^ 32 }
     ensures { result ≡ source_of (map told above.now) (told row.now) }
 {
     if reads(row) {
-        latest(Wanted::Store(row.word), above)
+        of_another(row.process, latest(Wanted::Store(row.word), above))
     } else {
         None
     }
@@ -89,7 +101,7 @@ fn push_band(
     push_band_at(text, x, top, bottom, tenure)
 }
 
-/// Draws the arrow to a load from the store whose value it found, where that is another process's.
+/// Draws the arrow to a row, if it has one.
 fn push_arrow(
     text: &mut String,
     columns: Columns,
@@ -105,9 +117,6 @@ fn push_arrow(
     let Some(source) = source_of(above, row) else {
         return Ok(());
     };
-    if is_same(source.process, row.process) {
-        return Ok(());
-    }
     let from_x = across(columns, source.process);
     let from_y = down(source.place);
     let x = across(columns, row.process);
@@ -174,7 +183,8 @@ pub fn push_row(
     requires rows { length rows.now < 2 ^ 32 }
     requires above { length above.now < 2 ^ 32 }
     ensures { OnOk result (string_bytes text.new ≡ string_bytes text.old
-        ++ row_text columns (map told rows.now) (map told above.now) place (told row.now)) }
+        ++ row_text columns (map told rows.now) (map told above.now)
+        (source_of (map told above.now) (told row.now)) place (told row.now)) }
 {
     push_head(text, columns, rows, above, place, row)?;
     push_band(text, columns, rows, above, place, row)?;

@@ -1,11 +1,26 @@
 //! Laws of pictures: each function does nothing, and its contract is the law.
 
-ghost use Rattle.std.specs.Prelude.{◌≡◌, Some};
+ghost use Rattle.std.specs.Prelude.{◌≡◌, ℕ, Some, List};
 ghost use Rattle.bus_register.specs.declared.kinds.Kind.{Kind};
 ghost use Rattle.bus_register.specs.Names.{kind_name};
 ghost use Rattle.bus_picture.specs.Families.{family_of, family_at};
+ghost use Rattle.bus_picture.specs.Pictures.{HasItsArrows, picture};
+ghost use Rattle.bus_picture.specs.Refusals.{ArrowsRefuse};
 
 /// Each kind of step has the family that `family_at` lists for it.
 pub fn kinds_have_families()
     ensures { (k : Kind) → family_of (kind_name k) ≡ Some (family_at k) }
+{}
+
+/// A picture has an arrow to a load exactly where its word was last stored, added to or exchanged by
+/// another process above it, and from just that step; and no other arrow.
+pub fn pictures_have_their_arrows()
+    ensures { (trace : List ℕ) → HasItsArrows trace (picture trace) }
+{}
+
+/// These are wrong arrows: from an older store, over a later one of the same process, within one
+/// process, to a store or an exchange, from a load, from another word, from below, and from another
+/// column. And one that is left out.
+pub fn arrows_refuse()
+    ensures { ArrowsRefuse }
 {}

@@ -2,6 +2,7 @@
 
 ghost use Rattle.std.specs.Prelude.{◌≡◌, ◌++◌, ◌<◌, ◌^◌, IfOk, OnOk, length, map, string_bytes};
 ghost use Rattle.bus_picture.specs.Rows.{told};
+ghost use Rattle.bus_picture.specs.Drawing.{arrows_of};
 ghost use Rattle.bus_picture.specs.Pictures.{opening, styles, rows_text, drawn, picture};
 
 use crate::columns::{Columns, columns_of, down, edge};
@@ -55,7 +56,8 @@ fn push_styles(text: &mut String) -> Result<(), AllocError>
 fn push_rows(text: &mut String, columns: Columns, rows: &[Row<'_>]) -> Result<(), AllocError>
     requires { length rows.now < 2 ^ 32 }
     ensures { OnOk result (string_bytes text.new ≡ string_bytes text.old
-        ++ rows_text columns (map told rows.now) 0 (map told rows.now)) }
+        ++ rows_text columns (map told rows.now) (arrows_of (map told rows.now)) 0
+        (map told rows.now)) }
 {
     for (place, row) in rows.iter().enumerate() {
         push_row(text, columns, rows, &rows[..place], place as u32, row)?;
@@ -66,7 +68,8 @@ fn push_rows(text: &mut String, columns: Columns, rows: &[Row<'_>]) -> Result<()
 /// The picture of rows.
 fn drawn(alloc: Global, rows: &[Row<'_>]) -> Result<String, AllocError>
     requires { length rows.now < 2 ^ 32 }
-    ensures { IfOk result (λ text. string_bytes text ≡ drawn (map told rows.now)) }
+    ensures { IfOk result (λ text. string_bytes text
+        ≡ drawn (arrows_of (map told rows.now)) (map told rows.now)) }
 {
     let columns = columns_of(rows);
     let mut text = String::new(alloc);

@@ -1,0 +1,5 @@
+use Rattle.bus_picture.proofs.Refused.{refuses}
+use Rattle.bus_picture.proofs.laws.arrows_refuse.Goals as goal
+
+pub returns : goal.returns
+returns c = refuses
