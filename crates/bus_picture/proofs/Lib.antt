@@ -1,6 +1,8 @@
 mod RowLemmas
 mod TextLemmas
 mod PictureLemmas
-mod FamilyLaws
+pub mod FamilyLaws
 mod ArrowLaws
 mod Refused
+pub mod PlainTexts
+pub mod ReadingLaws

@@ -8,3 +8,4 @@ pub mod Drawing
 pub mod Shapes
 pub mod Pictures
 pub mod Refusals
+pub mod AllLines

@@ -26,8 +26,8 @@ fn of_another(process: Process, found: Option<Found>) -> Option<Found>
     }
 }
 
-/// Where the arrow to a row comes from: the latest store of its word above it, if the row is a load
-/// and that store is another process's.
+/// Where the arrow to a row comes from: the latest store of its word above it, if the row is a
+/// load and that store is another process's.
 fn source_of(above: &[Row<'_>], row: &Row<'_>) -> Option<Found>
     requires { length above.now < 2 ^ 32 }
     ensures { result ≡ source_of (map told above.now) (told row.now) }

@@ -12,15 +12,15 @@ pub fn kinds_have_families()
     ensures { (k : Kind) → family_of (kind_name k) ≡ Some (family_at k) }
 {}
 
-/// A picture has an arrow to a load exactly where its word was last stored, added to or exchanged by
-/// another process above it, and from just that step; and no other arrow.
+/// A picture has an arrow to a load exactly where its word was last stored, added to or exchanged
+/// by another process above it, and from just that step; and no other arrow.
 pub fn pictures_have_their_arrows()
     ensures { (trace : List ℕ) → HasItsArrows trace (picture trace) }
 {}
 
 /// These are wrong arrows: from an older store, over a later one of the same process, within one
-/// process, to a store or an exchange, from a load, from another word, from below, and from another
-/// column. And one that is left out.
+/// process, to a store or an exchange, from a load or an exchange that left what it found, from
+/// another word, from below, and from another column. And it is wrong to leave one out.
 pub fn arrows_refuse()
     ensures { ArrowsRefuse }
 {}
