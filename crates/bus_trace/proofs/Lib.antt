@@ -3,3 +3,5 @@ pub mod RepeatRows
 pub mod PlayRows
 pub mod WatchLemmas
 pub mod RingRows
+mod LineLaws
+mod AllLinesLaws

@@ -17,6 +17,7 @@
 pub mod answers;
 pub mod cycles;
 pub mod dues;
+pub mod laws;
 pub mod machines;
 pub mod places;
 pub mod playing;

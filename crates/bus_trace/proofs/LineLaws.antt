@@ -1,0 +1,250 @@
+-- Each line of a trace has nine columns, of which the third names who is asked and the fifth a kind, a call or nothing.
+use Rattle.std.proofs.Common.{◌≡◌, ℕ, ◌+◌, ◌-◌, ◌/◌, ◌%◌, ◌==◌, ◌<◌, ◌≤◌, true, false, cond, Option, Some, None, List, [], ◌∷◌, ◌++◌, codes, decimal, flat_map, nat_lt, nat_le, slice_get, slice_index, refl, arith}
+use Rattle.std.proofs.lemmas.List.Elements.{All-nil}
+use Rattle.bus_register.specs.declared.kinds.Kind.{Kind}
+use Rattle.bus_register.specs.declared.kinds.Kind.TheVariants as kind
+use Rattle.bus_register.specs.declared.registers.Op.{Op}
+use Rattle.bus_register.specs.Names.{kind_name}
+use Rattle.bus_register.specs.Words.{register, after}
+use Rattle.bus_cyclic.specs.Cyclic.{CyclicBus}
+use Rattle.bus_deliverylog.specs.Receiving.{Receiving, receiving_kind, receiving_op}
+use Rattle.bus_deliverylog.specs.Text.{hex_digit, hex_pair, hex_text, item_text, recv_text}
+use Rattle.bus_deliverylog.specs.declared.receiving.RecvTurn.{RecvTurn}
+use Rattle.bus_deliverylog.specs.declared.receiving.RecvTurn.TheVariants as recv
+use Rattle.bus_batch.specs.declared.messages.Item.{Item}
+use Rattle.bus_guest.specs.Turns.{Visitor, due, kind_due, op_next, tenure_begun_by}
+use Rattle.bus_tenure.specs.Core.{Election}
+use Rattle.bus_tenure.specs.Text.{turn_text}
+use Rattle.bus_tenure.specs.declared.turns.Turn.{Turn as Turned}
+use Rattle.bus_tenure.specs.declared.turns.Turn.TheVariants as turn
+use Rattle.bus_world.specs.Headline.{Deed, HasPut, HasClosed, Stepped}
+use Rattle.bus_world.specs.Rings.{guest_going}
+use Rattle.bus_world.specs.Trails.{deeds_of, put_deeds, close_deeds}
+use Rattle.bus_world.specs.World.{Event, Put, Close, Turn, Recv, Stop, going}
+use Rattle.bus_world.specs.Playing.{SizedBus}
+use Rattle.bus_world.specs.declared.events.Answer.{Answer}
+use Rattle.bus_world.specs.declared.events.Answer.TheVariants as answer
+use Rattle.bus_replay.specs.Text.{behind, answer_text}
+use Rattle.bus_picture.specs.declared.families.Family.{Family}
+use Rattle.bus_picture.specs.declared.families.Family.TheVariants as family
+use Rattle.bus_picture.specs.declared.processes.Process.TheVariants.{Sender, Receiver}
+use Rattle.bus_picture.specs.Families.{family_of, family_at}
+use Rattle.bus_picture.proofs.FamilyLaws.{has_family}
+use Rattle.bus_picture.proofs.PlainTexts.{IsPlain, plain_by, plain_append, plain_cons, plain_cond, plain_decimal}
+use Rattle.bus_picture.proofs.ReadingLaws.{IsMiddle, IsWho, IsReadable, readable, sender_known, receiver_known}
+use Rattle.bus_trace.specs.Words.{Sizes, ratifier_word, round_word, decision_word, row_word, word_name}
+use Rattle.bus_trace.specs.Rows.{tenure_text, no_step, step_text, deed_text, deeds_text, turning_op, due_text, receiving_text, deed_columns, row_text, visitor_text, ring_columns, ring_row_text}
+
+-- ---- texts
+plain_behind : (n : ℕ) → IsPlain (behind n)
+plain_behind n = plain_cons 32 (decimal n) (omega arith) (plain_decimal n)
+
+plain_tenure : (t : Option ℕ) → IsPlain (tenure_text t)
+plain_tenure None = plain_by (codes "-") refl
+plain_tenure (Some t) = plain_decimal t
+
+plain_kind : (k : Kind) → IsPlain (kind_name k)
+plain_kind kind.LoadStage = plain_by (codes "LoadStage") refl
+plain_kind kind.Announce = plain_by (codes "Announce") refl
+plain_kind kind.StoreProposal = plain_by (codes "StoreProposal") refl
+plain_kind kind.ReadProposal = plain_by (codes "ReadProposal") refl
+plain_kind kind.StoreVerdict = plain_by (codes "StoreVerdict") refl
+plain_kind kind.ReadVerdict = plain_by (codes "ReadVerdict") refl
+plain_kind kind.SetMark = plain_by (codes "SetMark") refl
+plain_kind kind.ReadOtherMark = plain_by (codes "ReadOtherMark") refl
+plain_kind kind.Vote = plain_by (codes "Vote") refl
+plain_kind kind.ReadVotes = plain_by (codes "ReadVotes") refl
+plain_kind kind.Fallback = plain_by (codes "Fallback") refl
+plain_kind kind.ReadAnnouncement = plain_by (codes "ReadAnnouncement") refl
+plain_kind kind.TakePage = plain_by (codes "TakePage") refl
+plain_kind kind.StoreLogWord = plain_by (codes "StoreLogWord") refl
+plain_kind kind.StoreLength = plain_by (codes "StoreLength") refl
+plain_kind kind.GivePageBack = plain_by (codes "GivePageBack") refl
+plain_kind kind.LoadLength = plain_by (codes "LoadLength") refl
+plain_kind kind.LoadLogWord = plain_by (codes "LoadLogWord") refl
+plain_kind kind.Enter = plain_by (codes "Enter") refl
+plain_kind kind.LoadStageAgain = plain_by (codes "LoadStageAgain") refl
+plain_kind kind.Withdraw = plain_by (codes "Withdraw") refl
+plain_kind kind.ReadPresence = plain_by (codes "ReadPresence") refl
+plain_kind kind.ClearRow = plain_by (codes "ClearRow") refl
+
+-- a word and a number behind it, and more behind a space
+numbered_word : (name : List ℕ) (n : ℕ) → IsPlain name → IsPlain (name ++ behind n)
+numbered_word name n h = plain_append name (behind n) h (plain_behind n)
+
+and_more : (name : List ℕ) (n : ℕ) (more : List ℕ) → IsPlain name → IsPlain more → IsPlain (name ++ behind n ++ 32 ∷ more)
+and_more name n more h k = plain_append (name ++ behind n) (32 ∷ more) (numbered_word name n h) (plain_cons 32 more (omega arith) k)
+
+plain_ratifier : (p : Sizes) (k : ℕ) → IsPlain (ratifier_word p k)
+plain_ratifier p k = plain_cond (p.ratifier == 3) (cond (k == 0) (codes "input 0") (cond (k == 1) (codes "input 1") (codes "proposal"))) (codes "word" ++ behind k)
+  (plain_cond (k == 0) (codes "input 0") (cond (k == 1) (codes "input 1") (codes "proposal")) (plain_by (codes "input 0") refl) (plain_cond (k == 1) (codes "input 1") (codes "proposal") (plain_by (codes "input 1") refl) (plain_by (codes "proposal") refl)))
+  (numbered_word (codes "word") k (plain_by (codes "word") refl))
+
+plain_round : (p : Sizes) (k : ℕ) → IsPlain (round_word p k)
+plain_round p k = plain_cond (k == 0) (codes "mark 0") (cond (k == 1) (codes "mark 1") (cond (k == 2) (codes "counter") (ratifier_word p (k - 3)))) (plain_by (codes "mark 0") refl) (
+  plain_cond (k == 1) (codes "mark 1") (cond (k == 2) (codes "counter") (ratifier_word p (k - 3))) (plain_by (codes "mark 1") refl) (
+    plain_cond (k == 2) (codes "counter") (ratifier_word p (k - 3)) (plain_by (codes "counter") refl) (plain_ratifier p (k - 3))))
+
+plain_decision : (p : Sizes) (k : ℕ) → IsPlain (decision_word p k)
+plain_decision p k =
+    let round : ℕ = (k + 3) / (3 + p.ratifier) in
+    let word : List ℕ = round_word p ((k + 3) % (3 + p.ratifier)) in
+    plain_cond (round == p.rounds) (codes "fallback") (codes "round" ++ behind (round + 1) ++ 32 ∷ word) (plain_by (codes "fallback") refl) (and_more (codes "round") (round + 1) word (plain_by (codes "round") refl) (plain_round p ((k + 3) % (3 + p.ratifier))))
+
+plain_row_word : (p : Sizes) (k : ℕ) → IsPlain (row_word p k)
+plain_row_word p k =
+    let bit : ℕ = (k - p.senders) / p.decision in
+    let word : List ℕ = decision_word p ((k - p.senders) % p.decision) in
+    plain_cond (nat_lt k p.senders) (codes "announcement" ++ behind k) (codes "bit" ++ behind bit ++ 32 ∷ word) (numbered_word (codes "announcement") k (plain_by (codes "announcement") refl)) (
+      and_more (codes "bit") bit word (plain_by (codes "bit") refl) (plain_decision p ((k - p.senders) % p.decision)))
+
+plain_word : (p : Sizes) (r : ℕ) → IsPlain (word_name p r)
+plain_word p r =
+    let row : List ℕ = codes "row" ++ behind ((r - 2 - p.presences) / p.row) ++ 32 ∷ row_word p ((r - 2 - p.presences) % p.row) in
+    let log : List ℕ = cond (nat_le p.log r) (codes "log" ++ behind (r - p.log)) row in
+    let presence : List ℕ = cond (nat_lt (r - 2) p.presences) (codes "presence" ++ behind (r - 2)) log in
+    let other : List ℕ = cond (r == 1) (codes "stage") presence in
+    plain_cond (r == 0) (codes "length") other (plain_by (codes "length") refl) (
+      plain_cond (r == 1) (codes "stage") presence (plain_by (codes "stage") refl) (
+        plain_cond (nat_lt (r - 2) p.presences) (codes "presence" ++ behind (r - 2)) log (numbered_word (codes "presence") (r - 2) (plain_by (codes "presence") refl)) (
+          plain_cond (nat_le p.log r) (codes "log" ++ behind (r - p.log)) row (numbered_word (codes "log") (r - p.log) (plain_by (codes "log") refl)) (
+            and_more (codes "row") ((r - 2 - p.presences) / p.row) (row_word p ((r - 2 - p.presences) % p.row)) (plain_by (codes "row") refl) (plain_row_word p ((r - 2 - p.presences) % p.row))))))
+
+-- ---- answers
+then_number : (front : List ℕ) (n : ℕ) → IsPlain front → IsPlain (front ++ decimal n)
+then_number front n h = plain_append front (decimal n) h (plain_decimal n)
+
+then_space : (front more : List ℕ) → IsPlain front → IsPlain more → IsPlain (front ++ codes " " ++ more)
+then_space front more h k = plain_append (front ++ codes " ") more (plain_append front (codes " ") h (plain_by (codes " ") refl)) k
+
+then_another : (front : List ℕ) (n : ℕ) → IsPlain front → IsPlain (front ++ codes " " ++ decimal n)
+then_another front n h = then_space front (decimal n) h (plain_decimal n)
+
+plain_turn : (t : Turned) → IsPlain (turn_text t)
+plain_turn turn.Idle = plain_by (codes "idle") refl
+plain_turn turn.Waiting = plain_by (codes "waiting") refl
+plain_turn turn.Going = plain_by (codes "going") refl
+plain_turn (turn.Lost t o) = then_another (codes "lost " ++ decimal t) o.0 (then_number (codes "lost ") t (plain_by (codes "lost ") refl))
+plain_turn (turn.Own t) = then_number (codes "own ") t (plain_by (codes "own ") refl)
+plain_turn (turn.Delivered t first last) = then_another (codes "delivered " ++ decimal t ++ codes " " ++ decimal first) last (then_another (codes "delivered " ++ decimal t) first (then_number (codes "delivered ") t (plain_by (codes "delivered ") refl)))
+plain_turn turn.Full = plain_by (codes "full") refl
+plain_turn turn.Closed = plain_by (codes "closed") refl
+plain_turn turn.Spent = plain_by (codes "spent") refl
+plain_turn (turn.Behind t s) = then_another (codes "behind " ++ decimal t) s.0 (then_number (codes "behind ") t (plain_by (codes "behind ") refl))
+
+digit_cases : (test : _) (n : ℕ) → 32 ≤ cond test (48 + n) (87 + n)
+digit_cases true n = omega arith
+digit_cases false n = omega arith
+
+digit_plain : (n : ℕ) → 32 ≤ hex_digit n
+digit_plain n = digit_cases (nat_lt n 10) n
+
+pair_plain : (byte : ℕ) → IsPlain (hex_pair byte)
+pair_plain byte = plain_cons (hex_digit (byte / 16)) (hex_digit (byte % 16) ∷ []) (digit_plain (byte / 16)) (plain_cons (hex_digit (byte % 16)) [] (digit_plain (byte % 16)) (All-nil (λ b. 32 ≤ b)))
+
+pairs_plain : (bytes : List ℕ) → IsPlain (flat_map hex_pair bytes)
+pairs_plain [] = All-nil (λ b. 32 ≤ b)
+pairs_plain (b ∷ bytes) = plain_append (hex_pair b) (flat_map hex_pair bytes) (pair_plain b) (pairs_plain bytes)
+
+plain_hex : (bytes : List ℕ) → IsPlain (hex_text bytes)
+plain_hex [] = plain_by (codes "-") refl
+plain_hex (b ∷ bytes) = pairs_plain (b ∷ bytes)
+
+plain_item : (i : Item) → IsPlain (item_text i)
+plain_item i = then_space (decimal i.sender.0 ++ codes " " ++ decimal i.number) (hex_text i.message) (then_another (decimal i.sender.0) i.number (plain_decimal i.sender.0)) (plain_hex i.message)
+
+plain_recv : (t : RecvTurn) → IsPlain (recv_text t)
+plain_recv recv.Going = plain_by (codes "going") refl
+plain_recv recv.Empty = plain_by (codes "empty") refl
+plain_recv (recv.Head t o) = then_another (codes "head " ++ decimal t) o.0 (then_number (codes "head ") t (plain_by (codes "head ") refl))
+plain_recv (recv.Item i) = plain_append (codes "item ") (item_text i) (plain_by (codes "item ") refl) (plain_item i)
+plain_recv recv.End = plain_by (codes "end") refl
+
+plain_answer : (a : Answer) → IsPlain (answer_text a)
+plain_answer (answer.Number n) = numbered_word (codes "number") n (plain_by (codes "number") refl)
+plain_answer answer.Closing = plain_by (codes "closing") refl
+plain_answer (answer.Turn t) = plain_turn t
+plain_answer (answer.Recv t) = plain_recv t
+plain_answer answer.Stopped = plain_by (codes "stopped") refl
+
+-- ---- tenure, kind, word, found and after
+dash : IsPlain (codes "-")
+dash = plain_by (codes "-") refl
+
+without_step : (name : List ℕ) (f : Family) → family_of name ≡ Some f → IsPlain name → IsMiddle (no_step name)
+without_step name f known plain = record { tenure = codes "-"; kind = name; word = codes "-"; found = codes "-"; after = codes "-"; family = f; known = known; plain_tenure = dash; plain_kind = plain; plain_word = dash; plain_found = dash; plain_after = dash; is = refl }
+
+nothing_done : IsMiddle (no_step (codes "-"))
+nothing_done = without_step (codes "-") family.Nothing refl dash
+
+with_step : (p : Sizes) (tenure : Option ℕ) (k : Kind) (found : ℕ) (o : Option Op) → IsMiddle (step_text p tenure k found o)
+with_step p tenure k found None = nothing_done
+with_step p tenure k found (Some o) = record {
+  tenure = tenure_text tenure;
+  kind = kind_name k;
+  word = word_name p (register o);
+  found = decimal found;
+  after = decimal (after o found);
+  family = family_at k;
+  known = has_family k;
+  plain_tenure = plain_tenure tenure;
+  plain_kind = plain_kind k;
+  plain_word = plain_word p (register o);
+  plain_found = plain_decimal found;
+  plain_after = plain_decimal (after o found);
+  is = refl;
+}
+
+of_deed : (p : Sizes) (o : Option Op) (d : Deed) → IsMiddle (deed_text p o d)
+of_deed p o (HasPut number bytes) = without_step (codes "put") family.Call refl (plain_by (codes "put") refl)
+of_deed p o HasClosed = without_step (codes "close") family.Call refl (plain_by (codes "close") refl)
+of_deed p o (Stepped tenure k found chose answer) = with_step p tenure k found o
+
+of_deeds : (p : Sizes) (o : Option Op) (deeds : List Deed) → IsMiddle (deeds_text p o deeds)
+of_deeds p o [] = nothing_done
+of_deeds p o (d ∷ deeds) = of_deed p o d
+
+of_due : (p : Sizes) (words : ℕ → ℕ) (tenure : Option ℕ) (k : Option Kind) (o : Option Op) → IsMiddle (due_text p words tenure k o)
+of_due p words tenure None o = nothing_done
+of_due p words tenure (Some k) None = nothing_done
+of_due p words tenure (Some k) (Some o) = with_step p tenure k (words (register o)) (Some o)
+
+of_receiving : (p : Sizes) (words : ℕ → ℕ) (v : Option Receiving) → IsMiddle (receiving_text p words v)
+of_receiving p words None = nothing_done
+of_receiving p words (Some v) = of_due p words None (receiving_kind v) (receiving_op v)
+
+of_visitor : {E : Type 0} (p : Sizes) (X : Election E) (words : ℕ → ℕ) (v : Option (Visitor E)) (word : ℕ) → IsMiddle (visitor_text p X words v word)
+of_visitor p X words None word = nothing_done
+of_visitor p X words (Some v) word = of_due p words (tenure_begun_by v.core v.visit) (kind_due X v (due X v)) (op_next X v word)
+
+a_stop : IsMiddle (no_step (codes "stop"))
+a_stop = without_step (codes "stop") family.Call refl (plain_by (codes "stop") refl)
+
+-- ---- who is asked, where the number is below 8
+abbrev pub AsksFew : Event → Type 0
+AsksFew (Put s bytes) = s < 8
+AsksFew (Close s) = s < 8
+AsksFew (Turn s word) = s < 8
+AsksFew (Recv r) = r < 8
+AsksFew (Stop s) = s < 8
+
+a_sender : (s : ℕ) → s < 8 → IsWho (codes "sender" ++ behind s)
+a_sender s few = record { process = Sender s; known = sender_known s few; plain = numbered_word (codes "sender") s (plain_by (codes "sender") refl) }
+
+a_receiver : (r : ℕ) → r < 8 → IsWho (codes "receiver" ++ behind r)
+a_receiver r few = record { process = Receiver r; known = receiver_known r few; plain = numbered_word (codes "receiver") r (plain_by (codes "receiver") refl) }
+
+-- ---- lines
+pub line_read : {E : Type 0} (p : Sizes) (X : Election E) (line : ℕ) (z : SizedBus E) (e : Event) (a : Answer) → AsksFew e → IsReadable (row_text p X line z e a)
+line_read p X line z (Put s bytes) a few = readable (decimal line) (codes "sender" ++ behind s) (deed_columns p X z.bus (Put s bytes) a) (answer_text a) (plain_decimal line) (a_sender s few) (of_deeds p None (deeds_of X z.bus (Put s bytes) a s)) (plain_answer a)
+line_read p X line z (Close s) a few = readable (decimal line) (codes "sender" ++ behind s) (deed_columns p X z.bus (Close s) a) (answer_text a) (plain_decimal line) (a_sender s few) (of_deeds p None (deeds_of X z.bus (Close s) a s)) (plain_answer a)
+line_read p X line z (Turn s word) a few = readable (decimal line) (codes "sender" ++ behind s) (deed_columns p X z.bus (Turn s word) a) (answer_text a) (plain_decimal line) (a_sender s few) (of_deeds p (turning_op X (going z.bus s) word) (deeds_of X z.bus (Turn s word) a s)) (plain_answer a)
+line_read p X line z (Recv r) a few = readable (decimal line) (codes "receiver" ++ behind r) (deed_columns p X z.bus (Recv r) a) (answer_text a) (plain_decimal line) (a_receiver r few) (of_receiving p (slice_index z.bus.side.words) (slice_get z.bus.receivers r)) (plain_answer a)
+line_read p X line z (Stop s) a few = readable (decimal line) (codes "sender" ++ behind s) (deed_columns p X z.bus (Stop s) a) (answer_text a) (plain_decimal line) (a_sender s few) a_stop (plain_answer a)
+
+pub ring_line_read : {E : Type 0} (p : Sizes) (X : Election E) (line : ℕ) (z : CyclicBus E) (e : Event) (a : Answer) → AsksFew e → IsReadable (ring_row_text p X line z e a)
+ring_line_read p X line z (Put s bytes) a few = readable (decimal line) (codes "sender" ++ behind s) (ring_columns p X z.ring (Put s bytes) a) (answer_text a) (plain_decimal line) (a_sender s few) (of_deeds p None (put_deeds bytes a)) (plain_answer a)
+ring_line_read p X line z (Close s) a few = readable (decimal line) (codes "sender" ++ behind s) (ring_columns p X z.ring (Close s) a) (answer_text a) (plain_decimal line) (a_sender s few) (of_deeds p None (close_deeds a)) (plain_answer a)
+ring_line_read p X line z (Turn s word) a few = readable (decimal line) (codes "sender" ++ behind s) (ring_columns p X z.ring (Turn s word) a) (answer_text a) (plain_decimal line) (a_sender s few) (of_visitor p X (slice_index z.ring.words) (guest_going z.ring s) word) (plain_answer a)
+ring_line_read p X line z (Recv r) a few = readable (decimal line) (codes "receiver" ++ behind r) (ring_columns p X z.ring (Recv r) a) (answer_text a) (plain_decimal line) (a_receiver r few) (of_receiving p (slice_index z.ring.words) (slice_get z.ring.receivers r)) (plain_answer a)
+ring_line_read p X line z (Stop s) a few = readable (decimal line) (codes "sender" ++ behind s) (ring_columns p X z.ring (Stop s) a) (answer_text a) (plain_decimal line) (a_sender s few) a_stop (plain_answer a)

@@ -1,0 +1,17 @@
+//! What holds of all traces: the function does nothing, and its contract is the law.
+
+ghost use Rattle.std.specs.Prelude.{◌≡◌, ℕ, List};
+ghost use Rattle.bus_picture.specs.AllLines.{HasAllLines};
+ghost use Rattle.bus_script.specs.declared.answers.Outcome.{Outcome};
+ghost use Rattle.bus_tenure.specs.Elections.{election_of};
+ghost use Rattle.bus_trace.specs.Traces.{IsTrace};
+
+use bus_adoptcommit::Ratifier;
+
+/// All lines of a trace that show events stand in its picture: each line behind the names of the
+/// columns that has columns is read as a row.
+pub fn traces_are_drawn_whole<Q: Ratifier>()
+    ensures { let X = election_of Q.Ratifier in
+        (input : List ℕ) (outcome : Outcome) (trace : List ℕ)
+        → IsTrace X Q.protocol input outcome trace → HasAllLines trace }
+{}
