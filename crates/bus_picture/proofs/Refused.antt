@@ -1,12 +1,14 @@
 -- Each of the wrong arrows is refused, and one that is left out.
-use Rattle.std.proofs.Common.{◌≡◌, ◌<◌, ℕ, true, false, List, [], ◌∷◌, Some, slice_get, codes, refl, sym, ap, ◌∙◌, arith}
+use Rattle.std.proofs.Common.{◌≡◌, ◌<◌, ℕ, true, false, List, [], ◌∷◌, Some, slice_get, codes, refl, sym, ap, ◌∙◌, arith, lit<}
 use Rattle.std.proofs.lemmas.Bool.{false≢true}
 use Rattle.std.proofs.lemmas.Option.{none-some, same_Some}
 use Rattle.bus_picture.specs.declared.finding.Found.{Found}
 use Rattle.bus_picture.specs.declared.processes.Process.TheVariants.{Sender, Receiver}
 use Rattle.bus_picture.specs.Rows.{Shown, reads, writes}
 use Rattle.bus_picture.specs.Arrows.{IsArrow}
-use Rattle.bus_picture.specs.Refusals.{stage, stores, loads, exchanges, at, ArrowsRefuse}
+use Rattle.std.specs.List.{join_with_byte}
+use Rattle.bus_picture.specs.AllLines.{HasAllLines}
+use Rattle.bus_picture.specs.Refusals.{unread, stage, stores, loads, exchanges, at, ArrowsRefuse}
 
 -- the row that an arrow goes to, and the one that it comes from, where they are known
 load_is : (rows : List Shown) (source : Found) (to : ℕ) (row : Shown) → slice_get rows to ≡ Some row → (a : IsArrow rows source to) → row ≡ a.load
@@ -75,3 +77,11 @@ refuses = record {
   upwards = λ h. let a = (h 0 (at 1 (Sender 0))).0 refl in let above : 1 < 0 = a.latest.above in absurd (omega arith);
   other_column = λ h. columns_differ (whose (stores (Sender 0) stage ∷ loads (Sender 1) stage ∷ []) (at 0 (Receiver 0)) 1 (stores (Sender 0) stage) ((h 1 (at 0 (Receiver 0))).0 refl) refl);
 }
+
+-- ---- a line that is left out
+its_line : List ℕ
+its_line = join_with_byte 9 (codes "1" ∷ codes "2" ∷ codes "sender 8" ∷ codes "-" ∷ codes "put" ∷ codes "-" ∷ codes "-" ∷ codes "-" ∷ codes "number 0" ∷ [])
+
+pub left_out : ¬ HasAllLines unread
+unfolding its_line
+left_out h = false≢true (h 1 its_line (lit< tt) refl (1, lit< tt, refl))

@@ -1,5 +1,6 @@
--- What a picture does not allow: of each wrong arrow, and of one left out, one instance.
-use Rattle.std.specs.Prelude.{ℕ, Option, Some, None, List, [], ◌∷◌, ◌==◌, codes, if◌then◌else◌}
+-- What a picture does not allow: of each wrong arrow, of one left out, and of a line left out, one instance.
+use Rattle.std.specs.Prelude.{ℕ, Option, Some, None, List, [], ◌∷◌, ◌++◌, ◌==◌, codes, if◌then◌else◌}
+use Rattle.std.specs.List.{join_with_byte}
 use Rattle.bus_picture.specs.declared.families.Family.{Family}
 use Rattle.bus_picture.specs.declared.families.Family.TheVariants as family
 use Rattle.bus_picture.specs.declared.finding.Found.{Found}
@@ -59,3 +60,8 @@ pub record ArrowsRefuse : Type 0 where
   pub upwards : ¬ AreArrows (loads (Sender 1) stage ∷ stores (Sender 0) stage ∷ []) (only 0 (at 1 (Sender 0)))
   -- from the column of a process that did not store
   pub other_column : ¬ AreArrows (stores (Sender 0) stage ∷ loads (Sender 1) stage ∷ []) (only 1 (at 0 (Receiver 0)))
+
+-- ---- a line that is left out
+-- a first line, and a line of a sender that no bus has
+abbrev pub unread : List ℕ
+unread = codes "number" ++ 10 ∷ join_with_byte 9 (codes "1" ∷ codes "2" ∷ codes "sender 8" ∷ codes "-" ∷ codes "put" ∷ codes "-" ∷ codes "-" ∷ codes "-" ∷ codes "number 0" ∷ [])

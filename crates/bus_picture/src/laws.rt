@@ -5,7 +5,8 @@ ghost use Rattle.bus_register.specs.declared.kinds.Kind.{Kind};
 ghost use Rattle.bus_register.specs.Names.{kind_name};
 ghost use Rattle.bus_picture.specs.Families.{family_of, family_at};
 ghost use Rattle.bus_picture.specs.Pictures.{HasItsArrows, picture};
-ghost use Rattle.bus_picture.specs.Refusals.{ArrowsRefuse};
+ghost use Rattle.bus_picture.specs.AllLines.{HasAllLines};
+ghost use Rattle.bus_picture.specs.Refusals.{ArrowsRefuse, unread};
 
 /// Each kind of step has the family that `family_at` lists for it.
 pub fn kinds_have_families()
@@ -23,4 +24,9 @@ pub fn pictures_have_their_arrows()
 /// another word, from below, and from another column. And it is wrong to leave one out.
 pub fn arrows_refuse()
     ensures { ArrowsRefuse }
+{}
+
+/// A picture has not all lines of a trace with a line of a sender that no bus has.
+pub fn lines_refuse()
+    ensures { ¬ HasAllLines unread }
 {}
