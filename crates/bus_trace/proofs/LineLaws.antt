@@ -77,12 +77,12 @@ and_more name n more h k = plain_append (name ++ behind n) (32 ∷ more) (number
 
 plain_ratifier : (p : Sizes) (k : ℕ) → IsPlain (ratifier_word p k)
 plain_ratifier p k = plain_cond (p.ratifier == 3) (cond (k == 0) (codes "input 0") (cond (k == 1) (codes "input 1") (codes "proposal"))) (codes "word" ++ behind k)
-  (plain_cond (k == 0) (codes "input 0") (cond (k == 1) (codes "input 1") (codes "proposal")) (plain_by (codes "input 0") refl) (plain_cond (k == 1) (codes "input 1") (codes "proposal") (plain_by (codes "input 1") refl) (plain_by (codes "proposal") refl)))
-  (numbered_word (codes "word") k (plain_by (codes "word") refl))
+    (plain_cond (k == 0) (codes "input 0") (cond (k == 1) (codes "input 1") (codes "proposal")) (plain_by (codes "input 0") refl) (plain_cond (k == 1) (codes "input 1") (codes "proposal") (plain_by (codes "input 1") refl) (plain_by (codes "proposal") refl)))
+    (numbered_word (codes "word") k (plain_by (codes "word") refl))
 
 plain_round : (p : Sizes) (k : ℕ) → IsPlain (round_word p k)
 plain_round p k = plain_cond (k == 0) (codes "mark 0") (cond (k == 1) (codes "mark 1") (cond (k == 2) (codes "counter") (ratifier_word p (k - 3)))) (plain_by (codes "mark 0") refl) (
-  plain_cond (k == 1) (codes "mark 1") (cond (k == 2) (codes "counter") (ratifier_word p (k - 3))) (plain_by (codes "mark 1") refl) (
+    plain_cond (k == 1) (codes "mark 1") (cond (k == 2) (codes "counter") (ratifier_word p (k - 3))) (plain_by (codes "mark 1") refl) (
     plain_cond (k == 2) (codes "counter") (ratifier_word p (k - 3)) (plain_by (codes "counter") refl) (plain_ratifier p (k - 3))))
 
 plain_decision : (p : Sizes) (k : ℕ) → IsPlain (decision_word p k)
@@ -96,7 +96,7 @@ plain_row_word p k =
     let bit : ℕ = (k - p.senders) / p.decision in
     let word : List ℕ = decision_word p ((k - p.senders) % p.decision) in
     plain_cond (nat_lt k p.senders) (codes "announcement" ++ behind k) (codes "bit" ++ behind bit ++ 32 ∷ word) (numbered_word (codes "announcement") k (plain_by (codes "announcement") refl)) (
-      and_more (codes "bit") bit word (plain_by (codes "bit") refl) (plain_decision p ((k - p.senders) % p.decision)))
+    and_more (codes "bit") bit word (plain_by (codes "bit") refl) (plain_decision p ((k - p.senders) % p.decision)))
 
 plain_word : (p : Sizes) (r : ℕ) → IsPlain (word_name p r)
 plain_word p r =
@@ -105,10 +105,10 @@ plain_word p r =
     let presence : List ℕ = cond (nat_lt (r - 2) p.presences) (codes "presence" ++ behind (r - 2)) log in
     let other : List ℕ = cond (r == 1) (codes "stage") presence in
     plain_cond (r == 0) (codes "length") other (plain_by (codes "length") refl) (
-      plain_cond (r == 1) (codes "stage") presence (plain_by (codes "stage") refl) (
-        plain_cond (nat_lt (r - 2) p.presences) (codes "presence" ++ behind (r - 2)) log (numbered_word (codes "presence") (r - 2) (plain_by (codes "presence") refl)) (
-          plain_cond (nat_le p.log r) (codes "log" ++ behind (r - p.log)) row (numbered_word (codes "log") (r - p.log) (plain_by (codes "log") refl)) (
-            and_more (codes "row") ((r - 2 - p.presences) / p.row) (row_word p ((r - 2 - p.presences) % p.row)) (plain_by (codes "row") refl) (plain_row_word p ((r - 2 - p.presences) % p.row))))))
+    plain_cond (r == 1) (codes "stage") presence (plain_by (codes "stage") refl) (
+    plain_cond (nat_lt (r - 2) p.presences) (codes "presence" ++ behind (r - 2)) log (numbered_word (codes "presence") (r - 2) (plain_by (codes "presence") refl)) (
+    plain_cond (nat_le p.log r) (codes "log" ++ behind (r - p.log)) row (numbered_word (codes "log") (r - p.log) (plain_by (codes "log") refl)) (
+    and_more (codes "row") ((r - 2 - p.presences) / p.row) (row_word p ((r - 2 - p.presences) % p.row)) (plain_by (codes "row") refl) (plain_row_word p ((r - 2 - p.presences) % p.row))))))
 
 -- ---- answers
 then_number : (front : List ℕ) (n : ℕ) → IsPlain front → IsPlain (front ++ decimal n)
