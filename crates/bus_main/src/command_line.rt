@@ -29,12 +29,15 @@ pub enum Task {
 fn bus_command<'a>(alloc: Global) -> Result<Command<'a>, Error> {
     let ratify = Command::new(alloc, "ratify")
         .about("Plays one adopt-commit object by a script on standard input")
+        .override_usage(help::RATIFY_USAGE)
         .after_help(help::RATIFY);
     let replay = Command::new(alloc, "replay")
         .about("Moves a bus by a script on standard input")
+        .override_usage(help::REPLAY_USAGE)
         .after_help(help::REPLAY);
     let trace = Command::new(alloc, "trace")
         .about("Shows each step of a bus that a script on standard input moves")
+        .override_usage(help::TRACE_USAGE)
         .after_help(help::TRACE)
         .arg(svg_flag(alloc))?;
     let bus = Command::new(alloc, "bus")
@@ -94,6 +97,7 @@ fn log_command<'a>(alloc: Global) -> Result<Command<'a>, Error> {
     let senders = value_parser!(u64).range(1..MOST_SENDERS as i64 + 1);
     let command = Command::new(alloc, "log")
         .about("Tells what the words of a log on standard input spell")
+        .override_usage(help::LOG_USAGE)
         .after_help(help::LOG)
         .arg(number(alloc, "senders", "3", senders).help("Senders of the bus, 1 to 8"))?;
     Ok(command)

@@ -19,6 +19,18 @@ pub const BUS: &str = "Examples:
 'bus COMMAND --help' says more of a command. Formats, refusals and exit statuses stand in
 docs/FORMATS.md, and examples/tour has eight commented scripts.";
 
+/// How `ratify` is called. It and the three below it read standard input.
+pub const RATIFY_USAGE: &str = "bus ratify < FILE";
+
+/// How `replay` is called.
+pub const REPLAY_USAGE: &str = "bus replay < FILE";
+
+/// How `trace` is called.
+pub const TRACE_USAGE: &str = "bus trace [OPTIONS] < FILE";
+
+/// How `log` is called.
+pub const LOG_USAGE: &str = "bus log [OPTIONS] < FILE";
+
 /// Behind the options of `ratify`.
 pub const RATIFY: &str =
     "A script says the input of each process, 0 or 1, and then who takes a step.
