@@ -114,14 +114,14 @@ module _ {E : Type 0} (X : Election E) (P : Protocol E (Unit {0}) ℕ) where
       later = record T { visits = ring_trails b p (due X v) T.visits; deeds = ring_deeds X b p v (due X v) word answered T.deeds }
 
       turned : IsLed X P s.laws s.owner_is s.named s.announces s.apart (ring_after X b p v (due X v) word) later
-      turned = turn_led X P s.laws s.owner_is s.named s.announces s.apart b layout T led p v word answered at (due X v) refl low
+      turned = turn_led X P s.laws s.owner_is s.named s.announces s.apart b layout T led p v word answered at (due X v) refl low refl
 
       turn_last : AreLastTakers b.rows (last_of b.rows (owners_by answered p z.owners)) later.deeds
       unfolding turned
       turn_last =
           let same : l.owners.all ≡ led.leads.owners = takers_one l.owners.all led.leads.owners T.deeds l.owners.takers (fits.takers_are X P s.laws s.owner_is s.named s.announces s.apart b layout T led) in
           let told : turned.leads.owners ≡ owners_by answered p l.owners.all =
-          turn_owners X P s.laws s.owner_is s.named s.announces s.apart b layout T led p v word answered at (due X v) refl low
+          turn_owners X P s.laws s.owner_is s.named s.announces s.apart b layout T led p v word answered at (due X v) refl low refl
           ∙ ap (owners_due X v p (due X v)) (sym same) ∙ due_told X v p l.owners.all (due X v) got word in
           record {
             all = turned.leads.owners;
@@ -178,7 +178,7 @@ module _ {E : Type 0} (X : Election E) (P : Protocol E (Unit {0}) ℕ) where
         let at = there_shown (is_set (slice_get b.stopped p)) (slice_get b.guests p) v goes in
         let new : Ring E = ring_after X b p v (due X v) word in
         let base : LeadTo X (record { ring = new; owners = last_of b.rows (owners_by (answered p v word at low) p z.owners) }) (later p v word at low) = record {
-          reached = TurnTaken b T p v word (answered p v word at low) l.reached goes low;
+          reached = TurnTaken b T p v word (answered p v word at low) l.reached goes low refl;
           owners = turn_last p v word at low;
         } in
         subst (λ c. LeadTo X z' (turn_grown X b p (Some v) word c T)) (sym gives)

@@ -3,21 +3,24 @@ use Rattle.std.proofs.Common.{◌≡◌, inl, inr, ℕ, ◌+◌, ◌*◌, ◌/�
 use Rattle.std.specs.Prelude.{IsSome}
 use Rattle.bus_register.specs.declared.registers.Op.{Op}
 use Rattle.bus_register.specs.declared.registers.Op.TheVariants.{Store}
+use Rattle.bus_register.specs.Words.{register}
 use Rattle.bus_presence.specs.Sweeps.{Sweeping}
-use Rattle.bus_presence.specs.Hall.{presence_at}
+use Rattle.bus_presence.specs.Hall.{presence_at, IsReady}
 use Rattle.bus_presence.specs.Visits.{step_at}
 use Rattle.bus_presence.specs.declared.visits.Visit.{Visit}
 use Rattle.bus_presence.specs.declared.visits.Visit.TheVariants.{Away, Entering, Looking, Inside, Parting, Barred}
 use Rattle.bus_guest.specs.Guests.{Due, Visits, Sweeps, Goes, sizes_with, due_beside, core_looked, core_seen}
-use Rattle.bus_guest.specs.Telling.{FeedTells, GivesReady, Returns as Gives, Gives as Hands, Says}
-use Rattle.bus_guest.specs.Turns.{Visitor, due, op_due, op_next, placed, rest_due, visitor_due, visitor_after, answer_due, answer_after}
-use Rattle.bus_tenure.specs.Core.{Election, stage_at}
+use Rattle.bus_guest.proofs.Tells.{Shows, gives_shows}
+use Rattle.bus_guest.specs.Telling.{FeedTells, GivesReady, Returns as Gives, Gives as Hands, Says, HasPublished, Published, HandsOnSent, LacksRoom, FindsNoRoom, HandsOnFull, FindsEnd, Ended, HandsOnEnd}
+use Rattle.bus_guest.specs.Turns.{Visitor, sizes_of, due, op_due, op_next, placed, rest_due, visitor_due, visitor_after, answer_due, answer_after}
+use Rattle.bus_tenure.specs.Core.{Core, Election, stage_at}
 use Rattle.bus_tenure.specs.Seen.{AwaitsItsPage}
 use Rattle.bus_tenure.specs.Situations.{Situation, IsClosed, IsIdle, IsSpent, LooksAtStage, Elects, TakesPage, AwaitsPage, StoresWord, StoresLength, GivesBack, HasHanded, PageMove, Stays, Comes, Returns, situation_of, op_at, waits, core_begun, core_elected}
 use Rattle.bus_tenure.specs.declared.pages.Page.{Page}
 use Rattle.bus_tenure.specs.declared.phases.Phase.{Phase}
 use Rattle.bus_tenure.specs.declared.phases.Phase.TheVariants as phase
 use Rattle.bus_tenure.specs.declared.phases.Reason.{Reason}
+use Rattle.bus_tenure.specs.declared.phases.Reason.TheVariants.{Sent, FoundEnd, NoRoom}
 use Rattle.bus_tenure.specs.declared.turns.Turn.{Turn as Answered}
 use Rattle.bus_tenure.specs.declared.turns.Turn.TheVariants as turn
 use Rattle.bus_tenure.proofs.Situated.{tells}
@@ -72,26 +75,43 @@ module _ {E : Type 0} (X : Election E) (v : Visitor E) (word : ℕ) where
         ∙ ap (λ o. visitor_after X v (number_found (λ r. 0) o) word) e
         ∙ sym (ap (λ o. visitor_after X v (number_found words o) word) e)
 
-    rest_at_tells : (z : Situation E) → situation_of X v.core ≡ z → due X v ≡ Goes z → RestTells X v (rest_due X v (Goes z))
-    rest_at_tells IsClosed i e = e
-    rest_at_tells IsIdle i e = e
-    rest_at_tells IsSpent i e = e
-    rest_at_tells LooksAtStage i e = tt
-    rest_at_tells (Elects t f) i e = tt
-    rest_at_tells (TakesPage t) i e = tt
-    rest_at_tells (AwaitsPage t) i e = tt
-    rest_at_tells (StoresWord t page stored) i e = tt
-    rest_at_tells (StoresLength t page stored) i e = tt
-    rest_at_tells (GivesBack t page reason) i e = tt
-    rest_at_tells (HasHanded t reason) i e = tt
+    rest_at_tells : (z : Situation E) → situation_of X v.core ≡ z → due X v ≡ Goes z → op_at X v.core z word ≡ None → RestTells X v (rest_due X v (Goes z))
+    rest_at_tells IsClosed i e n = e
+    rest_at_tells IsIdle i e n = e
+    rest_at_tells IsSpent i e n = e
+    rest_at_tells LooksAtStage i e n = absurd cc
+    rest_at_tells (Elects t f) i e n = absurd (some_step (X.op f word) (goes t f i) n)
+    rest_at_tells (TakesPage t) i e n = absurd cc
+    rest_at_tells (AwaitsPage t) i e n = record { tenure = t; is = tells X v.core (AwaitsPage t) i }
+    rest_at_tells (StoresWord t page stored) i e n = absurd cc
+    rest_at_tells (StoresLength t page stored) i e n = absurd cc
+    rest_at_tells (GivesBack t page reason) i e n = absurd cc
+    rest_at_tells (HasHanded t reason) i e n = absurd cc
 
-    rest_tells : (d : Due E) → due X v ≡ d → RestTells X v (rest_due X v d)
-    rest_tells (Visits o) e = tt
-    rest_tells (Sweeps s o) e = tt
-    rest_tells (Goes z) e = rest_at_tells z (due_goes _ v.sweep (situation_of X v.core) z e) e
+    rest_tells : (d : Due E) → due X v ≡ d → op_due X v d word ≡ None → RestTells X v (rest_due X v d)
+    rest_tells (Visits o) e n = absurd (none_is o n)
+    rest_tells (Sweeps s o) e n = absurd (none_is o n)
+    rest_tells (Goes z) e n = rest_at_tells z (due_goes _ v.sweep (situation_of X v.core) z e) e (placed_none _ _ n)
 
     pub idle_tells : (cells : List ℕ) (r : Answered) → op_next X v word ≡ None → r ≡ rest_due X v (due X v) → StepTells X cells v (op_next X v word) word r
-    idle_tells cells r e told = subst (λ o. StepTells X cells v o word r) (sym e) (subst (RestTells X v) (sym told) (rest_tells (due X v) refl))
+    idle_tells cells r e told = subst (λ o. StepTells X cells v o word r) (sym e) (subst (RestTells X v) (sym told) (rest_tells (due X v) refl e))
+
+-- a step that found this number tells of it what the sender tells
+pub step_tells : {E : Type 0} (X : Election E) (v : Visitor E) (word : ℕ) (cells : List ℕ) (o : Op) (got : ℕ) (r : Answered) → op_next X v word ≡ Some o → got ≡ slice_index cells (register o) → FeedTells X v got word r → StepTells X cells v (op_next X v word) word r
+step_tells X v word cells o got r e found w = subst (λ d. StepTells X cells v d word r) (sym e) (subst (λ n. FeedTells X v n word r) found w)
+
+-- ---- whose page is handed on gave it back for this reason
+sent_on : {E : Type 0} (u t : ℕ) (reason : Reason) (p : Phase E) → HasPublished u p → p ≡ phase.Giving t reason → (t ≡ u) × (reason ≡ Sent)
+sent_on u t reason p (Published page stored) e = absurd cc
+sent_on u t reason p HandsOnSent e = (cc, cc)
+
+full_on : {E : Type 0} (c : Core E) (u t : ℕ) (reason : Reason) (p : Phase E) → LacksRoom c u p → p ≡ phase.Giving t reason → (t ≡ u) × (reason ≡ NoRoom)
+full_on c u t reason p (FindsNoRoom page stored more) e = absurd cc
+full_on c u t reason p HandsOnFull e = (cc, cc)
+
+ended_on : {E : Type 0} (u t : ℕ) (reason : Reason) (p : Phase E) → FindsEnd u p → p ≡ phase.Giving t reason → (t ≡ u) × (reason ≡ FoundEnd)
+ended_on u t reason p (Ended page stored end) e = absurd cc
+ended_on u t reason p HandsOnEnd e = (cc, cc)
 
 -- ---- the page goes home before the step
 module _ {E : Type 0} (X : Election E) (v : Visitor E) (home : Option Page) (word : ℕ) where
@@ -162,17 +182,45 @@ module _ {E : Type 0} (X : Election E) (v : Visitor E) (home : Option Page) (wor
       ready = w.ready;
     }
 
+    shows : (u : ℕ) (r : Reason) → (t ≡ u) × (reason ≡ r) → Shows v.core u v.core.phase r
+    shows u r w = subst (λ k. Shows v.core k v.core.phase r) w.0 (subst (Shows v.core t v.core.phase) w.1 (gives_shows X v.core t page reason here))
+
+    back_same : (u : ℕ) (z : Situation E) → Gives u z → z ≡ GivesBack t page reason → u ≡ t
+    back_same u z (Hands p r) i = cc
+    back_same u z (Says r) i = absurd cc
+
+    now : op_next X v word ≡ Some storing
+    now = ap (λ w. op_due X v w word) e
+
+    handed_ready : (u : ℕ) → GivesReady X v u → GivesReady X g t
+    handed_ready u w = record { due_is = hands t page reason e; returns = Says reason; ready = subst (λ k. IsReady (sizes_of v) k v.sweep) (back_same u _ w.returns here) w.ready }
+
     gives_too : (r : Answered) → FeedTells X g n word r → FeedTells X v n word r
-    gives_too turn.Idle w = tt
+    gives_too turn.Idle w = w
     gives_too turn.Waiting (inl w) = absurd (let bad = sym (hands t page reason e) ∙ w.looks in cc)
     gives_too turn.Waiting (inr w) = inr w
-    gives_too turn.Going w = tt
+    gives_too turn.Going w = record {
+      loses = λ u o i. w.loses u o record { parts = i.parts; lost = i.lost };
+      barred = w.barred;
+      takes = λ u i. let bad = sym here ∙ i.takes in cc;
+      gives = λ u i. w.gives t (handed_ready u i);
+      waits = λ i. let bad = sym e ∙ i.looks in cc;
+      spent = λ i. let bad = sym e ∙ i.looks in cc;
+      behind = λ u p i. let bad = sym now ∙ i.loads in cc;
+    }
     gives_too (turn.Lost u o) w = record { parts = w.parts; lost = w.lost }
     gives_too (turn.Own u) w = absurd (let bad : HasHanded t reason ≡ TakesPage u = w.takes in cc)
-    gives_too (turn.Delivered u first last) w = readies u w
-    gives_too turn.Full w = record { tenure = w.tenure; gives = readies w.tenure w.gives }
-    gives_too turn.Closed w = record { tenure = w.tenure; gives = readies w.tenure w.gives }
-    gives_too turn.Spent w = tt
+    gives_too (turn.Delivered u first last) w = record { gives = readies u w.gives; published = shows u Sent (sent_on u t reason _ w.published refl); sends = w.sends; first_is = w.first_is; last_is = w.last_is }
+    gives_too turn.Full w = record { tenure = w.tenure; gives = readies w.tenure w.gives; lacks = shows w.tenure NoRoom (full_on g.core w.tenure t reason _ w.lacks refl) }
+    gives_too turn.Closed w = record {
+      tenure = w.tenure;
+      gives = readies w.tenure w.gives;
+      why = elim w.why [
+        | inl a ↦ inl (a.0, shows w.tenure Sent (sent_on w.tenure t reason _ a.1 refl))
+        | inr a ↦ inr (shows w.tenure FoundEnd (ended_on w.tenure t reason _ a refl))
+      ];
+    }
+    gives_too turn.Spent w = absurd (let bad = sym (hands t page reason e) ∙ w.looks in cc)
     gives_too (turn.Behind u p) w = absurd (let bad = sym stores ∙ w.loads in cc)
 
   tells_before : (cells : List ℕ) (r : Answered) (d : Due E) → due X v ≡ d → StepTells X cells (handed d) (op_next X (handed d) word) word r → StepTells X cells v (op_next X v word) word r
@@ -188,8 +236,7 @@ module _ {E : Type 0} (X : Election E) (v : Visitor E) (home : Option Page) (wor
   tells_before cells r (Goes (StoresWord t page stored)) e w = w
   tells_before cells r (Goes (StoresLength t page stored)) e w = w
   tells_before cells r (Goes (GivesBack t page reason)) e w =
-      let now : op_next X v word ≡ Some (storing t page reason e 0) = ap (λ z. op_due X v z word) e in
-      subst (λ o. StepTells X cells v o word r) (sym now)
+      subst (λ o. StepTells X cells v o word r) (sym (now t page reason e 0))
       (gives_too t page reason e (slice_index cells stage_at) r (subst (λ o. StepTells X cells (g t page reason e 0) o word r) (stores t page reason e 0) w))
   tells_before cells r (Goes (HasHanded t reason)) e w = w
 

@@ -3,3 +3,4 @@ pub mod Starting
 pub mod Happening
 pub mod Telling
 pub mod Following
+pub mod Truth

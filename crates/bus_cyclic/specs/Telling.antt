@@ -6,6 +6,7 @@ use Rattle.bus_guest.specs.Guests.{Goes}
 use Rattle.bus_guest.specs.Telling.{FeedTells}
 use Rattle.bus_guest.specs.Turns.{Visitor, due, op_next}
 use Rattle.bus_tenure.specs.Core.{Election}
+use Rattle.bus_tenure.specs.Seen.{AwaitsItsPage}
 use Rattle.bus_tenure.specs.Situations.{IsClosed, IsIdle, IsSpent}
 use Rattle.bus_tenure.specs.declared.turns.Turn.{Turn as Answered}
 use Rattle.bus_tenure.specs.declared.turns.Turn.TheVariants.{Idle, Waiting, Going, Lost, Own, Delivered, Full, Closed, Spent, Behind}
@@ -14,11 +15,12 @@ use Rattle.bus_world.specs.World.{Event, Put, Close, Turn, Recv, Stop}
 use Rattle.bus_world.specs.declared.events.Answer.{Answer}
 use Rattle.bus_world.specs.declared.events.Answer.TheVariants as answer
 
--- a turn without a step tells of nothing that was done
+-- A turn without a step tells of nothing that was done. It answers Going only of a sender that awaits its page, which none does between
+-- turns.
 abbrev pub RestTells : {E : Type 0} → Election E → Visitor E → Answered → Type 0
 RestTells X v Idle = due X v ≡ Goes IsIdle
 RestTells X v Waiting = ⊥
-RestTells X v Going = Unit {0}
+RestTells X v Going = AwaitsItsPage v.core.phase
 RestTells X v (Lost t o) = ⊥
 RestTells X v (Own t) = ⊥
 RestTells X v (Delivered t first last) = ⊥
@@ -46,7 +48,9 @@ TurnTells X words (Some v) word a = AnswerTells X words v word a
 
 -- So Behind is answered only by a holder that loaded a presence with this step and found in it the tenure whose row is to be cleared;
 -- Lost only by who clears its presence after it lost that tenure to that owner; Own only by who stood in that tenure and was chosen;
--- Delivered and Full only by who gives the page back, when the row of the next tenure is ready.
+-- Delivered, Full and Closed only by who gives the page back, when the row of the next tenure is ready: Delivered with the numbers of its
+-- batch, whose frame the length has taken in, Full where its frame does not fit behind the words that the page counts. Going is answered
+-- only where none of these is due.
 abbrev pub Tells : {E : Type 0} → Election E → Ring E → Event → Answer → Type 0
 Tells X b (Put s bytes) a = Unit {0}
 Tells X b (Close s) a = Unit {0}

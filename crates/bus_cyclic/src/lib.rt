@@ -21,6 +21,7 @@
 //! ```
 #![tactic(auto)]
 
+pub mod laws;
 pub mod limits;
 pub mod shapes;
 mod starts;

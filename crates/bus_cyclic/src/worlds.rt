@@ -21,6 +21,7 @@ ghost use Rattle.bus_cyclic.specs.Happening.{Happens, Answers, Refused, seen};
 ghost use Rattle.bus_cyclic.specs.Following.{Follows, Played, Stops, StepsWithin};
 ghost use Rattle.bus_cyclic.specs.Following.{owners_with};
 ghost use Rattle.bus_cyclic.specs.Telling.{Tells};
+ghost use Rattle.bus_cyclic.specs.Truth.{TellsTrue, LossesAreSeen};
 
 use crate::limits::MOST_ROWS;
 use crate::shapes::fault_of;
@@ -293,6 +294,11 @@ impl<Q: Ratifier + Drop> CyclicWorld<Q> {
     }
 
     /// What happens next, and its answer. A refused event changes nothing. Takes no memory.
+    ///
+    /// By the deeds of all trails that lead here, with this turn: a sender that answers Lost saw the
+    /// election of that tenure end with the owner that it names, which is another sender; one that
+    /// answers Own is elected and took the page; what is Delivered is the last frame of the order;
+    /// and Full is answered only where the frame does not fit behind the log.
     pub fn step(&mut self, event: &Event) -> Result<Answer, StepFault>
         ensures is { IsEvent (event_told event.now) }
         ensures happens { let X = election_of Q.Ratifier in
@@ -307,6 +313,8 @@ impl<Q: Ratifier + Drop> CyclicWorld<Q> {
             StepsWithin X self.old.ring (event_told event.now) }
         ensures follows { let X = election_of Q.Ratifier in
             IfOk result (λ a. Follows X self.old (event_told event.now) a self.new) }
+        ensures truth { let X = election_of Q.Ratifier in
+            IfOk result (λ a. TellsTrue X self.old (event_told event.now) a) }
         ensures fault { IfErr result (Refused self.old.ring (event_told event.now)) }
         ensures refused { OnErr result (self.new ≡ self.old) }
     {
@@ -439,13 +447,18 @@ impl<Q: Ratifier + Drop> CyclicWorld<Q> {
         }
     }
 
-    /// What a bus promises: some trails lead to it, and of all trails that do the promise holds.
+    /// What a bus promises: some trails lead to it, and of all trails that do the promise holds. And
+    /// by all of them each sender that remembers to whom it lost its tenure has seen the election of
+    /// that tenure end so.
     pub fn promises(&self)
         ensures happened { let X = election_of Q.Ratifier in
             (trails : RingTrails) × LeadTo X self.now trails }
         ensures promised { let X = election_of Q.Ratifier in
             (trails : RingTrails) → LeadTo X self.now trails
             → IsKeptRing X self.now.ring trails }
+        ensures losses { let X = election_of Q.Ratifier in
+            (trails : RingTrails) → LeadTo X self.now trails
+            → LossesAreSeen self.now.ring trails.deeds }
     {
         election_is_lawful::<Q>();
         let _ = &self.shape;

@@ -4,3 +4,4 @@ pub mod Lies
 pub mod Laws
 pub mod Steps
 pub mod Tells
+pub mod Refused

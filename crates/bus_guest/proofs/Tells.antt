@@ -1,30 +1,35 @@
 -- What the answer of a guest's step tells.
-use Rattle.std.proofs.Common.{◌≡◌, inl, inr, ℕ, ◌+◌, ◌/◌, ◌<◌, Bool, true, false, cond, Option, Some, None, IsSome, IfSome, nat_lt, nat_le, ◌==◌, ◌&&◌, refl, sym, ◌∙◌, ap, subst, arith}
-use Rattle.std.proofs.lemmas.Bool.{lt-ltb}
+use Rattle.std.proofs.Common.{◌≡◌, inl, inr, ℕ, ◌+◌, ◌-◌, ◌/◌, ◌<◌, ◌≤◌, Bool, true, false, cond, Option, Some, None, IsSome, IfSome, nat_lt, nat_le, ◌==◌, ◌&&◌, refl, sym, ◌∙◌, ap, subst, arith}
+use Rattle.std.proofs.lemmas.Bool.{lt-ltb, leb-false, leb-true, true≢false}
+use Rattle.std.proofs.lemmas.Bool.Decides.{eqb_tells}
+use Rattle.std.proofs.lemmas.Option.{same_Some}
 use Rattle.bus_register.specs.declared.registers.Op.{Op}
-use Rattle.bus_register.specs.declared.registers.Op.TheVariants.{Load}
+use Rattle.bus_register.specs.declared.registers.Op.TheVariants.{Load, Store}
+use Rattle.bus_register.specs.Words.{register}
 use Rattle.bus_register.specs.declared.registers.SenderNo.{SenderNo}
-use Rattle.bus_batch.specs.Batches.{Pending}
+use Rattle.bus_batch.specs.Batches.{next_of}
 use Rattle.bus_presence.specs.Sweeps.{Sweeping, sweep_op, behind_of, is_swept}
 use Rattle.bus_presence.specs.Hall.{Sizes, presence_at, IsReady}
+use Rattle.bus_presence.specs.Visits.{step_at}
 use Rattle.bus_presence.specs.declared.visits.Visit.{Visit}
 use Rattle.bus_presence.specs.declared.visits.Visit.TheVariants.{Away, Entering, Looking, Inside, Parting, Barred}
-use Rattle.bus_tenure.specs.Core.{Election, is_closing}
-use Rattle.bus_tenure.specs.Situations.{Situation, IsClosed, IsIdle, IsSpent, LooksAtStage, Elects, TakesPage, AwaitsPage, StoresWord, StoresLength, GivesBack, HasHanded, situation_of, waits, answer_of_stage, answer_of_return}
+use Rattle.bus_tenure.specs.Core.{Core, Election, stage_at, is_closing, has_room, frame_len}
+use Rattle.bus_tenure.specs.Situations.{Situation, IsClosed, IsIdle, IsSpent, LooksAtStage, Elects, TakesPage, AwaitsPage, StoresWord, StoresLength, GivesBack, HasHanded, situation_at, situation_of, waits, answer_of_stage, answer_of_return}
 use Rattle.bus_tenure.specs.Seen.{tenure_of}
+use Rattle.bus_tenure.specs.declared.pages.Page.{Page}
 use Rattle.bus_tenure.specs.declared.phases.Reason.{Reason}
 use Rattle.bus_tenure.specs.declared.phases.Reason.TheVariants.{Sent, FoundEnd, NoRoom}
 use Rattle.bus_tenure.specs.declared.phases.Phase.{Phase}
-use Rattle.bus_tenure.specs.declared.phases.Phase.TheVariants.{Giving}
+use Rattle.bus_tenure.specs.declared.phases.Phase.TheVariants.{Holding, Giving}
 use Rattle.bus_tenure.specs.declared.turns.Turn.{Turn}
 use Rattle.bus_tenure.specs.declared.turns.Turn.TheVariants as turn
 use Rattle.bus_tenure.proofs.Situated.{tells}
-use Rattle.bus_guest.specs.Guests.{Due, Visits, Sweeps, Goes, due_beside, due_home, due_swept, sweep_due}
+use Rattle.bus_guest.specs.Guests.{Due, Visits, Sweeps, Goes, sizes_with, due_beside, due_home, due_swept, sweep_due}
 use Rattle.bus_guest.specs.Turns.{Visitor, sizes_of, due, op_due, op_next, answer_of_loss, answer_of_visit, answer_of_sweep, answer_going, answer_due, answer_after}
 use Rattle.bus_guest.specs.Besides.{sweeps_by, due_by}
-use Rattle.bus_guest.specs.declared.besides.Beside.TheVariants.{Sweep}
+use Rattle.bus_guest.specs.declared.besides.Beside.TheVariants.{Sweep, Visit as VisitsBy}
 use Rattle.bus_guest.specs.Keeping.{held_of, SweepKeeps, IsHeldSweep, GuestKeeps}
-use Rattle.bus_guest.specs.Telling.{FeedTells, Returns, Gives, Says, GivesReady}
+use Rattle.bus_guest.specs.Telling.{FeedTells, Returns, Gives, Says, GivesReady, IsBarred, Withdraws, IsChosen, IsBehind, TellsNoMore, HasPublished, Published, HandsOnSent, LacksRoom, FindsNoRoom, HandsOnFull, FindsEnd, Ended, HandsOnEnd}
 use Rattle.bus_guest.proofs.Keeps.{goes_beside, swept_beside, runs_inside}
 
 -- ---- a sweep that is due
@@ -62,24 +67,132 @@ handed_of : {E : Type 0} (x : Sizes) (p : Phase E) (s : Option Sweeping) (t : �
 handed_of x p None t reason k is = tt
 handed_of x p (Some s) t reason k is = k.handed t reason is
 
-module _ {E : Type 0} (X : Election E) (v : Visitor E) (got word : ℕ) where
-  -- ---- of a step of its visit
-  parts : (t : ℕ) (l : Option SenderNo) → v.visit ≡ Parting t → v.lost ≡ l → FeedTells X v got word (answer_of_loss t l)
-  parts t None e f = tt
-  parts t (Some o) e f = record { parts = e; lost = f }
+-- ---- why a page is given back
+abbrev WhyGiven : Reason → Bool → Bool → Bool → Type 0
+WhyGiven Sent published ended room = published ≡ true
+WhyGiven FoundEnd published ended room = (published ≡ false) × (ended ≡ true)
+WhyGiven NoRoom published ended room = (published ≡ false) × (room ≡ false)
 
-  visits : (u : Visit) → v.visit ≡ u → FeedTells X v got word (answer_of_visit u v.lost)
-  visits Away e = tt
-  visits (Entering t) e = tt
-  visits (Looking t) e = tt
-  visits (Inside t) e = tt
-  visits (Parting t) e = parts t v.lost e refl
-  visits (Barred t) e = inr record { tenure = t; is = e }
+module _ {E : Type 0} (t : ℕ) (page given : Page) (stored : ℕ) (reason : Reason) where
+  reason_is : (r : Reason) → ◌≡◌ {A = Situation E} (GivesBack t page r) (GivesBack t given reason) → r ≡ reason
+  reason_is r e = cc
+
+  given_for : (published ended room more : Bool)
+      → ◌≡◌ {A = Situation E} (cond published (GivesBack t page Sent) (cond ended (GivesBack t page FoundEnd) (cond room (cond more (StoresWord t page stored) (StoresLength t page stored)) (GivesBack t page NoRoom)))) (GivesBack t given reason)
+      → WhyGiven reason published ended room
+  given_for true ended room more e = subst (λ r. WhyGiven r true ended room) (reason_is Sent e) refl
+  given_for false true room more e = subst (λ r. WhyGiven r false true room) (reason_is FoundEnd e) (refl, refl)
+  given_for false false true true e = absurd cc
+  given_for false false true false e = absurd cc
+  given_for false false false more e = subst (λ r. WhyGiven r false false false) (reason_is NoRoom e) (refl, refl)
+
+-- what the holder's phase shows of the reason
+abbrev pub Shows : {E : Type 0} → Core E → ℕ → Phase E → Reason → Type 0
+Shows c t p Sent = HasPublished t p
+Shows c t p FoundEnd = FindsEnd t p
+Shows c t p NoRoom = LacksRoom c t p
+
+shown_held : {E : Type 0} (c : Core E) (t : ℕ) (page : Page) (stored : ℕ) (published : Bool) (reason : Reason) → WhyGiven reason published page.ended (has_room c page) → Shows c t (Holding t page stored published) reason
+shown_held {E} c t page stored published Sent w = subst (λ b. HasPublished {E = E} t (Holding t page stored b)) (sym w) (Published page stored)
+shown_held {E} c t page stored published FoundEnd w = subst (λ b. FindsEnd {E = E} t (Holding t page stored b)) (sym w.0) (Ended page stored w.1)
+shown_held {E} c t page stored published NoRoom w = subst (λ b. LacksRoom c t (Holding t page stored b)) (sym w.0) (FindsNoRoom page stored (leb-false (page.words + frame_len c) c.layout.capacity w.1))
+
+shown_handed : {E : Type 0} (c : Core E) (t : ℕ) (reason : Reason) → Shows c t (Giving t reason) reason
+shown_handed c t Sent = HandsOnSent
+shown_handed c t FoundEnd = HandsOnEnd
+shown_handed c t NoRoom = HandsOnFull
+
+pub gives_shows : {E : Type 0} (X : Election E) (c : Core E) (t : ℕ) (page : Page) (reason : Reason) → situation_of X c ≡ GivesBack t page reason → Shows c t c.phase reason
+gives_shows X c t page reason i =
+    let at = tells X c (GivesBack t page reason) i in
+    let why = given_for t page page at.0 reason at.1 page.ended (has_room c page) (nat_lt at.0 (frame_len c)) (sym (ap (situation_at X c) at.2) ∙ i) in
+    subst (λ p. Shows c t p reason) (sym at.2) (shown_held c t page at.0 at.1 reason why)
+
+-- ---- what is due of no visit
+home_no_visit : {E : Type 0} (s : Option Sweeping) (z : Situation E) (o : Op) → due_home s z ≡ Visits o → ⊥
+home_no_visit None z o e = cc
+home_no_visit (Some s) z o e = by_step (sweep_op s) e
+  where
+    by_step : (d : Option Op) → due_swept s d z ≡ Visits o → ⊥
+    by_step None e = cc
+    by_step (Some p) e = cc
+
+returns_no : {E : Type 0} (t : ℕ) (z : Situation E) → Returns t z → (z ≡ LooksAtStage → ⊥) × (((u : ℕ) (e : E) → z ≡ Elects u e → ⊥) × ((u : ℕ) → z ≡ AwaitsPage u → ⊥) × ((u : ℕ) (page : Page) (stored : ℕ) → z ≡ StoresWord u page stored → ⊥) × ((u : ℕ) (page : Page) (stored : ℕ) → z ≡ StoresLength u page stored → ⊥))
+returns_no t z (Gives page reason) = ((λ e. cc), ((λ u f e. cc), (λ u e. cc), (λ u q stored e. cc), (λ u q stored e. cc)))
+returns_no t z (Says reason) = ((λ e. cc), ((λ u f e. cc), (λ u e. cc), (λ u q stored e. cc), (λ u q stored e. cc)))
+
+module _ {E : Type 0} (X : Election E) (v : Visitor E) (got word : ℕ) where
+  -- ---- what is due in each case
+  abbrev due_at : Visit → Situation E → Due E
+  due_at u z = due_beside (step_at u (presence_at (sizes_with v.core.layout v.rows) v.core.me) stage_at) v.sweep z
+
+  visit_due : (u : Visit) → v.visit ≡ u → due X v ≡ due_at u (situation_of X v.core)
+  visit_due u e = ap (λ w. due_at w (situation_of X v.core)) e
+
+  parting_due : (t : ℕ) → v.visit ≡ Parting t → due X v ≡ Visits (Store record { 0 = presence_at (sizes_of v) v.core.me } 0)
+  parting_due t e = visit_due (Parting t) e
+
+  barred_due : (t : ℕ) → v.visit ≡ Barred t → due X v ≡ Visits (Store record { 0 = presence_at (sizes_of v) v.core.me } 0)
+  barred_due t e = visit_due (Barred t) e
+
+  chosen_due : (t : ℕ) → IsChosen X v t → due X v ≡ Goes (TakesPage t)
+  chosen_due t w = visit_due (Inside t) w.inside ∙ ap (due_at (Inside t)) w.takes
+
+  -- ---- of a step of its visit
+  visit_quiet : (o : Op) → due X v ≡ Visits o → ((t : ℕ) (w : SenderNo) → Withdraws v t w → ⊥) → (IsBarred v.visit → ⊥) → ((p : ℕ) → o ≡ Load record { 0 = presence_at (sizes_of v) p } → ⊥) → TellsNoMore X v got word
+  visit_quiet o e loses barred loads = record {
+    loses = loses;
+    barred = barred;
+    takes = λ t w. let bad = sym e ∙ chosen_due t w in cc;
+    gives = λ t w. let bad = sym e ∙ w.due_is in cc;
+    waits = λ w. let bad = sym e ∙ w.looks in cc;
+    spent = λ w. let bad = sym e ∙ w.looks in cc;
+    behind = λ t p w. loads p (same_Some _ _ (sym (ap (λ d. op_due X v d word) e) ∙ w.loads));
+  }
+
+  parts : (o : Op) → due X v ≡ Visits o → (t : ℕ) (l : Option SenderNo) → v.visit ≡ Parting t → v.lost ≡ l → FeedTells X v got word (answer_of_loss t l)
+  parts o d t None e f = visit_quiet o d
+      (λ u w i. let bad = sym f ∙ i.lost in cc)
+      (λ b. let bad = sym e ∙ b.is in cc)
+      (λ p i. let step = sym d ∙ parting_due t e in cc)
+  parts o d t (Some l) e f = record { parts = e; lost = f }
+
+  visits : (o : Op) → due X v ≡ Visits o → (u : Visit) → v.visit ≡ u → FeedTells X v got word (answer_of_visit u v.lost)
+  visits o d Away e = absurd (home_no_visit (sweep_due (situation_of X v.core) v.sweep) (situation_of X v.core) o (sym (visit_due Away e) ∙ d))
+  visits o d (Entering t) e = visit_quiet o d
+      (λ u w i. let bad = sym e ∙ i.parts in cc)
+      (λ b. let bad = sym e ∙ b.is in cc)
+      (λ p i. let step = sym d ∙ visit_due (Entering t) e in cc)
+  visits o d (Looking t) e = visit_quiet o d
+      (λ u w i. let bad = sym e ∙ i.parts in cc)
+      (λ b. let bad = sym e ∙ b.is in cc)
+      (λ p i. loads_stage p (sym i ∙ visit_step o _ (sym d ∙ visit_due (Looking t) e)))
+    where
+      visit_step : (p q : Op) → ◌≡◌ {A = Due E} (Visits p) (Visits q) → p ≡ q
+      visit_step p q i = cc
+
+      loads_stage : (p : ℕ) → Load record { 0 = presence_at (sizes_of v) p } ≡ Load record { 0 = stage_at } → ⊥
+      loads_stage p i = let n = ap register i in omega arith
+  visits o d (Inside t) e = absurd (home_no_visit (sweep_due (situation_of X v.core) v.sweep) (situation_of X v.core) o (sym (visit_due (Inside t) e) ∙ d))
+  visits o d (Parting t) e = parts o d t v.lost e refl
+  visits o d (Barred t) e = inr record { tenure = t; is = e }
 
   -- ---- of a step of its sweep
-  asks : (s : Sweeping) (o : Op) → IsHeldSweep (sizes_of v) v.core.phase s → op_next X v word ≡ Some o → (a b : Bool) (rest : Option Op) → nat_lt s.asked s.senders ≡ a → (got == 1 + s.past) ≡ b
-      → cond a (Some (Load record { 0 = s.presences + s.asked })) rest ≡ Some o → FeedTells X v got word (answer_of_sweep (cond (a && b) (Some record { tenure = s.past; sender = s.asked }) None))
-  asks s o k next true true rest p q e =
+  sweep_quiet : (s : Sweeping) (o : Op) → due X v ≡ Sweeps s o → ((t p : ℕ) → IsBehind X v got word t p → ⊥) → TellsNoMore X v got word
+  sweep_quiet s o e behind = record {
+    loses = λ t w i. let bad = sym e ∙ parting_due t i.parts in cc;
+    barred = λ b. let bad = sym e ∙ barred_due b.tenure b.is in cc;
+    takes = λ t w. let bad = sym e ∙ chosen_due t w in cc;
+    gives = λ t w. let bad = sym e ∙ w.due_is in cc;
+    waits = λ w. let bad = sym e ∙ w.looks in cc;
+    spent = λ w. let bad = sym e ∙ w.looks in cc;
+    behind = behind;
+  }
+
+  asks : (s : Sweeping) (o : Op) → due X v ≡ Sweeps s o → IsHeldSweep (sizes_of v) v.core.phase s → op_next X v word ≡ Some o → (a b c : Bool) → nat_lt s.asked s.senders ≡ a → (got == 1 + s.past) ≡ b
+      → cond a (Some (Load record { 0 = s.presences + s.asked })) (cond c (Some (Store record { 0 = s.row + s.cleared } 0)) None) ≡ Some o
+      → FeedTells X v got word (answer_of_sweep (cond (a && b) (Some record { tenure = s.past; sender = s.asked }) None))
+  asks s o d k next true true c p q e =
       let from = k.after.presences in
       let many = k.after.senders in
       let below : s.asked < s.senders = grind (arith, lt-ltb, p) in
@@ -92,55 +205,93 @@ module _ {E : Type 0} (X : Election E) (v : Visitor E) (got word : ℕ) where
         held = k.held;
         past = k.after.past;
       }
-  asks s o k next true false rest p q e = tt
-  asks s o k next false b rest p q e = tt
+  asks s o d k next true false c p q e = sweep_quiet s o d (λ t r w.
+      let same : k.tenure ≡ w.tenure = same_Some _ _ (sym k.held ∙ w.held) in
+      let mine = k.after.past in
+      let its = w.past in
+      let found = w.found in
+      elim (eqb_tells got (1 + s.past)) [ inl y ↦ true≢false (sym y.0 ∙ q) | inr n ↦ n.1 (omega arith) ])
+  asks s o d k next false b true p q e = sweep_quiet s o d (λ t r w. let bad = e ∙ sym next ∙ w.loads in cc)
+  asks s o d k next false b false p q e = absurd cc
 
   -- ---- of a step of its own
-  looks : (a b : Bool) → waits v.core got ≡ a → due X v ≡ Goes LooksAtStage → FeedTells X v got word (cond a turn.Waiting (cond b turn.Spent turn.Going))
-  looks true b e d = inl record { looks = d; waits = e }
-  looks false true e d = tt
-  looks false false e d = tt
+  goes_is : (z w : Situation E) → Goes z ≡ Goes w → z ≡ w
+  goes_is z w e = cc
 
-  closes : (b : Bool) (t first last : ℕ) → GivesReady X v t → FeedTells X v got word (cond b turn.Closed (turn.Delivered t first last))
-  closes true t first last g = record { tenure = t; gives = g }
-  closes false t first last g = g
+  goes_quiet : (z : Situation E) → due X v ≡ Goes z → ((t : ℕ) → z ≡ TakesPage t → ⊥) → ((t : ℕ) → Returns t z → ⊥) → (z ≡ LooksAtStage → waits v.core got ≡ true → ⊥) → (z ≡ LooksAtStage → v.core.layout.rows ≤ got / 2 → ⊥)
+      → situation_of X v.core ≡ z → ((t p : ℕ) → IsBehind X v got word t p → ⊥) → TellsNoMore X v got word
+  goes_quiet z e takes returns vain past here behind = record {
+    loses = λ t w i. let bad = sym e ∙ parting_due t i.parts in cc;
+    barred = λ b. let bad = sym e ∙ barred_due b.tenure b.is in cc;
+    takes = λ t w. takes t (goes_is z (TakesPage t) (sym e ∙ chosen_due t w));
+    gives = λ t w. returns t (subst (Returns t) here w.returns);
+    waits = λ w. vain (goes_is z LooksAtStage (sym e ∙ w.looks)) w.waits;
+    spent = λ w. past (goes_is z LooksAtStage (sym e ∙ w.looks)) w.past;
+    behind = behind;
+  }
 
-  returned : (q : Pending) (t : ℕ) (reason : Reason) → GivesReady X v t → FeedTells X v got word (answer_of_return q t reason)
-  returned q t Sent g = closes (is_closing q.phase) t q.first _ g
-  returned q t FoundEnd g = record { tenure = t; gives = g }
-  returned q t NoRoom g = record { tenure = t; gives = g }
+  -- who holds no page is behind nobody
+  unheld : held_of v.core.phase ≡ None → (t p : ℕ) → IsBehind X v got word t p → ⊥
+  unheld none t p w = let bad = sym none ∙ w.held in cc
+
+  -- and who loads no word
+  unloaded : (d : Option Op) → op_next X v word ≡ d → ((r : ℕ) → d ≡ Some (Load record { 0 = r }) → ⊥) → (t p : ℕ) → IsBehind X v got word t p → ⊥
+  unloaded d next free t p w = free (presence_at (sizes_of v) p) (sym next ∙ w.loads)
+
+  looks : (a b : Bool) → waits v.core got ≡ a → nat_le v.core.layout.rows (got / 2) ≡ b → situation_of X v.core ≡ LooksAtStage → due X v ≡ Goes LooksAtStage → FeedTells X v got word (cond a turn.Waiting (cond b turn.Spent turn.Going))
+  looks true b e f i d = inl record { looks = d; waits = e }
+  looks false true e f i d = record { looks = d; enters = e; past = leb-true v.core.layout.rows (got / 2) f }
+  looks false false e f i d = goes_quiet LooksAtStage d (λ t w. cc) (λ t w. (returns_no t LooksAtStage w).0 refl)
+      (λ w y. true≢false (sym y ∙ e)) (λ w y. let n = leb-false v.core.layout.rows (got / 2) f in omega arith) i (unheld (ap held_of (tells X v.core LooksAtStage i)))
+
+  closes : (b : Bool) → is_closing v.core.queue.phase ≡ b → (t : ℕ) → GivesReady X v t → HasPublished t v.core.phase → FeedTells X v got word (cond b turn.Closed (turn.Delivered t v.core.queue.first (next_of v.core.queue - 1)))
+  closes true e t g w = record { tenure = t; gives = g; why = inl (e, w) }
+  closes false e t g w = record { gives = g; published = w; sends = e; first_is = refl; last_is = refl }
+
+  returned : (t : ℕ) (reason : Reason) → GivesReady X v t → Shows v.core t v.core.phase reason → FeedTells X v got word (answer_of_return v.core.queue t reason)
+  returned t Sent g w = closes (is_closing v.core.queue.phase) refl t g w
+  returned t FoundEnd g w = record { tenure = t; gives = g; why = inr w }
+  returned t NoRoom g w = record { tenure = t; gives = g; lacks = w }
 
   module _ (width : ℕ) (Belongs : ℕ → E → Type 0) (k : GuestKeeps width Belongs v) where
     goes : (z : Situation E) → situation_of X v.core ≡ z → due X v ≡ Goes z → IsSome (op_due X v (Goes z) word) → FeedTells X v got word (answer_going X v.core z got word)
     goes IsClosed i d h = absurd (let q : false ≡ true = h in cc)
-    goes IsIdle i d h = tt
-    goes IsSpent i d h = tt
-    goes LooksAtStage i d h = looks (waits v.core got) (nat_le v.core.layout.rows (got / 2)) refl d
-    goes (Elects t e) i d h = tt
+    goes IsIdle i d h = absurd (let q : false ≡ true = h in cc)
+    goes IsSpent i d h = absurd (let q : false ≡ true = h in cc)
+    goes LooksAtStage i d h = looks (waits v.core got) (nat_le v.core.layout.rows (got / 2)) refl refl i d
+    goes (Elects t e) i d h = goes_quiet (Elects t e) d (λ u w. cc) (λ u w. (returns_no u (Elects t e) w).1.0 t e refl) (λ w y. cc) (λ w y. absurd cc) i (unheld (ap held_of (tells X v.core (Elects t e) i).0))
     goes (TakesPage t) i d h = let t1 = tells X v.core (TakesPage t) i in record { inside = (runs_inside Belongs v.core v.visit t t1.0 k.visit t1.1).0; takes = i }
-    goes (AwaitsPage t) i d h = tt
-    goes (StoresWord t page stored) i d h = tt
-    goes (StoresLength t page stored) i d h = tt
+    goes (AwaitsPage t) i d h = absurd (let q : false ≡ true = h in cc)
+    goes (StoresWord t page stored) i d h = goes_quiet (StoresWord t page stored) d (λ u w. cc) (λ u w. (returns_no u (StoresWord t page stored) w).1.2 t page stored refl) (λ w y. cc) (λ w y. absurd cc) i
+        (unloaded _ (ap (λ d. op_due X v d word) d) (λ r e. cc))
+    goes (StoresLength t page stored) i d h = goes_quiet (StoresLength t page stored) d (λ u w. cc) (λ u w. (returns_no u (StoresLength t page stored) w).1.3 t page stored refl) (λ w y. cc) (λ w y. absurd cc) i
+        (unloaded _ (ap (λ d. op_due X v d word) d) (λ r e. cc))
     goes (GivesBack t page reason) i d h =
-        let held = ap held_of (tells X v.core (GivesBack t page reason) i).2 in
+        let at = tells X v.core (GivesBack t page reason) i in
+        let held = ap held_of at.2 in
         let done = swept_beside _ _ _ _ d t page reason i in
-        returned v.core.queue t reason record { due_is = d ∙ ap Goes (sym i); returns = subst (Returns t) (sym i) (Gives page reason); ready = ready_of (sizes_of v) v.core.phase v.sweep t k.sweep held done }
+        returned t reason record { due_is = d ∙ ap Goes (sym i); returns = subst (Returns t) (sym i) (Gives page reason); ready = ready_of (sizes_of v) v.core.phase v.sweep t k.sweep held done }
+        (gives_shows X v.core t page reason i)
     goes (HasHanded t reason) i d h =
         let at = tells X v.core (HasHanded t reason) i in
         let done = handed_of (sizes_of v) v.core.phase v.sweep t reason k.sweep at in
-        returned v.core.queue t reason record { due_is = d ∙ ap Goes (sym i); returns = subst (Returns t) (sym i) (Says reason); ready = ready_of (sizes_of v) v.core.phase v.sweep t k.sweep (ap held_of at) done }
+        returned t reason record { due_is = d ∙ ap Goes (sym i); returns = subst (Returns t) (sym i) (Says reason); ready = ready_of (sizes_of v) v.core.phase v.sweep t k.sweep (ap held_of at) done }
+        (subst (λ p. Shows v.core t p reason) (sym at) (shown_handed v.core t reason))
 
     by : (d : Due E) → due X v ≡ d → IsSome (op_due X v d word) → FeedTells X v got word (answer_due X v d got word)
-    by (Visits o) e h = visits v.visit refl
+    by (Visits o) e h = visits o e v.visit refl
     by (Sweeps s o) e h =
         let f = sweeps_beside _ _ _ s o e in
-        asks s o (subst (SweepKeeps (sizes_of v) v.core.phase) f.0 k.sweep) (ap (λ d. op_due X v d word) e) (nat_lt s.asked s.senders) (got == 1 + s.past) _ refl refl f.1
+        asks s o e (subst (SweepKeeps (sizes_of v) v.core.phase) f.0 k.sweep) (ap (λ d. op_due X v d word) e) (nat_lt s.asked s.senders) (got == 1 + s.past) (nat_lt s.cleared s.width) refl refl f.1
     by (Goes z) e h = goes z (goes_beside _ _ _ _ e) e h
 
     pub told : IsSome (op_next X v word) → FeedTells X v got word (answer_after X v got word)
     told h = by (due X v) refl h
 
     -- ---- from what the calls gave
+    pub told_visit : (r : Turn) (o : Op) → due X v ≡ due_by (VisitsBy o) v.sweep (situation_of X v.core) → r ≡ answer_of_visit v.visit v.lost → IsSome (op_next X v word) → FeedTells X v got word r
+    told_visit r o d a req = subst (FeedTells X v got word) (ap (λ y. answer_due X v y got word) d ∙ sym a) (told req)
+
     pub told_sweep : (r : Turn) (o : Op) → due X v ≡ due_by (Sweep o) v.sweep (situation_of X v.core) → IsSome v.sweep → ((s : Sweeping) → v.sweep ≡ Some s → r ≡ answer_of_sweep (behind_of s got)) → IsSome (op_next X v word) → FeedTells X v got word r
     told_sweep r o d h a req = pick v.sweep refl h d where
       pick : (l : Option Sweeping) → v.sweep ≡ l → IsSome l → due X v ≡ sweeps_by l o (situation_of X v.core) → FeedTells X v got word r

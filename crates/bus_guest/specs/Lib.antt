@@ -5,3 +5,4 @@ pub mod Places
 pub mod Besides
 pub mod Following
 pub mod Telling
+pub mod Refused

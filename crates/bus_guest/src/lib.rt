@@ -4,6 +4,7 @@
 
 pub mod besides;
 pub mod guests;
+pub mod refusals;
 
 pub use guests::Guest;
 

@@ -24,7 +24,7 @@ use Rattle.bus_presence.specs.declared.visits.Visit.{Visit}
 use Rattle.bus_presence.specs.declared.visits.Visit.TheVariants.{Away, Entering, Looking, Inside, Parting, Barred}
 use Rattle.bus_guest.specs.Guests.{log_from, Due, Visits, Sweeps, Goes, due_of, due_beside, due_home, due_swept, sweep_due, sizes_with, place_for, core_looked, core_seen, core_going, visit_going, sweep_going}
 use Rattle.bus_guest.specs.Keeping.{held_of}
-use Rattle.bus_guest.specs.Turns.{Visitor, due, op_due, on_place, placed, visitor_due, queue_seen}
+use Rattle.bus_guest.specs.Turns.{Visitor, due, op_due, on_place, placed, visitor_due, answer_due, answer_going, queue_seen}
 use Rattle.bus_tenure.specs.Core.{Core, Election, Layout, stage_at}
 use Rattle.bus_tenure.specs.Situations.{Situation, IsClosed, IsIdle, IsSpent, LooksAtStage, Elects, TakesPage, AwaitsPage, StoresWord, StoresLength, GivesBack, HasHanded, PageMove, situation_of, line_of, op_at, core_begun, core_elected, waits}
 use Rattle.bus_tenure.specs.declared.pages.Page.{Page}
@@ -39,7 +39,7 @@ use Rattle.bus_world.specs.Headline.{Deed, HasPut, HasClosed}
 use Rattle.bus_world.specs.Rings.{Ring, yard_of, visit_in, core_in, Leads, IsRing, IsNewRing, IsOnWord, IsKeptRing, RingTrails, RingReached, NewRing, TurnTaken, PutTaken, CloseTaken, RecvTaken, StopTaken, guest_going, with_guest, visitor_put, visitor_closed, move_due, visitor_moved, ring_after, ring_trails, ring_deeds}
 use Rattle.bus_world.specs.Tenures.Standing.{Holds}
 use Rattle.bus_world.specs.Turning.{words_after, number_found, core_moved, after_step, home_after, owners_after}
-use Rattle.bus_world.specs.Yards.{Yard, Led, NewYard, Turned, PutIn, ClosedIn, Heard, due_in, due_deeds, deeds_with, no_deeds, no_answers, answers_with, trails_with, yard_after, words_stepped, word_found}
+use Rattle.bus_world.specs.Yards.{Yard, Led, NewYard, Turned, PutIn, ClosedIn, Heard, AnswersDue, due_in, due_deeds, deeds_with, no_deeds, no_answers, answers_with, trails_with, yard_after, words_stepped, word_found}
 use Rattle.bus_world.specs.World.{RecvDoes, is_set, is_open, can_put, can_close, new_core}
 use Rattle.bus_world.proofs.Beginning.{zeros}
 use Rattle.bus_world.proofs.TenuresLaws as tenures
@@ -206,9 +206,9 @@ module _ {E : Type 0} (X : Election E) (P : Protocol E (Unit {0}) ℕ) (laws : L
         ∙ ap (λ w. due_of X b.layout b.rows s v.core w v.sweep) (sym visit_is)
         ∙ beside_same (step_at (y.hall.visits s) (presence_at (sizes_with b.layout b.rows) s) stage_at)
 
-    led_as : (d : Due E) → due X v ≡ d → Led X b.layout b.rows (yard_after X b.layout b.rows y s v.core d word) (trails_with y s d T) (deeds_with s (due_deeds X b.layout b.rows y v.core d word answer) D) H
-    led_as d e = subst (λ w. Led X b.layout b.rows (yard_after X b.layout b.rows y s v.core w word) (trails_with y s w T) (deeds_with s (due_deeds X b.layout b.rows y v.core w word answer) D) H) (sym due_same ∙ e)
-        (Turned y T D H s v.core word answer l.led old)
+    led_as : (d : Due E) → due X v ≡ d → AnswersDue X b.layout b.rows y v.core d word answer → Led X b.layout b.rows (yard_after X b.layout b.rows y s v.core d word) (trails_with y s d T) (deeds_with s (due_deeds X b.layout b.rows y v.core d word answer) D) H
+    led_as d e = subst (λ w. AnswersDue X b.layout b.rows y v.core w word answer → Led X b.layout b.rows (yard_after X b.layout b.rows y s v.core w word) (trails_with y s w T) (deeds_with s (due_deeds X b.layout b.rows y v.core w word answer) D) H) (sym due_same ∙ e)
+        (λ told. Turned y T D H s v.core word answer l.led old told)
 
     -- ---- who holds the page afterwards
     holder_after : (v' : Visitor E) (sweep : Option Sweeping) → ((t : ℕ) → held_of v'.core.phase ≡ Some t → v'.sweep ≡ sweep)
@@ -253,7 +253,7 @@ module _ {E : Type 0} (X : Election E) (P : Protocol E (Unit {0}) ℕ) (laws : L
               (sym (index_put b.words (register o) (after o got) low))
               (ap (λ u. put s (visit_fed u got) y.hall.visits) visit_is ∙ sym (list_put visit_in b.guests s v' within))
               (ap (λ u. put s (Some (core_looked X v.core u got)) y.senders) visit_is ∙ sym (list_put core_in b.guests s v' within)))
-              (led_as (Visits o) e);
+              (led_as (Visits o) e tt);
         }
 
     -- ---- a step of its sweep
@@ -272,7 +272,7 @@ module _ {E : Type 0} (X : Election E) (P : Protocol E (Unit {0}) ℕ) (laws : L
               (sym (index_put b.words (register o) (after o got) low))
               (sym (put_is s v.visit y.hall.visits visit_is) ∙ sym (list_put visit_in b.guests s v' within))
               (sym (put_is s (Some v.core) y.senders old) ∙ sym (list_put core_in b.guests s v' within)))
-              (led_as (Sweeps r o) e);
+              (led_as (Sweeps r o) e tt);
         }
 
     -- ---- as a sender that has a row for each tenure
@@ -296,8 +296,8 @@ module _ {E : Type 0} (X : Election E) (P : Protocol E (Unit {0}) ℕ) (laws : L
       got_is = ap (λ f. number_found (slice_index b.words) (placed f step)) (place_same z) ∙ placed_found (place_for b.layout b.rows z) (slice_index b.words) step
 
       goes_as : ((t : ℕ) → held_of v'.core.phase ≡ Some t → v'.sweep ≡ sweep') → ((p : ℕ) (w : Visitor E) (t : ℕ) → p ≢ s → slice_get b.guests p ≡ Some w → held_of w.core.phase ≡ Some t → l.sweep ≡ sweep')
-          → ((o : Op) → op_due X v (Goes z) word ≡ Some o → register o < length b.words) → Leads X (ring_after X b s v (Goes z) word) (ring_trails b s (Goes z) T) (ring_deeds X b s v (Goes z) word answer D) H
-      goes_as own others low = record {
+          → ((o : Op) → op_due X v (Goes z) word ≡ Some o → register o < length b.words) → answer ≡ answer_going X v.core z got word → Leads X (ring_after X b s v (Goes z) word) (ring_trails b s (Goes z) T) (ring_deeds X b s v (Goes z) word answer D) H
+      goes_as own others low told = record {
         owners = (yard_after X b.layout b.rows y s v.core (Goes z) word).owners;
         sweep = sweep';
         holder = holder_after v' sweep' own others;
@@ -306,7 +306,7 @@ module _ {E : Type 0} (X : Election E) (P : Protocol E (Unit {0}) ℕ) (laws : L
             (sym (ap (λ f. slice_index (words_after b.words (placed f step))) (place_same z) ∙ placed_words (place_for b.layout b.rows z) b.words step (λ o i. low o (ap (λ f. placed f step) (place_same z) ∙ i))))
             (ap (λ u. put s (visit_going X v.core u z (word_found (place_for b.layout b.rows z) y.hall.words step) word) y.hall.visits) visit_is ∙ ap (λ g. put s (visit_going X v.core v.visit z g word) y.hall.visits) (sym got_is) ∙ sym (list_put visit_in b.guests s v' within))
             (ap (λ g. put s (Some (core_moved (after_step (line_of X v.core z).move) b.home (core_going X v.core z g word))) y.senders) (sym got_is) ∙ sym (list_put core_in b.guests s v' within)))
-            (led_as (Goes z) e);
+            (led_as (Goes z) e (told ∙ ap (λ g. answer_going X v.core z g word) got_is));
       }
 
     -- who held the page before, and holds it still
@@ -347,6 +347,7 @@ module _ {E : Type 0} (X : Election E) (P : Protocol E (Unit {0}) ℕ) (laws : L
         owner_of (Some u) i = (u, refl)
 
     goes_lead : (z : Situation E) → situation_of X v.core ≡ z → due X v ≡ Goes z → ((o : Op) → op_due X v (Goes z) word ≡ Some o → register o < length b.words)
+        → answer ≡ answer_going X v.core z (number_found (slice_index b.words) (op_due X v (Goes z) word)) word
         → Leads X (ring_after X b s v (Goes z) word) (ring_trails b s (Goes z) T) (ring_deeds X b s v (Goes z) word answer D) H
     goes_lead IsClosed here e = goes_as IsClosed here e (λ t f. kept_sweep t f) (λ p w t ne there f. refl)
     goes_lead IsIdle here e = goes_as IsIdle here e (λ t f. kept_sweep t f) (λ p w t ne there f. refl)
@@ -361,19 +362,20 @@ module _ {E : Type 0} (X : Election E) (P : Protocol E (Unit {0}) ℕ) (laws : L
     goes_lead (GivesBack t page reason) here e = goes_as (GivesBack t page reason) here e (λ r f. refl) (nobody_else t (gives_held t page reason here) None)
     goes_lead (HasHanded t reason) here e = absurd (subst (Fits k.V k.frames v.core) (tells X v.core (HasHanded t reason) here) part.fits)
 
-    goes_owners : (z : Situation E) (here : situation_of X v.core ≡ z) (e : due X v ≡ Goes z) (low : (o : Op) → op_due X v (Goes z) word ≡ Some o → register o < length b.words) → (goes_lead z here e low).owners ≡ owners_after X v.core z s l.owners
+    goes_owners : (z : Situation E) (here : situation_of X v.core ≡ z) (e : due X v ≡ Goes z) (low : (o : Op) → op_due X v (Goes z) word ≡ Some o → register o < length b.words)
+        (told : answer ≡ answer_going X v.core z (number_found (slice_index b.words) (op_due X v (Goes z) word)) word) → (goes_lead z here e low told).owners ≡ owners_after X v.core z s l.owners
     unfolding goes_lead goes_as
-    goes_owners IsClosed here e low = refl
-    goes_owners IsIdle here e low = refl
-    goes_owners IsSpent here e low = refl
-    goes_owners LooksAtStage here e low = refl
-    goes_owners (Elects t g) here e low = refl
-    goes_owners (TakesPage t) here e low = refl
-    goes_owners (AwaitsPage t) here e low = absurd (subst (Fits k.V k.frames v.core) (tells X v.core (AwaitsPage t) here) part.fits)
-    goes_owners (StoresWord t page stored) here e low = refl
-    goes_owners (StoresLength t page stored) here e low = refl
-    goes_owners (GivesBack t page reason) here e low = refl
-    goes_owners (HasHanded t reason) here e low = absurd (subst (Fits k.V k.frames v.core) (tells X v.core (HasHanded t reason) here) part.fits)
+    goes_owners IsClosed here e low told = refl
+    goes_owners IsIdle here e low told = refl
+    goes_owners IsSpent here e low told = refl
+    goes_owners LooksAtStage here e low told = refl
+    goes_owners (Elects t g) here e low told = refl
+    goes_owners (TakesPage t) here e low told = refl
+    goes_owners (AwaitsPage t) here e low told = absurd (subst (Fits k.V k.frames v.core) (tells X v.core (AwaitsPage t) here) part.fits)
+    goes_owners (StoresWord t page stored) here e low told = refl
+    goes_owners (StoresLength t page stored) here e low told = refl
+    goes_owners (GivesBack t page reason) here e low told = refl
+    goes_owners (HasHanded t reason) here e low told = absurd (subst (Fits k.V k.frames v.core) (tells X v.core (HasHanded t reason) here) part.fits)
 
 -- ---- who goes on as a sender is in its situation
 pub due_goes : {E : Type 0} (v : Option Op) (s : Option Sweeping) (z w : Situation E) → due_beside v s z ≡ Goes w → z ≡ w
@@ -415,7 +417,7 @@ shown_there : {A : Type 0} (t : Bool) (o : Option A) (v : A) → cond t None o �
 shown_there true o v e = absurd (let bad : None ≡ Some v = e in cc)
 shown_there false o v e = e
 
-guest_there : {E : Type 0} (b : Ring E) (s : ℕ) (v : Visitor E) → guest_going b s ≡ Some v → slice_get b.guests s ≡ Some v
+pub guest_there : {E : Type 0} (b : Ring E) (s : ℕ) (v : Visitor E) → guest_going b s ≡ Some v → slice_get b.guests s ≡ Some v
 guest_there b s v e = shown_there (is_set (slice_get b.stopped s)) (slice_get b.guests s) v e
 
 -- ---- nothing is added
@@ -495,31 +497,31 @@ module _ {E : Type 0} (X : Election E) (P : Protocol E (Unit {0}) ℕ) (laws : L
     pub leads : Leads X b T.visits T.deeds T.heard
 
   module _ (b : Ring E) (x : IsRingLayout b.layout b.rows) (T : RingTrails) (h : IsLed b T) where
-    pub turn_led : (s : ℕ) (v : Visitor E) (word : ℕ) (answer : Answered) → slice_get b.guests s ≡ Some v → (d : Due E) → due X v ≡ d → IsOnWord b (op_due X v d word)
+    pub turn_led : (s : ℕ) (v : Visitor E) (word : ℕ) (answer : Answered) → slice_get b.guests s ≡ Some v → (d : Due E) → due X v ≡ d → IsOnWord b (op_due X v d word) → answer ≡ answer_due X v d (number_found (slice_index b.words) (op_due X v d word)) word
         → IsLed (ring_after X b s v d word) (record T { visits = ring_trails b s d T.visits; deeds = ring_deeds X b s v d word answer T.deeds })
-    turn_led s v word answer at d e low = record {
+    turn_led s v word answer at d e low told = record {
       is = record {
         rows = rows_after b h.is s v _ at (due_rows X v d (after_step (move_due X v d)) b.home (number_found (slice_index b.words) (op_due X v d word)) word);
         words = words_many b.words (op_due X v d word) ∙ h.is.words;
       };
-      leads = by_due d e low;
+      leads = by_due d e low told;
     } where
       on_word : (o : Option Op) → IsOnWord b o → (p : Op) → o ≡ Some p → register p < length b.words
       on_word None low p i = absurd (let bad : None ≡ Some p = i in cc)
       on_word (Some o) low p i = subst (λ q. register q < length b.words) (same_Some _ _ i) low
 
-      by_due : (d : Due E) → due X v ≡ d → IsOnWord b (op_due X v d word) → Leads X (ring_after X b s v d word) (ring_trails b s d T.visits) (ring_deeds X b s v d word answer T.deeds) T.heard
-      by_due (Visits o) e low = visits_lead X P laws b x.ok x.width x.starts owner_is named announces apart x.two h.is T.visits T.deeds T.heard h.leads s v at word answer o e low
-      by_due (Sweeps r o) e low = sweeps_lead X P laws b x.ok x.width x.starts owner_is named announces apart x.two h.is T.visits T.deeds T.heard h.leads s v at word answer r o e low
-      by_due (Goes z) e low = goes_lead X P laws b x.ok x.width x.starts owner_is named announces apart x.two h.is T.visits T.deeds T.heard h.leads s v at word answer z
-          (due_goes _ v.sweep (situation_of X v.core) z e) e (on_word (op_due X v (Goes z) word) low)
+      by_due : (d : Due E) → due X v ≡ d → IsOnWord b (op_due X v d word) → answer ≡ answer_due X v d (number_found (slice_index b.words) (op_due X v d word)) word → Leads X (ring_after X b s v d word) (ring_trails b s d T.visits) (ring_deeds X b s v d word answer T.deeds) T.heard
+      by_due (Visits o) e low told = visits_lead X P laws b x.ok x.width x.starts owner_is named announces apart x.two h.is T.visits T.deeds T.heard h.leads s v at word answer o e low
+      by_due (Sweeps r o) e low told = sweeps_lead X P laws b x.ok x.width x.starts owner_is named announces apart x.two h.is T.visits T.deeds T.heard h.leads s v at word answer r o e low
+      by_due (Goes z) e low told = goes_lead X P laws b x.ok x.width x.starts owner_is named announces apart x.two h.is T.visits T.deeds T.heard h.leads s v at word answer z
+          (due_goes _ v.sweep (situation_of X v.core) z e) e (on_word (op_due X v (Goes z) word) low) told
 
-    pub turn_owners : (s : ℕ) (v : Visitor E) (word : ℕ) (answer : Answered) (at : slice_get b.guests s ≡ Some v) (d : Due E) (e : due X v ≡ d) (low : IsOnWord b (op_due X v d word))
-        → (turn_led s v word answer at d e low).leads.owners ≡ owners_due X v s d h.leads.owners
+    pub turn_owners : (s : ℕ) (v : Visitor E) (word : ℕ) (answer : Answered) (at : slice_get b.guests s ≡ Some v) (d : Due E) (e : due X v ≡ d) (low : IsOnWord b (op_due X v d word)) (told : answer ≡ answer_due X v d (number_found (slice_index b.words) (op_due X v d word)) word)
+        → (turn_led s v word answer at d e low told).leads.owners ≡ owners_due X v s d h.leads.owners
     unfolding turn_led visits_lead sweeps_lead
-    turn_owners s v word answer at (Visits o) e low = refl
-    turn_owners s v word answer at (Sweeps r o) e low = refl
-    turn_owners s v word answer at (Goes z) e low = goes_owners X P laws b x.ok x.width x.starts owner_is named announces apart x.two h.is T.visits T.deeds T.heard h.leads s v at word answer z (due_goes _ v.sweep (situation_of X v.core) z e) e _
+    turn_owners s v word answer at (Visits o) e low told = refl
+    turn_owners s v word answer at (Sweeps r o) e low told = refl
+    turn_owners s v word answer at (Goes z) e low told = goes_owners X P laws b x.ok x.width x.starts owner_is named announces apart x.two h.is T.visits T.deeds T.heard h.leads s v at word answer z (due_goes _ v.sweep (situation_of X v.core) z e) e _ told
 
     abbrev here : Yard E
     here = yard_of b h.leads.sweep h.leads.owners
@@ -606,7 +608,7 @@ module _ {E : Type 0} (X : Election E) (P : Protocol E (Unit {0}) ℕ) (laws : L
 
   pub ring_led : (b : Ring E) → IsRingLayout b.layout b.rows → (T : RingTrails) → RingReached X b T → IsLed b T
   ring_led b x T (NewRing w new) = record { is = new_ring X w new; leads = new_leads X w new }
-  ring_led b x T (TurnTaken w U s v word answer before goes low) = turn_led w x U (ring_led w x U before) s v word answer (guest_there w s v goes) (due X v) refl low
+  ring_led b x T (TurnTaken w U s v word answer before goes low told) = turn_led w x U (ring_led w x U before) s v word answer (guest_there w s v goes) (due X v) refl low told
   ring_led b x T (PutTaken w U s v bytes before goes small) = put_led w x U (ring_led w x U before) s v bytes (guest_there w s v goes) small
   ring_led b x T (CloseTaken w U s v before goes) = close_led w x U (ring_led w x U before) s v (guest_there w s v goes)
   ring_led b x T (RecvTaken w U r v next answer before at does) = recv_led w x U (ring_led w x U before) r v next answer at does

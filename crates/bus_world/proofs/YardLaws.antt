@@ -954,7 +954,7 @@ module _ {E : Type 0} (X : Election E) (P : Protocol E (Unit {0}) ℕ) (laws : L
   -- ---- whatever happens
   pub led_kept : (H : ℕ → List RecvTurn) (y : Yard E) (T : Trails) (D : ℕ → List Deed) → Led X x rows y T D H → HasKept H y T D
   led_kept H y T D (NewYard w new) = start_kept w new
-  led_kept H y T D (Turned w U F J p c word answer before old) = let k = led_kept J w U F before in turn_kept J w U F k.V k.frames k.kept p c old word answer
+  led_kept H y T D (Turned w U F J p c word answer before old told) = let k = led_kept J w U F before in turn_kept J w U F k.V k.frames k.kept p c old word answer
   led_kept H y T D (PutIn w U F J p c bytes before old away small) = let k = led_kept J w U F before in accept_kept J w U F k.V k.frames k.kept p c old (Puts bytes) (small, tt) away
   led_kept H y T D (ClosedIn w U F J p c before old away) = let k = led_kept J w U F before in accept_kept J w U F k.V k.frames k.kept p c old Closes tt away
   led_kept H y T D (Heard w U F J r v next answer before at does) = heard_kept J w U F (led_kept J w U F before) r v next answer at does

@@ -13,7 +13,7 @@ use Rattle.bus_presence.specs.declared.visits.Visit.{Visit}
 use Rattle.bus_presence.specs.declared.visits.Visit.TheVariants.{Away}
 use Rattle.bus_guest.specs.Guests.{Due, Visits, Sweeps, Goes, log_from}
 use Rattle.bus_guest.specs.Keeping.{held_of}
-use Rattle.bus_guest.specs.Turns.{Visitor, due, op_due, visitor_due, queue_seen}
+use Rattle.bus_guest.specs.Turns.{Visitor, due, op_due, visitor_due, answer_due, queue_seen}
 use Rattle.bus_tenure.specs.Core.{Core, Election, Layout}
 use Rattle.bus_tenure.specs.Situations.{PageMove, Stays, line_of}
 use Rattle.bus_tenure.specs.declared.pages.Page.{Page}
@@ -124,10 +124,11 @@ pub record IsNewRing {E : Type 0} (b : Ring E) : Type 0 where
   pub stopped : b.stopped ≡ no_stops
 
 -- One after another: any sender that has not stopped takes a turn with any random word, whose step is on a word of the bus, or puts a
--- message, or closes, or stops; or any receiver takes a turn. What a turn of a sender answers is any answer.
+-- message, or closes, or stops; or any receiver takes a turn. A turn of a sender answers what is due of what its step found.
 pub data RingReached {E : Type 0} (X : Election E) : Ring E → RingTrails → Type 0 where
   NewRing : (b : Ring E) → IsNewRing b → RingReached X b no_ring_trails
   TurnTaken : (b : Ring E) (T : RingTrails) (s : ℕ) (v : Visitor E) (word : ℕ) (answer : Answered) → RingReached X b T → guest_going b s ≡ Some v → IsOnWord b (op_due X v (due X v) word)
+      → answer ≡ answer_due X v (due X v) (number_found (slice_index b.words) (op_due X v (due X v) word)) word
       → RingReached X (ring_after X b s v (due X v) word) (record T { visits = ring_trails b s (due X v) T.visits; deeds = ring_deeds X b s v (due X v) word answer T.deeds })
   PutTaken : (b : Ring E) (T : RingTrails) (s : ℕ) (v : Visitor E) (bytes : List ℕ) → RingReached X b T → guest_going b s ≡ Some v → All (λ byte. byte < 256) bytes
       → RingReached X (with_guest b s (visitor_put v bytes)) (record T { deeds = deeds_with s (if can_put (queue_seen v.core.queue v.visit) (length bytes) then HasPut (next_of v.core.queue) bytes ∷ [] else []) T.deeds })

@@ -20,6 +20,7 @@ use Rattle.bus_tenure.specs.declared.pages.Page.{Page}
 use Rattle.bus_tenure.specs.declared.phases.Phase.TheVariants.{Electing}
 use Rattle.bus_tenure.specs.declared.turns.Turn.{Turn as Answered}
 use Rattle.bus_guest.specs.Guests.{sizes_with, log_from, Due, Visits, Sweeps, Goes, due_of, place_for, core_looked, core_going, visit_going, sweep_going}
+use Rattle.bus_guest.specs.Turns.{answer_going}
 use Rattle.bus_world.specs.Turning.{core_moved, after_step, home_after, owners_after}
 use Rattle.bus_world.specs.Headline.{Deed, HasPut, HasClosed, Elected, Promises}
 use Rattle.bus_world.specs.Log.{read}
@@ -78,8 +79,7 @@ trails_with y p (Sweeps s o) T = T
 trails_with y p (Goes z) T = T
 
 -- ---- what a sender does
--- Its deeds, but for the steps of visits and sweeps, of which a visit's stand in the trail of the hall. What a turn answers is any
--- answer.
+-- Its deeds, but for the steps of visits and sweeps, of which a visit's stand in the trail of the hall.
 abbrev pub going_deeds : {E : Type 0} → Election E → Layout → ℕ → Yard E → Core E → Situation E → ℕ → Answered → List Deed
 going_deeds X x rows y c z word answer =
     let got = word_found (place_for x rows z) y.hall.words (op_at X c z word) in step_deed (kind_at X c z) (tenure_at X c z) got (chosen_at X c z got word) answer
@@ -88,6 +88,12 @@ abbrev pub due_deeds : {E : Type 0} → Election E → Layout → ℕ → Yard E
 due_deeds X x rows y c (Visits o) word answer = []
 due_deeds X x rows y c (Sweeps s o) word answer = []
 due_deeds X x rows y c (Goes z) word answer = going_deeds X x rows y c z word answer
+
+-- What a turn answers that adds a deed: what is due of what its step found. Of a turn that adds none nothing is said here.
+abbrev pub AnswersDue : {E : Type 0} → Election E → Layout → ℕ → Yard E → Core E → Due E → ℕ → Answered → Type 0
+AnswersDue X x rows y c (Visits o) word answer = Unit {0}
+AnswersDue X x rows y c (Sweeps s o) word answer = Unit {0}
+AnswersDue X x rows y c (Goes z) word answer = answer ≡ answer_going X c z (word_found (place_for x rows z) y.hall.words (op_at X c z word)) word
 
 abbrev pub deeds_with : ℕ → List Deed → (ℕ → List Deed) → ℕ → List Deed
 deeds_with p ds D q = D q ++ (if q == p then ds else [])
@@ -119,7 +125,7 @@ due_in X x rows y p c = due_of X x rows p c (y.hall.visits p) y.hall.sweep
 -- a turn with any random word; or one that visits no tenure puts a message, or closes; or a receiver takes a turn.
 pub data Led {E : Type 0} (X : Election E) (x : Layout) (rows : ℕ) : Yard E → Trails → (ℕ → List Deed) → (ℕ → List RecvTurn) → Type 0 where
   NewYard : (y : Yard E) → IsNewYard x rows y → Led X x rows y no_trails no_deeds no_answers
-  Turned : (y : Yard E) (T : Trails) (D : ℕ → List Deed) (H : ℕ → List RecvTurn) (p : ℕ) (c : Core E) (word : ℕ) (answer : Answered) → Led X x rows y T D H → y.senders p ≡ Some c
+  Turned : (y : Yard E) (T : Trails) (D : ℕ → List Deed) (H : ℕ → List RecvTurn) (p : ℕ) (c : Core E) (word : ℕ) (answer : Answered) → Led X x rows y T D H → y.senders p ≡ Some c → AnswersDue X x rows y c (due_in X x rows y p c) word answer
       → Led X x rows (yard_after X x rows y p c (due_in X x rows y p c) word) (trails_with y p (due_in X x rows y p c) T) (deeds_with p (due_deeds X x rows y c (due_in X x rows y p c) word answer) D) H
   PutIn : (y : Yard E) (T : Trails) (D : ℕ → List Deed) (H : ℕ → List RecvTurn) (p : ℕ) (c : Core E) (bytes : List ℕ) → Led X x rows y T D H → y.senders p ≡ Some c → y.hall.visits p ≡ Away → All (λ byte. byte < 256) bytes
       → Led X x rows (record y { senders = put p (Some (put_in c bytes)) y.senders }) T (deeds_with p (if can_put c.queue (length bytes) then HasPut (next_of c.queue) bytes ∷ [] else []) D) H

@@ -1,4 +1,5 @@
 use Rattle.bus_cyclic.proofs.PlayLaws.{happened, promised}
+use Rattle.bus_cyclic.proofs.TruthLaws.{losses_seen}
 use Rattle.bus_register.specs.declared.limits.TheConstants.{TENURES}
 use Rattle.bus_tenure.specs.Elections.{elections, election_with}
 use Rattle.bus_world.proofs.Serving.{serves}
@@ -21,3 +22,12 @@ returns-clause-promised g c =
     let R = elections P shape.rounds in
     let s = serves g.Q.Machine.kind_of g.Q.Machine.op g.Q.Machine.fed P g.met.Q.Machine.names_each_step g.met.Q.Ratifier.own_kinds shape.senders shape.rounds TENURES shape.log_words (c.election_is_lawful.ensures.lawful.laws shape.rounds) in
     promised X R _ s c.self.invariant c.args.self.now c.self.view_is
+
+pub returns-clause-losses : goal.returns-clause-losses
+returns-clause-losses g c =
+    let P = g.Q.Ratifier.protocol in
+    let X = election_with g.Q.Machine.kind_of g.Q.Machine.op g.Q.Machine.fed P in
+    let shape = c.self.inside.shape in
+    let R = elections P shape.rounds in
+    let s = serves g.Q.Machine.kind_of g.Q.Machine.op g.Q.Machine.fed P g.met.Q.Machine.names_each_step g.met.Q.Ratifier.own_kinds shape.senders shape.rounds TENURES shape.log_words (c.election_is_lawful.ensures.lawful.laws shape.rounds) in
+    losses_seen X R _ s c.self.invariant c.args.self.now c.self.view_is

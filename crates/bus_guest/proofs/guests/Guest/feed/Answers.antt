@@ -4,8 +4,17 @@ use Rattle.bus_tenure.specs.Seen.{tenure_of}
 use Rattle.bus_tenure.specs.Situations.{situation_of}
 use Rattle.bus_guest.specs.Besides.{due_by, HasSweep}
 use Rattle.bus_guest.specs.Keeping.{GuestKeeps}
-use Rattle.bus_guest.proofs.Tells.{told_sweep, told_own, told_stage}
+use Rattle.bus_guest.proofs.Tells.{told_visit, told_sweep, told_own, told_stage}
 use Rattle.bus_guest.proofs.guests.Guest.feed.Goals as goal
+
+pub returns-in-Visit-clause-tells : goal.returns-in-Visit-clause-tells
+returns-in-Visit-clause-tells g c =
+    let P = g.Q.Ratifier.protocol in
+    let X = election_with g.Q.Machine.kind_of g.Q.Machine.op g.Q.Machine.fed P in
+    let v = c.args.self.now in
+    let k = subst (λ y. GuestKeeps ((elections P y.core.layout.rounds).width y.core.layout.senders) ((elections P y.core.layout.rounds).Belongs y.core.layout.senders y.core.me) y) c.self.view_is c.self.invariant.keeps in
+    told_visit X v c.args.got c.args.word _ _ k c.visit_on.result c.in-Visit.field-0
+    (c.beside.ensures.due ∙ ap (λ b. due_by b v.sweep (situation_of X v.core)) c.in-Visit.is) c.visit_on.ensures.answer c.requires
 
 pub returns-in-Sweep-clause-tells : goal.returns-in-Sweep-clause-tells
 returns-in-Sweep-clause-tells g c =

@@ -1,0 +1,24 @@
+//! What no bus whose rows are used again is, and what no turn on it may answer.
+
+ghost use Rattle.std.specs.Prelude.{ℕ, List};
+ghost use Rattle.bus_tenure.specs.Core.{Core};
+ghost use Rattle.bus_tenure.specs.Elections.{Elector};
+ghost use Rattle.bus_world.specs.Headline.{Deed};
+ghost use Rattle.bus_world.specs.Rings.{Ring};
+ghost use Rattle.bus_cyclic.specs.Truth.{LossesRefuse, AnswersRefuse};
+
+use bus_adoptcommit::Ratifier;
+
+/// No sender remembers an owner that has done nothing, or itself, or another owner than that with
+/// which it saw the election of its tenure end.
+pub fn losses_refuse<Q: Ratifier>()
+    ensures { (ring : Ring (Elector Q)) → LossesRefuse ring }
+{}
+
+/// No answer is true that is Lost to an owner whose election the sender did not see, or to itself;
+/// Own of a tenure whose page it did not take; Delivered where the log is empty; Full where the
+/// frame fits.
+pub fn answers_refuse<Q: Ratifier>()
+    ensures { (ring : Ring (Elector Q)) (sender : ℕ) (core : Core (Elector Q)) (deeds : List Deed)
+        → AnswersRefuse ring sender core deeds }
+{}
