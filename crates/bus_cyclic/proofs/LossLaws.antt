@@ -1,8 +1,7 @@
 -- Who remembers an owner has seen the election of the tenure that it lost end with this owner, whatever happened.
-use Rattle.std.proofs.Common.{◌≡◌, ◌≢◌, ◌⊎◌, inl, inr, ℕ, ◌+◌, ◌==◌, Bool, true, false, cond, Option, Some, None, is_some, List, [], ◌∷◌, ◌++◌, length, slice_get, slice_index, slice_set, refl, sym, ◌∙◌, ap, subst}
+use Rattle.std.proofs.Common.{◌≡◌, ◌⊎◌, inl, inr, ℕ, ◌+◌, ◌==◌, Bool, true, false, cond, Option, Some, None, is_some, List, [], ◌∷◌, ◌++◌, length, slice_get, slice_index, slice_set, refl, sym, ◌∙◌, ap, subst}
 use Rattle.std.proofs.lemmas.Bool.{cases_eq, true≢false}
 use Rattle.std.proofs.lemmas.Bool.Decides.{eqb_tells}
-use Rattle.std.proofs.lemmas.List.{append-nil}
 use Rattle.std.proofs.lemmas.Option.{same_Some, slice_get_within}
 use Rattle.bus_register.specs.declared.kinds.Kind.{Kind}
 use Rattle.bus_register.specs.declared.kinds.Kind.TheVariants as kind
@@ -23,7 +22,7 @@ use Rattle.bus_tenure.specs.Situations.{Situation, IsClosed, IsIdle, IsSpent, Lo
 use Rattle.bus_tenure.specs.declared.turns.Turn.{Turn as Answered}
 use Rattle.bus_tenure.proofs.Situated.{tells}
 use Rattle.bus_world.specs.Headline.{Deed, Stepped, Elected}
-use Rattle.bus_world.specs.Rings.{Ring, RingTrails, RingReached, NewRing, TurnTaken, PutTaken, CloseTaken, RecvTaken, StopTaken, yard_of, ring_after, ring_deeds, move_due, visitor_put, visitor_closed}
+use Rattle.bus_world.specs.Rings.{Ring, RingTrails, RingReached, NewRing, TurnTaken, PutTaken, CloseTaken, RecvTaken, StopTaken, yard_of, ring_after, ring_deeds, visitor_put, visitor_closed}
 use Rattle.bus_world.specs.Trails.{step_deed}
 use Rattle.bus_world.specs.Turning.{number_found}
 use Rattle.bus_world.specs.World.{can_put, can_close}

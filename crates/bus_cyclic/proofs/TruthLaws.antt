@@ -1,5 +1,5 @@
 -- What the answers of turns tell is so.
-use Rattle.std.proofs.Common.{◌≡◌, ◌≢◌, ◌⊎◌, inl, inr, ℕ, ◌+◌, ◌-◌, ◌/◌, ◌<◌, ◌≤◌, ◌==◌, ◌&&◌, Bool, true, false, cond, nat_lt, nat_le, Option, Some, None, is_some, List, [], ◌∷◌, ◌++◌, length, map, slice_get, slice_index, arith, refl, sym, ◌∙◌, ap, subst}
+use Rattle.std.proofs.Common.{◌≡◌, ◌⊎◌, inl, inr, ℕ, ◌+◌, ◌-◌, ◌/◌, ◌<◌, ◌≤◌, ◌&&◌, Bool, true, false, cond, nat_lt, nat_le, Option, Some, None, is_some, List, [], ◌∷◌, ◌++◌, length, map, slice_get, slice_index, arith, refl, sym, ◌∙◌, ap, subst}
 use Rattle.std.proofs.lemmas.Bool.{leb-false, true≢false}
 use Rattle.std.proofs.lemmas.List.{map-append}
 use Rattle.bus_register.specs.declared.registers.SenderNo.{SenderNo}
@@ -7,7 +7,7 @@ use Rattle.bus_register.specs.Protocol.{Protocol}
 use Rattle.bus_batch.specs.Batches.{next_of, frame_of}
 use Rattle.bus_batch.specs.declared.batches.Phase.{Phase as BatchPhase}
 use Rattle.bus_batch.specs.declared.batches.Phase.TheVariants.{Closing}
-use Rattle.bus_batch.specs.Frames.{Frame, AreFrames, Order, Spells, log_words, order_of, items_of, tenure_and_owner}
+use Rattle.bus_batch.specs.Frames.{Frame, AreFrames, log_words, order_of, items_of, tenure_and_owner}
 use Rattle.bus_presence.specs.Sweeps.{behind_of}
 use Rattle.bus_presence.specs.declared.sweeps.Behind.{Behind}
 use Rattle.bus_presence.specs.declared.visits.Visit.{Visit}
@@ -15,7 +15,7 @@ use Rattle.bus_presence.specs.declared.visits.Visit.TheVariants.{Away, Entering,
 use Rattle.bus_guest.specs.Guests.{Due, Visits, Sweeps, Goes, log_from}
 use Rattle.bus_guest.specs.Turns.{Visitor, due, op_due, answer_due, answer_going, answer_of_loss, answer_of_visit, answer_of_sweep}
 use Rattle.bus_tenure.specs.Core.{Core, Election, log_at, is_empty, is_closing, is_closed, has_room, frame_len}
-use Rattle.bus_tenure.specs.Situations.{Situation, IsClosed, IsIdle, IsSpent, LooksAtStage, Elects, TakesPage, StoresWord, StoresLength, GivesBack, situation_at, situation_of, resting, electing, holding, waits, op_at}
+use Rattle.bus_tenure.specs.Situations.{Situation, IsClosed, IsIdle, IsSpent, LooksAtStage, Elects, TakesPage, StoresWord, StoresLength, GivesBack, situation_at, situation_of, resting, electing, holding, waits}
 use Rattle.bus_tenure.specs.declared.pages.Page.{Page}
 use Rattle.bus_tenure.specs.declared.phases.Reason.TheVariants.{Sent, FoundEnd, NoRoom}
 use Rattle.bus_tenure.specs.declared.phases.Phase.{Phase}
@@ -26,12 +26,10 @@ use Rattle.bus_world.specs.Bus.{IsLayout, Part, Fits}
 use Rattle.bus_world.specs.Headline.{Deed, Elected, Took, AreFramed}
 use Rattle.bus_world.specs.Log.{read}
 use Rattle.bus_world.specs.Rings.{Ring, RingTrails, IsKeptRing, yard_of, core_in, guest_going}
-use Rattle.bus_world.specs.Telling.{HasDelivered}
 use Rattle.bus_world.specs.Turning.{number_found}
 use Rattle.bus_world.specs.World.{Event, Put, Close, Turn, Recv, Stop}
 use Rattle.bus_world.specs.Yards.{Yard, deeds_with, due_deeds, going_deeds}
 use Rattle.bus_world.specs.declared.events.Answer.{Answer}
-use Rattle.bus_world.specs.declared.events.Answer.TheVariants as answer
 use Rattle.bus_world.proofs.FrameOfBatch.{counted_frame, length-items}
 use Rattle.bus_world.proofs.Framing.{items_owned, framed, front_lawful}
 use Rattle.bus_world.proofs.LogLaws.{length-read, items-append}
@@ -42,7 +40,7 @@ use Rattle.bus_world.proofs.YardLaws.{HasKept, led_kept, words_read}
 use Rattle.bus_cyclic.specs.Cyclic.{CyclicBus, LeadTo, IsServedRing, log_of}
 use Rattle.bus_cyclic.specs.Following.{Steps, grown, turn_grown}
 use Rattle.bus_cyclic.specs.Happening.{TurnAnswers}
-use Rattle.bus_cyclic.specs.Truth.{HasSeenLoss, LossesAreSeen, GuestTells, TurnIsTrue, EventIsTrue, TellsTrue, LossesRefuse, AnswersRefuse}
+use Rattle.bus_cyclic.specs.Truth.{LossesAreSeen, GuestTells, TurnIsTrue, EventIsTrue, TellsTrue, LossesRefuse, AnswersRefuse}
 use Rattle.bus_cyclic.proofs.CyclicLaws.{layout_served, led, ok, leads_on, event_sizes, kept_at}
 use Rattle.bus_cyclic.proofs.LossLaws.{own_deeds, loss_still, ring_seen}
 

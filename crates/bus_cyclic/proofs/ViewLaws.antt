@@ -1,13 +1,11 @@
 -- What is read from the words of a bus whose rows are used again, and what a new one is made of.
-use Rattle.std.proofs.Common.{◌≡◌, ℕ, ◌+◌, ◌*◌, ◌-◌, ◌^◌, ◌<◌, ◌≤◌, Bool, Some, None, List, [], length, take, drop, slice_get, slice_index, replicate, arith, refl, sym, ◌∙◌, ap, subst}
-use Rattle.std.proofs.Math.Nat.{mul-le-mul}
+use Rattle.std.proofs.Common.{◌≡◌, ℕ, ◌+◌, ◌*◌, ◌-◌, ◌<◌, ◌≤◌, Bool, Some, List, [], length, take, drop, slice_get, slice_index, replicate, arith, refl, sym, ◌∙◌, ap, subst}
 use Rattle.bus_register.specs.Protocol.{Protocol}
 use Rattle.bus_batch.specs.Frames.{Frame, Order, AreFrames, log_words}
 use Rattle.bus_deliverylog.specs.Receiving.{Receiving}
 use Rattle.bus_guest.specs.Guests.{log_from}
 use Rattle.bus_guest.specs.Turns.{Visitor}
 use Rattle.bus_tenure.specs.Core.{Election, Layout}
-use Rattle.bus_world.specs.Bus.{IsLayout}
 use Rattle.bus_world.specs.Headline.{given}
 use Rattle.bus_world.specs.Rings.{Ring, RingTrails, IsNewRing, no_ring_trails, NewRing}
 use Rattle.bus_world.specs.Starting.{AreNewReaders}

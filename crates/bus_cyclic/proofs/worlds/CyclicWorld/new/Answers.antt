@@ -1,13 +1,11 @@
-use Rattle.std.proofs.Common.{◌*◌, ◌≤◌, map, refl, arith, ap, subst, sym, length, ◌∙◌}
+use Rattle.std.proofs.Common.{◌*◌, ◌≤◌, map, refl, arith, ap, subst, sym, length}
 use Rattle.std.proofs.Math.Nat.{mul-le-mul}
 use Rattle.bus_guest.proofs.Widths.{few_words}
 use Rattle.bus_world.specs.Rings.{no_ring_trails}
 use Rattle.bus_world.proofs.RingLaws.{new_ring}
 use Rattle.bus_cyclic.specs.Cyclic.{layout_of}
 use Rattle.bus_cyclic.proofs.ViewLaws.{made_new, new_leads}
-use Rattle.bus_register.specs.declared.limits.TheConstants.{TENURES}
-use Rattle.bus_tenure.specs.Elections.{elections, election_with}
-use Rattle.bus_world.proofs.Serving.{serves}
+use Rattle.bus_tenure.specs.Elections.{election_with}
 use Rattle.bus_cyclic.proofs.worlds.CyclicWorld.new.Goals as goal
 
 pub overflow_mul-log : goal.overflow_mul-log

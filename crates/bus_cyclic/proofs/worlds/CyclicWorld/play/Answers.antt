@@ -1,4 +1,4 @@
-use Rattle.std.proofs.Common.{take, map, sym, ap, subst, arith}
+use Rattle.std.proofs.Common.{take, map, sym, subst, arith}
 use Rattle.std.proofs.lemmas.List.{take-map}
 use Rattle.bus_world.specs.Playing.{event_told}
 use Rattle.bus_world.proofs.Growing.{told_more, told_at, all_told}

@@ -1,4 +1,4 @@
-use Rattle.std.proofs.Common.{refl, arith, length}
+use Rattle.std.proofs.Common.{arith, length}
 use Rattle.bus_world.proofs.PlayingLaws.{there, passed_up, small_bytes}
 use Rattle.bus_world.specs.World.{Put}
 use Rattle.bus_cyclic.specs.Happening.{Refused}
