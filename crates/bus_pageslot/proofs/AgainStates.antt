@@ -18,7 +18,9 @@ use Rattle.bus_cyclic.specs.Cyclic.{CyclicBus, LeadTo, last_of}
 use Rattle.bus_cyclic.specs.Following.{TurnsWithin}
 use Rattle.bus_cyclic.specs.Happening.{GuestDoes}
 use Rattle.bus_cyclic.proofs.CyclicLaws.{next_seen}
+use Rattle.bus_cyclic.specs.Truth.{LossesAreSeen}
 use Rattle.bus_cyclic.proofs.LogGrowing.{log_grows}
+use Rattle.bus_cyclic.proofs.LossLaws.{ring_seen}
 use Rattle.bus_cyclic.proofs.StartingLaws.{one_more_guest}
 use Rattle.bus_cyclic.specs.Starting.{AreNewGuests}
 use Rattle.bus_deliverylog.specs.Orders.{of_sender}
@@ -144,6 +146,9 @@ module _ {E : Type 0} (X : Election E) (P : Protocol E (Unit {0}) ℕ) (x : Layo
 
     safe : IsKeptRing X b T
     safe = ring_kept X P serves.laws serves.owner_is serves.named serves.announces serves.apart b layout T reached
+
+    losses : LossesAreSeen b T.deeds
+    losses = ring_seen X P serves.laws serves.owner_is serves.named serves.announces serves.apart b layout T reached
 
     sizes_are : extent_again b.layout b.rows ≡ extent_again x rows
     sizes_are = λ i. extent_again (same i) (rows_are i)
@@ -307,11 +312,11 @@ module _ {E : Type 0} (X : Election E) (P : Protocol E (Unit {0}) ℕ) (x : Layo
         abbrev trails : RingTrails
         trails = record T { visits = ring_trails b p (due X v) T.visits; deeds = ring_deeds X b p v (due X v) word told T.deeds }
 
-        reaches : RingReached X later trails
-        reaches = TurnTaken b T p v word told reached goes on_word
-
         found_is : number_found (slice_index b.words) (op_due X v (due X v) word) ≡ found
         found_is = ap (number_found (slice_index b.words)) op
+
+        reaches : RingReached X later trails
+        reaches = TurnTaken b T p v word told reached goes on_word (ap (λ n. answer_due X v (due X v) n word) (sym found_is))
 
         -- its deeds are those of the number that its word had
         found_at : (z : Situation E) (q : Option Op) → placed (place_for v.core.layout v.rows z) q ≡ Some o → word_found (place_for b.layout b.rows z) (slice_index b.words) q ≡ found
@@ -440,14 +445,17 @@ module _ {E : Type 0} (X : Election E) (P : Protocol E (Unit {0}) ℕ) (x : Layo
   -- who is none of its senders does nothing
   nobody_did : (b : Ring E) (T : RingTrails) → IsLayout x → 2 ≤ rows → b.layout ≡ x → b.rows ≡ rows → RingReached X b T → (q : ℕ) → x.senders ≤ q → T.deeds q ≡ []
   nobody_did b T ok two same rows_are (NewRing w new) q past = refl
-  nobody_did b T ok two same rows_are (TurnTaken w U s v word answer before goes low) q past = other_deeds s _ U.deeds q (λ e. no_guest w U ok two same rows_are before q past v (ap (slice_get w.guests) e ∙ there_shown _ _ v goes)) ∙ nobody_did w U ok two same rows_are before q past
+  nobody_did b T ok two same rows_are (TurnTaken w U s v word answer before there low _) q past = other_deeds s _ U.deeds q (λ e. no_guest w U ok two same rows_are before q past v (ap (slice_get w.guests) e ∙ there_shown _ _ v there)) ∙ nobody_did w U ok two same rows_are before q past
   nobody_did b T ok two same rows_are (PutTaken w U s v bytes before goes small) q past = other_deeds s _ U.deeds q (λ e. no_guest w U ok two same rows_are before q past v (ap (slice_get w.guests) e ∙ there_shown _ _ v goes)) ∙ nobody_did w U ok two same rows_are before q past
   nobody_did b T ok two same rows_are (CloseTaken w U s v before goes) q past = other_deeds s _ U.deeds q (λ e. no_guest w U ok two same rows_are before q past v (ap (slice_get w.guests) e ∙ there_shown _ _ v goes)) ∙ nobody_did w U ok two same rows_are before q past
   nobody_did b T ok two same rows_are (RecvTaken w U r v next answer before at does) q past = nobody_did w U ok two same rows_are before q past
-  nobody_did b T ok two same rows_are (StopTaken w U s v before goes) q past = nobody_did w U ok two same rows_are before q past
+  nobody_did b T ok two same rows_are (StopTaken w U s v before _) q past = nobody_did w U ok two same rows_are before q past
 
   pub shown_is_safe : (s : State (Option Page) (View (Visitor E))) → (r : IsShown (process_again X) (bus_again X x rows) s) → IsKeptRing X r.state.ring r.state.trails
   shown_is_safe s r = safe r.state.ring r.state.trails r.reached.served r.reached.two r.reached.layout r.reached.rows_are r.reached.reached
+
+  pub shown_losses_are_seen : (s : State (Option Page) (View (Visitor E))) → (r : IsShown (process_again X) (bus_again X x rows) s) → LossesAreSeen r.state.ring r.state.trails.deeds
+  shown_losses_are_seen s r = losses r.state.ring r.state.trails r.reached.served r.reached.two r.reached.layout r.reached.rows_are r.reached.reached
 
   pub automaton_laws : AutomatonLaws (process_again X) (bus_again X x rows)
   automaton_laws = record {

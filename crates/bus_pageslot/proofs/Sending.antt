@@ -1,6 +1,7 @@
 -- A turn puts nothing, and turns between which a function is asked are turns.
-use Rattle.std.proofs.Common.{◌≡◌, ℕ, Bool, Option, Some, None, List, [], ◌∷◌, ◌++◌, refl, sym, ◌∙◌, ap, subst, append_assoc}
+use Rattle.std.proofs.Common.{◌≡◌, ℕ, Bool, true, false, Option, Some, None, List, [], ◌∷◌, ◌++◌, refl, sym, ◌∙◌, ap, subst, append_assoc}
 use Rattle.std.specs.Prelude.{IfSome}
+use Rattle.std.proofs.lemmas.Bool.{true≢false}
 use Rattle.std.proofs.lemmas.Grind.{flat_map-append}
 use Rattle.std.proofs.lemmas.List.{append-nil}
 use Rattle.std.proofs.lemmas.Option.{same_Some}
@@ -12,7 +13,7 @@ use Rattle.bus_world.specs.Headline.{HasPut, put_of, puts}
 use Rattle.bus_pageslot.specs.Processes.{Process}
 use Rattle.bus_pageslot.specs.Lawful.{ProcessLaws}
 use Rattle.bus_pageslot.specs.Seats.{Seated, Took, deeds_of}
-use Rattle.bus_pageslot.specs.Turns.{Turned, TurnsOn, Here, More, Sends, AsksOn, Begins as Unasked, Goes, Asks, SendsAsking}
+use Rattle.bus_pageslot.specs.Turns.{Turned, TurnsOn, Here, More, Sends, is_last, is_waiting, AsksOn, Begins as Unasked, Goes, Asks, SendsAsking}
 use Rattle.bus_pageslot.specs.Sendings.{FillsBatches, SentBefore, Put, SentFull}
 
 took_puts : {C : Type 0} (P : Process C) → ProcessLaws P → (old : Seated C) (word : ℕ) (a : Turn) (new : Seated C) → Took P old word a new → puts (deeds_of P new) ≡ puts (deeds_of P old)
@@ -46,10 +47,22 @@ pub same_sender : {C : Type 0} (old new : Seated C) → new.core ≡ old.core �
 same_sender old new core seat = ap (λ c. record { core = c; seat = new.seat }) core ∙ ap (λ s. record { core = old.core; seat = s }) seat
 
 -- turns between which a function is asked are turns
+waiting_goes : (a : Turn) → is_waiting a ≡ true → is_last a ≡ false
+waiting_goes turn.Idle e = absurd (true≢false (sym e))
+waiting_goes turn.Waiting e = refl
+waiting_goes turn.Going e = refl
+waiting_goes (turn.Lost t owner) e = refl
+waiting_goes (turn.Own t) e = refl
+waiting_goes (turn.Delivered t first last) e = absurd (true≢false (sym e))
+waiting_goes turn.Full e = absurd (true≢false (sym e))
+waiting_goes turn.Closed e = absurd (true≢false (sym e))
+waiting_goes turn.Spent e = absurd (true≢false (sym e))
+waiting_goes (turn.Behind t sender) e = refl
+
 goes_on : {C F : Type 0} (P : Process C) (Tells : F → Bool → F → Type 0) (first : Seated C) (given : F) (new : Seated C) (f : F) → AsksOn P Tells first given new f → TurnsOn P first new
 goes_on P Tells first given _ _ Unasked = Here
 goes_on P Tells first given _ _ (Goes old f word answer new before turned last other) = More old word answer new (goes_on P Tells first given old f before) turned last
-goes_on P Tells first given _ _ (Asks old f word new f' before turned told) = More old word turn.Waiting new (goes_on P Tells first given old f before) turned refl
+goes_on P Tells first given _ _ (Asks old f word answer new f' before turned waits told) = More old word answer new (goes_on P Tells first given old f before) turned (waiting_goes answer waits)
 
 sends_asking : {C F : Type 0} (P : Process C) (Tells : F → Bool → F → Type 0) (first : Seated C) (given : F) (answer : Turn) (new : Seated C) → SendsAsking P Tells first given answer new → Sends P first answer new
 sends_asking P Tells first given answer new h = record { old = h.old; word = h.word; before = goes_on P Tells first given h.old h.asked h.before; turned = h.turned; last = h.last }

@@ -24,6 +24,19 @@ is_last turn.Closed = true
 is_last turn.Spent = true
 is_last (turn.Behind t sender) = false
 
+-- another sender has to go on first: the one that holds the page, or one that visits a tenure still
+abbrev pub is_waiting : Turn → Bool
+is_waiting turn.Idle = false
+is_waiting turn.Waiting = true
+is_waiting turn.Going = false
+is_waiting (turn.Lost t owner) = false
+is_waiting (turn.Own t) = false
+is_waiting (turn.Delivered t first last) = false
+is_waiting turn.Full = false
+is_waiting turn.Closed = false
+is_waiting turn.Spent = false
+is_waiting (turn.Behind t sender) = true
+
 -- turns, none of them a last one, led from one sender to another
 pub data TurnsOn {C : Type 0} (P : Process C) (first : Seated C) : Seated C → Type 0 where
   Here : TurnsOn P first first
@@ -38,12 +51,12 @@ pub record Sends {C : Type 0} (P : Process C) (first : Seated C) (answer : Turn)
   pub last : is_last answer ≡ true
 
 -- ---- turns between which a function is asked whether to go on; Tells f told f' where a call of f may tell that, and leaves f'
--- Turns, none of them a last one, led from one sender to another. For each that answered Waiting, and for no other, there is a call of the
--- function that told to go on; each call found it as the call before had left it. When it was made is not said.
+-- Turns, none of them a last one, led from one sender to another. For each that answered Waiting or Behind, and for no other, there is a call
+-- of the function that told to go on; each call found it as the call before had left it. When it was made is not said.
 pub data AsksOn {C F : Type 0} (P : Process C) (Tells : F → Bool → F → Type 0) (first : Seated C) (given : F) : Seated C → F → Type 0 where
   Begins : AsksOn P Tells first given first given
-  Goes : (old : Seated C) (f : F) (word : ℕ) (answer : Turn) (new : Seated C) → AsksOn P Tells first given old f → Turned P old word answer new → is_last answer ≡ false → (answer ≡ turn.Waiting → ⊥) → AsksOn P Tells first given new f
-  Asks : (old : Seated C) (f : F) (word : ℕ) (new : Seated C) (f' : F) → AsksOn P Tells first given old f → Turned P old word turn.Waiting new → Tells f true f' → AsksOn P Tells first given new f'
+  Goes : (old : Seated C) (f : F) (word : ℕ) (answer : Turn) (new : Seated C) → AsksOn P Tells first given old f → Turned P old word answer new → is_last answer ≡ false → is_waiting answer ≡ false → AsksOn P Tells first given new f
+  Asks : (old : Seated C) (f : F) (word : ℕ) (answer : Turn) (new : Seated C) (f' : F) → AsksOn P Tells first given old f → Turned P old word answer new → is_waiting answer ≡ true → Tells f true f' → AsksOn P Tells first given new f'
 
 -- such turns up to a last one, which answered so
 pub record SendsAsking {C F : Type 0} (P : Process C) (Tells : F → Bool → F → Type 0) (first : Seated C) (given : F) (answer : Turn) (new : Seated C) : Type 0 where
@@ -54,12 +67,14 @@ pub record SendsAsking {C F : Type 0} (P : Process C) (Tells : F → Bool → F 
   pub turned : Turned P old word answer new
   pub last : is_last answer ≡ true
 
--- such turns up to one that answered Waiting, after which the function was asked and told to stop
+-- such turns up to one that answered Waiting or Behind, after which the function was asked and told to stop
 pub record StopsWaiting {C F : Type 0} (P : Process C) (Tells : F → Bool → F → Type 0) (first : Seated C) (given : F) (new : Seated C) : Type 0 where
   pub old : Seated C
   pub asked : F
   pub word : ℕ
+  pub answer : Turn
   pub before : AsksOn P Tells first given old asked
-  pub turned : Turned P old word turn.Waiting new
+  pub turned : Turned P old word answer new
+  pub waits : is_waiting answer ≡ true
   pub left : F
   pub told : Tells asked false left

@@ -8,6 +8,7 @@ ghost use Rattle.bus_register.specs.declared.registers.Op.{Op};
 ghost use Rattle.bus_register.specs.declared.registers.Op.TheVariants.{Store};
 ghost use Rattle.atomic_table.specs.Table.{State};
 ghost use Rattle.bus_cyclic.specs.Cyclic as cyclic;
+ghost use Rattle.bus_cyclic.specs.Truth.{LossesAreSeen};
 ghost use Rattle.bus_deliverylog.specs.declared.receiving.RecvTurn.{RecvTurn};
 ghost use Rattle.bus_guest.specs.Turns.{Visitor};
 ghost use Rattle.bus_tenure.specs.Core.{Core};
@@ -105,13 +106,19 @@ pub fn only_owners_leave_the_stage<Q: Ratifier>()
 /// Where rows of words are used again, the history of steps that the rule shows is a safe one:
 /// a row is made ready while nobody visits a tenure of it, every word that a visitor of a tenure
 /// steps on is of that tenure alone, each tenure has at most one owner, who announced for it, and
-/// the words below the length are a log of what was put.
+/// the words below the length are a log of what was put. And whoever remembers to whom it lost its
+/// tenure has seen the election of that tenure end with this sender, and is not this sender.
 pub fn rows_used_again_are_safe<Q: Ratifier>()
-    ensures { let X = election_of Q.Ratifier in (shape : Shape)
+    ensures kept { let X = election_of Q.Ratifier in (shape : Shape)
         (s : State (Option Page) (View (Visitor (Elector Q))))
         → (r : IsShown (process_again X)
             (bus_again X (cyclic.layout_of Q.protocol shape) shape.rows) s)
         → IsKeptRing X r.state.ring r.state.trails }
+    ensures losses { let X = election_of Q.Ratifier in (shape : Shape)
+        (s : State (Option Page) (View (Visitor (Elector Q))))
+        → (r : IsShown (process_again X)
+            (bus_again X (cyclic.layout_of Q.protocol shape) shape.rows) s)
+        → LossesAreSeen r.state.ring r.state.trails.deeds }
 {
     election_is_lawful::<Q>();
 }

@@ -12,7 +12,7 @@ ghost use Rattle.bus_pageslot.specs.Ears.{Ear};
 ghost use Rattle.bus_pageslot.specs.Rule.{known_in, stored_in};
 ghost use Rattle.bus_pageslot.specs.Steps.{Learns, KnowsSent};
 ghost use Rattle.bus_pageslot.specs.Seats.{Shows, Took, table_of, deeds_of, stored_of};
-ghost use Rattle.bus_pageslot.specs.Turns.{Sends, is_last, SendsAsking, StopsWaiting};
+ghost use Rattle.bus_pageslot.specs.Turns.{Sends, is_last, is_waiting, SendsAsking, StopsWaiting};
 ghost use Rattle.bus_pageslot.specs.Sendings.{waiting_of, SendsOff, KeepsFor, FillsBatches};
 ghost use Rattle.bus_pageslot.specs.Sendings.{HasSent, StopsAt, HasSentPart};
 ghost use Rattle.bus_pageslot.specs.SendFaults.{send_fault_text};
@@ -235,9 +235,10 @@ impl<S: Seatable + Drop> SenderOf<S> {
         self.send_while(wait, bus, rng, || true).unwrap()
     }
 
-    /// As `send`, but that it can be told to stop: each time a turn answers Waiting it asks `go_on`
-    /// once, goes on where that says yes, and gives None where it says no. It asks nowhere else.
-    /// The batch is kept then, and any later turn goes on with it.
+    /// As `send`, but that it can be told to stop: each time a turn answers Waiting or Behind it
+    /// asks `go_on` once, goes on where that says yes, and gives None where it says no. It asks
+    /// nowhere else. The batch is kept then, and any later turn goes on with it. After Behind the
+    /// sender holds the page, which nobody else has until then.
     pub fn send_while<W: Wait, R: Rng, F: FnMut() -> bool>(
         &mut self,
         wait: &W,
@@ -261,15 +262,14 @@ impl<S: Seatable + Drop> SenderOf<S> {
             if ends_sending(turn) {
                 return Some(turn);
             }
-            match turn {
-                Turn::Waiting => {
-                    if !go_on() {
-                        return None;
-                    }
-                    backoff.snooze();
-                }
-                _ => backoff.reset(),
+            if !is_waiting(turn) {
+                backoff.reset();
+                continue;
             }
+            if !go_on() {
+                return None;
+            }
+            backoff.snooze();
         }
         unreachable!()
     }
@@ -419,4 +419,11 @@ fn ends_sending(turn: Turn) -> bool
         Turn::Waiting | Turn::Going | Turn::Lost { .. } | Turn::Own { .. } => false,
         Turn::Behind { .. } => false,
     }
+}
+
+/// After this answer another sender has to go on first.
+fn is_waiting(turn: Turn) -> bool
+    ensures { result ≡ is_waiting turn }
+{
+    matches!(turn, Turn::Waiting | Turn::Behind { .. })
 }

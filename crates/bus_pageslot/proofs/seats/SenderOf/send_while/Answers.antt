@@ -30,7 +30,9 @@ returns-then-not-go_on-clause-stops g c =
       asked = c.loop.go_on;
       word = c.if-wants_word.word;
       before = c.loop.invariant.1;
-      turned = subst (λ a. Turned P c.loop.self c.if-wants_word.word a c.turn-turn.new.self) c.in-Waiting.is turned;
+      turned = turned;
+      answer = c.turn-turn.result;
+      waits = sym c.is_waiting.ensures ∙ c.if-not-is_waiting.false;
       left = c.go_on.new.self;
       told = c.if-not-go_on.ensures;
     }
@@ -40,22 +42,22 @@ returns-then-not-go_on-clause-puts g c =
     let P = g.S.Seatable.process in
     turned_puts P c.is_lawful.ensures.process c.loop.self c.if-wants_word.word c.turn-turn.result c.turn-turn.new.self (record { rests = c.turn-turn.ensures.rests; steps = c.turn-turn.ensures.steps }) ∙ c.loop.invariant.3
 
-pub loop-preserved-in-Waiting : goal.loop-preserved-in-Waiting
-loop-preserved-in-Waiting g c =
-    let P = g.S.Seatable.process in
-    let turned : Turned P c.loop.self c.if-wants_word.word c.turn-turn.result c.turn-turn.new.self = record { rests = c.turn-turn.ensures.rests; steps = c.turn-turn.ensures.steps } in (
-      search of_calls,
-      Asks c.loop.self c.loop.go_on c.if-wants_word.word c.turn-turn.new.self c.go_on.new.self c.loop.invariant.1 (subst (λ a. Turned P c.loop.self c.if-wants_word.word a c.turn-turn.new.self) c.in-Waiting.is turned) c.if-not-go_on.ensures,
-      c.turn-turn.ensures.table ∙ c.loop.invariant.2,
-      turned_puts P c.is_lawful.ensures.process c.loop.self c.if-wants_word.word c.turn-turn.result c.turn-turn.new.self turned ∙ c.loop.invariant.3,
-    )
-
 pub loop-preserved : goal.loop-preserved
 loop-preserved g c =
     let P = g.S.Seatable.process in
     let turned : Turned P c.loop.self c.if-wants_word.word c.turn-turn.result c.turn-turn.new.self = record { rests = c.turn-turn.ensures.rests; steps = c.turn-turn.ensures.steps } in (
+      search of_calls,
+      Asks c.loop.self c.loop.go_on c.if-wants_word.word c.turn-turn.result c.turn-turn.new.self c.go_on.new.self c.loop.invariant.1 turned (sym c.is_waiting.ensures ∙ c.if-not-is_waiting.false) c.if-not-go_on.ensures,
+      c.turn-turn.ensures.table ∙ c.loop.invariant.2,
+      turned_puts P c.is_lawful.ensures.process c.loop.self c.if-wants_word.word c.turn-turn.result c.turn-turn.new.self turned ∙ c.loop.invariant.3,
+    )
+
+pub loop-preserved-then-not-is_waiting : goal.loop-preserved-then-not-is_waiting
+loop-preserved-then-not-is_waiting g c =
+    let P = g.S.Seatable.process in
+    let turned : Turned P c.loop.self c.if-wants_word.word c.turn-turn.result c.turn-turn.new.self = record { rests = c.turn-turn.ensures.rests; steps = c.turn-turn.ensures.steps } in (
       c.loop.invariant.0,
-      Goes c.loop.self c.loop.go_on c.if-wants_word.word c.turn-turn.result c.turn-turn.new.self c.loop.invariant.1 turned (sym c.ends_sending.ensures ∙ c.if-ends_sending.false) c.in_default.not-Waiting,
+      Goes c.loop.self c.loop.go_on c.if-wants_word.word c.turn-turn.result c.turn-turn.new.self c.loop.invariant.1 turned (sym c.ends_sending.ensures ∙ c.if-ends_sending.false) (sym c.is_waiting.ensures ∙ c.if-not-is_waiting.true),
       c.turn-turn.ensures.table ∙ c.loop.invariant.2,
       turned_puts P c.is_lawful.ensures.process c.loop.self c.if-wants_word.word c.turn-turn.result c.turn-turn.new.self turned ∙ c.loop.invariant.3,
     )
