@@ -295,10 +295,10 @@ impl<Q: Ratifier + Drop> CyclicWorld<Q> {
 
     /// What happens next, and its answer. A refused event changes nothing. Takes no memory.
     ///
-    /// By the deeds of all trails that lead here, with this turn: a sender that answers Lost saw the
-    /// election of that tenure end with the owner that it names, which is another sender; one that
-    /// answers Own is elected and took the page; what is Delivered is the last frame of the order;
-    /// and Full is answered only where the frame does not fit behind the log.
+    /// By the deeds of all trails that lead here, with this turn: a sender that answers Lost saw
+    /// the election of that tenure end with the owner that it names, which is another sender; one
+    /// that answers Own is elected and took the page; what is Delivered is the last frame of the
+    /// order; and Full is answered only where the frame does not fit behind the log.
     pub fn step(&mut self, event: &Event) -> Result<Answer, StepFault>
         ensures is { IsEvent (event_told event.now) }
         ensures happens { let X = election_of Q.Ratifier in
@@ -447,9 +447,9 @@ impl<Q: Ratifier + Drop> CyclicWorld<Q> {
         }
     }
 
-    /// What a bus promises: some trails lead to it, and of all trails that do the promise holds. And
-    /// by all of them each sender that remembers to whom it lost its tenure has seen the election of
-    /// that tenure end so.
+    /// What a bus promises: some trails lead to it, and of all trails that do the promise holds.
+    /// And by all of them each sender that remembers to whom it lost its tenure has seen the
+    /// election of that tenure end so.
     pub fn promises(&self)
         ensures happened { let X = election_of Q.Ratifier in
             (trails : RingTrails) × LeadTo X self.now trails }
