@@ -4,10 +4,10 @@ use Rattle.atomic_table.specs.Seated.{TableId}
 use Rattle.bus_batch.specs.declared.messages.Item.{Item}
 use Rattle.bus_deliverylog.specs.declared.receiving.RecvTurn.{RecvTurn}
 use Rattle.bus_deliverylog.specs.declared.receiving.RecvTurn.TheVariants as turn
-use Rattle.bus_tenure.specs.Core.{Core}
 use Rattle.bus_world.specs.Headline.{Deed}
 use Rattle.bus_pageslot.specs.Ears.{Agree}
 use Rattle.bus_pageslot.specs.Listening.{Hears}
+use Rattle.bus_pageslot.specs.Processes.{Process}
 use Rattle.bus_pageslot.specs.Rule.{Sat, ear_in, known_in}
 use Rattle.bus_pageslot.specs.Seats.{Spot}
 use Rattle.bus_pageslot.specs.Steps.{Learns, KnowsSent}
@@ -15,7 +15,7 @@ use Rattle.bus_receiver.specs.declared.receivers.Next.{Next}
 use Rattle.bus_receiver.specs.declared.receivers.Next.TheVariants as next
 
 -- the bus that it is of
-abbrev pub bus_of : {E : Type 0} → Spot E → TableId
+abbrev pub bus_of : {C : Type 0} → Spot C → TableId
 bus_of r = r.table_id
 
 -- ---- turns, one after another
@@ -28,13 +28,13 @@ is_found (turn.Item item) = true
 is_found turn.End = true
 
 -- turns that found nothing led from one seat to another
-pub data HearsOn {E : Type 0} (first : Sat E) : Sat E → Type 0 where
+pub data HearsOn {C : Type 0} (first : Sat C) : Sat C → Type 0 where
   Here : HearsOn first first
-  More : (old : Sat E) (answer : RecvTurn) (new : Sat E) → HearsOn first old → Hears old answer new → is_found answer ≡ false → HearsOn first new
+  More : (old : Sat C) (answer : RecvTurn) (new : Sat C) → HearsOn first old → Hears old answer new → is_found answer ≡ false → HearsOn first new
 
 -- turns up to the first that found a head, an item or the end
-pub record Takes {E : Type 0} (first : Sat E) (answer : RecvTurn) (new : Sat E) : Type 0 where
-  pub old : Sat E
+pub record Takes {C : Type 0} (first : Sat C) (answer : RecvTurn) (new : Sat C) : Type 0 where
+  pub old : Sat C
   pub before : HearsOn first old
   pub hears : Hears old answer new
   pub found : is_found answer ≡ true
@@ -49,13 +49,13 @@ is_given (turn.Item item) = true
 is_given turn.End = true
 
 -- turns that found neither led from one seat to another
-pub data PassesOn {E : Type 0} (first : Sat E) : Sat E → Type 0 where
+pub data PassesOn {C : Type 0} (first : Sat C) : Sat C → Type 0 where
   Stays : PassesOn first first
-  Passes : (old : Sat E) (answer : RecvTurn) (new : Sat E) → PassesOn first old → Hears old answer new → is_given answer ≡ false → PassesOn first new
+  Passes : (old : Sat C) (answer : RecvTurn) (new : Sat C) → PassesOn first old → Hears old answer new → is_given answer ≡ false → PassesOn first new
 
 -- turns up to the first that found an item or the end, which answered so
-pub record PassesTo {E : Type 0} (first : Sat E) (answer : RecvTurn) (new : Sat E) : Type 0 where
-  pub old : Sat E
+pub record PassesTo {C : Type 0} (first : Sat C) (answer : RecvTurn) (new : Sat C) : Type 0 where
+  pub old : Sat C
   pub before : PassesOn first old
   pub hears : Hears old answer new
   pub given : is_given answer ≡ true
@@ -63,10 +63,10 @@ pub record PassesTo {E : Type 0} (first : Sat E) (answer : RecvTurn) (new : Sat 
 -- Turns that found neither, and between them a function that is asked whether to go on; Tells f told f' where a call of f may tell
 -- that, and leaves f'. For each turn that answered Empty, and for no other, there is a call of it that told to go on; each call found
 -- it as the call before had left it. When it was made is not said.
-pub data AsksOn {E F : Type 0} (Tells : F → Bool → F → Type 0) (first : Sat E) (given : F) : Sat E → F → Type 0 where
+pub data AsksOn {C F : Type 0} (Tells : F → Bool → F → Type 0) (first : Sat C) (given : F) : Sat C → F → Type 0 where
   Begins : AsksOn Tells first given first given
-  Goes : (old : Sat E) (f : F) (answer : RecvTurn) (new : Sat E) → AsksOn Tells first given old f → Hears old answer new → is_given answer ≡ false → (answer ≡ turn.Empty → ⊥) → AsksOn Tells first given new f
-  Asks : (old : Sat E) (f : F) (new : Sat E) (f' : F) → AsksOn Tells first given old f → Hears old turn.Empty new → Tells f true f' → AsksOn Tells first given new f'
+  Goes : (old : Sat C) (f : F) (answer : RecvTurn) (new : Sat C) → AsksOn Tells first given old f → Hears old answer new → is_given answer ≡ false → (answer ≡ turn.Empty → ⊥) → AsksOn Tells first given new f
+  Asks : (old : Sat C) (f : F) (new : Sat C) (f' : F) → AsksOn Tells first given old f → Hears old turn.Empty new → Tells f true f' → AsksOn Tells first given new f'
 
 -- the answer of the last turn: an item, the end, or that there is nothing more
 abbrev pub last_of : Next → RecvTurn
@@ -75,8 +75,8 @@ last_of next.End = turn.End
 last_of next.Stopped = turn.Empty
 
 -- such turns, and a last one, which answered so; after an Empty the function was asked and told to stop
-pub record PassesWhile {E F : Type 0} (Tells : F → Bool → F → Type 0) (first : Sat E) (given : F) (found : Next) (new : Sat E) : Type 0 where
-  pub old : Sat E
+pub record PassesWhile {C F : Type 0} (Tells : F → Bool → F → Type 0) (first : Sat C) (given : F) (found : Next) (new : Sat C) : Type 0 where
+  pub old : Sat C
   pub asked : F
   pub before : AsksOn Tells first given old asked
   pub hears : Hears old (last_of found) new
@@ -88,13 +88,13 @@ item_or_end None = turn.End
 
 -- ---- what it learns of others
 -- it was told by this sender, which has done these deeds, and knows the log at least up to each length that the sender has stored
-pub record IsTold {E : Type 0} (c : Core E) (deeds : List Deed) (stored : ℕ) (old new : Sat E) : Type 0 where
+pub record IsTold {C : Type 0} (P : Process C) (c : C) (deeds : List Deed) (stored : ℕ) (old new : Sat C) : Type 0 where
   pub got : ℕ
   pub learns : Learns old got new
-  pub sent : KnowsSent c deeds stored (known_in new.0)
+  pub sent : KnowsSent P c deeds stored (known_in new.0)
 
 -- Two receivers know the same words, as many as were loaded. What the one behind was answered begins what the other was answered.
-pub record HaveMet {E : Type 0} (mine theirs mine' theirs' : Sat E) : Type 0 where
+pub record HaveMet {C : Type 0} (mine theirs mine' theirs' : Sat C) : Type 0 where
   pub got : ℕ
   pub first : Learns mine got mine'
   pub second : Learns theirs got theirs'

@@ -17,7 +17,9 @@ mod sizes;
 pub use bus_adoptcommit::{ThreeWord, TwoCollect};
 pub use bus_batch::{CloseFault, Item, Message, PutFault};
 pub use bus_deliverylog::{LogFault, LogRead, Order, RecvTurn, read_log};
-pub use bus_pageslot::{Bus, EndFault, Ended, OfBus, SendFault, Sender, Tap, Unsent};
+pub use bus_pageslot::{
+    Bus, BusOf, EndFault, Ended, OfBus, Seatable, SendFault, Sender, SenderOf, Tap, TapOf, Unsent,
+};
 pub use bus_register::limits::{
     LEAST_LOG_WORDS, MOST_BYTES, MOST_LOG_WORDS, MOST_MESSAGES, MOST_RECEIVERS, MOST_ROUNDS,
     MOST_ROWS, MOST_SENDERS,
@@ -26,7 +28,7 @@ pub use bus_register::{Kind, SenderNo};
 pub use bus_tenure::{Page, Turn};
 pub use bus_world::{MakeFault, Shape};
 pub use hearing::Heard;
-pub use receivers::{Next, Receiver};
+pub use receivers::{Next, Receiver, ReceiverOf};
 pub use sizes::{tenures_needed, tenures_of_sitting, words_needed, words_of_sitting};
 
 #[cfg(test)]

@@ -3,8 +3,6 @@
 ghost use Rattle.std.specs.Prelude.{◌≡◌, ℕ, ◌≤◌, List, length, Some, None, IfOk};
 ghost use Rattle.std.specs.Prelude.{OnErr, true, false};
 ghost use Rattle.std.specs.Ordering.{nat_cmp};
-ghost use Rattle.bus_tenure.specs.Elections.{election_of};
-ghost use Rattle.bus_world.specs.Playing.{layout_of};
 ghost use Rattle.bus_pageslot.specs.Endings.{IsLeft};
 ghost use Rattle.bus_pageslot.specs.Rule.{ear_in, known_in};
 ghost use Rattle.bus_pageslot.specs.Listening.{Hears};
@@ -12,10 +10,10 @@ ghost use Rattle.bus_pageslot.specs.Seats.{table_of, deeds_of, stored_of};
 ghost use Rattle.bus_receiver.specs.Listening.{bus_of, is_found, Takes, HaveMet, IsTold};
 ghost use Rattle.bus_receiver.specs.Listening.{PassesTo, PassesWhile, item_or_end};
 
-use bus_adoptcommit::Ratifier;
 use bus_batch::Item;
 use bus_deliverylog::RecvTurn;
-use bus_pageslot::{Bus, EndFault, Ended, Sender, Tap};
+use bus_pageslot::{BusOf, EndFault, Ended, Seatable, SenderOf, TapOf};
+use bus_tenure::SenderCore;
 use crossbeam_utils::Backoff;
 use std::cmp::Ordering;
 use std::marker::Model;
@@ -36,25 +34,27 @@ pub enum Next {
 /// has it. No call of it takes memory, and none but `take`, `next_item` and `next_item_while`
 /// waits.
 #[derive(Drop)]
-pub struct Receiver<Q: Ratifier> {
-    tap: Tap<Q>,
+pub struct ReceiverOf<S: Seatable> {
+    tap: TapOf<S>,
 }
 
-impl<Q: Ratifier> Model for Receiver<Q> {
-    ghost use Rattle.bus_tenure.specs.Elections.{Elector};
+impl<S: Seatable> Model for ReceiverOf<S> {
     ghost use Rattle.bus_pageslot.specs.Seats.{Spot};
 
-    ghost Value = { Spot (Elector Q) };
+    ghost Value = { Spot S };
 
     ghost view = { λ r. r.tap };
 }
 
-impl<Q: Ratifier + Drop> Receiver<Q> {
+/// A receiver of a bus with a row of words for each of its tenures.
+pub type Receiver<Q> = ReceiverOf<SenderCore<Q>>;
+
+impl<S: Seatable + Drop> ReceiverOf<S> {
     /// The receiver with this seat.
-    pub fn new(tap: Tap<Q>) -> Receiver<Q>
+    pub fn new(tap: TapOf<S>) -> ReceiverOf<S>
         ensures { result ≡ tap }
     {
-        Receiver { tap }
+        ReceiverOf { tap }
     }
 
     /// How many words it has read.
@@ -74,7 +74,7 @@ impl<Q: Ratifier + Drop> Receiver<Q> {
 
     /// One turn: a load of the length where it has read all that it knows, else a load of the word
     /// at its place. After the end it takes no step.
-    pub fn turn(&mut self, bus: &Bus<Q>) -> RecvTurn
+    pub fn turn(&mut self, bus: &BusOf<S>) -> RecvTurn
         requires { bus_of self.old ≡ bus.now.table }
         ensures table { bus_of self.new ≡ bus_of self.old }
         ensures hears { Hears self.old.me result self.new.me }
@@ -83,7 +83,7 @@ impl<Q: Ratifier + Drop> Receiver<Q> {
     }
 
     /// Turns, until one finds a head, an item or the end. That it ends is not promised.
-    pub fn take<W: Wait>(&mut self, wait: &W, bus: &Bus<Q>) -> RecvTurn
+    pub fn take<W: Wait>(&mut self, wait: &W, bus: &BusOf<S>) -> RecvTurn
         requires { bus_of self.old ≡ bus.now.table }
         ensures table { bus_of self.new ≡ bus_of self.old }
         ensures takes { Takes self.old.me result self.new.me }
@@ -105,7 +105,7 @@ impl<Q: Ratifier + Drop> Receiver<Q> {
 
     /// Turns, until one finds an item or the end: the item, and none at the end and ever after. It
     /// waits as `take` does, and that it ends is not promised.
-    pub fn next_item<W: Wait>(&mut self, wait: &W, bus: &Bus<Q>) -> Option<Item>
+    pub fn next_item<W: Wait>(&mut self, wait: &W, bus: &BusOf<S>) -> Option<Item>
         requires { bus_of self.old ≡ bus.now.table }
         ensures table { bus_of self.new ≡ bus_of self.old }
         ensures passes { PassesTo self.old.me (item_or_end result) self.new.me }
@@ -123,7 +123,7 @@ impl<Q: Ratifier + Drop> Receiver<Q> {
     pub fn next_item_while<W: Wait, F: FnMut() -> bool>(
         &mut self,
         wait: &W,
-        bus: &Bus<Q>,
+        bus: &BusOf<S>,
         mut go_on: F,
     ) -> Next
         requires table { bus_of self.old ≡ bus.now.table }
@@ -156,13 +156,13 @@ impl<Q: Ratifier + Drop> Receiver<Q> {
     }
 
     /// A sender tells it of the log: it knows from then on all that the sender has published.
-    pub fn told(&mut self, sender: &mut Sender<Q>, bus: &Bus<Q>)
+    pub fn told(&mut self, sender: &mut SenderOf<S>, bus: &BusOf<S>)
         requires table { (bus_of self.old ≡ bus.now.table)
             × (table_of sender.old ≡ bus.now.table) }
         ensures table { (bus_of self.new ≡ bus_of self.old)
             × (table_of sender.new ≡ table_of sender.old) }
-        ensures told { IsTold sender.old.core (deeds_of sender.old) (stored_of sender.old)
-            self.old.me self.new.me }
+        ensures told { IsTold S.process sender.old.core (deeds_of S.process sender.old)
+            (stored_of sender.old) self.old.me self.new.me }
         ensures sender { (sender.new.core ≡ sender.old.core)
             × (sender.new.seat.me ≡ sender.old.seat.me) }
     {
@@ -171,7 +171,7 @@ impl<Q: Ratifier + Drop> Receiver<Q> {
 
     /// Two receivers meet: from then on both know the log up to the length that is loaded. Answers
     /// how its place compares with the other's: Less where it has read fewer words.
-    pub fn meet(&mut self, other: &mut Receiver<Q>, bus: &Bus<Q>) -> Ordering
+    pub fn meet(&mut self, other: &mut ReceiverOf<S>, bus: &BusOf<S>) -> Ordering
         requires table { (bus_of self.old ≡ bus.now.table)
             × (bus_of other.old ≡ bus.now.table) }
         ensures table { (bus_of self.new ≡ bus_of self.old)
@@ -187,15 +187,14 @@ impl<Q: Ratifier + Drop> Receiver<Q> {
     /// Ends the bus, by a receiver of it: its log and its page, where the page is at home, and
     /// PageOut where a sender that took it has not given it back. Bus and receiver are gone in
     /// either case.
-    pub fn end(bus: Bus<Q>, receiver: Receiver<Q>) -> Result<Ended, EndFault>
+    pub fn end(bus: BusOf<S>, receiver: ReceiverOf<S>) -> Result<Ended, EndFault>
         requires { bus_of receiver ≡ bus.table }
-        ensures ended { let X = election_of Q.Ratifier in
-            IfOk result (λ left. IsLeft X (layout_of Q.protocol bus.shape) receiver.me.0
-            left.log (Some left.page)) }
+        ensures ended { IfOk result
+            (λ left. IsLeft S.process (S.automaton bus.shape) receiver.me.0 left.log
+            (Some left.page)) }
         ensures senders { IfOk result (λ left. left.senders ≡ bus.shape.senders) }
-        ensures out { let X = election_of Q.Ratifier in
-            OnErr result ((log : List ℕ)
-            × IsLeft X (layout_of Q.protocol bus.shape) receiver.me.0 log None) }
+        ensures out { OnErr result ((log : List ℕ)
+            × IsLeft S.process (S.automaton bus.shape) receiver.me.0 log None) }
     {
         bus.end(receiver.tap)
     }

@@ -2,7 +2,7 @@ use Rattle.std.proofs.Common.{◌≡◌, of_calls, inl, inr, refl, sym, ◌∙�
 use Rattle.bus_deliverylog.specs.declared.receiving.RecvTurn.TheVariants as turn
 use Rattle.bus_pageslot.specs.Listening.{Hears}
 use Rattle.bus_receiver.specs.Listening.{is_given, Begins, Goes, Asks}
-use Rattle.bus_receiver.proofs.receivers.Receiver.next_item_while.Goals as goal
+use Rattle.bus_receiver.proofs.receivers.ReceiverOf.next_item_while.Goals as goal
 
 pub loop-init : goal.loop-init
 loop-init g c = (c.requires.callable, Begins, refl)

@@ -1,6 +1,6 @@
 use Rattle.std.proofs.Common.{refl, sym, ◌∙◌}
 use Rattle.bus_receiver.specs.Listening.{Here, More}
-use Rattle.bus_receiver.proofs.receivers.Receiver.take.Goals as goal
+use Rattle.bus_receiver.proofs.receivers.ReceiverOf.take.Goals as goal
 
 pub loop-init : goal.loop-init
 loop-init g c = (Here, refl)
