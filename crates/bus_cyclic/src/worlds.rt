@@ -46,9 +46,10 @@ use std::marker::Model;
 /// its senders and its receivers. Tenure t uses row t mod rows, and there are up to 2^40 tenures.
 ///
 /// A sender shows in a word of its own, its presence, which tenure it visits. Who holds the page
-/// clears the row of the next tenure before it gives the page back, once no presence names the
-/// tenure that used the row before; until then its turns answer Behind. So a sender that stops
-/// while its presence names a tenure may make a holder wait for good.
+/// clears the row of the next tenure before it gives the page back, once it has asked each presence
+/// and found that it does not name the tenure that used the row before; where one does, its turns
+/// answer Behind, until that has changed. So a sender that stops while its presence names a tenure
+/// may make a holder wait for good.
 #[derive(Drop)]
 pub struct CyclicWorld<Q: Ratifier> {
     shape: Shape,

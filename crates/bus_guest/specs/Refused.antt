@@ -33,7 +33,7 @@ pub record AnswersRefuse {E : Type 0} (X : Election E) (v : Visitor E) (got word
   pub closed_at_rest : v.core.phase ≡ Resting → ¬ FeedTells X v got word turn.Closed
   -- Spent while a tenure is left
   pub spent_too_soon : got / 2 < v.core.layout.rows → ¬ FeedTells X v got word turn.Spent
-  -- Lost to an owner that it does not remember, or while it visits no tenure
+  -- Lost where it remembers no owner, or while it visits no tenure
   pub lost_to_another : (t : ℕ) (o : SenderNo) → v.lost ≡ None → ¬ FeedTells X v got word (turn.Lost t o)
   pub lost_away : (t : ℕ) (o : SenderNo) → v.visit ≡ Away → ¬ FeedTells X v got word (turn.Lost t o)
   -- Going where it lost a tenure, came too late, takes a page or gives one back

@@ -9,8 +9,8 @@ use bus_adoptcommit::Ratifier;
 
 /// No answer of a step is true that is Idle; Delivered before the length takes the frame in, or
 /// with other numbers than those of the batch; Full where the frame fits; Closed while the order
-/// goes on; Spent while a tenure is left; Lost to an owner that the guest does not remember; or
-/// Going where one of these is due.
+/// goes on; Spent while a tenure is left; Lost where the guest remembers no owner; or Going where
+/// one of these is due.
 pub fn answers_refuse<Q: Ratifier>()
     ensures { let X = election_of Q.Ratifier in
         (guest : Visitor (Elector Q)) (got word : ℕ) → AnswersRefuse X guest got word }
