@@ -1,8 +1,6 @@
 -- What a seat has learnt, and what a bus of a run leaves behind.
 use Rattle.std.proofs.Common.{◌≡◌, ℕ, List, [], ◌∷◌, ◌++◌, ◌+◌, refl, sym, ap, subst, ◌∙◌, append_assoc, append-nil, add-zero, arith, ◌⊎◌, inl, inr, Option, Some, None, map}
 use Rattle.std.specs.Prelude.{slice_get, IfSome}
-use Rattle.bus_adoptcommit.specs.ThreeWord.{Local}
-use Rattle.bus_tenure.specs.Elections.{Elector}
 use Rattle.bus_batch.specs.Frames.{Order, Spells}
 use Rattle.bus_world.specs.Headline.{IsPrefix}
 use Rattle.bus_world.specs.declared.shapes.Shape.{Shape}
@@ -11,7 +9,7 @@ use Rattle.bus_pageslot.specs.Outcomes.{Outcome}
 use Rattle.bus_pageslot.specs.Rule.{Sat, ear_in, known_in, with_ear}
 use Rattle.bus_pageslot.specs.Steps.{Learns}
 use Rattle.bus_run.specs.Audit.{IsSpelled, OfOrder}
-use Rattle.bus_run.specs.Left.{Shown, IsLeftBy, IsLeftBehind, HasLearnt}
+use Rattle.bus_run.specs.Left.{Held, Shown, IsLeftBy, IsLeftBehind, HasLearnt}
 use Rattle.bus_run.specs.Stops.{LeavesNoPage, LeavesOrder, IsOpen}
 
 -- ---- what a seat has learnt
@@ -65,8 +63,8 @@ more_learnt times a b c g h = record {
 }
 
 -- by one load of the length
-pub one_learnt : (m : Sat (Elector Local)) (got : ℕ) (m' : Sat (Elector Local)) → Learns m got m' → HasLearnt 1 m.0 m'.0
-one_learnt m got m' h = record { known = h.known; now = ap (λ (z : Sat (Elector Local)). z.0) h.now; grows = h.grows }
+pub one_learnt : (m : Sat Held) (got : ℕ) (m' : Sat Held) → Learns m got m' → HasLearnt 1 m.0 m'.0
+one_learnt m got m' h = record { known = h.known; now = ap (λ (z : Sat Held). z.0) h.now; grows = h.grows }
 
 -- ---- what is left
 -- the words that were left spell an order

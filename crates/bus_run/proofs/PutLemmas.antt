@@ -5,9 +5,9 @@ use Rattle.std.specs.Int.{w64, to_be_bytes}
 use Rattle.std.proofs.lemmas.Grind.{flat_map-append}
 use Rattle.std.proofs.lemmas.Option.{slice_get-get_or}
 use Rattle.atomic_table.specs.Seated.{TableId}
-use Rattle.bus_tenure.specs.Core.{Layout}
 use Rattle.bus_world.specs.Headline.{Deed, HasPut, put_of, puts}
 use Rattle.bus_pageslot.specs.Buses.{AreNewSeats}
+use Rattle.bus_pageslot.specs.Processes.{Process, Automaton}
 use Rattle.bus_pageslot.specs.Seats.{Seated, deeds_of}
 use Rattle.bus_run.specs.Numbers.{numbers_below}
 
@@ -20,5 +20,5 @@ pub one_number : (n : ℕ) (before after : List (List ℕ)) → before ≡ numbe
 one_number n before after had more = more ∙ ap (λ z. z ++ to_be_bytes w64 n ∷ []) had ∙ (let next : suc n ≡ n + 1 = omega arith in ap numbers_below next)
 
 -- new senders have put nothing
-pub none_put : {E : Type 0} (x : Layout) (table : TableId) (many : ℕ) (senders : List (Seated E)) → AreNewSeats x table many senders → All (λ s. puts (deeds_of s) ≡ []) senders
-none_put x table many senders h k d l = ap puts (h.each k _ (slice_get-get_or senders k d l)).deeds
+pub none_put : {C : Type 0} (P : Process C) (A : Automaton C) (table : TableId) (many : ℕ) (senders : List (Seated C)) → AreNewSeats P A table many senders → All (λ s. puts (deeds_of P s) ≡ []) senders
+none_put P A table many senders h k d l = ap puts (h.each k _ (slice_get-get_or senders k d l)).deeds

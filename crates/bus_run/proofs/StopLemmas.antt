@@ -4,15 +4,13 @@ use Rattle.std.specs.Prelude.{slice_get, All, Result, Ok, Err, IsErr, IsErrAnd, 
 use Rattle.std.proofs.lemmas.List.{take_more, length-take}
 use Rattle.std.proofs.lemmas.Bool.{true≢false}
 use Rattle.std.proofs.lemmas.Option.{slice_get_within, same_Some, get_or_from_slice_get}
-use Rattle.bus_adoptcommit.specs.ThreeWord.{Local}
 use Rattle.bus_batch.specs.Frames.{Order}
-use Rattle.bus_tenure.specs.Elections.{Elector}
 use Rattle.bus_pageslot.specs.Outcomes.{Outcome}
 use Rattle.bus_pageslot.specs.Seats.{Seated}
 use Rattle.bus_receiver.specs.Hearing.{Hearing}
 use Rattle.bus_world.specs.declared.shapes.Shape.{Shape}
 use Rattle.bus_run.specs.Audit.{IsSpelled, IsFirstFault}
-use Rattle.bus_run.specs.Left.{Shown}
+use Rattle.bus_run.specs.Left.{Held, Shown}
 use Rattle.bus_run.specs.Stops.{AreInOrder, IsWhole, is_gate, has_gate, AreUnstopped, IsFirstStop, IsLate, IsTextFault, IsNamed, IsStop}
 use Rattle.bus_run.specs.declared.audits.AuditFault.{AuditFault}
 use Rattle.bus_run.specs.declared.audits.AuditFault.TheVariants.{Count, NotEnded}
@@ -60,7 +58,7 @@ pub named : (order : Order) (heards : List Hearing) (why : AuditFault) → IsFir
 named order heards (Count r s) h = (slice_get_within heards r h.1 h.2, h.3)
 named order heards (NotEnded r) h = slice_get_within heards r h.1 h.2
 
-module _ {D E : Type 0} (number : D → ℕ) (noted : D → Option SenderFault) (sender : D → Seated (Elector Local)) (shape : Shape) (messages room : ℕ) (desks : List D) (ears : List E) (seats : List Shown) (heards : List Hearing) where
+module _ {D E : Type 0} (number : D → ℕ) (noted : D → Option SenderFault) (sender : D → Seated Held) (shape : Shape) (messages room : ℕ) (desks : List D) (ears : List E) (seats : List Shown) (heards : List Hearing) where
   -- the crew's fault
   abbrev pub CrewFault : RunFault → Type 0
   CrewFault fault = ((fault ≡ run.Spawn) × (IsWhole number shape desks ears → ⊥)) ⊎ (IsWhole number shape desks ears × IsFirstStop noted desks fault) ⊎ (IsWhole number shape desks ears × AreUnstopped noted desks × IsLate sender shape messages room desks seats heards fault)

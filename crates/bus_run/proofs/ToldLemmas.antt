@@ -1,5 +1,5 @@
 -- What a sender has put is what its items carry, in what a receiver knows and in the log that this begins.
-use Rattle.std.proofs.Common.{◌≡◌, ℕ, zero, suc, ◌+◌, ◌⊎◌, inl, inr, Some, List, [], ◌∷◌, ◌++◌, length, map, true, false, refl, sym, ap, ◌∙◌, append_assoc, append-nil, arith}
+use Rattle.std.proofs.Common.{◌≡◌, ℕ, zero, suc, ◌+◌, ◌⊎◌, inl, inr, Some, List, [], ◌∷◌, ◌++◌, length, map, refl, sym, ap, ◌∙◌, append_assoc, append-nil, arith}
 use Rattle.std.specs.Prelude.{slice_get, filter, flat_map, option_map, ◌==◌}
 use Rattle.std.specs.Int.{w64, to_be_bytes}
 use Rattle.std.proofs.lemmas.List.{length-map, length-append, nil_from_length}
@@ -11,11 +11,8 @@ use Rattle.bus_batch.specs.declared.messages.Item.{Item}
 use Rattle.bus_batch.specs.Frames.{Frame, IsFrame, AreFramesFrom, Order, Spells, order_of, items_of, frame_words, log_words}
 use Rattle.bus_batch.proofs.FrameLaws.{same_frame}
 use Rattle.bus_deliverylog.specs.Orders.{of_sender}
-use Rattle.bus_tenure.specs.Core.{Core}
-use Rattle.bus_tenure.specs.declared.phases.Phase.{Phase}
-use Rattle.bus_tenure.specs.declared.phases.Phase.TheVariants as phase
 use Rattle.bus_world.specs.Headline.{Deed, IsPrefix, puts}
-use Rattle.bus_world.specs.Waiting.{waiting_at}
+use Rattle.bus_pageslot.specs.Processes.{Process}
 use Rattle.bus_pageslot.specs.Steps.{KnowsSent}
 use Rattle.bus_run.specs.Numbers.{numbers_below}
 use Rattle.bus_run.specs.Told.{HasTold}
@@ -93,25 +90,16 @@ still_told s many words more h grown = record {
   carried = h.carried;
 }
 
-waits_not : {E : Type 0} (c : Core E) (z : Phase E) → c.queue.messages ≡ [] → waiting_at c z ≡ []
-waits_not c phase.Resting e = e
-waits_not c (phase.Electing t a) e = e
-waits_not c (phase.Taken t) e = e
-waits_not c (phase.Holding t page stored true) e = refl
-waits_not c (phase.Holding t page stored false) e = e
-waits_not c (phase.Giving t reason) e = refl
-
--- a sender with nothing in its batch has told all that it put
-pub told_now : {E : Type 0} (c : Core E) (deeds : List Deed) (stored : ℕ) (known : List ℕ) (s many : ℕ) → KnowsSent c deeds stored known → c.me ≡ s → length c.queue.messages ≡ 0 → puts deeds ≡ numbers_below many → HasTold s many known
-told_now c deeds stored known s many h me none put = record {
+-- a sender of which nothing waits has told all that it put
+pub told_now : {C : Type 0} (P : Process C) (c : C) (deeds : List Deed) (stored : ℕ) (known : List ℕ) (s many : ℕ) → KnowsSent P c deeds stored known → P.me c ≡ s → P.waiting c ≡ [] → puts deeds ≡ numbers_below many → HasTold s many known
+told_now P c deeds stored known s many h me none put = record {
   front = known;
   begins = record { rest = []; together = append-nil known };
-  senders = c.layout.senders;
+  senders = (P.extent c).senders;
   order = h.order;
   owners = h.owners;
   spelled = h.spelled;
   carried =
       let messages = map (λ (i : Item). i.message) (of_sender s h.order) in
-      let waits = waits_not c c.phase (nil_from_length c.queue.messages none) in
-      sym (append-nil messages) ∙ ap (λ z. messages ++ z) (sym waits) ∙ ap (λ k. map (λ (i : Item). i.message) (of_sender k h.order) ++ waiting_at c c.phase) (sym me) ∙ h.sent ∙ put;
+      sym (append-nil messages) ∙ ap (λ z. messages ++ z) (sym none) ∙ ap (λ k. map (λ (i : Item). i.message) (of_sender k h.order) ++ P.waiting c) (sym me) ∙ h.sent ∙ put;
 }

@@ -1,7 +1,7 @@
 -- What receivers noted, against the order of items that a bus left behind.
 use Rattle.std.specs.Prelude.{◌≡◌, ◌≢◌, ℕ, ◌<◌, true, false, List, length, sum, take, All, slice_index, slice_get, Some}
 use Rattle.std.specs.Int.{w64, to_be_bytes}
-use Rattle.bus_register.specs.declared.limits.TheConstants.{MOST_SENDERS, MOST_ROWS, MOST_LOG_WORDS}
+use Rattle.bus_register.specs.declared.limits.TheConstants.{MOST_SENDERS, MOST_LOG_WORDS}
 use Rattle.bus_register.specs.declared.registers.SenderNo.{SenderNo}
 use Rattle.bus_batch.specs.declared.messages.Item.{Item}
 use Rattle.bus_batch.specs.Frames.{Order, Spells}
@@ -9,7 +9,7 @@ use Rattle.bus_deliverylog.specs.Orders.{of_sender}
 use Rattle.bus_world.specs.declared.shapes.Shape.{Shape}
 use Rattle.bus_pageslot.specs.Outcomes.{Outcome}
 use Rattle.bus_receiver.specs.Hearing.{Hearing}
-use Rattle.bus_run.specs.declared.limits.TheConstants.{ROUNDS}
+use Rattle.bus_run.specs.declared.limits.TheConstants.{ROUNDS, ROWS}
 use Rattle.bus_run.specs.declared.audits.AuditFault.{AuditFault}
 use Rattle.bus_run.specs.declared.audits.AuditFault.TheVariants.{Count, NotEnded}
 
@@ -60,4 +60,4 @@ IsClosed order = order.ended ≡ true
 
 -- the shape of a run's bus
 abbrev pub shape_of_run : ℕ → ℕ → Shape
-shape_of_run senders receivers = record { senders = senders; receivers = receivers; rounds = ROUNDS; rows = MOST_ROWS; log_words = MOST_LOG_WORDS }
+shape_of_run senders receivers = record { senders = senders; receivers = receivers; rounds = ROUNDS; rows = ROWS; log_words = MOST_LOG_WORDS }

@@ -4,17 +4,14 @@ use Rattle.std.specs.List.{list_any}
 use Rattle.bus_register.specs.declared.limits.TheConstants.{MOST_SENDERS}
 use Rattle.bus_batch.specs.Frames.{Order}
 use Rattle.bus_deliverylog.specs.Orders.{of_sender}
-use Rattle.bus_adoptcommit.specs.ThreeWord.{Local}
-use Rattle.bus_tenure.specs.Elections.{Elector}
 use Rattle.bus_pageslot.specs.Seats.{Seated, deeds_of}
 use Rattle.bus_pageslot.specs.Outcomes.{Outcome}
 use Rattle.bus_receiver.specs.Hearing.{Hearing}
 use Rattle.bus_world.specs.Headline.{puts}
-use Rattle.bus_world.specs.Playing.{IsServed, MakeRefused}
 use Rattle.bus_world.specs.declared.shapes.MakeFault.{MakeFault}
 use Rattle.bus_world.specs.declared.shapes.Shape.{Shape}
 use Rattle.bus_run.specs.Audit.{shape_of_run, OfOrder, IsSpelled, SendsEach, IsClosed, IsFirstFault}
-use Rattle.bus_run.specs.Left.{Shown, IsLeftBy, IsLeftBehind, IsToldByAll}
+use Rattle.bus_run.specs.Left.{Held, run_process, RunServes, RunRefuses, batch_of, Shown, IsLeftBy, IsLeftBehind, IsToldByAll}
 use Rattle.bus_run.specs.Numbers.{numbers_below}
 use Rattle.bus_run.specs.declared.audits.AuditFault.{AuditFault}
 use Rattle.bus_run.specs.declared.audits.AuditFault.TheVariants.{Count, NotEnded}
@@ -56,8 +53,8 @@ IsFirstStop noted desks other = ⊥
 
 -- ---- a whole crew of which no sender was stopped
 -- a sender has put just the numbers below this one, and none of them waits
-abbrev pub HasSent : {E : Type 0} → ℕ → Seated E → Type 0
-HasSent messages s = (length s.core.queue.messages ≡ 0) × (puts (deeds_of s) ≡ numbers_below messages)
+abbrev pub HasSent : ℕ → Seated Held → Type 0
+HasSent messages s = (length (batch_of s).messages ≡ 0) × (puts (deeds_of run_process s) ≡ numbers_below messages)
 
 -- the lowest that has not sent all
 abbrev pub IsFirstUnsent : {D : Type 0} → (D → Type 0) → List D → ℕ → Type 0
@@ -94,7 +91,7 @@ IsFirstUnfair senders messages heards why order = IsClosed order × SendsEach se
 -- Why a run with such a crew did not end well, the first cause that holds: a sender has not sent all; there was no room for what the
 -- receivers noted; the bus that the first receiver ended had its page out, or an order that has not ended, which the first sender
 -- answers for; or what it left is not what was sent, or not what was noted.
-module _ {D : Type 0} (sender : D → Seated (Elector Local)) (shape : Shape) (messages room : ℕ) (desks : List D) (seats : List Shown) (heards : List Hearing) where
+module _ {D : Type 0} (sender : D → Seated Held) (shape : Shape) (messages room : ℕ) (desks : List D) (seats : List Shown) (heards : List Hearing) where
   abbrev pub Sent : D → Type 0
   Sent d = HasSent messages (sender d)
 
@@ -137,4 +134,4 @@ IsStop senders receivers other = ⊥
 -- A run that did not end well had no bus, for the first cause that holds, or went wrong on a bus of a served shape.
 abbrev pub IsRunFault : ℕ → ℕ → RunFault → Type 0
 IsRunFault senders receivers fault =
-    ((why : MakeFault) × (fault ≡ run.Make why) × MakeRefused (shape_of_run senders receivers) why) ⊎ (IsStop senders receivers fault × IsServed (shape_of_run senders receivers))
+    ((why : MakeFault) × (fault ≡ run.Make why) × RunRefuses (shape_of_run senders receivers) why) ⊎ (IsStop senders receivers fault × RunServes (shape_of_run senders receivers))

@@ -3,23 +3,29 @@
 ghost use Rattle.std.specs.Prelude.{◌≡◌};
 
 use bus_adoptcommit::ThreeWord;
-use bus_pageslot::OfBus;
+use bus_pageslot::{BusOf, OfBus, SenderOf, TapOf};
+use bus_receiver::ReceiverOf;
+use bus_tenure::SenderCore;
 use std::marker::PhantomData;
 
 /// What its elections are decided by.
 pub type Ratified = ThreeWord;
 
+/// What a sender of it holds: this says which bus a run goes by, with the definitions of
+/// specs/Left.
+pub type Held = SenderCore<Ratified>;
+
 /// The bus.
-pub type Bus = bus_pageslot::Bus<Ratified>;
+pub type Bus = BusOf<Held>;
 
 /// A sender of it.
-pub type Sender = bus_pageslot::Sender<Ratified>;
+pub type Sender = SenderOf<Held>;
 
 /// A receiver's right to load from it.
-pub type Tap = bus_pageslot::Tap<Ratified>;
+pub type Tap = TapOf<Held>;
 
 /// A receiver of it.
-pub type Receiver = bus_receiver::Receiver<Ratified>;
+pub type Receiver = ReceiverOf<Held>;
 
 /// The bus B: that a worker is of it stands in the worker's type.
 #[derive(Drop)]

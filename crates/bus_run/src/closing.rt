@@ -7,7 +7,7 @@ ghost use Rattle.std.specs.Vec.{vec_capacity};
 ghost use Rattle.bus_run.specs.Audit.{OfOrder, IsSpelled, IsFair, SendsEach, IsClosed};
 ghost use Rattle.bus_run.specs.Audit.{CarriesNumbers, IsSummed, CountsAll};
 ghost use Rattle.bus_run.specs.Left.{IsLeftBehind, IsLeftBy, IsEndedBy, IsToldByAll};
-ghost use Rattle.bus_run.specs.Left.{Shown, HasLearnt};
+ghost use Rattle.bus_run.specs.Left.{Shown, HasLearnt, number_of};
 ghost use Rattle.bus_run.specs.Told.{HasTold};
 ghost use Rattle.bus_pageslot.specs.Rule.{known_in};
 ghost use Rattle.bus_receiver.specs.Listening.{bus_of};
@@ -42,7 +42,7 @@ pub fn end_and_audit<B: OfBus>(
     requires senders { shape.senders ≤ MOST_SENDERS }
     requires bus { the.bus.shape ≡ shape }
     ensures whole { OnOk result
-        (IsWhole (λ desk. desk.sender.core.me) shape crew.desks.items crew.ears.items) }
+        (IsWhole (λ desk. number_of desk.sender) shape crew.desks.items crew.ears.items) }
     ensures unstopped { OnOk result (AreUnstopped (λ desk. desk.fault) crew.desks.items) }
     ensures of { IfOk result (λ report. report.ended.senders ≡ shape.senders) }
     ensures left { IfOk result (λ report. IsLeftBehind shape report.ended) }
@@ -64,7 +64,7 @@ pub fn end_and_audit<B: OfBus>(
     ensures spelled { IfOk result (λ report. IsSpelled report.ended) }
 
     // Who is missing comes before what stopped a sender, and that before all else.
-    ensures fault { let Whole = IsWhole (λ desk. desk.sender.core.me) shape
+    ensures fault { let Whole = IsWhole (λ desk. number_of desk.sender) shape
         crew.desks.items crew.ears.items in
         IfErr result (λ fault. ((fault ≡ RunFault.Spawn) × (Whole → ⊥))
         ⊎ (Whole × IsFirstStop (λ desk. desk.fault) crew.desks.items fault)
@@ -86,9 +86,9 @@ pub fn end_and_audit<B: OfBus>(
 /// All senders have come back, in order, and all receivers.
 fn is_whole<B: OfBus>(desks: &[Desk<B>], ears: &[Ear<B>], shape: Shape) -> bool
     ensures whole { result ≡ true
-        → IsWhole (λ desk. desk.sender.core.me) shape desks.now ears.now }
+        → IsWhole (λ desk. number_of desk.sender) shape desks.now ears.now }
     ensures missing { result ≡ false
-        → IsWhole (λ desk. desk.sender.core.me) shape desks.now ears.now → ⊥ }
+        → IsWhole (λ desk. number_of desk.sender) shape desks.now ears.now → ⊥ }
 {
     let all_send = desks.len() as u64 == shape.senders && !desks.is_empty();
     let all_hear = ears.len() as u64 == shape.receivers && !ears.is_empty();
@@ -97,9 +97,9 @@ fn is_whole<B: OfBus>(desks: &[Desk<B>], ears: &[Ear<B>], shape: Shape) -> bool
 
 /// The desk at each place is that of the sender with the number of the place.
 fn are_in_order<B: OfBus>(desks: &[Desk<B>]) -> bool
-    ensures order { result ≡ true → AreInOrder (λ desk. desk.sender.core.me) desks.now }
+    ensures order { result ≡ true → AreInOrder (λ desk. number_of desk.sender) desks.now }
     ensures other { result ≡ false
-        → AreInOrder (λ desk. desk.sender.core.me) desks.now → ⊥ }
+        → AreInOrder (λ desk. number_of desk.sender) desks.now → ⊥ }
 {
     for (place, desk) in desks.iter().enumerate() {
         if desk.number() != place as u64 {
@@ -150,7 +150,7 @@ fn end_whole<B: OfBus>(
 ) -> Result<Report, RunFault>
     requires senders { shape.senders ≤ MOST_SENDERS }
     requires bus { the.bus.shape ≡ shape }
-    requires whole { IsWhole (λ desk. desk.sender.core.me) shape desks.items ears.items }
+    requires whole { IsWhole (λ desk. number_of desk.sender) shape desks.items ears.items }
     ensures of { IfOk result (λ report. report.ended.senders ≡ shape.senders) }
     ensures left { IfOk result (λ report. IsLeftBehind shape report.ended) }
     ensures by { let Ends = IsToldByAll (λ desk. desk.sender) messages desks.items
@@ -248,7 +248,7 @@ fn tell_all<B: OfBus>(
     requires sent { All (λ desk. HasSent messages desk.sender) desks.items }
     ensures table { bus_of result ≡ B.table }
     ensures learnt { HasLearnt (length desks.items) first.me.0 result.me.0 }
-    ensures told { All (λ desk. HasTold desk.sender.core.me messages (known_in result.me.0))
+    ensures told { All (λ desk. HasTold (number_of desk.sender) messages (known_in result.me.0))
         desks.items }
 {
     let mut first = first;
@@ -264,7 +264,7 @@ fn tell<B: OfBus>(receiver: &mut Receiver, desk: Desk<B>, the: &TheBus<B>, messa
     requires sent { HasSent messages desk.sender }
     ensures table { bus_of receiver.new ≡ B.table }
     ensures learnt { HasLearnt 1 receiver.old.me.0 receiver.new.me.0 }
-    ensures told { HasTold desk.sender.core.me messages (known_in receiver.new.me.0) }
+    ensures told { HasTold (number_of desk.sender) messages (known_in receiver.new.me.0) }
 {
     let Desk { mut sender, .. } = desk;
     receiver.told(&mut sender, &the.bus);

@@ -1,10 +1,9 @@
 //! A run: a bus that a worker of each sender and of each receiver takes its steps on.
 
 ghost use Rattle.std.specs.Prelude.{◌≡◌, ◌≤◌, [], All, length, IfOk, OnOk, IfErr};
-ghost use Rattle.bus_world.specs.Playing.{IsServed};
 ghost use Rattle.bus_run.specs.Audit.{OfOrder, IsSpelled, IsFair, SendsEach, IsClosed};
 ghost use Rattle.bus_run.specs.Audit.{shape_of_run, CarriesNumbers, CountsAll};
-ghost use Rattle.bus_run.specs.Left.{IsLeftBehind};
+ghost use Rattle.bus_run.specs.Left.{run_process, RunServes, IsLeftBehind};
 ghost use Rattle.bus_run.specs.Stops.{IsStop, IsRunFault};
 ghost use Rattle.bus_pageslot.specs.Seats.{table_of, deeds_of};
 ghost use Rattle.bus_world.specs.Headline.{puts};
@@ -14,11 +13,11 @@ use crate::closing::end_and_audit;
 use crate::crews::Crew;
 use crate::faults::RunFault;
 use crate::gates::Gate;
-use crate::limits::{MOST_MESSAGES_EACH, ROUNDS};
+use crate::limits::{MOST_MESSAGES_EACH, ROUNDS, ROWS};
 use crate::reports::Report;
 use crate::workers::{Desk, Ear, HearAll, Load, SendAll, desks_of, ears_of};
 use bus_pageslot::OfBus;
-use bus_register::limits::{MOST_LOG_WORDS, MOST_ROWS};
+use bus_register::limits::MOST_LOG_WORDS;
 use bus_world::Shape;
 use std::alloc::Global;
 use std::marker::Brand;
@@ -39,7 +38,7 @@ pub fn run<R: Threads + Wait + Sync, G: Gate + Sync>(
     gate: &G,
 ) -> Result<Report, RunFault>
     requires { messages ≤ MOST_MESSAGES_EACH }
-    ensures served { OnOk result (IsServed (shape_of_run senders receivers)) }
+    ensures served { OnOk result (RunServes (shape_of_run senders receivers)) }
     ensures of { IfOk result (λ report. report.ended.senders ≡ senders) }
     ensures left { IfOk result
         (λ report. IsLeftBehind (shape_of_run senders receivers) report.ended) }
@@ -58,7 +57,7 @@ pub fn run<R: Threads + Wait + Sync, G: Gate + Sync>(
         senders,
         receivers,
         rounds: ROUNDS,
-        rows: MOST_ROWS as u64,
+        rows: ROWS,
         log_words: MOST_LOG_WORDS,
     };
     let made = Bus::new(alloc, shape)?;
@@ -76,9 +75,9 @@ fn run_on<B: OfBus + Send + Sync, R: Threads + Wait + Sync, G: Gate + Sync>(
 ) -> Result<Report, RunFault>
     requires bus { (made.0.table ≡ B.table) × (made.0.shape ≡ shape) }
     requires senders { All (λ sender. table_of sender ≡ B.table) made.1.items }
-    requires put { All (λ sender. puts (deeds_of sender) ≡ []) made.1.items }
+    requires put { All (λ sender. puts (deeds_of run_process sender) ≡ []) made.1.items }
     requires taps { All (λ tap. tap.table_id ≡ B.table) made.2.items }
-    requires served { IsServed shape }
+    requires served { RunServes shape }
     ensures of { IfOk result (λ report. report.ended.senders ≡ shape.senders) }
     ensures left { IfOk result (λ report. IsLeftBehind shape report.ended) }
     ensures sent { IfOk result

@@ -9,6 +9,7 @@ ghost use Rattle.bus_batch.specs.declared.batches.CloseFault.{CloseFault};
 ghost use Rattle.bus_batch.specs.declared.batches.PutFault.{PutFault};
 ghost use Rattle.bus_pageslot.specs.Seats.{table_of, deeds_of};
 ghost use Rattle.bus_run.specs.Audit.{IsSummed};
+ghost use Rattle.bus_run.specs.Left.{run_process, number_of, batch_of};
 ghost use Rattle.bus_run.specs.Numbers.{numbers_below};
 ghost use Rattle.bus_run.specs.Sending.{SendsOn, Closes};
 ghost use Rattle.bus_run.specs.Stops.{HasSent};
@@ -55,7 +56,7 @@ pub struct Desk<B: OfBus> {
     put: u64,
     of: PhantomData<B>,
     ghost of_bus: { table_of sender ≡ B.table },
-    ghost has_put: { puts (deeds_of sender) ≡ numbers_below put },
+    ghost has_put: { puts (deeds_of run_process sender) ≡ numbers_below put },
 }
 
 /// A receiver of the bus B with what was noted of its answers.
@@ -99,9 +100,9 @@ impl<B: OfBus> Desk<B> {
     /// The desk of a sender that has not begun.
     pub fn new(sender: Sender, seed: u64) -> Desk<B>
         requires table { table_of sender ≡ B.table }
-        requires put { puts (deeds_of sender) ≡ [] }
+        requires put { puts (deeds_of run_process sender) ≡ [] }
         ensures sender { result.sender ≡ sender }
-        ensures words { result.rng ≡ generator_of seed sender.core.me }
+        ensures words { result.rng ≡ generator_of seed (number_of sender) }
         ensures fault { result.fault ≡ None }
     {
         let rng = generator(seed, u64::from(sender.number().0));
@@ -116,7 +117,7 @@ impl<B: OfBus> Desk<B> {
 
     /// The number of its sender.
     pub fn number(&self) -> u64
-        ensures { result ≡ self.now.sender.core.me }
+        ensures { result ≡ number_of self.now.sender }
     {
         u64::from(self.sender.number().0)
     }
@@ -135,7 +136,7 @@ impl<B: OfBus> Desk<B> {
         ensures fault { self.new.fault ≡ self.old.fault }
         ensures closed { result ≡ true → Closes self.old.sender Turn.Closed self.new.sender }
         ensures open { result ≡ false
-            → ((why : CloseFault) × IsCloseFault self.old.sender.core.queue why)
+            → ((why : CloseFault) × IsCloseFault (batch_of self.old.sender) why)
             ⊎ ((answer : _) × (answer ≢ Turn.Closed)
             × Closes self.old.sender answer self.new.sender) }
     {
@@ -188,11 +189,11 @@ pub fn desks_of<B: OfBus>(
     seed: u64,
 ) -> Result<Vec<Desk<B>>, AllocError>
     requires table { All (λ sender. table_of sender ≡ B.table) senders.items }
-    requires put { All (λ sender. puts (deeds_of sender) ≡ []) senders.items }
+    requires put { All (λ sender. puts (deeds_of run_process sender) ≡ []) senders.items }
     ensures senders { IfOk result
         (λ desks. map (λ desk. desk.sender) desks.items ≡ senders.items) }
     ensures words { IfOk result (λ desks. All
-        (λ desk. desk.rng ≡ generator_of seed desk.sender.core.me) desks.items) }
+        (λ desk. desk.rng ≡ generator_of seed (number_of desk.sender)) desks.items) }
     ensures unstopped { IfOk result (λ desks. All (λ desk. desk.fault ≡ None) desks.items) }
 {
     let mut desks = Vec::with_capacity(alloc, senders.len())?;
@@ -268,14 +269,15 @@ impl<B: OfBus, W: Wait, G> SendAll<'_, B, W, G> {
 /// Puts a number as a message of 8 bytes, the highest first. Says whether it was taken.
 fn put_number(sender: &mut Sender, number: u64) -> bool
     ensures taken { result ≡ true
-        → sender.new.core.queue.messages ≡ sender.old.core.queue.messages ++ to_be_bytes w64
-        number ∷ [] }
-    ensures refused { result ≡ false → (MOST_MESSAGES_EACH ≤ next_of sender.old.core.queue)
-        ⊎ ((why : PutFault) × IsPutFault sender.old.core.queue 8 why) }
+        → (batch_of sender.new).messages
+        ≡ (batch_of sender.old).messages ++ to_be_bytes w64 number ∷ [] }
+    ensures refused { result ≡ false → (MOST_MESSAGES_EACH ≤ next_of (batch_of sender.old))
+        ⊎ ((why : PutFault) × IsPutFault (batch_of sender.old) 8 why) }
     ensures table { table_of sender.new ≡ table_of sender.old }
-    ensures put { result ≡ true → puts (deeds_of sender.new)
-        ≡ puts (deeds_of sender.old) ++ to_be_bytes w64 number ∷ [] }
-    ensures kept { result ≡ false → puts (deeds_of sender.new) ≡ puts (deeds_of sender.old) }
+    ensures put { result ≡ true → puts (deeds_of run_process sender.new)
+        ≡ puts (deeds_of run_process sender.old) ++ to_be_bytes w64 number ∷ [] }
+    ensures kept { result ≡ false
+        → puts (deeds_of run_process sender.new) ≡ puts (deeds_of run_process sender.old) }
 {
     sender.next_number() < MOST_MESSAGES_EACH && sender.put(&number.to_be_bytes()).is_ok()
 }

@@ -2,11 +2,12 @@ use Rattle.std.proofs.Common.{sym, ◌∙◌, subst}
 use Rattle.std.proofs.lemmas.List.{take_all}
 use Rattle.bus_run.specs.Stops.{AreInOrder}
 use Rattle.bus_run.proofs.StopLemmas.{one_more_in_order}
+use Rattle.bus_run.specs.Left.{number_of}
 use Rattle.bus_run.proofs.closing.are_in_order.Goals as goal
 
 pub loop-place-preserved : goal.loop-place-preserved
 loop-place-preserved g c =
-    one_more_in_order (λ desk. desk.sender.core.me) c.args.desks.now c.loop-place.place c.index-desks-place.result c.loop-place-test.true c.index-desks-place.is c.loop-place.invariant (sym c.number.ensures ∙ c.if-number-place.false)
+    one_more_in_order (λ desk. number_of desk.sender) c.args.desks.now c.loop-place.place c.index-desks-place.result c.loop-place-test.true c.index-desks-place.is c.loop-place.invariant (sym c.number.ensures ∙ c.if-number-place.false)
 
 pub returns-clause-order : goal.returns-clause-order
-returns-clause-order g c = λ is. subst (AreInOrder (λ desk. desk.sender.core.me)) (take_all c.loop-place.place c.args.desks.now c.loop-place-test.false) c.loop-place.invariant
+returns-clause-order g c = λ is. subst (AreInOrder (λ desk. number_of desk.sender)) (take_all c.loop-place.place c.args.desks.now c.loop-place-test.false) c.loop-place.invariant

@@ -1,6 +1,7 @@
 use Rattle.std.proofs.Common.{take}
 use Rattle.bus_run.specs.Stops.{AreInOrder}
+use Rattle.bus_run.specs.Left.{number_of}
 use Rattle.bus_run.proofs.closing.are_in_order.Given as goal
 
 abbrev pub invariant-loop-place : goal.invariant-loop-place
-invariant-loop-place g l = AreInOrder (λ desk. desk.sender.core.me) (take l.place l.desks)
+invariant-loop-place g l = AreInOrder (λ desk. number_of desk.sender) (take l.place l.desks)

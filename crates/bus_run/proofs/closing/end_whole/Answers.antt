@@ -6,7 +6,7 @@ use Rattle.bus_deliverylog.specs.Orders.{of_sender}
 use Rattle.bus_pageslot.specs.Rule.{known_in}
 use Rattle.bus_world.specs.declared.shapes.Shape.{Shape}
 use Rattle.bus_run.specs.Audit.{IsFair, IsFirstFault}
-use Rattle.bus_run.specs.Left.{Shown, IsLeftBy, IsToldByAll}
+use Rattle.bus_run.specs.Left.{Shown, IsLeftBy, IsToldByAll, number_of}
 use Rattle.bus_run.specs.Stops.{HasSent, IsFirstUnsent, IsFirstMiscount, IsFirstUnfair, IsLate}
 use Rattle.bus_run.specs.Told.{HasTold}
 use Rattle.bus_run.specs.declared.faults.RunFault.{RunFault}
@@ -94,7 +94,7 @@ returns-clause-carried g c = λ order owners spells s k item lt at.
     let many = c.args.messages in
     let known = known_in c.tell_all-told.result.me.0 in
     let below : s < length c.args.desks.items = subst (λ n. s < n) (sym c.requires.whole.all_send) lt in
-    let told = of_each (λ desk. desk.sender.core.me) (λ desk. HasTold desk.sender.core.me many known) c.args.desks.items s c.requires.whole.in_order c.tell_all-told.ensures.told below in
+    let told = of_each (λ desk. number_of desk.sender) (λ desk. HasTold (number_of desk.sender) many known) c.args.desks.items s c.requires.whole.in_order c.tell_all-told.ensures.told below in
     let has_told = still_told s many known left.log (subst (λ n. HasTold n many known) told.1 told.2) c.in_ok-ended.ensures.front in
     carries (of_sender s order) many k item (told_all s many left.log left.senders order owners has_told spells (c.in_ok-all_sent.ensures.ok order owners spells s lt)) at
 

@@ -1,5 +1,5 @@
 use Rattle.std.proofs.Common.{◌∷◌, [], length, length-append, subst, sym}
-use Rattle.bus_run.specs.Left.{HasLearnt}
+use Rattle.bus_run.specs.Left.{HasLearnt, number_of}
 use Rattle.std.proofs.lemmas.List.Elements.{All-nil, All-push, All-weaker}
 use Rattle.bus_pageslot.specs.Rule.{known_in}
 use Rattle.bus_run.specs.Told.{HasTold}
@@ -11,7 +11,7 @@ pub loop-desk-init : goal.loop-desk-init
 loop-desk-init g c = record {
   table = c.requires.table;
   learnt = none_learnt c.args.first.me.0;
-  told = All-nil (λ desk. HasTold desk.sender.core.me c.args.messages (known_in c.args.first.me.0));
+  told = All-nil (λ desk. HasTold (number_of desk.sender) c.args.messages (known_in c.args.first.me.0));
 }
 
 pub loop-desk-preserved : goal.loop-desk-preserved
@@ -24,7 +24,7 @@ loop-desk-preserved g c =
           subst (λ n. HasLearnt n c.args.first.me.0 c.tell.new.receiver.me.0) (sym (length-append c.loop-desk.yielded (c.in-Some.desk ∷ [])))
           (more_learnt (length c.loop-desk.yielded) c.args.first.me.0 c.loop-desk.first.me.0 c.tell.new.receiver.me.0 c.loop-desk.invariant.learnt c.tell.ensures.learnt);
       told =
-          All-push (λ desk. HasTold desk.sender.core.me c.args.messages after) c.loop-desk.yielded c.in-Some.desk
-          (All-weaker (λ desk. HasTold desk.sender.core.me c.args.messages before) (λ desk. HasTold desk.sender.core.me c.args.messages after) (λ desk told. still_told desk.sender.core.me c.args.messages before after told (grown 1 c.loop-desk.first.me.0 c.tell.new.receiver.me.0 c.tell.ensures.learnt)) c.loop-desk.yielded c.loop-desk.invariant.told)
+          All-push (λ desk. HasTold (number_of desk.sender) c.args.messages after) c.loop-desk.yielded c.in-Some.desk
+          (All-weaker (λ desk. HasTold (number_of desk.sender) c.args.messages before) (λ desk. HasTold (number_of desk.sender) c.args.messages after) (λ desk told. still_told (number_of desk.sender) c.args.messages before after told (grown 1 c.loop-desk.first.me.0 c.tell.new.receiver.me.0 c.tell.ensures.learnt)) c.loop-desk.yielded c.loop-desk.invariant.told)
           c.tell.ensures.told;
     }
