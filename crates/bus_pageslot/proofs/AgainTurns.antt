@@ -15,18 +15,17 @@ use Rattle.bus_presence.specs.declared.sweeps.Behind.{Behind}
 use Rattle.bus_presence.specs.declared.visits.Visit.{Visit}
 use Rattle.bus_presence.specs.declared.visits.Visit.TheVariants.{Away, Entering, Looking, Inside, Parting, Barred}
 use Rattle.bus_guest.specs.Guests.{Due, Visits, Sweeps, Goes, sweep_due, due_swept, due_home, due_beside, core_looked, visit_elected}
-use Rattle.bus_guest.specs.Turns.{Visitor, due, on_place, placed, op_due, visitor_due, answer_due, answer_of_visit, answer_of_loss, answer_of_sweep, rest_due, queue_seen, lost_elected}
+use Rattle.bus_guest.specs.Turns.{Visitor, due, on_place, placed, op_due, visitor_due, answer_due, kind_due, answer_of_visit, answer_of_loss, answer_of_sweep, rest_due, queue_seen, lost_elected}
 use Rattle.bus_tenure.specs.Core.{Core, Election}
 use Rattle.bus_tenure.specs.Situations.{Situation, IsClosed, IsIdle, IsSpent, LooksAtStage, Elects, TakesPage, AwaitsPage, StoresWord, StoresLength, GivesBack, HasHanded, Stays, Comes, Returns, PageMove, situation_of, line_of, op_at, fed_at, rest_at, kind_at, tenure_at, chosen_at, core_begun, core_elected, waits}
 use Rattle.bus_tenure.specs.declared.pages.Page.{Page}
 use Rattle.bus_tenure.specs.declared.phases.Reason.{Reason}
 use Rattle.bus_tenure.specs.declared.turns.Turn.{Turn}
 use Rattle.bus_tenure.specs.declared.turns.Turn.TheVariants as turn
-use Rattle.bus_world.specs.Headline.{puts}
 use Rattle.bus_world.specs.Rings.{move_due, visitor_moved}
 use Rattle.bus_world.specs.Turning.{core_moved, after_step, before_step}
 use Rattle.bus_world.proofs.RingLaws.{due_goes}
-use Rattle.bus_pageslot.specs.Lawful.{ProcessLaws}
+use Rattle.bus_pageslot.specs.Lawful.{ProcessLaws, IsOneStep}
 use Rattle.bus_pageslot.specs.RowsApart.{is_holding}
 use Rattle.bus_pageslot.specs.RowsAgain.{extent_again, process_again, deeds_due}
 use Rattle.bus_pageslot.specs.Sendings.{is_refusal}
@@ -330,10 +329,10 @@ module _ {E : Type 0} (X : Election E) (v : Visitor E) where
   refused_rest (Sweeps s o) e = not_last turn.Going refl v.core.queue.messages
   refused_rest (Goes z) e = apart.refused_rest X v.core z (due_goes _ v.sweep (situation_of X v.core) z e)
 
-  puts_due : (d : Due E) (got word : ℕ) → puts (deeds_due X v d got word) ≡ []
-  puts_due (Visits o) got word = refl
-  puts_due (Sweeps s o) got word = refl
-  puts_due (Goes z) got word = apart.step_puts (kind_at X v.core z) (tenure_at X v.core z) got (chosen_at X v.core z got word) _
+  one_due : (d : Due E) (got word : ℕ) → (deeds_due X v d got word ≡ []) ⊎ IsOneStep (kind_due X v d) got (answer_due X v d got word) (deeds_due X v d got word)
+  one_due (Visits o) got word = inl refl
+  one_due (Sweeps s o) got word = inl refl
+  one_due (Goes z) got word = apart.step_is_one (kind_at X v.core z) (tenure_at X v.core z) got (chosen_at X v.core z got word) (answer_due X v (Goes z) got word)
 
   -- ---- with the page out of its hands
   abbrev handed : Due E → Visitor E
@@ -390,7 +389,8 @@ process_laws X P laws = record {
   leaves = λ v home got word. leaves_seen X v (now_after X v (due X v) home got word) (left_due X v (due X v) home got word);
   refuses = λ v word o op home got. refused_seen X v _ (now_after X v (due X v) home got word) (refused_due X v (due X v) word o op home got);
   refuses_at_rest = λ v. refused_seen X v _ v (refused_rest X v (due X v) refl);
-  puts_nothing = λ v got word. puts_due X v (due X v) got word;
+  none_hidden = λ v none. apart.none_hidden v.core v.core.phase (sym (seen_messages v.core.queue v.visit) ∙ none);
+  one_deed = λ v got word. one_due X v (due X v) got word;
   message = λ v bytes. record { me = refl; extent = refl; holds = refl };
   message_waits = λ v bytes. seen_message v.core.queue v.visit (v.core.queue.messages ++ bytes ∷ []) ∙ ap (λ ms. record (queue_seen v.core.queue v.visit) { messages = ms ++ bytes ∷ [] }) (sym (seen_messages v.core.queue v.visit));
   close = λ v. record { me = refl; extent = refl; holds = refl };

@@ -16,10 +16,10 @@ use Rattle.bus_tenure.specs.declared.phases.Phase.{Phase}
 use Rattle.bus_tenure.specs.declared.phases.Phase.TheVariants as phase
 use Rattle.bus_tenure.specs.declared.turns.Turn.{Turn}
 use Rattle.bus_tenure.specs.declared.turns.Turn.TheVariants as turn
-use Rattle.bus_world.specs.Headline.{puts}
+use Rattle.bus_world.specs.Waiting.{waiting_at}
 use Rattle.bus_world.specs.Trails.{step_deed}
 use Rattle.bus_world.specs.Turning.{core_after, core_moved, core_with_page, before_step}
-use Rattle.bus_pageslot.specs.Lawful.{ProcessLaws}
+use Rattle.bus_pageslot.specs.Lawful.{ProcessLaws, IsOneStep}
 use Rattle.bus_pageslot.specs.RowsApart.{is_holding, is_taken, extent_of, process_apart}
 use Rattle.bus_pageslot.specs.Sendings.{is_refusal}
 use Rattle.bus_pageslot.specs.Steps.{EndsBy, page_given}
@@ -326,10 +326,19 @@ module _ {E : Type 0} (X : Election E) (d : Core E) where
   takes_it (GivesBack u page reason) word o t due is = absurd (let bad : Returns u reason _ ≡ Comes t = is in let wrong : ⊥ = cc in wrong)
   takes_it (HasHanded u reason) word o t due is = absurd (let bad : Stays ≡ Comes t = is in let wrong : ⊥ = cc in wrong)
 
--- ---- no step puts a message
-pub step_puts : (k : Option Kind) (t : Option ℕ) (found : ℕ) (chose : Option ℕ) (a : Turn) → puts (step_deed k t found chose a) ≡ []
-step_puts None t found chose a = refl
-step_puts (Some k) t found chose a = refl
+-- ---- a step is one deed at most
+pub step_is_one : (k : Option Kind) (t : Option ℕ) (found : ℕ) (chose : Option ℕ) (a : Turn) → (step_deed k t found chose a ≡ []) ⊎ IsOneStep k found a (step_deed k t found chose a)
+step_is_one None t found chose a = inl refl
+step_is_one (Some k) t found chose a = inr (record { tenure = t; kind = k; chose = chose; is_for = refl; is = refl })
+
+-- ---- of a sender with nothing in its batch nothing waits
+pub none_hidden : {E : Type 0} (c : Core E) (z : Phase E) → c.queue.messages ≡ [] → waiting_at c z ≡ []
+none_hidden c phase.Resting e = e
+none_hidden c (phase.Electing t a) e = e
+none_hidden c (phase.Taken t) e = e
+none_hidden c (phase.Holding t page stored true) e = refl
+none_hidden c (phase.Holding t page stored false) e = e
+none_hidden c (phase.Giving t reason) e = refl
 
 pub process_laws : {E : Type 0} (X : Election E) (P : Protocol E (Unit {0}) ℕ) → Laws X.op X.fed P OneOwner → ProcessLaws (process_apart X)
 process_laws X P laws = record {
@@ -340,7 +349,8 @@ process_laws X P laws = record {
   leaves = λ c home got word. left_after X c (situation_of X c) home got word;
   refuses = λ c word o due home got. refused_after X c (situation_of X c) word o due home got;
   refuses_at_rest = λ c. refused_rest X c (situation_of X c) refl;
-  puts_nothing = λ c got word. step_puts (kind_at X c (situation_of X c)) (tenure_at X c (situation_of X c)) got (chosen_at X c (situation_of X c) got word) (answer_at X c (situation_of X c) got word);
+  none_hidden = λ c none. none_hidden c c.phase none;
+  one_deed = λ c got word. step_is_one (kind_at X c (situation_of X c)) (tenure_at X c (situation_of X c)) got (chosen_at X c (situation_of X c) got word) (answer_at X c (situation_of X c) got word);
   message = λ c bytes. record { me = refl; extent = refl; holds = refl };
   message_waits = λ c bytes. refl;
   close = λ c. record { me = refl; extent = refl; holds = refl };

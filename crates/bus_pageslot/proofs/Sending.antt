@@ -1,25 +1,30 @@
 -- A turn puts nothing, and turns between which a function is asked are turns.
-use Rattle.std.proofs.Common.{◌≡◌, ℕ, Bool, true, false, Option, Some, None, List, [], ◌∷◌, ◌++◌, refl, sym, ◌∙◌, ap, subst, append_assoc}
-use Rattle.std.specs.Prelude.{IfSome}
+use Rattle.std.proofs.Common.{◌≡◌, ℕ, Bool, true, false, Option, Some, None, List, [], ◌∷◌, ◌++◌, inl, inr, refl, sym, ◌∙◌, ap, subst, append_assoc}
+use Rattle.std.specs.Prelude.{◌⊎◌, IfSome}
 use Rattle.std.proofs.lemmas.Bool.{true≢false}
 use Rattle.std.proofs.lemmas.Grind.{flat_map-append}
 use Rattle.std.proofs.lemmas.List.{append-nil}
 use Rattle.std.proofs.lemmas.Option.{same_Some}
+use Rattle.bus_register.specs.declared.kinds.Kind.{Kind}
 use Rattle.bus_register.specs.declared.registers.Op.{Op}
 use Rattle.bus_tenure.specs.declared.turns.Turn.{Turn}
 use Rattle.bus_tenure.specs.declared.turns.Turn.TheVariants as turn
 use Rattle.bus_batch.specs.Batches.{next_of}
-use Rattle.bus_world.specs.Headline.{HasPut, put_of, puts}
+use Rattle.bus_world.specs.Headline.{Deed, HasPut, put_of, puts}
 use Rattle.bus_pageslot.specs.Processes.{Process}
-use Rattle.bus_pageslot.specs.Lawful.{ProcessLaws}
+use Rattle.bus_pageslot.specs.Lawful.{ProcessLaws, IsOneStep}
 use Rattle.bus_pageslot.specs.Seats.{Seated, Took, deeds_of}
 use Rattle.bus_pageslot.specs.Turns.{Turned, TurnsOn, Here, More, Sends, is_last, is_waiting, AsksOn, Begins as Unasked, Goes, Asks, SendsAsking}
 use Rattle.bus_pageslot.specs.Sendings.{FillsBatches, SentBefore, Put, SentFull}
 
+one_puts_nothing : (due : Option Kind) (got : ℕ) (a : Turn) (ds : List Deed) → (ds ≡ []) ⊎ IsOneStep due got a ds → puts ds ≡ []
+one_puts_nothing due got a ds (inl none) = ap puts none
+one_puts_nothing due got a ds (inr one) = ap puts one.is
+
 took_puts : {C : Type 0} (P : Process C) → ProcessLaws P → (old : Seated C) (word : ℕ) (a : Turn) (new : Seated C) → Took P old word a new → puts (deeds_of P new) ≡ puts (deeds_of P old)
 took_puts P K old word a new h =
     ap puts h.deeds ∙ flat_map-append put_of (deeds_of P old) (P.deeds old.core h.found word)
-    ∙ ap (λ ms. puts (deeds_of P old) ++ ms) (K.puts_nothing old.core h.found word) ∙ append-nil (puts (deeds_of P old))
+    ∙ ap (λ ms. puts (deeds_of P old) ++ ms) (one_puts_nothing (P.kind old.core) h.found (P.answer old.core h.found word) (P.deeds old.core h.found word) (K.one_deed old.core h.found word)) ∙ append-nil (puts (deeds_of P old))
 
 pub turned_puts : {C : Type 0} (P : Process C) → ProcessLaws P → (old : Seated C) (word : ℕ) (a : Turn) (new : Seated C) → Turned P old word a new → puts (deeds_of P new) ≡ puts (deeds_of P old)
 turned_puts P K old word a new h = by_step (P.op old.core word) refl

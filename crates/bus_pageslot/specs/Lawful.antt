@@ -1,5 +1,6 @@
 -- What processes and automata owe, so that threads may go by them.
 use Rattle.std.specs.Prelude.{◌≡◌, ◌≢◌, ◌⊎◌, ℕ, ◌+◌, ◌%◌, ◌<◌, ◌≤◌, ◌^◌, Bool, true, false, Option, Some, None, is_some, List, [], ◌∷◌, ◌++◌, All, length, map, replicate, slice_index}
+use Rattle.bus_register.specs.declared.kinds.Kind.{Kind}
 use Rattle.bus_register.specs.declared.registers.Op.{Op}
 use Rattle.bus_register.specs.declared.registers.Op.TheVariants.{Store}
 use Rattle.bus_register.specs.declared.registers.SenderNo.{SenderNo}
@@ -12,7 +13,8 @@ use Rattle.bus_deliverylog.specs.Orders.{of_sender}
 use Rattle.bus_deliverylog.specs.declared.receiving.RecvTurn.{RecvTurn}
 use Rattle.bus_tenure.specs.Situations.{PageMove, Stays, Comes, Returns}
 use Rattle.bus_tenure.specs.declared.pages.Page.{Page}
-use Rattle.bus_world.specs.Headline.{Deed, HasPut, HasClosed, puts, Promises}
+use Rattle.bus_tenure.specs.declared.turns.Turn.{Turn}
+use Rattle.bus_world.specs.Headline.{Deed, HasPut, HasClosed, Stepped, puts, Promises}
 use Rattle.bus_world.specs.Log.{Knows}
 use Rattle.bus_world.specs.Turning.{words_after, home_moved}
 use Rattle.bus_world.specs.World.{new_page}
@@ -28,6 +30,14 @@ pub record Keeps {C : Type 0} (P : Process C) (c d : C) : Type 0 where
   pub extent : P.extent d ≡ P.extent c
   pub holds : P.holds d ≡ P.holds c
 
+-- these deeds are one step, for this, that found this number and was answered so
+pub record IsOneStep (due : Option Kind) (got : ℕ) (answer : Turn) (deeds : List Deed) : Type 0 where
+  pub tenure : Option ℕ
+  pub kind : Kind
+  pub chose : Option ℕ
+  pub is_for : due ≡ Some kind
+  pub is : deeds ≡ Stepped tenure kind got chose answer ∷ []
+
 pub record ProcessLaws {C : Type 0} (P : Process C) : Type 0 where
   -- a bus has a word for its length, and one for its stage; and a step changes no bus's size
   pub some_words : (c : C) → 2 ≤ (P.extent c).words
@@ -39,8 +49,10 @@ pub record ProcessLaws {C : Type 0} (P : Process C) : Type 0 where
   pub leaves : (c : C) (home : Option Page) (got word : ℕ) → ((P.queue (P.after c home got word)).messages ≡ (P.queue c).messages) ⊎ ((P.queue (P.after c home got word)).messages ≡ [])
   pub refuses : (c : C) (word : ℕ) (o : Op) → P.op c word ≡ Some o → (home : Option Page) (got : ℕ) → is_last (P.answer c got word) ≡ true → 0 < length (P.queue (P.after c home got word)).messages → is_refusal (P.answer c got word) ≡ true
   pub refuses_at_rest : (c : C) → is_last (P.rest c) ≡ true → 0 < length (P.queue c).messages → is_refusal (P.rest c) ≡ true
-  -- no step puts a message
-  pub puts_nothing : (c : C) (got word : ℕ) → puts (P.deeds c got word) ≡ []
+  -- of a sender with nothing in its batch nothing waits
+  pub none_hidden : (c : C) → (P.queue c).messages ≡ [] → P.waiting c ≡ []
+  -- a step is one deed at most: what it was for, what it found and what it answered
+  pub one_deed : (c : C) (got word : ℕ) → (P.deeds c got word ≡ []) ⊎ IsOneStep (P.kind c) got (P.answer c got word) (P.deeds c got word)
   -- what it accepts joins its batch
   pub message : (c : C) (bytes : List ℕ) → Keeps P c (P.with_message c bytes)
   pub message_waits : (c : C) (bytes : List ℕ) → P.queue (P.with_message c bytes) ≡ record (P.queue c) { messages = (P.queue c).messages ++ bytes ∷ [] }

@@ -44,7 +44,8 @@ pub record Shows {C : Type 0} (P : Process C) (d : C) (s : Seat (Option Page) (V
   pub slots : s.table_id.slots ≡ 1
 
 -- A sender took the step that was due of it. It and its answer are those of its turn for the number that the step found; and it
--- has one deed more, the step, with the number that its word had, which a store does not tell.
+-- has one deed more, the step, with the number that its word had, which a store does not tell. Steps of visits and sweeps, where rows
+-- are used again, are no deeds.
 pub record Took {C : Type 0} (P : Process C) (old : Seated C) (word : ℕ) (turn : Turn) (new : Seated C) : Type 0 where
   pub got : ℕ
   pub found : ℕ

@@ -17,9 +17,10 @@ use bus_world::{MakeFault, Shape};
 /// A bus of two to eight rows of words that are used again, for up to 2^40 tenures: `rows` of its
 /// shape is how many there are.
 ///
-/// Who holds the page makes the row of the next tenure ready before it gives the page back, and
-/// answers Behind for as long as a sender shows that it visits the tenure that used that row
-/// before. So a sender that stops while it visits a tenure may make a holder wait for good.
+/// Who holds the page makes the row of the next tenure ready before it gives the page back. It asks
+/// each sender once which tenure it visits, and where that is the one that used the row before, it
+/// answers Behind until that has changed. So a sender that stops while it visits a tenure may make
+/// a holder wait for good.
 pub type CyclicBus<Q> = BusOf<Guest<Q>>;
 
 /// A sender of such a bus.

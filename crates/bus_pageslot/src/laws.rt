@@ -104,9 +104,9 @@ pub fn only_owners_leave_the_stage<Q: Ratifier>()
 }
 
 /// Where rows of words are used again, the history of steps that the rule shows is a safe one:
-/// a row is made ready while nobody visits a tenure of it, every word that a visitor of a tenure
-/// steps on is of that tenure alone, each tenure has at most one owner, who announced for it, and
-/// the words below the length are a log of what was put. And whoever remembers to whom it lost its
+/// a row is cleared while nobody stands in a tenure of it, who steps in a tenure's row stands in
+/// that tenure, each tenure has at most one owner, who announced for it, and the words below the
+/// length are a log of what was put. And whoever remembers to whom it lost its
 /// tenure has seen the election of that tenure end with this sender, and is not this sender.
 pub fn rows_used_again_are_safe<Q: Ratifier>()
     ensures kept { let X = election_of Q.Ratifier in (shape : Shape)

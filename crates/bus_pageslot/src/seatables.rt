@@ -1,6 +1,6 @@
 //! What can be seated at a table: senders of a bus as a machine.
 
-ghost use Rattle.std.specs.Prelude.{◌≡◌, ◌+◌, ◌<◌, ◌≤◌, ◌^◌, length, true, None};
+ghost use Rattle.std.specs.Prelude.{◌≡◌, ◌≢◌, ◌+◌, ◌<◌, ◌≤◌, ◌^◌, length, true, None};
 ghost use Rattle.std.specs.Prelude.{IfSome, IsSome, IfOk, IfErr, OnOk, OnErr};
 ghost use Rattle.bus_register.specs.declared.kinds.Kind.{Kind};
 ghost use Rattle.bus_register.specs.declared.limits.TheConstants.{MOST_SENDERS};
@@ -41,7 +41,8 @@ pub trait Seatable {
     /// Why no bus of this shape is served; none where it is.
     fn fault(shape: Shape) -> Option<MakeFault>
         ensures fault { IfSome result (Refuses shape) }
-        ensures served { result ≡ None → Serves shape };
+        ensures served { result ≡ None → Serves shape }
+        ensures no_memory { IfSome result (λ why. why ≢ NoMemory) };
 
     /// The place of the first word of the log, which comes last.
     fn log_at(shape: Shape) -> u64

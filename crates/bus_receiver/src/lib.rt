@@ -18,7 +18,8 @@ pub use bus_adoptcommit::{ThreeWord, TwoCollect};
 pub use bus_batch::{CloseFault, Item, Message, PutFault};
 pub use bus_deliverylog::{LogFault, LogRead, Order, RecvTurn, read_log};
 pub use bus_pageslot::{
-    Bus, BusOf, EndFault, Ended, OfBus, Seatable, SendFault, Sender, SenderOf, Tap, TapOf, Unsent,
+    Bus, BusOf, CyclicBus, CyclicSender, CyclicTap, EndFault, Ended, OfBus, Seatable, SendFault,
+    Sender, SenderOf, Tap, TapOf, Unsent,
 };
 pub use bus_register::limits::{
     LEAST_LOG_WORDS, MOST_BYTES, MOST_LOG_WORDS, MOST_MESSAGES, MOST_RECEIVERS, MOST_ROUNDS,
@@ -28,10 +29,12 @@ pub use bus_register::{Kind, SenderNo};
 pub use bus_tenure::{Page, Turn};
 pub use bus_world::{MakeFault, Shape};
 pub use hearing::Heard;
-pub use receivers::{Next, Receiver, ReceiverOf};
+pub use receivers::{CyclicReceiver, Next, Receiver, ReceiverOf};
 pub use sizes::{tenures_needed, tenures_of_sitting, words_needed, words_of_sitting};
 
 #[cfg(test)]
 mod tests;
+#[cfg(test)]
+mod tests_cyclic;
 #[cfg(test)]
 mod tests_world;

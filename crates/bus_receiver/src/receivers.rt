@@ -12,6 +12,7 @@ ghost use Rattle.bus_receiver.specs.Listening.{PassesTo, PassesWhile, item_or_en
 
 use bus_batch::Item;
 use bus_deliverylog::RecvTurn;
+use bus_guest::Guest;
 use bus_pageslot::{BusOf, EndFault, Ended, Seatable, SenderOf, TapOf};
 use bus_tenure::SenderCore;
 use crossbeam_utils::Backoff;
@@ -48,6 +49,9 @@ impl<S: Seatable> Model for ReceiverOf<S> {
 
 /// A receiver of a bus with a row of words for each of its tenures.
 pub type Receiver<Q> = ReceiverOf<SenderCore<Q>>;
+
+/// A receiver of a bus whose rows of words are used again.
+pub type CyclicReceiver<Q> = ReceiverOf<Guest<Q>>;
 
 impl<S: Seatable + Drop> ReceiverOf<S> {
     /// The receiver with this seat.
