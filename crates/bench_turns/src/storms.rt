@@ -7,6 +7,7 @@ ghost use Rattle.bus_run.specs.Audit.{OfOrder, IsFair, SendsEach};
 use crate::desks::desks_of;
 use crate::workers::{Listener, MOST_TURNS, Patience, Rest, Teller, listeners_of};
 use anyhow::{bail, ensure};
+use bus_cyclic::limits::LEAST_ROWS;
 use bus_deliverylog::{LogRead, read_log};
 use bus_pageslot::OfBus;
 use bus_receiver::{EndFault, Ended, SenderNo, Shape};
@@ -22,6 +23,9 @@ use std::thread;
 use std::thread::Threads;
 use std::time::{Clock, Duration};
 
+/// Of 32 seeds that of the long run.
+const LONG_SEED: u64 = 9;
+
 /// What is asked of a run.
 #[derive(Clone, Copy)]
 struct Load {
@@ -29,8 +33,10 @@ struct Load {
     messages: u64,
     /// So many threads at most, each of which plays its workers by turns.
     hands: u64,
-    /// Nobody stops, and there are tenures and words for all.
+    /// Nobody stops, and there are words for all.
     is_calm: bool,
+    /// Two senders of many messages, each of which is sent in a tenure of its own.
+    is_long: bool,
 }
 
 /// What came of a run.
@@ -58,8 +64,9 @@ struct Hand<B: OfBus> {
     dice: Pcg32,
 }
 
-/// A run under this seed, in at most so many threads: 1 to 8 senders of at most 31 messages each,
-/// and 1 to 8 receivers. 64 seeds in a row have all these shapes.
+/// A run under this seed, in at most so many threads, over 2 to 8 rows that are used again: 1 to 8
+/// senders of at most 31 messages each, and 1 to 8 receivers. 64 seeds in a row have all these
+/// shapes. In one run of 32 two senders have 1,500 messages each, for a tenure each.
 pub fn run<R: Threads + Clock + Sync>(
     rt: &R,
     alloc: Global,
@@ -67,20 +74,22 @@ pub fn run<R: Threads + Clock + Sync>(
     hands: u64,
 ) -> anyhow::Result<Tale> {
     let mut dice = Pcg32::new(seed, 0);
+    let is_long = seed % 32 == LONG_SEED;
+    let few = u64::from(dice.next_u32() % 32);
     let load = Load {
-        senders: 1 + seed % 8,
-        messages: u64::from(dice.next_u32() % 32),
+        senders: if is_long { 2 } else { 1 + seed % 8 },
+        messages: if is_long { 1_500 } else { few },
         hands: hands.max(1),
         is_calm: dice.next_u32() % 4 == 0,
+        is_long,
     };
-    let is_scarce = !load.is_calm && dice.next_u32() % 4 == 0;
-    let (rows, log_words) = if is_scarce { (16, 128) } else { (256, 4096) };
+    let is_scarce = !load.is_calm && !is_long && dice.next_u32() % 4 == 0;
     let shape = Shape {
         senders: load.senders,
         receivers: 1 + seed / 8 % 8,
         rounds: 1 + u64::from(dice.next_u32() % 4),
-        rows,
-        log_words,
+        rows: LEAST_ROWS + u64::from(dice.next_u32() % 7),
+        log_words: if is_scarce { 128 } else { 16_384 },
     };
     let made = Bus::new(alloc, shape)?;
     run_on::<Brand, R>(rt, alloc, made, load, dice)
@@ -104,7 +113,8 @@ fn run_on<B: OfBus + Send + Sync, R: Threads + Clock + Sync>(
     let mut tellers = Vec::with_capacity(alloc, senders.len())?;
     for desk in desks_of::<B>(alloc, senders)? {
         let patience = Patience::cast(&mut dice, load.is_calm);
-        tellers.push(Teller::new(desk, load.messages, patience))?;
+        let batch = if load.is_long { 1 } else { 16 };
+        tellers.push(Teller::new(desk, load.messages, batch, patience))?;
     }
     let listeners = listeners_of::<B>(alloc, taps, &mut dice, load.is_calm)?;
     let hands = deal(alloc, load, tellers, listeners, &mut dice)?;

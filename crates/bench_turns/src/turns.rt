@@ -7,6 +7,7 @@ use crate::desks::{Desk, desks_of};
 use bus_pageslot::OfBus;
 use bus_receiver::Shape;
 use bus_register::Kind;
+use bus_cyclic::limits::MOST_ROWS;
 use bus_run::buses::{Bus, Sender, Tap, TheBus};
 use bus_run::workers::{Ear, ears_of};
 use rand_core::Rng;
@@ -82,7 +83,7 @@ pub fn print_turns<R: Print + Clock>(
     Ok(())
 }
 
-/// The turns of so many buses of 256 rows, with 1 to 4 rounds a bit.
+/// The turns of so many buses of 8 rows that are used again, with 1 to 4 rounds a bit.
 pub fn sums_of<R: Clock>(
     rt: &R,
     alloc: Global,
@@ -95,7 +96,7 @@ pub fn sums_of<R: Clock>(
             senders,
             receivers: 1,
             rounds: 1 + bus % 4,
-            rows: 256,
+            rows: MOST_ROWS as u64,
             log_words: 16_384,
         };
         let made = Bus::new(alloc, shape)?;

@@ -19,7 +19,7 @@ pub const MOST_TURNS: u64 = 100_000;
 const MOST_IDLE: u64 = 2_000;
 
 /// Room for all messages of a run.
-const MOST_ITEMS: usize = 256;
+const MOST_ITEMS: usize = 3_072;
 
 /// Why a worker takes no more turns.
 #[derive(Clone, Copy, Debug, PartialEq, Eq)]
@@ -97,18 +97,21 @@ pub struct Teller<B: OfBus> {
     /// So many of its messages stand in the order, by what it was answered.
     pub delivered: u64,
     messages: u64,
+    /// It puts no more at once.
+    batch: u32,
     patience: Patience,
 }
 
 impl<B: OfBus> Teller<B> {
-    /// A sender of so many messages that has not begun.
-    pub fn new(desk: Desk<B>, messages: u64, patience: Patience) -> Teller<B> {
+    /// A sender of so many messages, in batches of at most so many, that has not begun.
+    pub fn new(desk: Desk<B>, messages: u64, batch: u32, patience: Patience) -> Teller<B> {
         Teller {
             desk,
             rest: None,
             has_page: false,
             delivered: 0,
             messages,
+            batch: batch.max(1),
             patience,
         }
     }
@@ -129,13 +132,14 @@ impl<B: OfBus> Teller<B> {
         }
         let turn = self.desk.sender.turn(&the.bus, dice.next_u32());
         self.take_in(turn);
-        self.patience.note(turn == Turn::Waiting);
-        turn == Turn::Waiting
+        let waits = matches!(turn, Turn::Waiting | Turn::Behind { .. });
+        self.patience.note(waits);
+        waits
     }
 
-    /// Puts one to sixteen of the messages that are left.
+    /// Puts one to a batch of the messages that are left.
     fn fill(&mut self, dice: &mut Pcg32) {
-        for _ in 0..1 + dice.next_u32() % 16 {
+        for _ in 0..1 + dice.next_u32() % self.batch.max(1) {
             if self.messages > 0 && self.desk.put() {
                 self.messages -= 1;
             }

@@ -7,10 +7,13 @@ ghost use Rattle.bus_bench.specs.Sizes.{bytes_of};
 
 use crate::request::{Request, Size};
 use bus_receiver::{tenures_of_sitting, words_of_sitting};
-use bus_register::limits::{MOST_LOG_WORDS, MOST_ROWS};
+use bus_register::limits::MOST_LOG_WORDS;
 use std::fmt;
 
-/// What a sitting takes that does not fit a bus: it has too few tenures, or log words, or both.
+/// Tenures of a round: at most 256.
+pub const MOST_TENURES: u64 = 256;
+
+/// What a sitting takes that a round does not have: more tenures, or log words, or both.
 #[derive(Clone, Copy, Debug, PartialEq, Eq)]
 pub struct Shortage {
     pub tenures: u128,
@@ -20,10 +23,10 @@ pub struct Shortage {
 impl fmt::Display for Shortage {
     fn fmt<W: fmt::Write>(&self, f: &mut fmt::Formatter<W>) -> fmt::Result {
         let (tenures, words) = (self.tenures, self.words);
-        let few_tenures = tenures > MOST_ROWS as u128;
+        let few_tenures = tenures > u128::from(MOST_TENURES);
         let few_words = words > u128::from(MOST_LOG_WORDS);
         if few_tenures {
-            write!(f, "{tenures} tenures are needed, and a bus has {MOST_ROWS}")?;
+            write!(f, "{tenures} tenures are needed, and a round has {MOST_TENURES}")?;
         }
         if few_tenures && few_words {
             write!(f, "; ")?;
@@ -63,25 +66,25 @@ impl Load {
 }
 
 impl Request {
-    /// The measurement, if a bus has enough tenures and log words for it.
+    /// The measurement, if a round has enough tenures and its bus enough log words for it.
     pub fn load(self) -> Result<Load, Shortage>
         ensures workers { IfOk result (λ load. (load.senders ≡ self.senders)
             × (load.receivers ≡ self.receivers)) }
         ensures messages { IfOk result (λ load. (load.messages ≡ self.messages)
             × (load.size ≡ self.size)) }
         ensures repetitions { IfOk result (λ load. load.repetitions ≡ self.repetitions) }
-        ensures fits { OnOk result ((tenures_of self.senders self.messages ≤ MOST_ROWS)
+        ensures fits { OnOk result ((tenures_of self.senders self.messages ≤ MOST_TENURES)
             × (words_of self.senders self.messages (bytes_of self.size) ≤ MOST_LOG_WORDS)) }
         ensures needed { IfErr result
             (λ short. (short.tenures ≡ tenures_of self.senders self.messages)
             × (short.words ≡ words_of self.senders self.messages (bytes_of self.size))) }
-        ensures short { OnErr result ((MOST_ROWS < tenures_of self.senders self.messages)
+        ensures short { OnErr result ((MOST_TENURES < tenures_of self.senders self.messages)
             ⊎ (MOST_LOG_WORDS < words_of self.senders self.messages (bytes_of self.size))) }
     {
         let senders = self.senders as u8;
         let tenures = tenures_of_sitting(senders, self.messages);
         let words = words_of_sitting(senders, self.messages, self.size.bytes() as u8);
-        if tenures > MOST_ROWS as u128 || words > u128::from(MOST_LOG_WORDS) {
+        if tenures > u128::from(MOST_TENURES) || words > u128::from(MOST_LOG_WORDS) {
             return Err(Shortage { tenures, words });
         }
         Ok(Load {

@@ -9,8 +9,9 @@ use crate::faults::Fault;
 use crate::needs::Load;
 use crate::workers::Ear;
 use bus_pageslot::OfBus;
-use bus_register::limits::{MOST_LOG_WORDS, MOST_ROWS};
+use bus_register::limits::MOST_LOG_WORDS;
 use bus_run::buses::{Bus, Sender, Tap, TheBus};
+use bus_run::limits::{ROUNDS, ROWS};
 use bus_world::Shape;
 use std::alloc::Global;
 use std::marker::Brand;
@@ -32,8 +33,8 @@ fn shape_of(load: Load) -> Shape {
     Shape {
         senders: load.senders,
         receivers: load.receivers,
-        rounds: 4,
-        rows: MOST_ROWS as u64,
+        rounds: ROUNDS,
+        rows: ROWS,
         log_words: MOST_LOG_WORDS,
     }
 }

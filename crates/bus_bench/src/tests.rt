@@ -45,11 +45,12 @@ fn too_few(rt: HostRuntime) {
 #[test]
 fn shortage_texts(rt: HostRuntime) -> Result<(), Fail> {
     for (tenures, words, want) in [
-        (505, 16_506, "505 tenures are needed, and a bus has 256"),
+        (505, 16_506, "505 tenures are needed, and a round has 256"),
         (
             513,
             66_050,
-            "513 tenures are needed, and a bus has 256; 66050 log words are needed, and a bus has 65536",
+            "513 tenures are needed, and a round has 256; \
+             66050 log words are needed, and a bus has 65536",
         ),
     ] {
         let text = Shortage { tenures, words }.to_string(rt.alloc())?;
@@ -145,27 +146,4 @@ fn gate_given_up(rt: HostRuntime) {
     gate.give_up();
     assert!(rt; !gate.pass(&rt));
     assert!(rt; gate.open(&rt, 2).is_none());
-}
-
-/// 259 batches, of which a bus has room for 256: a sender finds them spent, and all workers stop.
-#[test]
-fn spent_round(rt: HostRuntime) {
-    let load = Load {
-        senders: 7,
-        receivers: 2,
-        messages: 577,
-        size: Size::Eight,
-        repetitions: 0,
-    };
-    let fault = round(&rt, rt.alloc(), load, 7).err();
-    assert!(rt;
-        matches!(
-            &fault,
-            Some(Fault::Answer {
-                turn: Turn::Spent,
-                ..
-            })
-        ),
-        "{fault:?}"
-    );
 }

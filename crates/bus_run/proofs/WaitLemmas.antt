@@ -1,6 +1,10 @@
 -- Of a sender of a run with nothing in its batch nothing waits.
-use Rattle.std.proofs.Common.{◌≡◌, [], length, true, false, refl}
+use Rattle.std.proofs.Common.{◌≡◌, [], length, true, false, refl, sym, ◌∙◌}
 use Rattle.std.proofs.lemmas.List.{nil_from_length}
+use Rattle.bus_batch.specs.Batches.{Pending}
+use Rattle.bus_guest.specs.Turns.{queue_seen}
+use Rattle.bus_presence.specs.declared.visits.Visit.{Visit}
+use Rattle.bus_presence.specs.declared.visits.Visit.TheVariants.{Away, Entering, Looking, Inside, Parting, Barred}
 use Rattle.bus_tenure.specs.Core.{Core}
 use Rattle.bus_tenure.specs.declared.phases.Phase.{Phase}
 use Rattle.bus_tenure.specs.declared.phases.Phase.TheVariants as phase
@@ -15,5 +19,13 @@ waits_not c (phase.Holding t page stored true) e = refl
 waits_not c (phase.Holding t page stored false) e = e
 waits_not c (phase.Giving t reason) e = refl
 
-pub none_waits : (c : Held) → length (run_process.queue c).messages ≡ 0 → run_process.waiting c ≡ []
-none_waits c none = waits_not c c.phase (nil_from_length c.queue.messages none)
+seen_same : (q : Pending) (u : Visit) → (queue_seen q u).messages ≡ q.messages
+seen_same q Away = refl
+seen_same q (Entering t) = refl
+seen_same q (Looking t) = refl
+seen_same q (Inside t) = refl
+seen_same q (Parting t) = refl
+seen_same q (Barred t) = refl
+
+pub none_waits : (v : Held) → length (run_process.queue v).messages ≡ 0 → run_process.waiting v ≡ []
+none_waits v none = waits_not v.core v.core.phase (sym (seen_same v.core.queue v.visit) ∙ nil_from_length (run_process.queue v).messages none)

@@ -2,18 +2,19 @@
 use Rattle.std.specs.Prelude.{◌≡◌, ℕ, ◌+◌, List, All, Option, Some, length, slice_get}
 use Rattle.bus_adoptcommit.specs.ThreeWord.{Local, kind_at, op_of, fed_of}
 use Rattle.bus_adoptcommit.specs.ThreeWordKeeps.{three_word}
-use Rattle.bus_tenure.specs.Core.{Core, Election}
+use Rattle.bus_guest.specs.Turns.{Visitor}
+use Rattle.bus_tenure.specs.Core.{Election}
 use Rattle.bus_tenure.specs.Elections.{Elector, election_with}
 use Rattle.bus_tenure.specs.declared.pages.Page.{Page}
 use Rattle.bus_world.specs.Headline.{IsPrefix}
-use Rattle.bus_world.specs.Playing.{layout_of, IsServed, MakeRefused}
+use Rattle.bus_cyclic.specs.Cyclic.{layout_of, IsServed, MakeRefused}
 use Rattle.bus_world.specs.declared.shapes.MakeFault.{MakeFault}
 use Rattle.bus_world.specs.declared.shapes.Shape.{Shape}
 use Rattle.bus_pageslot.specs.declared.rule.View.{View}
 use Rattle.bus_pageslot.specs.Endings.{IsLeft}
 use Rattle.bus_pageslot.specs.Outcomes.{Outcome}
 use Rattle.bus_pageslot.specs.Processes.{Process, Automaton}
-use Rattle.bus_pageslot.specs.RowsApart.{process_apart, bus_apart}
+use Rattle.bus_pageslot.specs.RowsAgain.{process_again, bus_again}
 use Rattle.bus_pageslot.specs.Rule.{ear_in, known_in, with_ear}
 use Rattle.bus_pageslot.specs.Seats.{Seated}
 use Rattle.bus_batch.specs.Batches.{Pending}
@@ -26,15 +27,15 @@ run_election = election_with (λ s. kind_at s.progress) (λ s word. op_of s) (λ
 
 -- what a sender holds
 abbrev pub Held : Type 0
-Held = Core (Elector Local)
+Held = Visitor (Elector Local)
 
 -- a sender by itself
 abbrev pub run_process : Process Held
-run_process = process_apart run_election
+run_process = process_again run_election
 
--- the bus of a shape, with a row of words for each tenure
+-- the bus of a shape, whose rows of words are used again
 abbrev pub run_automaton : Shape → Automaton Held
-run_automaton shape = bus_apart run_election (layout_of three_word shape)
+run_automaton shape = bus_again run_election (layout_of three_word shape) shape.rows
 
 -- such a bus is served; and why none is made
 abbrev pub RunServes : Shape → Type 0

@@ -3,9 +3,9 @@
 ghost use Rattle.std.specs.Prelude.{◌≡◌};
 
 use bus_adoptcommit::ThreeWord;
+use bus_guest::Guest;
 use bus_pageslot::{BusOf, OfBus, SenderOf, TapOf};
 use bus_receiver::ReceiverOf;
-use bus_tenure::SenderCore;
 use std::marker::PhantomData;
 
 /// What its elections are decided by.
@@ -13,7 +13,7 @@ pub type Ratified = ThreeWord;
 
 /// What a sender of it holds: this says which bus a run goes by, with the definitions of
 /// specs/Left.
-pub type Held = SenderCore<Ratified>;
+pub type Held = Guest<Ratified>;
 
 /// The bus.
 pub type Bus = BusOf<Held>;

@@ -1,6 +1,6 @@
 //! The sizes of a run.
 
-use bus_register::limits::MOST_ROWS;
+use bus_cyclic::limits::MOST_ROWS;
 
 /// Messages that each sender of a run sends: at most 400.
 pub const MOST_MESSAGES_EACH: u64 = 400;
@@ -8,5 +8,5 @@ pub const MOST_MESSAGES_EACH: u64 = 400;
 /// Rounds of each binary decision of a run's bus.
 pub const ROUNDS: u64 = 4;
 
-/// Rows of election words of a run's bus.
+/// Rows of election words of a run's bus, which are used again.
 pub const ROWS: u64 = MOST_ROWS as u64;
