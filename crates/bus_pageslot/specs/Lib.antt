@@ -3,6 +3,7 @@ pub mod Processes
 pub mod Lawful
 pub mod RowsApart
 pub mod RowsAgain
+pub mod CausesAgain
 pub mod Rule
 pub mod Steps
 pub mod Stages

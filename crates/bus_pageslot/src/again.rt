@@ -30,10 +30,9 @@ pub type CyclicSender<Q> = SenderOf<Guest<Q>>;
 pub type CyclicTap<Q> = TapOf<Guest<Q>>;
 
 impl<Q: Ratifier + Drop> Seatable for Guest<Q> {
-    ghost use Rattle.std.specs.Prelude.{◌≡◌, Some};
     ghost use Rattle.bus_cyclic.specs.Cyclic.{layout_of, IsServed, MakeRefused};
-    ghost use Rattle.bus_guest.specs.Turns.{due, kind_due};
     ghost use Rattle.bus_tenure.specs.Elections.{election_with};
+    ghost use Rattle.bus_pageslot.specs.CausesAgain.{HasCause};
     ghost use Rattle.bus_pageslot.specs.RowsAgain.{process_again, bus_again};
 
     ghost process = { process_again (election_with Q.kind_of Q.op Q.fed Q.protocol) };
@@ -45,8 +44,7 @@ impl<Q: Ratifier + Drop> Seatable for Guest<Q> {
 
     ghost Refuses = { MakeRefused };
 
-    ghost HasCause = { λ v k. kind_due (election_with Q.kind_of Q.op Q.fed Q.protocol) v
-        (due (election_with Q.kind_of Q.op Q.fed Q.protocol) v) ≡ Some k };
+    ghost HasCause = { λ v k. HasCause Q.protocol v k };
 
     ghost no_memory = { λ shape served. served };
 

@@ -112,12 +112,12 @@ pub fn rows_used_again_are_safe<Q: Ratifier>()
     ensures kept { let X = election_of Q.Ratifier in (shape : Shape)
         (s : State (Option Page) (View (Visitor (Elector Q))))
         → (r : IsShown (process_again X)
-            (bus_again X (cyclic.layout_of Q.protocol shape) shape.rows) s)
+        (bus_again X (cyclic.layout_of Q.protocol shape) shape.rows) s)
         → IsKeptRing X r.state.ring r.state.trails }
     ensures losses { let X = election_of Q.Ratifier in (shape : Shape)
         (s : State (Option Page) (View (Visitor (Elector Q))))
         → (r : IsShown (process_again X)
-            (bus_again X (cyclic.layout_of Q.protocol shape) shape.rows) s)
+        (bus_again X (cyclic.layout_of Q.protocol shape) shape.rows) s)
         → LossesAreSeen r.state.ring r.state.trails.deeds }
 {
     election_is_lawful::<Q>();

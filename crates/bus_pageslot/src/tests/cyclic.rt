@@ -86,7 +86,10 @@ fn holder_waits_behind(rt: HostRuntime) {
     assert_eq!(&rt; turns_to(&bus, &mut first, 99), delivered(1, 1));
     hears_items(&rt, &bus, &mut tap, 20, 2);
     let ended = bus.end(tap).expect(&rt, "the page at home");
-    assert_eq!(&rt; (ended.count(SenderNo(0)), ended.count(SenderNo(1))), (2, 0));
+    assert_eq!(&rt;
+        (ended.count(SenderNo(0)), ended.count(SenderNo(1))),
+        (2, 0)
+    );
     assert_eq!(&rt; ended.page().tenures, 2);
 }
 
@@ -105,7 +108,10 @@ fn rows_come_round(rt: HostRuntime) {
     assert_eq!(&rt; turns_to(&bus, &mut second, 99), Turn::Own { tenure: 2 });
     assert_eq!(&rt; turns_to(&bus, &mut second, 99), delivered(2, 0));
     let ended = bus.end(tap).expect(&rt, "the page at home");
-    assert_eq!(&rt; (ended.count(SenderNo(0)), ended.count(SenderNo(1))), (2, 1));
+    assert_eq!(&rt;
+        (ended.count(SenderNo(0)), ended.count(SenderNo(1))),
+        (2, 1)
+    );
 }
 
 /// A holder that waits for a sender which is gone has the page for good.
@@ -170,6 +176,9 @@ fn two_threads_use_rows_again(rt: HostRuntime) {
     );
     assert_eq!(&rt; sent, (20, 20));
     let ended = bus.end(tap).expect(&rt, "the page at home");
-    assert_eq!(&rt; (ended.count(SenderNo(0)), ended.count(SenderNo(1))), (20, 20));
+    assert_eq!(&rt;
+        (ended.count(SenderNo(0)), ended.count(SenderNo(1))),
+        (20, 20)
+    );
     assert!(&rt; ended.page().tenures >= 40);
 }
