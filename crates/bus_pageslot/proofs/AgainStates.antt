@@ -1,7 +1,7 @@
 -- A bus whose rows are used again is an automaton, and it begins as it should.
-use Rattle.std.proofs.Common.{◌≡◌, ◌≢◌, ℕ, zero, suc, ◌+◌, ◌-◌, ◌*◌, ◌%◌, ◌/◌, ◌<◌, ◌≤◌, ◌^◌, ◌==◌, cond, eqb, eq-eqb, ne_eqb, Bool, true, false, Option, Some, None, is_some, List, [], ◌∷◌, ◌++◌, length, map, slice_get, slice_index, slice_set, replicate, nat_le, inl, inr, arith, refl, sym, ◌∙◌, ap, subst, append_assoc, ◌&&◌}
-use Rattle.std.specs.Prelude.{◌⊎◌, All}
-use Rattle.std.proofs.lemmas.Bool.{true≢false, cases_eq, cases_lt}
+use Rattle.std.proofs.Common.{◌≡◌, ◌≢◌, ℕ, zero, suc, ◌+◌, ◌%◌, ◌/◌, ◌<◌, ◌≤◌, ◌==◌, cond, eq-eqb, ne_eqb, Bool, true, false, Option, Some, None, is_some, List, [], ◌∷◌, ◌++◌, length, map, slice_get, slice_index, replicate, nat_le, inl, inr, arith, refl, sym, ◌∙◌, ap, subst, append_assoc, ◌&&◌}
+use Rattle.std.specs.Prelude.{All}
+use Rattle.std.proofs.lemmas.Bool.{true≢false}
 use Rattle.std.proofs.lemmas.List.{append-nil}
 use Rattle.std.proofs.lemmas.Option.{same_Some, slice_get_within}
 use Rattle.atomic_table.specs.Table.{State}
@@ -25,28 +25,27 @@ use Rattle.bus_cyclic.proofs.StartingLaws.{one_more_guest}
 use Rattle.bus_cyclic.specs.Starting.{AreNewGuests}
 use Rattle.bus_deliverylog.specs.Orders.{of_sender}
 use Rattle.bus_guest.specs.Guests.{Due, Visits, Sweeps, Goes, place_for, log_from, core_looked}
-use Rattle.bus_guest.specs.Turns.{Visitor, due, op_due, op_next, on_place, placed, visitor_due, answer_due, queue_seen}
+use Rattle.bus_guest.specs.Turns.{Visitor, due, op_due, op_next, placed, visitor_due, answer_due, queue_seen}
 use Rattle.bus_presence.specs.declared.visits.Visit.{Visit}
 use Rattle.bus_presence.specs.declared.visits.Visit.TheVariants.{Away, Entering, Looking, Inside, Parting, Barred}
 use Rattle.bus_tenure.specs.Core.{Core, Election, Layout, log_at, is_empty}
-use Rattle.bus_tenure.specs.Situations.{Situation, IsClosed, IsIdle, IsSpent, LooksAtStage, Elects, TakesPage, AwaitsPage, StoresWord, StoresLength, GivesBack, HasHanded, Stays, Comes, Returns, situation_of, line_of, op_at, kind_at, tenure_at, chosen_at, waits, core_begun}
+use Rattle.bus_tenure.specs.Situations.{Situation, IsClosed, IsIdle, IsSpent, LooksAtStage, Elects, TakesPage, AwaitsPage, StoresWord, StoresLength, GivesBack, HasHanded, Stays, Comes, situation_of, line_of, op_at, kind_at, tenure_at, chosen_at, waits, core_begun}
 use Rattle.bus_tenure.specs.declared.pages.Page.{Page}
 use Rattle.bus_tenure.specs.declared.phases.Phase.{Phase}
 use Rattle.bus_tenure.specs.declared.turns.Turn.{Turn as Answered}
 use Rattle.bus_tenure.specs.declared.phases.Phase.TheVariants as phase
 use Rattle.bus_register.specs.Tables.{of_some}
 use Rattle.bus_world.specs.Bus.{IsLayout, Fits, Part, Sending, least_of, standing_of, stands_at}
-use Rattle.bus_world.specs.Tenures.Standing.{Runs}
 use Rattle.bus_world.proofs.TenuresLaws as tenures
 use Rattle.bus_world.specs.Headline.{Deed, HasPut, HasClosed, IsPrefix, puts}
 use Rattle.bus_world.specs.Log.{Knows, read}
-use Rattle.bus_world.specs.Rings.{Ring, IsKeptRing, RingTrails, RingReached, Leads, IsOnWord, yard_of, core_in, visit_in, guest_going, move_due, visitor_moved, visitor_put, visitor_closed, with_guest, ring_after, ring_trails, ring_deeds, no_ring_trails, IsNewRing}
+use Rattle.bus_world.specs.Rings.{Ring, IsKeptRing, RingTrails, RingReached, IsOnWord, yard_of, core_in, visit_in, guest_going, move_due, visitor_moved, with_guest, ring_after, ring_trails, ring_deeds, no_ring_trails}
 use Rattle.bus_world.specs.Rings.RingReached.{NewRing, TurnTaken, PutTaken, CloseTaken, RecvTaken, StopTaken}
 use Rattle.bus_world.specs.Tenures.Stage.{Open, Held}
 use Rattle.bus_world.specs.Trails.{step_deed}
-use Rattle.bus_world.specs.Turning.{words_after, number_found, after_step, core_with_page}
+use Rattle.bus_world.specs.Turning.{words_after, number_found, after_step}
 use Rattle.bus_world.specs.Waiting.{waiting_at, waiting_of}
-use Rattle.bus_world.specs.World.{Turn, can_put, can_close, no_stops, is_set, new_page, new_core, is_open}
+use Rattle.bus_world.specs.World.{Turn, can_close, no_stops, is_set, new_page, is_open}
 use Rattle.bus_world.specs.Yards.{Yard, word_found, deeds_with, due_deeds}
 use Rattle.bus_world.proofs.EventTrails as events
 use Rattle.bus_world.proofs.LogLaws.{length-read}
@@ -55,10 +54,10 @@ use Rattle.bus_world.proofs.RingLaws.{IsRingLayout, IsLed, ring_led, ring_kept, 
 use Rattle.bus_world.proofs.Serving.{Serves}
 use Rattle.bus_world.proofs.YardLaws.{HasKept, led_kept, words_read, yard_promised}
 use Rattle.bus_pageslot.specs.declared.rule.View.{View}
-use Rattle.bus_pageslot.specs.Processes.{IsCounted, log_below, log_in}
-use Rattle.bus_pageslot.specs.Lawful.{AutomatonLaws, IsSender, AcceptsIn, StepsIn, LogGrows, HasLog, IsPromisedOf, Opens}
+use Rattle.bus_pageslot.specs.Processes.{IsCounted, log_below}
+use Rattle.bus_pageslot.specs.Lawful.{AutomatonLaws, IsSender, AcceptsIn, StepsIn, HasLog, IsPromisedOf, Opens}
 use Rattle.bus_pageslot.specs.Rule.{IsShown}
-use Rattle.bus_pageslot.specs.RowsApart.{process_apart, is_holding, is_taken}
+use Rattle.bus_pageslot.specs.RowsApart.{is_holding, is_taken}
 use Rattle.bus_pageslot.specs.RowsAgain.{extent_again, started_again, deeds_due, process_again, bus_again, RingHistory, IsRingHistory}
 use Rattle.bus_pageslot.specs.Steps.{EndsBy}
 use Rattle.bus_pageslot.proofs.AgainTurns.{seen_messages, seen_first}

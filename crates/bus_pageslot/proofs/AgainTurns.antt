@@ -1,5 +1,5 @@
 -- A sender of a bus whose rows are used again is a process.
-use Rattle.std.proofs.Common.{◌≡◌, ℕ, ◌+◌, ◌/◌, ◌<◌, ◌≤◌, ◌==◌, ◌&&◌, Bool, true, false, cond, nat_lt, nat_le, Option, Some, None, List, [], ◌∷◌, ◌++◌, length, is_some, arith, refl, sym, ◌∙◌, ap, inl, inr, subst}
+use Rattle.std.proofs.Common.{◌≡◌, ℕ, ◌+◌, ◌/◌, ◌<◌, ◌==◌, ◌&&◌, Bool, true, false, cond, nat_lt, nat_le, Option, Some, None, List, [], ◌∷◌, ◌++◌, length, arith, refl, sym, ◌∙◌, ap, inl, inr, subst}
 use Rattle.std.specs.Prelude.{◌⊎◌}
 use Rattle.std.proofs.lemmas.Option.{same_Some}
 use Rattle.bus_register.specs.declared.registers.Op.{Op}
@@ -15,15 +15,15 @@ use Rattle.bus_presence.specs.declared.sweeps.Behind.{Behind}
 use Rattle.bus_presence.specs.declared.visits.Visit.{Visit}
 use Rattle.bus_presence.specs.declared.visits.Visit.TheVariants.{Away, Entering, Looking, Inside, Parting, Barred}
 use Rattle.bus_guest.specs.Guests.{Due, Visits, Sweeps, Goes, sweep_due, due_swept, due_home, due_beside, core_looked, visit_elected}
-use Rattle.bus_guest.specs.Turns.{Visitor, due, on_place, placed, op_due, visitor_due, answer_due, kind_due, answer_of_visit, answer_of_loss, answer_of_sweep, rest_due, queue_seen, lost_elected}
+use Rattle.bus_guest.specs.Turns.{Visitor, due, placed, op_due, visitor_due, answer_due, kind_due, answer_of_visit, answer_of_sweep, rest_due, queue_seen, lost_elected}
 use Rattle.bus_tenure.specs.Core.{Core, Election}
-use Rattle.bus_tenure.specs.Situations.{Situation, IsClosed, IsIdle, IsSpent, LooksAtStage, Elects, TakesPage, AwaitsPage, StoresWord, StoresLength, GivesBack, HasHanded, Stays, Comes, Returns, PageMove, situation_of, line_of, op_at, fed_at, rest_at, kind_at, tenure_at, chosen_at, core_begun, core_elected, waits}
+use Rattle.bus_tenure.specs.Situations.{Situation, IsClosed, IsIdle, IsSpent, LooksAtStage, Elects, TakesPage, AwaitsPage, StoresWord, StoresLength, GivesBack, HasHanded, Stays, situation_of, op_at, kind_at, tenure_at, chosen_at, core_begun, core_elected, waits}
 use Rattle.bus_tenure.specs.declared.pages.Page.{Page}
 use Rattle.bus_tenure.specs.declared.phases.Reason.{Reason}
 use Rattle.bus_tenure.specs.declared.turns.Turn.{Turn}
 use Rattle.bus_tenure.specs.declared.turns.Turn.TheVariants as turn
 use Rattle.bus_world.specs.Rings.{move_due, visitor_moved}
-use Rattle.bus_world.specs.Turning.{core_moved, after_step, before_step}
+use Rattle.bus_world.specs.Turning.{after_step, before_step}
 use Rattle.bus_world.proofs.RingLaws.{due_goes}
 use Rattle.bus_pageslot.specs.Lawful.{ProcessLaws, IsOneStep}
 use Rattle.bus_pageslot.specs.RowsApart.{is_holding}

@@ -1,34 +1,31 @@
 -- A bus with a row of words for each tenure is an automaton, and it begins as it should.
-use Rattle.std.proofs.Common.{◌≡◌, ◌≢◌, ℕ, zero, suc, ◌+◌, ◌*◌, ◌%◌, ◌<◌, ◌≤◌, ◌^◌, Bool, true, false, Option, Some, None, is_some, List, [], ◌∷◌, ◌++◌, length, map, slice_get, slice_index, slice_set, replicate, inl, inr, arith, refl, sym, ◌∙◌, ap, subst}
-use Rattle.std.specs.Prelude.{All}
+use Rattle.std.proofs.Common.{◌≡◌, ◌≢◌, ℕ, zero, suc, ◌+◌, ◌%◌, ◌<◌, Bool, true, false, Some, None, is_some, List, [], ◌∷◌, ◌++◌, length, map, slice_get, slice_index, slice_set, replicate, inl, inr, arith, refl, sym, ◌∙◌, ap, subst}
 use Rattle.std.proofs.lemmas.Bool.{true≢false}
-use Rattle.std.proofs.lemmas.Option.{same_Some, slice_get_within}
+use Rattle.std.proofs.lemmas.Option.{slice_get_within}
 use Rattle.bus_register.specs.declared.registers.Op.{Op}
 use Rattle.bus_register.specs.declared.registers.SenderNo.{SenderNo}
-use Rattle.bus_register.specs.Words.{register, after, SumFits}
 use Rattle.bus_register.specs.Proved.TableLaws.{some_or_none, here_not, get_set_same, get_set_other}
 use Rattle.bus_register.specs.Protocol.{Protocol}
-use Rattle.bus_batch.specs.Batches.{next_of, CanPut, CanClose}
+use Rattle.bus_batch.specs.Batches.{next_of}
 use Rattle.bus_batch.specs.declared.messages.Item.{Item}
 use Rattle.bus_batch.specs.Frames.{Frame, AreFrames, Order, log_words, order_of}
 use Rattle.bus_batch.proofs.FrameLaws.{same_log}
-use Rattle.bus_deliverylog.specs.Orders.{IsPrefixOfOrder, of_sender}
+use Rattle.bus_deliverylog.specs.Orders.{of_sender}
 use Rattle.bus_deliverylog.specs.declared.receiving.RecvTurn.{RecvTurn}
 use Rattle.bus_deliverylog.specs.declared.receiving.RecvTurn.TheVariants as recv
 use Rattle.bus_tenure.specs.Core.{Core, Election, Layout, log_at, words_of}
-use Rattle.bus_tenure.specs.Situations.{Situation, IsClosed, IsIdle, IsSpent, LooksAtStage, Elects, TakesPage, AwaitsPage, StoresWord, StoresLength, GivesBack, HasHanded, Stays, Comes, Returns, situation_of, line_of, op_at}
+use Rattle.bus_tenure.specs.Situations.{Comes, situation_of, line_of, op_at}
 use Rattle.bus_tenure.specs.declared.pages.Page.{Page}
 use Rattle.bus_world.specs.Bus.{IsLayout}
 use Rattle.bus_world.specs.Headline.{Deed, HasPut, HasClosed, puts, Promises}
 use Rattle.bus_world.specs.Log.{Knows}
-use Rattle.bus_world.specs.Playing.{IsServed}
 use Rattle.bus_world.specs.Starting.{AreNewCores}
 use Rattle.bus_world.specs.Tenures.{Stage}
 use Rattle.bus_world.specs.Tenures.Stage.{Open, Held}
 use Rattle.bus_world.specs.Trails.{Trails, no_trails}
 use Rattle.bus_world.specs.Trails.Reached.{New}
 use Rattle.bus_world.specs.Waiting.{waiting_at, waiting_of}
-use Rattle.bus_world.specs.World.{Bus, IsNew, new_core, new_page, no_stops}
+use Rattle.bus_world.specs.World.{Bus, new_core, new_page, no_stops}
 use Rattle.bus_world.proofs.EventTrails as events
 use Rattle.bus_world.proofs.Serving.{Serves}
 use Rattle.bus_world.proofs.StartingLaws.{one_more_core}
@@ -38,7 +35,7 @@ use Rattle.bus_pageslot.specs.Lawful.{AutomatonLaws, IsSender, AcceptsIn, StepsI
 use Rattle.bus_pageslot.specs.RowsApart.{process_apart, bus_apart, extent_of, History, IsHistory}
 use Rattle.bus_pageslot.proofs.ApartTurns.{ends, takes_it}
 use Rattle.bus_pageslot.proofs.Counting.{first_below}
-use Rattle.bus_pageslot.proofs.Histories.{Kept, kept, nobody_did, log_is, log_in_bus, deeds_at, Reaches, takes_message, takes_close, steps, sum_fits, taken}
+use Rattle.bus_pageslot.proofs.Histories.{Kept, kept, nobody_did, log_is, log_in_bus, Reaches, takes_message, takes_close, steps, sum_fits, taken}
 use Rattle.bus_pageslot.proofs.Taking.{with_message, with_close}
 
 -- where the stage is odd the page is out, and else at home

@@ -22,7 +22,7 @@ use Rattle.bus_world.specs.Tenures.Standing.{Runs}
 use Rattle.bus_world.specs.Trails.{Trails, Reached, trails_grown, turn_deeds, put_deeds, close_deeds, turning_deeds, deeds_of}
 use Rattle.bus_world.specs.Trails.Reached.{New, Then}
 use Rattle.bus_world.specs.Turning.{number_found, words_after, home_after, core_after, side_after}
-use Rattle.bus_world.specs.World.{Bus, Event, Put, Close, Turn, Recv, Stop, going, no_stops, Happens, IsEvent, SenderDoes, with_sender, put_in, close_in, LawfulBus}
+use Rattle.bus_world.specs.World.{Bus, Event, Put, Close, Turn, Recv, Stop, going, no_stops, Happens, SenderDoes, with_sender, put_in, close_in, LawfulBus}
 use Rattle.bus_world.specs.declared.events.Answer.{Answer}
 use Rattle.bus_world.specs.declared.events.Answer.TheVariants as answer
 use Rattle.bus_world.proofs.EventTrails as events

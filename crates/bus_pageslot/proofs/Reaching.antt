@@ -1,5 +1,5 @@
 -- What a sender accepts between its steps leads on.
-use Rattle.std.proofs.Common.{◌≡◌, ℕ, Some, List, [], ◌∷◌, ◌++◌, refl, sym, ◌∙◌, ap, append_assoc}
+use Rattle.std.proofs.Common.{◌≡◌, Some, List, [], ◌∷◌, ◌++◌, refl, sym, ◌∙◌, ap, append_assoc}
 use Rattle.std.proofs.lemmas.List.{append-nil}
 use Rattle.bus_batch.specs.Batches.{next_of}
 use Rattle.bus_world.specs.Headline.{Deed, HasPut, HasClosed}

@@ -1,5 +1,5 @@
 -- How what leads to a state becomes the rule of the table: each step of a sender is allowed.
-use Rattle.std.proofs.Common.{◌≡◌, ◌≢◌, ℕ, ◌+◌, ◌<◌, ◌≤◌, ◌==◌, cond, eq-eqb, ne_eqb, is_some, true, false, Option, Some, None, List, [], ◌∷◌, ◌++◌, length, set, slice_index, slice_set, arith, refl, sym, ◌∙◌, ap, subst, append_assoc, ⊎_elim, inl, inr}
+use Rattle.std.proofs.Common.{◌≡◌, ◌≢◌, ℕ, ◌<◌, ◌≤◌, ◌==◌, cond, eq-eqb, ne_eqb, is_some, true, Option, Some, None, List, [], ◌∷◌, ◌++◌, length, set, slice_index, slice_set, arith, refl, sym, ◌∙◌, ap, subst, append_assoc, ⊎_elim, inl, inr}
 use mathlib.Core.Option.{some, none}
 use mathlib.Core.Option as maybe
 use lib.ListN.{get_elem?}

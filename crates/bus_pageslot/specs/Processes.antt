@@ -1,6 +1,6 @@
 -- What threads go by. A sender is a process, which says by itself what its next turn is; and a bus is an automaton, of which executions lead to
 -- some states. A bus with a row of words for each tenure is one, and a bus whose rows are used again is another.
-use Rattle.std.specs.Prelude.{◌≡◌, ℕ, ◌+◌, ◌≤◌, ◌<◌, ◌^◌, Bool, true, false, Option, Some, None, List, length, slice_index}
+use Rattle.std.specs.Prelude.{ℕ, ◌≤◌, ◌<◌, ◌^◌, Bool, Option, List, length, slice_index}
 use Rattle.bus_register.specs.declared.kinds.Kind.{Kind}
 use Rattle.bus_register.specs.declared.registers.Op.{Op}
 use Rattle.bus_batch.specs.Batches.{Pending}

@@ -1,5 +1,5 @@
 -- A bus whose rows of words are used again, as threads go by it: its senders as processes, and the bus as an automaton.
-use Rattle.std.specs.Prelude.{◌≡◌, ℕ, ◌+◌, ◌≤◌, Option, Some, None, List, [], ◌∷◌, ◌++◌, slice_get}
+use Rattle.std.specs.Prelude.{◌≡◌, ℕ, ◌+◌, ◌≤◌, Some, None, List, [], ◌∷◌, ◌++◌, slice_get}
 use Rattle.bus_batch.specs.declared.batches.Phase.TheVariants.{Closing}
 use Rattle.bus_guest.specs.Guests.{Due, Visits, Sweeps, Goes, log_from}
 use Rattle.bus_guest.specs.Turns.{Visitor, due, op_next, kind_due, wants_due, rest_due, visitor_after, answer_going, answer_after, queue_seen}

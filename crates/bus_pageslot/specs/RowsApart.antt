@@ -1,5 +1,5 @@
 -- A bus with a row of words for each tenure, as threads go by it: its senders as processes, and the bus as an automaton.
-use Rattle.std.specs.Prelude.{◌≡◌, ℕ, ◌+◌, Bool, true, false, Option, Some, None, List, [], ◌∷◌, ◌++◌, slice_get}
+use Rattle.std.specs.Prelude.{◌≡◌, ◌+◌, Bool, true, false, Some, None, [], ◌∷◌, ◌++◌, slice_get}
 use Rattle.bus_batch.specs.declared.batches.Phase.TheVariants.{Closing}
 use Rattle.bus_tenure.specs.Core.{Core, Election, Layout, log_at, words_of}
 use Rattle.bus_tenure.specs.Seen.{turns_of}

@@ -16,7 +16,7 @@ use Rattle.bus_world.specs.Headline.{Deed, HasPut, HasClosed, puts, IsPrefix}
 use Rattle.bus_pageslot.specs.Ears.{loaded, learnt, Agree}
 use Rattle.bus_pageslot.specs.declared.rule.View.{View}
 use Rattle.bus_pageslot.specs.declared.rule.View.TheVariants.{Maker, Sender, Tap, Meeting, Telling, Spent}
-use Rattle.bus_pageslot.specs.Processes.{Extent, Process, IsCounted}
+use Rattle.bus_pageslot.specs.Processes.{Process, IsCounted}
 use Rattle.bus_pageslot.specs.Rule.{Sat, trail_in, stored_in, ear_in, known_in, with_ear, joined, first_of, second_of, all_knowing, extent_in, capacity_in}
 
 -- ---- what a sender accepts between its steps

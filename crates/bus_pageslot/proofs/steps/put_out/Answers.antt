@@ -1,4 +1,4 @@
-use Rattle.std.proofs.Common.{◌≡◌, ◌∷◌, None, sym, subst, ◌∙◌, ap}
+use Rattle.std.proofs.Common.{◌∷◌, None, sym, ◌∙◌, ap}
 use Rattle.atomic_table.specs.Table.{rest}
 use Rattle.bus_pageslot.specs.Steps.{carried_of}
 use Rattle.bus_pageslot.proofs.steps.put_out.Goals as goal

@@ -1,4 +1,4 @@
-use Rattle.std.proofs.Common.{of_calls, refl, sym, subst, ◌∙◌}
+use Rattle.std.proofs.Common.{of_calls, refl, sym, ◌∙◌}
 use Rattle.bus_pageslot.specs.Turns.{Turned, Begins, Goes, Asks}
 use Rattle.bus_pageslot.proofs.Sending.{turned_puts}
 use Rattle.bus_pageslot.proofs.seats.SenderOf.send_while.Goals as goal
