@@ -4,10 +4,10 @@ ghost use Rattle.std.specs.Prelude.{◌≡◌, All};
 ghost use Rattle.bus_pageslot.specs.Seats.{table_of};
 
 use crate::desks::{Desk, desks_of};
+use bus_cyclic::limits::MOST_ROWS;
 use bus_pageslot::OfBus;
 use bus_receiver::Shape;
 use bus_register::Kind;
-use bus_cyclic::limits::MOST_ROWS;
 use bus_run::buses::{Bus, Sender, Tap, TheBus};
 use bus_run::workers::{Ear, ears_of};
 use rand_core::Rng;

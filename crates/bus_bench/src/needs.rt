@@ -26,7 +26,10 @@ impl fmt::Display for Shortage {
         let few_tenures = tenures > u128::from(MOST_TENURES);
         let few_words = words > u128::from(MOST_LOG_WORDS);
         if few_tenures {
-            write!(f, "{tenures} tenures are needed, and a round has {MOST_TENURES}")?;
+            write!(
+                f,
+                "{tenures} tenures are needed, and a round has {MOST_TENURES}"
+            )?;
         }
         if few_tenures && few_words {
             write!(f, "; ")?;

@@ -45,7 +45,7 @@ fn passes<R: Wait + Abort>(
     assert_eq!(rt; sender.send(rt, bus, &mut Pcg32::new(0, 0)), delivered);
     let item = ear.next_item(rt, bus).expect(rt, "an item");
     assert_eq!(rt; (item.sender, item.number), (SenderNo(0), number));
-    assert_eq!(rt; item.message.as_slice(), b"a");
+    assert_eq!(rt; item.message.as_slice(), b"a".as_slice());
 }
 
 #[test]
