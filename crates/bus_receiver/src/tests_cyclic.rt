@@ -11,6 +11,7 @@ use bus_register::SenderNo;
 use bus_tenure::Turn;
 use bus_world::Shape;
 use rand_pcg::Pcg32;
+use std::alloc::Global;
 use std::process::Abort;
 use std::sync::Wait;
 
@@ -48,12 +49,27 @@ fn passes<R: Wait + Abort>(
     assert_eq!(rt; item.message.as_slice(), b"a".as_slice());
 }
 
+/// The bus with its sender and its receiver.
+fn made(
+    rt: &impl Abort,
+    alloc: Global,
+) -> (
+    CyclicBus<ThreeWord>,
+    CyclicSender<ThreeWord>,
+    CyclicReceiver<ThreeWord>,
+)
+    ensures sender { table_of result.1 ≡ result.0.table }
+    ensures ear { bus_of result.2 ≡ result.0.table }
+{
+    let made = CyclicBus::new(alloc, TWO_ROWS);
+    let (bus, mut senders, mut taps) = made.expect(rt, "memory");
+    let ear = CyclicReceiver::new(taps.pop().expect(rt, "a seat"));
+    (bus, senders.pop().expect(rt, "a sender"), ear)
+}
+
 #[test]
 fn five_tenures_over_two_rows(rt: HostRuntime) {
-    let made = CyclicBus::<ThreeWord>::new(rt.alloc(), TWO_ROWS);
-    let (bus, mut senders, mut taps) = made.expect(&rt, "memory");
-    let mut sender = senders.pop().expect(&rt, "a sender");
-    let mut ear = CyclicReceiver::new(taps.pop().expect(&rt, "a seat"));
+    let (bus, mut sender, mut ear) = made(&rt, rt.alloc());
     passes(&rt, &bus, &mut sender, &mut ear, 0);
     passes(&rt, &bus, &mut sender, &mut ear, 1);
     passes(&rt, &bus, &mut sender, &mut ear, 2);

@@ -22,13 +22,13 @@ type Seat = CyclicTap<ThreeWord>;
 
 type Rows = CyclicBus<ThreeWord>;
 
-/// A bus of two senders and a receiver.
-fn rows(rt: &impl Abort, alloc: Global) -> (Rows, Guest, Guest, Seat)
+/// A bus of this shape, with its first two senders and a receiver.
+fn rows(rt: &impl Abort, alloc: Global, shape: Shape) -> (Rows, Guest, Guest, Seat)
     ensures senders { (table_of result.1 ≡ result.0.table)
         × (table_of result.2 ≡ result.0.table) }
     ensures tap { result.3.table_id ≡ result.0.table }
 {
-    let (bus, mut senders, mut taps) = Rows::new(alloc, TWO_ROWS).expect(rt, "memory");
+    let (bus, mut senders, mut taps) = Rows::new(alloc, shape).expect(rt, "memory");
     let second = senders.pop().expect(rt, "a sender");
     let first = senders.pop().expect(rt, "a sender");
     (bus, first, second, taps.pop().expect(rt, "a receiver"))
@@ -70,7 +70,7 @@ const BEHIND: Turn = Turn::Behind {
 
 #[test]
 fn holder_waits_behind(rt: HostRuntime) {
-    let (bus, mut first, mut second, mut tap) = rows(&rt, rt.alloc());
+    let (bus, mut first, mut second, mut tap) = rows(&rt, rt.alloc(), TWO_ROWS);
     assert_eq!(&rt; first.put(b"a"), Ok(0));
     assert_eq!(&rt; second.put(b"b"), Ok(0));
     assert_eq!(&rt; turns_to(&bus, &mut second, 3), Turn::Going);
@@ -95,7 +95,7 @@ fn holder_waits_behind(rt: HostRuntime) {
 
 #[test]
 fn rows_come_round(rt: HostRuntime) {
-    let (bus, mut first, mut second, tap) = rows(&rt, rt.alloc());
+    let (bus, mut first, mut second, tap) = rows(&rt, rt.alloc(), TWO_ROWS);
     assert_eq!(&rt; first.put(b"a"), Ok(0));
     assert_eq!(&rt; second.put(b"b"), Ok(0));
     assert_eq!(&rt; turns_to(&bus, &mut second, 1), Turn::Going);
@@ -117,7 +117,7 @@ fn rows_come_round(rt: HostRuntime) {
 /// A holder that waits for a sender which is gone has the page for good.
 #[test]
 fn stopped_visitor_keeps_the_page_out(rt: HostRuntime) {
-    let (bus, mut first, mut second, tap) = rows(&rt, rt.alloc());
+    let (bus, mut first, mut second, tap) = rows(&rt, rt.alloc(), TWO_ROWS);
     assert_eq!(&rt; second.put(b"b"), Ok(0));
     assert_eq!(&rt; turns_to(&bus, &mut second, 2), Turn::Going);
     drop(second);
@@ -164,10 +164,7 @@ fn two_threads_use_rows_again(rt: HostRuntime) {
         log_words: 256,
         ..TWO_ROWS
     };
-    let (bus, mut senders, mut taps) = Rows::new(rt.alloc(), shape).expect(&rt, "memory");
-    let second = senders.pop().expect(&rt, "a sender");
-    let first = senders.pop().expect(&rt, "a sender");
-    let tap = taps.pop().expect(&rt, "a receiver");
+    let (bus, first, second, tap) = rows(&rt, rt.alloc(), shape);
     let (wait, shared) = (&rt, &bus);
     let sent = join(
         &rt,
