@@ -20,6 +20,7 @@ pub struct Figures {
     stops: u64,
     gave_up: u64,
     items: u64,
+    most_tenures: u64,
 }
 
 impl Figures {
@@ -34,6 +35,7 @@ impl Figures {
             stops: 0,
             gave_up: 0,
             items: 0,
+            most_tenures: 0,
         }
     }
 
@@ -48,6 +50,7 @@ impl Figures {
             stops: tale.stops,
             gave_up: tale.gave_up,
             items: tale.items,
+            most_tenures: tale.last_tenure,
         })
     }
 
@@ -71,6 +74,7 @@ impl Figures {
             stops: self.stops.saturating_add(other.stops),
             gave_up: self.gave_up.saturating_add(other.gave_up),
             items: self.items.saturating_add(other.items),
+            most_tenures: self.most_tenures.max(other.most_tenures),
         }
     }
 
@@ -82,7 +86,8 @@ impl Figures {
         println!(rt; "  page out at the end {}", self.out)?;
         println!(rt; "  workers that stopped {}", self.stops)?;
         println!(rt; "  workers that waited too long {}", self.gave_up)?;
-        println!(rt; "  items {}", self.items)
+        println!(rt; "  items {}", self.items)?;
+        println!(rt; "  tenures of the longest log {}", self.most_tenures)
     }
 }
 

@@ -54,6 +54,8 @@ pub struct Tale {
     pub is_whole: bool,
     /// How many items its order has.
     pub items: u64,
+    /// The tenure of the last frame of its log, from 1 on; 0 where there is none.
+    pub last_tenure: u64,
 }
 
 /// Workers that one thread plays by turns.
@@ -273,6 +275,10 @@ fn tale_of<B: OfBus>(
         is_calm: load.is_calm,
         is_whole: load.is_calm && has_sent && read.order.ended,
         items: read.order.items.len() as u64,
+        last_tenure: match read.owners.last() {
+            Some((tenure, _)) => tenure.saturating_add(1),
+            None => 0,
+        },
     }
 }
 

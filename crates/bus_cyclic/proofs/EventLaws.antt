@@ -201,6 +201,9 @@ module _ {E : Type 0} (X : Election E) (P : Protocol E (Unit {0}) ℕ) (z : Cycl
     stop_gives = subst (λ o. StopGives (seen o)) now_goes tt
 
     -- ---- a turn
+    pub turn_causes : (W : Option (Visitor E) → Type 0) → W (Some v) → W (guest_going now.ring p)
+    turn_causes W = subst W now_goes
+
     module _ (word : ℕ) (low : IfSome (op_next X v word) (λ o. register o < length b.words)) where
       abbrev got : ℕ
       got = number_found (slice_index b.words) (op_next X v word)

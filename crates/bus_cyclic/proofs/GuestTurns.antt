@@ -10,6 +10,7 @@ use Rattle.bus_presence.specs.Visits.{step_at}
 use Rattle.bus_presence.specs.declared.visits.Visit.{Visit}
 use Rattle.bus_presence.specs.declared.visits.Visit.TheVariants.{Away, Entering, Looking, Inside, Parting, Barred}
 use Rattle.bus_guest.specs.Guests.{Due, Visits, Sweeps, Goes, sizes_with, due_beside, core_looked, core_seen}
+use Rattle.bus_guest.specs.Keeping.{held_of}
 use Rattle.bus_guest.proofs.Tells.{Shows, gives_shows}
 use Rattle.bus_guest.specs.Telling.{FeedTells, GivesReady, Returns as Gives, Gives as Hands, Says, HasPublished, Published, HandsOnSent, LacksRoom, FindsNoRoom, HandsOnFull, FindsEnd, Ended, HandsOnEnd}
 use Rattle.bus_guest.specs.Turns.{Visitor, sizes_of, due, op_due, op_next, placed, rest_due, visitor_due, visitor_after, answer_due, answer_after}
@@ -201,6 +202,7 @@ module _ {E : Type 0} (X : Election E) (v : Visitor E) (home : Option Page) (wor
     gives_too turn.Waiting (inr w) = inr w
     gives_too turn.Going w = record {
       loses = λ u o i. w.loses u o record { parts = i.parts; lost = i.lost };
+      holds = λ u i. ap held_of (tells X v.core (GivesBack t page reason) here).2 ∙ w.holds u i;
       barred = w.barred;
       takes = λ u i. let bad = sym here ∙ i.takes in cc;
       gives = λ u i. w.gives t (handed_ready u i);
@@ -222,6 +224,21 @@ module _ {E : Type 0} (X : Election E) (v : Visitor E) (home : Option Page) (wor
     }
     gives_too turn.Spent w = absurd (let bad = sym (hands t page reason e) ∙ w.looks in cc)
     gives_too (turn.Behind u p) w = absurd (let bad = sym stores ∙ w.loads in cc)
+
+  pub feed_tells_before : (got : ℕ) (r : Answered) (d : Due E) → due X v ≡ d → FeedTells X (handed d) got word r → FeedTells X v got word r
+  feed_tells_before got r (Visits o) e w = w
+  feed_tells_before got r (Sweeps s o) e w = w
+  feed_tells_before got r (Goes IsClosed) e w = w
+  feed_tells_before got r (Goes IsIdle) e w = w
+  feed_tells_before got r (Goes IsSpent) e w = w
+  feed_tells_before got r (Goes LooksAtStage) e w = w
+  feed_tells_before got r (Goes (Elects t f)) e w = w
+  feed_tells_before got r (Goes (TakesPage t)) e w = w
+  feed_tells_before got r (Goes (AwaitsPage t)) e w = w
+  feed_tells_before got r (Goes (StoresWord t page stored)) e w = w
+  feed_tells_before got r (Goes (StoresLength t page stored)) e w = w
+  feed_tells_before got r (Goes (GivesBack t page reason)) e w = gives_too t page reason e got r w
+  feed_tells_before got r (Goes (HasHanded t reason)) e w = w
 
   tells_before : (cells : List ℕ) (r : Answered) (d : Due E) → due X v ≡ d → StepTells X cells (handed d) (op_next X (handed d) word) word r → StepTells X cells v (op_next X v word) word r
   tells_before cells r (Visits o) e w = w

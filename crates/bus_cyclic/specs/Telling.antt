@@ -1,11 +1,15 @@
 -- What the answer of a sender's turn tells of the sender that took it, and of what its step found.
-use Rattle.std.specs.Prelude.{◌≡◌, ℕ, Option, Some, None, List, slice_index}
+use Rattle.std.specs.Prelude.{◌≡◌, ℕ, Bool, Option, Some, None, List, slice_index}
 use Rattle.bus_register.specs.declared.registers.Op.{Op}
+use Rattle.bus_register.specs.Protocol.{Protocol}
 use Rattle.bus_register.specs.Words.{register}
+use Rattle.bus_adoptcommit.specs.declared.verdicts.Verdict.{Verdict}
+use Rattle.bus_guest.specs.Causes.{IsCaused}
 use Rattle.bus_guest.specs.Guests.{Goes}
 use Rattle.bus_guest.specs.Telling.{FeedTells}
 use Rattle.bus_guest.specs.Turns.{Visitor, due, op_next}
 use Rattle.bus_tenure.specs.Core.{Election}
+use Rattle.bus_tenure.specs.Elections.{Elector}
 use Rattle.bus_tenure.specs.Seen.{AwaitsItsPage}
 use Rattle.bus_tenure.specs.Situations.{IsClosed, IsIdle, IsSpent}
 use Rattle.bus_tenure.specs.declared.turns.Turn.{Turn as Answered}
@@ -57,3 +61,16 @@ Tells X b (Close s) a = Unit {0}
 Tells X b (Turn s word) a = TurnTells X b.words (guest_going b s) word a
 Tells X b (Recv r) a = Unit {0}
 Tells X b (Stop s) a = Unit {0}
+
+-- ---- why a sender takes its step
+abbrev pub GuestCauses : {S : Type 0} → Election (Elector S) → Protocol S Bool Verdict → Option (Visitor (Elector S)) → Type 0
+GuestCauses X P None = Unit {0}
+GuestCauses X P (Some v) = IsCaused X P v
+
+-- the sender whose turn it is, and which goes on, has a cause for its step, whatever that is for
+abbrev pub EventCauses : {S : Type 0} → Election (Elector S) → Protocol S Bool Verdict → Ring (Elector S) → Event → Type 0
+EventCauses X P b (Put s bytes) = Unit {0}
+EventCauses X P b (Close s) = Unit {0}
+EventCauses X P b (Turn s word) = GuestCauses X P (guest_going b s)
+EventCauses X P b (Recv r) = Unit {0}
+EventCauses X P b (Stop s) = Unit {0}

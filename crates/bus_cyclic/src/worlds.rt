@@ -20,7 +20,7 @@ ghost use Rattle.bus_cyclic.specs.Cyclic.{AreLastTakers};
 ghost use Rattle.bus_cyclic.specs.Happening.{Happens, Answers, Refused, seen};
 ghost use Rattle.bus_cyclic.specs.Following.{Follows, Played, Stops, StepsWithin};
 ghost use Rattle.bus_cyclic.specs.Following.{owners_with};
-ghost use Rattle.bus_cyclic.specs.Telling.{Tells};
+ghost use Rattle.bus_cyclic.specs.Telling.{Tells, EventCauses};
 ghost use Rattle.bus_cyclic.specs.Truth.{TellsTrue, LossesAreSeen};
 
 use crate::limits::MOST_ROWS;
@@ -160,6 +160,8 @@ impl<Q: Ratifier + Drop> CyclicWorld<Q> {
             (λ a. Answers X self.old.ring (SenderTurn sender word) a self.new.ring) }
         ensures tells { let X = election_of Q.Ratifier in
             IfOk result (λ a. Tells X self.old.ring (SenderTurn sender word) a) }
+        ensures causes { let X = election_of Q.Ratifier in
+            OnOk result (EventCauses X Q.protocol self.old.ring (SenderTurn sender word)) }
         ensures owners { IfOk result
             (λ a. self.new.owners ≡ owners_with self.old (SenderTurn sender word) a) }
         ensures within { let X = election_of Q.Ratifier in
@@ -170,6 +172,7 @@ impl<Q: Ratifier + Drop> CyclicWorld<Q> {
         election_is_lawful::<Q>();
         self.goes_on(sender)?;
         let guest = &mut self.guests[sender as usize];
+        guest.has_causes();
         let turn = turn_guest(&mut self.cells, &mut self.home, guest, word);
         note_owner(
             &mut self.owners,
@@ -272,6 +275,8 @@ impl<Q: Ratifier + Drop> CyclicWorld<Q> {
             IfOk result (λ a. Answers X self.old.ring (event_told event.now) a self.new.ring) }
         ensures tells { let X = election_of Q.Ratifier in
             IfOk result (λ a. Tells X self.old.ring (event_told event.now) a) }
+        ensures causes { let X = election_of Q.Ratifier in
+            OnOk result (EventCauses X Q.protocol self.old.ring (event_told event.now)) }
         ensures owners { IfOk result
             (λ a. self.new.owners ≡ owners_with self.old (event_told event.now) a) }
         ensures within { let X = election_of Q.Ratifier in
@@ -308,6 +313,8 @@ impl<Q: Ratifier + Drop> CyclicWorld<Q> {
             IfOk result (λ a. Answers X self.old.ring (event_told event.now) a self.new.ring) }
         ensures tells { let X = election_of Q.Ratifier in
             IfOk result (λ a. Tells X self.old.ring (event_told event.now) a) }
+        ensures causes { let X = election_of Q.Ratifier in
+            OnOk result (EventCauses X Q.protocol self.old.ring (event_told event.now)) }
         ensures owners { IfOk result
             (λ a. self.new.owners ≡ owners_with self.old (event_told event.now) a) }
         ensures within { let X = election_of Q.Ratifier in

@@ -5,3 +5,5 @@ pub mod Laws
 pub mod Steps
 pub mod Tells
 pub mod Refused
+pub mod Causing
+pub mod CausesRefuse

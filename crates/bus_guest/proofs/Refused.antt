@@ -1,10 +1,11 @@
 -- Each of the wrong answers is refused.
-use Rattle.std.proofs.Common.{◌≡◌, inl, inr, ℕ, ◌+◌, ◌<◌, Bool, true, false, arith, sym, ◌∙◌, subst}
+use Rattle.std.proofs.Common.{◌≡◌, inl, inr, ℕ, ◌+◌, ◌<◌, Bool, true, false, arith, sym, ◌∙◌, ap, subst}
 use Rattle.std.proofs.lemmas.Bool.{true≢false}
 use Rattle.bus_tenure.specs.Core.{Core, Election, frame_len}
 use Rattle.bus_tenure.specs.declared.pages.Page.{Page}
 use Rattle.bus_tenure.specs.declared.phases.Phase.{Phase}
 use Rattle.bus_tenure.specs.declared.phases.Phase.TheVariants.{Resting, Holding}
+use Rattle.bus_guest.specs.Keeping.{held_of}
 use Rattle.bus_guest.specs.Refused.{AnswersRefuse}
 use Rattle.bus_guest.specs.Telling.{HasPublished, Published, HandsOnSent, LacksRoom, FindsNoRoom, HandsOnFull, FindsEnd, Ended, HandsOnEnd}
 use Rattle.bus_guest.specs.Turns.{Visitor}
@@ -63,6 +64,7 @@ module _ {E : Type 0} (X : Election E) (v : Visitor E) (got word : ℕ) where
     lost_to_another = λ t o none w. let bad = sym none ∙ w.lost in cc;
     lost_away = λ t o away w. let bad = sym away ∙ w.parts in cc;
     loses_silently = λ t o loses w. w.loses t o loses;
+    forgets_its_loss = λ t parts rests w. let bad = sym (ap held_of rests) ∙ w.holds t parts in cc;
     barred_silently = λ t barred w. w.barred record { tenure = t; is = barred };
     takes_silently = λ t takes w. w.takes t takes;
     gives_silently = λ t gives w. w.gives t gives;

@@ -4,13 +4,13 @@ use Rattle.std.proofs.lemmas.Bool.{lt-ltb}
 use Rattle.std.proofs.lemmas.Option.{same_Some}
 use Rattle.bus_register.specs.declared.registers.Op.{Op}
 use Rattle.bus_batch.specs.Batches.{Pending}
-use Rattle.bus_presence.specs.Visits.{Visiting, visit_fed}
+use Rattle.bus_presence.specs.Visits.{Visiting, step_at, visit_fed}
 use Rattle.bus_presence.specs.Sweeps.{Sweeping, is_swept}
 use Rattle.bus_presence.specs.Hall.{Sizes, presence_at, row_of}
 use Rattle.bus_presence.specs.declared.visits.Visit.{Visit}
 use Rattle.bus_presence.specs.declared.visits.Visit.TheVariants.{Away, Entering, Looking, Inside, Parting, Barred}
 use Rattle.bus_register.specs.declared.registers.SenderNo.{SenderNo}
-use Rattle.bus_tenure.specs.Core.{Core, Election, Layout, row_at, is_closing}
+use Rattle.bus_tenure.specs.Core.{Core, Election, Layout, stage_at, row_at, is_closing}
 use Rattle.bus_tenure.specs.Situations.{Situation, IsClosed, IsIdle, IsSpent, LooksAtStage, Elects, TakesPage, AwaitsPage, StoresWord, StoresLength, GivesBack, HasHanded, situation_of, op_at, fed_at, answer_at, core_begun, core_after_stage, waits, tenure_begun, resting, situation_at, core_elected, answer_of_election, answer_of_return}
 use Rattle.bus_tenure.specs.Keeping.{AreSizes}
 use Rattle.bus_tenure.specs.declared.pages.Page.{Page}
@@ -21,8 +21,8 @@ use Rattle.bus_tenure.specs.declared.phases.Phase.TheVariants.{Resting, Electing
 use Rattle.bus_tenure.specs.declared.turns.Turn.{Turn}
 use Rattle.bus_tenure.specs.declared.turns.Turn.TheVariants as turn
 use Rattle.bus_tenure.proofs.Situated.{tells}
-use Rattle.bus_guest.specs.Guests.{sizes_with, core_looked, core_going, visit_going, sweep_going, visit_elected}
-use Rattle.bus_guest.specs.Turns.{Visitor, sizes_of, answer_going, lost_elected, lost_going}
+use Rattle.bus_guest.specs.Guests.{Due, Goes, due_beside, sizes_with, core_looked, core_going, visit_going, sweep_going, visit_elected}
+use Rattle.bus_guest.specs.Turns.{Visitor, due, sizes_of, answer_going, lost_elected, lost_going}
 use Rattle.bus_guest.specs.Following.{visit_by, lost_by, sweep_by, told_by}
 use Rattle.bus_guest.specs.Keeping.{IsBound, IsOutside, VisitKeeps, held_of, SweepKeeps, LostKeeps, GuestKeeps, IsTied}
 use Rattle.bus_guest.proofs.Keeps.{runs_inside, stays_outside, ElectionsKeep}
@@ -48,10 +48,24 @@ begins x p t false is e =
     let late : x.rows ≤ t + 1 = grind (arith, lt-ltb, e) in
     record { tenure = t; held = ap held_of is; after = record { used = late; past = omega arith; senders = refl; presences = refl; row = refl; width = refl }; handed = λ u reason g. absurd (let r = sym is ∙ g in cc) }
 
+-- whose page it has taken who parts from a tenure
+abbrev pub PartsWithPage : {E : Type 0} → Phase E → Visit → Type 0
+PartsWithPage p u = (t : ℕ) → u ≡ Parting t → held_of p ≡ Some t
+
 -- nobody remembers an owner that has begun a tenure
-pub unlost : {E : Type 0} (p q : Phase E) (u w : Visit) (l : Option SenderNo) → LostKeeps p u l → p ≢ Resting → LostKeeps q w l
-unlost p q u w None k h = tt
-unlost p q u w (Some o) k h = absurd (h k.rests)
+pub unlost : {E : Type 0} (p q : Phase E) (u w : Visit) (l : Option SenderNo) → LostKeeps p u l → p ≢ Resting → (PartsWithPage p u → PartsWithPage q w) → LostKeeps q w l
+unlost p q u w None k h on = on k
+unlost p q u w (Some o) k h on = absurd (h k.rests)
+
+-- nobody goes on who is to clear its presence
+pub unparted : {E : Type 0} (X : Election E) (v : Visitor E) (z : Situation E) → due X v ≡ Goes z → (t : ℕ) → v.visit ≡ Parting t → ⊥
+unparted {E} X v z e t is = clears (sym (ap visiting is) ∙ e)
+  where
+    visiting : Visit → Due E
+    visiting u = due_beside (step_at u (presence_at (sizes_of v) v.core.me) stage_at) v.sweep (situation_of X v.core)
+
+    clears : visiting (Parting t) ≡ Goes z → ⊥
+    clears c = cc
 
 module _ {E : Type 0} (X : Election E) (W : Layout → ℕ) (B : Layout → ℕ → ℕ → E → Type 0) where
   abbrev pub Kept : Visitor E → Type 0
@@ -80,12 +94,12 @@ module _ {E : Type 0} (X : Election E) (W : Layout → ℕ) (B : Layout → ℕ 
       me_below = k.me_below;
       visit = stays_outside (B v.core.layout v.core.me) v.core (record v.core { phase = ph }) v.visit t k.visit held out;
       sweep = swept_on (sizes_of v) v.core.phase ph v.sweep k.sweep (holds ∙ sym held) done;
-      lost = unlost v.core.phase ph v.visit v.visit v.lost k.lost (λ e. let r = sym (ap held_of e) ∙ held in cc);
+      lost = unlost v.core.phase ph v.visit v.visit v.lost k.lost (λ e. let r = sym (ap held_of e) ∙ held in cc) (λ k u e. holds ∙ sym held ∙ k u e);
     }
 
     -- to its rest
-    home : (v : Visitor E) → Kept v → (t : ℕ) → held_of v.core.phase ≡ Some t → (q : Pending) (least : ℕ) → Kept record v { core = record v.core { queue = q; least = least; phase = Resting }; sweep = None }
-    home v k t held q least = record {
+    home : (v : Visitor E) → Kept v → (t : ℕ) → held_of v.core.phase ≡ Some t → ((u : ℕ) → v.visit ≡ Parting u → ⊥) → (q : Pending) (least : ℕ) → Kept record v { core = record v.core { queue = q; least = least; phase = Resting }; sweep = None }
+    home v k t held stays q least = record {
       sizes = k.sizes;
       tenures = k.tenures;
       rows_some = k.rows_some;
@@ -93,7 +107,7 @@ module _ {E : Type 0} (X : Election E) (W : Layout → ℕ) (B : Layout → ℕ 
       me_below = k.me_below;
       visit = stays_outside (B v.core.layout v.core.me) v.core (record v.core { queue = q; least = least; phase = Resting }) v.visit t k.visit held tt;
       sweep = λ u e. absurd cc;
-      lost = unlost v.core.phase Resting v.visit v.visit v.lost k.lost (λ e. let r = sym (ap held_of e) ∙ held in cc);
+      lost = unlost v.core.phase Resting v.visit v.visit v.lost k.lost (λ e. let r = sym (ap held_of e) ∙ held in cc) (λ k u e. absurd (stays u e));
     }
 
     -- its answer tells that the page is gone
@@ -129,7 +143,7 @@ module _ {E : Type 0} (X : Election E) (W : Layout → ℕ) (B : Layout → ℕ 
         me_below = k.me_below;
         visit = record { election = e'; is = refl; belongs = b; below = inside.2 };
         sweep = unswept (sizes_of v) v.core.phase (Electing t e') v.sweep k.sweep (ap held_of at) refl;
-        lost = unlost v.core.phase (Electing t e') v.visit (Inside t) v.lost k.lost begun;
+        lost = unlost v.core.phase (Electing t e') v.visit (Inside t) v.lost k.lost begun (λ k u e. absurd cc);
       }
 
       lost : (o : ℕ) → Kept record v { core = record v.core { queue = record v.core.queue { busy = false }; least = t + 1; phase = Resting }; visit = Parting t; lost = Some record { 0 = o } }
@@ -159,18 +173,18 @@ module _ {E : Type 0} (X : Election E) (W : Layout → ℕ) (B : Layout → ℕ 
     some_op (Some o) h = (o, refl)
 
     -- a step of a sender in a tenure
-    pub went : (v : Visitor E) (got word : ℕ) → Kept v → (z : Situation E) → situation_of X v.core ≡ z → IsSome (op_at X v.core z word) → v.core.phase ≢ Resting
+    pub went : (v : Visitor E) (got word : ℕ) → Kept v → ((u : ℕ) → v.visit ≡ Parting u → ⊥) → (z : Situation E) → situation_of X v.core ≡ z → IsSome (op_at X v.core z word) → v.core.phase ≢ Resting
         → Went v (core_going X v.core z got word) (fed_at X v.core z got word) (visit_going X v.core v.visit z got word) (sweep_going v.core.layout v.rows v.sweep z) (lost_going X v.core v.lost z got word) (answer_at X v.core z got word) (answer_going X v.core z got word)
-    went v got word k IsClosed i h b = absurd (b (tells X v.core IsClosed i))
-    went v got word k IsIdle i h b = absurd (b (tells X v.core IsIdle i))
-    went v got word k IsSpent i h b = absurd (b (tells X v.core IsSpent i))
-    went v got word k LooksAtStage i h b = absurd (b (tells X v.core LooksAtStage i))
-    went v got word k (Elects t e) i h b =
+    went v got word k stays IsClosed i h b = absurd (b (tells X v.core IsClosed i))
+    went v got word k stays IsIdle i h b = absurd (b (tells X v.core IsIdle i))
+    went v got word k stays IsSpent i h b = absurd (b (tells X v.core IsSpent i))
+    went v got word k stays LooksAtStage i h b = absurd (b (tells X v.core LooksAtStage i))
+    went v got word k stays (Elects t e) i h b =
         let at = (tells X v.core (Elects t e) i).0 in
         let o = some_op (X.op e word) h in
         let in1 = runs_inside (B v.core.layout v.core.me) v.core v.visit t e k.visit at in
         elected v k t e (X.fed e got word) at (law.goes v.core.layout v.core.me (row_at v.core.layout t) e got word o.0 in1.1 o.1) (X.owner (X.fed e got word))
-    went v got word k (TakesPage t) i h b = record {
+    went v got word k stays (TakesPage t) i h b = record {
       keeps = record {
         sizes = k.sizes;
         tenures = k.tenures;
@@ -179,7 +193,7 @@ module _ {E : Type 0} (X : Election E) (W : Layout → ℕ) (B : Layout → ℕ 
         me_below = k.me_below;
         visit = tt;
         sweep = begins (sizes_of v) (Taken t) t (nat_lt (t + 1) v.rows) refl refl;
-        lost = unlost v.core.phase (Taken t) v.visit (Parting t) v.lost k.lost b;
+        lost = unlost v.core.phase (Taken t) v.visit (Parting t) v.lost k.lost b (λ k u e. let same : t ≡ u = cc in ap Some same);
       };
       layout = refl;
       me = refl;
@@ -189,17 +203,17 @@ module _ {E : Type 0} (X : Election E) (W : Layout → ℕ) (B : Layout → ℕ 
       lost_is = refl;
       told_is = refl;
     }
-    went v got word k (AwaitsPage t) i h b = absurd (let q : false ≡ true = h in cc)
-    went v got word k (StoresWord t page stored) i h b =
+    went v got word k stays (AwaitsPage t) i h b = absurd (let q : false ≡ true = h in cc)
+    went v got word k stays (StoresWord t page stored) i h b =
         record { keeps = held_on v k t (ap held_of (tells X v.core (StoresWord t page stored) i).1) (Holding t page (stored + 1) false) refl tt (λ u reason e. absurd cc); layout = refl; me = refl; core_is = refl; visit_is = refl; sweep_is = refl; lost_is = refl; told_is = refl }
-    went v got word k (StoresLength t page stored) i h b =
+    went v got word k stays (StoresLength t page stored) i h b =
         record { keeps = held_on v k t (ap held_of (tells X v.core (StoresLength t page stored) i).1) (Holding t page stored true) refl tt (λ u reason e. absurd cc); layout = refl; me = refl; core_is = refl; visit_is = refl; sweep_is = refl; lost_is = refl; told_is = refl }
-    went v got word k (GivesBack t page reason) i h b =
+    went v got word k stays (GivesBack t page reason) i h b =
         let d = ends v v.core.queue t reason in
-        record { keeps = home v k t (ap held_of (tells X v.core (GivesBack t page reason) i).2) _ (t + 1); layout = refl; me = refl; core_is = refl; visit_is = d.visit; sweep_is = d.sweep; lost_is = d.lost; told_is = d.told }
-    went v got word k (HasHanded t reason) i h b =
+        record { keeps = home v k t (ap held_of (tells X v.core (GivesBack t page reason) i).2) stays _ (t + 1); layout = refl; me = refl; core_is = refl; visit_is = d.visit; sweep_is = d.sweep; lost_is = d.lost; told_is = d.told }
+    went v got word k stays (HasHanded t reason) i h b =
         let d = ends v v.core.queue t reason in
-        record { keeps = home v k t (ap held_of (tells X v.core (HasHanded t reason) i)) _ (t + 1); layout = refl; me = refl; core_is = refl; visit_is = d.visit; sweep_is = d.sweep; lost_is = d.lost; told_is = d.told }
+        record { keeps = home v k t (ap held_of (tells X v.core (HasHanded t reason) i)) stays _ (t + 1); layout = refl; me = refl; core_is = refl; visit_is = d.visit; sweep_is = d.sweep; lost_is = d.lost; told_is = d.told }
 
   -- ---- from what the calls gave
   abbrev pub visitor : Core E → Visit → Option Sweeping → Option SenderNo → ℕ → Visitor E
@@ -248,8 +262,8 @@ module _ {E : Type 0} (X : Election E) (W : Layout → ℕ) (B : Layout → ℕ 
   -- ---- a step of its visit
   pub keeps_visit : (law : ElectionsKeep X W B) (v : Visitor E) (got : ℕ) → Kept v → Kept record v { core = core_looked X v.core v.visit got; visit = visit_fed v.visit got; lost = None }
   keeps_visit law v got k = by v.visit k.visit where
-    again : (c : Core E) (u : Visit) → c.layout ≡ v.core.layout → c.me ≡ v.core.me → VisitKeeps (B c.layout c.me) c u → SweepKeeps (sizes_with c.layout v.rows) c.phase v.sweep → Kept record { core = c; visit = u; sweep = v.sweep; lost = None; rows = v.rows }
-    again c u layout me visit sweep = record {
+    again : (c : Core E) (u : Visit) → ((t : ℕ) → u ≡ Parting t → ⊥) → c.layout ≡ v.core.layout → c.me ≡ v.core.me → VisitKeeps (B c.layout c.me) c u → SweepKeeps (sizes_with c.layout v.rows) c.phase v.sweep → Kept record { core = c; visit = u; sweep = v.sweep; lost = None; rows = v.rows }
+    again c u stays layout me visit sweep = record {
       sizes = subst (λ x. AreSizes x (W x)) (sym layout) k.sizes;
       tenures = ap (λ x. x.rows) layout ∙ k.tenures;
       rows_some = k.rows_some;
@@ -257,22 +271,22 @@ module _ {E : Type 0} (X : Election E) (W : Layout → ℕ) (B : Layout → ℕ 
       me_below = let a = ap (λ x. x.senders) layout in let b = k.me_below in omega arith;
       visit = visit;
       sweep = sweep;
-      lost = tt;
+      lost = λ t e. absurd (stays t e);
     }
 
     looked : (t : ℕ) (b : Bool) → IsBound v.core t → Kept record { core = cond b (core_begun X v.core t) v.core; visit = cond b (Inside t) (Barred t); sweep = v.sweep; lost = None; rows = v.rows }
-    looked t true h = again (core_begun X v.core t) (Inside t) refl refl
+    looked t true h = again (core_begun X v.core t) (Inside t) (λ u e. cc) refl refl
         record { election = X.started v.core.layout.senders v.core.me v.core.layout.rounds (row_at v.core.layout t); is = refl; belongs = law.starts v.core.layout v.core.me (row_at v.core.layout t) k.me_below (let f = k.sizes.few in omega arith); below = h.below }
         (unswept (sizes_of v) v.core.phase (Electing t (X.started v.core.layout.senders v.core.me v.core.layout.rounds (row_at v.core.layout t))) v.sweep k.sweep (ap held_of h.rests) refl)
-    looked t false h = again v.core (Barred t) refl refl (subst IsOutside (sym h.rests) tt) k.sweep
+    looked t false h = again v.core (Barred t) (λ u e. cc) refl refl (subst IsOutside (sym h.rests) tt) k.sweep
 
     by : (u : Visit) → VisitKeeps (B v.core.layout v.core.me) v.core u → Kept record { core = core_looked X v.core u got; visit = visit_fed u got; sweep = v.sweep; lost = None; rows = v.rows }
-    by Away h = again v.core Away refl refl h k.sweep
-    by (Entering t) h = again v.core (Looking t) refl refl h k.sweep
+    by Away h = again v.core Away (λ u e. cc) refl refl h k.sweep
+    by (Entering t) h = again v.core (Looking t) (λ u e. cc) refl refl h k.sweep
     by (Looking t) h = looked t (got / 2 == t) h
-    by (Inside t) h = again v.core (Inside t) refl refl h k.sweep
-    by (Parting t) h = again v.core Away refl refl h k.sweep
-    by (Barred t) h = again v.core Away refl refl h k.sweep
+    by (Inside t) h = again v.core (Inside t) (λ u e. cc) refl refl h k.sweep
+    by (Parting t) h = again v.core Away (λ u e. cc) refl refl h k.sweep
+    by (Barred t) h = again v.core Away (λ u e. cc) refl refl h k.sweep
 
   -- ---- a load of the stage with which it begins no tenure
   pub keeps_seen : (v : Visitor E) (got : ℕ) → Kept v → v.core.phase ≡ Resting → v.visit ≡ Away → tenure_begun v.core got ≡ None → Kept record v { core = core_after_stage X v.core got }

@@ -28,7 +28,7 @@ use Rattle.bus_guest.specs.Guests.{Due, Visits, Sweeps, Goes, sizes_with, due_be
 use Rattle.bus_guest.specs.Turns.{Visitor, sizes_of, due, op_due, op_next, answer_of_loss, answer_of_visit, answer_of_sweep, answer_going, answer_due, answer_after}
 use Rattle.bus_guest.specs.Besides.{sweeps_by, due_by}
 use Rattle.bus_guest.specs.declared.besides.Beside.TheVariants.{Sweep, Visit as VisitsBy}
-use Rattle.bus_guest.specs.Keeping.{held_of, SweepKeeps, IsHeldSweep, GuestKeeps}
+use Rattle.bus_guest.specs.Keeping.{held_of, SweepKeeps, IsHeldSweep, LostKeeps, GuestKeeps}
 use Rattle.bus_guest.specs.Telling.{FeedTells, Returns, Gives, Says, GivesReady, IsBarred, Withdraws, IsChosen, IsBehind, TellsNoMore, HasPublished, Published, HandsOnSent, LacksRoom, FindsNoRoom, HandsOnFull, FindsEnd, Ended, HandsOnEnd}
 use Rattle.bus_guest.proofs.Keeps.{goes_beside, swept_beside, runs_inside}
 
@@ -54,21 +54,21 @@ sweeps_due (StoresLength t page stored) s s' p e = absurd cc
 sweeps_due (GivesBack t page reason) s s' p e = sweeps_home s s' p (GivesBack t page reason) e
 sweeps_due (HasHanded t reason) s s' p e = absurd cc
 
-sweeps_beside : {E : Type 0} (o : Option Op) (s : Option Sweeping) (z : Situation E) (s' : Sweeping) (p : Op) → due_beside o s z ≡ Sweeps s' p → (s ≡ Some s') × (sweep_op s' ≡ Some p)
+pub sweeps_beside : {E : Type 0} (o : Option Op) (s : Option Sweeping) (z : Situation E) (s' : Sweeping) (p : Op) → due_beside o s z ≡ Sweeps s' p → (s ≡ Some s') × (sweep_op s' ≡ Some p)
 sweeps_beside None s z s' p e = sweeps_due z s s' p e
 sweeps_beside (Some o) s z s' p e = absurd cc
 
 -- ---- a row that is ready
-ready_of : {E : Type 0} (x : Sizes) (p : Phase E) (s : Option Sweeping) (t : ℕ) → SweepKeeps x p s → held_of p ≡ Some t → IfSome s (λ y. is_swept y ≡ true) → IsReady x t s
+pub ready_of : {E : Type 0} (x : Sizes) (p : Phase E) (s : Option Sweeping) (t : ℕ) → SweepKeeps x p s → held_of p ≡ Some t → IfSome s (λ y. is_swept y ≡ true) → IsReady x t s
 ready_of x p None t k held done = k t held
 ready_of x p (Some s) t k held done = done
 
-handed_of : {E : Type 0} (x : Sizes) (p : Phase E) (s : Option Sweeping) (t : ℕ) (reason : Reason) → SweepKeeps x p s → p ≡ Giving t reason → IfSome s (λ y. is_swept y ≡ true)
+pub handed_of : {E : Type 0} (x : Sizes) (p : Phase E) (s : Option Sweeping) (t : ℕ) (reason : Reason) → SweepKeeps x p s → p ≡ Giving t reason → IfSome s (λ y. is_swept y ≡ true)
 handed_of x p None t reason k is = tt
 handed_of x p (Some s) t reason k is = k.handed t reason is
 
 -- ---- why a page is given back
-abbrev WhyGiven : Reason → Bool → Bool → Bool → Type 0
+abbrev pub WhyGiven : Reason → Bool → Bool → Bool → Type 0
 WhyGiven Sent published ended room = published ≡ true
 WhyGiven FoundEnd published ended room = (published ≡ false) × (ended ≡ true)
 WhyGiven NoRoom published ended room = (published ≡ false) × (room ≡ false)
@@ -77,7 +77,7 @@ module _ {E : Type 0} (t : ℕ) (page given : Page) (stored : ℕ) (reason : Rea
   reason_is : (r : Reason) → ◌≡◌ {A = Situation E} (GivesBack t page r) (GivesBack t given reason) → r ≡ reason
   reason_is r e = cc
 
-  given_for : (published ended room more : Bool)
+  pub given_for : (published ended room more : Bool)
       → ◌≡◌ {A = Situation E} (cond published (GivesBack t page Sent) (cond ended (GivesBack t page FoundEnd) (cond room (cond more (StoresWord t page stored) (StoresLength t page stored)) (GivesBack t page NoRoom)))) (GivesBack t given reason)
       → WhyGiven reason published ended room
   given_for true ended room more e = subst (λ r. WhyGiven r true ended room) (reason_is Sent e) refl
@@ -139,9 +139,10 @@ module _ {E : Type 0} (X : Election E) (v : Visitor E) (got word : ℕ) where
   chosen_due t w = visit_due (Inside t) w.inside ∙ ap (due_at (Inside t)) w.takes
 
   -- ---- of a step of its visit
-  visit_quiet : (o : Op) → due X v ≡ Visits o → ((t : ℕ) (w : SenderNo) → Withdraws v t w → ⊥) → (IsBarred v.visit → ⊥) → ((p : ℕ) → o ≡ Load record { 0 = presence_at (sizes_of v) p } → ⊥) → TellsNoMore X v got word
-  visit_quiet o e loses barred loads = record {
+  visit_quiet : (o : Op) → due X v ≡ Visits o → ((t : ℕ) (w : SenderNo) → Withdraws v t w → ⊥) → ((t : ℕ) → v.visit ≡ Parting t → held_of v.core.phase ≡ Some t) → (IsBarred v.visit → ⊥) → ((p : ℕ) → o ≡ Load record { 0 = presence_at (sizes_of v) p } → ⊥) → TellsNoMore X v got word
+  visit_quiet o e loses holds barred loads = record {
     loses = loses;
+    holds = holds;
     barred = barred;
     takes = λ t w. let bad = sym e ∙ chosen_due t w in cc;
     gives = λ t w. let bad = sym e ∙ w.due_is in cc;
@@ -150,21 +151,24 @@ module _ {E : Type 0} (X : Election E) (v : Visitor E) (got word : ℕ) where
     behind = λ t p w. loads p (same_Some _ _ (sym (ap (λ d. op_due X v d word) e) ∙ w.loads));
   }
 
-  parts : (o : Op) → due X v ≡ Visits o → (t : ℕ) (l : Option SenderNo) → v.visit ≡ Parting t → v.lost ≡ l → FeedTells X v got word (answer_of_loss t l)
-  parts o d t None e f = visit_quiet o d
+  parts : (o : Op) → due X v ≡ Visits o → (t : ℕ) (l : Option SenderNo) → v.visit ≡ Parting t → v.lost ≡ l → LostKeeps v.core.phase v.visit l → FeedTells X v got word (answer_of_loss t l)
+  parts o d t None e f kept = visit_quiet o d
       (λ u w i. let bad = sym f ∙ i.lost in cc)
+      kept
       (λ b. let bad = sym e ∙ b.is in cc)
       (λ p i. let step = sym d ∙ parting_due t e in cc)
-  parts o d t (Some l) e f = record { parts = e; lost = f }
+  parts o d t (Some l) e f kept = record { parts = e; lost = f }
 
-  visits : (o : Op) → due X v ≡ Visits o → (u : Visit) → v.visit ≡ u → FeedTells X v got word (answer_of_visit u v.lost)
-  visits o d Away e = absurd (home_no_visit (sweep_due (situation_of X v.core) v.sweep) (situation_of X v.core) o (sym (visit_due Away e) ∙ d))
-  visits o d (Entering t) e = visit_quiet o d
+  visits : (o : Op) → due X v ≡ Visits o → LostKeeps v.core.phase v.visit v.lost → (u : Visit) → v.visit ≡ u → FeedTells X v got word (answer_of_visit u v.lost)
+  visits o d k Away e = absurd (home_no_visit (sweep_due (situation_of X v.core) v.sweep) (situation_of X v.core) o (sym (visit_due Away e) ∙ d))
+  visits o d k (Entering t) e = visit_quiet o d
       (λ u w i. let bad = sym e ∙ i.parts in cc)
+      (λ u i. let bad = sym e ∙ i in absurd cc)
       (λ b. let bad = sym e ∙ b.is in cc)
       (λ p i. let step = sym d ∙ visit_due (Entering t) e in cc)
-  visits o d (Looking t) e = visit_quiet o d
+  visits o d k (Looking t) e = visit_quiet o d
       (λ u w i. let bad = sym e ∙ i.parts in cc)
+      (λ u i. let bad = sym e ∙ i in absurd cc)
       (λ b. let bad = sym e ∙ b.is in cc)
       (λ p i. loads_stage p (sym i ∙ visit_step o _ (sym d ∙ visit_due (Looking t) e)))
     where
@@ -173,14 +177,15 @@ module _ {E : Type 0} (X : Election E) (v : Visitor E) (got word : ℕ) where
 
       loads_stage : (p : ℕ) → Load record { 0 = presence_at (sizes_of v) p } ≡ Load record { 0 = stage_at } → ⊥
       loads_stage p i = let n = ap register i in omega arith
-  visits o d (Inside t) e = absurd (home_no_visit (sweep_due (situation_of X v.core) v.sweep) (situation_of X v.core) o (sym (visit_due (Inside t) e) ∙ d))
-  visits o d (Parting t) e = parts o d t v.lost e refl
-  visits o d (Barred t) e = inr record { tenure = t; is = e }
+  visits o d k (Inside t) e = absurd (home_no_visit (sweep_due (situation_of X v.core) v.sweep) (situation_of X v.core) o (sym (visit_due (Inside t) e) ∙ d))
+  visits o d k (Parting t) e = parts o d t v.lost e refl k
+  visits o d k (Barred t) e = inr record { tenure = t; is = e }
 
   -- ---- of a step of its sweep
   sweep_quiet : (s : Sweeping) (o : Op) → due X v ≡ Sweeps s o → ((t p : ℕ) → IsBehind X v got word t p → ⊥) → TellsNoMore X v got word
   sweep_quiet s o e behind = record {
     loses = λ t w i. let bad = sym e ∙ parting_due t i.parts in cc;
+    holds = λ t i. let bad = sym e ∙ parting_due t i in absurd cc;
     barred = λ b. let bad = sym e ∙ barred_due b.tenure b.is in cc;
     takes = λ t w. let bad = sym e ∙ chosen_due t w in cc;
     gives = λ t w. let bad = sym e ∙ w.due_is in cc;
@@ -222,6 +227,7 @@ module _ {E : Type 0} (X : Election E) (v : Visitor E) (got word : ℕ) where
       → situation_of X v.core ≡ z → ((t p : ℕ) → IsBehind X v got word t p → ⊥) → TellsNoMore X v got word
   goes_quiet z e takes returns vain past here behind = record {
     loses = λ t w i. let bad = sym e ∙ parting_due t i.parts in cc;
+    holds = λ t i. let bad = sym e ∙ parting_due t i in absurd cc;
     barred = λ b. let bad = sym e ∙ barred_due b.tenure b.is in cc;
     takes = λ t w. takes t (goes_is z (TakesPage t) (sym e ∙ chosen_due t w));
     gives = λ t w. returns t (subst (Returns t) here w.returns);
@@ -279,7 +285,7 @@ module _ {E : Type 0} (X : Election E) (v : Visitor E) (got word : ℕ) where
         (subst (λ p. Shows v.core t p reason) (sym at) (shown_handed v.core t reason))
 
     by : (d : Due E) → due X v ≡ d → IsSome (op_due X v d word) → FeedTells X v got word (answer_due X v d got word)
-    by (Visits o) e h = visits o e v.visit refl
+    by (Visits o) e h = visits o e k.lost v.visit refl
     by (Sweeps s o) e h =
         let f = sweeps_beside _ _ _ s o e in
         asks s o e (subst (SweepKeeps (sizes_of v) v.core.phase) f.0 k.sweep) (ap (λ d. op_due X v d word) e) (nat_lt s.asked s.senders) (got == 1 + s.past) (nat_lt s.cleared s.width) refl refl f.1

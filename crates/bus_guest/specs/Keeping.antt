@@ -75,14 +75,15 @@ abbrev pub SweepKeeps : {E : Type 0} → Sizes → Phase E → Option Sweeping �
 SweepKeeps x phase None = (t : ℕ) → held_of phase ≡ Some t → t + 1 < x.rows
 SweepKeeps x phase (Some s) = IsHeldSweep x phase s
 
--- who remembers an owner parts from the tenure that it lost, and has begun no other
+-- Who remembers an owner parts from the tenure that it lost, and has begun no other. Who parts from a tenure and remembers no owner has
+-- taken its page.
 pub record HasLost {E : Type 0} (phase : Phase E) (visit : Visit) : Type 0 where
   pub tenure : ℕ
   pub parts : visit ≡ Parting tenure
   pub rests : phase ≡ Resting
 
 abbrev pub LostKeeps : {E : Type 0} → Phase E → Visit → Option SenderNo → Type 0
-LostKeeps phase visit None = Unit {0}
+LostKeeps phase visit None = (t : ℕ) → visit ≡ Parting t → held_of phase ≡ Some t
 LostKeeps phase visit (Some o) = HasLost phase visit
 
 pub record GuestKeeps {E : Type 0} (width : ℕ) (Belongs : ℕ → E → Type 0) (v : Visitor E) : Type 0 where

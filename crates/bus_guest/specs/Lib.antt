@@ -5,4 +5,6 @@ pub mod Places
 pub mod Besides
 pub mod Following
 pub mod Telling
+pub mod Causes
 pub mod Refused
+pub mod CausesRefuse

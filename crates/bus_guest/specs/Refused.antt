@@ -2,7 +2,7 @@
 use Rattle.std.specs.Prelude.{◌≡◌, ◌≢◌, ℕ, ◌+◌, ◌/◌, ◌<◌, ◌≤◌, false, true, None, Bool}
 use Rattle.bus_batch.specs.Batches.{next_of}
 use Rattle.bus_register.specs.declared.registers.SenderNo.{SenderNo}
-use Rattle.bus_presence.specs.declared.visits.Visit.TheVariants.{Away, Barred}
+use Rattle.bus_presence.specs.declared.visits.Visit.TheVariants.{Away, Parting, Barred}
 use Rattle.bus_tenure.specs.Core.{Election, frame_len, is_closing}
 use Rattle.bus_tenure.specs.declared.pages.Page.{Page}
 use Rattle.bus_tenure.specs.declared.phases.Phase.TheVariants.{Resting, Holding}
@@ -36,8 +36,9 @@ pub record AnswersRefuse {E : Type 0} (X : Election E) (v : Visitor E) (got word
   -- Lost where it remembers no owner, or while it visits no tenure
   pub lost_to_another : (t : ℕ) (o : SenderNo) → v.lost ≡ None → ¬ FeedTells X v got word (turn.Lost t o)
   pub lost_away : (t : ℕ) (o : SenderNo) → v.visit ≡ Away → ¬ FeedTells X v got word (turn.Lost t o)
-  -- Going where it lost a tenure, came too late, takes a page or gives one back
+  -- Going where it lost a tenure, whether it remembers to whom or not, came too late, takes a page or gives one back
   pub loses_silently : (t : ℕ) (o : SenderNo) → Withdraws v t o → ¬ FeedTells X v got word turn.Going
+  pub forgets_its_loss : (t : ℕ) → v.visit ≡ Parting t → v.core.phase ≡ Resting → ¬ FeedTells X v got word turn.Going
   pub barred_silently : (t : ℕ) → v.visit ≡ Barred t → ¬ FeedTells X v got word turn.Going
   pub takes_silently : (t : ℕ) → IsChosen X v t → ¬ FeedTells X v got word turn.Going
   pub gives_silently : (t : ℕ) → GivesReady X v t → ¬ FeedTells X v got word turn.Going

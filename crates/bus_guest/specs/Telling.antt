@@ -101,10 +101,11 @@ pub record IsBehind {E : Type 0} (X : Election E) (v : Visitor E) (got word t p 
   pub held : held_of v.core.phase ≡ Some tenure
   pub past : t + v.rows ≡ tenure + 1
 
--- No other answer is due. It withdraws from no tenure that it lost, and from none that it came too late for; it takes no page, and gives
--- none back; the stage that it looked at lets it enter a tenure; and nobody is behind.
+-- No other answer is due. It withdraws from no tenure that it lost, and from none that it came too late for; so where it withdraws, it
+-- holds that tenure's page. It takes no page, and gives none back; the stage that it looked at lets it enter a tenure; and nobody is behind.
 pub record TellsNoMore {E : Type 0} (X : Election E) (v : Visitor E) (got word : ℕ) : Type 0 where
   pub loses : (t : ℕ) (o : SenderNo) → ¬ Withdraws v t o
+  pub holds : (t : ℕ) → v.visit ≡ Parting t → held_of v.core.phase ≡ Some t
   pub barred : ¬ IsBarred v.visit
   pub takes : (t : ℕ) → ¬ IsChosen X v t
   pub gives : (t : ℕ) → ¬ GivesReady X v t

@@ -18,11 +18,11 @@ ghost use Rattle.bus_tenure.specs.declared.phases.Phase.TheVariants as phase;
 ghost use Rattle.std.specs.Prelude.{◌≢◌, ◌%◌};
 ghost use Rattle.bus_presence.specs.Hall.{sweep_after as hall_sweep_after};
 ghost use Rattle.bus_presence.specs.Visits.{visit_fed};
-ghost use Rattle.bus_presence.specs.Sweeps.{Sweeping, sweep_fed, behind_of};
+ghost use Rattle.bus_presence.specs.Sweeps.{Sweeping, sweep_op, sweep_fed, behind_of};
 ghost use Rattle.bus_tenure.specs.Situations.{op_at, resting, LooksAtStage, answer_of_stage};
 ghost use Rattle.bus_tenure.specs.declared.phases.Reason.{Reason};
 ghost use Rattle.bus_guest.specs.Guests.{Goes, place_for, core_looked, core_seen, visit_seen};
-ghost use Rattle.bus_guest.specs.Turns.{placed, kind_of_visit, answer_of_visit};
+ghost use Rattle.bus_guest.specs.Turns.{placed, kind_of_visit, kind_of_sweep, answer_of_visit};
 ghost use Rattle.bus_guest.specs.Turns.{answer_of_sweep, visitor_due, answer_due};
 ghost use Rattle.bus_guest.specs.Keeping.{IsBound, LiesApart};
 ghost use Rattle.bus_guest.specs.Following.{visit_by as spec_visit_by};
@@ -32,6 +32,7 @@ ghost use Rattle.bus_guest.specs.Following.{told_by as spec_told_by};
 ghost use Rattle.bus_guest.specs.Turns.{due, op_next, kind_due, wants_due, rest_due};
 ghost use Rattle.bus_guest.specs.Turns.{tenure_begun_by, words_with, queue_seen};
 ghost use Rattle.bus_guest.specs.Places.{LiesGoing, LiesAt};
+ghost use Rattle.bus_guest.specs.Causes.{HasCause, IsCaused};
 ghost use Rattle.bus_guest.specs.Telling.{FeedTells};
 ghost use Rattle.bus_guest.specs.Turns.{visitor_after, answer_after, GivesPageBack};
 ghost use Rattle.bus_guest.specs.Besides.{due_by, HasSweep, op_beside};
@@ -347,15 +348,22 @@ impl<Q: Ratifier + Drop> Guest<Q> {
 
     /// What the next step is for; none where none is due.
     pub fn kind(&self) -> Option<Kind>
-        ensures { let X = election_of Q.Ratifier in
+        ensures kind { let X = election_of Q.Ratifier in
             result ≡ kind_due X self.now (due X self.now) }
+        ensures cause { IfSome result (λ k. HasCause Q.protocol self.now k) }
     {
         match self.beside() {
             Beside::Visit(_) => visit_kind(self.presence.visit()),
-            Beside::Sweep(Op::Load(_)) => Some(Kind::ReadPresence),
-            Beside::Sweep(_) => Some(Kind::ClearRow),
+            Beside::Sweep(op) => Some(sweep_kind(op)),
             Beside::Nothing => self.core.kind(),
         }
+    }
+
+    /// Each kind of step has its cause in what the guest holds before it.
+    pub fn has_causes(&self)
+        ensures { let X = election_of Q.Ratifier in IsCaused X Q.protocol self.now }
+    {
+        let _kind = self.kind();
     }
 
     /// The answer where no step is due; Going where one is, or a page is to be laid.
@@ -568,6 +576,16 @@ fn visit_kind(visit: Visit) -> Option<Kind>
         Visit::Entering { .. } => Some(Kind::Enter),
         Visit::Looking { .. } => Some(Kind::LoadStageAgain),
         Visit::Parting { .. } | Visit::Barred { .. } => Some(Kind::Withdraw),
+    }
+}
+
+/// What the next step of a sweep is for.
+fn sweep_kind(step: Op) -> Kind
+    ensures { (s : Sweeping) → sweep_op s ≡ Some step → result ≡ kind_of_sweep s }
+{
+    match step {
+        Op::Load(_) => Kind::ReadPresence,
+        _ => Kind::ClearRow,
     }
 }
 

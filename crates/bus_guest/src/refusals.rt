@@ -1,9 +1,10 @@
-//! What no step of a guest may answer.
+//! What no step of a guest may answer, and what is no cause of one.
 
 ghost use Rattle.std.specs.Prelude.{ℕ};
 ghost use Rattle.bus_tenure.specs.Elections.{Elector, election_of};
 ghost use Rattle.bus_guest.specs.Turns.{Visitor};
 ghost use Rattle.bus_guest.specs.Refused.{AnswersRefuse};
+ghost use Rattle.bus_guest.specs.CausesRefuse.{RefusesCauses};
 
 use bus_adoptcommit::Ratifier;
 
@@ -14,4 +15,12 @@ use bus_adoptcommit::Ratifier;
 pub fn answers_refuse<Q: Ratifier>()
     ensures { let X = election_of Q.Ratifier in
         (guest : Visitor (Elector Q)) (got word : ℕ) → AnswersRefuse X guest got word }
+{}
+
+/// No guest has a cause to take a step of an election while it visits no tenure or stands in
+/// another one, to take a page that another was chosen for, to enter a tenure that is past for it,
+/// to clear its presence while it stands in a tenure, to clear a row before all presences have
+/// passed, or to give a page back before the next row is ready.
+pub fn causes_refuse<Q: Ratifier>()
+    ensures { (guest : Visitor (Elector Q)) → RefusesCauses Q.protocol guest }
 {}

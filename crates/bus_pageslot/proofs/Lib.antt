@@ -10,7 +10,6 @@ pub mod Reaching
 pub mod ApartTurns
 pub mod ApartStates
 pub mod AgainTurns
-pub mod CausesAgain
 pub mod AgainStates
 pub mod Slots
 pub mod Hearing

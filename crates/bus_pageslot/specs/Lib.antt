@@ -3,7 +3,6 @@ pub mod Processes
 pub mod Lawful
 pub mod RowsApart
 pub mod RowsAgain
-pub mod CausesAgain
 pub mod Rule
 pub mod Steps
 pub mod Stages

@@ -32,7 +32,8 @@ pub type CyclicTap<Q> = TapOf<Guest<Q>>;
 impl<Q: Ratifier + Drop> Seatable for Guest<Q> {
     ghost use Rattle.bus_cyclic.specs.Cyclic.{layout_of, IsServed, MakeRefused};
     ghost use Rattle.bus_tenure.specs.Elections.{election_with};
-    ghost use Rattle.bus_pageslot.specs.CausesAgain.{HasCause};
+    ghost use Rattle.bus_guest.specs.Causes.{HasCause};
+    ghost use Rattle.bus_guest.specs.Telling.{FeedTells};
     ghost use Rattle.bus_pageslot.specs.RowsAgain.{process_again, bus_again};
 
     ghost process = { process_again (election_with Q.kind_of Q.op Q.fed Q.protocol) };
@@ -45,6 +46,8 @@ impl<Q: Ratifier + Drop> Seatable for Guest<Q> {
     ghost Refuses = { MakeRefused };
 
     ghost HasCause = { λ v k. HasCause Q.protocol v k };
+
+    ghost Tells = { FeedTells (election_with Q.kind_of Q.op Q.fed Q.protocol) };
 
     ghost no_memory = { λ shape served. served };
 

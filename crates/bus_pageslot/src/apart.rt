@@ -27,6 +27,7 @@ impl<Q: Ratifier + Drop> Seatable for SenderCore<Q> {
     ghost use Rattle.std.specs.Prelude.{◌≡◌, ℕ};
     ghost use Rattle.bus_tenure.specs.Causes.{HasCause};
     ghost use Rattle.bus_tenure.specs.Elections.{election_with};
+    ghost use Rattle.bus_tenure.specs.Situations.{situation_of, answer_at};
     ghost use Rattle.bus_world.specs.Playing.{layout_of, IsServed, MakeRefused};
     ghost use Rattle.bus_pageslot.specs.RowsApart.{process_apart, bus_apart};
 
@@ -40,6 +41,10 @@ impl<Q: Ratifier + Drop> Seatable for SenderCore<Q> {
     ghost Refuses = { MakeRefused };
 
     ghost HasCause = { λ c k. HasCause Q.protocol c k };
+
+    ghost Tells = { λ c got word turn.
+        let X = election_with Q.kind_of Q.op Q.fed Q.protocol in
+        turn ≡ answer_at X c (situation_of X c) got word };
 
     ghost no_memory = { λ shape served. served };
 

@@ -1,12 +1,13 @@
 //! What can be seated at a table: senders of a bus as a machine.
 
-ghost use Rattle.std.specs.Prelude.{◌≡◌, ◌≢◌, ◌+◌, ◌<◌, ◌≤◌, ◌^◌, length, true, None};
+ghost use Rattle.std.specs.Prelude.{◌≡◌, ◌≢◌, ℕ, ◌+◌, ◌<◌, ◌≤◌, ◌^◌, length, true, None};
 ghost use Rattle.std.specs.Prelude.{IfSome, IsSome, IfOk, IfErr, OnOk, OnErr};
 ghost use Rattle.bus_register.specs.declared.kinds.Kind.{Kind};
 ghost use Rattle.bus_register.specs.declared.limits.TheConstants.{MOST_SENDERS};
 ghost use Rattle.bus_register.specs.Words.{register};
 ghost use Rattle.bus_batch.specs.Batches.{next_of, CanPut, IsPutFault, CanClose, IsCloseFault};
 ghost use Rattle.bus_tenure.specs.Core.{is_closed};
+ghost use Rattle.bus_tenure.specs.declared.turns.Turn.{Turn};
 ghost use Rattle.bus_world.specs.declared.shapes.Shape.{Shape};
 ghost use Rattle.bus_world.specs.declared.shapes.MakeFault.{MakeFault};
 ghost use Rattle.bus_world.specs.declared.shapes.MakeFault.TheVariants.{NoMemory};
@@ -37,6 +38,10 @@ pub trait Seatable {
 
     /// A step of this kind has its cause in what the sender holds.
     ghost HasCause: { Self → Kind → Type 0 };
+
+    /// What the answer of a step tells of what the sender held before it: with the number that the
+    /// step found, and the random word.
+    ghost Tells: { Self → ℕ → ℕ → Turn → Type 0 };
 
     /// Why no bus of this shape is served; none where it is.
     fn fault(shape: Shape) -> Option<MakeFault>
@@ -123,7 +128,8 @@ pub trait Seatable {
     fn feed(&mut self, got: u64, word: u32) -> Turn
         requires { IsSome (process.op self.old word) }
         ensures state { self.new ≡ process.fed self.old got word }
-        ensures answer { result ≡ process.answer self.old got word };
+        ensures answer { result ≡ process.answer self.old got word }
+        ensures tells { Tells self.old got word result };
 
     /// The page is taken and is to be laid.
     fn awaits_page(&self) -> bool
@@ -135,9 +141,12 @@ pub trait Seatable {
         ensures { self.new ≡ process.laid self.old page };
 
     /// What it owes to threads: the parts of a turn are the whole turn; what may happen leads from
-    /// state to state; the log is only extended; and the headline's page holds.
+    /// state to state; the log is only extended; and the headline's page holds. What an answer
+    /// tells once the page is out of the sender's hands, it tells of the sender before that.
     fn is_lawful()
         ensures process { ProcessLaws process }
+        ensures tells { (c : Self) (got word : ℕ) (answer : Turn)
+            → Tells (process.handed c) got word answer → Tells c got word answer }
         ensures automaton { (shape : Shape) → AutomatonLaws process (automaton shape) }
         ensures opens { (shape : Shape) → Serves shape → Opens process (automaton shape) };
 

@@ -1,6 +1,7 @@
 use Rattle.std.proofs.Common.{ℕ, Option, IsSome, refl, sym, ap, ◌∙◌, subst, []}
 use Rattle.atomic_table.specs.Seated.{TableId}
 use Rattle.bus_pageslot.specs.Steps.Accepts.{Nothing}
+use Rattle.bus_pageslot.specs.Seats.{Took}
 use Rattle.bus_pageslot.specs.Steps.{Gone, GoesOn}
 use Rattle.bus_pageslot.proofs.Walks.{ended, core_is, stored_now, me_now, all_now, counted_now, wide_now}
 use Rattle.bus_pageslot.proofs.steps.walk.Goals as goal
@@ -45,7 +46,7 @@ returns-clause-took g c =
     let K = c.is_lawful.ensures.process in
     let d = c.args.core.now in
     let gone : Gone P d c.args.word c.put_out.new.seat.me c.step-got.result c.step-got.new.seat.me = subst (λ (y : Option g.row.S.Denot × ℕ). GoesOn P y.0 y.1 c.put_out.new.seat.me c.step-got.result c.step-got.new.seat.me) (λ i. (c.requires.told.0 i, c.requires.told.1 i)) c.step-got.ensures.goes in
-    record {
+    let took : Took P (record { core = d; seat = c.args.seat.now }) c.args.word c.feed-turn.result (record { core = c.take_in.new.core; seat = c.take_in.new.seat }) = record {
       got = c.step-got.result;
       found = gone.found;
       told = gone.told;
@@ -60,4 +61,5 @@ returns-clause-took g c =
           c.take_in.new.seat.me c.take_in.new.core c.take_in.ensures.core c.take_in.ensures.me;
       stored = stored_now P K d c.args.seat.now.me c.put_out.new.seat.me c.step-got.new.seat.me c.args.word c.step-got.result (ap (λ x. x.1) c.requires.shows.me) c.put_out.new.core c.feed-turn.new.self c.put_out.ensures.core c.put_out.ensures.me gone c.feed-turn.ensures.state
           c.take_in.new.seat.me c.take_in.new.core c.take_in.ensures.core c.take_in.ensures.me;
-    }
+    } in
+    record { took = took; tells = c.is_lawful.ensures.tells d c.step-got.result c.args.word c.feed-turn.result (subst (λ k. g.S.Seatable.Tells k c.step-got.result c.args.word c.feed-turn.result) c.put_out.ensures.core c.feed-turn.ensures.tells) }

@@ -1,10 +1,11 @@
 use Rattle.bus_world.proofs.PlayingLaws.{there, passed_up}
 use Rattle.bus_world.specs.World.{Turn}
 use Rattle.bus_cyclic.specs.Happening.{Refused}
+use Rattle.bus_cyclic.specs.Telling.{GuestCauses}
 use Rattle.std.proofs.Common.{◌≤◌, subst, sym}
 use Rattle.std.proofs.lemmas.List.{length-map}
 use Rattle.bus_cyclic.proofs.CyclicLaws.{room, sums, laid}
-use Rattle.bus_cyclic.proofs.EventLaws.{guests_many, turn_unknown, turn_idle, idle_within, turn_within, turn_answers, turn_tells, turn_happens, turn_owners, turn_sits}
+use Rattle.bus_cyclic.proofs.EventLaws.{guests_many, turn_unknown, turn_idle, idle_within, turn_within, turn_answers, turn_tells, turn_causes, turn_happens, turn_owners, turn_sits}
 use Rattle.bus_register.specs.declared.limits.TheConstants.{TENURES}
 use Rattle.bus_tenure.specs.Elections.{elections, election_with}
 use Rattle.bus_world.proofs.Serving.{serves}
@@ -90,6 +91,17 @@ returns-clause-tells g c =
     let many = guests_many X R _ s c.self.invariant c.args.self.now c.self.view_is c.args.sender c.in_ok-goes_on.ensures.there in
     let old = there c.self.inside.guests.items c.args.sender c.index_mut-guest.result.now many c.index_mut-guest.ensures.value in
     turn_tells X R _ s c.self.invariant c.args.self.now c.self.view_is c.args.sender c.index_mut-guest.result.now old c.in_ok-goes_on.ensures.goes c.args.word c.turn_guest-turn.ensures.on_word c.turn_guest-turn.result c.turn_guest-turn.ensures.tells
+
+pub returns-clause-causes : goal.returns-clause-causes
+returns-clause-causes g c =
+    let P = g.Q.Ratifier.protocol in
+    let X = election_with g.Q.Machine.kind_of g.Q.Machine.op g.Q.Machine.fed P in
+    let shape = c.self.inside.shape in
+    let R = elections P shape.rounds in
+    let s = serves g.Q.Machine.kind_of g.Q.Machine.op g.Q.Machine.fed P g.met.Q.Machine.names_each_step g.met.Q.Ratifier.own_kinds shape.senders shape.rounds TENURES shape.log_words (c.election_is_lawful.ensures.lawful.laws shape.rounds) in
+    let many = guests_many X R _ s c.self.invariant c.args.self.now c.self.view_is c.args.sender c.in_ok-goes_on.ensures.there in
+    let old = there c.self.inside.guests.items c.args.sender c.index_mut-guest.result.now many c.index_mut-guest.ensures.value in
+    turn_causes X R _ s c.self.invariant c.args.self.now c.self.view_is c.args.sender c.index_mut-guest.result.now old c.in_ok-goes_on.ensures.goes (GuestCauses X P) c.has_causes.ensures
 
 pub returns-clause-owners : goal.returns-clause-owners
 returns-clause-owners g c =

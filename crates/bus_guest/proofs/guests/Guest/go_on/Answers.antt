@@ -1,9 +1,9 @@
-use Rattle.std.proofs.Common.{IsSome, sym, ◌∙◌, ap, subst, refl}
+use Rattle.std.proofs.Common.{◌≡◌, IsSome, sym, ◌∙◌, ap, subst, refl}
 use Rattle.bus_tenure.specs.Elections.{Elector, election_with, elections}
 use Rattle.bus_tenure.specs.Situations.{situation_of, op_at}
 use Rattle.bus_guest.specs.Guests.{Goes}
-use Rattle.bus_guest.specs.Turns.{Visitor, visitor_due, answer_due}
-use Rattle.bus_guest.proofs.Steps.{went, joined, tied}
+use Rattle.bus_guest.specs.Turns.{Visitor, due, visitor_due, answer_due}
+use Rattle.bus_guest.proofs.Steps.{unparted, went, joined, tied}
 use Rattle.bus_guest.specs.Following.{told_by}
 use Rattle.bus_guest.proofs.Laws.{elections_keep}
 use Rattle.bus_guest.proofs.guests.Guest.go_on.Goals as goal
@@ -18,7 +18,8 @@ invariant_of-self g c =
     let steps = subst (λ y. IsSome (op_at X y.core (situation_of X y.core) c.args.word)) (sym c.self.view_is) c.requires.steps in
     let w = went X (λ x. (elections P x.rounds).width x.senders) (λ x me. (elections P x.rounds).Belongs x.senders me)
     (elections_keep g.Q.Machine.kind_of g.Q.Machine.op g.Q.Machine.fed P g.met.Q.Ratifier.laws g.met.Q.Ratifier.wordless)
-    v c.args.got c.args.word c.self.invariant.keeps z refl steps (λ e. c.requires.begun (sym (ap (λ y. y.core.phase) c.self.view_is) ∙ e)) in
+    v c.args.got c.args.word c.self.invariant.keeps
+    (unparted X v z (subst (λ y. due X y ≡ Goes (situation_of X y.core)) (sym c.self.view_is) c.requires.goes)) z refl steps (λ e. c.requires.begun (sym (ap (λ y. y.core.phase) c.self.view_is) ∙ e)) in
     let n = joined X (λ x. (elections P x.rounds).width x.senders) (λ x me. (elections P x.rounds).Belongs x.senders me)
     v _ _ _ _ _ _ _ w c.feed-turn.result c.feed-turn.ensures.answer
     c.feed-turn.new.self c.part_after.new.presence.visit c.sweep_by-self-inside.result c.lost_by-self-inside.result i.senders i.width c.self.invariant.senders_are c.self.invariant.width_is
@@ -37,7 +38,8 @@ returns-clause-state g c =
     let steps = subst (λ y. IsSome (op_at X y.core (situation_of X y.core) c.args.word)) (sym c.self.view_is) c.requires.steps in
     let w = went X (λ x. (elections P x.rounds).width x.senders) (λ x me. (elections P x.rounds).Belongs x.senders me)
     (elections_keep g.Q.Machine.kind_of g.Q.Machine.op g.Q.Machine.fed P g.met.Q.Ratifier.laws g.met.Q.Ratifier.wordless)
-    v c.args.got c.args.word c.self.invariant.keeps z refl steps (λ e. c.requires.begun (sym (ap (λ y. y.core.phase) c.self.view_is) ∙ e)) in
+    v c.args.got c.args.word c.self.invariant.keeps
+    (unparted X v z (subst (λ y. due X y ≡ Goes (situation_of X y.core)) (sym c.self.view_is) c.requires.goes)) z refl steps (λ e. c.requires.begun (sym (ap (λ y. y.core.phase) c.self.view_is) ∙ e)) in
     let n = joined X (λ x. (elections P x.rounds).width x.senders) (λ x me. (elections P x.rounds).Belongs x.senders me)
     v _ _ _ _ _ _ _ w c.feed-turn.result c.feed-turn.ensures.answer
     c.feed-turn.new.self c.part_after.new.presence.visit c.sweep_by-self-inside.result c.lost_by-self-inside.result i.senders i.width c.self.invariant.senders_are c.self.invariant.width_is
@@ -54,5 +56,6 @@ returns-clause-answer g c =
     let steps = subst (λ y. IsSome (op_at X y.core (situation_of X y.core) c.args.word)) (sym c.self.view_is) c.requires.steps in
     let w = went X (λ x. (elections P x.rounds).width x.senders) (λ x me. (elections P x.rounds).Belongs x.senders me)
     (elections_keep g.Q.Machine.kind_of g.Q.Machine.op g.Q.Machine.fed P g.met.Q.Ratifier.laws g.met.Q.Ratifier.wordless)
-    v c.args.got c.args.word c.self.invariant.keeps z refl steps (λ e. c.requires.begun (sym (ap (λ y. y.core.phase) c.self.view_is) ∙ e)) in
+    v c.args.got c.args.word c.self.invariant.keeps
+    (unparted X v z (subst (λ y. due X y ≡ Goes (situation_of X y.core)) (sym c.self.view_is) c.requires.goes)) z refl steps (λ e. c.requires.begun (sym (ap (λ y. y.core.phase) c.self.view_is) ∙ e)) in
     c.told_by.ensures ∙ ap told_by c.feed-turn.ensures.answer ∙ sym w.told_is ∙ ap (λ y. answer_due X y (Goes (situation_of X y.core)) c.args.got c.args.word) c.self.view_is

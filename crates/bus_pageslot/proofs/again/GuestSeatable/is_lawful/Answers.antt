@@ -1,7 +1,9 @@
-use Rattle.std.proofs.Common.{arith}
+use Rattle.std.proofs.Common.{None, refl, arith}
 use Rattle.bus_register.specs.declared.limits.TheConstants.{TENURES}
 use Rattle.bus_tenure.specs.Elections.{elections, election_with, layout_with}
+use Rattle.bus_guest.specs.Turns.{due}
 use Rattle.bus_world.proofs.Serving.{serves}
+use Rattle.bus_cyclic.proofs.GuestTurns.{feed_tells_before}
 use Rattle.bus_pageslot.proofs.AgainStates.{automaton_laws, opens_again}
 use Rattle.bus_pageslot.proofs.AgainTurns.{process_laws}
 use Rattle.bus_pageslot.proofs.again.GuestSeatable.is_lawful.Goals as goal
@@ -24,3 +26,8 @@ returns-clause-opens g c shape served =
     let Q = g.Q.Ratifier.protocol in
     let X = election_with g.Q.Machine.kind_of g.Q.Machine.op g.Q.Machine.fed Q in
     opens_again X (layout_with Q shape.senders shape.rounds TENURES shape.log_words) shape.rows (record { senders = served.senders.1; rows = omega arith; capacity = (let z = served.log_words.1 in omega arith) }) served.rows.0
+
+pub returns-clause-tells : goal.returns-clause-tells
+returns-clause-tells g c guest got word answer w =
+    let X = election_with g.Q.Machine.kind_of g.Q.Machine.op g.Q.Machine.fed g.Q.Ratifier.protocol in
+    feed_tells_before X guest None word got answer (due X guest) refl w

@@ -1,4 +1,4 @@
-use Rattle.std.proofs.Common.{arith}
+use Rattle.std.proofs.Common.{◌∙◌, arith}
 use Rattle.bus_tenure.specs.Elections.{elections, election_with, layout_with}
 use Rattle.bus_world.proofs.Serving.{serves}
 use Rattle.bus_pageslot.proofs.ApartStates.{automaton_laws, opens_apart}
@@ -23,3 +23,9 @@ returns-clause-opens g c shape served =
     let Q = g.Q.Ratifier.protocol in
     let X = election_with g.Q.Machine.kind_of g.Q.Machine.op g.Q.Machine.fed Q in
     opens_apart X (layout_with Q shape.senders shape.rounds shape.rows shape.log_words) (record { senders = served.senders.1; rows = (let z = served.rows.1 in omega arith); capacity = (let z = served.log_words.1 in omega arith) })
+
+pub returns-clause-tells : goal.returns-clause-tells
+returns-clause-tells g c core got word answer w =
+    let Q = g.Q.Ratifier.protocol in
+    let X = election_with g.Q.Machine.kind_of g.Q.Machine.op g.Q.Machine.fed Q in
+    w ∙ (process_laws X (elections Q 0) (c.election_is_lawful.ensures.lawful.laws 0)).handed_answer core got word

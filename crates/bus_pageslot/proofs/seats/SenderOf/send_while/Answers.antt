@@ -9,14 +9,14 @@ returns-then-ends_sending-clause-sends g c = record {
   asked = c.loop.go_on;
   word = c.if-wants_word.word;
   before = c.loop.invariant.1;
-  turned = record { rests = c.turn-turn.ensures.rests; steps = c.turn-turn.ensures.steps };
+  turned = record { rests = c.turn-turn.ensures.rests; steps = λ op e. (c.turn-turn.ensures.steps op e).took };
   last = sym c.ends_sending.ensures ∙ c.if-ends_sending.true;
 }
 
 pub returns-then-ends_sending-clause-puts : goal.returns-then-ends_sending-clause-puts
 returns-then-ends_sending-clause-puts g c =
     let P = g.S.Seatable.process in
-    turned_puts P c.is_lawful.ensures.process c.loop.self c.if-wants_word.word c.turn-turn.result c.turn-turn.new.self (record { rests = c.turn-turn.ensures.rests; steps = c.turn-turn.ensures.steps }) ∙ c.loop.invariant.3
+    turned_puts P c.is_lawful.ensures.process c.loop.self c.if-wants_word.word c.turn-turn.result c.turn-turn.new.self (record { rests = c.turn-turn.ensures.rests; steps = λ op e. (c.turn-turn.ensures.steps op e).took }) ∙ c.loop.invariant.3
 
 pub loop-init : goal.loop-init
 loop-init g c = (c.requires.callable, Begins, refl, refl)
@@ -24,7 +24,7 @@ loop-init g c = (c.requires.callable, Begins, refl, refl)
 pub returns-then-not-go_on-clause-stops : goal.returns-then-not-go_on-clause-stops
 returns-then-not-go_on-clause-stops g c =
     let P = g.S.Seatable.process in
-    let turned : Turned P c.loop.self c.if-wants_word.word c.turn-turn.result c.turn-turn.new.self = record { rests = c.turn-turn.ensures.rests; steps = c.turn-turn.ensures.steps } in
+    let turned : Turned P c.loop.self c.if-wants_word.word c.turn-turn.result c.turn-turn.new.self = record { rests = c.turn-turn.ensures.rests; steps = λ op e. (c.turn-turn.ensures.steps op e).took } in
     record {
       old = c.loop.self;
       asked = c.loop.go_on;
@@ -40,12 +40,12 @@ returns-then-not-go_on-clause-stops g c =
 pub returns-then-not-go_on-clause-puts : goal.returns-then-not-go_on-clause-puts
 returns-then-not-go_on-clause-puts g c =
     let P = g.S.Seatable.process in
-    turned_puts P c.is_lawful.ensures.process c.loop.self c.if-wants_word.word c.turn-turn.result c.turn-turn.new.self (record { rests = c.turn-turn.ensures.rests; steps = c.turn-turn.ensures.steps }) ∙ c.loop.invariant.3
+    turned_puts P c.is_lawful.ensures.process c.loop.self c.if-wants_word.word c.turn-turn.result c.turn-turn.new.self (record { rests = c.turn-turn.ensures.rests; steps = λ op e. (c.turn-turn.ensures.steps op e).took }) ∙ c.loop.invariant.3
 
 pub loop-preserved : goal.loop-preserved
 loop-preserved g c =
     let P = g.S.Seatable.process in
-    let turned : Turned P c.loop.self c.if-wants_word.word c.turn-turn.result c.turn-turn.new.self = record { rests = c.turn-turn.ensures.rests; steps = c.turn-turn.ensures.steps } in (
+    let turned : Turned P c.loop.self c.if-wants_word.word c.turn-turn.result c.turn-turn.new.self = record { rests = c.turn-turn.ensures.rests; steps = λ op e. (c.turn-turn.ensures.steps op e).took } in (
       search of_calls,
       Asks c.loop.self c.loop.go_on c.if-wants_word.word c.turn-turn.result c.turn-turn.new.self c.go_on.new.self c.loop.invariant.1 turned (sym c.is_waiting.ensures ∙ c.if-not-is_waiting.false) c.if-not-go_on.ensures,
       c.turn-turn.ensures.table ∙ c.loop.invariant.2,
@@ -55,7 +55,7 @@ loop-preserved g c =
 pub loop-preserved-then-not-is_waiting : goal.loop-preserved-then-not-is_waiting
 loop-preserved-then-not-is_waiting g c =
     let P = g.S.Seatable.process in
-    let turned : Turned P c.loop.self c.if-wants_word.word c.turn-turn.result c.turn-turn.new.self = record { rests = c.turn-turn.ensures.rests; steps = c.turn-turn.ensures.steps } in (
+    let turned : Turned P c.loop.self c.if-wants_word.word c.turn-turn.result c.turn-turn.new.self = record { rests = c.turn-turn.ensures.rests; steps = λ op e. (c.turn-turn.ensures.steps op e).took } in (
       c.loop.invariant.0,
       Goes c.loop.self c.loop.go_on c.if-wants_word.word c.turn-turn.result c.turn-turn.new.self c.loop.invariant.1 turned (sym c.ends_sending.ensures ∙ c.if-ends_sending.false) (sym c.is_waiting.ensures ∙ c.if-not-is_waiting.true),
       c.turn-turn.ensures.table ∙ c.loop.invariant.2,

@@ -1,0 +1,108 @@
+-- Why a guest takes a step of each kind: what holds of it before the step, read off what it holds. Its steps in a tenure have the causes of
+-- a sender that has a row for each tenure.
+use Rattle.std.specs.Prelude.{◌≡◌, ℕ, ◌<◌, ◌≤◌, ◌⊎◌, Bool, Some}
+use Rattle.bus_register.specs.declared.kinds.Kind.{Kind}
+use Rattle.bus_register.specs.declared.kinds.Kind.TheVariants as kind
+use Rattle.bus_register.specs.declared.registers.SenderNo.{SenderNo}
+use Rattle.bus_register.specs.Protocol.{Protocol}
+use Rattle.bus_adoptcommit.specs.declared.verdicts.Verdict.{Verdict}
+use Rattle.bus_presence.specs.Hall.{IsReady}
+use Rattle.bus_presence.specs.Sweeps.{Sweeping}
+use Rattle.bus_presence.specs.declared.visits.Visit.TheVariants.{Away, Entering, Looking, Inside, Parting, Barred}
+use Rattle.bus_tenure.specs.Causes.{HasCause as HasCauseApart, LeavesPage, HasHandedOn}
+use Rattle.bus_tenure.specs.Core.{Election}
+use Rattle.bus_tenure.specs.Elections.{Elector}
+use Rattle.bus_tenure.specs.declared.phases.Phase.TheVariants.{Electing}
+use Rattle.bus_guest.specs.Keeping.{IsBound, IsSweepAfter, held_of}
+use Rattle.bus_guest.specs.Turns.{Visitor, sizes_of, due, kind_due}
+
+-- ---- its visit
+-- it may begin a tenure, which its presence does not name yet
+pub record EntersTenure {E : Type 0} (v : Visitor E) : Type 0 where
+  pub tenure : ℕ
+  pub visit : v.visit ≡ Entering tenure
+  pub may : IsBound v.core tenure
+
+-- its presence names a tenure that it may begin, whose stage it has not seen since
+pub record LooksAgain {E : Type 0} (v : Visitor E) : Type 0 where
+  pub tenure : ℕ
+  pub visit : v.visit ≡ Looking tenure
+  pub may : IsBound v.core tenure
+
+-- its presence names a tenure that it lost to another, or whose page it has taken, or that it came too late for
+pub data LeavesTenure {E : Type 0} (v : Visitor E) : Type 0 where
+  AsLoser : (tenure : ℕ) (owner : SenderNo) → v.visit ≡ Parting tenure → v.lost ≡ Some owner → LeavesTenure v
+  AsHolder : (tenure : ℕ) → v.visit ≡ Parting tenure → held_of v.core.phase ≡ Some tenure → LeavesTenure v
+  AsLate : (tenure : ℕ) → v.visit ≡ Barred tenure → LeavesTenure v
+
+-- it visits no tenure
+abbrev pub IsAway : {E : Type 0} → Visitor E → Type 0
+IsAway v = v.visit ≡ Away
+
+-- it stands in the very tenure whose election it goes through
+pub record StandsInside {E : Type 0} (v : Visitor E) : Type 0 where
+  pub tenure : ℕ
+  pub election : E
+  pub visit : v.visit ≡ Inside tenure
+  pub elects : v.core.phase ≡ Electing tenure election
+
+-- ---- its sweep
+-- it would give back the page of a tenure, and first makes the row of the next one ready
+pub record MakesRowReady {E : Type 0} (v : Visitor E) (s : Sweeping) : Type 0 where
+  pub away : IsAway v
+  pub leaves : LeavesPage v.core
+  pub sweeps : v.sweep ≡ Some s
+  pub tenure : ℕ
+  pub held : held_of v.core.phase ≡ Some tenure
+  pub after : IsSweepAfter (sizes_of v) tenure s
+
+-- the presence of a sender has not passed yet
+pub record AsksSender {E : Type 0} (v : Visitor E) : Type 0 where
+  pub sweep : Sweeping
+  pub makes : MakesRowReady v sweep
+  pub sender_left : sweep.asked < sweep.senders
+
+-- each sender's presence has passed, and a word of the row is not cleared yet
+pub record ClearsWord {E : Type 0} (v : Visitor E) : Type 0 where
+  pub sweep : Sweeping
+  pub makes : MakesRowReady v sweep
+  pub all_asked : sweep.senders ≤ sweep.asked
+  pub word_left : sweep.cleared < sweep.width
+
+-- it would give the page of a tenure back, or has handed it on, and the row of the next one is ready
+pub record ReturnsPage {E : Type 0} (v : Visitor E) : Type 0 where
+  pub away : IsAway v
+  pub returns : LeavesPage v.core ⊎ HasHandedOn v.core
+  pub tenure : ℕ
+  pub held : held_of v.core.phase ≡ Some tenure
+  pub ready : IsReady (sizes_of v) tenure v.sweep
+
+-- The guest has a cause for a step of this kind. The kinds of the last lines are a receiver's.
+abbrev pub HasCause : {S : Type 0} → Protocol S Bool Verdict → Visitor (Elector S) → Kind → Type 0
+HasCause P v kind.Enter = EntersTenure v
+HasCause P v kind.LoadStageAgain = LooksAgain v
+HasCause P v kind.Withdraw = LeavesTenure v
+HasCause P v kind.ReadPresence = AsksSender v
+HasCause P v kind.ClearRow = ClearsWord v
+HasCause P v kind.LoadStage = IsAway v × HasCauseApart P v.core kind.LoadStage
+HasCause P v kind.Announce = StandsInside v × HasCauseApart P v.core kind.Announce
+HasCause P v kind.StoreProposal = StandsInside v × HasCauseApart P v.core kind.StoreProposal
+HasCause P v kind.ReadProposal = StandsInside v × HasCauseApart P v.core kind.ReadProposal
+HasCause P v kind.StoreVerdict = StandsInside v × HasCauseApart P v.core kind.StoreVerdict
+HasCause P v kind.ReadVerdict = StandsInside v × HasCauseApart P v.core kind.ReadVerdict
+HasCause P v kind.SetMark = StandsInside v × HasCauseApart P v.core kind.SetMark
+HasCause P v kind.ReadOtherMark = StandsInside v × HasCauseApart P v.core kind.ReadOtherMark
+HasCause P v kind.Vote = StandsInside v × HasCauseApart P v.core kind.Vote
+HasCause P v kind.ReadVotes = StandsInside v × HasCauseApart P v.core kind.ReadVotes
+HasCause P v kind.Fallback = StandsInside v × HasCauseApart P v.core kind.Fallback
+HasCause P v kind.ReadAnnouncement = StandsInside v × HasCauseApart P v.core kind.ReadAnnouncement
+HasCause P v kind.TakePage = StandsInside v × HasCauseApart P v.core kind.TakePage
+HasCause P v kind.StoreLogWord = IsAway v × HasCauseApart P v.core kind.StoreLogWord
+HasCause P v kind.StoreLength = IsAway v × HasCauseApart P v.core kind.StoreLength
+HasCause P v kind.GivePageBack = ReturnsPage v
+HasCause P v kind.LoadLength = ⊥
+HasCause P v kind.LoadLogWord = ⊥
+
+-- whatever its next step is for, it has a cause
+abbrev pub IsCaused : {S : Type 0} → Election (Elector S) → Protocol S Bool Verdict → Visitor (Elector S) → Type 0
+IsCaused X P v = (k : Kind) → kind_due X v (due X v) ≡ Some k → HasCause P v k
