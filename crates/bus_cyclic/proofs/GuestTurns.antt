@@ -5,12 +5,12 @@ use Rattle.bus_register.specs.declared.registers.Op.{Op}
 use Rattle.bus_register.specs.declared.registers.Op.TheVariants.{Store}
 use Rattle.bus_register.specs.Words.{register}
 use Rattle.bus_presence.specs.Sweeps.{Sweeping}
-use Rattle.bus_presence.specs.Hall.{presence_at, IsReady}
+use Rattle.bus_presence.specs.Hall.{presence_at}
 use Rattle.bus_presence.specs.Visits.{step_at}
 use Rattle.bus_presence.specs.declared.visits.Visit.{Visit}
 use Rattle.bus_presence.specs.declared.visits.Visit.TheVariants.{Away, Entering, Looking, Inside, Parting, Barred}
 use Rattle.bus_guest.specs.Guests.{Due, Visits, Sweeps, Goes, sizes_with, due_beside, core_looked, core_seen}
-use Rattle.bus_guest.specs.Keeping.{held_of}
+use Rattle.bus_guest.specs.Keeping.{IsRowReady, held_of}
 use Rattle.bus_guest.proofs.Tells.{Shows, gives_shows}
 use Rattle.bus_guest.specs.Telling.{FeedTells, GivesReady, Returns as Gives, Gives as Hands, Says, HasPublished, Published, HandsOnSent, LacksRoom, FindsNoRoom, HandsOnFull, FindsEnd, Ended, HandsOnEnd}
 use Rattle.bus_guest.specs.Turns.{Visitor, sizes_of, due, op_due, op_next, placed, rest_due, visitor_due, visitor_after, answer_due, answer_after}
@@ -194,7 +194,7 @@ module _ {E : Type 0} (X : Election E) (v : Visitor E) (home : Option Page) (wor
     now = ap (λ w. op_due X v w word) e
 
     handed_ready : (u : ℕ) → GivesReady X v u → GivesReady X g t
-    handed_ready u w = record { due_is = hands t page reason e; returns = Says reason; ready = subst (λ k. IsReady (sizes_of v) k v.sweep) (back_same u _ w.returns here) w.ready }
+    handed_ready u w = record { due_is = hands t page reason e; returns = Says reason; ready = subst (λ k. IsRowReady (sizes_of v) k v.sweep) (back_same u _ w.returns here) w.ready }
 
     gives_too : (r : Answered) → FeedTells X g n word r → FeedTells X v n word r
     gives_too turn.Idle w = w

@@ -101,7 +101,7 @@ module _ {S : Type 0} (P : Protocol S Bool Verdict) (X : Election (Elector S)) (
   -- ---- of its visit
   leaves_as : (t : ℕ) → v.visit ≡ Parting t → (l : Option SenderNo) → v.lost ≡ l → LostKeeps v.core.phase v.visit l → LeavesTenure v
   leaves_as t q None e kept = AsHolder t q (kept t q)
-  leaves_as t q (Some o) e kept = AsLoser t o q e
+  leaves_as t q (Some o) e kept = AsLoser t o q e kept.rests
 
   by_visit : (u : Visit) → v.visit ≡ u → VisitKeeps Belongs v.core u → IfSome (kind_of_visit u) (HasCause P v)
   by_visit Away q h = tt

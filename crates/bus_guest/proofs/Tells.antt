@@ -9,7 +9,7 @@ use Rattle.bus_register.specs.Words.{register}
 use Rattle.bus_register.specs.declared.registers.SenderNo.{SenderNo}
 use Rattle.bus_batch.specs.Batches.{next_of}
 use Rattle.bus_presence.specs.Sweeps.{Sweeping, sweep_op, behind_of, is_swept}
-use Rattle.bus_presence.specs.Hall.{Sizes, presence_at, IsReady}
+use Rattle.bus_presence.specs.Hall.{Sizes, presence_at}
 use Rattle.bus_presence.specs.Visits.{step_at}
 use Rattle.bus_presence.specs.declared.visits.Visit.{Visit}
 use Rattle.bus_presence.specs.declared.visits.Visit.TheVariants.{Away, Entering, Looking, Inside, Parting, Barred}
@@ -28,7 +28,7 @@ use Rattle.bus_guest.specs.Guests.{Due, Visits, Sweeps, Goes, sizes_with, due_be
 use Rattle.bus_guest.specs.Turns.{Visitor, sizes_of, due, op_due, op_next, answer_of_loss, answer_of_visit, answer_of_sweep, answer_going, answer_due, answer_after}
 use Rattle.bus_guest.specs.Besides.{sweeps_by, due_by}
 use Rattle.bus_guest.specs.declared.besides.Beside.TheVariants.{Sweep, Visit as VisitsBy}
-use Rattle.bus_guest.specs.Keeping.{held_of, SweepKeeps, IsHeldSweep, LostKeeps, GuestKeeps}
+use Rattle.bus_guest.specs.Keeping.{held_of, IsSweepAfter, IsRowReady, SweepKeeps, IsHeldSweep, LostKeeps, GuestKeeps}
 use Rattle.bus_guest.specs.Telling.{FeedTells, Returns, Gives, Says, GivesReady, IsBarred, Withdraws, IsChosen, IsBehind, TellsNoMore, HasPublished, Published, HandsOnSent, LacksRoom, FindsNoRoom, HandsOnFull, FindsEnd, Ended, HandsOnEnd}
 use Rattle.bus_guest.proofs.Keeps.{goes_beside, swept_beside, runs_inside}
 
@@ -59,9 +59,12 @@ sweeps_beside None s z s' p e = sweeps_due z s s' p e
 sweeps_beside (Some o) s z s' p e = absurd cc
 
 -- ---- a row that is ready
-pub ready_of : {E : Type 0} (x : Sizes) (p : Phase E) (s : Option Sweeping) (t : ℕ) → SweepKeeps x p s → held_of p ≡ Some t → IfSome s (λ y. is_swept y ≡ true) → IsReady x t s
-ready_of x p None t k held done = k t held
-ready_of x p (Some s) t k held done = done
+pub ready_of : {E : Type 0} (x : Sizes) (p : Phase E) (s : Option Sweeping) (t : ℕ) → SweepKeeps x p s → held_of p ≡ Some t → IfSome s (λ y. is_swept y ≡ true) → IsRowReady x t s
+ready_of x p None t k held done = record { ready = k t held; of = λ r e. absurd cc }
+ready_of x p (Some s) t k held done = record {
+  ready = done;
+  of = λ r e. subst (IsSweepAfter x t) (same_Some s r e) (subst (λ u. IsSweepAfter x u s) (same_Some _ _ (sym k.held ∙ held)) k.after);
+}
 
 pub handed_of : {E : Type 0} (x : Sizes) (p : Phase E) (s : Option Sweeping) (t : ℕ) (reason : Reason) → SweepKeeps x p s → p ≡ Giving t reason → IfSome s (λ y. is_swept y ≡ true)
 handed_of x p None t reason k is = tt

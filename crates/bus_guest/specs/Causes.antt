@@ -6,18 +6,17 @@ use Rattle.bus_register.specs.declared.kinds.Kind.TheVariants as kind
 use Rattle.bus_register.specs.declared.registers.SenderNo.{SenderNo}
 use Rattle.bus_register.specs.Protocol.{Protocol}
 use Rattle.bus_adoptcommit.specs.declared.verdicts.Verdict.{Verdict}
-use Rattle.bus_presence.specs.Hall.{IsReady}
 use Rattle.bus_presence.specs.Sweeps.{Sweeping}
 use Rattle.bus_presence.specs.declared.visits.Visit.TheVariants.{Away, Entering, Looking, Inside, Parting, Barred}
 use Rattle.bus_tenure.specs.Causes.{HasCause as HasCauseApart, LeavesPage, HasHandedOn}
 use Rattle.bus_tenure.specs.Core.{Election}
 use Rattle.bus_tenure.specs.Elections.{Elector}
-use Rattle.bus_tenure.specs.declared.phases.Phase.TheVariants.{Electing}
-use Rattle.bus_guest.specs.Keeping.{IsBound, IsSweepAfter, held_of}
+use Rattle.bus_tenure.specs.declared.phases.Phase.TheVariants.{Resting, Electing}
+use Rattle.bus_guest.specs.Keeping.{IsBound, IsSweepAfter, IsRowReady, held_of}
 use Rattle.bus_guest.specs.Turns.{Visitor, sizes_of, due, kind_due}
 
 -- ---- its visit
--- it may begin a tenure, which its presence does not name yet
+-- it may begin a tenure, which is not past for it, and which its presence does not name yet
 pub record EntersTenure {E : Type 0} (v : Visitor E) : Type 0 where
   pub tenure : ℕ
   pub visit : v.visit ≡ Entering tenure
@@ -29,9 +28,9 @@ pub record LooksAgain {E : Type 0} (v : Visitor E) : Type 0 where
   pub visit : v.visit ≡ Looking tenure
   pub may : IsBound v.core tenure
 
--- its presence names a tenure that it lost to another, or whose page it has taken, or that it came too late for
+-- its presence names a tenure that it remembers to have lost, or whose page it has taken, or that it may not stand in
 pub data LeavesTenure {E : Type 0} (v : Visitor E) : Type 0 where
-  AsLoser : (tenure : ℕ) (owner : SenderNo) → v.visit ≡ Parting tenure → v.lost ≡ Some owner → LeavesTenure v
+  AsLoser : (tenure : ℕ) (owner : SenderNo) → v.visit ≡ Parting tenure → v.lost ≡ Some owner → v.core.phase ≡ Resting → LeavesTenure v
   AsHolder : (tenure : ℕ) → v.visit ≡ Parting tenure → held_of v.core.phase ≡ Some tenure → LeavesTenure v
   AsLate : (tenure : ℕ) → v.visit ≡ Barred tenure → LeavesTenure v
 
@@ -75,7 +74,7 @@ pub record ReturnsPage {E : Type 0} (v : Visitor E) : Type 0 where
   pub returns : LeavesPage v.core ⊎ HasHandedOn v.core
   pub tenure : ℕ
   pub held : held_of v.core.phase ≡ Some tenure
-  pub ready : IsReady (sizes_of v) tenure v.sweep
+  pub ready : IsRowReady (sizes_of v) tenure v.sweep
 
 -- The guest has a cause for a step of this kind. The kinds of the last lines are a receiver's.
 abbrev pub HasCause : {S : Type 0} → Protocol S Bool Verdict → Visitor (Elector S) → Kind → Type 0

@@ -4,7 +4,7 @@ use Rattle.bus_register.specs.declared.registers.SenderNo.{SenderNo}
 use Rattle.bus_register.specs.declared.limits.TheConstants.{TENURES}
 use Rattle.bus_presence.specs.Sweeps.{Sweeping, is_swept}
 use Rattle.bus_presence.specs.Visits.{Visiting}
-use Rattle.bus_presence.specs.Hall.{Sizes, presence_at, row_of}
+use Rattle.bus_presence.specs.Hall.{Sizes, IsReady, presence_at, row_of}
 use Rattle.bus_presence.specs.declared.visits.Visit.{Visit}
 use Rattle.bus_presence.specs.declared.visits.Visit.TheVariants.{Away, Entering, Looking, Inside, Parting, Barred}
 use Rattle.bus_tenure.specs.Core.{Core, Layout, length_at, stage_at, row_at, log_at, words_of}
@@ -62,6 +62,11 @@ pub record IsSweepAfter (x : Sizes) (t : ℕ) (s : Sweeping) : Type 0 where
   pub presences : s.presences ≡ presence_at x 0
   pub row : s.row ≡ row_of x (t + 1)
   pub width : s.width ≡ x.width
+
+-- the row of the tenure after this one is ready: it was never used before, or a sweep of just this row is done
+pub record IsRowReady (x : Sizes) (t : ℕ) (sweep : Option Sweeping) : Type 0 where
+  pub ready : IsReady x t sweep
+  pub of : (s : Sweeping) → sweep ≡ Some s → IsSweepAfter x t s
 
 -- Only a holder of the page sweeps, for the tenure after its own. Once it has handed the page on, it is done with that.
 pub record IsHeldSweep {E : Type 0} (x : Sizes) (phase : Phase E) (s : Sweeping) : Type 0 where

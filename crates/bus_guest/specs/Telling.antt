@@ -3,7 +3,7 @@ use Rattle.std.specs.Prelude.{◌≡◌, ◌⊎◌, ℕ, ◌+◌, ◌-◌, ◌/�
 use Rattle.bus_register.specs.declared.registers.Op.TheVariants.{Load}
 use Rattle.bus_register.specs.declared.registers.SenderNo.{SenderNo}
 use Rattle.bus_batch.specs.Batches.{next_of}
-use Rattle.bus_presence.specs.Hall.{presence_at, IsReady}
+use Rattle.bus_presence.specs.Hall.{presence_at}
 use Rattle.bus_presence.specs.declared.visits.Visit.{Visit}
 use Rattle.bus_presence.specs.declared.visits.Visit.TheVariants.{Inside, Parting, Barred}
 use Rattle.bus_tenure.specs.Core.{Core, Election, frame_len, is_closing}
@@ -17,7 +17,7 @@ use Rattle.bus_tenure.specs.declared.turns.Turn.{Turn}
 use Rattle.bus_tenure.specs.declared.turns.Turn.TheVariants.{Idle, Waiting, Going, Lost, Own, Delivered, Full, Closed, Spent, Behind}
 use Rattle.bus_guest.specs.Guests.{Goes}
 use Rattle.bus_guest.specs.Turns.{Visitor, sizes_of, due, op_next}
-use Rattle.bus_guest.specs.Keeping.{held_of}
+use Rattle.bus_guest.specs.Keeping.{IsRowReady, held_of}
 
 -- it looked at the stage for the first time, and that was of a held tenure, or of one that it may not enter any more
 pub record LooksInVain {E : Type 0} (X : Election E) (v : Visitor E) (got : ℕ) : Type 0 where
@@ -54,7 +54,7 @@ pub data Returns {E : Type 0} (t : ℕ) : Situation E → Type 0 where
 pub record GivesReady {E : Type 0} (X : Election E) (v : Visitor E) (t : ℕ) : Type 0 where
   pub due_is : due X v ≡ Goes (situation_of X v.core)
   pub returns : Returns t (situation_of X v.core)
-  pub ready : IsReady (sizes_of v) t v.sweep
+  pub ready : IsRowReady (sizes_of v) t v.sweep
 
 -- ---- what it held when it gave the page back: the page itself, or, where the page is handed on already, the reason for that
 -- its frame stands in the log: it has stored the length that takes it in
@@ -102,7 +102,7 @@ pub record IsBehind {E : Type 0} (X : Election E) (v : Visitor E) (got word t p 
   pub past : t + v.rows ≡ tenure + 1
 
 -- No other answer is due. It withdraws from no tenure that it lost, and from none that it came too late for; so where it withdraws, it
--- holds that tenure's page. It takes no page, and gives none back; the stage that it looked at lets it enter a tenure; and nobody is behind.
+-- has taken that tenure's page. It takes no page, and gives none back; the stage that it looked at lets it enter a tenure; and nobody is behind.
 pub record TellsNoMore {E : Type 0} (X : Election E) (v : Visitor E) (got word : ℕ) : Type 0 where
   pub loses : (t : ℕ) (o : SenderNo) → ¬ Withdraws v t o
   pub holds : (t : ℕ) → v.visit ≡ Parting t → held_of v.core.phase ≡ Some t

@@ -17,10 +17,11 @@ pub fn answers_refuse<Q: Ratifier>()
         (guest : Visitor (Elector Q)) (got word : ℕ) → AnswersRefuse X guest got word }
 {}
 
-/// No guest has a cause to take a step of an election while it visits no tenure or stands in
-/// another one, to take a page that another was chosen for, to enter a tenure that is past for it,
-/// to clear its presence while it stands in a tenure, to clear a row before all presences have
-/// passed, or to give a page back before the next row is ready.
+/// No guest has a cause to take a step of an election while it visits no tenure, has not looked at
+/// the stage again or stands in another tenure; to take a page before it was chosen; to enter a
+/// tenure that is past for it; to clear its presence while it visits none, or stands in one; to
+/// clear a row before all presences have passed; or to give a page back before the row after its
+/// tenure's is ready.
 pub fn causes_refuse<Q: Ratifier>()
     ensures { (guest : Visitor (Elector Q)) → RefusesCauses Q.protocol guest }
 {}

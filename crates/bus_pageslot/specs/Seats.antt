@@ -62,7 +62,7 @@ pub record Took {C : Type 0} (P : Process C) (old : Seated C) (word : ℕ) (turn
   pub stored : stored_of new ≡ stored_by (P.op old.core word) (stored_of old)
 
 -- the same, and what its answer tells of what the sender held and of the number that the step found
-pub record TookTelling {C : Type 0} (P : Process C) (Tells : C → ℕ → ℕ → Turn → Type 0) (old : Seated C) (word : ℕ) (turn : Turn) (new : Seated C) : Type 0 where
+pub record TookAndTold {C : Type 0} (P : Process C) (Tells : C → ℕ → ℕ → Turn → Type 0) (old : Seated C) (word : ℕ) (turn : Turn) (new : Seated C) : Type 0 where
   pub took : Took P old word turn new
   pub tells : Tells old.core took.got word turn
 

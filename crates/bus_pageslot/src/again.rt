@@ -47,7 +47,7 @@ impl<Q: Ratifier + Drop> Seatable for Guest<Q> {
 
     ghost HasCause = { λ v k. HasCause Q.protocol v k };
 
-    ghost Tells = { FeedTells (election_with Q.kind_of Q.op Q.fed Q.protocol) };
+    ghost AnswerTells = { FeedTells (election_with Q.kind_of Q.op Q.fed Q.protocol) };
 
     ghost no_memory = { λ shape served. served };
 

@@ -42,7 +42,7 @@ impl<Q: Ratifier + Drop> Seatable for SenderCore<Q> {
 
     ghost HasCause = { λ c k. HasCause Q.protocol c k };
 
-    ghost Tells = { λ c got word turn.
+    ghost AnswerTells = { λ c got word turn.
         let X = election_with Q.kind_of Q.op Q.fed Q.protocol in
         turn ≡ answer_at X c (situation_of X c) got word };
 

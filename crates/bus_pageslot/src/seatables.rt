@@ -41,7 +41,7 @@ pub trait Seatable {
 
     /// What the answer of a step tells of what the sender held before it: with the number that the
     /// step found, and the random word.
-    ghost Tells: { Self → ℕ → ℕ → Turn → Type 0 };
+    ghost AnswerTells: { Self → ℕ → ℕ → Turn → Type 0 };
 
     /// Why no bus of this shape is served; none where it is.
     fn fault(shape: Shape) -> Option<MakeFault>
@@ -129,7 +129,7 @@ pub trait Seatable {
         requires { IsSome (process.op self.old word) }
         ensures state { self.new ≡ process.fed self.old got word }
         ensures answer { result ≡ process.answer self.old got word }
-        ensures tells { Tells self.old got word result };
+        ensures tells { AnswerTells self.old got word result };
 
     /// The page is taken and is to be laid.
     fn awaits_page(&self) -> bool
@@ -146,7 +146,7 @@ pub trait Seatable {
     fn is_lawful()
         ensures process { ProcessLaws process }
         ensures tells { (c : Self) (got word : ℕ) (answer : Turn)
-            → Tells (process.handed c) got word answer → Tells c got word answer }
+            → AnswerTells (process.handed c) got word answer → AnswerTells c got word answer }
         ensures automaton { (shape : Shape) → AutomatonLaws process (automaton shape) }
         ensures opens { (shape : Shape) → Serves shape → Opens process (automaton shape) };
 

@@ -11,7 +11,7 @@ ghost use Rattle.bus_pageslot.specs.declared.rule.View.TheVariants.{Tap};
 ghost use Rattle.bus_pageslot.specs.Ears.{Ear};
 ghost use Rattle.bus_pageslot.specs.Rule.{known_in, stored_in};
 ghost use Rattle.bus_pageslot.specs.Steps.{Learns, KnowsSent};
-ghost use Rattle.bus_pageslot.specs.Seats.{Shows, TookTelling, table_of, deeds_of, stored_of};
+ghost use Rattle.bus_pageslot.specs.Seats.{Shows, TookAndTold, table_of, deeds_of, stored_of};
 ghost use Rattle.bus_pageslot.specs.Turns.{Sends, is_last, is_waiting, SendsAsking, StopsWaiting};
 ghost use Rattle.bus_pageslot.specs.Sendings.{waiting_of, SendsOff, KeepsFor, FillsBatches};
 ghost use Rattle.bus_pageslot.specs.Sendings.{HasSent, StopsAt, HasSentPart};
@@ -213,7 +213,7 @@ impl<S: Seatable + Drop> SenderOf<S> {
         ensures rests { S.process.op self.old.core word ≡ None
             → (self.new ≡ self.old) × (result ≡ S.process.rest self.old.core) }
         ensures steps { (op : Op) → S.process.op self.old.core word ≡ Some op
-            → TookTelling S.process S.Tells self.old word result self.new }
+            → TookAndTold S.process S.AnswerTells self.old word result self.new }
     {
         let top = &bus.table.shared;
         let Some(op) = self.core.next(word) else {

@@ -4,7 +4,7 @@ ghost use Rattle.std.specs.Prelude.{◌≡◌, ◌<◌, ◌∷◌, true, [], Som
 ghost use Rattle.bus_register.specs.Words.{register};
 ghost use Rattle.bus_pageslot.specs.Steps.{laid_at, carried_of, out_with, stored_by};
 ghost use Rattle.bus_pageslot.specs.Steps.{GoesOn, Due, slot_in, emptied};
-ghost use Rattle.bus_pageslot.specs.Seats.{Shows, TookTelling};
+ghost use Rattle.bus_pageslot.specs.Seats.{Shows, TookAndTold};
 
 use crate::rule::{Goes, Place, Told, Top};
 use crate::seatables::Seatable;
@@ -79,7 +79,7 @@ pub(crate) fn walk<S: Seatable + Drop, K: Told<S>>(
     requires below { register op < (S.process.extent core.old).words }
     ensures table { (seat.new.table_id ≡ seat.old.table_id) × (seat.new.id ≡ seat.old.id) }
     ensures shows { Shows S.process core.new seat.new }
-    ensures took { TookTelling S.process S.Tells (record { core = core.old; seat = seat.old }) word
+    ensures took { TookAndTold S.process S.AnswerTells (record { core = core.old; seat = seat.old }) word
         result (record {
           core = core.new;
           seat = seat.new;

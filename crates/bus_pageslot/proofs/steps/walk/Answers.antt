@@ -62,4 +62,4 @@ returns-clause-took g c =
       stored = stored_now P K d c.args.seat.now.me c.put_out.new.seat.me c.step-got.new.seat.me c.args.word c.step-got.result (ap (λ x. x.1) c.requires.shows.me) c.put_out.new.core c.feed-turn.new.self c.put_out.ensures.core c.put_out.ensures.me gone c.feed-turn.ensures.state
           c.take_in.new.seat.me c.take_in.new.core c.take_in.ensures.core c.take_in.ensures.me;
     } in
-    record { took = took; tells = c.is_lawful.ensures.tells d c.step-got.result c.args.word c.feed-turn.result (subst (λ k. g.S.Seatable.Tells k c.step-got.result c.args.word c.feed-turn.result) c.put_out.ensures.core c.feed-turn.ensures.tells) }
+    record { took = took; tells = c.is_lawful.ensures.tells d c.step-got.result c.args.word c.feed-turn.result (subst (λ k. g.S.Seatable.AnswerTells k c.step-got.result c.args.word c.feed-turn.result) c.put_out.ensures.core c.feed-turn.ensures.tells) }
