@@ -13,7 +13,7 @@ use bus_adoptcommit::ThreeWord;
 use bus_batch::{CloseFault, Item, Message, PutFault};
 use bus_deliverylog::read_log;
 use bus_register::{Kind, SenderNo};
-use bus_tenure::Turn;
+use bus_tenure::{SenderCore, Turn};
 use bus_world::{MakeFault, Shape};
 use rand_pcg::Pcg32;
 use std::alloc::Global;
@@ -30,13 +30,17 @@ const SMALL: Shape = Shape {
     log_words: 64,
 };
 
-/// A sender and a receiver over the ratifier at work.
-type One = Sender<ThreeWord>;
-
-type Pass = Tap<ThreeWord>;
+/// A sender of a bus with a row for each tenure, over the ratifier at work. What a test does is
+/// written of any sender and proved once, from what any promises; the test names the sender alone.
+type Apart = SenderCore<ThreeWord>;
 
 /// Turns, each of which is to be answered so.
-fn turns(rt: &impl Abort, bus: &Bus<ThreeWord>, sender: &mut One, want: &[Turn])
+fn turns<S: Seatable + Drop>(
+    rt: &impl Abort,
+    bus: &BusOf<S>,
+    sender: &mut SenderOf<S>,
+    want: &[Turn],
+)
     requires { table_of sender.old ≡ bus.now.table }
     ensures { table_of sender.new ≡ bus.now.table }
 {
@@ -47,7 +51,13 @@ fn turns(rt: &impl Abort, bus: &Bus<ThreeWord>, sender: &mut One, want: &[Turn])
 }
 
 /// Loads one word below the length.
-fn loads_one(rt: &impl Abort, bus: &Bus<ThreeWord>, tap: &mut Pass, place: u64, want: u64)
+fn loads_one<S: Seatable + Drop>(
+    rt: &impl Abort,
+    bus: &BusOf<S>,
+    tap: &mut TapOf<S>,
+    place: u64,
+    want: u64,
+)
     requires { tap.old.table_id ≡ bus.now.table }
     ensures { tap.new.table_id ≡ bus.now.table }
 {
@@ -57,7 +67,7 @@ fn loads_one(rt: &impl Abort, bus: &Bus<ThreeWord>, tap: &mut Pass, place: u64, 
 }
 
 /// Loads the length, and then the words below it.
-fn loads(rt: &impl Abort, bus: &Bus<ThreeWord>, tap: &mut Pass, want: &[u64])
+fn loads<S: Seatable + Drop>(rt: &impl Abort, bus: &BusOf<S>, tap: &mut TapOf<S>, want: &[u64])
     requires { tap.old.table_id ≡ bus.now.table }
     ensures { tap.new.table_id ≡ bus.now.table }
 {
@@ -70,12 +80,15 @@ fn loads(rt: &impl Abort, bus: &Bus<ThreeWord>, tap: &mut Pass, want: &[u64])
 }
 
 /// The small bus with its sender and its receivers.
-fn small(rt: &impl Abort, alloc: Global) -> (Bus<ThreeWord>, One, Pass, Pass)
+fn small<S: Seatable + Drop>(
+    rt: &impl Abort,
+    alloc: Global,
+) -> (BusOf<S>, SenderOf<S>, TapOf<S>, TapOf<S>)
     ensures sender { table_of result.1 ≡ result.0.table }
     ensures taps { (result.2.table_id ≡ result.0.table)
         × (result.3.table_id ≡ result.0.table) }
 {
-    let (bus, mut senders, mut taps) = Bus::new(alloc, SMALL).expect(rt, "memory");
+    let (bus, mut senders, mut taps) = BusOf::new(alloc, SMALL).expect(rt, "memory");
     assert_eq!(rt; (senders.len(), taps.len()), (1, 2));
     let second = taps.pop().expect(rt, "a receiver");
     let first = taps.pop().expect(rt, "a receiver");
@@ -83,12 +96,16 @@ fn small(rt: &impl Abort, alloc: Global) -> (Bus<ThreeWord>, One, Pass, Pass)
 }
 
 /// A bus of two senders and a receiver.
-fn pair(rt: &impl Abort, alloc: Global, shape: Shape) -> (Bus<ThreeWord>, One, One, Pass)
+fn pair<S: Seatable + Drop>(
+    rt: &impl Abort,
+    alloc: Global,
+    shape: Shape,
+) -> (BusOf<S>, SenderOf<S>, SenderOf<S>, TapOf<S>)
     ensures senders { (table_of result.1 ≡ result.0.table)
         × (table_of result.2 ≡ result.0.table) }
     ensures tap { result.3.table_id ≡ result.0.table }
 {
-    let (bus, mut senders, mut taps) = Bus::new(alloc, shape).expect(rt, "memory");
+    let (bus, mut senders, mut taps) = BusOf::new(alloc, shape).expect(rt, "memory");
     let second = senders.pop().expect(rt, "a sender");
     let first = senders.pop().expect(rt, "a sender");
     (bus, first, second, taps.pop().expect(rt, "a receiver"))
@@ -117,43 +134,53 @@ const DELIVERED: Turn = Turn::Delivered {
     last: 0,
 };
 
+/// A receiver that is told of a message, and one that it meets.
+fn tells_and_meets<S: Seatable + Drop, R: Abort>(rt: &R, alloc: Global) {
+    let (bus, mut sender, mut first, mut second) = small::<S>(rt, alloc);
+    assert_eq!(rt; sender.put(b"a"), Ok(0));
+    turns(rt, &bus, &mut sender, &[Turn::Going]);
+    turns(rt, &bus, &mut sender, &TO_LAST_WORD);
+    assert_eq!(rt; sender.kind(), Some(Kind::StoreLength));
+    loads(rt, &bus, &mut first, &[]);
+    assert_eq!(rt; sender.words(), 0);
+    turns(rt, &bus, &mut sender, &[Turn::Going]);
+    assert_eq!(rt; sender.words(), 3);
+    loads(rt, &bus, &mut first, &WORDS);
+    assert_eq!(rt; (first.known(), second.known()), (3, 0));
+    assert_eq!(rt; second.told(&mut sender, &bus), 3);
+    assert_eq!(rt; second.known(), 3);
+    turns(rt, &bus, &mut sender, &[DELIVERED, Turn::Idle]);
+    assert_eq!(rt; (sender.pending(), sender.next_number()), (0, 1));
+    assert_eq!(rt; first.meet(&mut second, &bus), 3);
+}
+
 #[test]
 fn told_and_meet(rt: HostRuntime) {
-    let (bus, mut sender, mut first, mut second) = small(&rt, rt.alloc());
-    assert_eq!(&rt; sender.put(b"a"), Ok(0));
-    turns(&rt, &bus, &mut sender, &[Turn::Going]);
-    turns(&rt, &bus, &mut sender, &TO_LAST_WORD);
-    assert_eq!(&rt; sender.kind(), Some(Kind::StoreLength));
-    loads(&rt, &bus, &mut first, &[]);
-    assert_eq!(&rt; sender.words(), 0);
-    turns(&rt, &bus, &mut sender, &[Turn::Going]);
-    assert_eq!(&rt; sender.words(), 3);
-    loads(&rt, &bus, &mut first, &WORDS);
-    assert_eq!(&rt; (first.known(), second.known()), (3, 0));
-    assert_eq!(&rt; second.told(&mut sender, &bus), 3);
-    assert_eq!(&rt; second.known(), 3);
-    turns(&rt, &bus, &mut sender, &[DELIVERED, Turn::Idle]);
-    assert_eq!(&rt; (sender.pending(), sender.next_number()), (0, 1));
-    assert_eq!(&rt; first.meet(&mut second, &bus), 3);
+    tells_and_meets::<Apart, HostRuntime>(&rt, rt.alloc());
+}
+
+/// In a tenure nothing more is put, and no close.
+fn is_busy<S: Seatable + Drop, R: Abort>(rt: &R, alloc: Global) {
+    let (bus, mut sender, _, _) = small::<S>(rt, alloc);
+    assert_eq!(rt; sender.number(), SenderNo(0));
+    turns(rt, &bus, &mut sender, &[Turn::Idle]);
+    assert_eq!(rt; sender.put(b"a"), Ok(0));
+    assert_eq!(rt; sender.pending(), 1);
+    assert_eq!(rt; sender.kind(), Some(Kind::LoadStage));
+    turns(rt, &bus, &mut sender, &[Turn::Going]);
+    assert_eq!(rt; sender.kind(), Some(Kind::Announce));
+    assert_eq!(rt; (sender.turns_left(), sender.wants_word()), (2, false));
+    assert_eq!(rt; sender.put(b"b"), Err(PutFault::Busy));
+    assert_eq!(rt; sender.close(), Err(CloseFault::Busy));
 }
 
 #[test]
 fn busy_in_a_tenure(rt: HostRuntime) {
-    let (bus, mut sender, _, _) = small(&rt, rt.alloc());
-    assert_eq!(&rt; sender.number(), SenderNo(0));
-    turns(&rt, &bus, &mut sender, &[Turn::Idle]);
-    assert_eq!(&rt; sender.put(b"a"), Ok(0));
-    assert_eq!(&rt; sender.pending(), 1);
-    assert_eq!(&rt; sender.kind(), Some(Kind::LoadStage));
-    turns(&rt, &bus, &mut sender, &[Turn::Going]);
-    assert_eq!(&rt; sender.kind(), Some(Kind::Announce));
-    assert_eq!(&rt; (sender.turns_left(), sender.wants_word()), (2, false));
-    assert_eq!(&rt; sender.put(b"b"), Err(PutFault::Busy));
-    assert_eq!(&rt; sender.close(), Err(CloseFault::Busy));
+    is_busy::<Apart, HostRuntime>(&rt, rt.alloc());
 }
 
 /// Turns until the answer is not Going, at most so often.
-fn goes(bus: &Bus<ThreeWord>, sender: &mut One, most: u32) -> Turn
+fn goes<S: Seatable + Drop>(bus: &BusOf<S>, sender: &mut SenderOf<S>, most: u32) -> Turn
     requires { table_of sender.old ≡ bus.now.table }
     ensures { table_of sender.new ≡ bus.now.table }
 {
@@ -166,19 +193,19 @@ fn goes(bus: &Bus<ThreeWord>, sender: &mut One, most: u32) -> Turn
     answer
 }
 
-#[test]
-fn closed_and_ended(rt: HostRuntime) {
-    let (bus, mut sender, mut first, mut second) = small(&rt, rt.alloc());
-    assert_eq!(&rt; sender.put(b"a"), Ok(0));
-    assert_eq!(&rt; goes(&bus, &mut sender, 20), Turn::Own { tenure: 0 });
-    assert_eq!(&rt; goes(&bus, &mut sender, 20), DELIVERED);
-    assert_eq!(&rt; sender.close(), Ok(()));
-    assert_eq!(&rt; goes(&bus, &mut sender, 20), Turn::Own { tenure: 1 });
-    assert_eq!(&rt; goes(&bus, &mut sender, 20), Turn::Closed);
-    assert_eq!(&rt; sender.put(b"b"), Err(PutFault::Closed));
-    assert_eq!(&rt; first.meet(&mut second, &bus), 5);
-    assert_eq!(&rt; (first.known(), second.known()), (5, 5));
-    let ended = bus.end(second).expect(&rt, "the page is home");
+/// A message and a close, and what they leave behind.
+fn closes_and_ends<S: Seatable + Drop, R: Abort>(rt: &R, alloc: Global) {
+    let (bus, mut sender, mut first, mut second) = small::<S>(rt, alloc);
+    assert_eq!(rt; sender.put(b"a"), Ok(0));
+    assert_eq!(rt; goes(&bus, &mut sender, 20), Turn::Own { tenure: 0 });
+    assert_eq!(rt; goes(&bus, &mut sender, 20), DELIVERED);
+    assert_eq!(rt; sender.close(), Ok(()));
+    assert_eq!(rt; goes(&bus, &mut sender, 20), Turn::Own { tenure: 1 });
+    assert_eq!(rt; goes(&bus, &mut sender, 20), Turn::Closed);
+    assert_eq!(rt; sender.put(b"b"), Err(PutFault::Closed));
+    assert_eq!(rt; first.meet(&mut second, &bus), 5);
+    assert_eq!(rt; (first.known(), second.known()), (5, 5));
+    let ended = bus.end(second).expect(rt, "the page is home");
     let log = [
         WORDS[0],
         WORDS[1],
@@ -186,14 +213,19 @@ fn closed_and_ended(rt: HostRuntime) {
         0x4000_0100_0000_0001,
         0xC000_0000_0000_0000,
     ];
-    assert_eq!(&rt; ended.log(), log.as_slice());
+    assert_eq!(rt; ended.log(), log.as_slice());
     let page = *ended.page();
-    assert_eq!(&rt; (page.next[0], page.next[1]), (1, 0));
-    assert_eq!(&rt; (page.ended, page.tenures, page.words), (true, 2, 5));
+    assert_eq!(rt; (page.next[0], page.next[1]), (1, 0));
+    assert_eq!(rt; (page.ended, page.tenures, page.words), (true, 2, 5));
 }
 
 #[test]
-fn end_with_page_out(rt: HostRuntime) {
+fn closed_and_ended(rt: HostRuntime) {
+    closes_and_ends::<Apart, HostRuntime>(&rt, rt.alloc());
+}
+
+/// A sender is dropped with the page.
+fn ends_with_page_out<S: Seatable + Drop, R: Abort>(rt: &R, alloc: Global) {
     let shape = Shape {
         senders: 2,
         receivers: 1,
@@ -201,17 +233,21 @@ fn end_with_page_out(rt: HostRuntime) {
         rows: 256,
         log_words: 65536,
     };
-    let (bus, _, mut sender, tap) = pair(&rt, rt.alloc(), shape);
-    assert_eq!(&rt; sender.put(b"a"), Ok(0));
-    assert_eq!(&rt; goes(&bus, &mut sender, 1000), Turn::Own { tenure: 0 });
+    let (bus, _, mut sender, tap) = pair::<S>(rt, alloc, shape);
+    assert_eq!(rt; sender.put(b"a"), Ok(0));
+    assert_eq!(rt; goes(&bus, &mut sender, 1000), Turn::Own { tenure: 0 });
     drop(sender);
     let fault = bus.end(tap).err();
-    assert_eq!(&rt; fault, Some(EndFault::PageOut));
+    assert_eq!(rt; fault, Some(EndFault::PageOut));
+}
+
+#[test]
+fn end_with_page_out(rt: HostRuntime) {
+    ends_with_page_out::<Apart, HostRuntime>(&rt, rt.alloc());
 }
 
 /// Two senders, of which the first takes one turn for each of the second's.
-#[test]
-fn two_senders_take_turns(rt: HostRuntime) {
+fn take_turns<S: Seatable + Drop, R: Abort>(rt: &R, alloc: Global) {
     let shape = Shape {
         senders: 2,
         receivers: 1,
@@ -219,9 +255,9 @@ fn two_senders_take_turns(rt: HostRuntime) {
         rows: 4,
         log_words: 64,
     };
-    let (bus, mut first, mut second, tap) = pair(&rt, rt.alloc(), shape);
-    assert_eq!(&rt; first.put(b"a"), Ok(0));
-    assert_eq!(&rt; second.put(b"b"), Ok(0));
+    let (bus, mut first, mut second, tap) = pair::<S>(rt, alloc, shape);
+    assert_eq!(rt; first.put(b"a"), Ok(0));
+    assert_eq!(rt; second.put(b"b"), Ok(0));
     let (mut first_sent, mut second_sent) = (false, false);
     for turn in 0..400u32 {
         if let Turn::Delivered { .. } = first.turn(&bus, turn % 3) {
@@ -231,9 +267,9 @@ fn two_senders_take_turns(rt: HostRuntime) {
             second_sent = true;
         }
     }
-    assert_eq!(&rt; (first_sent, second_sent), (true, true));
-    let ended = bus.end(tap).expect(&rt, "the page is home");
-    assert_eq!(&rt;
+    assert_eq!(rt; (first_sent, second_sent), (true, true));
+    let ended = bus.end(tap).expect(rt, "the page is home");
+    assert_eq!(rt;
         (
             ended.page().next[0],
             ended.page().next[1],
@@ -243,8 +279,13 @@ fn two_senders_take_turns(rt: HostRuntime) {
     );
 }
 
+#[test]
+fn two_senders_take_turns(rt: HostRuntime) {
+    take_turns::<Apart, HostRuntime>(&rt, rt.alloc());
+}
+
 /// Sends three messages, one after another, and says whether all were delivered.
-fn sends_three(bus: &Bus<ThreeWord>, mut sender: One) -> bool
+fn sends_three<S: Seatable + Drop>(bus: &BusOf<S>, mut sender: SenderOf<S>) -> bool
     requires { table_of sender ≡ bus.now.table }
 {
     let first = sends(bus, &mut sender);
@@ -254,7 +295,7 @@ fn sends_three(bus: &Bus<ThreeWord>, mut sender: One) -> bool
 }
 
 /// Sends one message, and says whether it was delivered.
-fn sends(bus: &Bus<ThreeWord>, sender: &mut One) -> bool
+fn sends<S: Seatable + Drop>(bus: &BusOf<S>, sender: &mut SenderOf<S>) -> bool
     requires { table_of sender.old ≡ bus.now.table }
     ensures { table_of sender.new ≡ bus.now.table }
 {
@@ -264,7 +305,7 @@ fn sends(bus: &Bus<ThreeWord>, sender: &mut One) -> bool
 }
 
 /// Turns until what waits is delivered.
-fn is_sent(bus: &Bus<ThreeWord>, sender: &mut One) -> bool
+fn is_sent<S: Seatable + Drop>(bus: &BusOf<S>, sender: &mut SenderOf<S>) -> bool
     requires { table_of sender.old ≡ bus.now.table }
     ensures { table_of sender.new ≡ bus.now.table }
 {
@@ -276,8 +317,10 @@ fn is_sent(bus: &Bus<ThreeWord>, sender: &mut One) -> bool
     false
 }
 
-#[test]
-fn two_threads_send(rt: HostRuntime) {
+/// Two senders, each in a thread of its own.
+fn threads_send<S: Seatable + Drop + Send + Sync, R: Threads + Wait + Abort + AllocGlobal + Sync>(
+    rt: &R,
+) {
     let shape = Shape {
         senders: 2,
         receivers: 1,
@@ -285,16 +328,16 @@ fn two_threads_send(rt: HostRuntime) {
         rows: 256,
         log_words: 1024,
     };
-    let (bus, first, second, tap) = pair(&rt, rt.alloc(), shape);
+    let (bus, first, second, tap) = pair::<S>(rt, rt.alloc(), shape);
     let shared = &bus;
     let sent = join(
-        &rt,
+        rt,
         move || sends_three(shared, first),
         move || sends_three(shared, second),
     );
-    assert_eq!(&rt; sent, (true, true));
-    let ended = bus.end(tap).expect(&rt, "the page is home");
-    assert_eq!(&rt;
+    assert_eq!(rt; sent, (true, true));
+    let ended = bus.end(tap).expect(rt, "the page is home");
+    assert_eq!(rt;
         (
             ended.page().next[0],
             ended.page().next[1],
@@ -304,8 +347,17 @@ fn two_threads_send(rt: HostRuntime) {
     );
 }
 
+#[test]
+fn two_threads_send(rt: HostRuntime) {
+    threads_send::<Apart, HostRuntime>(&rt);
+}
+
 /// Sends 20 messages, each in a tenure of its own, and says how many were delivered.
-fn sends_twenty<W: Wait>(wait: &W, bus: &Bus<ThreeWord>, mut sender: One) -> u32
+fn sends_twenty<S: Seatable + Drop>(
+    wait: &impl Wait,
+    bus: &BusOf<S>,
+    mut sender: SenderOf<S>,
+) -> u32
     requires { table_of sender ≡ bus.now.table }
 {
     let mut rng = Pcg32::new(0, u64::from(sender.number().0));
@@ -321,18 +373,20 @@ fn sends_twenty<W: Wait>(wait: &W, bus: &Bus<ThreeWord>, mut sender: One) -> u32
 }
 
 /// Each of these senders sends so in a thread of its own.
-fn send_at_once<R: Threads + Wait + Abort + Sync>(
+fn send_at_once<S: Seatable + Drop + Send + Sync, R: Threads + Wait + Abort + Sync>(
     rt: &R,
-    bus: &Bus<ThreeWord>,
-    senders: Vec<One>,
+    bus: &BusOf<S>,
+    senders: Vec<SenderOf<S>>,
 ) -> Vec<u32>
     requires { All (λ s. table_of s ≡ bus.now.table) senders.items }
 {
     map_vec(rt, senders, &|sender| sends_twenty(rt, bus, sender)).expect(rt, "memory")
 }
 
-#[test]
-fn three_threads(rt: HostRuntime) {
+/// Three senders, each in a thread of its own.
+fn three_at_once<S: Seatable + Drop + Send + Sync, R: Threads + Wait + Abort + AllocGlobal + Sync>(
+    rt: &R,
+) {
     let shape = Shape {
         senders: 3,
         receivers: 1,
@@ -340,22 +394,33 @@ fn three_threads(rt: HostRuntime) {
         rows: 60,
         log_words: 1024,
     };
-    let (bus, senders, mut taps) = Bus::new(rt.alloc(), shape).expect(&rt, "memory");
-    let tap = taps.pop().expect(&rt, "a receiver");
-    let sent = send_at_once(&rt, &bus, senders);
-    assert_eq!(&rt; sent.as_slice(), [20, 20, 20].as_slice());
-    let ended = bus.end(tap).expect(&rt, "the page is home");
+    let (bus, senders, mut taps) = BusOf::<S>::new(rt.alloc(), shape).expect(rt, "memory");
+    let tap = taps.pop().expect(rt, "a receiver");
+    let sent = send_at_once(rt, &bus, senders);
+    assert_eq!(rt; sent.as_slice(), [20, 20, 20].as_slice());
+    let ended = bus.end(tap).expect(rt, "the page is home");
     for sender in 0..3 {
-        assert_eq!(&rt; ended.count(SenderNo(sender)), 20, "of sender {sender}");
+        assert_eq!(rt; ended.count(SenderNo(sender)), 20, "of sender {sender}");
     }
     let page = ended.page();
-    assert_eq!(&rt; page.next, [20, 20, 20, 0, 0, 0, 0, 0]);
-    assert_eq!(&rt; (page.ended, page.tenures, page.words), (false, 60, 180));
-    assert_eq!(&rt; ended.log().len(), 180);
+    assert_eq!(rt; page.next, [20, 20, 20, 0, 0, 0, 0, 0]);
+    assert_eq!(rt; (page.ended, page.tenures, page.words), (false, 60, 180));
+    assert_eq!(rt; ended.log().len(), 180);
+}
+
+#[test]
+fn three_threads(rt: HostRuntime) {
+    three_at_once::<Apart, HostRuntime>(&rt);
 }
 
 /// Turns at word 0 up to the first that is not going, at most so many, and sees what it answers.
-fn ends_in(rt: &impl Abort, bus: &Bus<ThreeWord>, sender: &mut One, most: u32, want: Turn)
+fn ends_in<S: Seatable + Drop>(
+    rt: &impl Abort,
+    bus: &BusOf<S>,
+    sender: &mut SenderOf<S>,
+    most: u32,
+    want: Turn,
+)
     requires { table_of sender.old ≡ bus.now.table }
     ensures { table_of sender.new ≡ bus.now.table }
 {
@@ -409,7 +474,11 @@ fn lost(owner: u8) -> Turn {
 }
 
 /// Takes the last sender off.
-fn last_of(rt: &impl Abort, bus: &Bus<ThreeWord>, senders: &mut Vec<One>) -> One
+fn last_of<S: Seatable + Drop>(
+    rt: &impl Abort,
+    bus: &BusOf<S>,
+    senders: &mut Vec<SenderOf<S>>,
+) -> SenderOf<S>
     requires { All (λ s. table_of s ≡ bus.now.table) senders.old.items }
     ensures sender { table_of result ≡ bus.now.table }
     ensures rest { All (λ s. table_of s ≡ bus.now.table) senders.new.items }
@@ -419,7 +488,10 @@ fn last_of(rt: &impl Abort, bus: &Bus<ThreeWord>, senders: &mut Vec<One>) -> One
 }
 
 /// A bus of five senders with one tenure, its senders 1 and 4, and a receiver.
-fn one_and_four(rt: &impl Abort, alloc: Global) -> (Bus<ThreeWord>, One, One, Pass)
+fn one_and_four<S: Seatable + Drop>(
+    rt: &impl Abort,
+    alloc: Global,
+) -> (BusOf<S>, SenderOf<S>, SenderOf<S>, TapOf<S>)
     ensures senders { (table_of result.1 ≡ result.0.table)
         × (table_of result.2 ≡ result.0.table) }
     ensures tap { result.3.table_id ≡ result.0.table }
@@ -430,7 +502,7 @@ fn one_and_four(rt: &impl Abort, alloc: Global) -> (Bus<ThreeWord>, One, One, Pa
         rows: 1,
         ..SMALL
     };
-    let (bus, mut senders, mut taps) = Bus::new(alloc, shape).expect(rt, "memory");
+    let (bus, mut senders, mut taps) = BusOf::new(alloc, shape).expect(rt, "memory");
     let tap = taps.pop().expect(rt, "a receiver");
     let four = last_of(rt, &bus, &mut senders);
     drop(last_of(rt, &bus, &mut senders));
@@ -439,60 +511,74 @@ fn one_and_four(rt: &impl Abort, alloc: Global) -> (Bus<ThreeWord>, One, One, Pa
     (bus, one, four, tap)
 }
 
-#[test]
-fn candidate_changes(rt: HostRuntime) {
-    let (bus, mut one, mut four, tap) = one_and_four(&rt, rt.alloc());
-    assert_eq!(&rt; (one.number(), four.number()), (SenderNo(1), SenderNo(4)));
-    assert_eq!(&rt; (one.put(b"a"), four.put(b"b")), (Ok(0), Ok(0)));
-    ends_in(&rt, &bus, &mut four, 14, Turn::Going);
-    ends_in(&rt, &bus, &mut one, 99, lost(4));
-    ends_in(&rt, &bus, &mut four, 99, Turn::Own { tenure: 0 });
-    ends_in(&rt, &bus, &mut four, 99, delivered(0, 0));
-    let ended = bus.end(tap).expect(&rt, "the page is home");
-    leaves(
-        &rt,
-        &ended,
-        5,
-        &[item(&rt, 4, 0, b'b')],
-        &[(0, SenderNo(4))],
-    );
+/// A candidate changes while it is voted on.
+fn changes_candidate<S: Seatable + Drop, R: Abort + AllocGlobal>(rt: &R) {
+    let (bus, mut one, mut four, tap) = one_and_four::<S>(rt, rt.alloc());
+    assert_eq!(rt; (one.number(), four.number()), (SenderNo(1), SenderNo(4)));
+    assert_eq!(rt; (one.put(b"a"), four.put(b"b")), (Ok(0), Ok(0)));
+    ends_in(rt, &bus, &mut four, 14, Turn::Going);
+    ends_in(rt, &bus, &mut one, 99, lost(4));
+    ends_in(rt, &bus, &mut four, 99, Turn::Own { tenure: 0 });
+    ends_in(rt, &bus, &mut four, 99, delivered(0, 0));
+    let ended = bus.end(tap).expect(rt, "the page is home");
+    leaves(rt, &ended, 5, &[item(rt, 4, 0, b'b')], &[(0, SenderNo(4))]);
 }
 
 #[test]
-fn late_to_an_old_tenure(rt: HostRuntime) {
+fn candidate_changes(rt: HostRuntime) {
+    changes_candidate::<Apart, HostRuntime>(&rt);
+}
+
+/// A sender that comes late to an old tenure.
+fn comes_late<S: Seatable + Drop, R: Abort + AllocGlobal>(rt: &R) {
     let shape = Shape {
         senders: 2,
         receivers: 1,
         rows: 4,
         ..SMALL
     };
-    let (bus, mut zero, mut one, tap) = pair(&rt, rt.alloc(), shape);
-    assert_eq!(&rt; (zero.put(b"a"), one.put(b"b")), (Ok(0), Ok(0)));
-    ends_in(&rt, &bus, &mut one, 1, Turn::Going);
-    ends_in(&rt, &bus, &mut zero, 99, Turn::Own { tenure: 0 });
-    ends_in(&rt, &bus, &mut zero, 99, delivered(0, 0));
-    assert_eq!(&rt; zero.put(b"c"), Ok(1));
-    ends_in(&rt, &bus, &mut zero, 99, Turn::Own { tenure: 1 });
-    ends_in(&rt, &bus, &mut zero, 99, delivered(1, 1));
-    ends_in(&rt, &bus, &mut one, 99, lost(0));
-    ends_in(&rt, &bus, &mut one, 99, Turn::Own { tenure: 2 });
-    ends_in(&rt, &bus, &mut one, 99, delivered(2, 0));
-    let ended = bus.end(tap).expect(&rt, "the page is home");
+    let (bus, mut zero, mut one, tap) = pair::<S>(rt, rt.alloc(), shape);
+    assert_eq!(rt; (zero.put(b"a"), one.put(b"b")), (Ok(0), Ok(0)));
+    ends_in(rt, &bus, &mut one, 1, Turn::Going);
+    ends_in(rt, &bus, &mut zero, 99, Turn::Own { tenure: 0 });
+    ends_in(rt, &bus, &mut zero, 99, delivered(0, 0));
+    assert_eq!(rt; zero.put(b"c"), Ok(1));
+    ends_in(rt, &bus, &mut zero, 99, Turn::Own { tenure: 1 });
+    ends_in(rt, &bus, &mut zero, 99, delivered(1, 1));
+    ends_in(rt, &bus, &mut one, 99, lost(0));
+    ends_in(rt, &bus, &mut one, 99, Turn::Own { tenure: 2 });
+    ends_in(rt, &bus, &mut one, 99, delivered(2, 0));
+    let ended = bus.end(tap).expect(rt, "the page is home");
     let items = [
-        item(&rt, 0, 0, b'a'),
-        item(&rt, 0, 1, b'c'),
-        item(&rt, 1, 0, b'b'),
+        item(rt, 0, 0, b'a'),
+        item(rt, 0, 1, b'c'),
+        item(rt, 1, 0, b'b'),
     ];
     let owners = [(0, SenderNo(0)), (1, SenderNo(0)), (2, SenderNo(1))];
-    leaves(&rt, &ended, 2, &items, &owners);
+    leaves(rt, &ended, 2, &items, &owners);
+}
+
+#[test]
+fn late_to_an_old_tenure(rt: HostRuntime) {
+    comes_late::<Apart, HostRuntime>(&rt);
+}
+
+/// As many senders and receivers as the shape says, or no memory.
+fn makes_as_many<S: Seatable + Drop, R: Abort>(rt: &R, alloc: Global) {
+    match BusOf::<S>::new(alloc, SMALL) {
+        Ok((_, senders, taps)) => assert_eq!(rt; (senders.len(), taps.len()), (1, 2)),
+        Err(fault) => assert_eq!(rt; fault, MakeFault::NoMemory),
+    }
 }
 
 #[test]
 fn as_many_as_the_shape_says_unless_memory_is_refused(rt: HostRuntime) {
-    match Bus::<ThreeWord>::new(rt.alloc(), SMALL) {
-        Ok((_, senders, taps)) => assert_eq!(&rt; (senders.len(), taps.len()), (1, 2)),
-        Err(fault) => assert_eq!(&rt; fault, MakeFault::NoMemory),
-    }
+    makes_as_many::<Apart, HostRuntime>(&rt, rt.alloc());
+}
+
+/// A bus of this shape is refused so.
+fn refuses<S: Seatable + Drop, R: Abort>(rt: &R, alloc: Global, shape: Shape, fault: MakeFault) {
+    assert_eq!(rt; BusOf::<S>::new(alloc, shape).err(), Some(fault));
 }
 
 #[test]
@@ -501,8 +587,5 @@ fn shapes_that_are_refused(rt: HostRuntime) {
         receivers: 9,
         ..SMALL
     };
-    assert_eq!(&rt;
-        Bus::<ThreeWord>::new(rt.alloc(), shape).err(),
-        Some(MakeFault::Receivers)
-    );
+    refuses::<Apart, HostRuntime>(&rt, rt.alloc(), shape, MakeFault::Receivers);
 }
