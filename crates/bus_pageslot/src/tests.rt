@@ -6,8 +6,10 @@ ghost use Rattle.bus_pageslot.specs.Seats.{table_of};
 
 mod cyclic;
 mod elections;
+mod making;
 mod stops;
 
+use self::making::{has_page_out, last_tap, left, made, one_and_four, pair, small, three};
 use super::*;
 use bus_adoptcommit::ThreeWord;
 use bus_batch::{CloseFault, Item, Message, PutFault};
@@ -33,6 +35,39 @@ const SMALL: Shape = Shape {
 /// A sender of a bus with a row for each tenure, over the ratifier at work. What a test does is
 /// written of any sender and proved once, from what any promises; the test names the sender alone.
 type Apart = SenderCore<ThreeWord>;
+
+/// Puts a message, which is answered so.
+fn puts<S: Seatable + Drop>(
+    rt: &impl Abort,
+    sender: &mut SenderOf<S>,
+    bytes: &[u8],
+    want: Result<u64, PutFault>,
+)
+    ensures { table_of sender.new ≡ table_of sender.old }
+{
+    assert_eq!(rt; sender.put(bytes), want);
+}
+
+/// Closes, which is answered so.
+fn closes<S: Seatable + Drop>(
+    rt: &impl Abort,
+    sender: &mut SenderOf<S>,
+    want: Result<(), CloseFault>,
+)
+    ensures { table_of sender.new ≡ table_of sender.old }
+{
+    assert_eq!(rt; sender.close(), want);
+}
+
+/// The next step is for this.
+fn is_due<S: Seatable + Drop>(rt: &impl Abort, sender: &SenderOf<S>, want: Kind) {
+    assert_eq!(rt; sender.kind(), Some(want));
+}
+
+/// So many messages wait, and the next one gets this number.
+fn has<S: Seatable + Drop>(rt: &impl Abort, sender: &SenderOf<S>, pending: u64, next: u64) {
+    assert_eq!(rt; (sender.pending(), sender.next_number()), (pending, next));
+}
 
 /// Turns, each of which is to be answered so.
 fn turns<S: Seatable + Drop>(
@@ -79,38 +114,6 @@ fn loads<S: Seatable + Drop>(rt: &impl Abort, bus: &BusOf<S>, tap: &mut TapOf<S>
     }
 }
 
-/// The small bus with its sender and its receivers.
-fn small<S: Seatable + Drop>(
-    rt: &impl Abort,
-    alloc: Global,
-) -> (BusOf<S>, SenderOf<S>, TapOf<S>, TapOf<S>)
-    ensures sender { table_of result.1 ≡ result.0.table }
-    ensures taps { (result.2.table_id ≡ result.0.table)
-        × (result.3.table_id ≡ result.0.table) }
-{
-    let (bus, mut senders, mut taps) = BusOf::new(alloc, SMALL).expect(rt, "memory");
-    assert_eq!(rt; (senders.len(), taps.len()), (1, 2));
-    let second = taps.pop().expect(rt, "a receiver");
-    let first = taps.pop().expect(rt, "a receiver");
-    (bus, senders.pop().expect(rt, "a sender"), first, second)
-}
-
-/// A bus of two senders and a receiver.
-fn pair<S: Seatable + Drop>(
-    rt: &impl Abort,
-    alloc: Global,
-    shape: Shape,
-) -> (BusOf<S>, SenderOf<S>, SenderOf<S>, TapOf<S>)
-    ensures senders { (table_of result.1 ≡ result.0.table)
-        × (table_of result.2 ≡ result.0.table) }
-    ensures tap { result.3.table_id ≡ result.0.table }
-{
-    let (bus, mut senders, mut taps) = BusOf::new(alloc, shape).expect(rt, "memory");
-    let second = senders.pop().expect(rt, "a sender");
-    let first = senders.pop().expect(rt, "a sender");
-    (bus, first, second, taps.pop().expect(rt, "a receiver"))
-}
-
 /// The words of an a, the first message of sender 0, in tenure 0.
 const WORDS: [u64; 3] = [
     0x4000_0200_0000_0000,
@@ -137,21 +140,20 @@ const DELIVERED: Turn = Turn::Delivered {
 /// A receiver that is told of a message, and one that it meets.
 fn tells_and_meets<S: Seatable + Drop, R: Abort>(rt: &R, alloc: Global) {
     let (bus, mut sender, mut first, mut second) = small::<S>(rt, alloc);
-    assert_eq!(rt; sender.put(b"a"), Ok(0));
+    puts(rt, &mut sender, b"a", Ok(0));
     turns(rt, &bus, &mut sender, &[Turn::Going]);
     turns(rt, &bus, &mut sender, &TO_LAST_WORD);
-    assert_eq!(rt; sender.kind(), Some(Kind::StoreLength));
+    is_due(rt, &sender, Kind::StoreLength);
     loads(rt, &bus, &mut first, &[]);
     assert_eq!(rt; sender.words(), 0);
     turns(rt, &bus, &mut sender, &[Turn::Going]);
     assert_eq!(rt; sender.words(), 3);
     loads(rt, &bus, &mut first, &WORDS);
     assert_eq!(rt; (first.known(), second.known()), (3, 0));
-    assert_eq!(rt; second.told(&mut sender, &bus), 3);
-    assert_eq!(rt; second.known(), 3);
+    tells(rt, &bus, &mut sender, &mut second, 3);
     turns(rt, &bus, &mut sender, &[DELIVERED, Turn::Idle]);
-    assert_eq!(rt; (sender.pending(), sender.next_number()), (0, 1));
-    assert_eq!(rt; first.meet(&mut second, &bus), 3);
+    has(rt, &sender, 0, 1);
+    meet(rt, &bus, &mut first, &mut second, 3);
 }
 
 #[test]
@@ -164,14 +166,14 @@ fn is_busy<S: Seatable + Drop, R: Abort>(rt: &R, alloc: Global) {
     let (bus, mut sender, _, _) = small::<S>(rt, alloc);
     assert_eq!(rt; sender.number(), SenderNo(0));
     turns(rt, &bus, &mut sender, &[Turn::Idle]);
-    assert_eq!(rt; sender.put(b"a"), Ok(0));
+    puts(rt, &mut sender, b"a", Ok(0));
     assert_eq!(rt; sender.pending(), 1);
-    assert_eq!(rt; sender.kind(), Some(Kind::LoadStage));
+    is_due(rt, &sender, Kind::LoadStage);
     turns(rt, &bus, &mut sender, &[Turn::Going]);
-    assert_eq!(rt; sender.kind(), Some(Kind::Announce));
+    is_due(rt, &sender, Kind::Announce);
     assert_eq!(rt; (sender.turns_left(), sender.wants_word()), (2, false));
-    assert_eq!(rt; sender.put(b"b"), Err(PutFault::Busy));
-    assert_eq!(rt; sender.close(), Err(CloseFault::Busy));
+    puts(rt, &mut sender, b"b", Err(PutFault::Busy));
+    closes(rt, &mut sender, Err(CloseFault::Busy));
 }
 
 #[test]
@@ -179,8 +181,15 @@ fn busy_in_a_tenure(rt: HostRuntime) {
     is_busy::<Apart, HostRuntime>(&rt, rt.alloc());
 }
 
-/// Turns until the answer is not Going, at most so often.
-fn goes<S: Seatable + Drop>(bus: &BusOf<S>, sender: &mut SenderOf<S>, most: u32) -> Turn
+/// Turns up to the first that is not going, at most so many, and sees what it answers. The words
+/// of its votes go from 0 to 4 and round again.
+fn goes<S: Seatable + Drop>(
+    rt: &impl Abort,
+    bus: &BusOf<S>,
+    sender: &mut SenderOf<S>,
+    most: u32,
+    want: Turn,
+)
     requires { table_of sender.old ≡ bus.now.table }
     ensures { table_of sender.new ≡ bus.now.table }
 {
@@ -190,22 +199,11 @@ fn goes<S: Seatable + Drop>(bus: &BusOf<S>, sender: &mut SenderOf<S>, most: u32)
             answer = sender.turn(bus, turn % 5);
         }
     }
-    answer
+    assert_eq!(rt; answer, want);
 }
 
-/// A message and a close, and what they leave behind.
-fn closes_and_ends<S: Seatable + Drop, R: Abort>(rt: &R, alloc: Global) {
-    let (bus, mut sender, mut first, mut second) = small::<S>(rt, alloc);
-    assert_eq!(rt; sender.put(b"a"), Ok(0));
-    assert_eq!(rt; goes(&bus, &mut sender, 20), Turn::Own { tenure: 0 });
-    assert_eq!(rt; goes(&bus, &mut sender, 20), DELIVERED);
-    assert_eq!(rt; sender.close(), Ok(()));
-    assert_eq!(rt; goes(&bus, &mut sender, 20), Turn::Own { tenure: 1 });
-    assert_eq!(rt; goes(&bus, &mut sender, 20), Turn::Closed);
-    assert_eq!(rt; sender.put(b"b"), Err(PutFault::Closed));
-    assert_eq!(rt; first.meet(&mut second, &bus), 5);
-    assert_eq!(rt; (first.known(), second.known()), (5, 5));
-    let ended = bus.end(second).expect(rt, "the page is home");
+/// The bus ended with an a and an end mark.
+fn ends_closed(rt: &impl Abort, ended: &Ended) {
     let log = [
         WORDS[0],
         WORDS[1],
@@ -217,6 +215,50 @@ fn closes_and_ends<S: Seatable + Drop, R: Abort>(rt: &R, alloc: Global) {
     let page = *ended.page();
     assert_eq!(rt; (page.next[0], page.next[1]), (1, 0));
     assert_eq!(rt; (page.ended, page.tenures, page.words), (true, 2, 5));
+}
+
+/// Two receivers meet, from when on both know so many words.
+fn meet<S: Seatable + Drop>(
+    rt: &impl Abort,
+    bus: &BusOf<S>,
+    first: &mut TapOf<S>,
+    second: &mut TapOf<S>,
+    words: u64,
+)
+    requires { (first.old.table_id ≡ bus.now.table) × (second.old.table_id ≡ bus.now.table) }
+    ensures { (first.new.table_id ≡ bus.now.table) × (second.new.table_id ≡ bus.now.table) }
+{
+    assert_eq!(rt; first.meet(second, bus), words);
+    assert_eq!(rt; (first.known(), second.known()), (words, words));
+}
+
+/// A sender tells a receiver, which knows so many words from then on.
+fn tells<S: Seatable + Drop>(
+    rt: &impl Abort,
+    bus: &BusOf<S>,
+    sender: &mut SenderOf<S>,
+    tap: &mut TapOf<S>,
+    words: u64,
+)
+    requires { (table_of sender.old ≡ bus.now.table) × (tap.old.table_id ≡ bus.now.table) }
+    ensures { (table_of sender.new ≡ bus.now.table) × (tap.new.table_id ≡ bus.now.table) }
+{
+    assert_eq!(rt; tap.told(sender, bus), words);
+    assert_eq!(rt; tap.known(), words);
+}
+
+/// A message and a close, and what they leave behind.
+fn closes_and_ends<S: Seatable + Drop, R: Abort>(rt: &R, alloc: Global) {
+    let (bus, mut sender, mut first, mut second) = small::<S>(rt, alloc);
+    puts(rt, &mut sender, b"a", Ok(0));
+    goes(rt, &bus, &mut sender, 20, Turn::Own { tenure: 0 });
+    goes(rt, &bus, &mut sender, 20, DELIVERED);
+    closes(rt, &mut sender, Ok(()));
+    goes(rt, &bus, &mut sender, 20, Turn::Own { tenure: 1 });
+    goes(rt, &bus, &mut sender, 20, Turn::Closed);
+    puts(rt, &mut sender, b"b", Err(PutFault::Closed));
+    meet(rt, &bus, &mut first, &mut second, 5);
+    ends_closed(rt, &left(rt, bus, second));
 }
 
 #[test]
@@ -234,16 +276,41 @@ fn ends_with_page_out<S: Seatable + Drop, R: Abort>(rt: &R, alloc: Global) {
         log_words: 65536,
     };
     let (bus, _, mut sender, tap) = pair::<S>(rt, alloc, shape);
-    assert_eq!(rt; sender.put(b"a"), Ok(0));
-    assert_eq!(rt; goes(&bus, &mut sender, 1000), Turn::Own { tenure: 0 });
+    puts(rt, &mut sender, b"a", Ok(0));
+    goes(rt, &bus, &mut sender, 1000, Turn::Own { tenure: 0 });
     drop(sender);
-    let fault = bus.end(tap).err();
-    assert_eq!(rt; fault, Some(EndFault::PageOut));
+    has_page_out(rt, bus, tap);
 }
 
 #[test]
 fn end_with_page_out(rt: HostRuntime) {
     ends_with_page_out::<Apart, HostRuntime>(&rt, rt.alloc());
+}
+
+/// So many items of senders 0 and 1, and so many words.
+fn has_numbers(rt: &impl Abort, ended: &Ended, want: (u64, u64, usize)) {
+    let next = ended.page().next;
+    assert_eq!(rt; (next[0], next[1], ended.log().len()), want);
+}
+
+/// Each takes 400 turns, one after one of the other. Says which of them delivered.
+fn alternate<S: Seatable + Drop>(
+    bus: &BusOf<S>,
+    first: &mut SenderOf<S>,
+    second: &mut SenderOf<S>,
+) -> (bool, bool)
+    requires { (table_of first.old ≡ bus.now.table) × (table_of second.old ≡ bus.now.table) }
+{
+    let (mut first_sent, mut second_sent) = (false, false);
+    for turn in 0..400u32 {
+        if let Turn::Delivered { .. } = first.turn(bus, turn % 3) {
+            first_sent = true;
+        }
+        if let Turn::Delivered { .. } = second.turn(bus, turn % 2) {
+            second_sent = true;
+        }
+    }
+    (first_sent, second_sent)
 }
 
 /// Two senders, of which the first takes one turn for each of the second's.
@@ -256,27 +323,11 @@ fn take_turns<S: Seatable + Drop, R: Abort>(rt: &R, alloc: Global) {
         log_words: 64,
     };
     let (bus, mut first, mut second, tap) = pair::<S>(rt, alloc, shape);
-    assert_eq!(rt; first.put(b"a"), Ok(0));
-    assert_eq!(rt; second.put(b"b"), Ok(0));
-    let (mut first_sent, mut second_sent) = (false, false);
-    for turn in 0..400u32 {
-        if let Turn::Delivered { .. } = first.turn(&bus, turn % 3) {
-            first_sent = true;
-        }
-        if let Turn::Delivered { .. } = second.turn(&bus, turn % 2) {
-            second_sent = true;
-        }
-    }
-    assert_eq!(rt; (first_sent, second_sent), (true, true));
-    let ended = bus.end(tap).expect(rt, "the page is home");
-    assert_eq!(rt;
-        (
-            ended.page().next[0],
-            ended.page().next[1],
-            ended.log().len()
-        ),
-        (1, 1, 6)
-    );
+    puts(rt, &mut first, b"a", Ok(0));
+    puts(rt, &mut second, b"b", Ok(0));
+    let sent = alternate(&bus, &mut first, &mut second);
+    assert_eq!(rt; sent, (true, true));
+    has_numbers(rt, &left(rt, bus, tap), (1, 1, 6));
 }
 
 #[test]
@@ -317,10 +368,24 @@ fn is_sent<S: Seatable + Drop>(bus: &BusOf<S>, sender: &mut SenderOf<S>) -> bool
     false
 }
 
-/// Two senders, each in a thread of its own.
-fn threads_send<S: Seatable + Drop + Send + Sync, R: Threads + Wait + Abort + AllocGlobal + Sync>(
+/// Each of these two sends three messages in a thread of its own.
+fn both_send<S: Seatable + Drop + Send + Sync, R: Threads>(
     rt: &R,
-) {
+    bus: &BusOf<S>,
+    first: SenderOf<S>,
+    second: SenderOf<S>,
+) -> (bool, bool)
+    requires { (table_of first ≡ bus.now.table) × (table_of second ≡ bus.now.table) }
+{
+    join(
+        rt,
+        move || sends_three(bus, first),
+        move || sends_three(bus, second),
+    )
+}
+
+/// Two senders, each in a thread of its own.
+fn threads_send<S: Seatable + Drop + Send + Sync, R: Threads + Abort + AllocGlobal>(rt: &R) {
     let shape = Shape {
         senders: 2,
         receivers: 1,
@@ -329,22 +394,8 @@ fn threads_send<S: Seatable + Drop + Send + Sync, R: Threads + Wait + Abort + Al
         log_words: 1024,
     };
     let (bus, first, second, tap) = pair::<S>(rt, rt.alloc(), shape);
-    let shared = &bus;
-    let sent = join(
-        rt,
-        move || sends_three(shared, first),
-        move || sends_three(shared, second),
-    );
-    assert_eq!(rt; sent, (true, true));
-    let ended = bus.end(tap).expect(rt, "the page is home");
-    assert_eq!(rt;
-        (
-            ended.page().next[0],
-            ended.page().next[1],
-            ended.log().len()
-        ),
-        (3, 3, 18)
-    );
+    assert_eq!(rt; both_send(rt, &bus, first, second), (true, true));
+    has_numbers(rt, &left(rt, bus, tap), (3, 3, 18));
 }
 
 #[test]
@@ -383,6 +434,17 @@ fn send_at_once<S: Seatable + Drop + Send + Sync, R: Threads + Wait + Abort + Sy
     map_vec(rt, senders, &|sender| sends_twenty(rt, bus, sender)).expect(rt, "memory")
 }
 
+/// Twenty items of each of three senders, each in a tenure of its own.
+fn has_sixty(rt: &impl Abort, ended: &Ended) {
+    for sender in 0..3 {
+        assert_eq!(rt; ended.count(SenderNo(sender)), 20, "of sender {sender}");
+    }
+    let page = ended.page();
+    assert_eq!(rt; page.next, [20, 20, 20, 0, 0, 0, 0, 0]);
+    assert_eq!(rt; (page.ended, page.tenures, page.words), (false, 60, 180));
+    assert_eq!(rt; ended.log().len(), 180);
+}
+
 /// Three senders, each in a thread of its own.
 fn three_at_once<S: Seatable + Drop + Send + Sync, R: Threads + Wait + Abort + AllocGlobal + Sync>(
     rt: &R,
@@ -394,18 +456,11 @@ fn three_at_once<S: Seatable + Drop + Send + Sync, R: Threads + Wait + Abort + A
         rows: 60,
         log_words: 1024,
     };
-    let (bus, senders, mut taps) = BusOf::<S>::new(rt.alloc(), shape).expect(rt, "memory");
-    let tap = taps.pop().expect(rt, "a receiver");
+    let (bus, senders, mut taps) = made::<S>(rt, rt.alloc(), shape);
+    let tap = last_tap(rt, &bus, &mut taps);
     let sent = send_at_once(rt, &bus, senders);
     assert_eq!(rt; sent.as_slice(), [20, 20, 20].as_slice());
-    let ended = bus.end(tap).expect(rt, "the page is home");
-    for sender in 0..3 {
-        assert_eq!(rt; ended.count(SenderNo(sender)), 20, "of sender {sender}");
-    }
-    let page = ended.page();
-    assert_eq!(rt; page.next, [20, 20, 20, 0, 0, 0, 0, 0]);
-    assert_eq!(rt; (page.ended, page.tenures, page.words), (false, 60, 180));
-    assert_eq!(rt; ended.log().len(), 180);
+    has_sixty(rt, &left(rt, bus, tap));
 }
 
 #[test]
@@ -465,6 +520,21 @@ fn delivered(tenure: u64, number: u64) -> Turn {
     }
 }
 
+/// The tenure is this sender's, which delivers the one message that waits, of this number.
+fn delivers<S: Seatable + Drop>(
+    rt: &impl Abort,
+    bus: &BusOf<S>,
+    sender: &mut SenderOf<S>,
+    tenure: u64,
+    number: u64,
+)
+    requires { table_of sender.old ≡ bus.now.table }
+    ensures { table_of sender.new ≡ bus.now.table }
+{
+    ends_in(rt, bus, sender, 99, Turn::Own { tenure });
+    ends_in(rt, bus, sender, 99, delivered(tenure, number));
+}
+
 /// Tenure 0 is lost to this sender.
 fn lost(owner: u8) -> Turn {
     Turn::Lost {
@@ -473,60 +543,33 @@ fn lost(owner: u8) -> Turn {
     }
 }
 
-/// Takes the last sender off.
-fn last_of<S: Seatable + Drop>(
-    rt: &impl Abort,
-    bus: &BusOf<S>,
-    senders: &mut Vec<SenderOf<S>>,
-) -> SenderOf<S>
-    requires { All (λ s. table_of s ≡ bus.now.table) senders.old.items }
-    ensures sender { table_of result ≡ bus.now.table }
-    ensures rest { All (λ s. table_of s ≡ bus.now.table) senders.new.items }
-{
-    let _ = bus;
-    senders.pop().expect(rt, "a sender")
-}
-
-/// A bus of five senders with one tenure, its senders 1 and 4, and a receiver.
-fn one_and_four<S: Seatable + Drop>(
-    rt: &impl Abort,
-    alloc: Global,
-) -> (BusOf<S>, SenderOf<S>, SenderOf<S>, TapOf<S>)
-    ensures senders { (table_of result.1 ≡ result.0.table)
-        × (table_of result.2 ≡ result.0.table) }
-    ensures tap { result.3.table_id ≡ result.0.table }
-{
-    let shape = Shape {
-        senders: 5,
-        receivers: 1,
-        rows: 1,
-        ..SMALL
-    };
-    let (bus, mut senders, mut taps) = BusOf::new(alloc, shape).expect(rt, "memory");
-    let tap = taps.pop().expect(rt, "a receiver");
-    let four = last_of(rt, &bus, &mut senders);
-    drop(last_of(rt, &bus, &mut senders));
-    drop(last_of(rt, &bus, &mut senders));
-    let one = last_of(rt, &bus, &mut senders);
-    (bus, one, four, tap)
-}
-
 /// A candidate changes while it is voted on.
 fn changes_candidate<S: Seatable + Drop, R: Abort + AllocGlobal>(rt: &R) {
     let (bus, mut one, mut four, tap) = one_and_four::<S>(rt, rt.alloc());
     assert_eq!(rt; (one.number(), four.number()), (SenderNo(1), SenderNo(4)));
-    assert_eq!(rt; (one.put(b"a"), four.put(b"b")), (Ok(0), Ok(0)));
+    puts(rt, &mut one, b"a", Ok(0));
+    puts(rt, &mut four, b"b", Ok(0));
     ends_in(rt, &bus, &mut four, 14, Turn::Going);
     ends_in(rt, &bus, &mut one, 99, lost(4));
-    ends_in(rt, &bus, &mut four, 99, Turn::Own { tenure: 0 });
-    ends_in(rt, &bus, &mut four, 99, delivered(0, 0));
-    let ended = bus.end(tap).expect(rt, "the page is home");
+    delivers(rt, &bus, &mut four, 0, 0);
+    let ended = left(rt, bus, tap);
     leaves(rt, &ended, 5, &[item(rt, 4, 0, b'b')], &[(0, SenderNo(4))]);
 }
 
 #[test]
 fn candidate_changes(rt: HostRuntime) {
     changes_candidate::<Apart, HostRuntime>(&rt);
+}
+
+/// Two items of sender 0, and then one of sender 1.
+fn leaves_three<R: Abort + AllocGlobal>(rt: &R, ended: &Ended) {
+    let items = [
+        item(rt, 0, 0, b'a'),
+        item(rt, 0, 1, b'c'),
+        item(rt, 1, 0, b'b'),
+    ];
+    let owners = [(0, SenderNo(0)), (1, SenderNo(0)), (2, SenderNo(1))];
+    leaves(rt, ended, 2, &items, &owners);
 }
 
 /// A sender that comes late to an old tenure.
@@ -538,24 +581,15 @@ fn comes_late<S: Seatable + Drop, R: Abort + AllocGlobal>(rt: &R) {
         ..SMALL
     };
     let (bus, mut zero, mut one, tap) = pair::<S>(rt, rt.alloc(), shape);
-    assert_eq!(rt; (zero.put(b"a"), one.put(b"b")), (Ok(0), Ok(0)));
+    puts(rt, &mut zero, b"a", Ok(0));
+    puts(rt, &mut one, b"b", Ok(0));
     ends_in(rt, &bus, &mut one, 1, Turn::Going);
-    ends_in(rt, &bus, &mut zero, 99, Turn::Own { tenure: 0 });
-    ends_in(rt, &bus, &mut zero, 99, delivered(0, 0));
-    assert_eq!(rt; zero.put(b"c"), Ok(1));
-    ends_in(rt, &bus, &mut zero, 99, Turn::Own { tenure: 1 });
-    ends_in(rt, &bus, &mut zero, 99, delivered(1, 1));
+    delivers(rt, &bus, &mut zero, 0, 0);
+    puts(rt, &mut zero, b"c", Ok(1));
+    delivers(rt, &bus, &mut zero, 1, 1);
     ends_in(rt, &bus, &mut one, 99, lost(0));
-    ends_in(rt, &bus, &mut one, 99, Turn::Own { tenure: 2 });
-    ends_in(rt, &bus, &mut one, 99, delivered(2, 0));
-    let ended = bus.end(tap).expect(rt, "the page is home");
-    let items = [
-        item(rt, 0, 0, b'a'),
-        item(rt, 0, 1, b'c'),
-        item(rt, 1, 0, b'b'),
-    ];
-    let owners = [(0, SenderNo(0)), (1, SenderNo(0)), (2, SenderNo(1))];
-    leaves(rt, &ended, 2, &items, &owners);
+    delivers(rt, &bus, &mut one, 2, 0);
+    leaves_three(rt, &left(rt, bus, tap));
 }
 
 #[test]

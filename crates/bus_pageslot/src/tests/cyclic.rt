@@ -39,6 +39,12 @@ fn hears_items<S: Seatable + Drop>(
     assert_eq!(rt; items, want);
 }
 
+/// So many items of senders 0 and 1.
+fn has_items(rt: &impl Abort, ended: &Ended, want: (u64, u64)) {
+    let counts = (ended.count(SenderNo(0)), ended.count(SenderNo(1)));
+    assert_eq!(rt; counts, want);
+}
+
 /// Sender 0 holds tenure 1 and waits for sender 1, which visits tenure 0 still.
 const BEHIND: Turn = Turn::Behind {
     tenure: 0,
@@ -48,25 +54,21 @@ const BEHIND: Turn = Turn::Behind {
 /// A holder waits for a sender that visits an old tenure, and goes on once that has seen it.
 fn waits_behind<S: Seatable + Drop, R: Abort>(rt: &R, alloc: Global) {
     let (bus, mut first, mut second, mut tap) = pair::<S>(rt, alloc, TWO_ROWS);
-    assert_eq!(rt; first.put(b"a"), Ok(0));
-    assert_eq!(rt; second.put(b"b"), Ok(0));
+    puts(rt, &mut first, b"a", Ok(0));
+    puts(rt, &mut second, b"b", Ok(0));
     ends_in(rt, &bus, &mut second, 3, Turn::Going);
-    ends_in(rt, &bus, &mut first, 99, Turn::Own { tenure: 0 });
-    ends_in(rt, &bus, &mut first, 99, DELIVERED);
-    assert_eq!(rt; first.put(b"c"), Ok(1));
+    delivers(rt, &bus, &mut first, 0, 0);
+    puts(rt, &mut first, b"c", Ok(1));
     ends_in(rt, &bus, &mut first, 99, Turn::Own { tenure: 1 });
     ends_in(rt, &bus, &mut first, 99, BEHIND);
-    assert_eq!(rt; first.kind(), Some(Kind::ReadPresence));
+    is_due(rt, &first, Kind::ReadPresence);
     ends_in(rt, &bus, &mut first, 1, BEHIND);
-    assert_eq!(rt; second.put(b"late"), Err(PutFault::Busy));
+    puts(rt, &mut second, b"late", Err(PutFault::Busy));
     ends_in(rt, &bus, &mut second, 99, lost(0));
     ends_in(rt, &bus, &mut first, 99, delivered(1, 1));
     hears_items(rt, &bus, &mut tap, 20, 2);
-    let ended = bus.end(tap).expect(rt, "the page at home");
-    assert_eq!(rt;
-        (ended.count(SenderNo(0)), ended.count(SenderNo(1))),
-        (2, 0)
-    );
+    let ended = left(rt, bus, tap);
+    has_items(rt, &ended, (2, 0));
     assert_eq!(rt; ended.page().tenures, 2);
 }
 
@@ -78,22 +80,16 @@ fn holder_waits_behind(rt: HostRuntime) {
 /// The row of tenure 0 is used again in tenure 2.
 fn comes_round<S: Seatable + Drop, R: Abort>(rt: &R, alloc: Global) {
     let (bus, mut first, mut second, tap) = pair::<S>(rt, alloc, TWO_ROWS);
-    assert_eq!(rt; first.put(b"a"), Ok(0));
-    assert_eq!(rt; second.put(b"b"), Ok(0));
+    puts(rt, &mut first, b"a", Ok(0));
+    puts(rt, &mut second, b"b", Ok(0));
     ends_in(rt, &bus, &mut second, 1, Turn::Going);
-    ends_in(rt, &bus, &mut first, 99, Turn::Own { tenure: 0 });
-    ends_in(rt, &bus, &mut first, 99, DELIVERED);
-    assert_eq!(rt; first.put(b"c"), Ok(1));
-    ends_in(rt, &bus, &mut first, 99, Turn::Own { tenure: 1 });
-    ends_in(rt, &bus, &mut first, 99, delivered(1, 1));
+    delivers(rt, &bus, &mut first, 0, 0);
+    puts(rt, &mut first, b"c", Ok(1));
+    delivers(rt, &bus, &mut first, 1, 1);
     ends_in(rt, &bus, &mut second, 99, Turn::Waiting);
-    ends_in(rt, &bus, &mut second, 99, Turn::Own { tenure: 2 });
-    ends_in(rt, &bus, &mut second, 99, delivered(2, 0));
-    let ended = bus.end(tap).expect(rt, "the page at home");
-    assert_eq!(rt;
-        (ended.count(SenderNo(0)), ended.count(SenderNo(1))),
-        (2, 1)
-    );
+    delivers(rt, &bus, &mut second, 2, 0);
+    let ended = left(rt, bus, tap);
+    has_items(rt, &ended, (2, 1));
 }
 
 #[test]
@@ -104,17 +100,16 @@ fn rows_come_round(rt: HostRuntime) {
 /// A holder that waits for a sender which is gone has the page for good.
 fn waits_for_good<S: Seatable + Drop, R: Abort>(rt: &R, alloc: Global) {
     let (bus, mut first, mut second, tap) = pair::<S>(rt, alloc, TWO_ROWS);
-    assert_eq!(rt; second.put(b"b"), Ok(0));
+    puts(rt, &mut second, b"b", Ok(0));
     ends_in(rt, &bus, &mut second, 2, Turn::Going);
     drop(second);
-    assert_eq!(rt; first.put(b"a"), Ok(0));
-    ends_in(rt, &bus, &mut first, 99, Turn::Own { tenure: 0 });
-    ends_in(rt, &bus, &mut first, 99, DELIVERED);
-    assert_eq!(rt; first.put(b"c"), Ok(1));
+    puts(rt, &mut first, b"a", Ok(0));
+    delivers(rt, &bus, &mut first, 0, 0);
+    puts(rt, &mut first, b"c", Ok(1));
     ends_in(rt, &bus, &mut first, 99, Turn::Own { tenure: 1 });
     ends_in(rt, &bus, &mut first, 99, BEHIND);
     ends_in(rt, &bus, &mut first, 99, BEHIND);
-    assert_eq!(rt; bus.end(tap).err(), Some(EndFault::PageOut));
+    has_page_out(rt, bus, tap);
 }
 
 #[test]
@@ -149,6 +144,22 @@ fn sends_each<S: Seatable + Drop>(wait: &impl Wait, bus: &BusOf<S>, mut sender: 
     sent
 }
 
+/// Each of these two sends twenty messages in a thread of its own.
+fn both_send_each<S: Seatable + Drop + Send + Sync, R: Threads + Wait + Sync>(
+    rt: &R,
+    bus: &BusOf<S>,
+    first: SenderOf<S>,
+    second: SenderOf<S>,
+) -> (u32, u32)
+    requires { (table_of first ≡ bus.now.table) × (table_of second ≡ bus.now.table) }
+{
+    join(
+        rt,
+        move || sends_each(rt, bus, first),
+        move || sends_each(rt, bus, second),
+    )
+}
+
 /// Two senders, each in a thread of its own, use two rows again and again.
 fn threads_use_rows_again<
     S: Seatable + Drop + Send + Sync,
@@ -159,18 +170,9 @@ fn threads_use_rows_again<
         ..TWO_ROWS
     };
     let (bus, first, second, tap) = pair::<S>(rt, rt.alloc(), shape);
-    let (wait, shared) = (rt, &bus);
-    let sent = join(
-        rt,
-        move || sends_each(wait, shared, first),
-        move || sends_each(wait, shared, second),
-    );
-    assert_eq!(rt; sent, (20, 20));
-    let ended = bus.end(tap).expect(rt, "the page at home");
-    assert_eq!(rt;
-        (ended.count(SenderNo(0)), ended.count(SenderNo(1))),
-        (20, 20)
-    );
+    assert_eq!(rt; both_send_each(rt, &bus, first, second), (20, 20));
+    let ended = left(rt, bus, tap);
+    has_items(rt, &ended, (20, 20));
     assert!(rt; ended.page().tenures >= 40);
 }
 

@@ -55,7 +55,8 @@ fn voters<S: Seatable + Drop>(
         log_words: 64,
     };
     let (bus, mut zero, mut one, _) = pair::<S>(rt, alloc, shape);
-    assert_eq!(rt; (zero.put(b"a"), one.put(b"b")), (Ok(0), Ok(0)));
+    puts(rt, &mut zero, b"a", Ok(0));
+    puts(rt, &mut one, b"b", Ok(0));
     goes_on(rt, &bus, &mut zero, 2, 0);
     goes_on(rt, &bus, &mut one, 2, 0);
     (bus, zero, one)
@@ -66,9 +67,9 @@ fn voters<S: Seatable + Drop>(
 fn one_before_the_other<S: Seatable + Drop, R: Abort>(rt: &R, alloc: Global) {
     let (bus, mut zero, mut one) = voters::<S>(rt, alloc, 1);
     goes_on(rt, &bus, &mut zero, 4, 0);
-    assert_eq!(rt; zero.kind(), Some(Kind::TakePage));
+    is_due(rt, &zero, Kind::TakePage);
     goes_on(rt, &bus, &mut one, 3, 0);
-    assert_eq!(rt; one.kind(), Some(Kind::Fallback));
+    is_due(rt, &one, Kind::Fallback);
     answers(rt, &bus, &mut one, 0, lost(0));
     answers(rt, &bus, &mut zero, 0, OWN);
 }
@@ -81,8 +82,8 @@ fn by_the_fallback<S: Seatable + Drop, R: Abort>(rt: &R, alloc: Global) {
     goes_on(rt, &bus, &mut one, 2, 0);
     goes_on(rt, &bus, &mut zero, 2, 0);
     goes_on(rt, &bus, &mut one, 3, 0);
-    assert_eq!(rt; one.kind(), Some(Kind::TakePage));
-    assert_eq!(rt; zero.kind(), Some(Kind::Fallback));
+    is_due(rt, &one, Kind::TakePage);
+    is_due(rt, &zero, Kind::Fallback);
     answers(rt, &bus, &mut zero, 0, lost(1));
     answers(rt, &bus, &mut one, 0, OWN);
 }
@@ -99,11 +100,11 @@ fn by_coins_that_disagree<S: Seatable + Drop, R: Abort>(rt: &R, alloc: Global) {
     goes_on(rt, &bus, &mut one, 2, 0);
     goes_on(rt, &bus, &mut zero, 1, 0);
     goes_on(rt, &bus, &mut one, 1, 0);
-    assert_eq!(rt; zero.kind(), Some(Kind::ReadOtherMark));
+    is_due(rt, &zero, Kind::ReadOtherMark);
     goes_on(rt, &bus, &mut zero, 1 + 4 * 2 + 3, 1);
     answers(rt, &bus, &mut zero, 1, lost(1));
     goes_on(rt, &bus, &mut one, 1 + 8 * 2 + 3, 0);
-    assert_eq!(rt; one.kind(), Some(Kind::Fallback));
+    is_due(rt, &one, Kind::Fallback);
     answers(rt, &bus, &mut one, 0, Turn::Going);
     answers(rt, &bus, &mut one, 0, OWN);
 }
@@ -132,7 +133,8 @@ fn claims<S: Seatable + Drop>(
     ensures tap { result.3.table_id ≡ result.0.table }
 {
     let (bus, mut one, mut four, tap) = one_and_four::<S>(rt, alloc);
-    assert_eq!(rt; (one.put(b"a"), four.put(b"b")), (Ok(0), Ok(0)));
+    puts(rt, &mut one, b"a", Ok(0));
+    puts(rt, &mut four, b"b", Ok(0));
     goes_on(rt, &bus, &mut four, 14, 0);
     ends_in(rt, &bus, &mut one, 99, lost(4));
     ends_in(rt, &bus, &mut four, 99, OWN);
@@ -143,9 +145,9 @@ fn claims<S: Seatable + Drop>(
 fn gives_back<S: Seatable + Drop, R: Abort>(rt: &R, alloc: Global) {
     let (bus, _, mut four, tap) = claims::<S>(rt, alloc);
     ends_in(rt, &bus, &mut four, 99, delivered(0, 0));
-    assert_eq!(rt; four.put(b"c"), Ok(1));
+    puts(rt, &mut four, b"c", Ok(1));
     answers(rt, &bus, &mut four, 0, Turn::Spent);
-    let ended = bus.end(tap).expect(rt, "the page is home");
+    let ended = left(rt, bus, tap);
     assert_eq!(rt; ended.page().next, [0, 0, 0, 0, 1, 0, 0, 0]);
     assert_eq!(rt; (ended.page().tenures, ended.page().ended), (1, false));
 }
@@ -154,7 +156,7 @@ fn gives_back<S: Seatable + Drop, R: Abort>(rt: &R, alloc: Global) {
 fn keeps_the_page<S: Seatable + Drop, R: Abort>(rt: &R, alloc: Global) {
     let (bus, _, four, tap) = claims::<S>(rt, alloc);
     drop(four);
-    assert_eq!(rt; bus.end(tap).err(), Some(EndFault::PageOut));
+    has_page_out(rt, bus, tap);
 }
 
 #[test]

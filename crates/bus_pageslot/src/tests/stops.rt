@@ -135,7 +135,8 @@ fn stops_after<S: Seatable + Drop, R: Abort>(rt: &R, alloc: Global, steps: u32, 
         ..SMALL
     };
     let (bus, mut zero, mut one, mut tap) = pair::<S>(rt, alloc, shape);
-    assert_eq!(rt; (zero.put(b"a"), one.put(b"b")), (Ok(0), Ok(0)));
+    puts(rt, &mut zero, b"a", Ok(0));
+    puts(rt, &mut one, b"b", Ok(0));
     stops(rt, &bus, zero, steps);
     for answer in seen.answers {
         ends_in(rt, &bus, &mut one, 99, *answer);
@@ -306,30 +307,6 @@ fn ends_as_told<S: Seatable + Drop>(
     }
 }
 
-/// A bus of three senders and a receiver.
-fn three<S: Seatable + Drop>(
-    rt: &impl Abort,
-    alloc: Global,
-) -> (BusOf<S>, SenderOf<S>, SenderOf<S>, SenderOf<S>, TapOf<S>)
-    ensures senders { (table_of result.1 ≡ result.0.table)
-        × (table_of result.2 ≡ result.0.table) × (table_of result.3 ≡ result.0.table) }
-    ensures tap { result.4.table_id ≡ result.0.table }
-{
-    let shape = Shape {
-        senders: 3,
-        receivers: 1,
-        rounds: 2,
-        rows: 4,
-        log_words: 64,
-    };
-    let (bus, mut senders, mut taps) = BusOf::new(alloc, shape).expect(rt, "memory");
-    let tap = taps.pop().expect(rt, "a receiver");
-    let two = last_of(rt, &bus, &mut senders);
-    let one = last_of(rt, &bus, &mut senders);
-    let zero = last_of(rt, &bus, &mut senders);
-    (bus, zero, one, two, tap)
-}
-
 /// Under this schedule sender 0 stops after so many steps. Says who then has the page at the end;
 /// none where it never takes so many.
 fn plays<S: Seatable + Drop, R: Abort>(
@@ -339,10 +316,9 @@ fn plays<S: Seatable + Drop, R: Abort>(
     steps: u32,
 ) -> Option<Option<SenderNo>> {
     let (bus, mut zero, mut one, mut two, mut tap) = three::<S>(rt, alloc);
-    assert_eq!(rt;
-        (zero.put(b"a"), one.put(b"b"), two.put(b"c")),
-        (Ok(0), Ok(0), Ok(0))
-    );
+    puts(rt, &mut zero, b"a", Ok(0));
+    puts(rt, &mut one, b"b", Ok(0));
+    puts(rt, &mut two, b"c", Ok(0));
     let mut story = Story {
         dice: Pcg32::new(seed, 0),
         elected: [None; 4],
