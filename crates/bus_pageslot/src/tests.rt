@@ -1,7 +1,6 @@
 //! A bus as its callers use it, in one thread and in two.
 
-ghost use Rattle.std.specs.Prelude.{◌≡◌, ◌<◌, All, length};
-ghost use Rattle.bus_pageslot.specs.Rule.{known_in};
+ghost use Rattle.std.specs.Prelude.{◌≡◌, ◌<◌, All};
 ghost use Rattle.bus_pageslot.specs.Seats.{table_of};
 
 mod cyclic;
@@ -69,6 +68,40 @@ fn has<S: Seatable + Drop>(rt: &impl Abort, sender: &SenderOf<S>, pending: u64, 
     assert_eq!(rt; (sender.pending(), sender.next_number()), (pending, next));
 }
 
+/// One turn. Nothing is proved here of its answer, nor of what it did: runs see that.
+fn take_turn<S: Seatable + Drop>(bus: &BusOf<S>, sender: &mut SenderOf<S>, word: u32) -> Turn
+    requires { table_of sender.old ≡ bus.now.table }
+    ensures { table_of sender.new ≡ bus.now.table }
+{
+    sender.turn(bus, word)
+}
+
+/// Turns, at most so many, up to the first answer that is not Going. Their words go from 0 up to
+/// below `words` and round again.
+fn first_answer<S: Seatable + Drop>(
+    bus: &BusOf<S>,
+    sender: &mut SenderOf<S>,
+    most: u32,
+    words: u32,
+) -> Turn
+    requires table { table_of sender.old ≡ bus.now.table }
+    requires words { 0 < words }
+    ensures { table_of sender.new ≡ bus.now.table }
+{
+    for turn in 0..most {
+        let answer = take_turn(bus, sender, turn % words);
+        if !matches!(answer, Turn::Going) {
+            return answer;
+        }
+    }
+    Turn::Going
+}
+
+/// The answer is the one that is wanted.
+fn is_answer(rt: &impl Abort, found: Turn, want: Turn) {
+    assert_eq!(rt; found, want);
+}
+
 /// Turns, each of which is to be answered so.
 fn turns<S: Seatable + Drop>(
     rt: &impl Abort,
@@ -80,7 +113,7 @@ fn turns<S: Seatable + Drop>(
     ensures { table_of sender.new ≡ bus.now.table }
 {
     for (i, turn) in want.iter().enumerate() {
-        let got = sender.turn(bus, 0);
+        let got = take_turn(bus, sender, 0);
         assert_eq!(rt; got, *turn, "turn {i}");
     }
 }
@@ -193,13 +226,7 @@ fn goes<S: Seatable + Drop>(
     requires { table_of sender.old ≡ bus.now.table }
     ensures { table_of sender.new ≡ bus.now.table }
 {
-    let mut answer = Turn::Going;
-    for turn in 0..most {
-        if answer == Turn::Going {
-            answer = sender.turn(bus, turn % 5);
-        }
-    }
-    assert_eq!(rt; answer, want);
+    is_answer(rt, first_answer(bus, sender, most, 5), want);
 }
 
 /// The bus ended with an a and an end mark.
@@ -303,10 +330,10 @@ fn alternate<S: Seatable + Drop>(
 {
     let (mut first_sent, mut second_sent) = (false, false);
     for turn in 0..400u32 {
-        if let Turn::Delivered { .. } = first.turn(bus, turn % 3) {
+        if let Turn::Delivered { .. } = take_turn(bus, first, turn % 3) {
             first_sent = true;
         }
-        if let Turn::Delivered { .. } = second.turn(bus, turn % 2) {
+        if let Turn::Delivered { .. } = take_turn(bus, second, turn % 2) {
             second_sent = true;
         }
     }
@@ -361,7 +388,7 @@ fn is_sent<S: Seatable + Drop>(bus: &BusOf<S>, sender: &mut SenderOf<S>) -> bool
     ensures { table_of sender.new ≡ bus.now.table }
 {
     for turn in 0..10_000_000u32 {
-        if let Turn::Delivered { .. } = sender.turn(bus, turn % 5) {
+        if let Turn::Delivered { .. } = take_turn(bus, sender, turn % 5) {
             return true;
         }
     }
@@ -479,13 +506,7 @@ fn ends_in<S: Seatable + Drop>(
     requires { table_of sender.old ≡ bus.now.table }
     ensures { table_of sender.new ≡ bus.now.table }
 {
-    let mut answer = Turn::Going;
-    for _ in 0..most {
-        if answer == Turn::Going {
-            answer = sender.turn(bus, 0);
-        }
-    }
-    assert_eq!(rt; answer, want);
+    is_answer(rt, first_answer(bus, sender, most, 1), want);
 }
 
 /// Sees the items of an ended bus and the owners of its frames.

@@ -17,7 +17,8 @@ fn goes_on<S: Seatable + Drop>(
     ensures { table_of sender.new ≡ bus.now.table }
 {
     for turn in 0..turns {
-        assert_eq!(rt; sender.turn(bus, word), Turn::Going, "turn {turn}");
+        let answer = take_turn(bus, sender, word);
+        assert!(rt; matches!(answer, Turn::Going), "turn {turn}: {answer:?}");
     }
 }
 
@@ -32,7 +33,7 @@ fn answers<S: Seatable + Drop>(
     requires { table_of sender.old ≡ bus.now.table }
     ensures { table_of sender.new ≡ bus.now.table }
 {
-    assert_eq!(rt; sender.turn(bus, word), want);
+    is_answer(rt, take_turn(bus, sender, word), want);
 }
 
 /// The tenure is this sender's.

@@ -75,7 +75,7 @@ fn stops<S: Seatable + Drop>(rt: &impl Abort, bus: &BusOf<S>, mut sender: Sender
     requires { table_of sender ≡ bus.now.table }
 {
     for _ in 0..steps {
-        sender.turn(bus, 0);
+        take_turn(bus, &mut sender, 0);
     }
     assert_eq!(rt;
         sender.kind().is_none(),
@@ -195,7 +195,7 @@ fn goes_with<S: Seatable + Drop>(
     ensures { table_of sender.new ≡ bus.now.table }
 {
     let me = sender.number();
-    match sender.turn(bus, story.dice.next_u32()) {
+    match take_turn(bus, sender, story.dice.next_u32()) {
         Turn::Own { tenure } => {
             chooses(rt, story, tenure, me);
             assert_eq!(rt; story.holder, None, "another has the page");
