@@ -1,19 +1,20 @@
 //! A bus as its callers use it, in one thread and in two.
 
-ghost use Rattle.std.specs.Prelude.{◌≡◌, ◌<◌, All, length};
-ghost use Rattle.bus_pageslot.specs.Rule.{known_in};
+ghost use Rattle.std.specs.Prelude.{◌≡◌, ◌<◌, All};
 ghost use Rattle.bus_pageslot.specs.Seats.{table_of};
 
 mod cyclic;
 mod elections;
+mod making;
 mod stops;
 
+use self::making::{has_page_out, last_tap, left, made, one_and_four, pair, small, three};
 use super::*;
 use bus_adoptcommit::ThreeWord;
 use bus_batch::{CloseFault, Item, Message, PutFault};
 use bus_deliverylog::read_log;
 use bus_register::{Kind, SenderNo};
-use bus_tenure::Turn;
+use bus_tenure::{SenderCore, Turn};
 use bus_world::{MakeFault, Shape};
 use rand_pcg::Pcg32;
 use std::alloc::Global;
@@ -30,24 +31,101 @@ const SMALL: Shape = Shape {
     log_words: 64,
 };
 
-/// A sender and a receiver over the ratifier at work.
-type One = Sender<ThreeWord>;
+/// A sender of a bus with a row for each tenure, over the ratifier at work. What a test does is
+/// written of any sender and proved once, from what any promises; the test names the sender alone.
+type Apart = SenderCore<ThreeWord>;
 
-type Pass = Tap<ThreeWord>;
+/// Puts a message, which is answered so.
+fn puts<S: Seatable + Drop>(
+    rt: &impl Abort,
+    sender: &mut SenderOf<S>,
+    bytes: &[u8],
+    want: Result<u64, PutFault>,
+)
+    ensures { table_of sender.new ≡ table_of sender.old }
+{
+    assert_eq!(rt; sender.put(bytes), want);
+}
+
+/// Closes, which is answered so.
+fn closes<S: Seatable + Drop>(
+    rt: &impl Abort,
+    sender: &mut SenderOf<S>,
+    want: Result<(), CloseFault>,
+)
+    ensures { table_of sender.new ≡ table_of sender.old }
+{
+    assert_eq!(rt; sender.close(), want);
+}
+
+/// The next step is for this.
+fn is_due<S: Seatable + Drop>(rt: &impl Abort, sender: &SenderOf<S>, want: Kind) {
+    assert_eq!(rt; sender.kind(), Some(want));
+}
+
+/// So many messages wait, and the next one gets this number.
+fn has<S: Seatable + Drop>(rt: &impl Abort, sender: &SenderOf<S>, pending: u64, next: u64) {
+    assert_eq!(rt; (sender.pending(), sender.next_number()), (pending, next));
+}
+
+/// One turn. Nothing is proved here of its answer, nor of what it did: runs see that.
+fn take_turn<S: Seatable + Drop>(bus: &BusOf<S>, sender: &mut SenderOf<S>, word: u32) -> Turn
+    requires { table_of sender.old ≡ bus.now.table }
+    ensures { table_of sender.new ≡ bus.now.table }
+{
+    sender.turn(bus, word)
+}
+
+/// Turns, at most so many, up to the first answer that is not Going. Their words go from 0 up to
+/// below `words` and round again.
+fn first_answer<S: Seatable + Drop>(
+    bus: &BusOf<S>,
+    sender: &mut SenderOf<S>,
+    most: u32,
+    words: u32,
+) -> Turn
+    requires table { table_of sender.old ≡ bus.now.table }
+    requires words { 0 < words }
+    ensures { table_of sender.new ≡ bus.now.table }
+{
+    for turn in 0..most {
+        let answer = take_turn(bus, sender, turn % words);
+        if !matches!(answer, Turn::Going) {
+            return answer;
+        }
+    }
+    Turn::Going
+}
+
+/// The answer is the one that is wanted.
+fn is_answer(rt: &impl Abort, found: Turn, want: Turn) {
+    assert_eq!(rt; found, want);
+}
 
 /// Turns, each of which is to be answered so.
-fn turns(rt: &impl Abort, bus: &Bus<ThreeWord>, sender: &mut One, want: &[Turn])
+fn turns<S: Seatable + Drop>(
+    rt: &impl Abort,
+    bus: &BusOf<S>,
+    sender: &mut SenderOf<S>,
+    want: &[Turn],
+)
     requires { table_of sender.old ≡ bus.now.table }
     ensures { table_of sender.new ≡ bus.now.table }
 {
     for (i, turn) in want.iter().enumerate() {
-        let got = sender.turn(bus, 0);
+        let got = take_turn(bus, sender, 0);
         assert_eq!(rt; got, *turn, "turn {i}");
     }
 }
 
 /// Loads one word below the length.
-fn loads_one(rt: &impl Abort, bus: &Bus<ThreeWord>, tap: &mut Pass, place: u64, want: u64)
+fn loads_one<S: Seatable + Drop>(
+    rt: &impl Abort,
+    bus: &BusOf<S>,
+    tap: &mut TapOf<S>,
+    place: u64,
+    want: u64,
+)
     requires { tap.old.table_id ≡ bus.now.table }
     ensures { tap.new.table_id ≡ bus.now.table }
 {
@@ -57,7 +135,7 @@ fn loads_one(rt: &impl Abort, bus: &Bus<ThreeWord>, tap: &mut Pass, place: u64, 
 }
 
 /// Loads the length, and then the words below it.
-fn loads(rt: &impl Abort, bus: &Bus<ThreeWord>, tap: &mut Pass, want: &[u64])
+fn loads<S: Seatable + Drop>(rt: &impl Abort, bus: &BusOf<S>, tap: &mut TapOf<S>, want: &[u64])
     requires { tap.old.table_id ≡ bus.now.table }
     ensures { tap.new.table_id ≡ bus.now.table }
 {
@@ -67,31 +145,6 @@ fn loads(rt: &impl Abort, bus: &Bus<ThreeWord>, tap: &mut Pass, want: &[u64])
     for (place, word) in want.iter().enumerate() {
         loads_one(rt, bus, tap, place as u64, *word);
     }
-}
-
-/// The small bus with its sender and its receivers.
-fn small(rt: &impl Abort, alloc: Global) -> (Bus<ThreeWord>, One, Pass, Pass)
-    ensures sender { table_of result.1 ≡ result.0.table }
-    ensures taps { (result.2.table_id ≡ result.0.table)
-        × (result.3.table_id ≡ result.0.table) }
-{
-    let (bus, mut senders, mut taps) = Bus::new(alloc, SMALL).expect(rt, "memory");
-    assert_eq!(rt; (senders.len(), taps.len()), (1, 2));
-    let second = taps.pop().expect(rt, "a receiver");
-    let first = taps.pop().expect(rt, "a receiver");
-    (bus, senders.pop().expect(rt, "a sender"), first, second)
-}
-
-/// A bus of two senders and a receiver.
-fn pair(rt: &impl Abort, alloc: Global, shape: Shape) -> (Bus<ThreeWord>, One, One, Pass)
-    ensures senders { (table_of result.1 ≡ result.0.table)
-        × (table_of result.2 ≡ result.0.table) }
-    ensures tap { result.3.table_id ≡ result.0.table }
-{
-    let (bus, mut senders, mut taps) = Bus::new(alloc, shape).expect(rt, "memory");
-    let second = senders.pop().expect(rt, "a sender");
-    let first = senders.pop().expect(rt, "a sender");
-    (bus, first, second, taps.pop().expect(rt, "a receiver"))
 }
 
 /// The words of an a, the first message of sender 0, in tenure 0.
@@ -117,68 +170,67 @@ const DELIVERED: Turn = Turn::Delivered {
     last: 0,
 };
 
+/// A receiver that is told of a message, and one that it meets.
+fn tells_and_meets<S: Seatable + Drop, R: Abort>(rt: &R, alloc: Global) {
+    let (bus, mut sender, mut first, mut second) = small::<S>(rt, alloc);
+    puts(rt, &mut sender, b"a", Ok(0));
+    turns(rt, &bus, &mut sender, &[Turn::Going]);
+    turns(rt, &bus, &mut sender, &TO_LAST_WORD);
+    is_due(rt, &sender, Kind::StoreLength);
+    loads(rt, &bus, &mut first, &[]);
+    assert_eq!(rt; sender.words(), 0);
+    turns(rt, &bus, &mut sender, &[Turn::Going]);
+    assert_eq!(rt; sender.words(), 3);
+    loads(rt, &bus, &mut first, &WORDS);
+    assert_eq!(rt; (first.known(), second.known()), (3, 0));
+    tells(rt, &bus, &mut sender, &mut second, 3);
+    turns(rt, &bus, &mut sender, &[DELIVERED, Turn::Idle]);
+    has(rt, &sender, 0, 1);
+    meet(rt, &bus, &mut first, &mut second, 3);
+}
+
 #[test]
 fn told_and_meet(rt: HostRuntime) {
-    let (bus, mut sender, mut first, mut second) = small(&rt, rt.alloc());
-    assert_eq!(&rt; sender.put(b"a"), Ok(0));
-    turns(&rt, &bus, &mut sender, &[Turn::Going]);
-    turns(&rt, &bus, &mut sender, &TO_LAST_WORD);
-    assert_eq!(&rt; sender.kind(), Some(Kind::StoreLength));
-    loads(&rt, &bus, &mut first, &[]);
-    assert_eq!(&rt; sender.words(), 0);
-    turns(&rt, &bus, &mut sender, &[Turn::Going]);
-    assert_eq!(&rt; sender.words(), 3);
-    loads(&rt, &bus, &mut first, &WORDS);
-    assert_eq!(&rt; (first.known(), second.known()), (3, 0));
-    assert_eq!(&rt; second.told(&mut sender, &bus), 3);
-    assert_eq!(&rt; second.known(), 3);
-    turns(&rt, &bus, &mut sender, &[DELIVERED, Turn::Idle]);
-    assert_eq!(&rt; (sender.pending(), sender.next_number()), (0, 1));
-    assert_eq!(&rt; first.meet(&mut second, &bus), 3);
+    tells_and_meets::<Apart, HostRuntime>(&rt, rt.alloc());
+}
+
+/// In a tenure nothing more is put, and no close.
+fn is_busy<S: Seatable + Drop, R: Abort>(rt: &R, alloc: Global) {
+    let (bus, mut sender, _, _) = small::<S>(rt, alloc);
+    assert_eq!(rt; sender.number(), SenderNo(0));
+    turns(rt, &bus, &mut sender, &[Turn::Idle]);
+    puts(rt, &mut sender, b"a", Ok(0));
+    assert_eq!(rt; sender.pending(), 1);
+    is_due(rt, &sender, Kind::LoadStage);
+    turns(rt, &bus, &mut sender, &[Turn::Going]);
+    is_due(rt, &sender, Kind::Announce);
+    assert_eq!(rt; (sender.turns_left(), sender.wants_word()), (2, false));
+    puts(rt, &mut sender, b"b", Err(PutFault::Busy));
+    closes(rt, &mut sender, Err(CloseFault::Busy));
 }
 
 #[test]
 fn busy_in_a_tenure(rt: HostRuntime) {
-    let (bus, mut sender, _, _) = small(&rt, rt.alloc());
-    assert_eq!(&rt; sender.number(), SenderNo(0));
-    turns(&rt, &bus, &mut sender, &[Turn::Idle]);
-    assert_eq!(&rt; sender.put(b"a"), Ok(0));
-    assert_eq!(&rt; sender.pending(), 1);
-    assert_eq!(&rt; sender.kind(), Some(Kind::LoadStage));
-    turns(&rt, &bus, &mut sender, &[Turn::Going]);
-    assert_eq!(&rt; sender.kind(), Some(Kind::Announce));
-    assert_eq!(&rt; (sender.turns_left(), sender.wants_word()), (2, false));
-    assert_eq!(&rt; sender.put(b"b"), Err(PutFault::Busy));
-    assert_eq!(&rt; sender.close(), Err(CloseFault::Busy));
+    is_busy::<Apart, HostRuntime>(&rt, rt.alloc());
 }
 
-/// Turns until the answer is not Going, at most so often.
-fn goes(bus: &Bus<ThreeWord>, sender: &mut One, most: u32) -> Turn
+/// Turns up to the first that is not going, at most so many, and sees what it answers. The words
+/// of its votes go from 0 to 4 and round again.
+fn goes<S: Seatable + Drop>(
+    rt: &impl Abort,
+    bus: &BusOf<S>,
+    sender: &mut SenderOf<S>,
+    most: u32,
+    want: Turn,
+)
     requires { table_of sender.old ≡ bus.now.table }
     ensures { table_of sender.new ≡ bus.now.table }
 {
-    let mut answer = Turn::Going;
-    for turn in 0..most {
-        if answer == Turn::Going {
-            answer = sender.turn(bus, turn % 5);
-        }
-    }
-    answer
+    is_answer(rt, first_answer(bus, sender, most, 5), want);
 }
 
-#[test]
-fn closed_and_ended(rt: HostRuntime) {
-    let (bus, mut sender, mut first, mut second) = small(&rt, rt.alloc());
-    assert_eq!(&rt; sender.put(b"a"), Ok(0));
-    assert_eq!(&rt; goes(&bus, &mut sender, 20), Turn::Own { tenure: 0 });
-    assert_eq!(&rt; goes(&bus, &mut sender, 20), DELIVERED);
-    assert_eq!(&rt; sender.close(), Ok(()));
-    assert_eq!(&rt; goes(&bus, &mut sender, 20), Turn::Own { tenure: 1 });
-    assert_eq!(&rt; goes(&bus, &mut sender, 20), Turn::Closed);
-    assert_eq!(&rt; sender.put(b"b"), Err(PutFault::Closed));
-    assert_eq!(&rt; first.meet(&mut second, &bus), 5);
-    assert_eq!(&rt; (first.known(), second.known()), (5, 5));
-    let ended = bus.end(second).expect(&rt, "the page is home");
+/// The bus ended with an a and an end mark.
+fn ends_closed(rt: &impl Abort, ended: &Ended) {
     let log = [
         WORDS[0],
         WORDS[1],
@@ -186,14 +238,63 @@ fn closed_and_ended(rt: HostRuntime) {
         0x4000_0100_0000_0001,
         0xC000_0000_0000_0000,
     ];
-    assert_eq!(&rt; ended.log(), log.as_slice());
+    assert_eq!(rt; ended.log(), log.as_slice());
     let page = *ended.page();
-    assert_eq!(&rt; (page.next[0], page.next[1]), (1, 0));
-    assert_eq!(&rt; (page.ended, page.tenures, page.words), (true, 2, 5));
+    assert_eq!(rt; (page.next[0], page.next[1]), (1, 0));
+    assert_eq!(rt; (page.ended, page.tenures, page.words), (true, 2, 5));
+}
+
+/// Two receivers meet, from when on both know so many words.
+fn meet<S: Seatable + Drop>(
+    rt: &impl Abort,
+    bus: &BusOf<S>,
+    first: &mut TapOf<S>,
+    second: &mut TapOf<S>,
+    words: u64,
+)
+    requires { (first.old.table_id ≡ bus.now.table) × (second.old.table_id ≡ bus.now.table) }
+    ensures { (first.new.table_id ≡ bus.now.table) × (second.new.table_id ≡ bus.now.table) }
+{
+    assert_eq!(rt; first.meet(second, bus), words);
+    assert_eq!(rt; (first.known(), second.known()), (words, words));
+}
+
+/// A sender tells a receiver, which knows so many words from then on.
+fn tells<S: Seatable + Drop>(
+    rt: &impl Abort,
+    bus: &BusOf<S>,
+    sender: &mut SenderOf<S>,
+    tap: &mut TapOf<S>,
+    words: u64,
+)
+    requires { (table_of sender.old ≡ bus.now.table) × (tap.old.table_id ≡ bus.now.table) }
+    ensures { (table_of sender.new ≡ bus.now.table) × (tap.new.table_id ≡ bus.now.table) }
+{
+    assert_eq!(rt; tap.told(sender, bus), words);
+    assert_eq!(rt; tap.known(), words);
+}
+
+/// A message and a close, and what they leave behind.
+fn closes_and_ends<S: Seatable + Drop, R: Abort>(rt: &R, alloc: Global) {
+    let (bus, mut sender, mut first, mut second) = small::<S>(rt, alloc);
+    puts(rt, &mut sender, b"a", Ok(0));
+    goes(rt, &bus, &mut sender, 20, Turn::Own { tenure: 0 });
+    goes(rt, &bus, &mut sender, 20, DELIVERED);
+    closes(rt, &mut sender, Ok(()));
+    goes(rt, &bus, &mut sender, 20, Turn::Own { tenure: 1 });
+    goes(rt, &bus, &mut sender, 20, Turn::Closed);
+    puts(rt, &mut sender, b"b", Err(PutFault::Closed));
+    meet(rt, &bus, &mut first, &mut second, 5);
+    ends_closed(rt, &left(rt, bus, second));
 }
 
 #[test]
-fn end_with_page_out(rt: HostRuntime) {
+fn closed_and_ended(rt: HostRuntime) {
+    closes_and_ends::<Apart, HostRuntime>(&rt, rt.alloc());
+}
+
+/// A sender is dropped with the page.
+fn ends_with_page_out<S: Seatable + Drop, R: Abort>(rt: &R, alloc: Global) {
     let shape = Shape {
         senders: 2,
         receivers: 1,
@@ -201,17 +302,46 @@ fn end_with_page_out(rt: HostRuntime) {
         rows: 256,
         log_words: 65536,
     };
-    let (bus, _, mut sender, tap) = pair(&rt, rt.alloc(), shape);
-    assert_eq!(&rt; sender.put(b"a"), Ok(0));
-    assert_eq!(&rt; goes(&bus, &mut sender, 1000), Turn::Own { tenure: 0 });
+    let (bus, _, mut sender, tap) = pair::<S>(rt, alloc, shape);
+    puts(rt, &mut sender, b"a", Ok(0));
+    goes(rt, &bus, &mut sender, 1000, Turn::Own { tenure: 0 });
     drop(sender);
-    let fault = bus.end(tap).err();
-    assert_eq!(&rt; fault, Some(EndFault::PageOut));
+    has_page_out(rt, bus, tap);
+}
+
+#[test]
+fn end_with_page_out(rt: HostRuntime) {
+    ends_with_page_out::<Apart, HostRuntime>(&rt, rt.alloc());
+}
+
+/// So many items of senders 0 and 1, and so many words.
+fn has_numbers(rt: &impl Abort, ended: &Ended, want: (u64, u64, usize)) {
+    let next = ended.page().next;
+    assert_eq!(rt; (next[0], next[1], ended.log().len()), want);
+}
+
+/// Each takes 400 turns, one after one of the other. Says which of them delivered.
+fn alternate<S: Seatable + Drop>(
+    bus: &BusOf<S>,
+    first: &mut SenderOf<S>,
+    second: &mut SenderOf<S>,
+) -> (bool, bool)
+    requires { (table_of first.old ≡ bus.now.table) × (table_of second.old ≡ bus.now.table) }
+{
+    let (mut first_sent, mut second_sent) = (false, false);
+    for turn in 0..400u32 {
+        if let Turn::Delivered { .. } = take_turn(bus, first, turn % 3) {
+            first_sent = true;
+        }
+        if let Turn::Delivered { .. } = take_turn(bus, second, turn % 2) {
+            second_sent = true;
+        }
+    }
+    (first_sent, second_sent)
 }
 
 /// Two senders, of which the first takes one turn for each of the second's.
-#[test]
-fn two_senders_take_turns(rt: HostRuntime) {
+fn take_turns<S: Seatable + Drop, R: Abort>(rt: &R, alloc: Global) {
     let shape = Shape {
         senders: 2,
         receivers: 1,
@@ -219,32 +349,21 @@ fn two_senders_take_turns(rt: HostRuntime) {
         rows: 4,
         log_words: 64,
     };
-    let (bus, mut first, mut second, tap) = pair(&rt, rt.alloc(), shape);
-    assert_eq!(&rt; first.put(b"a"), Ok(0));
-    assert_eq!(&rt; second.put(b"b"), Ok(0));
-    let (mut first_sent, mut second_sent) = (false, false);
-    for turn in 0..400u32 {
-        if let Turn::Delivered { .. } = first.turn(&bus, turn % 3) {
-            first_sent = true;
-        }
-        if let Turn::Delivered { .. } = second.turn(&bus, turn % 2) {
-            second_sent = true;
-        }
-    }
-    assert_eq!(&rt; (first_sent, second_sent), (true, true));
-    let ended = bus.end(tap).expect(&rt, "the page is home");
-    assert_eq!(&rt;
-        (
-            ended.page().next[0],
-            ended.page().next[1],
-            ended.log().len()
-        ),
-        (1, 1, 6)
-    );
+    let (bus, mut first, mut second, tap) = pair::<S>(rt, alloc, shape);
+    puts(rt, &mut first, b"a", Ok(0));
+    puts(rt, &mut second, b"b", Ok(0));
+    let sent = alternate(&bus, &mut first, &mut second);
+    assert_eq!(rt; sent, (true, true));
+    has_numbers(rt, &left(rt, bus, tap), (1, 1, 6));
+}
+
+#[test]
+fn two_senders_take_turns(rt: HostRuntime) {
+    take_turns::<Apart, HostRuntime>(&rt, rt.alloc());
 }
 
 /// Sends three messages, one after another, and says whether all were delivered.
-fn sends_three(bus: &Bus<ThreeWord>, mut sender: One) -> bool
+fn sends_three<S: Seatable + Drop>(bus: &BusOf<S>, mut sender: SenderOf<S>) -> bool
     requires { table_of sender ≡ bus.now.table }
 {
     let first = sends(bus, &mut sender);
@@ -254,7 +373,7 @@ fn sends_three(bus: &Bus<ThreeWord>, mut sender: One) -> bool
 }
 
 /// Sends one message, and says whether it was delivered.
-fn sends(bus: &Bus<ThreeWord>, sender: &mut One) -> bool
+fn sends<S: Seatable + Drop>(bus: &BusOf<S>, sender: &mut SenderOf<S>) -> bool
     requires { table_of sender.old ≡ bus.now.table }
     ensures { table_of sender.new ≡ bus.now.table }
 {
@@ -264,20 +383,36 @@ fn sends(bus: &Bus<ThreeWord>, sender: &mut One) -> bool
 }
 
 /// Turns until what waits is delivered.
-fn is_sent(bus: &Bus<ThreeWord>, sender: &mut One) -> bool
+fn is_sent<S: Seatable + Drop>(bus: &BusOf<S>, sender: &mut SenderOf<S>) -> bool
     requires { table_of sender.old ≡ bus.now.table }
     ensures { table_of sender.new ≡ bus.now.table }
 {
     for turn in 0..10_000_000u32 {
-        if let Turn::Delivered { .. } = sender.turn(bus, turn % 5) {
+        if let Turn::Delivered { .. } = take_turn(bus, sender, turn % 5) {
             return true;
         }
     }
     false
 }
 
-#[test]
-fn two_threads_send(rt: HostRuntime) {
+/// Each of these two sends three messages in a thread of its own.
+fn both_send<S: Seatable + Drop + Send + Sync, R: Threads>(
+    rt: &R,
+    bus: &BusOf<S>,
+    first: SenderOf<S>,
+    second: SenderOf<S>,
+) -> (bool, bool)
+    requires { (table_of first ≡ bus.now.table) × (table_of second ≡ bus.now.table) }
+{
+    join(
+        rt,
+        move || sends_three(bus, first),
+        move || sends_three(bus, second),
+    )
+}
+
+/// Two senders, each in a thread of its own.
+fn threads_send<S: Seatable + Drop + Send + Sync, R: Threads + Abort + AllocGlobal>(rt: &R) {
     let shape = Shape {
         senders: 2,
         receivers: 1,
@@ -285,27 +420,22 @@ fn two_threads_send(rt: HostRuntime) {
         rows: 256,
         log_words: 1024,
     };
-    let (bus, first, second, tap) = pair(&rt, rt.alloc(), shape);
-    let shared = &bus;
-    let sent = join(
-        &rt,
-        move || sends_three(shared, first),
-        move || sends_three(shared, second),
-    );
-    assert_eq!(&rt; sent, (true, true));
-    let ended = bus.end(tap).expect(&rt, "the page is home");
-    assert_eq!(&rt;
-        (
-            ended.page().next[0],
-            ended.page().next[1],
-            ended.log().len()
-        ),
-        (3, 3, 18)
-    );
+    let (bus, first, second, tap) = pair::<S>(rt, rt.alloc(), shape);
+    assert_eq!(rt; both_send(rt, &bus, first, second), (true, true));
+    has_numbers(rt, &left(rt, bus, tap), (3, 3, 18));
+}
+
+#[test]
+fn two_threads_send(rt: HostRuntime) {
+    threads_send::<Apart, HostRuntime>(&rt);
 }
 
 /// Sends 20 messages, each in a tenure of its own, and says how many were delivered.
-fn sends_twenty<W: Wait>(wait: &W, bus: &Bus<ThreeWord>, mut sender: One) -> u32
+fn sends_twenty<S: Seatable + Drop>(
+    wait: &impl Wait,
+    bus: &BusOf<S>,
+    mut sender: SenderOf<S>,
+) -> u32
     requires { table_of sender ≡ bus.now.table }
 {
     let mut rng = Pcg32::new(0, u64::from(sender.number().0));
@@ -321,18 +451,31 @@ fn sends_twenty<W: Wait>(wait: &W, bus: &Bus<ThreeWord>, mut sender: One) -> u32
 }
 
 /// Each of these senders sends so in a thread of its own.
-fn send_at_once<R: Threads + Wait + Abort + Sync>(
+fn send_at_once<S: Seatable + Drop + Send + Sync, R: Threads + Wait + Abort + Sync>(
     rt: &R,
-    bus: &Bus<ThreeWord>,
-    senders: Vec<One>,
+    bus: &BusOf<S>,
+    senders: Vec<SenderOf<S>>,
 ) -> Vec<u32>
     requires { All (λ s. table_of s ≡ bus.now.table) senders.items }
 {
     map_vec(rt, senders, &|sender| sends_twenty(rt, bus, sender)).expect(rt, "memory")
 }
 
-#[test]
-fn three_threads(rt: HostRuntime) {
+/// Twenty items of each of three senders, each in a tenure of its own.
+fn has_sixty(rt: &impl Abort, ended: &Ended) {
+    for sender in 0..3 {
+        assert_eq!(rt; ended.count(SenderNo(sender)), 20, "of sender {sender}");
+    }
+    let page = ended.page();
+    assert_eq!(rt; page.next, [20, 20, 20, 0, 0, 0, 0, 0]);
+    assert_eq!(rt; (page.ended, page.tenures, page.words), (false, 60, 180));
+    assert_eq!(rt; ended.log().len(), 180);
+}
+
+/// Three senders, each in a thread of its own.
+fn three_at_once<S: Seatable + Drop + Send + Sync, R: Threads + Wait + Abort + AllocGlobal + Sync>(
+    rt: &R,
+) {
     let shape = Shape {
         senders: 3,
         receivers: 1,
@@ -340,32 +483,30 @@ fn three_threads(rt: HostRuntime) {
         rows: 60,
         log_words: 1024,
     };
-    let (bus, senders, mut taps) = Bus::new(rt.alloc(), shape).expect(&rt, "memory");
-    let tap = taps.pop().expect(&rt, "a receiver");
-    let sent = send_at_once(&rt, &bus, senders);
-    assert_eq!(&rt; sent.as_slice(), [20, 20, 20].as_slice());
-    let ended = bus.end(tap).expect(&rt, "the page is home");
-    for sender in 0..3 {
-        assert_eq!(&rt; ended.count(SenderNo(sender)), 20, "of sender {sender}");
-    }
-    let page = ended.page();
-    assert_eq!(&rt; page.next, [20, 20, 20, 0, 0, 0, 0, 0]);
-    assert_eq!(&rt; (page.ended, page.tenures, page.words), (false, 60, 180));
-    assert_eq!(&rt; ended.log().len(), 180);
+    let (bus, senders, mut taps) = made::<S>(rt, rt.alloc(), shape);
+    let tap = last_tap(rt, &bus, &mut taps);
+    let sent = send_at_once(rt, &bus, senders);
+    assert_eq!(rt; sent.as_slice(), [20, 20, 20].as_slice());
+    has_sixty(rt, &left(rt, bus, tap));
+}
+
+#[test]
+fn three_threads(rt: HostRuntime) {
+    three_at_once::<Apart, HostRuntime>(&rt);
 }
 
 /// Turns at word 0 up to the first that is not going, at most so many, and sees what it answers.
-fn ends_in(rt: &impl Abort, bus: &Bus<ThreeWord>, sender: &mut One, most: u32, want: Turn)
+fn ends_in<S: Seatable + Drop>(
+    rt: &impl Abort,
+    bus: &BusOf<S>,
+    sender: &mut SenderOf<S>,
+    most: u32,
+    want: Turn,
+)
     requires { table_of sender.old ≡ bus.now.table }
     ensures { table_of sender.new ≡ bus.now.table }
 {
-    let mut answer = Turn::Going;
-    for _ in 0..most {
-        if answer == Turn::Going {
-            answer = sender.turn(bus, 0);
-        }
-    }
-    assert_eq!(rt; answer, want);
+    is_answer(rt, first_answer(bus, sender, most, 1), want);
 }
 
 /// Sees the items of an ended bus and the owners of its frames.
@@ -400,6 +541,21 @@ fn delivered(tenure: u64, number: u64) -> Turn {
     }
 }
 
+/// The tenure is this sender's, which delivers the one message that waits, of this number.
+fn delivers<S: Seatable + Drop>(
+    rt: &impl Abort,
+    bus: &BusOf<S>,
+    sender: &mut SenderOf<S>,
+    tenure: u64,
+    number: u64,
+)
+    requires { table_of sender.old ≡ bus.now.table }
+    ensures { table_of sender.new ≡ bus.now.table }
+{
+    ends_in(rt, bus, sender, 99, Turn::Own { tenure });
+    ends_in(rt, bus, sender, 99, delivered(tenure, number));
+}
+
 /// Tenure 0 is lost to this sender.
 fn lost(owner: u8) -> Turn {
     Turn::Lost {
@@ -408,91 +564,76 @@ fn lost(owner: u8) -> Turn {
     }
 }
 
-/// Takes the last sender off.
-fn last_of(rt: &impl Abort, bus: &Bus<ThreeWord>, senders: &mut Vec<One>) -> One
-    requires { All (λ s. table_of s ≡ bus.now.table) senders.old.items }
-    ensures sender { table_of result ≡ bus.now.table }
-    ensures rest { All (λ s. table_of s ≡ bus.now.table) senders.new.items }
-{
-    let _ = bus;
-    senders.pop().expect(rt, "a sender")
-}
-
-/// A bus of five senders with one tenure, its senders 1 and 4, and a receiver.
-fn one_and_four(rt: &impl Abort, alloc: Global) -> (Bus<ThreeWord>, One, One, Pass)
-    ensures senders { (table_of result.1 ≡ result.0.table)
-        × (table_of result.2 ≡ result.0.table) }
-    ensures tap { result.3.table_id ≡ result.0.table }
-{
-    let shape = Shape {
-        senders: 5,
-        receivers: 1,
-        rows: 1,
-        ..SMALL
-    };
-    let (bus, mut senders, mut taps) = Bus::new(alloc, shape).expect(rt, "memory");
-    let tap = taps.pop().expect(rt, "a receiver");
-    let four = last_of(rt, &bus, &mut senders);
-    drop(last_of(rt, &bus, &mut senders));
-    drop(last_of(rt, &bus, &mut senders));
-    let one = last_of(rt, &bus, &mut senders);
-    (bus, one, four, tap)
+/// A candidate changes while it is voted on.
+fn changes_candidate<S: Seatable + Drop, R: Abort + AllocGlobal>(rt: &R) {
+    let (bus, mut one, mut four, tap) = one_and_four::<S>(rt, rt.alloc());
+    assert_eq!(rt; (one.number(), four.number()), (SenderNo(1), SenderNo(4)));
+    puts(rt, &mut one, b"a", Ok(0));
+    puts(rt, &mut four, b"b", Ok(0));
+    ends_in(rt, &bus, &mut four, 14, Turn::Going);
+    ends_in(rt, &bus, &mut one, 99, lost(4));
+    delivers(rt, &bus, &mut four, 0, 0);
+    let ended = left(rt, bus, tap);
+    leaves(rt, &ended, 5, &[item(rt, 4, 0, b'b')], &[(0, SenderNo(4))]);
 }
 
 #[test]
 fn candidate_changes(rt: HostRuntime) {
-    let (bus, mut one, mut four, tap) = one_and_four(&rt, rt.alloc());
-    assert_eq!(&rt; (one.number(), four.number()), (SenderNo(1), SenderNo(4)));
-    assert_eq!(&rt; (one.put(b"a"), four.put(b"b")), (Ok(0), Ok(0)));
-    ends_in(&rt, &bus, &mut four, 14, Turn::Going);
-    ends_in(&rt, &bus, &mut one, 99, lost(4));
-    ends_in(&rt, &bus, &mut four, 99, Turn::Own { tenure: 0 });
-    ends_in(&rt, &bus, &mut four, 99, delivered(0, 0));
-    let ended = bus.end(tap).expect(&rt, "the page is home");
-    leaves(
-        &rt,
-        &ended,
-        5,
-        &[item(&rt, 4, 0, b'b')],
-        &[(0, SenderNo(4))],
-    );
+    changes_candidate::<Apart, HostRuntime>(&rt);
 }
 
-#[test]
-fn late_to_an_old_tenure(rt: HostRuntime) {
+/// Two items of sender 0, and then one of sender 1.
+fn leaves_three<R: Abort + AllocGlobal>(rt: &R, ended: &Ended) {
+    let items = [
+        item(rt, 0, 0, b'a'),
+        item(rt, 0, 1, b'c'),
+        item(rt, 1, 0, b'b'),
+    ];
+    let owners = [(0, SenderNo(0)), (1, SenderNo(0)), (2, SenderNo(1))];
+    leaves(rt, ended, 2, &items, &owners);
+}
+
+/// A sender that comes late to an old tenure.
+fn comes_late<S: Seatable + Drop, R: Abort + AllocGlobal>(rt: &R) {
     let shape = Shape {
         senders: 2,
         receivers: 1,
         rows: 4,
         ..SMALL
     };
-    let (bus, mut zero, mut one, tap) = pair(&rt, rt.alloc(), shape);
-    assert_eq!(&rt; (zero.put(b"a"), one.put(b"b")), (Ok(0), Ok(0)));
-    ends_in(&rt, &bus, &mut one, 1, Turn::Going);
-    ends_in(&rt, &bus, &mut zero, 99, Turn::Own { tenure: 0 });
-    ends_in(&rt, &bus, &mut zero, 99, delivered(0, 0));
-    assert_eq!(&rt; zero.put(b"c"), Ok(1));
-    ends_in(&rt, &bus, &mut zero, 99, Turn::Own { tenure: 1 });
-    ends_in(&rt, &bus, &mut zero, 99, delivered(1, 1));
-    ends_in(&rt, &bus, &mut one, 99, lost(0));
-    ends_in(&rt, &bus, &mut one, 99, Turn::Own { tenure: 2 });
-    ends_in(&rt, &bus, &mut one, 99, delivered(2, 0));
-    let ended = bus.end(tap).expect(&rt, "the page is home");
-    let items = [
-        item(&rt, 0, 0, b'a'),
-        item(&rt, 0, 1, b'c'),
-        item(&rt, 1, 0, b'b'),
-    ];
-    let owners = [(0, SenderNo(0)), (1, SenderNo(0)), (2, SenderNo(1))];
-    leaves(&rt, &ended, 2, &items, &owners);
+    let (bus, mut zero, mut one, tap) = pair::<S>(rt, rt.alloc(), shape);
+    puts(rt, &mut zero, b"a", Ok(0));
+    puts(rt, &mut one, b"b", Ok(0));
+    ends_in(rt, &bus, &mut one, 1, Turn::Going);
+    delivers(rt, &bus, &mut zero, 0, 0);
+    puts(rt, &mut zero, b"c", Ok(1));
+    delivers(rt, &bus, &mut zero, 1, 1);
+    ends_in(rt, &bus, &mut one, 99, lost(0));
+    delivers(rt, &bus, &mut one, 2, 0);
+    leaves_three(rt, &left(rt, bus, tap));
+}
+
+#[test]
+fn late_to_an_old_tenure(rt: HostRuntime) {
+    comes_late::<Apart, HostRuntime>(&rt);
+}
+
+/// As many senders and receivers as the shape says, or no memory.
+fn makes_as_many<S: Seatable + Drop, R: Abort>(rt: &R, alloc: Global) {
+    match BusOf::<S>::new(alloc, SMALL) {
+        Ok((_, senders, taps)) => assert_eq!(rt; (senders.len(), taps.len()), (1, 2)),
+        Err(fault) => assert_eq!(rt; fault, MakeFault::NoMemory),
+    }
 }
 
 #[test]
 fn as_many_as_the_shape_says_unless_memory_is_refused(rt: HostRuntime) {
-    match Bus::<ThreeWord>::new(rt.alloc(), SMALL) {
-        Ok((_, senders, taps)) => assert_eq!(&rt; (senders.len(), taps.len()), (1, 2)),
-        Err(fault) => assert_eq!(&rt; fault, MakeFault::NoMemory),
-    }
+    makes_as_many::<Apart, HostRuntime>(&rt, rt.alloc());
+}
+
+/// A bus of this shape is refused so.
+fn refuses<S: Seatable + Drop, R: Abort>(rt: &R, alloc: Global, shape: Shape, fault: MakeFault) {
+    assert_eq!(rt; BusOf::<S>::new(alloc, shape).err(), Some(fault));
 }
 
 #[test]
@@ -501,8 +642,5 @@ fn shapes_that_are_refused(rt: HostRuntime) {
         receivers: 9,
         ..SMALL
     };
-    assert_eq!(&rt;
-        Bus::<ThreeWord>::new(rt.alloc(), shape).err(),
-        Some(MakeFault::Receivers)
-    );
+    refuses::<Apart, HostRuntime>(&rt, rt.alloc(), shape, MakeFault::Receivers);
 }

@@ -5,6 +5,7 @@ ghost use Rattle.bus_pageslot.specs.Seats.{table_of};
 
 use super::*;
 use bus_deliverylog::RecvTurn;
+use bus_guest::Guest;
 
 /// Two senders and a receiver over two rows.
 const TWO_ROWS: Shape = Shape {
@@ -15,41 +16,17 @@ const TWO_ROWS: Shape = Shape {
     log_words: 64,
 };
 
-/// A sender, a receiver and a bus of such rows, over the ratifier at work.
-type Guest = CyclicSender<ThreeWord>;
-
-type Seat = CyclicTap<ThreeWord>;
-
-type Rows = CyclicBus<ThreeWord>;
-
-/// A bus of this shape, with its first two senders and a receiver.
-fn rows(rt: &impl Abort, alloc: Global, shape: Shape) -> (Rows, Guest, Guest, Seat)
-    ensures senders { (table_of result.1 ≡ result.0.table)
-        × (table_of result.2 ≡ result.0.table) }
-    ensures tap { result.3.table_id ≡ result.0.table }
-{
-    let (bus, mut senders, mut taps) = Rows::new(alloc, shape).expect(rt, "memory");
-    let second = senders.pop().expect(rt, "a sender");
-    let first = senders.pop().expect(rt, "a sender");
-    (bus, first, second, taps.pop().expect(rt, "a receiver"))
-}
-
-/// Turns, at most so many, up to the first answer that is not Going.
-fn turns_to(bus: &Rows, sender: &mut Guest, most: u32) -> Turn
-    requires { table_of sender.old ≡ bus.now.table }
-    ensures { table_of sender.new ≡ bus.now.table }
-{
-    for _ in 0..most {
-        let turn = sender.turn(bus, 0);
-        if turn != Turn::Going {
-            return turn;
-        }
-    }
-    Turn::Going
-}
+/// A sender of a bus whose rows are used again, over the ratifier at work.
+type Again = Guest<ThreeWord>;
 
 /// So many turns of a receiver are answered with so many items.
-fn hears_items(rt: &impl Abort, bus: &Rows, tap: &mut Seat, turns: u32, want: u32)
+fn hears_items<S: Seatable + Drop>(
+    rt: &impl Abort,
+    bus: &BusOf<S>,
+    tap: &mut TapOf<S>,
+    turns: u32,
+    want: u32,
+)
     requires { tap.old.table_id ≡ bus.now.table }
     ensures { tap.new.table_id ≡ bus.now.table }
 {
@@ -62,73 +39,82 @@ fn hears_items(rt: &impl Abort, bus: &Rows, tap: &mut Seat, turns: u32, want: u3
     assert_eq!(rt; items, want);
 }
 
+/// So many items of senders 0 and 1.
+fn has_items(rt: &impl Abort, ended: &Ended, want: (u64, u64)) {
+    let counts = (ended.count(SenderNo(0)), ended.count(SenderNo(1)));
+    assert_eq!(rt; counts, want);
+}
+
 /// Sender 0 holds tenure 1 and waits for sender 1, which visits tenure 0 still.
 const BEHIND: Turn = Turn::Behind {
     tenure: 0,
     sender: SenderNo(1),
 };
 
+/// A holder waits for a sender that visits an old tenure, and goes on once that has seen it.
+fn waits_behind<S: Seatable + Drop, R: Abort>(rt: &R, alloc: Global) {
+    let (bus, mut first, mut second, mut tap) = pair::<S>(rt, alloc, TWO_ROWS);
+    puts(rt, &mut first, b"a", Ok(0));
+    puts(rt, &mut second, b"b", Ok(0));
+    ends_in(rt, &bus, &mut second, 3, Turn::Going);
+    delivers(rt, &bus, &mut first, 0, 0);
+    puts(rt, &mut first, b"c", Ok(1));
+    ends_in(rt, &bus, &mut first, 99, Turn::Own { tenure: 1 });
+    ends_in(rt, &bus, &mut first, 99, BEHIND);
+    is_due(rt, &first, Kind::ReadPresence);
+    ends_in(rt, &bus, &mut first, 1, BEHIND);
+    puts(rt, &mut second, b"late", Err(PutFault::Busy));
+    ends_in(rt, &bus, &mut second, 99, lost(0));
+    ends_in(rt, &bus, &mut first, 99, delivered(1, 1));
+    hears_items(rt, &bus, &mut tap, 20, 2);
+    let ended = left(rt, bus, tap);
+    has_items(rt, &ended, (2, 0));
+    assert_eq!(rt; ended.page().tenures, 2);
+}
+
 #[test]
 fn holder_waits_behind(rt: HostRuntime) {
-    let (bus, mut first, mut second, mut tap) = rows(&rt, rt.alloc(), TWO_ROWS);
-    assert_eq!(&rt; first.put(b"a"), Ok(0));
-    assert_eq!(&rt; second.put(b"b"), Ok(0));
-    assert_eq!(&rt; turns_to(&bus, &mut second, 3), Turn::Going);
-    assert_eq!(&rt; turns_to(&bus, &mut first, 99), Turn::Own { tenure: 0 });
-    assert_eq!(&rt; turns_to(&bus, &mut first, 99), DELIVERED);
-    assert_eq!(&rt; first.put(b"c"), Ok(1));
-    assert_eq!(&rt; turns_to(&bus, &mut first, 99), Turn::Own { tenure: 1 });
-    assert_eq!(&rt; turns_to(&bus, &mut first, 99), BEHIND);
-    assert_eq!(&rt; first.kind(), Some(Kind::ReadPresence));
-    assert_eq!(&rt; turns_to(&bus, &mut first, 1), BEHIND);
-    assert_eq!(&rt; second.put(b"late"), Err(PutFault::Busy));
-    assert_eq!(&rt; turns_to(&bus, &mut second, 99), lost(0));
-    assert_eq!(&rt; turns_to(&bus, &mut first, 99), delivered(1, 1));
-    hears_items(&rt, &bus, &mut tap, 20, 2);
-    let ended = bus.end(tap).expect(&rt, "the page at home");
-    assert_eq!(&rt;
-        (ended.count(SenderNo(0)), ended.count(SenderNo(1))),
-        (2, 0)
-    );
-    assert_eq!(&rt; ended.page().tenures, 2);
+    waits_behind::<Again, HostRuntime>(&rt, rt.alloc());
+}
+
+/// The row of tenure 0 is used again in tenure 2.
+fn comes_round<S: Seatable + Drop, R: Abort>(rt: &R, alloc: Global) {
+    let (bus, mut first, mut second, tap) = pair::<S>(rt, alloc, TWO_ROWS);
+    puts(rt, &mut first, b"a", Ok(0));
+    puts(rt, &mut second, b"b", Ok(0));
+    ends_in(rt, &bus, &mut second, 1, Turn::Going);
+    delivers(rt, &bus, &mut first, 0, 0);
+    puts(rt, &mut first, b"c", Ok(1));
+    delivers(rt, &bus, &mut first, 1, 1);
+    ends_in(rt, &bus, &mut second, 99, Turn::Waiting);
+    delivers(rt, &bus, &mut second, 2, 0);
+    let ended = left(rt, bus, tap);
+    has_items(rt, &ended, (2, 1));
 }
 
 #[test]
 fn rows_come_round(rt: HostRuntime) {
-    let (bus, mut first, mut second, tap) = rows(&rt, rt.alloc(), TWO_ROWS);
-    assert_eq!(&rt; first.put(b"a"), Ok(0));
-    assert_eq!(&rt; second.put(b"b"), Ok(0));
-    assert_eq!(&rt; turns_to(&bus, &mut second, 1), Turn::Going);
-    assert_eq!(&rt; turns_to(&bus, &mut first, 99), Turn::Own { tenure: 0 });
-    assert_eq!(&rt; turns_to(&bus, &mut first, 99), DELIVERED);
-    assert_eq!(&rt; first.put(b"c"), Ok(1));
-    assert_eq!(&rt; turns_to(&bus, &mut first, 99), Turn::Own { tenure: 1 });
-    assert_eq!(&rt; turns_to(&bus, &mut first, 99), delivered(1, 1));
-    assert_eq!(&rt; turns_to(&bus, &mut second, 99), Turn::Waiting);
-    assert_eq!(&rt; turns_to(&bus, &mut second, 99), Turn::Own { tenure: 2 });
-    assert_eq!(&rt; turns_to(&bus, &mut second, 99), delivered(2, 0));
-    let ended = bus.end(tap).expect(&rt, "the page at home");
-    assert_eq!(&rt;
-        (ended.count(SenderNo(0)), ended.count(SenderNo(1))),
-        (2, 1)
-    );
+    comes_round::<Again, HostRuntime>(&rt, rt.alloc());
 }
 
 /// A holder that waits for a sender which is gone has the page for good.
+fn waits_for_good<S: Seatable + Drop, R: Abort>(rt: &R, alloc: Global) {
+    let (bus, mut first, mut second, tap) = pair::<S>(rt, alloc, TWO_ROWS);
+    puts(rt, &mut second, b"b", Ok(0));
+    ends_in(rt, &bus, &mut second, 2, Turn::Going);
+    drop(second);
+    puts(rt, &mut first, b"a", Ok(0));
+    delivers(rt, &bus, &mut first, 0, 0);
+    puts(rt, &mut first, b"c", Ok(1));
+    ends_in(rt, &bus, &mut first, 99, Turn::Own { tenure: 1 });
+    ends_in(rt, &bus, &mut first, 99, BEHIND);
+    ends_in(rt, &bus, &mut first, 99, BEHIND);
+    has_page_out(rt, bus, tap);
+}
+
 #[test]
 fn stopped_visitor_keeps_the_page_out(rt: HostRuntime) {
-    let (bus, mut first, mut second, tap) = rows(&rt, rt.alloc(), TWO_ROWS);
-    assert_eq!(&rt; second.put(b"b"), Ok(0));
-    assert_eq!(&rt; turns_to(&bus, &mut second, 2), Turn::Going);
-    drop(second);
-    assert_eq!(&rt; first.put(b"a"), Ok(0));
-    assert_eq!(&rt; turns_to(&bus, &mut first, 99), Turn::Own { tenure: 0 });
-    assert_eq!(&rt; turns_to(&bus, &mut first, 99), DELIVERED);
-    assert_eq!(&rt; first.put(b"c"), Ok(1));
-    assert_eq!(&rt; turns_to(&bus, &mut first, 99), Turn::Own { tenure: 1 });
-    assert_eq!(&rt; turns_to(&bus, &mut first, 99), BEHIND);
-    assert_eq!(&rt; turns_to(&bus, &mut first, 99), BEHIND);
-    assert_eq!(&rt; bus.end(tap).err(), Some(EndFault::PageOut));
+    waits_for_good::<Again, HostRuntime>(&rt, rt.alloc());
 }
 
 #[test]
@@ -138,12 +124,12 @@ fn cyclic_limits(rt: HostRuntime) {
             rows: many,
             ..TWO_ROWS
         };
-        assert_eq!(&rt; Rows::new(rt.alloc(), shape).err(), Some(MakeFault::Rows));
+        refuses::<Again, HostRuntime>(&rt, rt.alloc(), shape, MakeFault::Rows);
     }
 }
 
 /// Sends twenty messages one by one, and says how many of the answers were Delivered.
-fn sends_each<W: Wait>(wait: &W, bus: &Rows, mut sender: Guest) -> u32
+fn sends_each<S: Seatable + Drop>(wait: &impl Wait, bus: &BusOf<S>, mut sender: SenderOf<S>) -> u32
     requires { table_of sender ≡ bus.now.table }
 {
     let mut rng = Pcg32::new(7, 7);
@@ -158,24 +144,39 @@ fn sends_each<W: Wait>(wait: &W, bus: &Rows, mut sender: Guest) -> u32
     sent
 }
 
-#[test]
-fn two_threads_use_rows_again(rt: HostRuntime) {
+/// Each of these two sends twenty messages in a thread of its own.
+fn both_send_each<S: Seatable + Drop + Send + Sync, R: Threads + Wait + Sync>(
+    rt: &R,
+    bus: &BusOf<S>,
+    first: SenderOf<S>,
+    second: SenderOf<S>,
+) -> (u32, u32)
+    requires { (table_of first ≡ bus.now.table) × (table_of second ≡ bus.now.table) }
+{
+    join(
+        rt,
+        move || sends_each(rt, bus, first),
+        move || sends_each(rt, bus, second),
+    )
+}
+
+/// Two senders, each in a thread of its own, use two rows again and again.
+fn threads_use_rows_again<
+    S: Seatable + Drop + Send + Sync,
+    R: Threads + Wait + Abort + AllocGlobal + Sync,
+>(rt: &R) {
     let shape = Shape {
         log_words: 256,
         ..TWO_ROWS
     };
-    let (bus, first, second, tap) = rows(&rt, rt.alloc(), shape);
-    let (wait, shared) = (&rt, &bus);
-    let sent = join(
-        &rt,
-        move || sends_each(wait, shared, first),
-        move || sends_each(wait, shared, second),
-    );
-    assert_eq!(&rt; sent, (20, 20));
-    let ended = bus.end(tap).expect(&rt, "the page at home");
-    assert_eq!(&rt;
-        (ended.count(SenderNo(0)), ended.count(SenderNo(1))),
-        (20, 20)
-    );
-    assert!(&rt; ended.page().tenures >= 40);
+    let (bus, first, second, tap) = pair::<S>(rt, rt.alloc(), shape);
+    assert_eq!(rt; both_send_each(rt, &bus, first, second), (20, 20));
+    let ended = left(rt, bus, tap);
+    has_items(rt, &ended, (20, 20));
+    assert!(rt; ended.page().tenures >= 40);
+}
+
+#[test]
+fn two_threads_use_rows_again(rt: HostRuntime) {
+    threads_use_rows_again::<Again, HostRuntime>(&rt);
 }

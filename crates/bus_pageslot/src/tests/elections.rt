@@ -6,21 +6,34 @@ ghost use Rattle.bus_pageslot.specs.Seats.{table_of};
 use super::*;
 
 /// So many turns with this word, each of which is answered Going.
-fn goes_on(rt: &impl Abort, bus: &Bus<ThreeWord>, sender: &mut One, turns: u32, word: u32)
+fn goes_on<S: Seatable + Drop>(
+    rt: &impl Abort,
+    bus: &BusOf<S>,
+    sender: &mut SenderOf<S>,
+    turns: u32,
+    word: u32,
+)
     requires { table_of sender.old ≡ bus.now.table }
     ensures { table_of sender.new ≡ bus.now.table }
 {
     for turn in 0..turns {
-        assert_eq!(rt; sender.turn(bus, word), Turn::Going, "turn {turn}");
+        let answer = take_turn(bus, sender, word);
+        assert!(rt; matches!(answer, Turn::Going), "turn {turn}: {answer:?}");
     }
 }
 
 /// One turn with this word, which is answered so.
-fn answers(rt: &impl Abort, bus: &Bus<ThreeWord>, sender: &mut One, word: u32, want: Turn)
+fn answers<S: Seatable + Drop>(
+    rt: &impl Abort,
+    bus: &BusOf<S>,
+    sender: &mut SenderOf<S>,
+    word: u32,
+    want: Turn,
+)
     requires { table_of sender.old ≡ bus.now.table }
     ensures { table_of sender.new ≡ bus.now.table }
 {
-    assert_eq!(rt; sender.turn(bus, word), want);
+    is_answer(rt, take_turn(bus, sender, word), want);
 }
 
 /// The tenure is this sender's.
@@ -28,7 +41,11 @@ const OWN: Turn = Turn::Own { tenure: 0 };
 
 /// A bus of two senders with one tenure, which both have begun, and where both have announced
 /// themselves: from now on they vote on one bit, sender 0 for 0 and sender 1 for 1.
-fn voters(rt: &impl Abort, alloc: Global, rounds: u64) -> (Bus<ThreeWord>, One, One)
+fn voters<S: Seatable + Drop>(
+    rt: &impl Abort,
+    alloc: Global,
+    rounds: u64,
+) -> (BusOf<S>, SenderOf<S>, SenderOf<S>)
     ensures { (table_of result.1 ≡ result.0.table) × (table_of result.2 ≡ result.0.table) }
 {
     let shape = Shape {
@@ -38,8 +55,9 @@ fn voters(rt: &impl Abort, alloc: Global, rounds: u64) -> (Bus<ThreeWord>, One, 
         rows: 1,
         log_words: 64,
     };
-    let (bus, mut zero, mut one, _) = pair(rt, alloc, shape);
-    assert_eq!(rt; (zero.put(b"a"), one.put(b"b")), (Ok(0), Ok(0)));
+    let (bus, mut zero, mut one, _) = pair::<S>(rt, alloc, shape);
+    puts(rt, &mut zero, b"a", Ok(0));
+    puts(rt, &mut one, b"b", Ok(0));
     goes_on(rt, &bus, &mut zero, 2, 0);
     goes_on(rt, &bus, &mut one, 2, 0);
     (bus, zero, one)
@@ -47,26 +65,26 @@ fn voters(rt: &impl Abort, alloc: Global, rounds: u64) -> (Bus<ThreeWord>, One, 
 
 /// A ratifier takes four steps, and decides where nobody else has begun it. Who comes after finds
 /// its proposal, so it takes three and the fallback.
-fn one_before_the_other(rt: &impl Abort, alloc: Global) {
-    let (bus, mut zero, mut one) = voters(rt, alloc, 1);
+fn one_before_the_other<S: Seatable + Drop, R: Abort>(rt: &R, alloc: Global) {
+    let (bus, mut zero, mut one) = voters::<S>(rt, alloc, 1);
     goes_on(rt, &bus, &mut zero, 4, 0);
-    assert_eq!(rt; zero.kind(), Some(Kind::TakePage));
+    is_due(rt, &zero, Kind::TakePage);
     goes_on(rt, &bus, &mut one, 3, 0);
-    assert_eq!(rt; one.kind(), Some(Kind::Fallback));
+    is_due(rt, &one, Kind::Fallback);
     answers(rt, &bus, &mut one, 0, lost(0));
     answers(rt, &bus, &mut zero, 0, OWN);
 }
 
 /// Both have found no proposal before either stores one: neither commits, and the first at the
 /// fallback decides.
-fn by_the_fallback(rt: &impl Abort, alloc: Global) {
-    let (bus, mut zero, mut one) = voters(rt, alloc, 1);
+fn by_the_fallback<S: Seatable + Drop, R: Abort>(rt: &R, alloc: Global) {
+    let (bus, mut zero, mut one) = voters::<S>(rt, alloc, 1);
     goes_on(rt, &bus, &mut zero, 2, 0);
     goes_on(rt, &bus, &mut one, 2, 0);
     goes_on(rt, &bus, &mut zero, 2, 0);
     goes_on(rt, &bus, &mut one, 3, 0);
-    assert_eq!(rt; one.kind(), Some(Kind::TakePage));
-    assert_eq!(rt; zero.kind(), Some(Kind::Fallback));
+    is_due(rt, &one, Kind::TakePage);
+    is_due(rt, &zero, Kind::Fallback);
     answers(rt, &bus, &mut zero, 0, lost(1));
     answers(rt, &bus, &mut one, 0, OWN);
 }
@@ -75,50 +93,49 @@ fn by_the_fallback(rt: &impl Abort, alloc: Global) {
 /// says 1, and its second ratifier commits that. Sender 1 votes tails alone: eight votes later the
 /// coin says 0, but it finds 1 proposed in the ratifier, adopts that, and brings it to the
 /// fallback.
-fn by_coins_that_disagree(rt: &impl Abort, alloc: Global) {
-    let (bus, mut zero, mut one) = voters(rt, alloc, 2);
+fn by_coins_that_disagree<S: Seatable + Drop, R: Abort>(rt: &R, alloc: Global) {
+    let (bus, mut zero, mut one) = voters::<S>(rt, alloc, 2);
     goes_on(rt, &bus, &mut zero, 2, 0);
     goes_on(rt, &bus, &mut one, 2, 0);
     goes_on(rt, &bus, &mut zero, 2, 0);
     goes_on(rt, &bus, &mut one, 2, 0);
     goes_on(rt, &bus, &mut zero, 1, 0);
     goes_on(rt, &bus, &mut one, 1, 0);
-    assert_eq!(rt; zero.kind(), Some(Kind::ReadOtherMark));
+    is_due(rt, &zero, Kind::ReadOtherMark);
     goes_on(rt, &bus, &mut zero, 1 + 4 * 2 + 3, 1);
     answers(rt, &bus, &mut zero, 1, lost(1));
     goes_on(rt, &bus, &mut one, 1 + 8 * 2 + 3, 0);
-    assert_eq!(rt; one.kind(), Some(Kind::Fallback));
+    is_due(rt, &one, Kind::Fallback);
     answers(rt, &bus, &mut one, 0, Turn::Going);
     answers(rt, &bus, &mut one, 0, OWN);
 }
 
-/// A bus of this shape is refused so.
-fn refuses(rt: &impl Abort, alloc: Global, shape: Shape, fault: MakeFault) {
-    assert_eq!(rt; Bus::<ThreeWord>::new(alloc, shape).err(), Some(fault));
-}
-
 #[test]
 fn ballot_schedules(rt: HostRuntime) {
-    one_before_the_other(&rt, rt.alloc());
-    by_the_fallback(&rt, rt.alloc());
-    by_coins_that_disagree(&rt, rt.alloc());
+    one_before_the_other::<Apart, HostRuntime>(&rt, rt.alloc());
+    by_the_fallback::<Apart, HostRuntime>(&rt, rt.alloc());
+    by_coins_that_disagree::<Apart, HostRuntime>(&rt, rt.alloc());
     let nine = Shape {
         senders: 9,
         ..SMALL
     };
-    refuses(&rt, rt.alloc(), nine, MakeFault::Senders);
+    refuses::<Apart, HostRuntime>(&rt, rt.alloc(), nine, MakeFault::Senders);
     let no_rounds = Shape { rounds: 0, ..SMALL };
-    refuses(&rt, rt.alloc(), no_rounds, MakeFault::Rounds);
+    refuses::<Apart, HostRuntime>(&rt, rt.alloc(), no_rounds, MakeFault::Rounds);
 }
 
 /// Senders 1 and 4 of five, each of which always has something to send, up to where 4 has the page.
-fn claims(rt: &impl Abort, alloc: Global) -> (Bus<ThreeWord>, One, One, Pass)
+fn claims<S: Seatable + Drop>(
+    rt: &impl Abort,
+    alloc: Global,
+) -> (BusOf<S>, SenderOf<S>, SenderOf<S>, TapOf<S>)
     ensures senders { (table_of result.1 ≡ result.0.table)
         × (table_of result.2 ≡ result.0.table) }
     ensures tap { result.3.table_id ≡ result.0.table }
 {
-    let (bus, mut one, mut four, tap) = one_and_four(rt, alloc);
-    assert_eq!(rt; (one.put(b"a"), four.put(b"b")), (Ok(0), Ok(0)));
+    let (bus, mut one, mut four, tap) = one_and_four::<S>(rt, alloc);
+    puts(rt, &mut one, b"a", Ok(0));
+    puts(rt, &mut four, b"b", Ok(0));
     goes_on(rt, &bus, &mut four, 14, 0);
     ends_in(rt, &bus, &mut one, 99, lost(4));
     ends_in(rt, &bus, &mut four, 99, OWN);
@@ -126,27 +143,27 @@ fn claims(rt: &impl Abort, alloc: Global) -> (Bus<ThreeWord>, One, One, Pass)
 }
 
 /// Sender 4 gives the page back after one message, and has no tenure left for the next.
-fn gives_back(rt: &impl Abort, alloc: Global) {
-    let (bus, _, mut four, tap) = claims(rt, alloc);
+fn gives_back<S: Seatable + Drop, R: Abort>(rt: &R, alloc: Global) {
+    let (bus, _, mut four, tap) = claims::<S>(rt, alloc);
     ends_in(rt, &bus, &mut four, 99, delivered(0, 0));
-    assert_eq!(rt; four.put(b"c"), Ok(1));
+    puts(rt, &mut four, b"c", Ok(1));
     answers(rt, &bus, &mut four, 0, Turn::Spent);
-    let ended = bus.end(tap).expect(rt, "the page is home");
+    let ended = left(rt, bus, tap);
     assert_eq!(rt; ended.page().next, [0, 0, 0, 0, 1, 0, 0, 0]);
     assert_eq!(rt; (ended.page().tenures, ended.page().ended), (1, false));
 }
 
 /// Sender 4 is dropped with the page.
-fn keeps_the_page(rt: &impl Abort, alloc: Global) {
-    let (bus, _, four, tap) = claims(rt, alloc);
+fn keeps_the_page<S: Seatable + Drop, R: Abort>(rt: &R, alloc: Global) {
+    let (bus, _, four, tap) = claims::<S>(rt, alloc);
     drop(four);
-    assert_eq!(rt; bus.end(tap).err(), Some(EndFault::PageOut));
+    has_page_out(rt, bus, tap);
 }
 
 #[test]
 fn claimants(rt: HostRuntime) {
-    gives_back(&rt, rt.alloc());
-    keeps_the_page(&rt, rt.alloc());
+    gives_back::<Apart, HostRuntime>(&rt, rt.alloc());
+    keeps_the_page::<Apart, HostRuntime>(&rt, rt.alloc());
     let no_rows = Shape { rows: 0, ..SMALL };
-    refuses(&rt, rt.alloc(), no_rows, MakeFault::Rows);
+    refuses::<Apart, HostRuntime>(&rt, rt.alloc(), no_rows, MakeFault::Rows);
 }

@@ -71,11 +71,11 @@ const FOLLOWS: Seen = Seen {
 };
 
 /// Takes so many steps, and is dropped.
-fn stops(rt: &impl Abort, bus: &Bus<ThreeWord>, mut sender: One, steps: u32)
+fn stops<S: Seatable + Drop>(rt: &impl Abort, bus: &BusOf<S>, mut sender: SenderOf<S>, steps: u32)
     requires { table_of sender ≡ bus.now.table }
 {
     for _ in 0..steps {
-        sender.turn(bus, 0);
+        take_turn(bus, &mut sender, 0);
     }
     assert_eq!(rt;
         sender.kind().is_none(),
@@ -85,7 +85,7 @@ fn stops(rt: &impl Abort, bus: &Bus<ThreeWord>, mut sender: One, steps: u32)
 }
 
 /// Turns until one of them finds nothing more, and sees the messages that they give.
-fn hears(rt: &impl Abort, bus: &Bus<ThreeWord>, tap: &mut Pass, want: &[u8])
+fn hears<S: Seatable + Drop>(rt: &impl Abort, bus: &BusOf<S>, tap: &mut TapOf<S>, want: &[u8])
     requires { tap.old.table_id ≡ bus.now.table }
     ensures { tap.new.table_id ≡ bus.now.table }
 {
@@ -105,7 +105,12 @@ fn hears(rt: &impl Abort, bus: &Bus<ThreeWord>, tap: &mut Pass, want: &[u8])
 }
 
 /// Ends the bus, and sees the items of both senders, or that the page is out.
-fn ends(rt: &impl Abort, bus: Bus<ThreeWord>, tap: Pass, counts: Option<(u64, u64)>)
+fn ends<S: Seatable + Drop>(
+    rt: &impl Abort,
+    bus: BusOf<S>,
+    tap: TapOf<S>,
+    counts: Option<(u64, u64)>,
+)
     requires { tap.table_id ≡ bus.table }
 {
     match (bus.end(tap), counts) {
@@ -122,15 +127,16 @@ fn ends(rt: &impl Abort, bus: Bus<ThreeWord>, tap: Pass, counts: Option<(u64, u6
 }
 
 /// Sender 0 takes so many steps and is dropped, and sender 1 and the receiver go on.
-fn stops_after(rt: &impl Abort, alloc: Global, steps: u32, seen: &Seen) {
+fn stops_after<S: Seatable + Drop, R: Abort>(rt: &R, alloc: Global, steps: u32, seen: &Seen) {
     let shape = Shape {
         senders: 2,
         receivers: 1,
         rows: 4,
         ..SMALL
     };
-    let (bus, mut zero, mut one, mut tap) = pair(rt, alloc, shape);
-    assert_eq!(rt; (zero.put(b"a"), one.put(b"b")), (Ok(0), Ok(0)));
+    let (bus, mut zero, mut one, mut tap) = pair::<S>(rt, alloc, shape);
+    puts(rt, &mut zero, b"a", Ok(0));
+    puts(rt, &mut one, b"b", Ok(0));
     stops(rt, &bus, zero, steps);
     for answer in seen.answers {
         ends_in(rt, &bus, &mut one, 99, *answer);
@@ -149,7 +155,7 @@ fn sender_stops_after_each_step(rt: HostRuntime) {
             11 => WAITS_AND_HEARS,
             _ => FOLLOWS,
         };
-        stops_after(&rt, rt.alloc(), steps, &seen);
+        stops_after::<Apart, HostRuntime>(&rt, rt.alloc(), steps, &seen);
     }
 }
 
@@ -179,12 +185,17 @@ fn chooses(rt: &impl Abort, story: &mut Story, tenure: u64, owner: SenderNo) {
 }
 
 /// A turn of a sender, whose answer goes with all before it.
-fn goes_with(rt: &impl Abort, bus: &Bus<ThreeWord>, sender: &mut One, story: &mut Story)
+fn goes_with<S: Seatable + Drop>(
+    rt: &impl Abort,
+    bus: &BusOf<S>,
+    sender: &mut SenderOf<S>,
+    story: &mut Story,
+)
     requires { table_of sender.old ≡ bus.now.table }
     ensures { table_of sender.new ≡ bus.now.table }
 {
     let me = sender.number();
-    match sender.turn(bus, story.dice.next_u32()) {
+    match take_turn(bus, sender, story.dice.next_u32()) {
         Turn::Own { tenure } => {
             chooses(rt, story, tenure, me);
             assert_eq!(rt; story.holder, None, "another has the page");
@@ -201,12 +212,12 @@ fn goes_with(rt: &impl Abort, bus: &Bus<ThreeWord>, sender: &mut One, story: &mu
 
 /// The three take turns until the first has taken so many steps, and it is dropped. Says whether
 /// it has: else no step was left for it.
-fn one_stops(
+fn one_stops<S: Seatable + Drop>(
     rt: &impl Abort,
-    bus: &Bus<ThreeWord>,
-    mut zero: One,
-    one: &mut One,
-    two: &mut One,
+    bus: &BusOf<S>,
+    mut zero: SenderOf<S>,
+    one: &mut SenderOf<S>,
+    two: &mut SenderOf<S>,
     steps: u32,
     story: &mut Story,
 ) -> bool
@@ -232,7 +243,13 @@ fn one_stops(
 }
 
 /// The other two go on.
-fn two_go_on(rt: &impl Abort, bus: &Bus<ThreeWord>, one: &mut One, two: &mut One, story: &mut Story)
+fn two_go_on<S: Seatable + Drop>(
+    rt: &impl Abort,
+    bus: &BusOf<S>,
+    one: &mut SenderOf<S>,
+    two: &mut SenderOf<S>,
+    story: &mut Story,
+)
     requires { (table_of one.old ≡ bus.now.table) × (table_of two.old ≡ bus.now.table) }
 {
     for _ in 0..400 {
@@ -245,7 +262,12 @@ fn two_go_on(rt: &impl Abort, bus: &Bus<ThreeWord>, one: &mut One, two: &mut One
 }
 
 /// The words of the log, as a receiver loads them.
-fn words_of(rt: &impl Abort, alloc: Global, bus: &Bus<ThreeWord>, tap: &mut Pass) -> Vec<u64>
+fn words_of<S: Seatable + Drop>(
+    rt: &impl Abort,
+    alloc: Global,
+    bus: &BusOf<S>,
+    tap: &mut TapOf<S>,
+) -> Vec<u64>
     requires { tap.old.table_id ≡ bus.now.table }
     ensures { tap.new.table_id ≡ bus.now.table }
 {
@@ -267,7 +289,13 @@ fn are_whole(rt: &impl Abort, alloc: Global, words: &[u64], story: &Story) {
 }
 
 /// The bus ends with this log, unless somebody has the page.
-fn ends_as_told(rt: &impl Abort, bus: Bus<ThreeWord>, tap: Pass, words: &[u64], story: &Story)
+fn ends_as_told<S: Seatable + Drop>(
+    rt: &impl Abort,
+    bus: BusOf<S>,
+    tap: TapOf<S>,
+    words: &[u64],
+    story: &Story,
+)
     requires { tap.table_id ≡ bus.table }
 {
     match bus.end(tap) {
@@ -279,35 +307,18 @@ fn ends_as_told(rt: &impl Abort, bus: Bus<ThreeWord>, tap: Pass, words: &[u64], 
     }
 }
 
-/// A bus of three senders and a receiver.
-fn three(rt: &impl Abort, alloc: Global) -> (Bus<ThreeWord>, One, One, One, Pass)
-    ensures senders { (table_of result.1 ≡ result.0.table)
-        × (table_of result.2 ≡ result.0.table) × (table_of result.3 ≡ result.0.table) }
-    ensures tap { result.4.table_id ≡ result.0.table }
-{
-    let shape = Shape {
-        senders: 3,
-        receivers: 1,
-        rounds: 2,
-        rows: 4,
-        log_words: 64,
-    };
-    let (bus, mut senders, mut taps) = Bus::new(alloc, shape).expect(rt, "memory");
-    let tap = taps.pop().expect(rt, "a receiver");
-    let two = last_of(rt, &bus, &mut senders);
-    let one = last_of(rt, &bus, &mut senders);
-    let zero = last_of(rt, &bus, &mut senders);
-    (bus, zero, one, two, tap)
-}
-
 /// Under this schedule sender 0 stops after so many steps. Says who then has the page at the end;
 /// none where it never takes so many.
-fn plays(rt: &impl Abort, alloc: Global, seed: u64, steps: u32) -> Option<Option<SenderNo>> {
-    let (bus, mut zero, mut one, mut two, mut tap) = three(rt, alloc);
-    assert_eq!(rt;
-        (zero.put(b"a"), one.put(b"b"), two.put(b"c")),
-        (Ok(0), Ok(0), Ok(0))
-    );
+fn plays<S: Seatable + Drop, R: Abort>(
+    rt: &R,
+    alloc: Global,
+    seed: u64,
+    steps: u32,
+) -> Option<Option<SenderNo>> {
+    let (bus, mut zero, mut one, mut two, mut tap) = three::<S>(rt, alloc);
+    puts(rt, &mut zero, b"a", Ok(0));
+    puts(rt, &mut one, b"b", Ok(0));
+    puts(rt, &mut two, b"c", Ok(0));
     let mut story = Story {
         dice: Pcg32::new(seed, 0),
         elected: [None; 4],
@@ -328,7 +339,7 @@ fn one_of_three_stops_after_each_step(rt: HostRuntime) {
     let (mut out, mut home) = (0u32, 0u32);
     for seed in 0..100 {
         for steps in 1..MOST_TURNS {
-            match plays(&rt, rt.alloc(), seed, steps) {
+            match plays::<Apart, HostRuntime>(&rt, rt.alloc(), seed, steps) {
                 Some(Some(_)) => out = out.saturating_add(1),
                 Some(None) => home = home.saturating_add(1),
                 None => break,

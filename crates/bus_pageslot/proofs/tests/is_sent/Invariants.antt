@@ -3,4 +3,4 @@ use Rattle.bus_pageslot.specs.Seats.{table_of}
 use Rattle.bus_pageslot.proofs.tests.is_sent.Given as goal
 
 abbrev pub invariant-loop-turn : goal.invariant-loop-turn
-invariant-loop-turn l = table_of l.sender ≡ l.bus.table
+invariant-loop-turn g l = table_of l.sender ≡ l.bus.table
