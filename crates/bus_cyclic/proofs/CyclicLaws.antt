@@ -21,7 +21,7 @@ use Rattle.bus_tenure.specs.declared.turns.Turn.{Turn as Answered}
 use Rattle.bus_world.specs.Bus.{IsLayout}
 use Rattle.bus_world.specs.Headline.{Deed, HasPut, HasClosed, IsPrefix}
 use Rattle.bus_world.specs.Playing.{PutGives, CloseGives, StopGives}
-use Rattle.bus_world.specs.Rings.{Ring, RingTrails, RingReached, TurnTaken, PutTaken, CloseTaken, RecvTaken, StopTaken, IsKeptRing, IsOnWord, guest_going, ring_after, ring_trails, ring_deeds, with_guest, visitor_put, visitor_closed}
+use Rattle.bus_world.specs.Rings.{Ring, RingTrails, RingReached, TurnTaken, PutTaken, CloseTaken, RecvTaken, StopTaken, IsKeptRing, IsOnWord, guest_going, ring_after, ring_trails, ring_sweeps, ring_deeds, with_guest, visitor_put, visitor_closed}
 use Rattle.bus_world.specs.Turning.{number_found, owners_by, owners_after}
 use Rattle.bus_world.specs.World.{Event, Put, Close, Turn, Recv, Stop, can_put, can_close, is_open, is_set}
 use Rattle.bus_world.specs.Yards.{deeds_with}
@@ -111,7 +111,7 @@ module _ {E : Type 0} (X : Election E) (P : Protocol E (Unit {0}) ℕ) where
       answered = answer_due X v (due X v) got word
 
       abbrev later : RingTrails
-      later = record T { visits = ring_trails b p (due X v) T.visits; deeds = ring_deeds X b p v (due X v) word answered T.deeds }
+      later = record T { visits = ring_trails b p (due X v) T.visits; sweeps = ring_sweeps b p (due X v) T.sweeps; deeds = ring_deeds X b p v (due X v) word answered T.deeds }
 
       turned : IsLed X P s.laws s.owner_is s.named s.announces s.apart (ring_after X b p v (due X v) word) later
       turned = turn_led X P s.laws s.owner_is s.named s.announces s.apart b layout T led p v word answered at (due X v) refl low refl

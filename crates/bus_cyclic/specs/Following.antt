@@ -4,7 +4,7 @@ use Rattle.bus_deliverylog.specs.declared.receiving.RecvTurn.{RecvTurn}
 use Rattle.bus_guest.specs.Turns.{Visitor, due, op_next}
 use Rattle.bus_tenure.specs.Core.{Election}
 use Rattle.bus_world.specs.Headline.{IsPrefix}
-use Rattle.bus_world.specs.Rings.{Ring, RingTrails, IsOnWord, IsKeptRing, guest_going, ring_trails, ring_deeds}
+use Rattle.bus_world.specs.Rings.{Ring, RingTrails, IsOnWord, IsKeptRing, guest_going, ring_trails, ring_sweeps, ring_deeds}
 use Rattle.bus_world.specs.Trails.{put_deeds, close_deeds}
 use Rattle.bus_world.specs.Turning.{owners_by}
 use Rattle.bus_world.specs.World.{Event, Put, Close, Turn, Recv, Stop, IsEvent}
@@ -20,7 +20,7 @@ abbrev pub turn_grown : {E : Type 0} → Election E → Ring E → ℕ → Optio
 turn_grown X b s None word a T = T
 turn_grown X b s (Some v) word (answer.Number n) T = T
 turn_grown X b s (Some v) word answer.Closing T = T
-turn_grown X b s (Some v) word (answer.Turn t) T = record T { visits = ring_trails b s (due X v) T.visits; deeds = ring_deeds X b s v (due X v) word t T.deeds }
+turn_grown X b s (Some v) word (answer.Turn t) T = record T { visits = ring_trails b s (due X v) T.visits; sweeps = ring_sweeps b s (due X v) T.sweeps; deeds = ring_deeds X b s v (due X v) word t T.deeds }
 turn_grown X b s (Some v) word (answer.Recv t) T = T
 turn_grown X b s (Some v) word answer.Stopped T = T
 

@@ -36,7 +36,7 @@ use Rattle.bus_tenure.proofs.Situated.{tells}
 use Rattle.bus_world.specs.Bus.{IsLayout, Part, Fits, standing_of, stands_at, least_of}
 use Rattle.bus_tenure.specs.declared.turns.Turn.TheVariants as turn
 use Rattle.bus_world.specs.Headline.{Deed, HasPut, HasClosed}
-use Rattle.bus_world.specs.Rings.{Ring, yard_of, visit_in, core_in, Leads, IsRing, IsNewRing, IsOnWord, IsKeptRing, RingTrails, RingReached, NewRing, TurnTaken, PutTaken, CloseTaken, RecvTaken, StopTaken, guest_going, with_guest, visitor_put, visitor_closed, move_due, visitor_moved, ring_after, ring_trails, ring_deeds}
+use Rattle.bus_world.specs.Rings.{Ring, yard_of, visit_in, core_in, Leads, IsRing, IsNewRing, IsOnWord, IsKeptRing, RingTrails, RingReached, NewRing, TurnTaken, PutTaken, CloseTaken, RecvTaken, StopTaken, guest_going, with_guest, visitor_put, visitor_closed, move_due, visitor_moved, ring_after, ring_trails, ring_sweeps, ring_deeds}
 use Rattle.bus_world.specs.Tenures.Standing.{Holds}
 use Rattle.bus_world.specs.Turning.{words_after, number_found, core_moved, after_step, home_after, owners_after}
 use Rattle.bus_world.specs.Yards.{Yard, Led, NewYard, Turned, PutIn, ClosedIn, Heard, AnswersDue, due_in, due_deeds, deeds_with, no_deeds, no_answers, answers_with, trails_with, yard_after, words_stepped, word_found}
@@ -498,7 +498,7 @@ module _ {E : Type 0} (X : Election E) (P : Protocol E (Unit {0}) ℕ) (laws : L
 
   module _ (b : Ring E) (x : IsRingLayout b.layout b.rows) (T : RingTrails) (h : IsLed b T) where
     pub turn_led : (s : ℕ) (v : Visitor E) (word : ℕ) (answer : Answered) → slice_get b.guests s ≡ Some v → (d : Due E) → due X v ≡ d → IsOnWord b (op_due X v d word) → answer ≡ answer_due X v d (number_found (slice_index b.words) (op_due X v d word)) word
-        → IsLed (ring_after X b s v d word) (record T { visits = ring_trails b s d T.visits; deeds = ring_deeds X b s v d word answer T.deeds })
+        → IsLed (ring_after X b s v d word) (record T { visits = ring_trails b s d T.visits; sweeps = ring_sweeps b s d T.sweeps; deeds = ring_deeds X b s v d word answer T.deeds })
     turn_led s v word answer at d e low told = record {
       is = record {
         rows = rows_after b h.is s v _ at (due_rows X v d (after_step (move_due X v d)) b.home (number_found (slice_index b.words) (op_due X v d word)) word);

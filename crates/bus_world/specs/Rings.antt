@@ -7,7 +7,7 @@ use Rattle.bus_batch.specs.Batches.{next_of}
 use Rattle.bus_batch.specs.declared.batches.Phase.TheVariants.{Closing}
 use Rattle.bus_deliverylog.specs.Receiving.{Receiving}
 use Rattle.bus_deliverylog.specs.declared.receiving.RecvTurn.{RecvTurn}
-use Rattle.bus_presence.specs.Hall.{Trails, no_trails}
+use Rattle.bus_presence.specs.Hall.{Trails, no_trails, grown}
 use Rattle.bus_presence.specs.Sweeps.{Sweeping}
 use Rattle.bus_presence.specs.declared.visits.Visit.{Visit}
 use Rattle.bus_presence.specs.declared.visits.Visit.TheVariants.{Away}
@@ -79,9 +79,14 @@ ring_after X b s v d word =
       guests = slice_set b.guests s (visitor_moved (after_step (move_due X v d)) b.home (visitor_due X v d got word));
     }
 
--- what it adds to the trail of visits, and to the deeds
+-- what it adds to the trails of visits and of sweeps, and to the deeds
 abbrev pub ring_trails : {E : Type 0} → Ring E → ℕ → Due E → Trails → Trails
 ring_trails b s d = trails_with (yard_of b None []) s d
+
+abbrev pub ring_sweeps : {E : Type 0} → Ring E → ℕ → Due E → Trails → Trails
+ring_sweeps b s (Visits o) T = T
+ring_sweeps b s (Sweeps r o) T = grown T s record { op = o; got = slice_index b.words (register o) }
+ring_sweeps b s (Goes z) T = T
 
 abbrev pub ring_deeds : {E : Type 0} → Election E → Ring E → ℕ → Visitor E → Due E → ℕ → Answered → (ℕ → List Deed) → ℕ → List Deed
 ring_deeds X b s v d word answer = deeds_with s (due_deeds X b.layout b.rows (yard_of b None []) v.core d word answer)
@@ -106,14 +111,15 @@ abbrev pub IsOnWord : {E : Type 0} → Ring E → Option Op → Type 0
 IsOnWord b None = Unit {0}
 IsOnWord b (Some o) = register o < length b.words
 
--- ---- what happened: the steps of visits, the deeds of senders, the answers of receivers
+-- ---- what happened: the steps of visits and of sweeps, the deeds of senders, the answers of receivers
 pub record RingTrails : Type 0 where
   pub visits : Trails
+  pub sweeps : Trails
   pub deeds : ℕ → List Deed
   pub heard : ℕ → List RecvTurn
 
 abbrev pub no_ring_trails : RingTrails
-no_ring_trails = record { visits = no_trails; deeds = no_deeds; heard = no_answers }
+no_ring_trails = record { visits = no_trails; sweeps = no_trails; deeds = no_deeds; heard = no_answers }
 
 -- nothing has happened: words of zero, the page at home, senders and receivers at their starts, none of which has stopped
 pub record IsNewRing {E : Type 0} (b : Ring E) : Type 0 where
@@ -129,7 +135,7 @@ pub data RingReached {E : Type 0} (X : Election E) : Ring E → RingTrails → T
   NewRing : (b : Ring E) → IsNewRing b → RingReached X b no_ring_trails
   TurnTaken : (b : Ring E) (T : RingTrails) (s : ℕ) (v : Visitor E) (word : ℕ) (answer : Answered) → RingReached X b T → guest_going b s ≡ Some v → IsOnWord b (op_due X v (due X v) word)
       → answer ≡ answer_due X v (due X v) (number_found (slice_index b.words) (op_due X v (due X v) word)) word
-      → RingReached X (ring_after X b s v (due X v) word) (record T { visits = ring_trails b s (due X v) T.visits; deeds = ring_deeds X b s v (due X v) word answer T.deeds })
+      → RingReached X (ring_after X b s v (due X v) word) (record T { visits = ring_trails b s (due X v) T.visits; sweeps = ring_sweeps b s (due X v) T.sweeps; deeds = ring_deeds X b s v (due X v) word answer T.deeds })
   PutTaken : (b : Ring E) (T : RingTrails) (s : ℕ) (v : Visitor E) (bytes : List ℕ) → RingReached X b T → guest_going b s ≡ Some v → All (λ byte. byte < 256) bytes
       → RingReached X (with_guest b s (visitor_put v bytes)) (record T { deeds = deeds_with s (if can_put (queue_seen v.core.queue v.visit) (length bytes) then HasPut (next_of v.core.queue) bytes ∷ [] else []) T.deeds })
   CloseTaken : (b : Ring E) (T : RingTrails) (s : ℕ) (v : Visitor E) → RingReached X b T → guest_going b s ≡ Some v

@@ -1,4 +1,4 @@
-//! The senders and receivers of a new bus.
+//! The page, the senders and the receivers of a new bus.
 
 ghost use Rattle.std.specs.Prelude.{◌≡◌, ℕ, ◌+◌, ◌*◌, ◌<◌, ◌≤◌, ◌^◌};
 ghost use Rattle.std.specs.Prelude.{[], length, slice_get, Some, IfOk};
@@ -11,9 +11,18 @@ ghost use Rattle.bus_world.specs.Starting.{AreNewCores, AreNewReaders};
 use crate::shapes::Shape;
 use bus_adoptcommit::Ratifier;
 use bus_deliverylog::Reader;
+use bus_register::limits::MOST_SENDERS;
 use bus_register::{NoMemory, Reg, SenderNo};
-use bus_tenure::SenderCore;
+use bus_tenure::{Page, SenderCore};
 use std::alloc::Global;
+
+/// The page of a new bus: nobody has an item, and no tenure has ended.
+pub const NEW_PAGE: Page = Page {
+    next: [0; MOST_SENDERS],
+    ended: false,
+    tenures: 0,
+    words: 0,
+};
 
 /// A sender for each number, with nothing pending.
 pub fn new_senders<Q: Ratifier + Drop>(

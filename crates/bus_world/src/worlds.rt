@@ -20,7 +20,7 @@ ghost use Rattle.bus_world.specs.Playing.{StopGives, Refused, IsMade, MakeRefuse
 
 use crate::events::{Answer, Event, PlayFault, StepFault};
 use crate::shapes::{MakeFault, Shape};
-use crate::starts::{new_receivers, new_senders};
+use crate::starts::{NEW_PAGE, new_receivers, new_senders};
 use crate::turns::{close_to, note_owner, put_to, turn_receiver, turn_sender};
 use arrayvec::ArrayVec;
 use bus_adoptcommit::Ratifier;
@@ -414,11 +414,3 @@ impl<Q: Ratifier + Drop> World<Q> {
         let _ = &self.shape;
     }
 }
-
-/// The page of a new bus.
-const NEW_PAGE: Page = Page {
-    next: [0; MOST_SENDERS],
-    ended: false,
-    tenures: 0,
-    words: 0,
-};
