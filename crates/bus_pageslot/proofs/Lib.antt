@@ -23,6 +23,7 @@ pub mod ReaderLaws
 pub mod Joining
 pub mod Promising
 pub mod SafeSeats
+pub mod BehindShown
 pub mod OnePage
 pub mod Endings
 pub mod Staging

@@ -1,20 +1,24 @@
 //! What holds of every bus, between any two steps.
 
 ghost use Rattle.std.specs.Prelude.{◌≡◌, ℕ, ◌*◌, ◌<◌, ◌≤◌, Option, List, []};
-ghost use Rattle.std.specs.Prelude.{◌∷◌, false, length, slice_index, Some};
+ghost use Rattle.std.specs.Prelude.{◌∷◌, ◌++◌, ◌+◌, false, length, slice_index, Some};
 ghost use mathlib.Core.Option.{some};
 ghost use lib.ListN.{get_elem?};
 ghost use Rattle.bus_register.specs.declared.registers.Op.{Op};
-ghost use Rattle.bus_register.specs.declared.registers.Op.TheVariants.{Store};
+ghost use Rattle.bus_register.specs.declared.registers.Op.TheVariants.{Load, Store};
+ghost use Rattle.bus_register.specs.declared.registers.SenderNo.{SenderNo};
 ghost use Rattle.atomic_table.specs.Table.{State};
 ghost use Rattle.bus_cyclic.specs.Cyclic as cyclic;
 ghost use Rattle.bus_cyclic.specs.Truth.{LossesAreSeen};
 ghost use Rattle.bus_deliverylog.specs.declared.receiving.RecvTurn.{RecvTurn};
 ghost use Rattle.bus_guest.specs.Guests.{sizes_with};
-ghost use Rattle.bus_guest.specs.Turns.{Visitor};
+ghost use Rattle.bus_guest.specs.Telling.{FeedTells};
+ghost use Rattle.bus_guest.specs.Turns.{Visitor, sizes_of};
+ghost use Rattle.bus_presence.specs.Hall.{presence_at};
 ghost use Rattle.bus_tenure.specs.Core.{Core};
 ghost use Rattle.bus_tenure.specs.Elections.{Elector, election_of};
 ghost use Rattle.bus_tenure.specs.declared.pages.Page.{Page};
+ghost use Rattle.bus_tenure.specs.declared.turns.Turn.TheVariants.{Behind};
 ghost use Rattle.bus_world.specs.Headline.{IsPrefix};
 ghost use Rattle.bus_world.specs.Playing.{layout_of};
 ghost use Rattle.bus_world.specs.Rings.{IsKeptRing};
@@ -29,6 +33,7 @@ ghost use Rattle.bus_pageslot.specs.RowsAgain.{process_again, bus_again};
 ghost use Rattle.bus_pageslot.specs.RowsApart.{process_apart, bus_apart};
 ghost use Rattle.bus_pageslot.specs.Rule.{Sat, IsShown};
 ghost use Rattle.bus_pageslot.specs.SafeSeats.{AreSafe};
+ghost use Rattle.bus_pageslot.specs.Seats.{Seated, TookAndTold, track_of};
 ghost use Rattle.bus_pageslot.specs.Promised.{IsPromised};
 ghost use Rattle.bus_pageslot.specs.Stages.{TakesPageOf};
 ghost use Rattle.bus_pageslot.specs.Steps.{IsDue};
@@ -133,6 +138,19 @@ pub fn rows_used_again_are_safe<Q: Ratifier>()
 {
     election_is_lawful::<Q>();
 }
+
+/// Where rows of words are used again, a sender that answers Behind has loaded the presence of the
+/// sender for which it waits, and has found in it the tenure that it names: its seat shows that
+/// load behind the steps of its sweeps before it.
+pub fn behind_shows_its_load<Q: Ratifier>()
+    ensures { let X = election_of Q.Ratifier in let P = process_again X in
+        (old new : Seated (Visitor (Elector Q))) (word t : ℕ) (p : SenderNo)
+        → TookAndTold P (FeedTells X) old word (Behind t p) new
+        → (track_of P new).sweeps ≡ (track_of P old).sweeps ++ record {
+          op = Load (record { 0 = presence_at (sizes_of old.core) p.0 });
+          got = 1 + t;
+        } ∷ [] }
+{}
 
 /// No turn of a receiver, but after the end, leaves its seat as it was: so none answers without a
 /// step on the table.
