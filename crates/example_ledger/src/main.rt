@@ -4,7 +4,7 @@
 //! to run: the ledgers go to standard error, the verdict to standard output.
 #![tactic(auto)]
 
-ghost use Rattle.std.specs.Prelude.{◌≡◌, ◌↔◌, ◌^◌, ◌<◌, All, IsTrue, IfOk, sum};
+ghost use Rattle.std.specs.Prelude.{◌≡◌, ◌↔◌, ◌^◌, ◌<◌, IsTrue, IfOk, sum};
 ghost use Rattle.std.specs.Bool.{OnFalse};
 ghost use Rattle.bus_receiver.specs.Seats.{table_of};
 ghost use Rattle.example_ledger.specs.Transfers.{after_transfer, message_of, money, CanBePaid};
@@ -12,7 +12,6 @@ ghost use Rattle.example_ledger.specs.Transfers.{after_transfer, message_of, mon
 use anyhow::{Context, ensure};
 use bus_receiver::{Bus, Receiver, RecvTurn, Sender, Shape, Tap, ThreeWord, Turn};
 use rand_pcg::Pcg32;
-use std::alloc::{AllocError, Global};
 use std::marker::Model;
 use std::sync::Wait;
 use std::{io, thread};
@@ -174,39 +173,6 @@ impl<'b> Worker<'b> {
     }
 }
 
-/// A worker for each sender, with the receiver of its number.
-fn workers_of<'b>(
-    alloc: Global,
-    bus: &'b Bus<ThreeWord>,
-    senders: Vec<Sender<ThreeWord>>,
-    taps: Vec<Tap<ThreeWord>>,
-) -> Result<Vec<Worker<'b>>, AllocError>
-    requires senders { All (λ sender. table_of sender ≡ bus.now.table) senders.items }
-    requires taps { All (λ tap. tap.table_id ≡ bus.now.table) taps.items }
-{
-    let mut workers = Vec::new(alloc);
-    for (sender, tap) in senders.into_iter().zip(taps) {
-        workers.push(Worker::new(bus, sender, tap))?;
-    }
-    Ok(workers)
-}
-
-/// Sees that all replicas are equal and that no command is missing. This is tested, not proved:
-/// which commands are refused depends on the order, and no contract here ties a replica to it.
-fn compare<R: Eprint + Wait>(
-    rt: &R,
-    workers: Vec<anyhow::Result<Worker<'_>>>,
-) -> anyhow::Result<()> {
-    let mut first = None;
-    for worker in workers {
-        let ledger = worker?.finish(rt)?;
-        ensure!(ledger == *first.get_or_insert(ledger), "they differ");
-        let commands = ledger.applied.checked_add(ledger.refused);
-        ensure!(commands == Some(30), "a command is missing");
-    }
-    Ok(())
-}
-
 fn main(rt: HostRuntime) -> anyhow::Result<()> {
     let shape = Shape {
         senders: 3,
@@ -216,10 +182,18 @@ fn main(rt: HostRuntime) -> anyhow::Result<()> {
         log_words: 1024,
     };
     let (bus, senders, taps) = Bus::new(rt.alloc(), shape)?;
-    let workers = workers_of(rt.alloc(), &bus, senders, taps)?;
-    compare(
-        &rt,
-        thread::map_vec(&rt, workers, &|worker| worker.work(&rt))?,
-    )?;
+    let mut workers = Vec::new(rt.alloc());
+    for (sender, tap) in senders.into_iter().zip(taps) {
+        workers.push(Worker::new(&bus, sender, tap))?;
+    }
+    // That replicas are equal and no command is missing is tested, not proved: which commands are
+    // refused depends on the order, and no contract here ties a replica to it.
+    let mut first = None;
+    for worker in thread::map_vec(&rt, workers, &|worker| worker.work(&rt))? {
+        let ledger = worker?.finish(&rt)?;
+        ensure!(ledger == *first.get_or_insert(ledger), "they differ");
+        let commands = ledger.applied.checked_add(ledger.refused);
+        ensure!(commands == Some(30), "a command is missing");
+    }
     println!(&rt; "3 replicas, 30 commands: all equal").context("no output")
 }
