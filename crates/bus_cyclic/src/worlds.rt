@@ -23,7 +23,7 @@ ghost use Rattle.bus_cyclic.specs.Following.{owners_with};
 ghost use Rattle.bus_cyclic.specs.Telling.{Tells, EventCauses};
 ghost use Rattle.bus_cyclic.specs.Truth.{TellsTrue, LossesAreSeen};
 
-use crate::limits::MOST_ROWS;
+use crate::limits::MOST_ROWS_AGAIN;
 use crate::shapes::fault_of;
 use crate::starts::new_guests;
 use crate::turns::{close_to, note_owner, put_to, turn_guest};
@@ -58,7 +58,7 @@ pub struct CyclicWorld<Q: Ratifier> {
     guests: Vec<Guest<Q>>,
     receivers: Vec<Reader>,
     /// Who took the last pages, at most as many as there are rows, the oldest first.
-    owners: ArrayVec<SenderNo, MOST_ROWS>,
+    owners: ArrayVec<SenderNo, MOST_ROWS_AGAIN>,
     /// Whether a sender has stopped, by its number.
     stopped: [bool; MOST_SENDERS],
 }
