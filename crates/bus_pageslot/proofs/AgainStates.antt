@@ -25,7 +25,8 @@ use Rattle.bus_cyclic.proofs.StartingLaws.{one_more_guest}
 use Rattle.bus_cyclic.specs.Starting.{AreNewGuests}
 use Rattle.bus_deliverylog.specs.Orders.{of_sender}
 use Rattle.bus_guest.specs.Guests.{Due, Visits, Sweeps, Goes, place_for, log_from, core_looked}
-use Rattle.bus_guest.specs.Turns.{Visitor, due, op_due, op_next, placed, visitor_due, answer_due, queue_seen}
+use Rattle.bus_guest.specs.Turns.{Visitor, due, op_due, op_next, placed, visitor_due, answer_due, queue_seen, answer_going}
+use Rattle.bus_presence.specs.Hall.{Entry, Trails, grown}
 use Rattle.bus_presence.specs.declared.visits.Visit.{Visit}
 use Rattle.bus_presence.specs.declared.visits.Visit.TheVariants.{Away, Entering, Looking, Inside, Parting, Barred}
 use Rattle.bus_tenure.specs.Core.{Core, Election, Layout, log_at, is_empty}
@@ -39,7 +40,7 @@ use Rattle.bus_world.specs.Bus.{IsLayout, Fits, Part, Sending, least_of, standin
 use Rattle.bus_world.proofs.TenuresLaws as tenures
 use Rattle.bus_world.specs.Headline.{Deed, HasPut, HasClosed, IsPrefix, puts}
 use Rattle.bus_world.specs.Log.{Knows, read}
-use Rattle.bus_world.specs.Rings.{Ring, IsKeptRing, RingTrails, RingReached, IsOnWord, yard_of, core_in, visit_in, guest_going, move_due, visitor_moved, with_guest, ring_after, ring_trails, ring_deeds, no_ring_trails}
+use Rattle.bus_world.specs.Rings.{Ring, IsKeptRing, RingTrails, RingReached, IsOnWord, yard_of, core_in, visit_in, guest_going, move_due, visitor_moved, with_guest, ring_after, ring_trails, ring_sweeps, ring_deeds, no_ring_trails}
 use Rattle.bus_world.specs.Rings.RingReached.{NewRing, TurnTaken, PutTaken, CloseTaken, RecvTaken, StopTaken}
 use Rattle.bus_world.specs.Tenures.Stage.{Open, Held}
 use Rattle.bus_world.specs.Trails.{step_deed}
@@ -58,8 +59,9 @@ use Rattle.bus_pageslot.specs.Processes.{IsCounted, log_below}
 use Rattle.bus_pageslot.specs.Lawful.{AutomatonLaws, IsSender, AcceptsIn, StepsIn, HasLog, IsPromisedOf, Opens}
 use Rattle.bus_pageslot.specs.Rule.{IsShown}
 use Rattle.bus_pageslot.specs.RowsApart.{is_holding, is_taken}
-use Rattle.bus_pageslot.specs.RowsAgain.{extent_again, started_again, deeds_due, process_again, bus_again, RingHistory, IsRingHistory}
+use Rattle.bus_pageslot.specs.RowsAgain.{extent_again, started_again, adds_due, process_again, bus_again, RingHistory, IsRingHistory}
 use Rattle.bus_pageslot.specs.Steps.{EndsBy}
+use Rattle.bus_pageslot.specs.Tracks.{Track, with_track}
 use Rattle.bus_pageslot.proofs.AgainTurns.{seen_messages, seen_first}
 use Rattle.bus_pageslot.proofs.ApartTurns as apart
 use Rattle.bus_pageslot.proofs.ApartStates.{stage_tells, silent_page}
@@ -93,6 +95,12 @@ there_shown true o v e = absurd (let bad : None ≡ Some v = e in let wrong : �
 there_shown false o v e = e
 
 -- ---- deeds
+own_grown : (p : ℕ) (e : Entry) (T : Trails) → grown T p e p ≡ T p ++ e ∷ []
+own_grown p e T = ap (λ b. cond b (T p ++ e ∷ []) (T p)) (eq-eqb p p refl)
+
+other_grown : (p : ℕ) (e : Entry) (T : Trails) (q : ℕ) → q ≢ p → grown T p e q ≡ T q
+other_grown p e T q ne = ap (λ b. cond b (T q ++ e ∷ []) (T q)) (ne_eqb q p ne)
+
 own_deeds : (s : ℕ) (ds : List Deed) (D : ℕ → List Deed) → deeds_with s ds D s ≡ D s ++ ds
 own_deeds s ds D = ap (λ b. D s ++ cond b ds []) (eq-eqb s s refl)
 
@@ -309,7 +317,7 @@ module _ {E : Type 0} (X : Election E) (P : Protocol E (Unit {0}) ℕ) (x : Layo
         later = ring_after X b p v (due X v) word
 
         abbrev trails : RingTrails
-        trails = record T { visits = ring_trails b p (due X v) T.visits; deeds = ring_deeds X b p v (due X v) word told T.deeds }
+        trails = record T { visits = ring_trails b p (due X v) T.visits; sweeps = ring_sweeps b p (due X v) T.sweeps; deeds = ring_deeds X b p v (due X v) word told T.deeds }
 
         found_is : number_found (slice_index b.words) (op_due X v (due X v) word) ≡ found
         found_is = ap (number_found (slice_index b.words)) op
@@ -325,15 +333,29 @@ module _ {E : Type 0} (X : Election E) (P : Protocol E (Unit {0}) ℕ) (x : Layo
             let places : place_for b.layout b.rows z ≡ f = λ i. place_for (sym part.layout i) (sym (led.is.rows p v at) i) z in
             ap (λ g. slice_index b.words (g (register q))) places ∙ ap (slice_index b.words) (sym (same_register f q) ∙ ap register (same_Some _ _ e))
 
-        deeds_same : (d : Due E) → op_due X v d word ≡ Some o → (a : Answered) → a ≡ answer_due X v d found word → due_deeds X b.layout b.rows (yard_of b None []) v.core d word a ≡ deeds_due X v d found word
-        deeds_same (Visits u) e a is = refl
-        deeds_same (Sweeps r u) e a is = refl
-        deeds_same (Goes z) e a is =
+        deeds_same : (z : Situation E) → op_due X v (Goes z) word ≡ Some o → (a : Answered) → a ≡ answer_going X v.core z found word → due_deeds X b.layout b.rows (yard_of b None []) v.core (Goes z) word a ≡ (adds_due X v (Goes z) found word).deeds
+        deeds_same z e a is =
             let got = found_at z (op_at X v.core z word) e in
             (λ i. step_deed (kind_at X v.core z) (tenure_at X v.core z) (got i) (chosen_at X v.core z (got i) word) (is i))
 
-        abbrev more : List Deed
-        more = due_deeds X b.layout b.rows (yard_of b None []) v.core (due X v) word told
+        -- what it did, with a step that is due
+        abbrev track_with : (d : Due E) → Answered → ℕ → Track
+        track_with d a q = record {
+          deeds = ring_deeds X b p v d word a T.deeds q;
+          visits = ring_trails b p d T.visits q;
+          sweeps = ring_sweeps b p d T.sweeps q;
+        }
+
+        -- of the step, with the number that its word had, and of nobody else
+        own_track : (d : Due E) → op_due X v d word ≡ Some o → (a : Answered) → a ≡ answer_due X v d found word → track_with d a p ≡ with_track (record { deeds = T.deeds p; visits = T.visits p; sweeps = T.sweeps p }) (adds_due X v d found word)
+        own_track (Visits u) e a is = λ i. record { deeds = own_deeds p [] T.deeds i; visits = (own_grown p (record { op = u; got = slice_index b.words (register u) }) T.visits ∙ ap (λ n. T.visits p ++ record { op = u; got = n } ∷ []) (ap (λ w. slice_index b.words (register w)) (same_Some _ _ e))) i; sweeps = sym (append-nil (T.sweeps p)) i }
+        own_track (Sweeps r u) e a is = λ i. record { deeds = own_deeds p [] T.deeds i; visits = sym (append-nil (T.visits p)) i; sweeps = (own_grown p (record { op = u; got = slice_index b.words (register u) }) T.sweeps ∙ ap (λ n. T.sweeps p ++ record { op = u; got = n } ∷ []) (ap (λ w. slice_index b.words (register w)) (same_Some _ _ e))) i }
+        own_track (Goes z) e a is = λ i. record { deeds = (own_deeds p (due_deeds X b.layout b.rows (yard_of b None []) v.core (Goes z) word a) T.deeds ∙ ap (λ l. T.deeds p ++ l) (deeds_same z e a is)) i; visits = sym (append-nil (T.visits p)) i; sweeps = sym (append-nil (T.sweeps p)) i }
+
+        other_track : (d : Due E) (a : Answered) (q : ℕ) → q ≢ p → track_with d a q ≡ record { deeds = T.deeds q; visits = T.visits q; sweeps = T.sweeps q }
+        other_track (Visits u) a q ne = λ i. record { deeds = other_deeds p [] T.deeds q ne i; visits = other_grown p (record { op = u; got = slice_index b.words (register u) }) T.visits q ne i; sweeps = T.sweeps q }
+        other_track (Sweeps r u) a q ne = λ i. record { deeds = other_deeds p [] T.deeds q ne i; visits = T.visits q; sweeps = other_grown p (record { op = u; got = slice_index b.words (register u) }) T.sweeps q ne i }
+        other_track (Goes z) a q ne = λ i. record { deeds = other_deeds p (due_deeds X b.layout b.rows (yard_of b None []) v.core (Goes z) word a) T.deeds q ne i; visits = T.visits q; sweeps = T.sweeps q }
 
         here_now : slice_get later.guests p ≡ Some (after_of (due X v) b.home found word)
         here_now = get_set_same b.guests p _ (slice_get_within b.guests p v at) ∙ ap (λ n. Some (after_of (due X v) b.home n word)) found_is
@@ -359,8 +381,8 @@ module _ {E : Type 0} (X : Election E) (P : Protocol E (Unit {0}) ℕ) (x : Layo
             reached = record { served = ok; two = two; layout = same; rows_are = rows_are; reached = r; alone = alone; running = running };
             here = get_set_same b.guests p w (slice_get_within b.guests p v at);
             others = λ q ne. get_set_other b.guests p w q ne;
-            deeds = own_deeds p ds T.deeds;
-            nothing_else = λ q ne. other_deeds p ds T.deeds q ne;
+            track = λ i. record { deeds = own_deeds p ds T.deeds i; visits = T.visits p; sweeps = T.sweeps p };
+            nothing_else = λ q ne. (λ i. record { deeds = other_deeds p ds T.deeds q ne i; visits = T.visits q; sweeps = T.sweeps q });
           };
           words = refl;
           home = refl;
@@ -426,15 +448,14 @@ module _ {E : Type 0} (X : Election E) (P : Protocol E (Unit {0}) ℕ) (x : Layo
           let next = has_log next_ring next_trails h.served h.two h.layout h.rows_are next_reached in
           let goes_on = prefix b T h.served h.two h.layout h.rows_are h.reached p v at h.running word o op low_here in
           let begins = frames_begin x.senders 0 0 before.frames next.frames goes_on.rest before.lawful next.lawful (ap (λ l. l ++ goes_on.rest) before.words_are ∙ goes_on.together ∙ sym next.words_are) in
-          let ds = more b T h.served h.two h.layout h.rows_are h.reached p v at h.running word o op low_here in
           record {
             state = record { ring = next_ring; trails = next_trails };
             changes = record {
               reached = record { served = h.served; two = h.two; layout = h.layout; rows_are = h.rows_are; reached = next_reached; alone = h.alone; running = h.running };
               here = here_now b T h.served h.two h.layout h.rows_are h.reached p v at h.running word o op low_here;
               others = λ q ne. get_set_other b.guests p _ q ne;
-              deeds = own_deeds p ds T.deeds ∙ ap (λ l. T.deeds p ++ l) (deeds_same b T h.served h.two h.layout h.rows_are h.reached p v at h.running word o op low_here (due X v) op _ refl);
-              nothing_else = λ q ne. other_deeds p ds T.deeds q ne;
+              track = own_track b T h.served h.two h.layout h.rows_are h.reached p v at h.running word o op low_here (due X v) op _ refl;
+              nothing_else = λ q ne. other_track b T h.served h.two h.layout h.rows_are h.reached p v at h.running word o op low_here (due X v) _ q ne;
             };
             words = ap (words_after b.words) op;
             home = refl;
@@ -517,6 +538,6 @@ opens_again {E} X x rows ok two =
       words = refl;
       home = refl;
       senders = λ p below. guests_has {E = E} x rows x.senders p below;
-      deeds = λ p. refl;
+      track = λ p. refl;
       counted = λ p. let few = ok.capacity in record { first = omega arith; few = omega arith; capacity = few };
     }

@@ -27,7 +27,7 @@ use Rattle.bus_world.specs.Turning.{after_step, before_step}
 use Rattle.bus_world.proofs.RingLaws.{due_goes}
 use Rattle.bus_pageslot.specs.Lawful.{ProcessLaws, IsOneStep}
 use Rattle.bus_pageslot.specs.RowsApart.{is_holding}
-use Rattle.bus_pageslot.specs.RowsAgain.{extent_again, process_again, deeds_due}
+use Rattle.bus_pageslot.specs.RowsAgain.{extent_again, process_again, adds_due}
 use Rattle.bus_pageslot.specs.Sendings.{is_refusal}
 use Rattle.bus_pageslot.specs.Steps.{page_given}
 use Rattle.bus_pageslot.specs.Turns.{is_last}
@@ -329,7 +329,7 @@ module _ {E : Type 0} (X : Election E) (v : Visitor E) where
   refused_rest (Sweeps s o) e = not_last turn.Going refl v.core.queue.messages
   refused_rest (Goes z) e = apart.refused_rest X v.core z (due_goes _ v.sweep (situation_of X v.core) z e)
 
-  one_due : (d : Due E) (got word : ℕ) → (deeds_due X v d got word ≡ []) ⊎ IsOneStep (kind_due X v d) got (answer_due X v d got word) (deeds_due X v d got word)
+  one_due : (d : Due E) (got word : ℕ) → ((adds_due X v d got word).deeds ≡ []) ⊎ IsOneStep (kind_due X v d) got (answer_due X v d got word) (adds_due X v d got word).deeds
   one_due (Visits o) got word = inl refl
   one_due (Sweeps s o) got word = inl refl
   one_due (Goes z) got word = apart.step_is_one (kind_at X v.core z) (tenure_at X v.core z) got (chosen_at X v.core z got word) (answer_due X v (Goes z) got word)

@@ -33,6 +33,7 @@ use Rattle.bus_world.proofs.LogLaws.{length-read}
 use Rattle.bus_pageslot.specs.Processes.{IsCounted}
 use Rattle.bus_pageslot.specs.Lawful.{AutomatonLaws, IsSender, AcceptsIn, StepsIn, HasLog, IsPromisedOf, Opens, no_answers}
 use Rattle.bus_pageslot.specs.RowsApart.{process_apart, bus_apart, extent_of, History, IsHistory}
+use Rattle.bus_pageslot.specs.Tracks.{track_of_deeds}
 use Rattle.bus_pageslot.proofs.ApartTurns.{ends, takes_it}
 use Rattle.bus_pageslot.proofs.Counting.{first_below}
 use Rattle.bus_pageslot.proofs.Histories.{Kept, kept, nobody_did, log_is, log_in_bus, Reaches, takes_message, takes_close, steps, sum_fits, taken}
@@ -98,8 +99,8 @@ module _ {E : Type 0} (X : Election E) (P : Protocol E (Unit {0}) ℕ) (x : Layo
         reached = record { served = h.served; reached = m.reached; alone = h.alone; running = h.running };
         here = get_set_same b.side.senders p d (slice_get_within b.side.senders p c old);
         others = λ q ne. get_set_other b.side.senders p d q ne;
-        deeds = m.longer.own;
-        nothing_else = m.longer.others;
+        track = ap track_of_deeds m.longer.own;
+        nothing_else = λ q ne. ap track_of_deeds (m.longer.others q ne);
       };
       words = refl;
       home = refl;
@@ -114,8 +115,8 @@ module _ {E : Type 0} (X : Election E) (P : Protocol E (Unit {0}) ℕ) (x : Layo
             reached = record { served = h.served; reached = s.reached; alone = s.receivers ∙ h.alone; running = s.stopped ∙ h.running };
             here = ap (λ l. slice_get l p) s.senders ∙ get_set_same b.side.senders p _ (slice_get_within b.side.senders p c old);
             others = λ q ne. ap (λ l. slice_get l q) s.senders ∙ get_set_other b.side.senders p _ q ne;
-            deeds = s.longer.own;
-            nothing_else = s.longer.others;
+            track = ap track_of_deeds s.longer.own;
+            nothing_else = λ q ne. ap track_of_deeds (s.longer.others q ne);
           };
           words = s.words;
           home = s.home;
@@ -219,6 +220,6 @@ opens_apart {E} X x ok = record {
   words = refl;
   home = refl;
   senders = λ p below. crowd_has {E = E} x x.senders p below;
-  deeds = λ p. refl;
+  track = λ p. refl;
   counted = λ p. let few = ok.capacity in record { first = omega arith; few = omega arith; capacity = few };
 }

@@ -15,7 +15,7 @@ use Rattle.bus_pageslot.specs.declared.rule.View.{View}
 use Rattle.bus_pageslot.specs.declared.rule.View.TheVariants.{Sender}
 use Rattle.bus_pageslot.specs.Processes.{Extent, Process, Automaton, log_below}
 use Rattle.bus_pageslot.specs.Lawful.{AutomatonLaws}
-use Rattle.bus_pageslot.specs.Rule.{Sat, trail_in, stored_in, IsSeated, IsShown}
+use Rattle.bus_pageslot.specs.Rule.{Sat, track_in, stored_in, IsSeated, IsShown}
 use Rattle.bus_pageslot.specs.Steps.{IsDue}
 use Rattle.bus_pageslot.proofs.Reaching.{accepted}
 use Rattle.bus_pageslot.proofs.Ties.{no_shorter, front}
@@ -29,7 +29,7 @@ module _ {C : Type 0} (P : Process C) (A : Automaton C) (L : AutomatonLaws P A) 
   pub extends : (o : Op) → IsDue P d word m many o → IsPrefix (log_below A.extent s.words) (log_below A.extent (words_after s.words (Some o)))
   extends o due =
       let c = due.shown in
-      let seated : IsSeated P A r.state r.seat id c (trail_in m.0) (stored_in m.0) = r.views id (Sender c (trail_in m.0) (stored_in m.0)) (at ∙ ap (λ (y : Sat C). some y.0) due.me) in
+      let seated : IsSeated P A r.state r.seat id c (track_in m.0) (stored_in m.0) = r.views id (Sender c (track_in m.0) (stored_in m.0)) (at ∙ ap (λ (y : Sat C). some y.0) due.me) in
       let grown = accepted P A L r.state r.reached c seated.core d due.deeds due.accepts in
       let z = grown.state in
       let is = L.senders z (P.me c) d grown.changes.reached grown.changes.here in

@@ -22,6 +22,7 @@ use Rattle.bus_pageslot.specs.Lawful.{AutomatonLaws}
 use Rattle.bus_pageslot.specs.Rule.{Sat, Seats, IsSeated, KnowsLog, IsTrueOf, IsShown, joined, first_of, second_of, all_knowing, ear_in, with_ear, known_in, capacity_in, IsFirst, IsPair}
 use Rattle.bus_pageslot.specs.Steps.{Accepts, Meets, Met, Learns, KnowsSent}
 use Rattle.bus_pageslot.specs.Seats.{Spot, spot_of, IsTap}
+use Rattle.bus_pageslot.specs.Tracks.{Track}
 use Rattle.bus_pageslot.proofs.AllSeats.{still_seen, seen_longer}
 use Rattle.bus_pageslot.proofs.Hearing.{agree}
 use Rattle.bus_pageslot.proofs.ReaderLaws.{fits_learnt}
@@ -113,9 +114,9 @@ both_agree A z x y e f h k =
 
 module _ {C : Type 0} (P : Process C) (A : Automaton C) (L : AutomatonLaws P A) where
   -- what the log holds of a sender, with all that it has accepted
-  knows_sent : (s : State (Option Page) (View C)) (r : IsShown P A s) (id : ℕ) (c : C) (trail : List Deed) (stored : ℕ) → IsSeated P A r.state r.seat id c trail stored
-      → (e : C) (deeds : List Deed) → Accepts P c e deeds → KnowsSent P e (trail ++ deeds) stored (log_in A r.state)
-  knows_sent s r id c trail stored h e deeds more =
+  knows_sent : (s : State (Option Page) (View C)) (r : IsShown P A s) (id : ℕ) (c : C) (track : Track) (stored : ℕ) → IsSeated P A r.state r.seat id c track stored
+      → (e : C) (deeds : List Deed) → Accepts P c e deeds → KnowsSent P e (track.deeds ++ deeds) stored (log_in A r.state)
+  knows_sent s r id c track stored h e deeds more =
       let m = accepted P A L r.state r.reached c h.core e deeds more in
       let z = m.state in
       let log = L.log z m.changes.reached in
@@ -132,7 +133,7 @@ module _ {C : Type 0} (P : Process C) (A : Automaton C) (L : AutomatonLaws P A) 
           order_is = refl;
           owners_are = refl;
         };
-        sent = ap (λ q. map (λ (i : Item). i.message) (of_sender q order) ++ P.waiting e) is.me ∙ L.sent z (P.me c) e log.frames m.changes.reached m.changes.here log.lawful log.words_are ∙ ap puts (m.changes.deeds ∙ ap (λ l. l ++ deeds) h.deeds);
+        sent = ap (λ q. map (λ (i : Item). i.message) (of_sender q order) ++ P.waiting e) is.me ∙ L.sent z (P.me c) e log.frames m.changes.reached m.changes.here log.lawful log.words_are ∙ ap puts (ap (λ t. t.deeds) m.changes.track ∙ ap (λ t. t.deeds ++ deeds) h.track_is);
         long = let l = size P A s r in let w = ap (λ w. slice_index w 0) r.words in let a = h.reached in omega arith;
       }
 
@@ -163,18 +164,18 @@ module _ {C : Type 0} (P : Process C) (A : Automaton C) (L : AutomatonLaws P A) 
 
 -- what a receiver is told, and what two that meet learn
 module _ {C : Type 0} (P : Process C) where
-  told_at : (c : C) (t : List Deed) (stored : ℕ) (carried : List (ℕ × Option Page)) (y : Extent) (l : Ear) (got : ℕ) (m' n' : Sat C) → Met P (Sender c t stored, carried) (Tap y l, []) got m' n'
-      → (m' ≡ (Sender c t stored, carried)) × Learns (Tap y l, []) got n' × ((e : C) (deeds : List Deed) → Accepts P c e deeds → KnowsSent P e (t ++ deeds) stored (known_in n'.0))
+  told_at : (c : C) (t : Track) (stored : ℕ) (carried : List (ℕ × Option Page)) (y : Extent) (l : Ear) (got : ℕ) (m' n' : Sat C) → Met P (Sender c t stored, carried) (Tap y l, []) got m' n'
+      → (m' ≡ (Sender c t stored, carried)) × Learns (Tap y l, []) got n' × ((e : C) (deeds : List Deed) → Accepts P c e deeds → KnowsSent P e (t.deeds ++ deeds) stored (known_in n'.0))
   told_at c t stored carried y l got m' n' h = (
     h.first,
     record { known = h.known; now = h.second; grows = h.grows.0; length_is = h.length_is; within = h.grows.1 },
-    subst (λ (y : Sat C). (e : C) (deeds : List Deed) → Accepts P c e deeds → KnowsSent P e (t ++ deeds) stored (known_in y.0)) (sym h.second) h.grows.2,
+    subst (λ (y : Sat C). (e : C) (deeds : List Deed) → Accepts P c e deeds → KnowsSent P e (t.deeds ++ deeds) stored (known_in y.0)) (sym h.second) h.grows.2,
   )
 
-  pub told_of : (c : C) (t : List Deed) (stored : ℕ) (carried : List (ℕ × Option Page)) (y : Extent) (l : Ear) (m n : Sat C) (got : ℕ) (m' n' : Sat C) → m ≡ (Sender c t stored, carried) → n ≡ (Tap y l, []) → Met P m n got m' n'
-      → (m' ≡ m) × Learns n got n' × ((e : C) (deeds : List Deed) → Accepts P c e deeds → KnowsSent P e (t ++ deeds) stored (known_in n'.0))
+  pub told_of : (c : C) (t : Track) (stored : ℕ) (carried : List (ℕ × Option Page)) (y : Extent) (l : Ear) (m n : Sat C) (got : ℕ) (m' n' : Sat C) → m ≡ (Sender c t stored, carried) → n ≡ (Tap y l, []) → Met P m n got m' n'
+      → (m' ≡ m) × Learns n got n' × ((e : C) (deeds : List Deed) → Accepts P c e deeds → KnowsSent P e (t.deeds ++ deeds) stored (known_in n'.0))
   told_of c t stored carried y l m n got m' n' em en h =
-      subst (λ (y : Sat C × Sat C). (m' ≡ y.0) × Learns y.1 got n' × ((e : C) (deeds : List Deed) → Accepts P c e deeds → KnowsSent P e (t ++ deeds) stored (known_in n'.0))) (λ i. (sym em i, sym en i))
+      subst (λ (y : Sat C × Sat C). (m' ≡ y.0) × Learns y.1 got n' × ((e : C) (deeds : List Deed) → Accepts P c e deeds → KnowsSent P e (t.deeds ++ deeds) stored (known_in n'.0))) (λ i. (sym em i, sym en i))
       (told_at c t stored carried y l got m' n' (subst (λ (y : Sat C × Sat C). Met P y.0 y.1 got m' n') (λ i. (em i, en i)) h))
 
   met_at : (x : Extent) (k : Ear) (y : Extent) (l : Ear) (got : ℕ) (m' n' : Sat C) → Met P (Tap x k, []) (Tap y l, []) got m' n' → Learns (Tap x k, []) got m' × Learns (Tap y l, []) got n' × (known_in n'.0 ≡ known_in m'.0) × Agree k l
@@ -209,5 +210,5 @@ module _ {C : Type 0} (P : Process C) where
   pub first_of_tap : (m : Sat C) (x : Extent) (k : Ear) → m ≡ (Tap x k, []) → IsFirst m.0
   first_of_tap m x k e = subst (λ (y : Sat C). IsFirst y.0) (sym e) tt
 
-  pub first_of_sender : (m : Sat C) (c : C) (t : List Deed) (stored : ℕ) (carried : List (ℕ × Option Page)) → m ≡ (Sender c t stored, carried) → IsFirst m.0
+  pub first_of_sender : (m : Sat C) (c : C) (t : Track) (stored : ℕ) (carried : List (ℕ × Option Page)) → m ≡ (Sender c t stored, carried) → IsFirst m.0
   first_of_sender m c t stored carried e = subst (λ (y : Sat C). IsFirst y.0) (sym e) tt

@@ -22,6 +22,7 @@ pub mod Loads
 pub mod ReaderLaws
 pub mod Joining
 pub mod Promising
+pub mod SafeSeats
 pub mod OnePage
 pub mod Endings
 pub mod Staging

@@ -7,6 +7,7 @@ use Rattle.atomic_table.specs.Table.{State}
 use Rattle.bus_batch.proofs.FrameLaws.{spells_one}
 use Rattle.bus_tenure.specs.declared.pages.Page.{Page}
 use Rattle.bus_world.specs.Headline.{Deed}
+use Rattle.bus_pageslot.specs.Tracks.{Track}
 use Rattle.bus_pageslot.specs.declared.rule.View.{View}
 use Rattle.bus_pageslot.specs.declared.rule.View.TheVariants.{Maker, Sender, Tap, Meeting, Telling, Spent}
 use Rattle.bus_pageslot.specs.Rule.{Seats, IsShown}
@@ -37,15 +38,15 @@ module _ {C : Type 0} (P : Process C) (x : Extent) (s : State (Option Page) (Vie
   one_page h k = let o = spells_one x.senders (log_below x s.words) h.order k.order h.owners k.owners h.spelled k.spelled in (same_deeds h k, o.0, o.1)
 
   -- the seat of sender 0 alone, of two or more
-  module _ (many : 1 < x.senders) (c : C) (trail : List Deed) (stored : ℕ) (me : P.me c ≡ 0) (is : s.views ≡ Sender c trail stored ∷ []) where
-    only : (j : ℕ) (v : View C) → get_elem? s.views j ≡ some v → Sender c trail stored ≡ v
-    only j v at = the_one (Sender c trail stored) v j (subst (λ (vs : List (View C)). get_elem? vs j ≡ some v) is at)
+  module _ (many : 1 < x.senders) (c : C) (track : Track) (stored : ℕ) (me : P.me c ≡ 0) (is : s.views ≡ Sender c track stored ∷ []) where
+    only : (j : ℕ) (v : View C) → get_elem? s.views j ≡ some v → Sender c track stored ≡ v
+    only j v at = the_one (Sender c track stored) v j (subst (λ (vs : List (View C)). get_elem? vs j ≡ some v) is at)
 
     pub no_page : ¬ IsPromised P x s
-    no_page r = let h = r.shown 1 many in let one : (P.me c ≡ 1) × (r.deeds 1 ≡ trail) = subst (ShowsDeeds P 1 (r.deeds 1)) (sym (only h.0 h.1 h.2)) h.3 in let wrong = one.0 in omega arith
+    no_page r = let h = r.shown 1 many in let one : (P.me c ≡ 1) × (r.deeds 1 ≡ track.deeds) = subst (ShowsDeeds P 1 (r.deeds 1)) (sym (only h.0 h.1 h.2)) h.3 in let wrong = one.0 in omega arith
 
-pub no_bus : {C : Type 0} (P : Process C) (A : Automaton C) (s : State (Option Page) (View C)) → 1 < A.extent.senders → (c : C) (trail : List Deed) (stored : ℕ) → P.me c ≡ 0 → s.views ≡ Sender c trail stored ∷ [] → ¬ IsShown P A s
-no_bus {C} P A s many c trail stored me is r =
+pub no_bus : {C : Type 0} (P : Process C) (A : Automaton C) (s : State (Option Page) (View C)) → 1 < A.extent.senders → (c : C) (track : Track) (stored : ℕ) → P.me c ≡ 0 → s.views ≡ Sender c track stored ∷ [] → ¬ IsShown P A s
+no_bus {C} P A s many c track stored me is r =
     let h = r.all 1 many in
-    let only : Sender c trail stored ≡ h.1 = the_one (Sender c trail stored) h.1 h.0 (subst (λ (vs : List (View C)). get_elem? vs h.0 ≡ some h.1) is h.2) in
+    let only : Sender c track stored ≡ h.1 = the_one (Sender c track stored) h.1 h.0 (subst (λ (vs : List (View C)). get_elem? vs h.0 ≡ some h.1) is h.2) in
     let one : P.me c ≡ 1 = subst (Seats P 1) (sym only) h.3 in omega arith

@@ -19,11 +19,12 @@ use Rattle.bus_pageslot.specs.declared.rule.View.{View}
 use Rattle.bus_pageslot.specs.declared.rule.View.TheVariants.{Maker, Sender, Tap, Meeting, Telling, Spent}
 use Rattle.bus_pageslot.specs.Processes.{Extent, Process, Automaton, IsCounted, log_in}
 use Rattle.bus_pageslot.specs.Lawful.{AutomatonLaws, Opens}
-use Rattle.bus_pageslot.specs.Rule.{slot_of, tap_left, tap_right, trail_in, stored_in, cut_left, cut_right, KnowsLog, IsTrueOf, IsShown}
+use Rattle.bus_pageslot.specs.Rule.{slot_of, tap_left, tap_right, track_in, stored_in, cut_left, cut_right, KnowsLog, IsTrueOf, IsShown}
 use Rattle.bus_pageslot.specs.Steps.{carried_of}
 use Rattle.bus_pageslot.specs.Steps.Accepts.{Nothing}
 use Rattle.bus_pageslot.specs.Seats.{Seated, Spot, Shows, table_of}
 use Rattle.bus_pageslot.specs.Buses.{IsNewSeat, AreNewSeats, IsNewTap, AreNewTaps}
+use Rattle.bus_pageslot.specs.Tracks.{no_track}
 use Rattle.bus_pageslot.proofs.AllSeats.{still_seen, seen_longer}
 use Rattle.bus_pageslot.proofs.Hearing.{heard_new}
 use Rattle.atomic_table.specs.Seated.{TableId}
@@ -56,7 +57,7 @@ module _ {C : Type 0} (P : Process C) (A : Automaton C) (L : AutomatonLaws P A) 
 
   module _ (o : Opens P A) where
     only : (j : ℕ) (v : View C) → get_elem? (first ∷ []) j ≡ some v → IsTrueOf P A o.state (λ p. 0) j v
-    only zero v e = subst (IsTrueOf P A o.state (λ p. 0) 0) (some-injective first v e) (ap A.started (sym (L.started_me 0)), λ p low high. record { here = refl; core = o.senders p high; deeds = o.deeds p })
+    only zero v e = subst (IsTrueOf P A o.state (λ p. 0) 0) (some-injective first v e) (ap A.started (sym (L.started_me 0)), λ p low high. record { here = refl; core = o.senders p high; track_is = o.track p })
     only (suc j) v e = absurd (some-ne-none v (sym e))
 
     pub opens : (ws : List ℕ) → ws ≡ replicate A.extent.words 0 → IsShown P A (opening ws (Some new_page ∷ []) first)
@@ -75,11 +76,11 @@ module _ {C : Type 0} (P : Process C) (A : Automaton C) (L : AutomatonLaws P A) 
     seats_still q at = sit_else seat k count q (λ e. other (sym at ∙ ap seat e ∙ mine)) ∙ at
 
     cut_others : (v : View C) → IsTrueOf P A z seat j v → IsTrueOf P A z (sit seat k count) j v
-    cut_others (Maker c) h = (h.0, λ q low high. let u = h.1 q low high in record { here = seats_still q u.here; core = u.core; deeds = u.deeds })
-    cut_others (Sender c t stored) h = record { here = seats_still (P.me c) h.here; core = h.core; deeds = h.deeds; reached = h.reached }
+    cut_others (Maker c) h = (h.0, λ q low high. let u = h.1 q low high in record { here = seats_still q u.here; core = u.core; track_is = u.track_is })
+    cut_others (Sender c t stored) h = record { here = seats_still (P.me c) h.here; core = h.core; track_is = h.track_is; reached = h.reached }
     cut_others (Tap x e) h = h
     cut_others (Meeting x e y f) h = h
-    cut_others (Telling c t stored x e) h = (record { here = seats_still (P.me c) h.0.here; core = h.0.core; deeds = h.0.deeds; reached = h.0.reached }, h.1)
+    cut_others (Telling c t stored x e) h = (record { here = seats_still (P.me c) h.0.here; core = h.0.core; track_is = h.0.track_is; reached = h.0.reached }, h.1)
     cut_others Spent h = tt
 
   -- a seat for one more sender
@@ -94,7 +95,7 @@ module _ {C : Type 0} (P : Process C) (A : Automaton C) (L : AutomatonLaws P A) 
       let next : P.successor c ≡ A.started (P.me c + 1) = ap P.successor old.0 ∙ L.started_next (P.me c) in
       let next_me : P.me (P.successor c) ≡ P.me c + 1 = ap P.me next ∙ L.started_me (P.me c + 1) in
       let left : View C = Maker (P.successor c) in
-      let right : View C = Sender c [] 0 in
+      let right : View C = Sender c no_track 0 in
       record {
         state = r.state;
         reached = r.reached;
@@ -108,11 +109,11 @@ module _ {C : Type 0} (P : Process C) (A : Automaton C) (L : AutomatonLaws P A) 
         views = λ j v e. elim (at_end (set s.views id left) right v j e) [
           | inl u ↦ ⊎_elim
               (λ (y : (j ≡ id) × (left ≡ v)). subst (λ (z : ℕ × View C). IsTrueOf P A r.state seat z.0 z.1) (λ i. (sym y.0 i, y.1 i))
-              (next ∙ ap A.started (sym next_me), λ q low high. let w = old.1 q (let m = next_me in omega arith) high in record { here = sit_else r.seat (P.me c) count q (λ y. let m = next_me in omega (arith, y)) ∙ w.here; core = w.core; deeds = w.deeds }))
+              (next ∙ ap A.started (sym next_me), λ q low high. let w = old.1 q (let m = next_me in omega arith) high in record { here = sit_else r.seat (P.me c) count q (λ y. let m = next_me in omega (arith, y)) ∙ w.here; core = w.core; track_is = w.track_is }))
               (λ (y : (j ≢ id) × (get_elem? s.views j ≡ some v)). cut_others r.state r.seat (P.me c) id count mine.here j y.0 v (r.views j v y.1))
               (at_set s.views id j left v u)
           | inr u ↦ subst (λ (z : ℕ × View C). IsTrueOf P A r.state seat z.0 z.1) (λ i. (sym (u.0 ∙ length-set s.views id left) i, u.1 i))
-              (record { here = sit_here r.seat (P.me c) count; core = mine.core ∙ ap Some (sym old.0); deeds = mine.deeds; reached = omega arith })
+              (record { here = sit_here r.seat (P.me c) count; core = mine.core ∙ ap Some (sym old.0); track_is = mine.track_is; reached = omega arith })
         ];
       }
 
@@ -141,14 +142,14 @@ module _ {C : Type 0} (P : Process C) (A : Automaton C) (L : AutomatonLaws P A) 
 -- a sender shows the seat that was made for it
 pub shows_new : {C : Type 0} (P : Process C) (A : Automaton C) → AutomatonLaws P A → Opens P A → (k : ℕ) (c : C) (v : View C) (s : Seat (Option Page) (View C)) → c ≡ A.started k → v ≡ Maker (A.started k) → s.me ≡ (cut_right v, []) → s.table_id.words ≡ A.extent.words → s.table_id.slots ≡ 1 → Shows P c s
 shows_new {C} P A L o k c v s is maker me words slots =
-    let now : s.me ≡ (Sender c [] 0, []) = me ∙ ap (λ (y : View C). (cut_right y, [])) maker ∙ ap (λ (y : C). (Sender y [] 0, [])) (sym is) in
+    let now : s.me ≡ (Sender c no_track 0, []) = me ∙ ap (λ (y : View C). (cut_right y, [])) maker ∙ ap (λ (y : C). (Sender y no_track 0, [])) (sym is) in
     let away : P.holds c ≡ false = ap P.holds is ∙ L.started_away k in
     record {
       shown = c;
       deeds = [];
       accepts = Nothing;
       counted = subst (IsCounted P) (sym is) (o.counted k);
-      me = now ∙ (λ i. (Sender c (trail_in (sym now i).0) (stored_in (sym now i).0), carried_of (sym away i)));
+      me = now ∙ (λ i. (Sender c (track_in (sym now i).0) (stored_in (sym now i).0), carried_of (sym away i)));
       words = words ∙ ap (λ (x : Extent). x.words) (sym (ap P.extent is ∙ L.started_extent k));
       slots = slots;
     }

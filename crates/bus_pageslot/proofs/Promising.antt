@@ -15,7 +15,7 @@ use Rattle.bus_world.specs.Headline.{IsPrefix, given, heads}
 use Rattle.bus_pageslot.specs.Ears.{Ear, IsSilent}
 use Rattle.bus_pageslot.specs.declared.rule.View.{View}
 use Rattle.bus_pageslot.specs.declared.rule.View.TheVariants.{Maker, Sender, Tap, Meeting, Telling, Spent}
-use Rattle.bus_pageslot.specs.Processes.{Extent, Process, Automaton, log_below, log_in}
+use Rattle.bus_pageslot.specs.Processes.{Extent, Process, Automaton, log_below, log_in, deeds_at}
 use Rattle.bus_pageslot.specs.Lawful.{AutomatonLaws}
 use Rattle.bus_pageslot.specs.Rule.{KnowsLog, IsTrueOf, Seats, IsShown}
 use Rattle.bus_pageslot.specs.Promised.{Fits, ShowsDeeds, ShowsTrail, IsShownTrail, IsPromised}
@@ -23,20 +23,20 @@ use Rattle.bus_pageslot.proofs.Hearing.{begins_order, begins_owners}
 
 -- ---- deeds
 module _ {C : Type 0} (P : Process C) (A : Automaton C) (z : A.State) (seat : ℕ → ℕ) (j : ℕ) where
-  view_fits : ((p : ℕ) → A.extent.senders ≤ p → A.deeds z p ≡ []) → (v : View C) → IsTrueOf P A z seat j v → Fits P (A.deeds z) (log_in A z) v
-  view_fits nobody (Maker c) h = λ p past. elim (cases_lt p A.extent.senders) [ inl below ↦ (h.1 p past below).deeds | inr none ↦ nobody p none ]
-  view_fits nobody (Sender c t stored) h = h.deeds
+  view_fits : ((p : ℕ) → A.extent.senders ≤ p → deeds_at A z p ≡ []) → (v : View C) → IsTrueOf P A z seat j v → Fits P (deeds_at A z) (log_in A z) v
+  view_fits nobody (Maker c) h = λ p past. elim (cases_lt p A.extent.senders) [ inl below ↦ ap (λ t. t.deeds) (h.1 p past below).track_is | inr none ↦ nobody p none ]
+  view_fits nobody (Sender c t stored) h = ap (λ t. t.deeds) h.track_is
   view_fits nobody (Tap x e) h = h.front
   view_fits nobody (Meeting x e y f) h = (h.0.front, h.1.front)
-  view_fits nobody (Telling c t stored x e) h = (h.0.deeds, h.1.front)
+  view_fits nobody (Telling c t stored x e) h = (ap (λ t. t.deeds) h.0.track_is, h.1.front)
   view_fits nobody Spent h = tt
 
-  view_shows : (v : View C) → IsTrueOf P A z seat j v → (p : ℕ) → p < A.extent.senders → Seats P p v → ShowsDeeds P p (A.deeds z p) v
-  view_shows (Maker c) h p below is = (is, (h.1 p is below).deeds)
-  view_shows (Sender c t stored) h p below is = (is, ap (A.deeds z) (sym is) ∙ h.deeds)
+  view_shows : (v : View C) → IsTrueOf P A z seat j v → (p : ℕ) → p < A.extent.senders → Seats P p v → ShowsDeeds P p (deeds_at A z p) v
+  view_shows (Maker c) h p below is = (is, ap (λ t. t.deeds) (h.1 p is below).track_is)
+  view_shows (Sender c t stored) h p below is = (is, ap (deeds_at A z) (sym is) ∙ ap (λ t. t.deeds) h.track_is)
   view_shows (Tap x e) h p below is = is
   view_shows (Meeting x e y f) h p below is = is
-  view_shows (Telling c t stored x e) h p below is = (is, ap (A.deeds z) (sym is) ∙ h.0.deeds)
+  view_shows (Telling c t stored x e) h p below is = (is, ap (deeds_at A z) (sym is) ∙ ap (λ t. t.deeds) h.0.track_is)
   view_shows Spent h p below is = is
 
 -- ---- answers
@@ -86,9 +86,9 @@ seats_promised {C} P A L s r =
     (λ (z : (j : ℕ) × (v : View C) × (get_elem? s.views j ≡ some v) × ShowsTrail trail v). view_good P A r.state p.order p.owners p.spelled r.seat z.0 z.1 (r.views z.0 z.1 z.2) trail z.3)
     is in
     let q = p.promises in
-    let nobody : (p : ℕ) → A.extent.senders ≤ p → A.deeds r.state p ≡ [] = λ p past. L.nobody r.state p r.reached past in
+    let nobody : (p : ℕ) → A.extent.senders ≤ p → deeds_at A r.state p ≡ [] = λ p past. L.nobody r.state p r.reached past in
     record {
-      deeds = A.deeds r.state;
+      deeds = deeds_at A r.state;
       shown = λ p below. let h = r.all p below in (h.0, h.1, h.2, view_shows P A r.state r.seat h.0 h.1 (r.views h.0 h.1 h.2) p below h.3);
       nobody = nobody;
       order = p.order;
@@ -109,5 +109,5 @@ seats_promised {C} P A L s r =
         closed = q.closed;
         framed = q.framed;
       };
-      views = λ j v e. subst (λ l. Fits P (A.deeds r.state) l v) same (view_fits P A r.state r.seat j nobody v (r.views j v e));
+      views = λ j v e. subst (λ l. Fits P (deeds_at A r.state) l v) same (view_fits P A r.state r.seat j nobody v (r.views j v e));
     }

@@ -12,7 +12,7 @@ use Rattle.bus_pageslot.specs.declared.rule.View.{View}
 use Rattle.bus_pageslot.specs.declared.rule.View.TheVariants.{Sender}
 use Rattle.bus_pageslot.specs.Processes.{Extent, Process}
 use Rattle.bus_pageslot.specs.Lawful.{ProcessLaws, Keeps}
-use Rattle.bus_pageslot.specs.Rule.{Sat, trail_in, stored_in}
+use Rattle.bus_pageslot.specs.Rule.{Sat, track_in, stored_in}
 use Rattle.bus_pageslot.specs.Steps.{Accepts, carried_of, since_in, deeds_in}
 use Rattle.bus_pageslot.specs.Steps.Accepts.{Message, Close}
 use Rattle.bus_pageslot.specs.Seats.{Shows}
@@ -20,11 +20,11 @@ use Rattle.bus_pageslot.proofs.Accepting.{since_is}
 
 module _ {C : Type 0} (P : Process C) (L : ProcessLaws P) (d : C) (s : Seat (Option Page) (View C)) (h : Shows P d s) where
   -- all that it did, by what it has accepted
-  pub deeds_are : (d' : C) (deeds : List Deed) → Accepts P h.shown d' deeds → deeds_in P s.me.0 d' ≡ trail_in s.me.0 ++ deeds
-  deeds_are d' deeds more = ap (λ l. trail_in s.me.0 ++ l) (ap (λ (y : Sat C). since_in P y.0 d') h.me ∙ since_is P L h.shown d' deeds more)
+  pub deeds_are : (d' : C) (deeds : List Deed) → Accepts P h.shown d' deeds → deeds_in P s.me.0 d' ≡ (track_in s.me.0).deeds ++ deeds
+  deeds_are d' deeds more = ap (λ l. (track_in s.me.0).deeds ++ l) (ap (λ (y : Sat C). since_in P y.0 d') h.me ∙ since_is P L h.shown d' deeds more)
 
   more_deeds : (d' : C) (deed : Deed) → Accepts P h.shown d' (h.deeds ++ deed ∷ []) → deeds_in P s.me.0 d' ≡ deeds_in P s.me.0 d ++ deed ∷ []
-  more_deeds d' deed more = deeds_are d' (h.deeds ++ deed ∷ []) more ∙ sym (append_assoc (trail_in s.me.0) h.deeds (deed ∷ [])) ∙ ap (λ l. l ++ deed ∷ []) (sym (deeds_are d h.deeds h.accepts))
+  more_deeds d' deed more = deeds_are d' (h.deeds ++ deed ∷ []) more ∙ sym (append_assoc (track_in s.me.0).deeds h.deeds (deed ∷ [])) ∙ ap (λ l. l ++ deed ∷ []) (sym (deeds_are d h.deeds h.accepts))
 
   -- it shows its seat still, with a batch of as few messages
   still : (d' : C) (deeds : List Deed) → Accepts P h.shown d' deeds → Keeps P d d' → (P.queue d').first ≡ (P.queue d).first → length (P.queue d').messages ≤ 16 → Shows P d' s
@@ -37,7 +37,7 @@ module _ {C : Type 0} (P : Process C) (L : ProcessLaws P) (d : C) (s : Seat (Opt
       few = few;
       capacity = (let a = h.counted.capacity in let x = ap (λ (z : Extent). z.capacity) keeps.extent in omega arith);
     };
-    me = h.me ∙ ap (λ b. (Sender h.shown (trail_in s.me.0) (stored_in s.me.0), carried_of b)) (sym keeps.holds);
+    me = h.me ∙ ap (λ b. (Sender h.shown (track_in s.me.0) (stored_in s.me.0), carried_of b)) (sym keeps.holds);
     words = h.words ∙ ap (λ (z : Extent). z.words) (sym keeps.extent);
     slots = h.slots;
   }

@@ -7,12 +7,13 @@ use Rattle.bus_pageslot.specs.Processes.{Process, Automaton}
 use Rattle.bus_pageslot.specs.Lawful.{AutomatonLaws, AcceptsIn}
 use Rattle.bus_pageslot.specs.Steps.{Accepts}
 use Rattle.bus_pageslot.specs.Steps.Accepts.{Nothing, Message, Close}
+use Rattle.bus_pageslot.specs.Tracks.{with_deeds}
 
 module _ {C : Type 0} (P : Process C) (A : Automaton C) (L : AutomatonLaws P A) (z : A.State) (reached : A.IsReached z) (c : C) (here : A.sender z (P.me c) ≡ Some c) where
   stays_in : AcceptsIn A z (P.me c) c []
   stays_in = record {
     state = z;
-    changes = record { reached = reached; here = here; others = λ q ne. refl; deeds = sym (append-nil (A.deeds z (P.me c))); nothing_else = λ q ne. refl };
+    changes = record { reached = reached; here = here; others = λ q ne. refl; track = ap (λ l. record (A.track z (P.me c)) { deeds = l }) (sym (append-nil (A.track z (P.me c)).deeds)); nothing_else = λ q ne. refl };
     words = refl;
     home = refl;
   }
@@ -24,7 +25,7 @@ module _ {C : Type 0} (P : Process C) (A : Automaton C) (L : AutomatonLaws P A) 
       reached = n.changes.reached;
       here = n.changes.here;
       others = λ q ne. n.changes.others q ne ∙ m.changes.others q ne;
-      deeds = n.changes.deeds ∙ ap (λ l. l ++ more) m.changes.deeds ∙ append_assoc (A.deeds z (P.me c)) deeds more;
+      track = n.changes.track ∙ ap (λ t. with_deeds t more) m.changes.track ∙ ap (λ l. record (A.track z (P.me c)) { deeds = l }) (append_assoc (A.track z (P.me c)).deeds deeds more);
       nothing_else = λ q ne. n.changes.nothing_else q ne ∙ m.changes.nothing_else q ne;
     };
     words = n.words ∙ m.words;

@@ -23,8 +23,8 @@ one_puts_nothing due got a ds (inr one) = ap puts one.is
 
 took_puts : {C : Type 0} (P : Process C) → ProcessLaws P → (old : Seated C) (word : ℕ) (a : Turn) (new : Seated C) → Took P old word a new → puts (deeds_of P new) ≡ puts (deeds_of P old)
 took_puts P K old word a new h =
-    ap puts h.deeds ∙ flat_map-append put_of (deeds_of P old) (P.deeds old.core h.found word)
-    ∙ ap (λ ms. puts (deeds_of P old) ++ ms) (one_puts_nothing (P.kind old.core) h.found (P.answer old.core h.found word) (P.deeds old.core h.found word) (K.one_deed old.core h.found word)) ∙ append-nil (puts (deeds_of P old))
+    ap (λ t. puts t.deeds) h.track ∙ flat_map-append put_of (deeds_of P old) (P.adds old.core h.found word).deeds
+    ∙ ap (λ ms. puts (deeds_of P old) ++ ms) (one_puts_nothing (P.kind old.core) h.found (P.answer old.core h.found word) (P.adds old.core h.found word).deeds (K.one_deed old.core h.found word)) ∙ append-nil (puts (deeds_of P old))
 
 pub turned_puts : {C : Type 0} (P : Process C) → ProcessLaws P → (old : Seated C) (word : ℕ) (a : Turn) (new : Seated C) → Turned P old word a new → puts (deeds_of P new) ≡ puts (deeds_of P old)
 turned_puts P K old word a new h = by_step (P.op old.core word) refl

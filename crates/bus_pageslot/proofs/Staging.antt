@@ -25,7 +25,7 @@ use Rattle.bus_world.proofs.Serving.{Serves}
 use Rattle.bus_world.proofs.TenuresLaws as tenures
 use Rattle.bus_pageslot.specs.declared.rule.View.{View}
 use Rattle.bus_pageslot.specs.declared.rule.View.TheVariants.{Sender}
-use Rattle.bus_pageslot.specs.Rule.{Sat, trail_in, stored_in, IsSeated, IsShown}
+use Rattle.bus_pageslot.specs.Rule.{Sat, track_in, stored_in, IsSeated, IsShown}
 use Rattle.bus_pageslot.specs.Stages.{TakesPageOf}
 use Rattle.bus_pageslot.specs.Steps.{IsDue}
 use Rattle.bus_pageslot.specs.RowsApart.{process_apart, bus_apart}
@@ -129,7 +129,7 @@ pub owners_leave : {E : Type 0} (X : Election E) (P : Protocol E (Unit {0}) ℕ)
 owners_leave {E} X P x y s r id m at d word many t o due is_open leaves =
     let A = bus_apart X x in
     let c = due.shown in
-    let seated : IsSeated (process_apart X) A r.state r.seat id c (trail_in m.0) (stored_in m.0) = r.views id (Sender c (trail_in m.0) (stored_in m.0)) (at ∙ ap (λ (z : Sat (Core E)). some z.0) due.me) in
+    let seated : IsSeated (process_apart X) A r.state r.seat id c (track_in m.0) (stored_in m.0) = r.views id (Sender c (track_in m.0) (stored_in m.0)) (at ∙ ap (λ (z : Sat (Core E)). some z.0) due.me) in
     let grown = accepted (process_apart X) A (automaton_laws X P x y) r.state r.reached c seated.core d due.deeds due.accepts in
     let b : Bus E = grown.state.bus in
     let h = grown.changes.reached in

@@ -17,7 +17,7 @@ use Rattle.bus_batch.specs.Frames.{frame_words, log_words}
 use Rattle.bus_batch.proofs.FrameLaws.{same_log}
 use Rattle.bus_tenure.specs.Situations.{Comes}
 use Rattle.bus_tenure.specs.declared.pages.Page.{Page}
-use Rattle.bus_world.specs.Headline.{Deed, IsPrefix}
+use Rattle.bus_world.specs.Headline.{IsPrefix}
 use Rattle.bus_world.specs.Turning.{words_after, home_moved}
 use Rattle.bus_world.proofs.Growing.{prefix_after}
 use Rattle.bus_world.proofs.LogLaws.{length-read}
@@ -26,8 +26,9 @@ use Rattle.bus_pageslot.specs.declared.rule.View.{View}
 use Rattle.bus_pageslot.specs.declared.rule.View.TheVariants.{Maker, Sender, Tap, Meeting, Telling, Spent}
 use Rattle.bus_pageslot.specs.Processes.{Extent, Process, Automaton, log_below, log_in}
 use Rattle.bus_pageslot.specs.Lawful.{ProcessLaws, AutomatonLaws, ChangesTo, AcceptsIn, StepsIn, LogGrows, IsSender}
-use Rattle.bus_pageslot.specs.Rule.{slot_of, Sat, trail_in, stored_in, IsSeated, IsUnseated, KnowsLog, IsTrueOf, IsShown}
-use Rattle.bus_pageslot.specs.Steps.{deeds_in, since_in, stored_by, Told, Gone, IsDue}
+use Rattle.bus_pageslot.specs.Rule.{slot_of, Sat, track_in, stored_in, IsSeated, IsUnseated, KnowsLog, IsTrueOf, IsShown}
+use Rattle.bus_pageslot.specs.Steps.{all_in, since_in, stored_by, Told, Gone, IsDue}
+use Rattle.bus_pageslot.specs.Tracks.{Track, with_deeds, with_track}
 use Rattle.bus_pageslot.proofs.Accepting.{since_is}
 use Rattle.bus_pageslot.proofs.AllSeats.{still_seen}
 use Rattle.bus_pageslot.proofs.Hearing.{heard_later}
@@ -49,20 +50,20 @@ module _ {C : Type 0} (A : Automaton C) (z z' : A.State) (g : LogGrows A z z') w
       omega arith
 
 -- the views of the others stay true where the sender p, whose seat is id, is replaced
-module _ {C : Type 0} (P : Process C) (A : Automaton C) (z z' : A.State) (seat : ℕ → ℕ) (p id : ℕ) (d : C) (more : List Deed) (on : ChangesTo A z p d more z') (g : LogGrows A z z') (mine : seat p ≡ id) (j : ℕ) (other : j ≢ id) where
+module _ {C : Type 0} (P : Process C) (A : Automaton C) (z z' : A.State) (seat : ℕ → ℕ) (p id : ℕ) (d : C) (all : Track) (on : ChangesTo A z p d all z') (g : LogGrows A z z') (mine : seat p ≡ id) (j : ℕ) (other : j ≢ id) where
   apart : (q : ℕ) → seat q ≡ j → q ≢ p
   apart q at e = other (sym at ∙ ap seat e ∙ mine)
 
-  seated_still : (c : C) (t : List Deed) (stored : ℕ) → IsSeated P A z seat j c t stored → IsSeated P A z' seat j c t stored
+  seated_still : (c : C) (t : Track) (stored : ℕ) → IsSeated P A z seat j c t stored → IsSeated P A z' seat j c t stored
   seated_still c t stored h = record {
     here = h.here;
     core = on.others (P.me c) (apart (P.me c) h.here) ∙ h.core;
-    deeds = on.nothing_else (P.me c) (apart (P.me c) h.here) ∙ h.deeds;
+    track_is = on.nothing_else (P.me c) (apart (P.me c) h.here) ∙ h.track_is;
     reached = let a = h.reached in let l = longer A z z' g in omega arith;
   }
 
   unseated_still : (q : ℕ) → IsUnseated A z seat j q → IsUnseated A z' seat j q
-  unseated_still q h = record { here = h.here; core = on.others q (apart q h.here) ∙ h.core; deeds = on.nothing_else q (apart q h.here) ∙ h.deeds }
+  unseated_still q h = record { here = h.here; core = on.others q (apart q h.here) ∙ h.core; track_is = on.nothing_else q (apart q h.here) ∙ h.track_is }
 
   log_still : (x : Extent) (e : Ear) → KnowsLog A z x e → KnowsLog A z' x e
   log_still x e h =
@@ -87,11 +88,11 @@ module _ {C : Type 0} (P : Process C) (A : Automaton C) (z z' : A.State) (seat :
   others_know Spent h = tt
 
 -- The tie: where a state with the new words, page and sender goes on from the old one, the rule holds of the new table
-pub tie : {C : Type 0} (P : Process C) (A : Automaton C) (s : State (Option Page) (View C)) (r : IsShown P A s) (id : ℕ) (c d : C) (t t' more : List Deed) (stored stored' : ℕ) (words : List ℕ) (homes : List (maybe.Option (Option Page))) (z' : A.State)
-    → ChangesTo A r.state (P.me c) d more z' → LogGrows A r.state z' → A.deeds z' (P.me c) ≡ t' → stored' ≤ slice_index (A.words z') 0
+pub tie : {C : Type 0} (P : Process C) (A : Automaton C) (s : State (Option Page) (View C)) (r : IsShown P A s) (id : ℕ) (c d : C) (t t' : Track) (stored stored' : ℕ) (words : List ℕ) (homes : List (maybe.Option (Option Page))) (z' : A.State)
+    → ChangesTo A r.state (P.me c) d t' z' → LogGrows A r.state z' → stored' ≤ slice_index (A.words z') 0
     → get_elem? s.views id ≡ some (Sender c t stored) → P.me d ≡ P.me c → words ≡ A.words z' → homes ≡ slot_of (A.home z') ∷ []
     → IsShown P A record { words = words; homes = homes; views = set s.views id (Sender d t' stored') }
-tie {C} P A s r id c d t t' more stored stored' words homes z' on grows did long at same words_are slot = let k = r.views id (Sender c t stored) at in record {
+tie {C} P A s r id c d t t' stored stored' words homes z' on grows long at same words_are slot = let k = r.views id (Sender c t stored) at in record {
   state = z';
   reached = on.reached;
   words = words_are;
@@ -99,8 +100,8 @@ tie {C} P A s r id c d t t' more stored stored' words homes z' on grows did long
   seat = r.seat;
   views = λ j v e. ⊎_elim
       (λ (u : (j ≡ id) × (Sender d t' stored' ≡ v)). subst (λ (y : ℕ × View C). IsTrueOf P A z' r.seat y.0 y.1) (λ i. (sym u.0 i, u.1 i))
-      (record { here = ap r.seat same ∙ k.here; core = ap (A.sender z') same ∙ on.here; deeds = ap (A.deeds z') same ∙ did; reached = long }))
-      (λ (u : (j ≢ id) × (get_elem? s.views j ≡ some v)). others_know P A r.state z' r.seat (P.me c) id d more on grows k.here j u.0 v (r.views j v u.1))
+      (record { here = ap r.seat same ∙ k.here; core = ap (A.sender z') same ∙ on.here; track_is = ap (A.track z') same ∙ on.track; reached = long }))
+      (λ (u : (j ≢ id) × (get_elem? s.views j ≡ some v)). others_know P A r.state z' r.seat (P.me c) id d t' on grows k.here j u.0 v (r.views j v u.1))
       (at_set s.views id j (Sender d t' stored') v e);
   all = λ p below. still_seen P s.views id (Sender c t stored) (Sender d t' stored') at p (λ is. same ∙ is) (r.all p below);
 }
@@ -142,11 +143,11 @@ module _ {C : Type 0} (P : Process C) (A : Automaton C) (K : ProcessLaws P) (L :
     abbrev before : ℕ
     before = stored_in m.0
 
-    at_view : get_elem? s.views id ≡ some (Sender c (trail_in m.0) before)
+    at_view : get_elem? s.views id ≡ some (Sender c (track_in m.0) before)
     at_view = at ∙ ap (λ (y : Sat C). some y.0) due.me
 
-    seated : IsSeated P A r.state r.seat id c (trail_in m.0) before
-    seated = r.views id (Sender c (trail_in m.0) before) at_view
+    seated : IsSeated P A r.state r.seat id c (track_in m.0) before
+    seated = r.views id (Sender c (track_in m.0) before) at_view
 
     -- with what it accepted
     grown : AcceptsIn A r.state p d due.deeds
@@ -188,15 +189,24 @@ module _ {C : Type 0} (P : Process C) (A : Automaton C) (K : ProcessLaws P) (L :
     is_now : IsSender P A p d_now
     is_now = L.senders done.state p d_now done.changes.reached placed
 
-    abbrev more : List Deed
-    more = P.deeds d (slice_index (A.words z) (register o)) word
+    -- all that it did by then
+    abbrev track : Track
+    track = with_track (all_in P m.0 d) (P.adds d n word)
 
-    changes : ChangesTo A r.state p d_now (due.deeds ++ more) done.state
+    since : since_in P m.0 d ≡ due.deeds
+    since = ap (λ (y : Sat C). since_in P y.0 d) due.me ∙ since_is P K c d due.deeds due.accepts
+
+    did : A.track done.state p ≡ track
+    did =
+        done.changes.track ∙ ap (λ t. with_track t (P.adds d (slice_index (A.words z) (register o)) word)) (grown.changes.track ∙ ap (λ t. with_deeds t due.deeds) seated.track_is ∙ ap (with_deeds (track_in m.0)) (sym since))
+        ∙ ap (λ k. with_track (all_in P m.0 d) (P.adds d k word)) (sym n_is)
+
+    changes : ChangesTo A r.state p d_now track done.state
     changes = record {
       reached = done.changes.reached;
       here = placed;
       others = λ q ne. done.changes.others q ne ∙ grown.changes.others q ne;
-      deeds = done.changes.deeds ∙ ap (λ l. l ++ more) grown.changes.deeds ∙ append_assoc (A.deeds r.state p) due.deeds more;
+      track = did;
       nothing_else = λ q ne. done.changes.nothing_else q ne ∙ grown.changes.nothing_else q ne;
     }
 
@@ -209,15 +219,6 @@ module _ {C : Type 0} (P : Process C) (A : Automaton C) (K : ProcessLaws P) (L :
       words_are = h.words_are ∙ ap (log_below A.extent) grown.words;
       words_now = h.words_now;
     }
-
-    abbrev trail : List Deed
-    trail = deeds_in P m.0 d ++ P.deeds d n word
-
-    did : A.deeds done.state p ≡ trail
-    did =
-        let since : since_in P m.0 d ≡ due.deeds = ap (λ (y : Sat C). since_in P y.0 d) due.me ∙ since_is P K c d due.deeds due.accepts in
-        done.changes.deeds ∙ ap (λ l. l ++ more) (grown.changes.deeds ∙ ap (λ l. l ++ due.deeds) seated.deeds ∙ ap (λ l. trail_in m.0 ++ l) (sym since))
-        ∙ ap (λ k. deeds_in P m.0 d ++ P.deeds d k word) (sym n_is)
 
     -- the page is at home where it is taken
     taken : (t : ℕ) → P.move d ≡ Comes t → (page : Page) × (A.home r.state ≡ Some page)
@@ -238,10 +239,10 @@ module _ {C : Type 0} (P : Process C) (A : Automaton C) (K : ProcessLaws P) (L :
 
     allowed : (w : View C) × (a : Act (Option Page)) × Valid s.homes m.1 a × IsShown P A record { words = slice_set s.words (register o) (f n); homes = homes_after s.homes m.1 a; views = set s.views id w } × Gone P d word m (g n) (w, carried_after m.1 a)
     allowed = (
-      Sender d_now trail stored,
+      Sender d_now track stored,
       moved.act,
       moved.valid,
-      tie P A s r id c d_now (trail_in m.0) trail (due.deeds ++ more) before stored (slice_set s.words (register o) (f n)) (homes_after s.homes m.1 moved.act) done.state changes grows did stored_now at_view is_now.me words_now
+      tie P A s r id c d_now (track_in m.0) track before stored (slice_set s.words (register o) (f n)) (homes_after s.homes m.1 moved.act) done.state changes grows stored_now at_view is_now.me words_now
           (moved.homes_now ∙ ap (λ (h : Option Page). slot_of h ∷ []) (ap (home_moved (P.move d)) (sym grown.home) ∙ sym done.home)),
       record {
         home = A.home r.state;
@@ -252,7 +253,7 @@ module _ {C : Type 0} (P : Process C) (A : Automaton C) (K : ProcessLaws P) (L :
         answer = mute n;
         counted = is_now.counted;
         ends = L.ends z p d word o grown.changes.reached grown.changes.here due.due (A.home r.state) (g n);
-        now = λ i. (Sender d_now trail stored, moved.carried_now i);
+        now = λ i. (Sender d_now track stored, moved.carried_now i);
       },
     )
 

@@ -11,9 +11,10 @@ use Rattle.bus_tenure.specs.declared.pages.Page.{Page}
 use Rattle.bus_pageslot.specs.declared.rule.View.TheVariants.{Sender}
 use Rattle.bus_pageslot.specs.Processes.{Extent, Process, Automaton, IsCounted}
 use Rattle.bus_pageslot.specs.Lawful.{ProcessLaws, AutomatonLaws}
-use Rattle.bus_pageslot.specs.Rule.{Sat, trail_in, stored_in, IsShown}
-use Rattle.bus_pageslot.specs.Steps.{EndsBy, laid_from, laid_at, carried_of, out_with, carried_by, slot_in, emptied, since_in, deeds_in, stored_by, Told, Gone, GoesOn, Due}
+use Rattle.bus_pageslot.specs.Rule.{Sat, track_in, stored_in, IsShown}
+use Rattle.bus_pageslot.specs.Steps.{EndsBy, laid_from, laid_at, carried_of, out_with, carried_by, slot_in, emptied, since_in, all_in, stored_by, Told, Gone, GoesOn, Due}
 use Rattle.bus_pageslot.specs.Steps.Accepts.{Nothing}
+use Rattle.bus_pageslot.specs.Tracks.{with_deeds, with_track}
 use Rattle.bus_pageslot.proofs.Accepting.{since_is}
 use Rattle.bus_pageslot.proofs.Ties.{goes_allowed}
 
@@ -77,27 +78,27 @@ module _ {C : Type 0} (P : Process C) (K : ProcessLaws P) (d : C) where
       pub core_is : d3 ≡ P.after d gone.home got word
       core_is = laid_is ∙ ended.core
 
-      pub deeds_now : trail_in m3.0 ≡ deeds_in P m.0 d ++ P.deeds d gone.found word
-      deeds_now = ap (λ (y : Sat C). trail_in y.0) me_is ∙ ap (λ (y : Sat C). trail_in y.0) gone.now ∙ ap (λ (y : Sat C). deeds_in P y.0 d ++ P.deeds d gone.found word) put_me
+      track_now : track_in m3.0 ≡ with_track (all_in P m.0 d) (P.adds d gone.found word)
+      track_now = ap (λ (y : Sat C). track_in y.0) me_is ∙ ap (λ (y : Sat C). track_in y.0) gone.now ∙ ap (λ (y : Sat C). with_track (all_in P y.0 d) (P.adds d gone.found word)) put_me
 
       pub stored_now : stored_in m3.0 ≡ stored_by (P.op d word) (stored_in m.0)
       stored_now = ap (λ (y : Sat C). stored_in y.0) me_is ∙ ap (λ (y : Sat C). stored_in y.0) gone.now ∙ ap (λ (y : Sat C). stored_by (P.op d word) (stored_in y.0)) put_me
 
-      pub me_now : m3 ≡ (Sender d3 (trail_in m3.0) (stored_in m3.0), carried_of (P.holds d3))
+      pub me_now : m3 ≡ (Sender d3 (track_in m3.0) (stored_in m3.0), carried_of (P.holds d3))
       me_now = me_is
           ∙ (λ i. ((gone.now i).0, ended.slot i))
-          ∙ (λ i. (Sender (sym core_is i) (deeds_in P m1.0 d ++ P.deeds d gone.found word) (stored_by (P.op d word) (stored_in m1.0)), carried_of (P.holds (sym core_is i))))
+          ∙ (λ i. (Sender (sym core_is i) (with_track (all_in P m1.0 d) (P.adds d gone.found word)) (stored_by (P.op d word) (stored_in m1.0)), carried_of (P.holds (sym core_is i))))
           ∙ (λ i. (Sender d3 (same_trail i) (same_stored i), carried_of (P.holds d3)))
         where
-          same_trail : deeds_in P m1.0 d ++ P.deeds d gone.found word ≡ trail_in m3.0
-          same_trail = sym (ap (λ (y : Sat C). trail_in y.0) gone.now) ∙ sym (ap (λ (y : Sat C). trail_in y.0) me_is)
+          same_trail : with_track (all_in P m1.0 d) (P.adds d gone.found word) ≡ track_in m3.0
+          same_trail = sym (ap (λ (y : Sat C). track_in y.0) gone.now) ∙ sym (ap (λ (y : Sat C). track_in y.0) me_is)
 
           same_stored : stored_by (P.op d word) (stored_in m1.0) ≡ stored_in m3.0
           same_stored = sym (ap (λ (y : Sat C). stored_in y.0) gone.now) ∙ sym (ap (λ (y : Sat C). stored_in y.0) me_is)
 
       -- nothing was accepted since
-      pub all_now : deeds_in P m3.0 d3 ≡ deeds_in P m.0 d ++ P.deeds d gone.found word
-      all_now = ap (λ l. trail_in m3.0 ++ l) (ap (λ (y : Sat C). since_in P y.0 d3) me_now ∙ since_is P K d3 d3 [] Nothing) ∙ append-nil (trail_in m3.0) ∙ deeds_now
+      pub all_now : all_in P m3.0 d3 ≡ with_track (all_in P m.0 d) (P.adds d gone.found word)
+      all_now = ap (with_deeds (track_in m3.0)) (ap (λ (y : Sat C). since_in P y.0 d3) me_now ∙ since_is P K d3 d3 [] Nothing) ∙ ap (λ l. record (track_in m3.0) { deeds = l }) (append-nil (track_in m3.0).deeds) ∙ track_now
 
       pub counted_now : IsCounted P d3
       counted_now = subst (IsCounted P) (sym core_is) gone.counted

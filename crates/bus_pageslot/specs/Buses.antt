@@ -6,10 +6,11 @@ use Rattle.bus_tenure.specs.declared.pages.Page.{Page}
 use Rattle.bus_world.specs.declared.shapes.Shape.{Shape}
 use Rattle.bus_pageslot.specs.declared.rule.View.{View}
 use Rattle.bus_pageslot.specs.declared.rule.View.TheVariants.{Maker}
-use Rattle.bus_pageslot.specs.Seats.{Seated, Spot, table_of, deeds_of, stored_of}
+use Rattle.bus_pageslot.specs.Seats.{Seated, Spot, table_of, track_of, stored_of}
 use Rattle.bus_pageslot.specs.Ears.{new_ear}
 use Rattle.bus_pageslot.specs.Processes.{Extent, Process, Automaton}
 use Rattle.bus_pageslot.specs.Rule.{ear_in, extent_in}
+use Rattle.bus_pageslot.specs.Tracks.{no_track}
 
 -- a bus: its table, and the sizes that were asked for
 pub record Site : Type 0 where
@@ -28,7 +29,7 @@ pub record IsBoard {C : Type 0} (A : Automaton C) (table : TableId) (maker : Sea
 pub record IsNewSeat {C : Type 0} (P : Process C) (A : Automaton C) (table : TableId) (p : ℕ) (s : Seated C) : Type 0 where
   pub core : s.core ≡ A.started p
   pub table_is : table_of s ≡ table
-  pub deeds : deeds_of P s ≡ []
+  pub track : track_of P s ≡ no_track
   pub stored : stored_of s ≡ 0
 
 -- so many of them, in order

@@ -18,9 +18,10 @@ use Rattle.bus_world.specs.Headline.{Deed, HasPut, HasClosed, Stepped, puts, Pro
 use Rattle.bus_world.specs.Log.{Knows}
 use Rattle.bus_world.specs.Turning.{words_after, home_moved}
 use Rattle.bus_world.specs.World.{new_page}
-use Rattle.bus_pageslot.specs.Processes.{Process, Automaton, IsCounted, log_in}
+use Rattle.bus_pageslot.specs.Processes.{Process, Automaton, IsCounted, deeds_at, log_in}
 use Rattle.bus_pageslot.specs.Sendings.{is_refusal}
 use Rattle.bus_pageslot.specs.Steps.{EndsBy, page_given}
+use Rattle.bus_pageslot.specs.Tracks.{Track, no_track, with_deeds, with_track}
 use Rattle.bus_pageslot.specs.Turns.{is_last}
 
 -- ---- a process
@@ -52,7 +53,7 @@ pub record ProcessLaws {C : Type 0} (P : Process C) : Type 0 where
   -- of a sender with nothing in its batch nothing waits
   pub none_hidden : (c : C) → (P.queue c).messages ≡ [] → P.waiting c ≡ []
   -- a step is one deed at most: what it was for, what it found and what it answered
-  pub one_deed : (c : C) (got word : ℕ) → (P.deeds c got word ≡ []) ⊎ IsOneStep (P.kind c) got (P.answer c got word) (P.deeds c got word)
+  pub one_deed : (c : C) (got word : ℕ) → ((P.adds c got word).deeds ≡ []) ⊎ IsOneStep (P.kind c) got (P.answer c got word) (P.adds c got word).deeds
   -- what it accepts joins its batch
   pub message : (c : C) (bytes : List ℕ) → Keeps P c (P.with_message c bytes)
   pub message_waits : (c : C) (bytes : List ℕ) → P.queue (P.with_message c bytes) ≡ record (P.queue c) { messages = (P.queue c).messages ++ bytes ∷ [] }
@@ -73,18 +74,18 @@ pub record IsSender {C : Type 0} (P : Process C) (A : Automaton C) (p : ℕ) (c 
   pub extent : P.extent c ≡ A.extent
   pub counted : IsCounted P c
 
--- from one state to another sender p alone has changed, and has done this more
-pub record ChangesTo {C : Type 0} (A : Automaton C) (z : A.State) (p : ℕ) (d : C) (more : List Deed) (z' : A.State) : Type 0 where
+-- from one state to another sender p alone has changed, and has done all this by then
+pub record ChangesTo {C : Type 0} (A : Automaton C) (z : A.State) (p : ℕ) (d : C) (all : Track) (z' : A.State) : Type 0 where
   pub reached : A.IsReached z'
   pub here : A.sender z' p ≡ Some d
   pub others : (q : ℕ) → q ≢ p → A.sender z' q ≡ A.sender z q
-  pub deeds : A.deeds z' p ≡ A.deeds z p ++ more
-  pub nothing_else : (q : ℕ) → q ≢ p → A.deeds z' q ≡ A.deeds z q
+  pub track : A.track z' p ≡ all
+  pub nothing_else : (q : ℕ) → q ≢ p → A.track z' q ≡ A.track z q
 
 -- it has accepted something: no word has changed
 pub record AcceptsIn {C : Type 0} (A : Automaton C) (z : A.State) (p : ℕ) (d : C) (more : List Deed) : Type 0 where
   pub state : A.State
-  pub changes : ChangesTo A z p d more state
+  pub changes : ChangesTo A z p d (with_deeds (A.track z p) more) state
   pub words : A.words state ≡ A.words z
   pub home : A.home state ≡ A.home z
 
@@ -100,7 +101,7 @@ pub record LogGrows {C : Type 0} (A : Automaton C) (z z' : A.State) : Type 0 whe
 -- it has taken a step: its word has changed, and the page may have moved
 pub record StepsIn {C : Type 0} (P : Process C) (A : Automaton C) (z : A.State) (p : ℕ) (d : C) (word : ℕ) (o : Op) : Type 0 where
   pub state : A.State
-  pub changes : ChangesTo A z p (P.after d (A.home z) (slice_index (A.words z) (register o)) word) (P.deeds d (slice_index (A.words z) (register o)) word) state
+  pub changes : ChangesTo A z p (P.after d (A.home z) (slice_index (A.words z) (register o)) word) (with_track (A.track z p) (P.adds d (slice_index (A.words z) (register o)) word)) state
   pub words : A.words state ≡ words_after (A.words z) (Some o)
   pub home : A.home state ≡ home_moved (P.move d) (A.home z)
   pub grows : LogGrows A z state
@@ -120,7 +121,7 @@ pub record IsPromisedOf {C : Type 0} (A : Automaton C) (z : A.State) : Type 0 wh
   pub order : Order
   pub owners : List (ℕ × SenderNo)
   pub spelled : Spells A.extent.senders (log_in A z) order owners
-  pub promises : Promises (A.deeds z) no_answers order owners
+  pub promises : Promises (deeds_at A z) no_answers order owners
 
 pub record AutomatonLaws {C : Type 0} (P : Process C) (A : Automaton C) : Type 0 where
   pub room : A.extent.log + A.extent.capacity ≤ A.extent.words
@@ -132,7 +133,7 @@ pub record AutomatonLaws {C : Type 0} (P : Process C) (A : Automaton C) : Type 0
   pub started_away : (p : ℕ) → P.holds (A.started p) ≡ false
   pub wide : (z : A.State) → A.IsReached z → length (A.words z) ≡ A.extent.words
   pub senders : (z : A.State) (p : ℕ) (c : C) → A.IsReached z → A.sender z p ≡ Some c → IsSender P A p c
-  pub nobody : (z : A.State) (q : ℕ) → A.IsReached z → A.extent.senders ≤ q → A.deeds z q ≡ []
+  pub nobody : (z : A.State) (q : ℕ) → A.IsReached z → A.extent.senders ≤ q → deeds_at A z q ≡ []
   -- what may happen leads on
   pub message : (z : A.State) (p : ℕ) (c : C) (bytes : List ℕ) → A.IsReached z → A.sender z p ≡ Some c → CanPut (P.queue c) (length bytes) → All (λ byte. byte < 256) bytes → AcceptsIn A z p (P.with_message c bytes) (HasPut (next_of (P.queue c)) bytes ∷ [])
   pub close : (z : A.State) (p : ℕ) (c : C) → A.IsReached z → A.sender z p ≡ Some c → CanClose (P.queue c) → AcceptsIn A z p (P.with_close c) (HasClosed ∷ [])
@@ -149,7 +150,7 @@ pub record AutomatonLaws {C : Type 0} (P : Process C) (A : Automaton C) : Type 0
   pub log : (z : A.State) → A.IsReached z → HasLog A z
   -- of each sender it has what that put, but for what waits
   pub sent : (z : A.State) (p : ℕ) (c : C) (frames : List Frame) → A.IsReached z → A.sender z p ≡ Some c → AreFrames A.extent.senders frames → log_words frames ≡ log_in A z
-      → map (λ (i : Item). i.message) (of_sender p (order_of frames)) ++ P.waiting c ≡ puts (A.deeds z p)
+      → map (λ (i : Item). i.message) (of_sender p (order_of frames)) ++ P.waiting c ≡ puts (deeds_at A z p)
   pub promised : (z : A.State) → A.IsReached z → IsPromisedOf A z
 
 -- how it begins: with words of zero, its page at home and its senders at their starts, of which none has done anything
@@ -159,5 +160,5 @@ pub record Opens {C : Type 0} (P : Process C) (A : Automaton C) : Type 0 where
   pub words : A.words state ≡ replicate A.extent.words 0
   pub home : A.home state ≡ Some new_page
   pub senders : (p : ℕ) → p < A.extent.senders → A.sender state p ≡ Some (A.started p)
-  pub deeds : (p : ℕ) → A.deeds state p ≡ []
+  pub track : (p : ℕ) → A.track state p ≡ no_track
   pub counted : (p : ℕ) → IsCounted P (A.started p)

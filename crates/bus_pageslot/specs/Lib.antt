@@ -1,3 +1,4 @@
+pub mod Tracks
 pub mod Ears
 pub mod Processes
 pub mod Lawful
@@ -15,3 +16,4 @@ pub mod Buses
 pub mod Endings
 pub mod Outcomes
 pub mod Promised
+pub mod SafeSeats

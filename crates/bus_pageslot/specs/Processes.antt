@@ -2,6 +2,7 @@
 -- some states. A bus with a row of words for each tenure is one, and a bus whose rows are used again is another.
 use Rattle.std.specs.Prelude.{ℕ, ◌≤◌, ◌<◌, ◌^◌, Bool, Option, List, length, slice_index}
 use Rattle.bus_register.specs.declared.kinds.Kind.{Kind}
+use Rattle.bus_register.specs.declared.limits.TheConstants.{MOST_MESSAGES}
 use Rattle.bus_register.specs.declared.registers.Op.{Op}
 use Rattle.bus_batch.specs.Batches.{Pending}
 use Rattle.bus_tenure.specs.Situations.{PageMove}
@@ -9,6 +10,7 @@ use Rattle.bus_tenure.specs.declared.pages.Page.{Page}
 use Rattle.bus_tenure.specs.declared.turns.Turn.{Turn}
 use Rattle.bus_world.specs.Headline.{Deed}
 use Rattle.bus_world.specs.Log.{read}
+use Rattle.bus_pageslot.specs.Tracks.{Track}
 
 -- how large a bus is: its senders, all its words, where the first word of its log stands, and how many words the log has
 pub record Extent : Type 0 where
@@ -47,8 +49,8 @@ pub record Process (C : Type 0) : Type 0 where
   -- what it holds after a step that found this number, with that random word, where this page was at home
   pub after : C → (home : Option Page) → (got word : ℕ) → C
   pub answer : C → (got word : ℕ) → Turn
-  -- what such a step adds to its trail
-  pub deeds : C → (got word : ℕ) → List Deed
+  -- what such a step adds to its track
+  pub adds : C → (got word : ℕ) → Track
   -- ---- the same turn, part by part
   -- it holds the page between two turns
   pub holds : C → Bool
@@ -61,7 +63,7 @@ pub record Process (C : Type 0) : Type 0 where
 -- the numbers of a sender's messages stay far below 2^64: each item has a word of the log, and a batch has few messages
 pub record IsCounted {C : Type 0} (P : Process C) (c : C) : Type 0 where
   pub first : (P.queue c).first ≤ (P.extent c).capacity
-  pub few : length (P.queue c).messages ≤ 16
+  pub few : length (P.queue c).messages ≤ MOST_MESSAGES
   pub capacity : (P.extent c).capacity < 2 ^ 40
 
 -- ---- a bus whose senders hold C
@@ -78,7 +80,11 @@ pub record Automaton (C : Type 0) : Type 1 where
   pub home : State → Option Page
   pub sender : State → ℕ → Option C
   -- all that a sender did
-  pub deeds : State → ℕ → List Deed
+  pub track : State → ℕ → Track
+
+-- the deeds of a sender, in a state
+abbrev pub deeds_at : {C : Type 0} → (A : Automaton C) → A.State → ℕ → List Deed
+deeds_at A z p = (A.track z p).deeds
 
 -- the words below the length
 abbrev pub log_below : Extent → List ℕ → List ℕ

@@ -15,19 +15,19 @@ use Rattle.bus_pageslot.specs.declared.rule.View.TheVariants.{Maker, Sender, Tap
 -- a view is true of these deeds of senders, and shows a beginning of this log of its receivers
 abbrev pub Fits : {C : Type 0} → Process C → (ℕ → List Deed) → List ℕ → View C → Type 0
 Fits P deeds log (Maker c) = (p : ℕ) → P.me c ≤ p → deeds p ≡ []
-Fits P deeds log (Sender c trail stored) = deeds (P.me c) ≡ trail
+Fits P deeds log (Sender c track stored) = deeds (P.me c) ≡ track.deeds
 Fits P deeds log (Tap x e) = IsPrefix e.known log
 Fits P deeds log (Meeting x e y f) = IsPrefix e.known log × IsPrefix f.known log
-Fits P deeds log (Telling c trail stored x e) = (deeds (P.me c) ≡ trail) × IsPrefix e.known log
+Fits P deeds log (Telling c track stored x e) = (deeds (P.me c) ≡ track.deeds) × IsPrefix e.known log
 Fits P deeds log Spent = Unit {0}
 
--- a view shows that the sender p did just this: its trail, or nothing while it has no seat of its own
+-- a view shows that the sender p did just these deeds: those of its track, or none while it has no seat of its own
 abbrev pub ShowsDeeds : {C : Type 0} → Process C → ℕ → List Deed → View C → Type 0
 ShowsDeeds P p deeds (Maker c) = (P.me c ≤ p) × (deeds ≡ [])
-ShowsDeeds P p deeds (Sender c trail stored) = (P.me c ≡ p) × (deeds ≡ trail)
+ShowsDeeds P p deeds (Sender c track stored) = (P.me c ≡ p) × (deeds ≡ track.deeds)
 ShowsDeeds P p deeds (Tap x e) = ⊥
 ShowsDeeds P p deeds (Meeting x e y f) = ⊥
-ShowsDeeds P p deeds (Telling c trail stored x e) = (P.me c ≡ p) × (deeds ≡ trail)
+ShowsDeeds P p deeds (Telling c track stored x e) = (P.me c ≡ p) × (deeds ≡ track.deeds)
 ShowsDeeds P p deeds Spent = ⊥
 
 -- a view shows this trail of a receiver of its

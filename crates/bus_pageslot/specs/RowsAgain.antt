@@ -8,7 +8,6 @@ use Rattle.bus_tenure.specs.Core.{Election, Layout}
 use Rattle.bus_tenure.specs.Seen.{turns_of}
 use Rattle.bus_tenure.specs.Situations.{kind_at, tenure_at, chosen_at}
 use Rattle.bus_world.specs.Bus.{IsLayout}
-use Rattle.bus_world.specs.Headline.{Deed}
 use Rattle.bus_world.specs.Rings.{Ring, RingTrails, RingReached, move_due, visitor_moved}
 use Rattle.bus_world.specs.Trails.{step_deed}
 use Rattle.bus_world.specs.Turning.{before_step, after_step, laying}
@@ -16,6 +15,7 @@ use Rattle.bus_world.specs.Waiting.{waiting_at}
 use Rattle.bus_world.specs.World.{new_core, no_stops}
 use Rattle.bus_pageslot.specs.Processes.{Extent, Process, Automaton}
 use Rattle.bus_pageslot.specs.RowsApart.{is_holding, is_taken}
+use Rattle.bus_pageslot.specs.Tracks.{Track, track_of_deeds}
 
 -- with so many rows in place of one for each tenure, and a presence for each sender before them
 abbrev pub extent_again : Layout → ℕ → Extent
@@ -24,11 +24,11 @@ extent_again x rows = record { senders = x.senders; words = log_from x rows + x.
 abbrev pub started_again : {E : Type 0} → Layout → ℕ → ℕ → Visitor E
 started_again x rows p = record { core = new_core x p; visit = Away; sweep = None; lost = None; rows = rows }
 
--- What a step adds to the trail: steps of visits and of sweeps are no deeds.
-abbrev pub deeds_due : {E : Type 0} → Election E → Visitor E → Due E → ℕ → ℕ → List Deed
-deeds_due X v (Visits o) got word = []
-deeds_due X v (Sweeps s o) got word = []
-deeds_due X v (Goes z) got word = step_deed (kind_at X v.core z) (tenure_at X v.core z) got (chosen_at X v.core z got word) (answer_going X v.core z got word)
+-- What a step adds to the track: steps of visits and of sweeps are no deeds.
+abbrev pub adds_due : {E : Type 0} → Election E → Visitor E → Due E → ℕ → ℕ → Track
+adds_due X v (Visits o) got word = record { deeds = []; visits = record { op = o; got = got } ∷ []; sweeps = [] }
+adds_due X v (Sweeps s o) got word = record { deeds = []; visits = []; sweeps = record { op = o; got = got } ∷ [] }
+adds_due X v (Goes z) got word = track_of_deeds (step_deed (kind_at X v.core z) (tenure_at X v.core z) got (chosen_at X v.core z got word) (answer_going X v.core z got word))
 
 abbrev pub process_again : {E : Type 0} → Election E → Process (Visitor E)
 process_again X = record {
@@ -47,7 +47,7 @@ process_again X = record {
   move = λ v. move_due X v (due X v);
   after = λ v home got word. visitor_moved (after_step (move_due X v (due X v))) home (visitor_after X v got word);
   answer = λ v got word. answer_after X v got word;
-  deeds = λ v got word. deeds_due X v (due X v) got word;
+  adds = λ v got word. adds_due X v (due X v) got word;
   holds = λ v. is_holding v.core.phase;
   handed = λ v. visitor_moved (before_step (move_due X v (due X v))) None v;
   fed = λ v got word. visitor_after X v got word;
@@ -79,5 +79,5 @@ bus_again {E} X x rows = record {
   words = λ z. z.ring.words;
   home = λ z. z.ring.home;
   sender = λ z p. slice_get z.ring.guests p;
-  deeds = λ z. z.trails.deeds;
+  track = λ z p. record { deeds = z.trails.deeds p; visits = z.trails.visits p; sweeps = z.trails.sweeps p };
 }

@@ -13,6 +13,7 @@ use Rattle.bus_world.specs.Waiting.{waiting_at}
 use Rattle.bus_world.specs.World.{Bus, new_core, no_stops}
 use Rattle.bus_world.specs.declared.events.Answer.TheVariants as answer
 use Rattle.bus_pageslot.specs.Processes.{Extent, Process, Automaton}
+use Rattle.bus_pageslot.specs.Tracks.{track_of_deeds}
 
 abbrev pub extent_of : Layout → Extent
 extent_of x = record { senders = x.senders; words = words_of x; log = log_at x; capacity = x.capacity }
@@ -50,7 +51,7 @@ process_apart X = record {
   move = λ c. (line_of X c (situation_of X c)).move;
   after = λ c home got word. core_after X c (situation_of X c) home got word;
   answer = λ c got word. answer_at X c (situation_of X c) got word;
-  deeds = λ c got word. turn_deeds X c (situation_of X c) got word (answer.Turn (answer_at X c (situation_of X c) got word));
+  adds = λ c got word. track_of_deeds (turn_deeds X c (situation_of X c) got word (answer.Turn (answer_at X c (situation_of X c) got word)));
   holds = λ c. is_holding c.phase;
   handed = λ c. core_moved (before_step (line_of X c (situation_of X c)).move) None c;
   fed = λ c got word. fed_at X c (situation_of X c) got word;
@@ -79,5 +80,5 @@ bus_apart {E} X x = record {
   words = λ z. z.bus.side.words;
   home = λ z. z.bus.side.home;
   sender = λ z p. slice_get z.bus.side.senders p;
-  deeds = λ z. z.trails.deeds;
+  track = λ z p. track_of_deeds (z.trails.deeds p);
 }

@@ -13,8 +13,9 @@ use Rattle.bus_pageslot.specs.declared.rule.View.{View}
 use Rattle.bus_pageslot.specs.declared.rule.View.TheVariants.{Sender, Tap, Spent}
 use Rattle.bus_pageslot.specs.Ears.{Ear, new_ear}
 use Rattle.bus_pageslot.specs.Processes.{Extent, Process, IsCounted}
-use Rattle.bus_pageslot.specs.Rule.{Sat, trail_in, stored_in, known_in}
-use Rattle.bus_pageslot.specs.Steps.{Accepts, carried_of, deeds_in, stored_by, Told}
+use Rattle.bus_pageslot.specs.Rule.{Sat, track_in, stored_in, known_in}
+use Rattle.bus_pageslot.specs.Steps.{Accepts, carried_of, all_in, stored_by, Told}
+use Rattle.bus_pageslot.specs.Tracks.{Track, with_track}
 
 -- a sender: what it holds, and its seat
 pub record Seated (C : Type 0) : Type 0 where
@@ -26,8 +27,11 @@ abbrev pub table_of : {C : Type 0} → Seated C → TableId
 table_of s = s.seat.table_id
 
 -- all that it did
+abbrev pub track_of : {C : Type 0} → Process C → Seated C → Track
+track_of P s = all_in P s.seat.me.0 s.core
+
 abbrev pub deeds_of : {C : Type 0} → Process C → Seated C → List Deed
-deeds_of P s = deeds_in P s.seat.me.0 s.core
+deeds_of P s = (track_of P s).deeds
 
 -- the last length that it has stored
 abbrev pub stored_of : {C : Type 0} → Seated C → ℕ
@@ -39,13 +43,12 @@ pub record Shows {C : Type 0} (P : Process C) (d : C) (s : Seat (Option Page) (V
   pub deeds : List Deed
   pub accepts : Accepts P shown d deeds
   pub counted : IsCounted P d
-  pub me : s.me ≡ (Sender shown (trail_in s.me.0) (stored_in s.me.0), carried_of (P.holds d))
+  pub me : s.me ≡ (Sender shown (track_in s.me.0) (stored_in s.me.0), carried_of (P.holds d))
   pub words : s.table_id.words ≡ (P.extent d).words
   pub slots : s.table_id.slots ≡ 1
 
--- A sender took the step that was due of it. It and its answer are those of its turn for the number that the step found; and it
--- has one deed more, the step, with the number that its word had, which a store does not tell. Steps of visits and sweeps, where rows
--- are used again, are no deeds.
+-- A sender took the step that was due of it. It and its answer are those of its turn for the number that the step found; and its track
+-- has this step more, with the number that its word had, which a store does not tell.
 pub record Took {C : Type 0} (P : Process C) (old : Seated C) (word : ℕ) (turn : Turn) (new : Seated C) : Type 0 where
   pub got : ℕ
   pub found : ℕ
@@ -58,7 +61,7 @@ pub record Took {C : Type 0} (P : Process C) (old : Seated C) (word : ℕ) (turn
   -- what a store found makes no difference
   pub same_core : P.after old.core home got word ≡ P.after old.core home found word
   pub same_answer : P.answer old.core got word ≡ P.answer old.core found word
-  pub deeds : deeds_of P new ≡ deeds_of P old ++ P.deeds old.core found word
+  pub track : track_of P new ≡ with_track (track_of P old) (P.adds old.core found word)
   pub stored : stored_of new ≡ stored_by (P.op old.core word) (stored_of old)
 
 -- the same, and what its answer tells of what the sender held and of the number that the step found

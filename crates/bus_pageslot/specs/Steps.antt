@@ -17,7 +17,8 @@ use Rattle.bus_pageslot.specs.Ears.{loaded, learnt, Agree}
 use Rattle.bus_pageslot.specs.declared.rule.View.{View}
 use Rattle.bus_pageslot.specs.declared.rule.View.TheVariants.{Maker, Sender, Tap, Meeting, Telling, Spent}
 use Rattle.bus_pageslot.specs.Processes.{Process, IsCounted}
-use Rattle.bus_pageslot.specs.Rule.{Sat, trail_in, stored_in, ear_in, known_in, with_ear, joined, first_of, second_of, all_knowing, extent_in, capacity_in}
+use Rattle.bus_pageslot.specs.Rule.{Sat, track_in, stored_in, ear_in, known_in, with_ear, joined, first_of, second_of, all_knowing, extent_in, capacity_in}
+use Rattle.bus_pageslot.specs.Tracks.{Track, with_deeds, with_track}
 
 -- ---- what a sender accepts between its steps
 -- what a sender has accepted makes this sender of c, and adds these deeds
@@ -41,15 +42,18 @@ accepted_since before now = puts_from (next_of before) (drop (length before.mess
 -- since the last step of a seat with this view its sender, which is now d, has accepted this
 abbrev pub since_in : {C : Type 0} → Process C → View C → C → List Deed
 since_in P (Maker c) d = []
-since_in P (Sender c trail stored) d = accepted_since (P.queue c) (P.queue d)
+since_in P (Sender c track stored) d = accepted_since (P.queue c) (P.queue d)
 since_in P (Tap x e) d = []
 since_in P (Meeting x e y f) d = []
-since_in P (Telling c trail stored x e) d = []
+since_in P (Telling c track stored x e) d = []
 since_in P Spent d = []
 
--- all deeds of a sender d with this view
+-- all that a sender d with this view did, and its deeds among that
+abbrev pub all_in : {C : Type 0} → Process C → View C → C → Track
+all_in P v d = with_deeds (track_in v) (since_in P v d)
+
 abbrev pub deeds_in : {C : Type 0} → Process C → View C → C → List Deed
-deeds_in P v d = trail_in v ++ since_in P v d
+deeds_in P v d = (all_in P v d).deeds
 
 -- ---- the page in the slot
 -- what is out with the seat of a sender between two turns: the slot, where it holds the page
@@ -115,7 +119,7 @@ Told (Store at value) found got = Unit {0}
 Told (Add at value) found got = got ≡ found
 Told (Cas at expected value) found got = got ≡ found
 
--- a seat after the step of a sender d, whatever it showed before: d with its turn, and its deeds with what it accepted and with this step
+-- a seat after the step of a sender d, whatever it showed before: d with its turn, and its track with what it accepted and with this step
 pub record Gone {C : Type 0} (P : Process C) (d : C) (word : ℕ) (m : Sat C) (got : ℕ) (m' : Sat C) : Type 0 where
   -- what was at home, and what the word had, before the step
   pub home : Option Page
@@ -126,7 +130,7 @@ pub record Gone {C : Type 0} (P : Process C) (d : C) (word : ℕ) (m : Sat C) (g
   pub answer : P.answer d got word ≡ P.answer d found word
   pub counted : IsCounted P (P.after d home got word)
   pub ends : EndsBy P d (P.fed d got word) (P.after d home got word) home (P.move d)
-  pub now : m' ≡ (Sender (P.after d home got word) (deeds_in P m.0 d ++ P.deeds d found word) (stored_by (P.op d word) (stored_in m.0)), carried_by (P.move d) home m.1)
+  pub now : m' ≡ (Sender (P.after d home got word) (with_track (all_in P m.0 d) (P.adds d found word)) (stored_by (P.op d word) (stored_in m.0)), carried_by (P.move d) home m.1)
 
 -- the same of the sender that a call picks
 abbrev pub GoesOn : {C : Type 0} → Process C → Option C → ℕ → Sat C → ℕ → Sat C → Type 0
@@ -138,7 +142,7 @@ pub record IsDue {C : Type 0} (P : Process C) (d : C) (word : ℕ) (m : Sat C) (
   pub shown : C
   pub deeds : List Deed
   pub accepts : Accepts P shown d deeds
-  pub me : m ≡ (Sender shown (trail_in m.0) (stored_in m.0), out_with (P.move d) (carried_of (P.holds d)))
+  pub me : m ≡ (Sender shown (track_in m.0) (stored_in m.0), out_with (P.move d) (carried_of (P.holds d)))
   pub due : P.op d word ≡ Some o
   pub below : register o < (P.extent d).words
   pub wide : words ≡ (P.extent d).words
@@ -168,10 +172,10 @@ pub record KnowsSent {C : Type 0} (P : Process C) (c : C) (deeds : List Deed) (s
 -- what the joined seats know of the log grows to this; a sender may have accepted more since its last step; and two receivers agree
 abbrev pub GrowsTo : {C : Type 0} → Process C → View C → List ℕ → Type 0
 GrowsTo P (Maker c) known = Unit {0}
-GrowsTo P (Sender c trail stored) known = Unit {0}
+GrowsTo P (Sender c track stored) known = Unit {0}
 GrowsTo P (Tap x e) known = Unit {0}
 GrowsTo P (Meeting x e y f) known = IsPrefix e.known known × IsPrefix f.known known × (length known ≤ x.capacity) × (length known ≤ y.capacity) × Agree e f
-GrowsTo {C} P (Telling c trail stored x e) known = IsPrefix e.known known × (length known ≤ x.capacity) × ((a : C) (deeds : List Deed) → Accepts P c a deeds → KnowsSent P a (trail ++ deeds) stored known)
+GrowsTo {C} P (Telling c track stored x e) known = IsPrefix e.known known × (length known ≤ x.capacity) × ((a : C) (deeds : List Deed) → Accepts P c a deeds → KnowsSent P a (track.deeds ++ deeds) stored known)
 GrowsTo P Spent known = Unit {0}
 
 -- of the length, by two joined seats

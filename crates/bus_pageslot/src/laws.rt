@@ -10,11 +10,12 @@ ghost use Rattle.atomic_table.specs.Table.{State};
 ghost use Rattle.bus_cyclic.specs.Cyclic as cyclic;
 ghost use Rattle.bus_cyclic.specs.Truth.{LossesAreSeen};
 ghost use Rattle.bus_deliverylog.specs.declared.receiving.RecvTurn.{RecvTurn};
+ghost use Rattle.bus_guest.specs.Guests.{sizes_with};
 ghost use Rattle.bus_guest.specs.Turns.{Visitor};
 ghost use Rattle.bus_tenure.specs.Core.{Core};
 ghost use Rattle.bus_tenure.specs.Elections.{Elector, election_of};
 ghost use Rattle.bus_tenure.specs.declared.pages.Page.{Page};
-ghost use Rattle.bus_world.specs.Headline.{Deed, IsPrefix};
+ghost use Rattle.bus_world.specs.Headline.{IsPrefix};
 ghost use Rattle.bus_world.specs.Playing.{layout_of};
 ghost use Rattle.bus_world.specs.Rings.{IsKeptRing};
 ghost use Rattle.bus_world.specs.Turning.{words_after};
@@ -27,9 +28,11 @@ ghost use Rattle.bus_pageslot.specs.Processes.{Extent, log_below};
 ghost use Rattle.bus_pageslot.specs.RowsAgain.{process_again, bus_again};
 ghost use Rattle.bus_pageslot.specs.RowsApart.{process_apart, bus_apart};
 ghost use Rattle.bus_pageslot.specs.Rule.{Sat, IsShown};
+ghost use Rattle.bus_pageslot.specs.SafeSeats.{AreSafe};
 ghost use Rattle.bus_pageslot.specs.Promised.{IsPromised};
 ghost use Rattle.bus_pageslot.specs.Stages.{TakesPageOf};
 ghost use Rattle.bus_pageslot.specs.Steps.{IsDue};
+ghost use Rattle.bus_pageslot.specs.Tracks.{Track};
 
 use crate::seatables::Seatable;
 use bus_adoptcommit::Ratifier;
@@ -59,12 +62,12 @@ pub fn seats_show_one_page<S: Seatable>()
 /// bus, and no page holds of it.
 pub fn no_page_without_each_sender<S: Seatable>()
     ensures shown { (shape : Shape) (s : State (Option Page) (View S))
-        (c : S) (trail : List Deed) (stored : ℕ) → 1 < (S.automaton shape).extent.senders
-        → S.process.me c ≡ 0 → s.views ≡ Sender c trail stored ∷ []
+        (c : S) (track : Track) (stored : ℕ) → 1 < (S.automaton shape).extent.senders
+        → S.process.me c ≡ 0 → s.views ≡ Sender c track stored ∷ []
         → ¬ IsShown S.process (S.automaton shape) s }
     ensures promised { (x : Extent) (s : State (Option Page) (View S))
-        (c : S) (trail : List Deed) (stored : ℕ) → 1 < x.senders
-        → S.process.me c ≡ 0 → s.views ≡ Sender c trail stored ∷ []
+        (c : S) (track : Track) (stored : ℕ) → 1 < x.senders
+        → S.process.me c ≡ 0 → s.views ≡ Sender c track stored ∷ []
         → ¬ IsPromised S.process x s }
 {}
 
@@ -106,8 +109,11 @@ pub fn only_owners_leave_the_stage<Q: Ratifier>()
 /// Where rows of words are used again, the history of steps that the rule shows is a safe one:
 /// a row is cleared while nobody stands in a tenure of it, who steps in a tenure's row stands in
 /// that tenure, each tenure has at most one owner, who announced for it, and the words below the
-/// length are a log of what was put. And whoever remembers to whom it lost its
-/// tenure has seen the election of that tenure end with this sender, and is not this sender.
+/// length are a log of what was put. Whoever remembers to whom it lost its tenure has seen the
+/// election of that tenure end with this sender, and is not this sender. And the seats show it:
+/// by the steps of its visits that its seat shows, whose election runs stands in its tenure, whose
+/// row has not gone on; and once all presences have passed that a holder asks, nobody stands in a
+/// tenure of the next row.
 pub fn rows_used_again_are_safe<Q: Ratifier>()
     ensures kept { let X = election_of Q.Ratifier in (shape : Shape)
         (s : State (Option Page) (View (Visitor (Elector Q))))
@@ -119,6 +125,11 @@ pub fn rows_used_again_are_safe<Q: Ratifier>()
         → (r : IsShown (process_again X)
         (bus_again X (cyclic.layout_of Q.protocol shape) shape.rows) s)
         → LossesAreSeen r.state.ring r.state.trails.deeds }
+    ensures seats { let X = election_of Q.Ratifier in
+        let x = cyclic.layout_of Q.protocol in (shape : Shape)
+        (s : State (Option Page) (View (Visitor (Elector Q))))
+        → IsShown (process_again X) (bus_again X (x shape) shape.rows) s
+        → AreSafe (sizes_with (x shape) shape.rows) s }
 {
     election_is_lawful::<Q>();
 }

@@ -7,18 +7,17 @@ use bus_world::Shape;
 use std::alloc::Global;
 use std::marker::{Brand, Model, PhantomData};
 
-/// What a sender did, as the page of promises lists it. No value of it is made.
-pub struct Trail {
+/// What a sender did. No value of it is made.
+pub struct Track {
     of: PhantomData<()>,
 }
 
-impl Model for Trail {
-    ghost use Rattle.std.specs.Prelude.{List, []};
-    ghost use Rattle.bus_world.specs.Headline.{Deed};
+impl Model for Track {
+    ghost use Rattle.bus_pageslot.specs.Tracks.{Track, no_track};
 
-    ghost Value = { List Deed };
+    ghost Value = { Track };
 
-    ghost view = { λ _. [] };
+    ghost view = { λ _. no_track };
 }
 
 /// How large a bus is. No value of it is made.
@@ -54,13 +53,13 @@ pub enum View<C> {
     Maker(C),
     /// A sender as it was after its last step, all that it did until then, and the last length
     /// that it has stored.
-    Sender(C, Trail, u64),
+    Sender(C, Track, u64),
     /// A receiver as it was after its last load, on a bus that is so large.
     Tap(Extent, Ear),
     /// Two receivers, joined while they meet.
     Meeting(Extent, Ear, Extent, Ear),
     /// A sender and a receiver, joined while the one tells the other.
-    Telling(C, Trail, u64, Extent, Ear),
+    Telling(C, Track, u64, Extent, Ear),
     /// A seat that went into another.
     Spent,
 }

@@ -11,8 +11,8 @@ use crate::seats::SenderOf;
 use crate::taps::TapOf;
 use atomic_table::Table;
 use bus_register::{NoMemory, SenderNo};
-use bus_tenure::Page;
 use bus_world::Shape;
+use bus_world::starts::NEW_PAGE;
 use std::alloc::Global;
 
 /// The table of a new bus, and the seat that the senders' seats are cut from.
@@ -134,11 +134,3 @@ pub(crate) fn tap_all<S: Seatable + Drop>(
     }
     Ok(taps)
 }
-
-/// The page of a new bus.
-const NEW_PAGE: Page = Page {
-    next: [0; 8],
-    ended: false,
-    tenures: 0,
-    words: 0,
-};

@@ -5,9 +5,10 @@ use Rattle.bus_pageslot.specs.declared.rule.View.{View}
 use Rattle.bus_pageslot.specs.declared.rule.View.TheVariants.{Maker, Sender}
 use Rattle.bus_pageslot.specs.Processes.{Extent}
 use Rattle.bus_pageslot.specs.Rule.{stored_in, cut_left, cut_right, IsShown}
-use Rattle.bus_pageslot.specs.Steps.{deeds_in}
+use Rattle.bus_pageslot.specs.Steps.{all_in}
 use Rattle.bus_pageslot.specs.Steps.Accepts.{Nothing}
-use Rattle.bus_pageslot.specs.Seats.{deeds_of, stored_of}
+use Rattle.bus_pageslot.specs.Seats.{track_of, stored_of}
+use Rattle.bus_pageslot.specs.Tracks.{no_track, with_deeds}
 use Rattle.bus_pageslot.proofs.Accepting.{since_is}
 use Rattle.bus_pageslot.proofs.Openings.{cut_allowed, shows_new}
 use Rattle.bus_pageslot.proofs.seating.seat_next.Goals as goal
@@ -57,6 +58,6 @@ returns-clause-seat g c =
     record {
       core = ap (λ s. s.core) c.seated.ensures ∙ c.start-core.ensures;
       table_is = ap (λ s. s.seat.table_id) c.seated.ensures ∙ split.3;
-      deeds = ap (deeds_of P) c.seated.ensures ∙ ap (λ m. deeds_in P m.0 c.start-core.result) me ∙ ap (λ d. deeds_in P (Sender (A.started c.args.me) [] 0) d) c.start-core.ensures ∙ since_is P c.is_lawful.ensures.process (A.started c.args.me) (A.started c.args.me) [] Nothing;
+      track = ap (track_of P) c.seated.ensures ∙ ap (λ m. all_in P m.0 c.start-core.result) me ∙ ap (λ d. all_in P (Sender (A.started c.args.me) no_track 0) d) c.start-core.ensures ∙ ap (with_deeds no_track) (since_is P c.is_lawful.ensures.process (A.started c.args.me) (A.started c.args.me) [] Nothing);
       stored = ap stored_of c.seated.ensures ∙ ap (λ m. stored_in m.0) me;
     }

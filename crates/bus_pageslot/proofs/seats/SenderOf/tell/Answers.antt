@@ -1,7 +1,7 @@
 use Rattle.std.proofs.Common.{◌<◌, arith, ap, sym, subst, ◌∙◌}
 use Rattle.atomic_table.specs.Seated.{TableId}
 use Rattle.bus_pageslot.specs.Buses.{Site}
-use Rattle.bus_pageslot.specs.Rule.{trail_in, stored_in, known_in}
+use Rattle.bus_pageslot.specs.Rule.{track_in, stored_in, known_in}
 use Rattle.bus_pageslot.specs.Steps.{KnowsSent}
 use Rattle.bus_pageslot.specs.Seats.{Seated, table_of, deeds_of, stored_of}
 use Rattle.bus_pageslot.proofs.Puts.{deeds_are}
@@ -23,6 +23,6 @@ returns-clause-sent g c =
     let seat = c.self.inside.seat in
     let core = c.self.inside.core in
     let known = known_in c.meeting.result.1.me.0 in
-    let told = told_of P h.shown (trail_in seat.me.0) (stored_in seat.me.0) _ n.0 n.1 seat.me c.args.tap.me c.meeting.result.0 c.meeting.new.seat.me c.meeting.result.1.me h.me n.2 c.meeting.ensures.met in
+    let told = told_of P h.shown (track_in seat.me.0) (stored_in seat.me.0) _ n.0 n.1 seat.me c.args.tap.me c.meeting.result.0 c.meeting.new.seat.me c.meeting.result.1.me h.me n.2 c.meeting.ensures.met in
     subst (λ (s : Seated g.row.S.Denot). KnowsSent P s.core (deeds_of P s) (stored_of s) known) c.self.view_is
     (subst (λ l. KnowsSent P core l (stored_in seat.me.0) known) (sym (deeds_are P c.is_lawful.ensures.process core seat h core h.deeds h.accepts)) (told.2 core h.deeds h.accepts))

@@ -1,0 +1,32 @@
+-- What is so of the seats of a bus whose rows are used again, of each sender by the steps of its visits that its seat shows.
+use Rattle.std.specs.Prelude.{◌≡◌, ◌≢◌, ℕ, ◌+◌, ◌/◌, ◌%◌, ◌<◌, ◌≤◌, Option, Some, List, slice_index}
+use mathlib.Core.Option.{some}
+use lib.ListN.{get_elem?}
+use Rattle.atomic_table.specs.Table.{State}
+use Rattle.bus_presence.specs.Hall.{Sizes}
+use Rattle.bus_presence.specs.Standing.{Stands}
+use Rattle.bus_presence.specs.Sweeps.{Sweeping}
+use Rattle.bus_guest.specs.Keeping.{held_of}
+use Rattle.bus_guest.specs.Turns.{Visitor}
+use Rattle.bus_tenure.specs.declared.pages.Page.{Page}
+use Rattle.bus_tenure.specs.declared.phases.Phase.TheVariants.{Electing}
+use Rattle.bus_pageslot.specs.declared.rule.View.{View}
+use Rattle.bus_pageslot.specs.declared.rule.View.TheVariants.{Sender}
+use Rattle.bus_pageslot.specs.Tracks.{Track}
+
+-- the tenure that is open, or whose page is out
+abbrev pub tenure_in : List ℕ → ℕ
+tenure_in words = slice_index words 1 / 2
+
+-- the seat j is that of this sender, which has done this
+abbrev pub Shown : {E : Type 0} → State (Option Page) (View (Visitor E)) → ℕ → Visitor E → Track → Type 0
+Shown s j v track = (stored : ℕ) × (get_elem? s.views j ≡ some (Sender v track stored))
+
+pub record AreSafe {E : Type 0} (x : Sizes) (s : State (Option Page) (View (Visitor E))) : Type 0 where
+  -- whose election runs stands in its tenure, ..
+  pub stands : (j : ℕ) (v : Visitor E) (track : Track) (t : ℕ) (e : E) → Shown s j v track → v.core.phase ≡ Electing t e → Stands x v.core.me track.visits t
+  -- .. which has come, and whose row has not gone on to a later one
+  pub in_time : (j : ℕ) (v : Visitor E) (track : Track) (t : ℕ) (e : E) → Shown s j v track → v.core.phase ≡ Electing t e → (t ≤ tenure_in s.words) × (tenure_in s.words < t + x.rows)
+  -- once all presences have passed that a holder asks, nobody stands in a tenure of the row of the next one
+  pub swept : (j : ℕ) (v : Visitor E) (track : Track) (t : ℕ) (w : Sweeping) → Shown s j v track → held_of v.core.phase ≡ Some t → v.sweep ≡ Some w → x.senders ≤ w.asked
+      → (k : ℕ) (u : Visitor E) (other : Track) (past : ℕ) → Shown s k u other → Stands x u.core.me other.visits past → past % x.rows ≢ (tenure_in s.words + 1) % x.rows
