@@ -35,6 +35,7 @@ use Rattle.bus_world.proofs.Serving.{Serves}
 use Rattle.bus_cyclic.specs.Cyclic.{CyclicBus, LeadTo, AreLastTakers, IsServedRing, last_of, log_of}
 use Rattle.bus_cyclic.specs.Following.{Steps, Follows, grown, turn_grown, heard_grown, TurnsWithin}
 use Rattle.bus_cyclic.specs.Following as following
+use Rattle.bus_cyclic.specs.Staying.{HasGoneOn, deeds_in, stage_of}
 use Rattle.bus_cyclic.specs.Happening.{Happens, GuestDoes, ReaderDoes, TurnAnswers, RecvAnswers, seen}
 use Rattle.bus_cyclic.proofs.LastTakers.{takers_one, last_told, last_beside, put_takes, close_takes}
 
@@ -260,8 +261,9 @@ module _ {E : Type 0} (X : Election E) (P : Protocol E (Unit {0}) ℕ) where
     pub promised : (T : RingTrails) → LeadTo X z T → IsKeptRing X z.ring T
     promised T l = ring_kept X P s.laws s.owner_is s.named s.announces s.apart z.ring (layout_served z.ring.layout z.ring.rows s ok h.rows_some) T l.reached
 
-    pub follows : (e : Event) (a : Answer) (z' : CyclicBus E) → Steps X z e a z' → IsPrefix (log_of z.ring) (log_of z'.ring) → Follows X z e a z'
-    follows e a z' d grows =
+    pub follows : (e : Event) (a : Answer) (z' : CyclicBus E) → Steps X z e a z' → IsPrefix (log_of z.ring) (log_of z'.ring) → stage_of z.ring ≤ stage_of z'.ring
+        → ((T : RingTrails) → LeadTo X z T → (t p : ℕ) → HasGoneOn z.ring t → deeds_in t ((grown X z.ring e a T).deeds p) ≡ deeds_in t (T.deeds p)) → Follows X z e a z'
+    follows e a z' d grows rises stays =
         let same = event_sizes z.ring z'.ring e d.happens in
         record {
           reached = λ T l. leads_on z s ok h.rows_some T l e a z' d;
@@ -270,6 +272,8 @@ module _ {E : Type 0} (X : Election E) (P : Protocol E (Unit {0}) ℕ) where
               ring_kept X P s'.laws s'.owner_is s'.named s'.announces s'.apart z'.ring (layout_served z'.ring.layout z'.ring.rows s' (subst IsLayout (sym same.layout) ok) (subst (λ n. 2 ≤ n) (sym same.rows) h.rows_some)) (grown X z.ring e a T)
               (leads_on z s ok h.rows_some T l e a z' d).reached;
           grows = grows;
+          rises = rises;
+          stays = stays;
         }
 
     layout_h : IsRingLayout X P s.laws s.owner_is s.named s.announces s.apart z.ring.layout z.ring.rows

@@ -204,14 +204,14 @@ module _ {E : Type 0} (X : Election E) (v : Visitor E) (home : Option Page) (wor
       loses = λ u o i. w.loses u o record { parts = i.parts; lost = i.lost };
       holds = λ u i. ap held_of (tells X v.core (GivesBack t page reason) here).2 ∙ w.holds u i;
       barred = w.barred;
-      takes = λ u i. let bad = sym here ∙ i.takes in cc;
+      takes = λ u i. let bad = sym (tells X v.core (GivesBack t page reason) here).2 ∙ i.elects in cc;
       gives = λ u i. w.gives t (handed_ready u i);
       waits = λ i. let bad = sym e ∙ i.looks in cc;
       spent = λ i. let bad = sym e ∙ i.looks in cc;
       behind = λ u p i. let bad = sym now ∙ i.loads in cc;
     }
     gives_too (turn.Lost u o) w = record { parts = w.parts; lost = w.lost }
-    gives_too (turn.Own u) w = absurd (let bad : HasHanded t reason ≡ TakesPage u = w.takes in cc)
+    gives_too (turn.Own u) w = absurd (let bad : phase.Giving t reason ≡ phase.Electing u w.election = w.elects in cc)
     gives_too (turn.Delivered u first last) w = record { gives = readies u w.gives; published = shows u Sent (sent_on u t reason _ w.published refl); sends = w.sends; first_is = w.first_is; last_is = w.last_is }
     gives_too turn.Full w = record { tenure = w.tenure; gives = readies w.tenure w.gives; lacks = shows w.tenure NoRoom (full_on g.core w.tenure t reason _ w.lacks refl) }
     gives_too turn.Closed w = record {

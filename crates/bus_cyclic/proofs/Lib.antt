@@ -3,6 +3,8 @@ pub mod StartingLaws
 pub mod LastTakers
 pub mod CyclicLaws
 pub mod LogGrowing
+pub mod Staying
+pub mod SameDeeds
 pub mod LossLaws
 pub mod TruthLaws
 pub mod EventLaws

@@ -45,18 +45,19 @@ use Rattle.bus_cyclic.proofs.CyclicLaws.{layout_served, led}
 abbrev IsApart : ℕ → ℕ → Op → Type 0
 IsApart from len o = ((r : ℕ) × (o ≡ Load record { 0 = r })) ⊎ ((register o ≢ 0) × ((register o < from) ⊎ (from + len ≤ register o)))
 
+-- a load leaves all words
+pub loads_same : (xs : List ℕ) (r q : ℕ) → r < length xs → slice_index (slice_set xs r (slice_index xs r)) q ≡ slice_index xs q
+loads_same xs r q l = elim (cases_eq q r) [
+  | inl i ↦ ap (slice_index (slice_set xs r (slice_index xs r))) i ∙ get_or-set_same xs r (slice_index xs r) 0 l ∙ ap (slice_index xs) (sym i)
+  | inr ne ↦ get_or-set_other xs r q (slice_index xs r) 0 ne
+]
+
 module _ (xs : List ℕ) (from : ℕ) where
   abbrev len : ℕ
   len = slice_index xs 0
 
-  loads_same : (r q : ℕ) → r < length xs → slice_index (slice_set xs r (slice_index xs r)) q ≡ slice_index xs q
-  loads_same r q l = elim (cases_eq q r) [
-    | inl i ↦ ap (slice_index (slice_set xs r (slice_index xs r))) i ∙ get_or-set_same xs r (slice_index xs r) 0 l ∙ ap (slice_index xs) (sym i)
-    | inr ne ↦ get_or-set_other xs r q (slice_index xs r) 0 ne
-  ]
-
   word_same : (o : Op) → register o < length xs → IsApart from len o → (q : ℕ) → (q ≡ 0) ⊎ ((from ≤ q) × (q < from + len)) → slice_index (words_after xs (Some o)) q ≡ slice_index xs q
-  word_same o low (inl load) q here = subst (λ p. slice_index (words_after xs (Some p)) q ≡ slice_index xs q) (sym load.1) (loads_same load.0 q (subst (λ p. register p < length xs) load.1 low))
+  word_same o low (inl load) q here = subst (λ p. slice_index (words_after xs (Some p)) q ≡ slice_index xs q) (sym load.1) (loads_same xs load.0 q (subst (λ p. register p < length xs) load.1 low))
   word_same o low (inr far) q here = get_or-set_other xs (register o) q _ 0 (λ e. elim here [
     | inl i ↦ far.0 (sym e ∙ i)
     | inr i ↦ (let a = i.0 in let b = i.1 in elim far.1 [ inl l ↦ omega arith | inr l ↦ omega arith ])
@@ -86,7 +87,7 @@ module _ (xs : List ℕ) (from : ℕ) where
       }
 
 -- ---- a step of a visit, and of a sweep
-visits_due : {E : Type 0} (d : Option Op) (s : Option Sweeping) (z : Situation E) (o : Op) → due_beside d s z ≡ Visits o → d ≡ Some o
+pub visits_due : {E : Type 0} (d : Option Op) (s : Option Sweeping) (z : Situation E) (o : Op) → due_beside d s z ≡ Visits o → d ≡ Some o
 visits_due (Some p) s z o e = ap Some (let same : p ≡ o = cc in same)
 visits_due None s z o e = absurd (by_sweep (sweep_due z s) e)
   where
@@ -98,15 +99,15 @@ visits_due None s z o e = absurd (by_sweep (sweep_due z s) e)
     by_sweep None e = cc
     by_sweep (Some r) e = by_step r (sweep_op r) z e
 
-record IsSweepDue {E : Type 0} (z : Situation E) (s : Option Sweeping) (r : Sweeping) (o : Op) : Type 0 where
-  tenure : ℕ
-  page : Page
-  reason : Reason
-  is : z ≡ GivesBack tenure page reason
-  same : s ≡ Some r
-  step : sweep_op r ≡ Some o
+pub record IsSweepDue {E : Type 0} (z : Situation E) (s : Option Sweeping) (r : Sweeping) (o : Op) : Type 0 where
+  pub tenure : ℕ
+  pub page : Page
+  pub reason : Reason
+  pub is : z ≡ GivesBack tenure page reason
+  pub same : s ≡ Some r
+  pub step : sweep_op r ≡ Some o
 
-sweeps_due : {E : Type 0} (d : Option Op) (s : Option Sweeping) (z : Situation E) (r : Sweeping) (o : Op) → due_beside d s z ≡ Sweeps r o → IsSweepDue z s r o
+pub sweeps_due : {E : Type 0} (d : Option Op) (s : Option Sweeping) (z : Situation E) (r : Sweeping) (o : Op) → due_beside d s z ≡ Sweeps r o → IsSweepDue z s r o
 sweeps_due (Some p) s z r o e = absurd cc
 sweeps_due {E} None s z r o e = by_home (sweep_due z s) refl e
   where

@@ -4,6 +4,7 @@ use Rattle.bus_register.specs.declared.limits.TheConstants.{MOST_SENDERS, MOST_R
 use Rattle.bus_register.specs.Protocol.{Protocol}
 use Rattle.bus_adoptcommit.specs.declared.verdicts.Verdict.{Verdict}
 use Rattle.bus_deliverylog.specs.Receiving.{Receiving}
+use Rattle.bus_guest.specs.declared.limits.TheConstants.{LEAST_ROWS_AGAIN, MOST_ROWS_AGAIN}
 use Rattle.bus_guest.specs.Guests.{log_from}
 use Rattle.bus_guest.specs.Turns.{Visitor}
 use Rattle.bus_tenure.specs.Core.{Election, Layout}
@@ -17,7 +18,6 @@ use Rattle.bus_world.specs.Trails.{Takers}
 use Rattle.bus_world.specs.declared.shapes.Shape.{Shape}
 use Rattle.bus_world.specs.declared.shapes.MakeFault.{MakeFault}
 use Rattle.bus_world.specs.declared.shapes.MakeFault.TheVariants as make
-use Rattle.bus_cyclic.specs.declared.limits.TheConstants.{LEAST_ROWS, MOST_ROWS}
 
 -- with who took the last pages, the oldest first
 pub record CyclicBus (E : Type 0) : Type 0 where
@@ -42,7 +42,7 @@ pub record IsServed (shape : Shape) : Type 0 where
   pub senders : Within 1 MOST_SENDERS shape.senders
   pub receivers : Within 1 MOST_RECEIVERS shape.receivers
   pub rounds : Within 1 MOST_ROUNDS shape.rounds
-  pub rows : Within LEAST_ROWS MOST_ROWS shape.rows
+  pub rows : Within LEAST_ROWS_AGAIN MOST_ROWS_AGAIN shape.rows
   pub log_words : Within LEAST_LOG_WORDS MOST_LOG_WORDS shape.log_words
 
 -- why no bus is made: each cause where it holds and no earlier one
@@ -50,9 +50,9 @@ abbrev pub MakeRefused : Shape → MakeFault → Type 0
 MakeRefused shape make.Senders = Beyond 1 MOST_SENDERS shape.senders
 MakeRefused shape make.Receivers = Within 1 MOST_SENDERS shape.senders × Beyond 1 MOST_RECEIVERS shape.receivers
 MakeRefused shape make.Rounds = Within 1 MOST_SENDERS shape.senders × Within 1 MOST_RECEIVERS shape.receivers × Beyond 1 MOST_ROUNDS shape.rounds
-MakeRefused shape make.Rows = Within 1 MOST_SENDERS shape.senders × Within 1 MOST_RECEIVERS shape.receivers × Within 1 MOST_ROUNDS shape.rounds × Beyond LEAST_ROWS MOST_ROWS shape.rows
+MakeRefused shape make.Rows = Within 1 MOST_SENDERS shape.senders × Within 1 MOST_RECEIVERS shape.receivers × Within 1 MOST_ROUNDS shape.rounds × Beyond LEAST_ROWS_AGAIN MOST_ROWS_AGAIN shape.rows
 MakeRefused shape make.LogWords =
-    Within 1 MOST_SENDERS shape.senders × Within 1 MOST_RECEIVERS shape.receivers × Within 1 MOST_ROUNDS shape.rounds × Within LEAST_ROWS MOST_ROWS shape.rows × Beyond LEAST_LOG_WORDS MOST_LOG_WORDS shape.log_words
+    Within 1 MOST_SENDERS shape.senders × Within 1 MOST_RECEIVERS shape.receivers × Within 1 MOST_ROUNDS shape.rounds × Within LEAST_ROWS_AGAIN MOST_ROWS_AGAIN shape.rows × Beyond LEAST_LOG_WORDS MOST_LOG_WORDS shape.log_words
 MakeRefused shape make.NoMemory = IsServed shape
 
 -- a new bus of this shape
@@ -84,8 +84,8 @@ pub record LeadTo {E : Type 0} (X : Election E) (z : CyclicBus E) (T : RingTrail
 -- what every such bus that a program holds keeps: some trails lead to it
 pub record IsServedRing {E : Type 0} (X : Election E) (z : CyclicBus E) : Type 0 where
   pub senders_few : z.ring.layout.senders ≤ MOST_SENDERS
-  pub rows_some : LEAST_ROWS ≤ z.ring.rows
-  pub rows_few : z.ring.rows ≤ MOST_ROWS
+  pub rows_some : LEAST_ROWS_AGAIN ≤ z.ring.rows
+  pub rows_few : z.ring.rows ≤ MOST_ROWS_AGAIN
   pub capacity_few : z.ring.layout.capacity ≤ MOST_LOG_WORDS
   pub tenures : z.ring.layout.rows ≡ TENURES
   pub senders : length z.ring.guests ≡ z.ring.layout.senders

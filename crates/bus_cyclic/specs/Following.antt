@@ -1,5 +1,5 @@
 -- How events extend the trails of a bus whose rows are used again, which trails lead to it, and what is promised of it then.
-use Rattle.std.specs.Prelude.{◌≡◌, ℕ, Option, Some, None, List, [], ◌∷◌, take, slice_get}
+use Rattle.std.specs.Prelude.{◌≡◌, ℕ, ◌≤◌, Option, Some, None, List}
 use Rattle.bus_deliverylog.specs.declared.receiving.RecvTurn.{RecvTurn}
 use Rattle.bus_guest.specs.Turns.{Visitor, due, op_next}
 use Rattle.bus_tenure.specs.Core.{Election}
@@ -11,9 +11,9 @@ use Rattle.bus_world.specs.World.{Event, Put, Close, Turn, Recv, Stop, IsEvent}
 use Rattle.bus_world.specs.Yards.{deeds_with, answers_with}
 use Rattle.bus_world.specs.declared.events.Answer.{Answer}
 use Rattle.bus_world.specs.declared.events.Answer.TheVariants as answer
-use Rattle.bus_world.specs.declared.events.StepFault.{StepFault}
 use Rattle.bus_cyclic.specs.Cyclic.{CyclicBus, LeadTo, last_of, log_of}
-use Rattle.bus_cyclic.specs.Happening.{Happens, Answers, Refused}
+use Rattle.bus_cyclic.specs.Happening.{Happens, Answers}
+use Rattle.bus_cyclic.specs.Staying.{HasGoneOn, deeds_in, stage_of}
 
 -- the trails after a turn of the sender that there is, by its answer
 abbrev pub turn_grown : {E : Type 0} → Election E → Ring E → ℕ → Option (Visitor E) → ℕ → Answer → RingTrails → RingTrails
@@ -78,33 +78,11 @@ pub record Steps {E : Type 0} (X : Election E) (old : CyclicBus E) (e : Event) (
   pub owners : new.owners ≡ owners_with old e a
 
 -- Whatever trails led to the old bus, with what this event and its answer add they lead to the new one, and the promise holds of them.
--- The log below the length is extended, and never otherwise changed.
+-- The log below the length is extended, and never otherwise changed. The stage never falls; and of a tenure whose row had gone on before,
+-- no sender takes a step, so what was elected there stays as it is.
 pub record Follows {E : Type 0} (X : Election E) (old : CyclicBus E) (e : Event) (a : Answer) (new : CyclicBus E) : Type 0 where
   pub reached : (T : RingTrails) → LeadTo X old T → LeadTo X new (grown X old.ring e a T)
   pub promised : (T : RingTrails) → LeadTo X old T → IsKeptRing X new.ring (grown X old.ring e a T)
   pub grows : IsPrefix (log_of old.ring) (log_of new.ring)
-
--- each event is answered, one after another
-abbrev pub AllAnswered : {E : Type 0} → Election E → CyclicBus E → List Event → CyclicBus E → Type 0
-AllAnswered X old [] new = new ≡ old
-AllAnswered {E} X old (e ∷ events) new = (mid : CyclicBus E) × (a : Answer) × Steps X old e a mid × AllAnswered X mid events new
-
--- the trails after a list of events with their answers
-abbrev pub trails_after : {E : Type 0} (X : Election E) (old : CyclicBus E) (events : List Event) (new : CyclicBus E) → AllAnswered X old events new → RingTrails → RingTrails
-trails_after X old [] new run T = T
-trails_after X old (e ∷ events) new run T = trails_after X run.0 events new run.3 (grown X old.ring e run.1 T)
-
--- All events were answered, one after another. Whatever trails led to the old bus, with what the events and their answers add they lead
--- to the new one, and the promise holds of them. The log below the length is extended, and never otherwise changed.
-pub record Played {E : Type 0} (X : Election E) (old : CyclicBus E) (events : List Event) (new : CyclicBus E) : Type 0 where
-  pub answered : AllAnswered X old events new
-  pub reached : (T : RingTrails) → LeadTo X old T → LeadTo X new (trails_after X old events new answered T)
-  pub promised : (T : RingTrails) → LeadTo X old T → IsKeptRing X new.ring (trails_after X old events new answered T)
-  pub grows : IsPrefix (log_of old.ring) (log_of new.ring)
-
--- the event at a place is the first that is refused: those before it have happened, and no other
-pub record Stops {E : Type 0} (X : Election E) (old : CyclicBus E) (events : List Event) (place : ℕ) (why : StepFault) (new : CyclicBus E) : Type 0 where
-  pub played : Played X old (take place events) new
-  pub event : Event
-  pub at : slice_get events place ≡ Some event
-  pub refused : Refused new.ring event why
+  pub rises : stage_of old.ring ≤ stage_of new.ring
+  pub stays : (T : RingTrails) → LeadTo X old T → (t s : ℕ) → HasGoneOn old.ring t → deeds_in t ((grown X old.ring e a T).deeds s) ≡ deeds_in t (T.deeds s)

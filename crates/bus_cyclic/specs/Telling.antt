@@ -51,7 +51,7 @@ TurnTells X words None word a = Unit {0}
 TurnTells X words (Some v) word a = AnswerTells X words v word a
 
 -- So Behind is answered only by a holder that loaded a presence with this step and found in it the tenure whose row is to be cleared;
--- Lost only by who clears its presence after it lost that tenure to that owner; Own only by who stood in that tenure and was chosen;
+-- Lost only by who clears its presence after it lost that tenure to that owner; Own only by who stood in that tenure, whose election had chosen it;
 -- Delivered, Full and, of a turn that took a step, Closed only by who gives the page back, when the row of the next tenure is ready:
 -- Delivered with the numbers of its batch, whose frame the length has taken in, Full where its frame does not fit behind the words that
 -- the page counts. Going is answered only where none of these is due.

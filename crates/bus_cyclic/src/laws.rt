@@ -1,10 +1,12 @@
-//! What no bus whose rows are used again is, and what no turn on it may answer.
+//! What no bus whose rows are used again is, what no turn on it may answer, and what of a tenure
+//! stays once its row has gone on.
 
-ghost use Rattle.std.specs.Prelude.{ℕ, List};
+ghost use Rattle.std.specs.Prelude.{◌≡◌, ℕ, List};
 ghost use Rattle.bus_tenure.specs.Core.{Core};
 ghost use Rattle.bus_tenure.specs.Elections.{Elector};
 ghost use Rattle.bus_world.specs.Headline.{Deed};
 ghost use Rattle.bus_world.specs.Rings.{Ring};
+ghost use Rattle.bus_cyclic.specs.Staying.{deeds_in, SaysNoMore};
 ghost use Rattle.bus_cyclic.specs.Truth.{LossesRefuse, AnswersRefuse};
 
 use bus_adoptcommit::Ratifier;
@@ -21,4 +23,12 @@ pub fn losses_refuse<Q: Ratifier>()
 pub fn answers_refuse<Q: Ratifier>()
     ensures { (ring : Ring (Elector Q)) (sender : ℕ) (core : Core (Elector Q)) (deeds : List Deed)
         → AnswersRefuse ring sender core deeds }
+{}
+
+/// A sender whose deeds in a tenure are the same as before has announced itself there, has seen its
+/// election end with an owner, and has taken its page, only where it had done so before. So what
+/// was elected in a tenure stays as it is, once its row has gone on.
+pub fn same_deeds_say_no_more()
+    ensures { (t : ℕ) (before after : List Deed) → deeds_in t after ≡ deeds_in t before
+        → SaysNoMore t before after }
 {}

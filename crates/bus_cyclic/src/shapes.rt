@@ -4,7 +4,7 @@ ghost use Rattle.std.specs.Prelude.{◌≡◌, IfSome, None, ◌≢◌};
 ghost use Rattle.bus_cyclic.specs.Cyclic.{IsServed, MakeRefused};
 ghost use Rattle.bus_world.specs.declared.shapes.MakeFault.TheVariants.{NoMemory};
 
-use crate::limits::{LEAST_ROWS, MOST_ROWS};
+use crate::limits::{LEAST_ROWS_AGAIN, MOST_ROWS_AGAIN};
 use bus_register::limits::{
     LEAST_LOG_WORDS, MOST_LOG_WORDS, MOST_RECEIVERS, MOST_ROUNDS, MOST_SENDERS,
 };
@@ -22,7 +22,7 @@ pub fn fault_of(shape: Shape) -> Option<MakeFault>
         Some(MakeFault::Receivers)
     } else if shape.rounds < 1 || shape.rounds > MOST_ROUNDS {
         Some(MakeFault::Rounds)
-    } else if shape.rows < LEAST_ROWS || shape.rows > MOST_ROWS as u64 {
+    } else if shape.rows < LEAST_ROWS_AGAIN || shape.rows > MOST_ROWS_AGAIN as u64 {
         Some(MakeFault::Rows)
     } else if shape.log_words < LEAST_LOG_WORDS || shape.log_words > MOST_LOG_WORDS {
         Some(MakeFault::LogWords)

@@ -17,7 +17,7 @@ ghost use Rattle.bus_cyclic.specs.Cyclic.{last_of};
 ghost use Rattle.bus_cyclic.specs.Happening.{seen};
 ghost use Rattle.bus_cyclic.specs.Telling.{StepTells};
 
-use crate::limits::MOST_ROWS;
+use crate::limits::MOST_ROWS_AGAIN;
 use arrayvec::ArrayVec;
 use bus_adoptcommit::Ratifier;
 use bus_guest::Guest;
@@ -145,13 +145,13 @@ pub fn close_to<Q: Ratifier + Drop>(guest: &mut Guest<Q>) -> Result<(), StepFaul
 
 /// Who took the last pages, at most as many as there are rows, after this answer of a sender.
 pub fn note_owner(
-    owners: &mut ArrayVec<SenderNo, MOST_ROWS>,
+    owners: &mut ArrayVec<SenderNo, MOST_ROWS_AGAIN>,
     rows: u64,
     sender: SenderNo,
     turn: Turn,
 )
     requires some { 1 ≤ rows }
-    requires few { rows ≤ MOST_ROWS }
+    requires few { rows ≤ MOST_ROWS_AGAIN }
     requires room { length owners.old.items ≤ rows }
     ensures owners { map (λ s. s.0) owners.new.items ≡ last_of rows
         (owners_by turn sender.0 (map (λ s. s.0) owners.old.items)) }

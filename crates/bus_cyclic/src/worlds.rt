@@ -18,12 +18,13 @@ ghost use Rattle.bus_world.specs.World.{IsEvent, given_at, is_set};
 ghost use Rattle.bus_cyclic.specs.Cyclic.{layout_of, log_of, IsMade, MakeRefused, LeadTo};
 ghost use Rattle.bus_cyclic.specs.Cyclic.{AreLastTakers};
 ghost use Rattle.bus_cyclic.specs.Happening.{Happens, Answers, Refused, seen};
-ghost use Rattle.bus_cyclic.specs.Following.{Follows, Played, Stops, StepsWithin};
+ghost use Rattle.bus_cyclic.specs.Following.{Follows, StepsWithin};
+ghost use Rattle.bus_cyclic.specs.Playing.{Played, Stops};
 ghost use Rattle.bus_cyclic.specs.Following.{owners_with};
 ghost use Rattle.bus_cyclic.specs.Telling.{Tells, EventCauses};
 ghost use Rattle.bus_cyclic.specs.Truth.{TellsTrue, LossesAreSeen};
 
-use crate::limits::MOST_ROWS;
+use crate::limits::MOST_ROWS_AGAIN;
 use crate::shapes::fault_of;
 use crate::starts::new_guests;
 use crate::turns::{close_to, note_owner, put_to, turn_guest};
@@ -58,7 +59,7 @@ pub struct CyclicWorld<Q: Ratifier> {
     guests: Vec<Guest<Q>>,
     receivers: Vec<Reader>,
     /// Who took the last pages, at most as many as there are rows, the oldest first.
-    owners: ArrayVec<SenderNo, MOST_ROWS>,
+    owners: ArrayVec<SenderNo, MOST_ROWS_AGAIN>,
     /// Whether a sender has stopped, by its number.
     stopped: [bool; MOST_SENDERS],
 }
@@ -304,7 +305,8 @@ impl<Q: Ratifier + Drop> CyclicWorld<Q> {
     /// By the deeds of all trails that lead here, with this turn: a sender that answers Lost saw
     /// the election of that tenure end with the owner that it names, which is another sender; one
     /// that answers Own is elected and took the page; what is Delivered is the last frame of the
-    /// order; and Full is answered only where the frame does not fit behind the log.
+    /// order; and Full is answered only where the frame does not fit behind the log. No turn is a
+    /// step in a tenure whose row had gone on before: what was elected there stays as it is.
     pub fn step(&mut self, event: &Event) -> Result<Answer, StepFault>
         ensures is { IsEvent (event_told event.now) }
         ensures happens { let X = election_of Q.Ratifier in
@@ -331,12 +333,13 @@ impl<Q: Ratifier + Drop> CyclicWorld<Q> {
         self.take_in(event)
     }
 
-    /// Events, one after another, up to the first that is refused. Takes no memory.
+    /// Events, one after another, up to the first that is refused. Of each that happened all is so
+    /// that `step` says of it. Takes no memory.
     pub fn play(&mut self, events: &[Event]) -> Result<(), PlayFault>
         ensures played { let X = election_of Q.Ratifier in
-            OnOk result (Played X self.old (map event_told events.now) self.new) }
+            OnOk result (Played X Q.protocol self.old (map event_told events.now) self.new) }
         ensures stopped { let X = election_of Q.Ratifier in
-            IfErr result (λ fault. Stops X self.old (map event_told events.now)
+            IfErr result (λ fault. Stops X Q.protocol self.old (map event_told events.now)
             fault.place fault.why self.new) }
     {
         election_is_lawful::<Q>();

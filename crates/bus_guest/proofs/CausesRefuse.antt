@@ -71,10 +71,13 @@ module _ {S : Type 0} (P : Protocol S Bool Verdict) (v : Visitor (Elector S)) wh
   pub refused : RefusesCauses P v
   refused = record {
     elects_away = λ k i e w. let s = stands k i w in let bad = sym e ∙ s.visit in cc;
+    elects_unseen = λ k t i e w. let s = stands k i w in let bad = sym e ∙ s.visit in cc;
     elects_too_soon = λ k t i e w. let s = stands k i w in let bad = sym e ∙ s.visit in cc;
     elects_elsewhere = λ k t u e i at runs apart w.
         let s = stands k i w in
         apart (same_inside t s.tenure (sym at ∙ s.visit) ∙ (same_election s.tenure u s.election e (sym s.elects ∙ runs)).0);
+    elects_while_parting = λ k t i e w. let s = stands k i w in let bad = sym e ∙ s.visit in cc;
+    elects_barred = λ k t i e w. let s = stands k i w in let bad = sym e ∙ s.visit in cc;
     takes_undecided = λ t e runs open_still w.
         let same = (same_election t w.1.tenure e w.1.election (sym runs ∙ w.1.elects)).1 in
         let bad = sym open_still ∙ ap (elections P v.core.layout.rounds).output same ∙ w.1.spells in cc;

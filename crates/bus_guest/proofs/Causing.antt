@@ -13,13 +13,14 @@ use Rattle.bus_presence.specs.Sweeps.{Sweeping, sweep_op}
 use Rattle.bus_presence.specs.Visits.{step_at}
 use Rattle.bus_presence.specs.declared.visits.Visit.{Visit}
 use Rattle.bus_presence.specs.declared.visits.Visit.TheVariants.{Away, Entering, Looking, Inside, Parting, Barred}
-use Rattle.bus_tenure.specs.Causes.{HasCause as HasCauseApart, LeavesPage, HasHandedOn}
+use Rattle.bus_tenure.specs.Causes.{HasCause as HasCauseApart, IsCaused as IsCausedApart, LeavesPage, HasHandedOn}
 use Rattle.bus_tenure.specs.Core.{Core, Election, stage_at, frame_len, has_room}
-use Rattle.bus_tenure.specs.Elections.{Elector}
-use Rattle.bus_tenure.specs.Situations.{Situation, IsClosed, IsIdle, IsSpent, LooksAtStage, Elects, TakesPage, AwaitsPage, StoresWord, StoresLength, GivesBack, HasHanded, situation_at, situation_of}
+use Rattle.bus_tenure.specs.Elections.{Elector, election_with}
+use Rattle.bus_tenure.specs.Situations.{Situation, IsClosed, IsIdle, IsSpent, LooksAtStage, Elects, TakesPage, AwaitsPage, StoresWord, StoresLength, GivesBack, HasHanded, kind_at, situation_at, situation_of}
 use Rattle.bus_tenure.specs.declared.pages.Page.{Page}
 use Rattle.bus_tenure.specs.declared.phases.Reason.{Reason}
 use Rattle.bus_tenure.specs.declared.phases.Reason.TheVariants.{Sent, FoundEnd, NoRoom}
+use Rattle.bus_tenure.specs.declared.phases.Phase.{Phase}
 use Rattle.bus_tenure.specs.declared.phases.Phase.TheVariants.{Electing, Holding}
 use Rattle.bus_tenure.proofs.Situated.{tells}
 use Rattle.bus_guest.specs.Besides.{sweeps_by, due_by}
@@ -29,7 +30,7 @@ use Rattle.bus_guest.specs.Guests.{Sweeps, Goes, due_beside}
 use Rattle.bus_guest.specs.Keeping.{IsOutside, IsInside, VisitKeeps, IsHeldSweep, SweepKeeps, LostKeeps, GuestKeeps, held_of}
 use Rattle.bus_guest.specs.Turns.{Visitor, sizes_of, due, kind_due, kind_of_visit, kind_of_sweep}
 use Rattle.bus_guest.proofs.Keeps.{swept_beside}
-use Rattle.bus_guest.proofs.Tells.{WhyGiven, sweeps_beside, ready_of, handed_of, given_for}
+use Rattle.bus_guest.proofs.Tells.{ChoosesItself, WhyGiven, sweeps_beside, ready_of, handed_of, given_for}
 
 -- ---- what is due
 -- a step of a sweep is due only of who would give the page back
@@ -61,6 +62,9 @@ sweeping None s (HasHanded t reason) r o e = absurd cc
 settled : {E : Type 0} (v : Option Op) (s : Option Sweeping) (z w : Situation E) → due_beside v s z ≡ Goes w → v ≡ None
 settled (Some p) s z w e = absurd cc
 settled None s z w e = refl
+
+same_tenure : {E : Type 0} (t u : ℕ) (e f : E) → ◌≡◌ {A = Phase E} (Electing t e) (Electing u f) → t ≡ u
+same_tenure t u e f i = cc
 
 -- ---- what a sweep has left
 word_left : (s : Sweeping) (a : Bool) → a ≡ false → (b : Bool) → nat_lt s.cleared s.width ≡ b → (o p r : Op) → cond a (Some o) (cond b (Some p) None) ≡ Some r → s.cleared < s.width
@@ -95,6 +99,15 @@ module _ {E : Type 0} (X : Election E) (c : Core E) (t : ℕ) (page : Page) wher
   gives stored published holds why =
       let g = gives_by stored published page.ended (has_room c page) refl why (nat_lt stored (frame_len c)) in
       (g.0, ap (situation_at X c) holds ∙ g.1)
+
+-- ---- a sender whose steps have their causes takes a page only where the election chose it
+pub chooses_itself : {S : Type 0} (kind_of : S → Option Kind) (op : S → ℕ → Option Op) (fed : S → ℕ → ℕ → S) (P : Protocol S Bool Verdict) (c : Core (Elector S)) → IsCausedApart (election_with kind_of op fed P) P c → ChoosesItself (election_with kind_of op fed P) c
+chooses_itself kind_of op fed P c caused t i =
+    let X = election_with kind_of op fed P in
+    let why = caused kind.TakePage (ap (kind_at X c) i) in
+    let runs = tells X c (TakesPage t) i in
+    let same : why.tenure ≡ t = same_tenure why.tenure t why.election runs.0 (sym why.elects ∙ runs.1) in
+    (why.election, why.elects ∙ ap (λ u. Electing u why.election) same, why.spells)
 
 -- ---- a guest
 module _ {S : Type 0} (P : Protocol S Bool Verdict) (X : Election (Elector S)) (v : Visitor (Elector S)) (width : ℕ) (Belongs : ℕ → Elector S → Type 0) (k : GuestKeeps width Belongs v) where

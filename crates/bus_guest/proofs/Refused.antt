@@ -1,17 +1,26 @@
 -- Each of the wrong answers is refused.
 use Rattle.std.proofs.Common.{◌≡◌, inl, inr, ℕ, ◌+◌, ◌<◌, Bool, true, false, arith, sym, ◌∙◌, ap, subst}
 use Rattle.std.proofs.lemmas.Bool.{true≢false}
+use Rattle.std.proofs.lemmas.Option.{same_Some}
+use Rattle.bus_presence.specs.declared.visits.Visit.TheVariants.{Inside}
 use Rattle.bus_tenure.specs.Core.{Core, Election, frame_len}
+use Rattle.bus_tenure.specs.Situations.{LooksAtStage, situation_of}
 use Rattle.bus_tenure.specs.declared.pages.Page.{Page}
 use Rattle.bus_tenure.specs.declared.phases.Phase.{Phase}
-use Rattle.bus_tenure.specs.declared.phases.Phase.TheVariants.{Resting, Holding}
+use Rattle.bus_tenure.specs.declared.phases.Phase.TheVariants.{Resting, Electing, Holding}
+use Rattle.bus_tenure.proofs.Situated.{tells}
+use Rattle.bus_guest.specs.Guests.{Goes}
 use Rattle.bus_guest.specs.Keeping.{held_of}
 use Rattle.bus_guest.specs.Refused.{AnswersRefuse}
 use Rattle.bus_guest.specs.Telling.{HasPublished, Published, HandsOnSent, LacksRoom, FindsNoRoom, HandsOnFull, FindsEnd, Ended, HandsOnEnd}
-use Rattle.bus_guest.specs.Turns.{Visitor}
+use Rattle.bus_guest.specs.Turns.{Visitor, due}
+use Rattle.bus_guest.proofs.Keeps.{goes_beside}
 
 same_page : {E : Type 0} (t u : ℕ) (p q : Page) (a b : ℕ) (c d : Bool) → ◌≡◌ {A = Phase E} (Holding t p a c) (Holding u q b d) → (t ≡ u) × ((p ≡ q) × (c ≡ d))
 same_page t u p q a b c d e = (cc, (cc, cc))
+
+same_election : {E : Type 0} (t u : ℕ) (e f : E) → ◌≡◌ {A = Phase E} (Electing t e) (Electing u f) → e ≡ f
+same_election t u e f i = cc
 
 -- ---- a page that is held
 published_is : {E : Type 0} (ph : Phase E) (t u : ℕ) (page : Page) (stored : ℕ) (published : Bool) → HasPublished u ph → ph ≡ Holding t page stored published → (t ≡ u) × (published ≡ true)
@@ -40,6 +49,12 @@ rests_before_the_end ph t (Ended p n end) e = cc
 rests_before_the_end ph t HandsOnEnd e = cc
 
 module _ {E : Type 0} (X : Election E) (v : Visitor E) (got word : ℕ) where
+  -- who stands in a tenure and goes through an election looks at no stage
+  looks_not : (t u : ℕ) (e : E) → v.visit ≡ Inside t → v.core.phase ≡ Electing u e → due X v ≡ Goes LooksAtStage → ⊥
+  looks_not t u e at runs d =
+      let looks = goes_beside _ v.sweep (situation_of X v.core) LooksAtStage d in
+      let bad = sym (tells X v.core LooksAtStage looks) ∙ runs in cc
+
   pub refused : AnswersRefuse X v got word
   refused = record {
     idle_with_a_step = λ w. w;
@@ -63,6 +78,17 @@ module _ {E : Type 0} (X : Election E) (v : Visitor E) (got word : ℕ) where
     spent_too_soon = λ left w. let e = w.past in omega arith;
     lost_to_another = λ t o none w. let bad = sym none ∙ w.lost in cc;
     lost_away = λ t o away w. let bad = sym away ∙ w.parts in cc;
+    own_of_another = λ t u o e runs owned other w.
+        let same = same_election u t e w.election (sym runs ∙ w.elects) in
+        other (same_Some o v.core.me (sym owned ∙ ap X.owner same ∙ w.chosen));
+    own_away = λ t away w. let bad = sym away ∙ w.inside in cc;
+    waits_inside = λ t u e at runs w. elim w [
+      | inl l ↦ looks_not t u e at runs l.looks
+      | inr b ↦ (let bad = sym at ∙ b.is in cc)
+    ];
+    behind_unnamed = λ t p apart w. apart w.found;
+    behind_without_a_load = λ t p apart w. apart w.loads;
+    behind_at_rest = λ t p rests w. let bad = sym (ap held_of rests) ∙ w.held in cc;
     loses_silently = λ t o loses w. w.loses t o loses;
     forgets_its_loss = λ t parts rests w. let bad = sym (ap held_of rests) ∙ w.holds t parts in cc;
     barred_silently = λ t barred w. w.barred record { tenure = t; is = barred };

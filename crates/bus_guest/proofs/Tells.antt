@@ -1,5 +1,5 @@
 -- What the answer of a guest's step tells.
-use Rattle.std.proofs.Common.{◌≡◌, inl, inr, ℕ, ◌+◌, ◌-◌, ◌/◌, ◌<◌, ◌≤◌, Bool, true, false, cond, Option, Some, None, IsSome, IfSome, nat_lt, nat_le, ◌==◌, ◌&&◌, refl, sym, ◌∙◌, ap, subst, arith}
+use Rattle.std.proofs.Common.{◌≡◌, inl, inr, ℕ, ◌+◌, ◌-◌, ◌/◌, ◌<◌, ◌≤◌, Bool, true, false, cond, Option, Some, None, IsSome, IfSome, is_some, nat_lt, nat_le, ◌==◌, ◌&&◌, refl, sym, ◌∙◌, ap, subst, arith}
 use Rattle.std.proofs.lemmas.Bool.{lt-ltb, leb-false, leb-true, true≢false}
 use Rattle.std.proofs.lemmas.Bool.Decides.{eqb_tells}
 use Rattle.std.proofs.lemmas.Option.{same_Some}
@@ -20,17 +20,17 @@ use Rattle.bus_tenure.specs.declared.pages.Page.{Page}
 use Rattle.bus_tenure.specs.declared.phases.Reason.{Reason}
 use Rattle.bus_tenure.specs.declared.phases.Reason.TheVariants.{Sent, FoundEnd, NoRoom}
 use Rattle.bus_tenure.specs.declared.phases.Phase.{Phase}
-use Rattle.bus_tenure.specs.declared.phases.Phase.TheVariants.{Holding, Giving}
+use Rattle.bus_tenure.specs.declared.phases.Phase.TheVariants.{Electing, Holding, Giving}
 use Rattle.bus_tenure.specs.declared.turns.Turn.{Turn}
 use Rattle.bus_tenure.specs.declared.turns.Turn.TheVariants as turn
 use Rattle.bus_tenure.proofs.Situated.{tells}
 use Rattle.bus_guest.specs.Guests.{Due, Visits, Sweeps, Goes, sizes_with, due_beside, due_home, due_swept, sweep_due}
-use Rattle.bus_guest.specs.Turns.{Visitor, sizes_of, due, op_due, op_next, answer_of_loss, answer_of_visit, answer_of_sweep, answer_going, answer_due, answer_after}
+use Rattle.bus_guest.specs.Turns.{Visitor, sizes_of, due, op_due, op_next, answer_of_loss, answer_of_visit, answer_of_sweep, answer_going}
 use Rattle.bus_guest.specs.Besides.{sweeps_by, due_by}
 use Rattle.bus_guest.specs.declared.besides.Beside.TheVariants.{Sweep, Visit as VisitsBy}
 use Rattle.bus_guest.specs.Keeping.{held_of, IsSweepAfter, IsRowReady, SweepKeeps, IsHeldSweep, LostKeeps, GuestKeeps}
 use Rattle.bus_guest.specs.Telling.{FeedTells, Returns, Gives, Says, GivesReady, IsBarred, Withdraws, IsChosen, IsBehind, TellsNoMore, HasPublished, Published, HandsOnSent, LacksRoom, FindsNoRoom, HandsOnFull, FindsEnd, Ended, HandsOnEnd}
-use Rattle.bus_guest.proofs.Keeps.{goes_beside, swept_beside, runs_inside}
+use Rattle.bus_guest.proofs.Keeps.{swept_beside, runs_inside}
 
 -- ---- a sweep that is due
 sweeps_swept : {E : Type 0} (s s' : Sweeping) (o : Option Op) (p : Op) (z : Situation E) → due_swept s o z ≡ Sweeps s' p → (s ≡ s') × (o ≡ Some p)
@@ -111,6 +111,15 @@ gives_shows X c t page reason i =
     let why = given_for t page page at.0 reason at.1 page.ended (has_room c page) (nat_lt at.0 (frame_len c)) (sym (ap (situation_at X c) at.2) ∙ i) in
     subst (λ p. Shows c t p reason) (sym at.2) (shown_held c t page at.0 at.1 reason why)
 
+-- ---- whom an election chose
+-- an election that has ended chose the sender itself
+abbrev pub ChoosesItself : {E : Type 0} → Election E → Core E → Type 0
+ChoosesItself {E} X c = (t : ℕ) → situation_of X c ≡ TakesPage t → (e : E) × (c.phase ≡ Electing t e) × (X.owner e ≡ Some c.me)
+
+-- where it did, the page is taken next
+takes_page : {E : Type 0} (X : Election E) (c : Core E) (t : ℕ) (e : E) (o : ℕ) → c.phase ≡ Electing t e → X.owner e ≡ Some o → situation_of X c ≡ TakesPage t
+takes_page X c t e o elects owned = ap (situation_at X c) elects ∙ ap (λ w. cond (is_some w) (TakesPage t) (Elects t e)) owned
+
 -- ---- what is due of no visit
 home_no_visit : {E : Type 0} (s : Option Sweeping) (z : Situation E) (o : Op) → due_home s z ≡ Visits o → ⊥
 home_no_visit None z o e = cc
@@ -139,7 +148,7 @@ module _ {E : Type 0} (X : Election E) (v : Visitor E) (got word : ℕ) where
   barred_due t e = visit_due (Barred t) e
 
   chosen_due : (t : ℕ) → IsChosen X v t → due X v ≡ Goes (TakesPage t)
-  chosen_due t w = visit_due (Inside t) w.inside ∙ ap (due_at (Inside t)) w.takes
+  chosen_due t w = visit_due (Inside t) w.inside ∙ ap (due_at (Inside t)) (takes_page X v.core t w.election v.core.me w.elects w.chosen)
 
   -- ---- of a step of its visit
   visit_quiet : (o : Op) → due X v ≡ Visits o → ((t : ℕ) (w : SenderNo) → Withdraws v t w → ⊥) → ((t : ℕ) → v.visit ≡ Parting t → held_of v.core.phase ≡ Some t) → (IsBarred v.visit → ⊥) → ((p : ℕ) → o ≡ Load record { 0 = presence_at (sizes_of v) p } → ⊥) → TellsNoMore X v got word
@@ -263,52 +272,45 @@ module _ {E : Type 0} (X : Election E) (v : Visitor E) (got word : ℕ) where
   returned t NoRoom g w = record { tenure = t; gives = g; lacks = w }
 
   module _ (width : ℕ) (Belongs : ℕ → E → Type 0) (k : GuestKeeps width Belongs v) where
-    goes : (z : Situation E) → situation_of X v.core ≡ z → due X v ≡ Goes z → IsSome (op_due X v (Goes z) word) → FeedTells X v got word (answer_going X v.core z got word)
-    goes IsClosed i d h = absurd (let q : false ≡ true = h in cc)
-    goes IsIdle i d h = absurd (let q : false ≡ true = h in cc)
-    goes IsSpent i d h = absurd (let q : false ≡ true = h in cc)
-    goes LooksAtStage i d h = looks (waits v.core got) (nat_le v.core.layout.rows (got / 2)) refl refl i d
-    goes (Elects t e) i d h = goes_quiet (Elects t e) d (λ u w. cc) (λ u w. (returns_no u (Elects t e) w).1.0 t e refl) (λ w y. cc) (λ w y. absurd cc) i (unheld (ap held_of (tells X v.core (Elects t e) i).0))
-    goes (TakesPage t) i d h = let t1 = tells X v.core (TakesPage t) i in record { inside = (runs_inside Belongs v.core v.visit t t1.0 k.visit t1.1).0; takes = i }
-    goes (AwaitsPage t) i d h = absurd (let q : false ≡ true = h in cc)
-    goes (StoresWord t page stored) i d h = goes_quiet (StoresWord t page stored) d (λ u w. cc) (λ u w. (returns_no u (StoresWord t page stored) w).1.2 t page stored refl) (λ w y. cc) (λ w y. absurd cc) i
+    goes : ChoosesItself X v.core → (z : Situation E) → situation_of X v.core ≡ z → due X v ≡ Goes z → IsSome (op_due X v (Goes z) word) → FeedTells X v got word (answer_going X v.core z got word)
+    goes own IsClosed i d h = absurd (let q : false ≡ true = h in cc)
+    goes own IsIdle i d h = absurd (let q : false ≡ true = h in cc)
+    goes own IsSpent i d h = absurd (let q : false ≡ true = h in cc)
+    goes own LooksAtStage i d h = looks (waits v.core got) (nat_le v.core.layout.rows (got / 2)) refl refl i d
+    goes own (Elects t e) i d h = goes_quiet (Elects t e) d (λ u w. cc) (λ u w. (returns_no u (Elects t e) w).1.0 t e refl) (λ w y. cc) (λ w y. absurd cc) i (unheld (ap held_of (tells X v.core (Elects t e) i).0))
+    goes own (TakesPage t) i d h = let c = own t i in record { inside = (runs_inside Belongs v.core v.visit t c.0 k.visit c.1).0; election = c.0; elects = c.1; chosen = c.2 }
+    goes own (AwaitsPage t) i d h = absurd (let q : false ≡ true = h in cc)
+    goes own (StoresWord t page stored) i d h = goes_quiet (StoresWord t page stored) d (λ u w. cc) (λ u w. (returns_no u (StoresWord t page stored) w).1.2 t page stored refl) (λ w y. cc) (λ w y. absurd cc) i
         (unloaded _ (ap (λ d. op_due X v d word) d) (λ r e. cc))
-    goes (StoresLength t page stored) i d h = goes_quiet (StoresLength t page stored) d (λ u w. cc) (λ u w. (returns_no u (StoresLength t page stored) w).1.3 t page stored refl) (λ w y. cc) (λ w y. absurd cc) i
+    goes own (StoresLength t page stored) i d h = goes_quiet (StoresLength t page stored) d (λ u w. cc) (λ u w. (returns_no u (StoresLength t page stored) w).1.3 t page stored refl) (λ w y. cc) (λ w y. absurd cc) i
         (unloaded _ (ap (λ d. op_due X v d word) d) (λ r e. cc))
-    goes (GivesBack t page reason) i d h =
+    goes own (GivesBack t page reason) i d h =
         let at = tells X v.core (GivesBack t page reason) i in
         let held = ap held_of at.2 in
         let done = swept_beside _ _ _ _ d t page reason i in
         returned t reason record { due_is = d ∙ ap Goes (sym i); returns = subst (Returns t) (sym i) (Gives page reason); ready = ready_of (sizes_of v) v.core.phase v.sweep t k.sweep held done }
         (gives_shows X v.core t page reason i)
-    goes (HasHanded t reason) i d h =
+    goes own (HasHanded t reason) i d h =
         let at = tells X v.core (HasHanded t reason) i in
         let done = handed_of (sizes_of v) v.core.phase v.sweep t reason k.sweep at in
         returned t reason record { due_is = d ∙ ap Goes (sym i); returns = subst (Returns t) (sym i) (Says reason); ready = ready_of (sizes_of v) v.core.phase v.sweep t k.sweep (ap held_of at) done }
         (subst (λ p. Shows v.core t p reason) (sym at) (shown_handed v.core t reason))
 
-    by : (d : Due E) → due X v ≡ d → IsSome (op_due X v d word) → FeedTells X v got word (answer_due X v d got word)
-    by (Visits o) e h = visits o e k.lost v.visit refl
-    by (Sweeps s o) e h =
-        let f = sweeps_beside _ _ _ s o e in
-        asks s o e (subst (SweepKeeps (sizes_of v) v.core.phase) f.0 k.sweep) (ap (λ d. op_due X v d word) e) (nat_lt s.asked s.senders) (got == 1 + s.past) (nat_lt s.cleared s.width) refl refl f.1
-    by (Goes z) e h = goes z (goes_beside _ _ _ _ e) e h
-
-    pub told : IsSome (op_next X v word) → FeedTells X v got word (answer_after X v got word)
-    told h = by (due X v) refl h
-
     -- ---- from what the calls gave
-    pub told_visit : (r : Turn) (o : Op) → due X v ≡ due_by (VisitsBy o) v.sweep (situation_of X v.core) → r ≡ answer_of_visit v.visit v.lost → IsSome (op_next X v word) → FeedTells X v got word r
-    told_visit r o d a req = subst (FeedTells X v got word) (ap (λ y. answer_due X v y got word) d ∙ sym a) (told req)
+    pub told_visit : (r : Turn) (o : Op) → due X v ≡ due_by (VisitsBy o) v.sweep (situation_of X v.core) → r ≡ answer_of_visit v.visit v.lost → FeedTells X v got word r
+    told_visit r o d a = subst (FeedTells X v got word) (sym a) (visits o d k.lost v.visit refl)
 
-    pub told_sweep : (r : Turn) (o : Op) → due X v ≡ due_by (Sweep o) v.sweep (situation_of X v.core) → IsSome v.sweep → ((s : Sweeping) → v.sweep ≡ Some s → r ≡ answer_of_sweep (behind_of s got)) → IsSome (op_next X v word) → FeedTells X v got word r
-    told_sweep r o d h a req = pick v.sweep refl h d where
+    pub told_sweep : (r : Turn) (o : Op) → due X v ≡ due_by (Sweep o) v.sweep (situation_of X v.core) → IsSome v.sweep → ((s : Sweeping) → v.sweep ≡ Some s → r ≡ answer_of_sweep (behind_of s got)) → FeedTells X v got word r
+    told_sweep r o d h a = pick v.sweep refl h d where
       pick : (l : Option Sweeping) → v.sweep ≡ l → IsSome l → due X v ≡ sweeps_by l o (situation_of X v.core) → FeedTells X v got word r
       pick None e h d = absurd (let q : false ≡ true = h in cc)
-      pick (Some s) e h d = subst (FeedTells X v got word) (ap (λ y. answer_due X v y got word) d ∙ sym (a s e)) (told req)
+      pick (Some s) e h d =
+          let f = sweeps_beside _ _ _ s o d in
+          subst (FeedTells X v got word) (sym (a s e))
+          (asks s o d (subst (SweepKeeps (sizes_of v) v.core.phase) f.0 k.sweep) (ap (λ y. op_due X v y word) d) (nat_lt s.asked s.senders) (got == 1 + s.past) (nat_lt s.cleared s.width) refl refl f.1)
 
-    pub told_own : (r : Turn) → due X v ≡ Goes (situation_of X v.core) → r ≡ answer_going X v.core (situation_of X v.core) got word → IsSome (op_next X v word) → FeedTells X v got word r
-    told_own r d a req = subst (FeedTells X v got word) (ap (λ y. answer_due X v y got word) d ∙ sym a) (told req)
+    pub told_own : (r : Turn) → due X v ≡ Goes (situation_of X v.core) → ChoosesItself X v.core → r ≡ answer_going X v.core (situation_of X v.core) got word → IsSome (op_next X v word) → FeedTells X v got word r
+    told_own r d own a req = subst (FeedTells X v got word) (sym a) (goes own (situation_of X v.core) refl d (subst (λ y. IsSome (op_due X v y word)) d req))
 
     stage_answer : (r : Turn) → tenure_of v.core.phase ≡ None → r ≡ answer_of_stage v.core got → (z : Situation E) → situation_of X v.core ≡ z → IsSome (op_due X v (Goes z) word) → r ≡ answer_going X v.core z got word
     stage_answer r none a IsClosed i h = absurd (let q : false ≡ true = h in cc)
@@ -324,4 +326,6 @@ module _ {E : Type 0} (X : Election E) (v : Visitor E) (got word : ℕ) where
     stage_answer r none a (HasHanded t reason) i h = absurd (let q = sym none ∙ ap tenure_of (tells X v.core (HasHanded t reason) i) in cc)
 
     pub told_stage : (r : Turn) → due X v ≡ Goes (situation_of X v.core) → tenure_of v.core.phase ≡ None → r ≡ answer_of_stage v.core got → IsSome (op_next X v word) → FeedTells X v got word r
-    told_stage r d none a req = told_own r d (stage_answer r none a (situation_of X v.core) refl (subst (λ y. IsSome (op_due X v y word)) d req)) req
+    told_stage r d none a req =
+        told_own r d (λ t i. absurd (let q = sym none ∙ ap tenure_of (tells X v.core (TakesPage t) i).1 in cc))
+        (stage_answer r none a (situation_of X v.core) refl (subst (λ y. IsSome (op_due X v y word)) d req)) req

@@ -6,7 +6,7 @@ use Rattle.bus_register.specs.Protocol.{Protocol}
 use Rattle.bus_adoptcommit.specs.declared.verdicts.Verdict.{Verdict}
 use Rattle.bus_presence.specs.Hall.{row_of}
 use Rattle.bus_presence.specs.Sweeps.{Sweeping, is_swept}
-use Rattle.bus_presence.specs.declared.visits.Visit.TheVariants.{Away, Entering, Looking, Inside, Parting}
+use Rattle.bus_presence.specs.declared.visits.Visit.TheVariants.{Away, Entering, Looking, Inside, Parting, Barred}
 use Rattle.bus_tenure.specs.Elections.{Elector, elections}
 use Rattle.bus_tenure.specs.declared.phases.Phase.TheVariants.{Resting, Electing}
 use Rattle.bus_guest.specs.Causes.{HasCause}
@@ -40,10 +40,14 @@ IsOfElection kind.LoadLength = ⊥
 IsOfElection kind.LoadLogWord = ⊥
 
 pub record RefusesCauses {S : Type 0} (P : Protocol S Bool Verdict) (v : Visitor (Elector S)) : Type 0 where
-  -- a step of an election where it visits no tenure, has not looked at the stage again, or stands in another tenure
+  -- a step of an election where it visits no tenure, has not stored its presence, has not looked at the stage again, stands in another
+  -- tenure, or is to clear its presence
   pub elects_away : (k : Kind) → IsOfElection k → v.visit ≡ Away → ¬ HasCause P v k
+  pub elects_unseen : (k : Kind) (t : ℕ) → IsOfElection k → v.visit ≡ Entering t → ¬ HasCause P v k
   pub elects_too_soon : (k : Kind) (t : ℕ) → IsOfElection k → v.visit ≡ Looking t → ¬ HasCause P v k
   pub elects_elsewhere : (k : Kind) (t u : ℕ) (e : Elector S) → IsOfElection k → v.visit ≡ Inside t → v.core.phase ≡ Electing u e → t ≢ u → ¬ HasCause P v k
+  pub elects_while_parting : (k : Kind) (t : ℕ) → IsOfElection k → v.visit ≡ Parting t → ¬ HasCause P v k
+  pub elects_barred : (k : Kind) (t : ℕ) → IsOfElection k → v.visit ≡ Barred t → ¬ HasCause P v k
   -- a page whose election has not ended, or has chosen another
   pub takes_undecided : (t : ℕ) (e : Elector S) → v.core.phase ≡ Electing t e → (elections P v.core.layout.rounds).output e ≡ None → ¬ HasCause P v kind.TakePage
   pub takes_what_it_lost : (t o : ℕ) (e : Elector S) → v.core.phase ≡ Electing t e → (elections P v.core.layout.rounds).output e ≡ Some o → o ≢ v.core.me → ¬ HasCause P v kind.TakePage

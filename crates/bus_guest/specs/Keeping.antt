@@ -13,6 +13,7 @@ use Rattle.bus_tenure.specs.Keeping.{AreSizes}
 use Rattle.bus_tenure.specs.declared.phases.Reason.{Reason}
 use Rattle.bus_tenure.specs.declared.phases.Phase.{Phase}
 use Rattle.bus_tenure.specs.declared.phases.Phase.TheVariants.{Resting, Electing, Taken, Holding, Giving}
+use Rattle.bus_guest.specs.declared.limits.TheConstants.{LEAST_ROWS_AGAIN, MOST_ROWS_AGAIN}
 use Rattle.bus_guest.specs.Turns.{Visitor, sizes_of}
 
 -- it has begun no tenure yet, and may begin this one
@@ -94,8 +95,8 @@ LostKeeps phase visit (Some o) = HasLost phase visit
 pub record GuestKeeps {E : Type 0} (width : ℕ) (Belongs : ℕ → E → Type 0) (v : Visitor E) : Type 0 where
   pub sizes : AreSizes v.core.layout width
   pub tenures : v.core.layout.rows ≡ TENURES
-  pub rows_some : 2 ≤ v.rows
-  pub rows_few : v.rows ≤ 8
+  pub rows_some : LEAST_ROWS_AGAIN ≤ v.rows
+  pub rows_few : v.rows ≤ MOST_ROWS_AGAIN
   pub me_below : v.core.me < v.core.layout.senders
   pub visit : VisitKeeps Belongs v.core v.visit
   pub sweep : SweepKeeps (sizes_of v) v.core.phase v.sweep

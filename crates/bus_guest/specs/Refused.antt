@@ -1,14 +1,16 @@
 -- What no step of a guest may answer, whatever its definitions are.
-use Rattle.std.specs.Prelude.{◌≡◌, ◌≢◌, ℕ, ◌+◌, ◌/◌, ◌<◌, ◌≤◌, false, true, None, Bool}
+use Rattle.std.specs.Prelude.{◌≡◌, ◌≢◌, ℕ, ◌+◌, ◌/◌, ◌<◌, ◌≤◌, false, true, Some, None, Bool}
 use Rattle.bus_batch.specs.Batches.{next_of}
+use Rattle.bus_register.specs.declared.registers.Op.TheVariants.{Load}
 use Rattle.bus_register.specs.declared.registers.SenderNo.{SenderNo}
-use Rattle.bus_presence.specs.declared.visits.Visit.TheVariants.{Away, Parting, Barred}
+use Rattle.bus_presence.specs.Hall.{presence_at}
+use Rattle.bus_presence.specs.declared.visits.Visit.TheVariants.{Away, Inside, Parting, Barred}
 use Rattle.bus_tenure.specs.Core.{Election, frame_len, is_closing}
 use Rattle.bus_tenure.specs.declared.pages.Page.{Page}
-use Rattle.bus_tenure.specs.declared.phases.Phase.TheVariants.{Resting, Holding}
+use Rattle.bus_tenure.specs.declared.phases.Phase.TheVariants.{Resting, Electing, Holding}
 use Rattle.bus_tenure.specs.declared.turns.Turn.TheVariants as turn
 use Rattle.bus_guest.specs.Telling.{FeedTells, Withdraws, IsChosen, GivesReady}
-use Rattle.bus_guest.specs.Turns.{Visitor}
+use Rattle.bus_guest.specs.Turns.{Visitor, sizes_of, op_next}
 
 pub record AnswersRefuse {E : Type 0} (X : Election E) (v : Visitor E) (got word : ℕ) : Type 0 where
   -- Idle with a step
@@ -36,6 +38,15 @@ pub record AnswersRefuse {E : Type 0} (X : Election E) (v : Visitor E) (got word
   -- Lost where it remembers no owner, or while it visits no tenure
   pub lost_to_another : (t : ℕ) (o : SenderNo) → v.lost ≡ None → ¬ FeedTells X v got word (turn.Lost t o)
   pub lost_away : (t : ℕ) (o : SenderNo) → v.visit ≡ Away → ¬ FeedTells X v got word (turn.Lost t o)
+  -- Own of a tenure whose election chose another, or while it visits none
+  pub own_of_another : (t u o : ℕ) (e : E) → v.core.phase ≡ Electing u e → X.owner e ≡ Some o → o ≢ v.core.me → ¬ FeedTells X v got word (turn.Own t)
+  pub own_away : (t : ℕ) → v.visit ≡ Away → ¬ FeedTells X v got word (turn.Own t)
+  -- Waiting of a sender that stands in a tenure and goes through an election
+  pub waits_inside : (t u : ℕ) (e : E) → v.visit ≡ Inside t → v.core.phase ≡ Electing u e → ¬ FeedTells X v got word turn.Waiting
+  -- Behind where the step found another number than the presence of that tenure, was no load of that sender's presence, or held no page
+  pub behind_unnamed : (t : ℕ) (p : SenderNo) → got ≢ 1 + t → ¬ FeedTells X v got word (turn.Behind t p)
+  pub behind_without_a_load : (t : ℕ) (p : SenderNo) → op_next X v word ≢ Some (Load record { 0 = presence_at (sizes_of v) p.0 }) → ¬ FeedTells X v got word (turn.Behind t p)
+  pub behind_at_rest : (t : ℕ) (p : SenderNo) → v.core.phase ≡ Resting → ¬ FeedTells X v got word (turn.Behind t p)
   -- Going where it lost a tenure, whether it remembers to whom or not, came too late, takes a page or gives one back
   pub loses_silently : (t : ℕ) (o : SenderNo) → Withdraws v t o → ¬ FeedTells X v got word turn.Going
   pub forgets_its_loss : (t : ℕ) → v.visit ≡ Parting t → v.core.phase ≡ Resting → ¬ FeedTells X v got word turn.Going

@@ -7,10 +7,10 @@ use Rattle.bus_presence.specs.Hall.{presence_at}
 use Rattle.bus_presence.specs.declared.visits.Visit.{Visit}
 use Rattle.bus_presence.specs.declared.visits.Visit.TheVariants.{Inside, Parting, Barred}
 use Rattle.bus_tenure.specs.Core.{Core, Election, frame_len, is_closing}
-use Rattle.bus_tenure.specs.Situations.{Situation, LooksAtStage, TakesPage, GivesBack, HasHanded, situation_of, waits as stage_waits}
+use Rattle.bus_tenure.specs.Situations.{Situation, LooksAtStage, GivesBack, HasHanded, situation_of, waits as stage_waits}
 use Rattle.bus_tenure.specs.declared.pages.Page.{Page}
 use Rattle.bus_tenure.specs.declared.phases.Phase.{Phase}
-use Rattle.bus_tenure.specs.declared.phases.Phase.TheVariants.{Holding, Giving}
+use Rattle.bus_tenure.specs.declared.phases.Phase.TheVariants.{Electing, Holding, Giving}
 use Rattle.bus_tenure.specs.declared.phases.Reason.{Reason}
 use Rattle.bus_tenure.specs.declared.phases.Reason.TheVariants.{Sent, FoundEnd, NoRoom}
 use Rattle.bus_tenure.specs.declared.turns.Turn.{Turn}
@@ -40,10 +40,12 @@ pub record Withdraws {E : Type 0} (v : Visitor E) (t : ℕ) (o : SenderNo) : Typ
   pub parts : v.visit ≡ Parting t
   pub lost : v.lost ≡ Some o
 
--- it stood in this tenure, whose election had chosen it
+-- it stood in this tenure, whose election had ended and chosen it
 pub record IsChosen {E : Type 0} (X : Election E) (v : Visitor E) (t : ℕ) : Type 0 where
   pub inside : v.visit ≡ Inside t
-  pub takes : situation_of X v.core ≡ TakesPage t
+  pub election : E
+  pub elects : v.core.phase ≡ Electing t election
+  pub chosen : X.owner election ≡ Some v.core.me
 
 -- it gives the page of this tenure back, or has handed it on and says so
 pub data Returns {E : Type 0} (t : ℕ) : Situation E → Type 0 where

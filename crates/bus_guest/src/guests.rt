@@ -38,6 +38,7 @@ ghost use Rattle.bus_guest.specs.Turns.{visitor_after, answer_after, GivesPageBa
 ghost use Rattle.bus_guest.specs.Besides.{due_by, HasSweep, op_beside};
 
 use super::besides::Beside;
+use super::limits::{LEAST_ROWS_AGAIN, MOST_ROWS_AGAIN};
 use bus_adoptcommit::Ratifier;
 use bus_batch::{CloseFault, PutFault};
 use bus_ownerbits::Election;
@@ -108,8 +109,8 @@ impl<Q: Ratifier + Drop> Guest<Q> {
         requires few { senders ≤ MOST_SENDERS }
         requires rounds_some { 1 ≤ rounds }
         requires rounds_few { rounds ≤ MOST_ROUNDS }
-        requires rows_some { 2 ≤ rows }
-        requires rows_few { rows ≤ 8 }
+        requires rows_some { LEAST_ROWS_AGAIN ≤ rows }
+        requires rows_few { rows ≤ MOST_ROWS_AGAIN }
         requires log_few { log_words ≤ 2 ^ 20 }
         ensures { result ≡ record {
           core = record {
@@ -488,7 +489,10 @@ impl<Q: Ratifier + Drop> Guest<Q> {
             Beside::Sweep(_) => self.sweep_on(got),
             Beside::Nothing => match self.core.tenure() {
                 None => self.see_stage(got),
-                Some(_) => self.go_on(got, word),
+                Some(_) => {
+                    self.core.has_causes();
+                    self.go_on(got, word)
+                }
             },
         }
     }
@@ -593,8 +597,8 @@ fn sweep_kind(step: Op) -> Kind
 fn sweep_after(tenure: u64, senders: u64, rows: u64, width: u64) -> Option<Sweep>
     requires tenure { tenure < TENURES }
     requires senders { senders ≤ MOST_SENDERS }
-    requires rows_some { 2 ≤ rows }
-    requires rows_few { rows ≤ 8 }
+    requires rows_some { LEAST_ROWS_AGAIN ≤ rows }
+    requires rows_few { rows ≤ MOST_ROWS_AGAIN }
     requires width { width ≤ 2 ^ 23 }
     ensures { result ≡ hall_sweep_after
         (record { at = 1; senders = senders; rows = rows; width = width }) tenure }
@@ -627,8 +631,8 @@ fn part_after(presence: &mut Presence, turn: Turn)
 fn sweep_by(turn: Turn, sweep: Option<Sweep>, senders: u64, rows: u64, width: u64) -> Option<Sweep>
     requires tenure { (t : ℕ) → turn ≡ Turn.Own t → t < TENURES }
     requires senders { senders ≤ MOST_SENDERS }
-    requires rows_some { 2 ≤ rows }
-    requires rows_few { rows ≤ 8 }
+    requires rows_some { LEAST_ROWS_AGAIN ≤ rows }
+    requires rows_few { rows ≤ MOST_ROWS_AGAIN }
     requires width { width ≤ 2 ^ 23 }
     ensures { result ≡ spec_sweep_by
         (record { at = 1; senders = senders; rows = rows; width = width }) turn sweep }

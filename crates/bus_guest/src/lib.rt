@@ -21,6 +21,7 @@
 
 pub mod besides;
 pub mod guests;
+pub mod limits;
 pub mod refusals;
 
 pub use guests::Guest;
