@@ -28,11 +28,11 @@ use std::time::Clock;
 /// Runs of a storm where no argument says how many.
 const MOST_RUNS: u64 = 10_000;
 
-/// So many runs have holders that are behind a sender to the last.
+/// In so many runs some holder is behind another sender to the last.
 const MANY_RUNS: u64 = 256;
 
-/// Storms in one thread for each processor and in eight. On false a run has failed, or of many none
-/// had a holder behind another sender to the last.
+/// Storms in one thread for each processor and in eight. On false a run has failed, or none of
+/// many had a holder behind another sender to the last.
 fn two_storms<R: Threads + Clock + Print + Sync>(
     rt: &R,
     alloc: Global,

@@ -359,8 +359,8 @@ fn have_told<B: OfBus>(counts: [u64; MOST_SENDERS], tellers: &[Teller<B>]) -> an
     Ok(())
 }
 
-/// Each sender that waited too long was last answered Behind where it has the page, and Waiting where
-/// it has not. Whom it was behind has not done all: it stopped or gave up.
+/// Each sender that waited too long was last answered Behind where it has the page, and Waiting
+/// where it has not. Whom it was behind has not done all: it stopped or gave up.
 fn have_waited<B: OfBus>(tellers: &[Teller<B>]) -> anyhow::Result<()> {
     for teller in tellers.iter().filter(|teller| teller.waited_too_long()) {
         match teller.last {

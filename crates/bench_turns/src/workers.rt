@@ -1,5 +1,5 @@
-//! Workers of a storm: senders and receivers of the bus B, each of which takes one turn a call, and
-//! rests for good after a number of turns.
+//! Workers of a storm: senders and receivers of the bus B, each of which takes one turn a call,
+//! and rests for good after a number of turns.
 
 ghost use Rattle.std.specs.Prelude.{◌≡◌, All};
 
