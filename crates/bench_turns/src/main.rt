@@ -5,7 +5,8 @@
 //! ratifier. With another argument it tries a little of the first two, and prints what is the same
 //! each time.
 //!
-//! Exit status: 1 where a run failed.
+//! Exit status: 1 where a run failed, or where of many none had a holder behind another sender to
+//! the last.
 #![tactic(auto)]
 
 mod desks;
@@ -27,7 +28,11 @@ use std::time::Clock;
 /// Runs of a storm where no argument says how many.
 const MOST_RUNS: u64 = 10_000;
 
-/// Storms in one thread for each processor and in eight. On false a run has failed.
+/// In so many runs some holder is behind another sender to the last.
+const MANY_RUNS: u64 = 256;
+
+/// Storms in one thread for each processor and in eight. On false a run has failed, or none of
+/// many had a holder behind another sender to the last.
 fn two_storms<R: Threads + Clock + Print + Sync>(
     rt: &R,
     alloc: Global,
@@ -39,9 +44,23 @@ fn two_storms<R: Threads + Clock + Print + Sync>(
         println!(rt; "{threads} threads")?;
         let figures = storm(rt, alloc, runs, threads)?;
         figures.print(rt)?;
-        passed &= figures.failed == 0;
+        passed &= figures.failed == 0 && (runs < MANY_RUNS || figures.shows_behind());
     }
     Ok(passed)
+}
+
+/// Three runs in four threads, and nine in one, which are the same each time. On false a run has
+/// failed, or none of the nine had a holder behind another sender to the last.
+fn few_runs<R: Threads + Clock + Print + Sync>(rt: &R, alloc: Global) -> anyhow::Result<bool> {
+    sums_of(rt, alloc, 3, 1)?;
+    let some = storm(rt, alloc, 3, 4)?;
+    println!(rt; "{} runs, {} failed", some.runs, some.failed)?;
+    let alone = storm(rt, alloc, 9, 1)?;
+    println!(rt;
+        "{} runs in one thread, {} failed",
+        alone.runs, alone.failed
+    )?;
+    Ok(some.failed == 0 && alone.failed == 0 && alone.shows_behind())
 }
 
 fn main(rt: HostRuntime) -> anyhow::Result<ExitCode> {
@@ -64,12 +83,7 @@ fn main(rt: HostRuntime) -> anyhow::Result<ExitCode> {
             print_elections(&rt, alloc)?;
             true
         }
-        _ => {
-            sums_of(&rt, alloc, 3, 1)?;
-            let figures = storm(&rt, alloc, 3, 4)?;
-            println!(&rt; "{} runs, {} failed", figures.runs, figures.failed)?;
-            figures.failed == 0
-        }
+        _ => few_runs(&rt, alloc)?,
     };
     Ok(if passed {
         ExitCode::SUCCESS

@@ -10,7 +10,7 @@ use anyhow::{bail, ensure};
 use bus_cyclic::limits::LEAST_ROWS;
 use bus_deliverylog::{LogRead, read_log};
 use bus_pageslot::OfBus;
-use bus_receiver::{EndFault, Ended, SenderNo, Shape};
+use bus_receiver::{EndFault, Ended, SenderNo, Shape, Turn};
 use bus_register::limits::MOST_SENDERS;
 use bus_run::Report;
 use bus_run::audits::audit;
@@ -44,8 +44,14 @@ struct Load {
 pub struct Tale {
     /// How many workers stopped for good.
     pub stops: u64,
-    /// How many spent their turns in vain.
+    /// How many of these are senders whose presence names a tenure.
+    pub stops_in_visits: u64,
+    /// How many turns were answered Behind.
+    pub behinds: u64,
+    /// How many workers spent their turns in vain.
     pub gave_up: u64,
+    /// How many of these are senders that were behind another to the last.
+    pub stuck: u64,
     /// The page was out at its end.
     pub is_out: bool,
     /// Nobody was to stop.
@@ -247,6 +253,7 @@ fn settle<B: OfBus>(
     let read = read_log(alloc, words.as_slice(), load.senders)?;
     have_heard(&read, listeners.as_slice())?;
     have_told(counts_of(&read)?, tellers.as_slice())?;
+    have_waited(tellers.as_slice())?;
     let tale = tale_of(&read, &tellers, &listeners, load);
     if tale.is_whole {
         let report = end_and_audit(alloc, the, listeners, load)?;
@@ -268,9 +275,16 @@ fn tale_of<B: OfBus>(
     load: Load,
 ) -> Tale {
     let has_sent = tellers.iter().all(|teller| teller.has_sent());
+    let in_visits = tellers.iter().filter(|teller| teller.stopped_in_visit());
+    let with_page = tellers.iter().filter(|teller| teller.has_page);
     Tale {
         stops: count(tellers, listeners, Rest::Stopped),
+        stops_in_visits: in_visits.count() as u64,
+        behinds: tellers
+            .iter()
+            .fold(0u64, |sum, teller| sum.saturating_add(teller.behinds)),
         gave_up: count(tellers, listeners, Rest::GaveUp),
+        stuck: with_page.filter(|teller| teller.waited_too_long()).count() as u64,
         is_out: tellers.iter().any(|teller| teller.has_page),
         is_calm: load.is_calm,
         is_whole: load.is_calm && has_sent && read.order.ended,
@@ -343,6 +357,30 @@ fn have_told<B: OfBus>(counts: [u64; MOST_SENDERS], tellers: &[Teller<B>]) -> an
         ensure!(count <= most, "a message stands in the log too early");
     }
     Ok(())
+}
+
+/// Each sender that waited too long was last answered Behind where it has the page, and Waiting
+/// where it has not. Whom it was behind has not done all: it stopped or gave up.
+fn have_waited<B: OfBus>(tellers: &[Teller<B>]) -> anyhow::Result<()> {
+    for teller in tellers.iter().filter(|teller| teller.waited_too_long()) {
+        match teller.last {
+            Some(Turn::Behind { sender, .. }) => {
+                ensure!(teller.has_page, "a sender without the page is behind");
+                ensure!(has_left(tellers, sender), "one that is done is waited for");
+            }
+            Some(Turn::Waiting) => ensure!(!teller.has_page, "one with the page waits for it"),
+            _ => bail!("a sender that had something to do has waited too long"),
+        }
+    }
+    Ok(())
+}
+
+/// The sender of this number stopped or gave up.
+fn has_left<B: OfBus>(tellers: &[Teller<B>], number: SenderNo) -> bool {
+    tellers
+        .iter()
+        .filter(|teller| teller.desk.sender.number() == number)
+        .any(|teller| matches!(teller.rest, Some(Rest::Stopped | Rest::GaveUp)))
 }
 
 /// Ends the bus by the last receiver: it has just these words, unless its page is out.

@@ -1,11 +1,12 @@
-//! Workers of a storm: senders and receivers of the bus B, each of which takes one turn a call, and
-//! rests for good after a number of turns.
+//! Workers of a storm: senders and receivers of the bus B, each of which takes one turn a call,
+//! and rests for good after a number of turns.
 
 ghost use Rattle.std.specs.Prelude.{◌≡◌, All};
 
 use crate::desks::Desk;
 use bus_pageslot::OfBus;
 use bus_receiver::{Heard, Item, RecvTurn, Turn};
+use bus_register::Kind;
 use bus_run::buses::{Tap, TheBus};
 use rand_core::Rng;
 use rand_pcg::Pcg32;
@@ -87,6 +88,35 @@ impl Patience {
     }
 }
 
+/// The step of a sender whose presence names a tenure: it has entered one, and has not withdrawn.
+fn is_of_visit(kind: Kind) -> bool {
+    match kind {
+        Kind::LoadStageAgain
+        | Kind::Announce
+        | Kind::StoreProposal
+        | Kind::ReadProposal
+        | Kind::StoreVerdict
+        | Kind::ReadVerdict
+        | Kind::SetMark
+        | Kind::ReadOtherMark
+        | Kind::Vote
+        | Kind::ReadVotes
+        | Kind::Fallback
+        | Kind::ReadAnnouncement
+        | Kind::TakePage
+        | Kind::Withdraw => true,
+        Kind::LoadStage
+        | Kind::Enter
+        | Kind::StoreLogWord
+        | Kind::StoreLength
+        | Kind::ReadPresence
+        | Kind::ClearRow
+        | Kind::GivePageBack
+        | Kind::LoadLength
+        | Kind::LoadLogWord => false,
+    }
+}
+
 /// A sender with messages to send.
 #[derive(Drop)]
 pub struct Teller<B: OfBus> {
@@ -96,6 +126,10 @@ pub struct Teller<B: OfBus> {
     pub has_page: bool,
     /// So many of its messages stand in the order, by what it was answered.
     pub delivered: u64,
+    /// What its last turn was answered.
+    pub last: Option<Turn>,
+    /// So many turns were answered Behind.
+    pub behinds: u64,
     messages: u64,
     /// It puts no more at once.
     batch: u32,
@@ -110,6 +144,8 @@ impl<B: OfBus> Teller<B> {
             rest: None,
             has_page: false,
             delivered: 0,
+            last: None,
+            behinds: 0,
             messages,
             batch: batch.max(1),
             patience,
@@ -119,6 +155,16 @@ impl<B: OfBus> Teller<B> {
     /// All its messages stand in the order.
     pub fn has_sent(&self) -> bool {
         self.messages == 0 && self.delivered == self.desk.sender.next_number()
+    }
+
+    /// It gave up since it only waited, for as many turns as it may.
+    pub fn waited_too_long(&self) -> bool {
+        self.rest == Some(Rest::GaveUp) && self.patience.idle == 0
+    }
+
+    /// It stopped for good, and its presence names a tenure.
+    pub fn stopped_in_visit(&self) -> bool {
+        self.rest == Some(Rest::Stopped) && self.desk.sender.kind().is_some_and(is_of_visit)
     }
 
     /// One turn, unless it rests. Says whether there was nothing to do.
@@ -148,6 +194,7 @@ impl<B: OfBus> Teller<B> {
 
     /// Goes by the answer of a turn.
     fn take_in(&mut self, turn: Turn) {
+        self.last = Some(turn);
         match turn {
             Turn::Own { .. } => self.has_page = true,
             Turn::Delivered { last, .. } => {
@@ -159,7 +206,8 @@ impl<B: OfBus> Teller<B> {
                 self.rest = Some(Rest::Refused);
             }
             Turn::Idle => self.rest = Some(Rest::Done),
-            Turn::Waiting | Turn::Going | Turn::Lost { .. } | Turn::Behind { .. } => {}
+            Turn::Behind { .. } => self.behinds = self.behinds.saturating_add(1),
+            Turn::Waiting | Turn::Going | Turn::Lost { .. } => {}
         }
     }
 

@@ -8,6 +8,9 @@ use bus_register::SenderNo;
 use bus_tenure::Turn;
 use std::process::Abort;
 
+/// More turns than three senders have.
+const MOST_TURNS: u32 = 3_000;
+
 /// A bus of two senders with a message each, of which sender 0 has stopped after so many steps.
 fn stopped_after<R: Abort + AllocGlobal>(rt: &R, steps: u64) -> World<ThreeWord> {
     let mut world = made(rt, shape(2, 1, 4, 64));
@@ -117,65 +120,110 @@ fn note(rt: &impl Abort, owners: &mut [Option<SenderNo>; 4], tenure: u64, owner:
     }
 }
 
-/// A turn of a sender, which puts its next message once one was delivered.
-fn turn(
-    rt: &impl Abort,
-    world: &mut World<ThreeWord>,
-    owners: &mut [Option<SenderNo>; 4],
-    sender: u64,
-    word: u32,
-) {
+/// What was seen of three senders.
+#[derive(Drop)]
+struct Story {
+    dice: Dice,
+    owners: [Option<SenderNo>; 4],
+    /// Who has the page.
+    holder: Option<SenderNo>,
+}
+
+/// A turn of a sender, which puts its next message once one was delivered. The page is out just
+/// where somebody has it.
+fn turn(rt: &impl Abort, world: &mut World<ThreeWord>, story: &mut Story, sender: u64) {
     let number = SenderNo((sender % 3) as u8);
+    let word = (story.dice.below(0x10_0000) % 0x10_0000) as u32;
     match world.step(&Event::Turn { sender, word }) {
-        Ok(Answer::Turn(Turn::Own { tenure })) => note(rt, owners, tenure, number),
-        Ok(Answer::Turn(Turn::Lost { tenure, owner })) => note(rt, owners, tenure, owner),
+        Ok(Answer::Turn(Turn::Own { tenure })) => {
+            note(rt, &mut story.owners, tenure, number);
+            assert_eq!(rt; story.holder, None, "another has the page");
+            story.holder = Some(number);
+        }
+        Ok(Answer::Turn(Turn::Lost { tenure, owner })) => {
+            note(rt, &mut story.owners, tenure, owner);
+        }
         Ok(Answer::Turn(Turn::Delivered { .. })) => {
+            assert_eq!(rt; story.holder, Some(number), "it has the page");
+            story.holder = None;
             assert!(rt; world.put(number, b"c").is_ok());
         }
         Ok(Answer::Turn(_)) => {}
         _ => panic!(rt; "a turn answers a turn"),
     }
+    let is_held = story.holder.is_some();
+    assert_eq!(rt;
+        world.page().is_none(),
+        is_held,
+        "the page is out where it is held"
+    );
 }
 
-/// 300 random turns of three senders, of which sender 0 stops after so many of its own. Wants one
-/// owner of each tenure, and a log of whole frames that are theirs. Says whether the page is out.
-fn plays<R: Abort + AllocGlobal>(rt: &R, dice: &mut Dice, mut left: u64) -> bool {
+/// Turns of the three at random, until sender 0 has taken so many and stops. Says whether it has:
+/// else no step was left for it.
+fn zero_stops(
+    rt: &impl Abort,
+    world: &mut World<ThreeWord>,
+    story: &mut Story,
+    steps: u32,
+) -> bool {
+    let mut left = steps;
+    for _ in 0..MOST_TURNS {
+        if left == 0 {
+            assert_eq!(rt; world.stop(SenderNo(0)), Ok(()));
+            return true;
+        }
+        let zero = world.core(SenderNo(0)).expect(rt, "sender 0");
+        if zero.kind().is_none() {
+            return false;
+        }
+        let sender = story.dice.below(3);
+        turn(rt, world, story, sender);
+        if sender == 0 {
+            left -= 1;
+        }
+    }
+    panic!(rt; "a sender has too many steps")
+}
+
+/// Under this schedule sender 0 stops after so many steps, and the others go on. Wants one owner
+/// of each tenure, and a log of whole frames that are theirs. Says whether the page then is out;
+/// none where sender 0 never takes so many.
+fn plays<R: Abort + AllocGlobal>(rt: &R, seed: u64, steps: u32) -> Option<bool> {
     let mut world = made(rt, shape(3, 1, 4, 64));
     for sender in 0..3 {
         assert_eq!(rt; world.put(SenderNo(sender), b"c"), Ok(0));
     }
-    let mut owners = [None; 4];
-    let mut stopped = false;
-    for _ in 0..300 {
-        let sender = dice.below(3);
-        let word = (dice.below(0x10_0000) % 0x10_0000) as u32;
-        if sender > 0 {
-            turn(rt, &mut world, &mut owners, sender, word);
-        } else if left > 0 {
-            turn(rt, &mut world, &mut owners, sender, word);
-            left -= 1;
-        } else if !stopped {
-            assert_eq!(rt; world.stop(SenderNo(0)), Ok(()));
-            stopped = true;
-        }
+    let mut story = Story {
+        dice: Dice { state: seed },
+        owners: [None; 4],
+        holder: None,
+    };
+    if !zero_stops(rt, &mut world, &mut story, steps) {
+        return None;
+    }
+    for _ in 0..200 {
+        let sender = 1 + story.dice.below(2) % 2;
+        turn(rt, &mut world, &mut story, sender);
     }
     let read = read_log(rt.alloc(), world.log(), 3).ok();
     for (tenure, owner) in read.expect(rt, "whole frames").owners.iter() {
-        assert_eq!(rt; owners[(*tenure % 4) as usize], Some(*owner));
+        assert_eq!(rt; story.owners[(*tenure % 4) as usize], Some(*owner));
     }
-    world.page().is_none()
+    Some(world.page().is_none())
 }
 
 #[test]
-fn one_of_three_senders_stops(rt: HostRuntime) {
-    let mut dice = Dice { state: 1 };
-    let mut out: u64 = 0;
-    for steps in 1..31 {
-        for _ in 0..100 {
-            if plays(&rt, &mut dice, steps) {
-                out = out.wrapping_add(1);
+fn one_of_three_senders_stops_after_each_step(rt: HostRuntime) {
+    let (mut out, mut home) = (0u32, 0u32);
+    for seed in 0..100 {
+        for steps in 1..MOST_TURNS {
+            match plays(&rt, seed, steps) {
+                Some(true) => out = out.saturating_add(1),
+                Some(false) => home = home.saturating_add(1),
+                None => break,
             }
         }
     }
-    assert!(rt; out > 0 && out < 3000, "some pages stay out: {out}");
+    assert!(rt; out > 0 && home > 0, "{out} pages out, {home} home");
 }
