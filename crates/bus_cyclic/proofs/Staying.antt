@@ -281,3 +281,7 @@ module _ {E : Type 0} (X : Election E) (P : Protocol E (Unit {0}) ℕ) (laws : L
   -- .. and adds no step in a tenure whose row has gone on
   pub taken_stays : (t : ℕ) → HasGoneOn b t → (told : Answered) (s : ℕ) → deeds_in t (ring_deeds X b p v (due X v) word told T.deeds s) ≡ deeds_in t (T.deeds s)
   taken_stays = turn_stays X P laws owner_is named announces apart b x T led p v (guest_there b p v goes) word
+
+  -- whatever it is answered: its deed is in none
+  pub taken_apart : (t : ℕ) → HasGoneOn b t → (told : Answered) → deeds_in t (due_deeds X b.layout b.rows (yard_of b None []) v.core (due X v) word told) ≡ []
+  taken_apart t gone told = due_apart X P laws owner_is named announces apart b x T led p v (guest_there b p v goes) word t gone told (due X v) refl

@@ -54,6 +54,8 @@ use Rattle.bus_world.proofs.RingFits as fits
 use Rattle.bus_world.proofs.RingLaws.{IsRingLayout, IsLed, ring_led, ring_kept, same_register, due_goes}
 use Rattle.bus_world.proofs.Serving.{Serves}
 use Rattle.bus_world.proofs.YardLaws.{HasKept, led_kept, words_read, yard_promised}
+use Rattle.bus_cyclic.specs.Staying.{stage_of, HasGoneOn, deeds_in}
+use Rattle.bus_cyclic.proofs.Staying.{taken_rises, taken_apart}
 use Rattle.bus_pageslot.specs.declared.rule.View.{View}
 use Rattle.bus_pageslot.specs.Processes.{IsCounted, log_below}
 use Rattle.bus_pageslot.specs.Lawful.{AutomatonLaws, IsSender, AcceptsIn, StepsIn, HasLog, IsPromisedOf, Opens}
@@ -338,6 +340,18 @@ module _ {E : Type 0} (X : Election E) (P : Protocol E (Unit {0}) ℕ) (x : Layo
             let got = found_at z (op_at X v.core z word) e in
             (λ i. step_deed (kind_at X v.core z) (tenure_at X v.core z) (got i) (chosen_at X v.core z (got i) word) (is i))
 
+        adds_are : (d : Due E) → op_due X v d word ≡ Some o → (a : Answered) → a ≡ answer_due X v d found word → due_deeds X b.layout b.rows (yard_of b None []) v.core d word a ≡ (adds_due X v d found word).deeds
+        adds_are (Visits u) e a is = refl
+        adds_are (Sweeps r u) e a is = refl
+        adds_are (Goes z) e a is = deeds_same z e a is
+
+        -- the stage does not fall, and the step is in no tenure whose row has gone on
+        rises : stage_of b ≤ stage_of later
+        rises = taken_rises X P serves.laws serves.owner_is serves.named serves.announces serves.apart b layout T reached p v goes word on_word
+
+        leaves : (t : ℕ) → HasGoneOn b t → deeds_in t (adds_due X v (due X v) found word).deeds ≡ []
+        leaves t gone = ap (deeds_in t) (sym (adds_are (due X v) op told refl)) ∙ taken_apart X P serves.laws serves.owner_is serves.named serves.announces serves.apart b layout T reached p v goes word t gone told
+
         -- what it did, with a step that is due
         abbrev track_with : (d : Due E) → Answered → ℕ → Track
         track_with d a q = record {
@@ -461,6 +475,12 @@ module _ {E : Type 0} (X : Election E) (P : Protocol E (Unit {0}) ℕ) (x : Layo
             home = refl;
             grows = record { frames = before.frames; more = begins.0; lawful = before.lawful; lawful_now = subst (AreFrames x.senders) begins.1 next.lawful; words_are = before.words_are; words_now = ap log_words (sym begins.1) ∙ next.words_are };
           }
+
+      pub stage_rises : slice_index b.words 1 ≤ slice_index (words_after b.words (Some o)) 1
+      stage_rises = subst (λ (q : Option Op). slice_index b.words 1 ≤ slice_index (words_after b.words q) 1) op (rises b T h.served h.two h.layout h.rows_are h.reached p v at h.running word o op low_here)
+
+      pub leaves_past : (t : ℕ) → t + rows ≤ slice_index b.words 1 / 2 → deeds_in t (adds_due X v (due X v) (slice_index b.words (register o)) word).deeds ≡ []
+      leaves_past t gone = leaves b T h.served h.two h.layout h.rows_are h.reached p v at h.running word o op low_here t (subst (λ n. t + n ≤ slice_index b.words 1 / 2) (sym h.rows_are) gone)
 
   -- who is none of its senders does nothing
   nobody_did : (b : Ring E) (T : RingTrails) → IsLayout x → 2 ≤ rows → b.layout ≡ x → b.rows ≡ rows → RingReached X b T → (q : ℕ) → x.senders ≤ q → T.deeds q ≡ []

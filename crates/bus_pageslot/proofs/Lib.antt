@@ -24,6 +24,7 @@ pub mod Joining
 pub mod Promising
 pub mod SafeSeats
 pub mod BehindShown
+pub mod PastTenures
 pub mod OnePage
 pub mod Endings
 pub mod Staging

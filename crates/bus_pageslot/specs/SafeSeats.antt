@@ -1,17 +1,23 @@
 -- What is so of the seats of a bus whose rows are used again, of each sender by the steps of its visits that its seat shows.
-use Rattle.std.specs.Prelude.{◌≡◌, ◌≢◌, ℕ, ◌+◌, ◌/◌, ◌%◌, ◌<◌, ◌≤◌, Option, Some, List, slice_index}
+use Rattle.std.specs.Prelude.{◌≡◌, ◌≢◌, ℕ, ◌+◌, ◌/◌, ◌%◌, ◌<◌, ◌≤◌, Option, Some, List, [], slice_index}
 use mathlib.Core.Option.{some}
 use lib.ListN.{get_elem?}
 use Rattle.atomic_table.specs.Table.{State}
+use Rattle.bus_register.specs.declared.registers.Op.{Op}
+use Rattle.bus_register.specs.Words.{register}
 use Rattle.bus_presence.specs.Hall.{Sizes}
 use Rattle.bus_presence.specs.Standing.{Stands}
 use Rattle.bus_presence.specs.Sweeps.{Sweeping}
 use Rattle.bus_guest.specs.Keeping.{held_of}
-use Rattle.bus_guest.specs.Turns.{Visitor}
+use Rattle.bus_guest.specs.Turns.{Visitor, due}
+use Rattle.bus_cyclic.specs.Staying.{deeds_in}
+use Rattle.bus_tenure.specs.Core.{Election}
+use Rattle.bus_world.specs.Turning.{words_after}
 use Rattle.bus_tenure.specs.declared.pages.Page.{Page}
 use Rattle.bus_tenure.specs.declared.phases.Phase.TheVariants.{Electing}
 use Rattle.bus_pageslot.specs.declared.rule.View.{View}
 use Rattle.bus_pageslot.specs.declared.rule.View.TheVariants.{Sender}
+use Rattle.bus_pageslot.specs.RowsAgain.{adds_due}
 use Rattle.bus_pageslot.specs.Tracks.{Track}
 
 -- the tenure that is open, or whose page is out
@@ -30,3 +36,9 @@ pub record AreSafe {E : Type 0} (x : Sizes) (s : State (Option Page) (View (Visi
   -- once all presences have passed that a holder asks, nobody stands in a tenure of the row of the next one
   pub swept : (j : ℕ) (v : Visitor E) (track : Track) (t : ℕ) (w : Sweeping) → Shown s j v track → held_of v.core.phase ≡ Some t → v.sweep ≡ Some w → x.senders ≤ w.asked
       → (k : ℕ) (u : Visitor E) (other : Track) (past : ℕ) → Shown s k u other → Stands x u.core.me other.visits past → past % x.rows ≢ (tenure_in s.words + 1) % x.rows
+
+-- A step of this sender leaves alone what is past: the stage does not fall; and of a tenure whose row has gone on to a later one, the step
+-- is none.
+pub record LeavesPast {E : Type 0} (X : Election E) (rows : ℕ) (words : List ℕ) (d : Visitor E) (word : ℕ) (o : Op) : Type 0 where
+  pub rises : slice_index words 1 ≤ slice_index (words_after words (Some o)) 1
+  pub leaves : (t : ℕ) → t + rows ≤ tenure_in words → deeds_in t (adds_due X d (due X d) (slice_index words (register o)) word).deeds ≡ []

@@ -32,7 +32,7 @@ ghost use Rattle.bus_pageslot.specs.Processes.{Extent, log_below};
 ghost use Rattle.bus_pageslot.specs.RowsAgain.{process_again, bus_again};
 ghost use Rattle.bus_pageslot.specs.RowsApart.{process_apart, bus_apart};
 ghost use Rattle.bus_pageslot.specs.Rule.{Sat, IsShown};
-ghost use Rattle.bus_pageslot.specs.SafeSeats.{AreSafe};
+ghost use Rattle.bus_pageslot.specs.SafeSeats.{AreSafe, LeavesPast};
 ghost use Rattle.bus_pageslot.specs.Seats.{Seated, TookAndTold, track_of};
 ghost use Rattle.bus_pageslot.specs.Promised.{IsPromised};
 ghost use Rattle.bus_pageslot.specs.Stages.{TakesPageOf};
@@ -135,6 +135,20 @@ pub fn rows_used_again_are_safe<Q: Ratifier>()
         (s : State (Option Page) (View (Visitor (Elector Q))))
         → IsShown (process_again X) (bus_again X (x shape) shape.rows) s
         → AreSafe (sizes_with (x shape) shape.rows) s }
+{
+    election_is_lawful::<Q>();
+}
+
+/// Where rows of words are used again, no step of a sender lowers the stage, and none is in a tenure
+/// whose row has gone on to a later one: so who announced itself there, whom its election chose and
+/// who took its page stays as it is. Receivers load.
+pub fn past_tenures_are_left<Q: Ratifier>()
+    ensures { let X = election_of Q.Ratifier in let P = process_again X in
+        let x = cyclic.layout_of Q.protocol in (shape : Shape)
+        (s : State (Option Page) (View (Visitor (Elector Q)))) (seat : ℕ)
+        (m : Sat (Visitor (Elector Q))) (d : Visitor (Elector Q)) (word many : ℕ) (o : Op)
+        → IsShown P (bus_again X (x shape) shape.rows) s → get_elem? s.views seat ≡ some m.0
+        → IsDue P d word m many o → LeavesPast X shape.rows s.words d word o }
 {
     election_is_lawful::<Q>();
 }
