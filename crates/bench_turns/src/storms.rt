@@ -7,10 +7,9 @@ ghost use Rattle.bus_run.specs.Audit.{OfOrder, IsFair, SendsEach};
 use crate::desks::desks_of;
 use crate::workers::{Listener, MOST_TURNS, Patience, Rest, Teller, listeners_of};
 use anyhow::{bail, ensure};
-use bus_cyclic::limits::LEAST_ROWS;
 use bus_deliverylog::{LogRead, read_log};
 use bus_pageslot::OfBus;
-use bus_receiver::{EndFault, Ended, SenderNo, Shape, Turn};
+use bus_receiver::{EndFault, Ended, LEAST_ROWS_AGAIN, SenderNo, Shape, Turn};
 use bus_register::limits::MOST_SENDERS;
 use bus_run::Report;
 use bus_run::audits::audit;
@@ -96,7 +95,7 @@ pub fn run<R: Threads + Clock + Sync>(
         senders: load.senders,
         receivers: 1 + seed / 8 % 8,
         rounds: 1 + u64::from(dice.next_u32() % 4),
-        rows: LEAST_ROWS + u64::from(dice.next_u32() % 7),
+        rows: LEAST_ROWS_AGAIN + u64::from(dice.next_u32() % 7),
         log_words: if is_scarce { 128 } else { 16_384 },
     };
     let made = Bus::new(alloc, shape)?;

@@ -4,9 +4,8 @@ ghost use Rattle.std.specs.Prelude.{◌≡◌, All};
 ghost use Rattle.bus_pageslot.specs.Seats.{table_of};
 
 use crate::desks::{Desk, desks_of};
-use bus_cyclic::limits::MOST_ROWS;
 use bus_pageslot::OfBus;
-use bus_receiver::Shape;
+use bus_receiver::{MOST_ROWS_AGAIN, Shape};
 use bus_register::Kind;
 use bus_run::buses::{Bus, Sender, Tap, TheBus};
 use bus_run::workers::{Ear, ears_of};
@@ -96,7 +95,7 @@ pub fn sums_of<R: Clock>(
             senders,
             receivers: 1,
             rounds: 1 + bus % 4,
-            rows: MOST_ROWS as u64,
+            rows: MOST_ROWS_AGAIN as u64,
             log_words: 16_384,
         };
         let made = Bus::new(alloc, shape)?;

@@ -22,7 +22,6 @@
 #![tactic(auto)]
 
 pub mod laws;
-pub mod limits;
 pub mod shapes;
 mod starts;
 mod turns;

@@ -4,7 +4,7 @@ ghost use Rattle.std.specs.Prelude.{◌≡◌, IfSome, None, ◌≢◌};
 ghost use Rattle.bus_cyclic.specs.Cyclic.{IsServed, MakeRefused};
 ghost use Rattle.bus_world.specs.declared.shapes.MakeFault.TheVariants.{NoMemory};
 
-use crate::limits::{LEAST_ROWS_AGAIN, MOST_ROWS_AGAIN};
+use bus_guest::limits::{LEAST_ROWS_AGAIN, MOST_ROWS_AGAIN};
 use bus_register::limits::{
     LEAST_LOG_WORDS, MOST_LOG_WORDS, MOST_RECEIVERS, MOST_ROUNDS, MOST_SENDERS,
 };

@@ -17,10 +17,10 @@ ghost use Rattle.bus_cyclic.specs.Cyclic.{last_of};
 ghost use Rattle.bus_cyclic.specs.Happening.{seen};
 ghost use Rattle.bus_cyclic.specs.Telling.{StepTells};
 
-use crate::limits::MOST_ROWS_AGAIN;
 use arrayvec::ArrayVec;
 use bus_adoptcommit::Ratifier;
 use bus_guest::Guest;
+use bus_guest::limits::MOST_ROWS_AGAIN;
 use bus_register::limits::NUMBERS;
 use bus_register::{Cells, SenderNo};
 use bus_tenure::{Page, Turn};

@@ -24,7 +24,6 @@ ghost use Rattle.bus_cyclic.specs.Following.{owners_with};
 ghost use Rattle.bus_cyclic.specs.Telling.{Tells, EventCauses};
 ghost use Rattle.bus_cyclic.specs.Truth.{TellsTrue, LossesAreSeen};
 
-use crate::limits::MOST_ROWS_AGAIN;
 use crate::shapes::fault_of;
 use crate::starts::new_guests;
 use crate::turns::{close_to, note_owner, put_to, turn_guest};
@@ -32,12 +31,13 @@ use arrayvec::ArrayVec;
 use bus_adoptcommit::Ratifier;
 use bus_deliverylog::{Order, Reader, read_front, read_log};
 use bus_guest::Guest;
+use bus_guest::limits::MOST_ROWS_AGAIN;
 use bus_ownerbits::Election;
 use bus_ownerbits::laws::election_is_lawful;
 use bus_register::limits::MOST_SENDERS;
 use bus_register::{Cells, NoMemory, Reg, SenderNo};
 use bus_tenure::Page;
-use bus_world::starts::new_receivers;
+use bus_world::starts::{NEW_PAGE, new_receivers};
 use bus_world::turns::turn_receiver;
 use bus_world::{Answer, Event, MakeFault, PlayFault, Shape, StepFault};
 use std::alloc::Global;
@@ -475,11 +475,3 @@ impl<Q: Ratifier + Drop> CyclicWorld<Q> {
         let _ = &self.shape;
     }
 }
-
-/// The page of a new bus.
-const NEW_PAGE: Page = Page {
-    next: [0; MOST_SENDERS],
-    ended: false,
-    tenures: 0,
-    words: 0,
-};

@@ -17,6 +17,7 @@ mod sizes;
 pub use bus_adoptcommit::{ThreeWord, TwoCollect};
 pub use bus_batch::{CloseFault, Item, Message, PutFault};
 pub use bus_deliverylog::{LogFault, LogRead, Order, RecvTurn, read_log};
+pub use bus_guest::limits::{LEAST_ROWS_AGAIN, MOST_ROWS_AGAIN};
 pub use bus_pageslot::{
     Bus, BusOf, CyclicBus, CyclicSender, CyclicTap, EndFault, Ended, OfBus, Seatable, SendFault,
     Sender, SenderOf, Tap, TapOf, Unsent,

@@ -1,6 +1,6 @@
 //! The sizes of a run.
 
-use bus_cyclic::limits::MOST_ROWS;
+use bus_guest::limits::MOST_ROWS_AGAIN;
 
 /// Messages that each sender of a run sends: at most 400.
 pub const MOST_MESSAGES_EACH: u64 = 400;
@@ -9,4 +9,4 @@ pub const MOST_MESSAGES_EACH: u64 = 400;
 pub const ROUNDS: u64 = 4;
 
 /// Rows of election words of a run's bus, which are used again.
-pub const ROWS: u64 = MOST_ROWS as u64;
+pub const ROWS: u64 = MOST_ROWS_AGAIN as u64;

@@ -1,7 +1,8 @@
 //! Three workers replicate a ledger over a bus: each sends transfers between accounts, and applies
 //! all that it receives, its own too. A transfer of more than an account has is refused. So which
 //! ones are refused depends on the order, and equal ledgers need one order. It may differ from run
-//! to run: the ledgers go to standard error, the verdict to standard output.
+//! to run: the ledgers go to standard error, the verdict to standard output. `rt try` in its folder
+//! prints `3 replicas, 30 commands: all equal`.
 #![tactic(auto)]
 
 ghost use Rattle.std.specs.Prelude.{◌≡◌, ◌↔◌, ◌^◌, ◌<◌, IsTrue, IfOk, sum};
