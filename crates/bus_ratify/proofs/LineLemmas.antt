@@ -9,6 +9,7 @@ use Rattle.std.proofs.lemmas.Option.{cond_some}
 use Rattle.std.proofs.lemmas.Slice.Eq.{bytes_eq-Decides}
 use Rattle.bus_script.specs.Grammar.{number_of, each_of, arguments_of}
 use Rattle.bus_register.specs.Digits.{digit}
+use Rattle.bus_ratify.specs.declared.limits.TheConstants.{MOST_INPUTS}
 use Rattle.bus_ratify.specs.Scripts.{bit_of, if_between, if_any, inputs_of, steps_of}
 use Rattle.bus_ratify.specs.Lines.{IsInputsLine, IsStepsLine}
 use Rattle.bus_script.proofs.SpelledLaws.{NoSpace, chained, number_plain, number_spelled, number_read, line_spelled, line_read}
@@ -57,15 +58,15 @@ any xs ys e =
 
 pub inputs_spelled : (line : List ℕ) (inputs : List Bool) → inputs_of line ≡ Some inputs → IsInputsLine line inputs
 inputs_spelled line inputs e =
-    let k = chained (if_between 1 8) (option_and_then (each_of bit_of) (arguments_of (codes "inputs") line)) inputs e in
-    let b = between 1 8 k.0 inputs k.2 in
+    let k = chained (if_between 1 MOST_INPUTS) (option_and_then (each_of bit_of) (arguments_of (codes "inputs") line)) inputs e in
+    let b = between 1 MOST_INPUTS k.0 inputs k.2 in
     let read = k.1 ∙ ap (λ (l : List Bool). Some l) b.0 in
     record { spelled = (line_spelled bit_of bit_text (λ _. Unit {0}) bit_spelled bit_read (codes "inputs") line inputs read).0; some = b.1; few = b.2 }
 
 pub inputs_read : (line : List ℕ) (inputs : List Bool) → IsInputsLine line inputs → inputs_of line ≡ Some inputs
 inputs_read line inputs h =
     let read = line_read bit_of bit_text (λ _. Unit {0}) bit_spelled bit_read bit_plain (codes "inputs") line inputs (refl, (refl, (refl, (refl, (refl, (refl, tt)))))) (all_good inputs) h.spelled in
-    ap (option_and_then (if_between 1 8)) read ∙ ap (λ b. cond b (Some inputs) None) (ap (λ b. b && leb (length inputs) 8) (le-leb 1 (length inputs) h.some) ∙ le-leb (length inputs) 8 h.few)
+    ap (option_and_then (if_between 1 MOST_INPUTS)) read ∙ ap (λ b. cond b (Some inputs) None) (ap (λ b. b && leb (length inputs) MOST_INPUTS) (le-leb 1 (length inputs) h.some) ∙ le-leb (length inputs) MOST_INPUTS h.few)
 
 -- ---- the lines of steps
 

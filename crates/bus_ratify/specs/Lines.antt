@@ -2,13 +2,14 @@
 use Rattle.std.specs.Prelude.{◌≡◌, ℕ, ◌^◌, ◌<◌, ◌≤◌, Bool, List, [], ◌∷◌, ◌++◌, length, codes, decimal, flat_map}
 use Rattle.std.specs.List.{AllByRecursion}
 use Rattle.bus_register.specs.Digits.{digit}
+use Rattle.bus_ratify.specs.declared.limits.TheConstants.{MOST_INPUTS}
 use Rattle.bus_ratify.specs.Scripts.{RatifyScript}
 
--- a line `inputs BIT ..` of 1 to 8 bits
+-- a line `inputs BIT ..` of one bit or more, and not too many
 pub record IsInputsLine (line : List ℕ) (inputs : List Bool) : Type 0 where
   pub spelled : line ≡ codes "inputs" ++ flat_map (λ input. 32 ∷ decimal (digit input)) inputs
   pub some : 1 ≤ length inputs
-  pub few : length inputs ≤ 8
+  pub few : length inputs ≤ MOST_INPUTS
 
 -- a line `steps NUMBER ..` of one number or more, each below 2^64
 pub record IsStepsLine (line : List ℕ) (numbers : List ℕ) : Type 0 where

@@ -3,6 +3,7 @@ use Rattle.std.specs.Prelude.{◌≡◌, ℕ, Bool, true, false, ◌&&◌, List,
 use Rattle.std.specs.List.{list_all}
 use Rattle.std.specs.Str.{bytes_eq}
 use Rattle.bus_script.specs.declared.places.Place.TheVariants.{AtLine, AtEnd}
+use Rattle.bus_ratify.specs.declared.limits.TheConstants.{MOST_INPUTS}
 use Rattle.bus_ratify.specs.declared.refusals.LineFault.{LineFault}
 use Rattle.bus_ratify.specs.declared.refusals.LineFault.TheVariants.{BadLine, NoSuchProcess}
 use Rattle.bus_ratify.specs.declared.refusals.Refusal.{Refusal}
@@ -27,9 +28,9 @@ if_between low high xs = if nat_le low (length xs) && nat_le (length xs) high th
 abbrev pub if_any : {A : Type 0} → List A → Option (List A)
 if_any xs = if nat_le 1 (length xs) then Some xs else None
 
--- what a line of the form `inputs BIT ..` says, with 1 to 8 bits
+-- what a line of the form `inputs BIT ..` says, with as many bits as there can be inputs
 abbrev pub inputs_of : List ℕ → Option (List Bool)
-inputs_of line = option_and_then (if_between 1 8) (option_and_then (each_of bit_of) (arguments_of (codes "inputs") line))
+inputs_of line = option_and_then (if_between 1 MOST_INPUTS) (option_and_then (each_of bit_of) (arguments_of (codes "inputs") line))
 
 -- what a line of the form `steps NUMBER ..` says, with one number or more
 abbrev pub steps_of : List ℕ → Option (List ℕ)

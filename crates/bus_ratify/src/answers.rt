@@ -3,6 +3,7 @@
 ghost use Rattle.std.specs.Prelude.{ℕ, ◌<◌, ◌≤◌, All, IfOk, length, string_bytes};
 ghost use Rattle.bus_ratify.specs.Answers.{IsAnswer, IsPlayed};
 
+use crate::limits::MOST_INPUTS;
 use crate::refusals::ReadingFault;
 use crate::scripts::{Script, read_script};
 use crate::text::{refusal_text, verdict_text};
@@ -14,7 +15,7 @@ use std::alloc::Global;
 
 /// The verdicts after the steps of a script, of two collects.
 fn play(alloc: Global, script: &Script) -> Result<Vec<Option<Verdict>>, NoMemory>
-    requires few { length script.now.inputs.items ≤ 8 }
+    requires few { length script.now.inputs.items ≤ MOST_INPUTS }
     requires known { All (λ p. p < length script.now.inputs.items) script.now.schedule.items }
     ensures { IfOk result (λ verdicts. IsPlayed (record {
       inputs = script.now.inputs.items;

@@ -13,6 +13,7 @@
 
 pub mod answers;
 pub mod laws;
+pub mod limits;
 pub mod refusals;
 pub mod scripts;
 pub mod text;

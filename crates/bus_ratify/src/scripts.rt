@@ -6,6 +6,7 @@ ghost use Rattle.bus_ratify.specs.Scripts.{steps_among, schedule_of, ratify_scri
 ghost use Rattle.bus_ratify.specs.Scripts.{GivesSteps};
 ghost use Rattle.bus_ratify.specs.declared.refusals.LineFault.TheVariants.{BadLine};
 
+use crate::limits::MOST_INPUTS;
 use crate::refusals::{LineFault, ReadingFault, Refusal};
 use bus_script::{Line, Lines, Place, Words, number_of, words_behind};
 use std::alloc::Global;
@@ -13,7 +14,7 @@ use std::alloc::Global;
 /// What a script says.
 #[derive(Debug, Drop)]
 pub struct Script {
-    /// By process: 1 to 8 of them.
+    /// By process: 1 to `MOST_INPUTS` of them.
     pub inputs: Vec<bool>,
     /// The process of each step, in order.
     pub schedule: Vec<u8>,
@@ -63,7 +64,7 @@ fn inputs_of(alloc: Global, line: Line<'_>) -> Result<Vec<bool>, ReadingFault>
             None => return Err(bad_line(line)),
         }
     }
-    if inputs.is_empty() || inputs.len() > 8 {
+    if inputs.is_empty() || inputs.len() > MOST_INPUTS {
         return Err(bad_line(line));
     }
     Ok(inputs)
@@ -71,7 +72,7 @@ fn inputs_of(alloc: Global, line: Line<'_>) -> Result<Vec<bool>, ReadingFault>
 
 /// Puts the steps of a line at the end of the schedule.
 fn push_steps(line: Line<'_>, processes: usize, schedule: &mut Vec<u8>) -> Result<(), ReadingFault>
-    requires { processes ≤ 8 }
+    requires { processes ≤ MOST_INPUTS }
     ensures { GivesSteps result schedule.old.items schedule.new.items
         (steps_among processes line.entry.number (steps_of line.entry.bytes.now)) }
 {
@@ -106,7 +107,7 @@ fn schedule_of(
     mut lines: Lines<'_>,
     processes: usize,
 ) -> Result<Vec<u8>, ReadingFault>
-    requires { processes ≤ 8 }
+    requires { processes ≤ MOST_INPUTS }
     ensures { Gives (λ schedule. schedule.items) result (schedule_of processes lines.entry) }
 {
     let mut schedule = Vec::new(alloc);

@@ -5,6 +5,7 @@ use Rattle.std.proofs.lemmas.Bool.Decides.{nat_tests, eqb_tells}
 use Rattle.std.proofs.lemmas.List.{get_or-set_same, get_or-set_other, get_or-replicate, length-append}
 use Rattle.std.proofs.lemmas.List.Sums.{sum_by-append}
 use Rattle.std.proofs.Math.ListN.{length-set}
+use Rattle.bus_register.specs.declared.limits.TheConstants.{MOST_SENDERS}
 use Rattle.bus_batch.specs.declared.messages.Item.{Item}
 use Rattle.bus_deliverylog.specs.declared.receiving.RecvTurn.{RecvTurn}
 use Rattle.bus_deliverylog.specs.declared.receiving.RecvTurn.TheVariants as turn
@@ -13,9 +14,9 @@ use Rattle.bus_receiver.specs.HearingRuns.{hears, item_taken, heard, items_taken
 
 -- one answer more
 abbrev CountsOne : ℕ → Hearing → Hearing → List Item → Type 0
-CountsOne s old new items = (slice_index new.counts s ≡ slice_index old.counts s + count_by (λ item. item.sender.0 == s) items) × (length new.counts ≡ 8) × (new.items ≡ old.items + length items)
+CountsOne s old new items = (slice_index new.counts s ≡ slice_index old.counts s + count_by (λ item. item.sender.0 == s) items) × (length new.counts ≡ MOST_SENDERS) × (new.items ≡ old.items + length items)
 
-nothing_more : (s : ℕ) (h : Hearing) → length h.counts ≡ 8 → (b : Bool) → CountsOne s h (cond b h h) (cond b [] [])
+nothing_more : (s : ℕ) (h : Hearing) → length h.counts ≡ MOST_SENDERS → (b : Bool) → CountsOne s h (cond b h h) (cond b [] [])
 nothing_more s h e true = (omega arith, e, omega arith)
 nothing_more s h e false = (omega arith, e, omega arith)
 
@@ -27,12 +28,12 @@ first : (a b : Bool) → (a && b) ≡ true → a ≡ true
 first true b h = refl
 first false b h = h
 
-one_item : (s : ℕ) (h : Hearing) (item : Item) → length h.counts ≡ 8 → (b : Bool) → takes h (turn.Item item) ≡ b → CountsOne s h (cond b (hearing_after h (turn.Item item)) h) (cond b (item ∷ []) [])
+one_item : (s : ℕ) (h : Hearing) (item : Item) → length h.counts ≡ MOST_SENDERS → (b : Bool) → takes h (turn.Item item) ≡ b → CountsOne s h (cond b (hearing_after h (turn.Item item)) h) (cond b (item ∷ []) [])
 one_item s h item e false is = (omega arith, e, omega arith)
 one_item s h item e true is =
-    let fits = both (goes_on h && has_room h) (nat_lt item.sender.0 8 && (item.number == slice_index h.counts item.sender.0)) is in
-    let below : item.sender.0 < 8 = (let t = first (nat_lt item.sender.0 8) (item.number == slice_index h.counts item.sender.0) fits in grind (arith, nat_tests, t)) in
-    let next : item.number ≡ slice_index h.counts item.sender.0 = (let t = both (nat_lt item.sender.0 8) (item.number == slice_index h.counts item.sender.0) fits in grind (arith, nat_tests, t)) in
+    let fits = both (goes_on h && has_room h) (nat_lt item.sender.0 MOST_SENDERS && (item.number == slice_index h.counts item.sender.0)) is in
+    let below : item.sender.0 < MOST_SENDERS = (let t = first (nat_lt item.sender.0 MOST_SENDERS) (item.number == slice_index h.counts item.sender.0) fits in grind (arith, nat_tests, t)) in
+    let next : item.number ≡ slice_index h.counts item.sender.0 = (let t = both (nat_lt item.sender.0 MOST_SENDERS) (item.number == slice_index h.counts item.sender.0) fits in grind (arith, nat_tests, t)) in
     let many = length-set h.counts item.sender.0 (item.number + 1) in
     elim (eqb_tells item.sender.0 s) [
       | inl own ↦
@@ -47,7 +48,7 @@ one_item s h item e true is =
           (omega arith, many ∙ e, omega arith)
     ]
 
-counts_one : (s : ℕ) (h : Hearing) (t : RecvTurn) → length h.counts ≡ 8 → CountsOne s h (hears h t) (item_taken h t)
+counts_one : (s : ℕ) (h : Hearing) (t : RecvTurn) → length h.counts ≡ MOST_SENDERS → CountsOne s h (hears h t) (item_taken h t)
 counts_one s h turn.Going e = nothing_more s h e (goes_on h)
 counts_one s h turn.Empty e = nothing_more s h e (goes_on h)
 counts_one s h (turn.Head tenure owner) e = nothing_more s h e (goes_on h)
@@ -55,7 +56,7 @@ counts_one s h (turn.Item item) e = one_item s h item e (takes h (turn.Item item
 counts_one s h turn.End e = (omega arith, e, omega arith)
 
 -- any answers
-counts_all : (s : ℕ) (turns : List RecvTurn) (h : Hearing) → length h.counts ≡ 8
+counts_all : (s : ℕ) (turns : List RecvTurn) (h : Hearing) → length h.counts ≡ MOST_SENDERS
     → (slice_index (heard h turns).counts s ≡ slice_index h.counts s + count_by (λ item. item.sender.0 == s) (items_taken h turns)) × ((heard h turns).items ≡ h.items + length (items_taken h turns))
 counts_all s [] h e = (omega arith, omega arith)
 counts_all s (t ∷ turns) h e =
@@ -69,8 +70,8 @@ counts_all s (t ∷ turns) h e =
     let lengths = length-append (item_taken h t) (items_taken (hears h t) turns) in
     (omega (arith, sums), omega (arith, lengths))
 
-pub counts_each : (turns : List RecvTurn) (s : ℕ) → s < 8 → slice_index (heard nothing turns).counts s ≡ count_by (λ item. item.sender.0 == s) (items_taken nothing turns)
-counts_each turns s l = let all = (counts_all s turns nothing refl).0 in let zero_is : slice_index (replicate 8 0) s ≡ 0 = get_or-replicate 8 s 0 0 l in omega arith
+pub counts_each : (turns : List RecvTurn) (s : ℕ) → s < MOST_SENDERS → slice_index (heard nothing turns).counts s ≡ count_by (λ item. item.sender.0 == s) (items_taken nothing turns)
+counts_each turns s l = let all = (counts_all s turns nothing refl).0 in let zero_is : slice_index (replicate MOST_SENDERS 0) s ≡ 0 = get_or-replicate MOST_SENDERS s 0 0 l in omega arith
 
 pub counts_items : (turns : List RecvTurn) → (heard nothing turns).items ≡ length (items_taken nothing turns)
 counts_items turns = let all = (counts_all 0 turns nothing refl).1 in omega arith

@@ -43,8 +43,8 @@ impl Heard {
     }
 
     /// Takes the next answer of a receiver and gives true, or refuses it and gives false: an item
-    /// that is not the next of its sender, of no sender below 8, or one more than can be counted,
-    /// and all but the end after the end. What is refused changes nothing.
+    /// that is not the next of its sender, of no sender below `MOST_SENDERS`, or one more than can
+    /// be counted, and all but the end after the end. What is refused changes nothing.
     pub fn note(&mut self, turn: &RecvTurn) -> bool
         ensures takes { result ≡ takes self.old turn.now }
         ensures taken { result ≡ true → self.new ≡ hearing_after self.old turn.now }

@@ -4,6 +4,7 @@ use Rattle.std.specs.Option.{option_map}
 use Rattle.std.specs.Str.{bytes_eq}
 use Rattle.bus_world.specs.World.{Event, Put, Close, Turn, Recv, Stop}
 use Rattle.bus_world.specs.declared.shapes.Shape.{Shape}
+use Rattle.bus_replay.specs.declared.lines.TheConstants.{MOST_TURNS_A_LINE}
 use Rattle.bus_replay.specs.declared.lines.FirstLine.{FirstLine}
 use Rattle.bus_replay.specs.declared.lines.FirstLine.TheVariants.{Shape as Shaped, Cycle as Cycled}
 use Rattle.bus_script.specs.Grammar.{number_of, and_before, each_of, arguments_of}
@@ -82,9 +83,9 @@ close_from [] = None
 close_from (s ∷ []) = Some (record { event = Close s; times = 1 })
 close_from (s ∷ x ∷ more) = None
 
--- 1 to 10,000
+-- so many turns can one line ask for
 abbrev pub are_times : ℕ → Bool
-are_times k = nat_le 1 k && nat_le k 10000
+are_times k = nat_le 1 k && nat_le k MOST_TURNS_A_LINE
 
 -- `turn S W K`: at most K turns of sender S with the random word W
 abbrev pub turn_from : List ℕ → Option Command

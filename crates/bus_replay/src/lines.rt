@@ -16,6 +16,9 @@ use bus_script::{Words, number_of, words_behind};
 use bus_world::{Event, Shape};
 use std::alloc::{AllocError, Global};
 
+/// Turns that one line asks for: 1 to 10,000.
+pub const MOST_TURNS_A_LINE: u64 = 10_000;
+
 /// The number that the next word is.
 fn next_number(words: &mut Words<'_>) -> Option<u64>
     ensures some { IfSome result
@@ -124,7 +127,7 @@ fn close_of(line: &[u8]) -> Option<Command>
 fn are_times(times: u64) -> bool
     ensures { result ≡ are_times times }
 {
-    times >= 1 && times <= 10_000
+    times >= 1 && times <= MOST_TURNS_A_LINE
 }
 
 fn turn_of(line: &[u8]) -> Option<Command>

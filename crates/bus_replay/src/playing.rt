@@ -36,7 +36,7 @@ fn recv_goes_on(turn: &RecvTurn) -> bool
 }
 
 /// A sender's turns go on while it is going, a receiver's until it finds nothing or the end.
-fn goes_on(answer: &Answer) -> bool
+pub fn goes_on(answer: &Answer) -> bool
     ensures { result ≡ goes_on answer.now }
 {
     match answer {
@@ -63,7 +63,12 @@ fn repeat<M: Playable>(bus: &mut M, event: &Event, times: u64) -> Result<Answer,
 }
 
 /// Puts the line of a refusal at the end of a text.
-fn push_refusal(alloc: Global, number: u64, name: &str, text: &mut String) -> Result<(), AllocError>
+pub fn push_refusal(
+    alloc: Global,
+    number: u64,
+    name: &str,
+    text: &mut String,
+) -> Result<(), AllocError>
     ensures { OnOk result
         (string_bytes text.new ≡ string_bytes text.old ++ refusal_line (AtLine number) name.now) }
 {

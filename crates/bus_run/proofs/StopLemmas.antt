@@ -58,12 +58,12 @@ pub named : (order : Order) (heards : List Hearing) (why : AuditFault) → IsFir
 named order heards (Count r s) h = (slice_get_within heards r h.1 h.2, h.3)
 named order heards (NotEnded r) h = slice_get_within heards r h.1 h.2
 
-module _ {D E : Type 0} (number : D → ℕ) (noted : D → Option SenderFault) (sender : D → Seated Held) (shape : Shape) (messages room : ℕ) (desks : List D) (ears : List E) (seats : List Shown) (heards : List Hearing) where
+module _ {D E : Type 0} (number : D → ℕ) (noted : D → Option SenderFault) (sender : D → Seated Held) (shape : Shape) (messages room : ℕ) (desks : List D) (listeners : List E) (seats : List Shown) (heards : List Hearing) where
   -- the crew's fault
   abbrev pub CrewFault : RunFault → Type 0
-  CrewFault fault = ((fault ≡ run.Spawn) × (IsWhole number shape desks ears → ⊥)) ⊎ (IsWhole number shape desks ears × IsFirstStop noted desks fault) ⊎ (IsWhole number shape desks ears × AreUnstopped noted desks × IsLate sender shape messages room desks seats heards fault)
+  CrewFault fault = ((fault ≡ run.Spawn) × (IsWhole number shape desks listeners → ⊥)) ⊎ (IsWhole number shape desks listeners × IsFirstStop noted desks fault) ⊎ (IsWhole number shape desks listeners × AreUnstopped noted desks × IsLate sender shape messages room desks seats heards fault)
 
-  pub crew_stop : (fault : RunFault) → length heards ≡ length ears → CrewFault fault → IsStop shape.senders shape.receivers fault
+  pub crew_stop : (fault : RunFault) → length heards ≡ length listeners → CrewFault fault → IsStop shape.senders shape.receivers fault
   crew_stop run.NoMemory many h = tt
   crew_stop run.Spawn many h = tt
   crew_stop run.Gate many h = tt

@@ -26,10 +26,10 @@ abbrev pub AreInOrder : {D : Type 0} → (D → ℕ) → List D → Type 0
 AreInOrder {D} number desks = (k : ℕ) (d : D) → slice_get desks k ≡ Some d → number d ≡ k
 
 -- all senders have come back, in order, and all receivers, and there is one of each
-pub record IsWhole {D E : Type 0} (number : D → ℕ) (shape : Shape) (desks : List D) (ears : List E) : Type 0 where
+pub record IsWhole {D E : Type 0} (number : D → ℕ) (shape : Shape) (desks : List D) (listeners : List E) : Type 0 where
   pub all_send : length desks ≡ shape.senders
   pub in_order : AreInOrder number desks
-  pub all_hear : length ears ≡ shape.receivers
+  pub all_hear : length listeners ≡ shape.receivers
   pub one_hears : 0 < shape.receivers
   pub one_sends : 0 < shape.senders
 

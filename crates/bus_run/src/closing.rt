@@ -23,7 +23,7 @@ use crate::buses::{Receiver, TheBus};
 use crate::crews::Crew;
 use crate::faults::{RunFault, SenderFault};
 use crate::reports::Report;
-use crate::workers::{Desk, Ear};
+use crate::workers::{Desk, Listener};
 use bus_pageslot::{Ended, OfBus};
 use bus_receiver::Heard;
 use bus_register::SenderNo;
@@ -34,7 +34,7 @@ use bus_world::Shape;
 /// against what each sender was to send and each receiver noted. The room is for these notes.
 pub fn end_and_audit<B: OfBus>(
     the: TheBus<B>,
-    crew: Crew<Desk<B>, Ear<B>>,
+    crew: Crew<Desk<B>, Listener<B>>,
     room: Vec<Heard>,
     shape: Shape,
     messages: u64,
@@ -42,12 +42,12 @@ pub fn end_and_audit<B: OfBus>(
     requires senders { shape.senders ≤ MOST_SENDERS }
     requires bus { the.bus.shape ≡ shape }
     ensures whole { OnOk result
-        (IsWhole (λ desk. number_of desk.sender) shape crew.desks.items crew.ears.items) }
+        (IsWhole (λ desk. number_of desk.sender) shape crew.desks.items crew.listeners.items) }
     ensures unstopped { OnOk result (AreUnstopped (λ desk. desk.fault) crew.desks.items) }
     ensures of { IfOk result (λ report. report.ended.senders ≡ shape.senders) }
     ensures left { IfOk result (λ report. IsLeftBehind shape report.ended) }
     ensures by { let Ends = IsToldByAll (λ desk. desk.sender) messages crew.desks.items
-        (map (λ ear. ear.receiver.me.0) crew.ears.items) in
+        (map (λ listener. listener.receiver.me.0) crew.listeners.items) in
         IfOk result (λ report. IsEndedBy shape Ends report.ended) }
     ensures sent { IfOk result
         (λ report. OfOrder report.ended (SendsEach shape.senders messages)) }
@@ -59,39 +59,43 @@ pub fn end_and_audit<B: OfBus>(
     ensures all { IfOk result
         (λ report. OfOrder report.ended (λ order. All (CountsAll order) report.heards.items)) }
     ensures notes { IfOk result
-        (λ report. report.heards.items ≡ map (λ ear. ear.heard) crew.ears.items) }
+        (λ report. report.heards.items ≡ map (λ listener. listener.heard) crew.listeners.items) }
     ensures each { IfOk result (λ report. length report.heards.items ≡ shape.receivers) }
     ensures spelled { IfOk result (λ report. IsSpelled report.ended) }
 
     // Who is missing comes before what stopped a sender, and that before all else.
     ensures fault { let Whole = IsWhole (λ desk. number_of desk.sender) shape
-        crew.desks.items crew.ears.items in
+        crew.desks.items crew.listeners.items in
         IfErr result (λ fault. ((fault ≡ RunFault.Spawn) × (Whole → ⊥))
         ⊎ (Whole × IsFirstStop (λ desk. desk.fault) crew.desks.items fault)
         ⊎ (Whole × AreUnstopped (λ desk. desk.fault) crew.desks.items
         × IsLate (λ desk. desk.sender) shape messages (vec_capacity room) crew.desks.items
-        (map (λ ear. ear.receiver.me.0) crew.ears.items)
-        (map (λ ear. ear.heard) crew.ears.items) fault)) }
+        (map (λ listener. listener.receiver.me.0) crew.listeners.items)
+        (map (λ listener. listener.heard) crew.listeners.items) fault)) }
 {
-    let Crew { desks, ears, .. } = crew;
-    if !is_whole(desks.as_slice(), ears.as_slice(), shape) {
+    let Crew {
+        desks,
+        listeners,
+        ..
+    } = crew;
+    if !is_whole(desks.as_slice(), listeners.as_slice(), shape) {
         return Err(RunFault::Spawn);
     }
     if let Some(fault) = first_stop(desks.as_slice()) {
         return Err(fault);
     }
-    end_whole(the, desks, ears, room, shape, messages)
+    end_whole(the, desks, listeners, room, shape, messages)
 }
 
 /// All senders have come back, in order, and all receivers.
-fn is_whole<B: OfBus>(desks: &[Desk<B>], ears: &[Ear<B>], shape: Shape) -> bool
+fn is_whole<B: OfBus>(desks: &[Desk<B>], listeners: &[Listener<B>], shape: Shape) -> bool
     ensures whole { result ≡ true
-        → IsWhole (λ desk. number_of desk.sender) shape desks.now ears.now }
+        → IsWhole (λ desk. number_of desk.sender) shape desks.now listeners.now }
     ensures missing { result ≡ false
-        → IsWhole (λ desk. number_of desk.sender) shape desks.now ears.now → ⊥ }
+        → IsWhole (λ desk. number_of desk.sender) shape desks.now listeners.now → ⊥ }
 {
     let all_send = desks.len() as u64 == shape.senders && !desks.is_empty();
-    let all_hear = ears.len() as u64 == shape.receivers && !ears.is_empty();
+    let all_hear = listeners.len() as u64 == shape.receivers && !listeners.is_empty();
     all_send && all_hear && are_in_order(desks)
 }
 
@@ -143,18 +147,18 @@ fn gate_refused<B: OfBus>(desks: &[Desk<B>]) -> bool
 fn end_whole<B: OfBus>(
     the: TheBus<B>,
     desks: Vec<Desk<B>>,
-    ears: Vec<Ear<B>>,
+    listeners: Vec<Listener<B>>,
     room: Vec<Heard>,
     shape: Shape,
     messages: u64,
 ) -> Result<Report, RunFault>
     requires senders { shape.senders ≤ MOST_SENDERS }
     requires bus { the.bus.shape ≡ shape }
-    requires whole { IsWhole (λ desk. number_of desk.sender) shape desks.items ears.items }
+    requires whole { IsWhole (λ desk. number_of desk.sender) shape desks.items listeners.items }
     ensures of { IfOk result (λ report. report.ended.senders ≡ shape.senders) }
     ensures left { IfOk result (λ report. IsLeftBehind shape report.ended) }
     ensures by { let Ends = IsToldByAll (λ desk. desk.sender) messages desks.items
-        (map (λ ear. ear.receiver.me.0) ears.items) in
+        (map (λ listener. listener.receiver.me.0) listeners.items) in
         IfOk result (λ report. IsEndedBy shape Ends report.ended) }
     ensures sent { IfOk result
         (λ report. OfOrder report.ended (SendsEach shape.senders messages)) }
@@ -166,17 +170,18 @@ fn end_whole<B: OfBus>(
     ensures all { IfOk result
         (λ report. OfOrder report.ended (λ order. All (CountsAll order) report.heards.items)) }
     ensures notes { IfOk result
-        (λ report. report.heards.items ≡ map (λ ear. ear.heard) ears.items) }
+        (λ report. report.heards.items ≡ map (λ listener. listener.heard) listeners.items) }
     ensures each { IfOk result (λ report. length report.heards.items ≡ shape.receivers) }
     ensures spelled { IfOk result (λ report. IsSpelled report.ended) }
     ensures late { IfErr result
         (IsLate (λ desk. desk.sender) shape messages (vec_capacity room) desks.items
-        (map (λ ear. ear.receiver.me.0) ears.items) (map (λ ear. ear.heard) ears.items)) }
+        (map (λ listener. listener.receiver.me.0) listeners.items)
+        (map (λ listener. listener.heard) listeners.items)) }
 {
     if let Some(sender) = first_unsent(desks.as_slice(), messages) {
         return Err(RunFault::Stopped { sender });
     }
-    let (first, heards) = notes_of(ears, room)?;
+    let (first, heards) = notes_of(listeners, room)?;
     let told = tell_all(&the, desks, first, messages);
     let ended = end_closed(the, told)?;
     all_sent(&ended, shape.senders, messages)?;
@@ -200,32 +205,32 @@ fn first_unsent<B: OfBus>(desks: &[Desk<B>], messages: u64) -> Option<u64>
 
 /// The first receiver, and what each noted.
 fn notes_of<B: OfBus>(
-    ears: Vec<Ear<B>>,
+    listeners: Vec<Listener<B>>,
     room: Vec<Heard>,
 ) -> Result<(Receiver, Vec<Heard>), RunFault>
-    requires { 0 < vec_len ears }
+    requires { 0 < vec_len listeners }
     ensures table { IfOk result (λ noted. bus_of noted.0 ≡ B.table) }
     ensures notes { IfOk result
-        (λ noted. noted.1.items ≡ map (λ ear. ear.heard) ears.items) }
+        (λ noted. noted.1.items ≡ map (λ listener. listener.heard) listeners.items) }
     ensures summed { IfOk result (λ noted. All IsSummed noted.1.items) }
     ensures first { IfOk result (λ noted. slice_get
-        (map (λ ear. ear.receiver.me.0) ears.items) 0 ≡ Some noted.0.me.0) }
-    ensures room { OnOk result (length ears.items ≤ vec_capacity room) }
+        (map (λ listener. listener.receiver.me.0) listeners.items) 0 ≡ Some noted.0.me.0) }
+    ensures room { OnOk result (length listeners.items ≤ vec_capacity room) }
     ensures full { IfErr result
-        (λ fault. (fault ≡ RunFault.NoMemory) × (vec_capacity room < length ears.items)) }
+        (λ fault. (fault ≡ RunFault.NoMemory) × (vec_capacity room < length listeners.items)) }
 {
-    if room.capacity() < ears.len() {
+    if room.capacity() < listeners.len() {
         return Err(RunFault::NoMemory);
     }
     let mut heards = room;
     heards.clear();
     let mut first = None;
-    for ear in ears {
-        let Ear {
+    for listener in listeners {
+        let Listener {
             receiver,
             heard,
             ..
-        } = ear;
+        } = listener;
         heards.push_reserved(heard);
         if first.is_none() {
             first = Some(receiver);

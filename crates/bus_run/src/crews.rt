@@ -15,22 +15,22 @@ pub trait Work<T> {
 #[derive(Drop)]
 pub struct Crew<D: Drop, E: Drop> {
     pub desks: Vec<D>,
-    pub ears: Vec<E>,
+    pub listeners: Vec<E>,
     sending: Vec<JoinHandle<D>>,
     hearing: Vec<JoinHandle<E>>,
 }
 
 impl<D: Send + Drop, E: Send + Drop> Crew<D, E> {
     /// A crew that has not begun. All its memory is taken here.
-    pub fn new(alloc: Global, desks: Vec<D>, ears: Vec<E>) -> Result<Crew<D, E>, AllocError>
+    pub fn new(alloc: Global, desks: Vec<D>, listeners: Vec<E>) -> Result<Crew<D, E>, AllocError>
         ensures senders { IfOk result (λ crew. crew.desks.items ≡ desks.items) }
-        ensures receivers { IfOk result (λ crew. crew.ears.items ≡ ears.items) }
+        ensures receivers { IfOk result (λ crew. crew.listeners.items ≡ listeners.items) }
     {
         let sending = Vec::with_capacity(alloc, desks.len())?;
-        let hearing = Vec::with_capacity(alloc, ears.len())?;
+        let hearing = Vec::with_capacity(alloc, listeners.len())?;
         Ok(Crew {
             desks,
-            ears,
+            listeners,
             sending,
             hearing,
         })
@@ -58,7 +58,7 @@ impl<D: Send + Drop, E: Send + Drop> Crew<D, E> {
     where
         E: 's,
     {
-        start(scope, work, &mut self.ears, &mut self.hearing)
+        start(scope, work, &mut self.listeners, &mut self.hearing)
     }
 
     /// Waits for the threads of the senders, which are in the crew again, in order.
@@ -68,7 +68,7 @@ impl<D: Send + Drop, E: Send + Drop> Crew<D, E> {
 
     /// Waits for the threads of the receivers, which are in the crew again, in order.
     pub fn join_receivers<R: Threads>(&mut self, rt: &R) {
-        join(rt, &mut self.ears, &mut self.hearing);
+        join(rt, &mut self.listeners, &mut self.hearing);
     }
 }
 

@@ -15,7 +15,7 @@ use crate::faults::RunFault;
 use crate::gates::Gate;
 use crate::limits::{MOST_MESSAGES_EACH, ROUNDS, ROWS};
 use crate::reports::Report;
-use crate::workers::{Desk, Ear, HearAll, Load, SendAll, desks_of, ears_of};
+use crate::workers::{Desk, HearAll, Listener, Load, SendAll, desks_of, listeners_of};
 use bus_pageslot::OfBus;
 use bus_register::limits::MOST_LOG_WORDS;
 use bus_world::Shape;
@@ -98,7 +98,7 @@ fn run_on<B: OfBus + Send + Sync, R: Threads + Wait + Sync, G: Gate + Sync>(
     let crew = Crew::new(
         alloc,
         desks_of::<B>(alloc, senders, load.seed)?,
-        ears_of::<B>(alloc, taps)?,
+        listeners_of::<B>(alloc, taps)?,
     )?;
     let the = TheBus::<B>::new(bus);
     let crew = man(rt, &the, gate, load, crew);
@@ -112,8 +112,8 @@ fn man<B: OfBus + Send + Sync, R: Threads + Wait + Sync, G: Gate + Sync>(
     the: &TheBus<B>,
     gate: &G,
     load: Load,
-    crew: Crew<Desk<B>, Ear<B>>,
-) -> Crew<Desk<B>, Ear<B>> {
+    crew: Crew<Desk<B>, Listener<B>>,
+) -> Crew<Desk<B>, Listener<B>> {
     let given_up = AtomicBool::new(false);
     let given_up = &given_up;
     let wait = rt;

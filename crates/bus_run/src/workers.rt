@@ -61,7 +61,7 @@ pub struct Desk<B: OfBus> {
 
 /// A receiver of the bus B with what was noted of its answers.
 #[derive(Drop)]
-pub struct Ear<B: OfBus> {
+pub struct Listener<B: OfBus> {
     pub receiver: Receiver,
     pub heard: Heard,
     of: PhantomData<B>,
@@ -69,14 +69,14 @@ pub struct Ear<B: OfBus> {
     ghost summed: { IsSummed heard },
 }
 
-impl<B: OfBus> Ear<B> {
-    /// The ear of the receiver with this seat, of whose answers nothing was noted.
-    pub fn new(tap: Tap) -> Ear<B>
+impl<B: OfBus> Listener<B> {
+    /// The listener of the receiver with this seat, of whose answers nothing was noted.
+    pub fn new(tap: Tap) -> Listener<B>
         requires { tap.table_id ≡ B.table }
         ensures receiver { result.receiver ≡ tap }
         ensures fresh { result.heard ≡ nothing }
     {
-        Ear {
+        Listener {
             receiver: Receiver::new(tap),
             heard: Heard::new(),
             of: PhantomData,
@@ -203,18 +203,19 @@ pub fn desks_of<B: OfBus>(
     Ok(desks)
 }
 
-/// An ear for each receiver, in order.
-pub fn ears_of<B: OfBus>(alloc: Global, taps: Vec<Tap>) -> Result<Vec<Ear<B>>, AllocError>
+/// A listener for each receiver, in order.
+pub fn listeners_of<B: OfBus>(alloc: Global, taps: Vec<Tap>) -> Result<Vec<Listener<B>>, AllocError>
     requires { All (λ tap. tap.table_id ≡ B.table) taps.items }
     ensures receivers { IfOk result
-        (λ ears. map (λ ear. ear.receiver) ears.items ≡ taps.items) }
-    ensures fresh { IfOk result (λ ears. All (λ ear. ear.heard ≡ nothing) ears.items) }
+        (λ listeners. map (λ listener. listener.receiver) listeners.items ≡ taps.items) }
+    ensures fresh { IfOk result
+        (λ listeners. All (λ listener. listener.heard ≡ nothing) listeners.items) }
 {
-    let mut ears = Vec::with_capacity(alloc, taps.len())?;
+    let mut listeners = Vec::with_capacity(alloc, taps.len())?;
     for tap in taps {
-        ears.push(Ear::new(tap))?;
+        listeners.push(Listener::new(tap))?;
     }
-    Ok(ears)
+    Ok(listeners)
 }
 
 /// The random words of a sender: its own stream under the key of the seed.
@@ -290,17 +291,17 @@ pub struct HearAll<'a, B: OfBus, W> {
     pub given_up: &'a AtomicBool,
 }
 
-impl<B: OfBus, W: Wait> Work<Ear<B>> for HearAll<'_, B, W> {
+impl<B: OfBus, W: Wait> Work<Listener<B>> for HearAll<'_, B, W> {
     /// Takes until the end and notes each answer, or until the bus was given up and has nothing
     /// more.
-    fn work(&self, mut ear: Ear<B>) -> Ear<B> {
+    fn work(&self, mut listener: Listener<B>) -> Listener<B> {
         let backoff = Backoff::new();
         for _ in self.wait.forever() {
-            match ear.hear(self.the) {
-                RecvTurn::End => return ear,
+            match listener.hear(self.the) {
+                RecvTurn::End => return listener,
                 RecvTurn::Empty => {
                     if self.given_up.load(Ordering::SeqCst) {
-                        return ear;
+                        return listener;
                     }
                     backoff.snooze();
                 }

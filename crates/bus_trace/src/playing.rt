@@ -1,10 +1,7 @@
 //! How the lines of a script move the bus, and what is put on a sheet of each step.
 
-ghost use Rattle.std.specs.Prelude.{◌≡◌, ◌++◌, ◌-◌, ◌<◌, None, IfOk, OnOk, string_bytes};
+ghost use Rattle.std.specs.Prelude.{◌≡◌, ◌-◌, ◌<◌, None, IfOk, string_bytes};
 ghost use Rattle.bus_world.specs.Playing.{event_told};
-ghost use Rattle.bus_script.specs.declared.places.Place.TheVariants.{AtLine};
-ghost use Rattle.bus_script.specs.Places.{refusal_line};
-ghost use Rattle.bus_replay.specs.GoingOn.{turn_goes_on, recv_goes_on, goes_on};
 ghost use Rattle.bus_trace.specs.Words.{sizes_told};
 ghost use Rattle.bus_trace.specs.Obeying.{IsCounted, IsRepeated, IsObeyed, ArePlayed};
 
@@ -12,40 +9,13 @@ use crate::machines::Traceable;
 use crate::places::Places;
 use crate::rows::push_row;
 use crate::sheets::Sheet;
-use bus_deliverylog::RecvTurn;
 use bus_register::NoMemory;
 use bus_replay::lines::command_of;
 use bus_replay::names::step_fault_name;
-use bus_script::{Line, Lines, Outcome, Place, refusal_line};
-use bus_tenure::Turn;
-use bus_world::{Answer, Event, StepFault};
+use bus_replay::playing::{goes_on, push_refusal};
+use bus_script::{Line, Lines, Outcome};
+use bus_world::{Event, StepFault};
 use std::alloc::{AllocError, Global};
-
-fn turn_goes_on(turn: Turn) -> bool
-    ensures { result ≡ turn_goes_on turn }
-{
-    matches!(turn, Turn::Going)
-}
-
-fn recv_goes_on(turn: &RecvTurn) -> bool
-    ensures { result ≡ recv_goes_on turn.now }
-{
-    match turn {
-        RecvTurn::Going | RecvTurn::Head { .. } | RecvTurn::Item(_) => true,
-        RecvTurn::Empty | RecvTurn::End => false,
-    }
-}
-
-/// An event is repeated behind this answer, as `replay` repeats it.
-fn goes_on(answer: &Answer) -> bool
-    ensures { result ≡ goes_on answer.now }
-{
-    match answer {
-        Answer::Number(_) | Answer::Closing | Answer::Stopped => false,
-        Answer::Turn(turn) => turn_goes_on(*turn),
-        Answer::Recv(turn) => recv_goes_on(turn),
-    }
-}
 
 /// An event once, and more while it goes on, up to so many times. Each has its line.
 fn repeat<W: Traceable>(
@@ -80,15 +50,6 @@ fn repeat<W: Traceable>(
         more -= 1;
     }
     Ok(None)
-}
-
-/// Puts the line of a refusal at the end of a text.
-fn push_refusal(alloc: Global, number: u64, name: &str, text: &mut String) -> Result<(), AllocError>
-    ensures { OnOk result
-        (string_bytes text.new ≡ string_bytes text.old ++ refusal_line (AtLine number) name.now) }
-{
-    let line = refusal_line(alloc, Place::AtLine(number), name)?;
-    text.push_str(&line)
 }
 
 /// Does what a line asks for, and puts a line for each event of it, or its refusal, on a sheet.

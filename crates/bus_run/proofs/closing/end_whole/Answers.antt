@@ -23,23 +23,23 @@ returns-in-Some-clause-late g c =
 
 pub returns-in_err-first-clause-late : goal.returns-in_err-first-clause-late
 returns-in_err-first-clause-late g c =
-    let seats = map (λ ear. ear.receiver.me.0) c.args.ears.items in
-    let heards = map (λ ear. ear.heard) c.args.ears.items in
+    let seats = map (λ listener. listener.receiver.me.0) c.args.listeners.items in
+    let heards = map (λ listener. listener.heard) c.args.listeners.items in
     let Late : RunFault → Type 0 = IsLate (λ desk. desk.sender) c.args.shape c.args.messages (vec_capacity c.args.room) c.args.desks.items seats heards in
     let sent = subst (All (λ desk. HasSent c.args.messages desk.sender)) c.as_slice.ensures.value (c.first_unsent.ensures.none c.in_default.is) in
     let full = c.in_err-first.ensures.full in
-    passed_up _ _ Late c.from_residual.ensures (subst Late (sym full.0) (sent, subst (λ n. vec_capacity c.args.room < n) (sym (length-map c.args.ears.items (λ ear. ear.heard))) full.1))
+    passed_up _ _ Late c.from_residual.ensures (subst Late (sym full.0) (sent, subst (λ n. vec_capacity c.args.room < n) (sym (length-map c.args.listeners.items (λ listener. listener.heard))) full.1))
 
 pub returns-in_err-ended-clause-late : goal.returns-in_err-ended-clause-late
 returns-in_err-ended-clause-late g c =
-    let seats = map (λ ear. ear.receiver.me.0) c.args.ears.items in
-    let heards = map (λ ear. ear.heard) c.args.ears.items in
+    let seats = map (λ listener. listener.receiver.me.0) c.args.listeners.items in
+    let heards = map (λ listener. listener.heard) c.args.listeners.items in
     let Late : RunFault → Type 0 = IsLate (λ desk. desk.sender) c.args.shape c.args.messages (vec_capacity c.args.room) c.args.desks.items seats heards in
     let Ends : Shown → Type 0 = IsToldByAll (λ desk. desk.sender) c.args.messages c.args.desks.items seats in
     let last = c.tell_all-told.result.me.0 in
     let told : Ends last = record { first = _; first_is = c.in_ok-first.ensures.first; learnt = c.tell_all-told.ensures.learnt; told = c.tell_all-told.ensures.told } in
     let sent = subst (All (λ desk. HasSent c.args.messages desk.sender)) c.as_slice.ensures.value (c.first_unsent.ensures.none c.in_default.is) in
-    let room = subst (λ n. n ≤ vec_capacity c.args.room) (sym (length-map c.args.ears.items (λ ear. ear.heard))) c.in_ok-first.ensures.room in
+    let room = subst (λ n. n ≤ vec_capacity c.args.room) (sym (length-map c.args.listeners.items (λ listener. listener.heard))) c.in_ok-first.ensures.room in
     let stays = c.in_err-ended.ensures.open in
     passed_up _ _ Late c.from_residual-in_err-ended.ensures (subst Late (sym stays.0) (
       c.requires.whole.one_sends,
@@ -48,14 +48,14 @@ returns-in_err-ended-clause-late g c =
 
 pub returns-in_err-all_sent-clause-late : goal.returns-in_err-all_sent-clause-late
 returns-in_err-all_sent-clause-late g c =
-    let seats = map (λ ear. ear.receiver.me.0) c.args.ears.items in
-    let heards = map (λ ear. ear.heard) c.args.ears.items in
+    let seats = map (λ listener. listener.receiver.me.0) c.args.listeners.items in
+    let heards = map (λ listener. listener.heard) c.args.listeners.items in
     let Late : RunFault → Type 0 = IsLate (λ desk. desk.sender) c.args.shape c.args.messages (vec_capacity c.args.room) c.args.desks.items seats heards in
     let Ends : Shown → Type 0 = IsToldByAll (λ desk. desk.sender) c.args.messages c.args.desks.items seats in
     let last = c.tell_all-told.result.me.0 in
     let told : Ends last = record { first = _; first_is = c.in_ok-first.ensures.first; learnt = c.tell_all-told.ensures.learnt; told = c.tell_all-told.ensures.told } in
     let sent = subst (All (λ desk. HasSent c.args.messages desk.sender)) c.as_slice.ensures.value (c.first_unsent.ensures.none c.in_default.is) in
-    let room = subst (λ n. n ≤ vec_capacity c.args.room) (sym (length-map c.args.ears.items (λ ear. ear.heard))) c.in_ok-first.ensures.room in
+    let room = subst (λ n. n ≤ vec_capacity c.args.room) (sym (length-map c.args.listeners.items (λ listener. listener.heard))) c.in_ok-first.ensures.room in
     let ended = c.in_ok-ended in
     let short = c.in_err-all_sent.ensures.fault in
     passed_up _ _ Late c.from_residual-in_err-all_sent.ensures (subst Late (sym short.1) (
@@ -68,14 +68,14 @@ returns-in_err-all_sent-clause-late g c =
 
 pub returns-in_err-audit-clause-late : goal.returns-in_err-audit-clause-late
 returns-in_err-audit-clause-late g c =
-    let seats = map (λ ear. ear.receiver.me.0) c.args.ears.items in
-    let heards = map (λ ear. ear.heard) c.args.ears.items in
+    let seats = map (λ listener. listener.receiver.me.0) c.args.listeners.items in
+    let heards = map (λ listener. listener.heard) c.args.listeners.items in
     let Late : RunFault → Type 0 = IsLate (λ desk. desk.sender) c.args.shape c.args.messages (vec_capacity c.args.room) c.args.desks.items seats heards in
     let Ends : Shown → Type 0 = IsToldByAll (λ desk. desk.sender) c.args.messages c.args.desks.items seats in
     let last = c.tell_all-told.result.me.0 in
     let told : Ends last = record { first = _; first_is = c.in_ok-first.ensures.first; learnt = c.tell_all-told.ensures.learnt; told = c.tell_all-told.ensures.told } in
     let sent = subst (All (λ desk. HasSent c.args.messages desk.sender)) c.as_slice.ensures.value (c.first_unsent.ensures.none c.in_default.is) in
-    let room = subst (λ n. n ≤ vec_capacity c.args.room) (sym (length-map c.args.ears.items (λ ear. ear.heard))) c.in_ok-first.ensures.room in
+    let room = subst (λ n. n ≤ vec_capacity c.args.room) (sym (length-map c.args.listeners.items (λ listener. listener.heard))) c.in_ok-first.ensures.room in
     let ended = c.in_ok-ended in
     let why = c.in_err-audit.field-0.0 in
     let notes = c.as_slice-2.ensures.value ∙ c.in_ok-first.ensures.notes in
@@ -108,7 +108,7 @@ returns-clause-all g c = λ order owners spells.
     all_counted left.senders left.log order owners _ few spells c.in_ok-first.ensures.summed (subst (All (IsFair order)) c.as_slice-2.ensures.value (c.in_ok-audit.ensures.ok order owners spells))
 
 pub returns-clause-each : goal.returns-clause-each
-returns-clause-each g c = ap length c.in_ok-first.ensures.notes ∙ length-map c.args.ears.items (λ ear. ear.heard) ∙ c.requires.whole.all_hear
+returns-clause-each g c = ap length c.in_ok-first.ensures.notes ∙ length-map c.args.listeners.items (λ listener. listener.heard) ∙ c.requires.whole.all_hear
 
 pub returns-clause-left : goal.returns-clause-left
 returns-clause-left g c = record {

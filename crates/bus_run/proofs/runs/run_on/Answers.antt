@@ -9,7 +9,7 @@ use Rattle.bus_run.proofs.runs.run_on.Goals as goal
 pub returns-clause-fault : goal.returns-clause-fault
 returns-clause-fault g c =
     let desks = c.man-crew.result.desks.items in
-    let ears = c.man-crew.result.ears.items in
+    let listeners = c.man-crew.result.listeners.items in
     err_weaker c.end_and_audit.result _ (IsStop c.args.shape.senders c.args.shape.receivers)
-    (λ fault h. crew_stop (λ desk. number_of desk.sender) (λ desk. desk.fault) (λ desk. desk.sender) c.args.shape c.args.load.messages (vec_capacity c.in_ok-room.room) desks ears (map (λ ear. ear.receiver.me.0) ears) (map (λ ear. ear.heard) ears) fault (length-map ears (λ ear. ear.heard)) h)
+    (λ fault h. crew_stop (λ desk. number_of desk.sender) (λ desk. desk.fault) (λ desk. desk.sender) c.args.shape c.args.load.messages (vec_capacity c.in_ok-room.room) desks listeners (map (λ listener. listener.receiver.me.0) listeners) (map (λ listener. listener.heard) listeners) fault (length-map listeners (λ listener. listener.heard)) h)
     c.end_and_audit.ensures.fault
