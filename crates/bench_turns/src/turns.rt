@@ -8,7 +8,7 @@ use bus_pageslot::OfBus;
 use bus_receiver::{MOST_ROWS_AGAIN, Shape};
 use bus_register::Kind;
 use bus_run::buses::{Bus, Sender, Tap, TheBus};
-use bus_run::workers::{Ear, ears_of};
+use bus_run::workers::{Listener, listeners_of};
 use rand_core::Rng;
 use rand_pcg::Pcg32;
 use std::alloc::{AllocError, Global};
@@ -119,16 +119,16 @@ fn take_turns<B: OfBus, R: Clock>(
     let (bus, senders, taps) = made;
     let the = TheBus::<B>::new(bus);
     let mut desks = desks_of::<B>(alloc, senders)?;
-    let mut ears = ears_of::<B>(alloc, taps)?;
+    let mut listeners = listeners_of::<B>(alloc, taps)?;
     for _ in 0..MOST_TURNS {
         let seat = dice.next_u32() as usize % (desks.len() + 1);
-        let (kind, readings) = match (desks.get_mut(seat), ears.first_mut()) {
+        let (kind, readings) = match (desks.get_mut(seat), listeners.first_mut()) {
             (Some(desk), _) => match desk.sender.kind() {
                 Some(kind) => (kind, time_desk(rt, &the, desk, dice.next_u32())?),
                 None if fill(desk) => continue,
                 None => return Ok(()),
             },
-            (None, Some(ear)) => time_ear(rt, &the, ear)?,
+            (None, Some(listener)) => time_listener(rt, &the, listener)?,
             (None, None) => return Ok(()),
         };
         add(sums, kind, readings)?;
@@ -159,17 +159,17 @@ fn time_desk<B: OfBus, R: Clock>(
 }
 
 /// A turn of a receiver, which loads the length where its place stays.
-fn time_ear<B: OfBus, R: Clock>(
+fn time_listener<B: OfBus, R: Clock>(
     rt: &R,
     the: &TheBus<B>,
-    ear: &mut Ear<B>,
+    listener: &mut Listener<B>,
 ) -> io::Result<(Kind, [Instant; 3])> {
-    let place = ear.receiver.place();
+    let place = listener.receiver.place();
     let before = Instant::now(rt)?;
     let between = Instant::now(rt)?;
-    ear.receiver.turn(&the.bus);
+    listener.receiver.turn(&the.bus);
     let after = Instant::now(rt)?;
-    let kind = if ear.receiver.place() == place {
+    let kind = if listener.receiver.place() == place {
         Kind::LoadLength
     } else {
         Kind::LoadLogWord

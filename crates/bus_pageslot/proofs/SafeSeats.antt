@@ -49,5 +49,5 @@ module _ {E : Type 0} (X : Election E) (x : Layout) (rows : ℕ) (s : State (Opt
         let its = sym (k.leads.holder v.core.me v t (seated j v track h).core holds) ∙ sweeps in
         let there = subst (λ (z : Sizes × List Entry). Stands z.0 u.core.me z.1 past) (λ i. (sym sizes_are i, sym (visits_are l u other g) i)) at in
         subst (λ (z : Sizes × ℕ). past % z.0.rows ≢ (z.1 + 1) % z.0.rows) (λ i. (sizes_are i, tenure_is i))
-            (k.kept.by.safe.swept w its (subst (λ (z : Sizes). z.senders ≤ w.asked) (sym sizes_are) passed) u.core.me past there);
+        (k.kept.by.safe.swept w its (subst (λ (z : Sizes). z.senders ≤ w.asked) (sym sizes_are) passed) u.core.me past there);
   }
