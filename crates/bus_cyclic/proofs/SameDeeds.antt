@@ -1,6 +1,11 @@
 -- Who did the same in a tenure says the same of it.
-use Rattle.std.proofs.Common.{◌≡◌, ℕ, zero, suc, ◌==◌, Bool, true, false, cond, eq-eqb, Some, List, [], ◌∷◌, filter, slice_get, refl, sym, ◌∙◌, ap}
+use Rattle.std.proofs.Common.{◌≡◌, ℕ, zero, suc, ◌==◌, Bool, true, false, cond, eq-eqb, Some, List, [], ◌∷◌, filter, slice_get, arith, refl, sym, ◌∙◌, ap}
+use Rattle.bus_tenure.specs.Core.{Election}
 use Rattle.bus_world.specs.Headline.{Deed}
+use Rattle.bus_world.specs.World.{Event}
+use Rattle.bus_world.specs.declared.events.Answer.{Answer}
+use Rattle.bus_cyclic.specs.Cyclic.{CyclicBus}
+use Rattle.bus_cyclic.specs.Following.{FollowsRefuse}
 use Rattle.bus_cyclic.specs.Staying.{deeds_in, is_in, SaysNoMore}
 
 -- ---- what passes a test
@@ -43,3 +48,11 @@ module _ (t : ℕ) (before after : List Deed) (same : deeds_in t after ≡ deeds
     elected = λ o w. let was = done_before w.place _ w.at itself in record { place = was.0; step = w.step; found = w.found; answer = w.answer; at = was.1 };
     took = λ place w. let was = done_before place _ w.at itself in (was.0, record { found = w.found; chose = w.chose; answer = w.answer; at = was.1 });
   }
+
+-- ---- what follows no bus
+pub follows_refused : {E : Type 0} (X : Election E) (old : CyclicBus E) (e : Event) (a : Answer) (new : CyclicBus E) → FollowsRefuse X old e a new
+follows_refused X old e a new = record {
+  falls = λ less f. let more = f.rises in omega arith;
+  elected_late = λ T t s o l gone never late f. never ((says_no_more t _ _ (f.stays T l t s gone)).elected o late);
+  taken_late = λ T t s place l gone never late f. let was = (says_no_more t _ _ (f.stays T l t s gone)).took place late in never was.0 was.1;
+}

@@ -1,9 +1,9 @@
 -- How events extend the trails of a bus whose rows are used again, which trails lead to it, and what is promised of it then.
-use Rattle.std.specs.Prelude.{◌≡◌, ℕ, ◌≤◌, Option, Some, None, List}
+use Rattle.std.specs.Prelude.{◌≡◌, ℕ, ◌<◌, ◌≤◌, Option, Some, None, List}
 use Rattle.bus_deliverylog.specs.declared.receiving.RecvTurn.{RecvTurn}
 use Rattle.bus_guest.specs.Turns.{Visitor, due, op_next}
 use Rattle.bus_tenure.specs.Core.{Election}
-use Rattle.bus_world.specs.Headline.{IsPrefix}
+use Rattle.bus_world.specs.Headline.{Elected, Took, IsPrefix}
 use Rattle.bus_world.specs.Rings.{Ring, RingTrails, IsOnWord, IsKeptRing, guest_going, ring_trails, ring_sweeps, ring_deeds}
 use Rattle.bus_world.specs.Trails.{put_deeds, close_deeds}
 use Rattle.bus_world.specs.Turning.{owners_by}
@@ -86,3 +86,11 @@ pub record Follows {E : Type 0} (X : Election E) (old : CyclicBus E) (e : Event)
   pub grows : IsPrefix (log_of old.ring) (log_of new.ring)
   pub rises : stage_of old.ring ≤ stage_of new.ring
   pub stays : (T : RingTrails) → LeadTo X old T → (t s : ℕ) → HasGoneOn old.ring t → deeds_in t ((grown X old.ring e a T).deeds s) ≡ deeds_in t (T.deeds s)
+
+-- ---- what follows no bus
+pub record FollowsRefuse {E : Type 0} (X : Election E) (old : CyclicBus E) (e : Event) (a : Answer) (new : CyclicBus E) : Type 0 where
+  -- the stage falls
+  pub falls : stage_of new.ring < stage_of old.ring → ¬ Follows X old e a new
+  -- a sender sees the election of a tenure end whose row had gone on before, or takes its page
+  pub elected_late : (T : RingTrails) (t s o : ℕ) → LeadTo X old T → HasGoneOn old.ring t → ¬ Elected (T.deeds s) t o → Elected ((grown X old.ring e a T).deeds s) t o → ¬ Follows X old e a new
+  pub taken_late : (T : RingTrails) (t s place : ℕ) → LeadTo X old T → HasGoneOn old.ring t → ((k : ℕ) → ¬ Took (T.deeds s) t k) → Took ((grown X old.ring e a T).deeds s) t place → ¬ Follows X old e a new

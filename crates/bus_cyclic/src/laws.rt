@@ -3,9 +3,13 @@
 
 ghost use Rattle.std.specs.Prelude.{◌≡◌, ℕ, List};
 ghost use Rattle.bus_tenure.specs.Core.{Core};
-ghost use Rattle.bus_tenure.specs.Elections.{Elector};
+ghost use Rattle.bus_tenure.specs.Elections.{Elector, election_of};
 ghost use Rattle.bus_world.specs.Headline.{Deed};
 ghost use Rattle.bus_world.specs.Rings.{Ring};
+ghost use Rattle.bus_world.specs.World.{Event};
+ghost use Rattle.bus_world.specs.declared.events.Answer.{Answer};
+ghost use Rattle.bus_cyclic.specs.Cyclic.{CyclicBus};
+ghost use Rattle.bus_cyclic.specs.Following.{FollowsRefuse};
 ghost use Rattle.bus_cyclic.specs.Staying.{deeds_in, SaysNoMore};
 ghost use Rattle.bus_cyclic.specs.Truth.{LossesRefuse, AnswersRefuse};
 
@@ -31,4 +35,12 @@ pub fn answers_refuse<Q: Ratifier>()
 pub fn same_deeds_say_no_more()
     ensures { (t : ℕ) (before after : List Deed) → deeds_in t after ≡ deeds_in t before
         → SaysNoMore t before after }
+{}
+
+/// No bus follows another by an event with which the stage falls, or with which a sender sees the
+/// election of a tenure end, or takes its page, whose row had gone on before.
+pub fn follows_refuse<Q: Ratifier>()
+    ensures { let X = election_of Q.Ratifier in
+        (old : CyclicBus (Elector Q)) (event : Event) (given : Answer)
+        (new : CyclicBus (Elector Q)) → FollowsRefuse X old event given new }
 {}
