@@ -1,60 +1,45 @@
 -- What is printed of a run that ended well, and that nothing is printed of another.
-use Rattle.std.proofs.Common.{◌≡◌, ℕ, All, List, length, inl, inr, refl, sym, subst, ◌∙◌}
+use Rattle.std.proofs.Common.{◌≡◌, ℕ, List, inl, inr, refl, sym, subst, ◌∙◌}
 use Rattle.std.specs.Prelude.{Result, Err, IsErr, IsErrAnd}
 use Rattle.bus_pageslot.specs.Outcomes.{Outcome}
 use Rattle.bus_receiver.specs.Hearing.{Hearing}
-use Rattle.bus_run.specs.Audit.{IsSpelled, OfOrder, IsFair, CountsAll, SendsEach, CarriesNumbers, IsClosed, shape_of_run}
-use Rattle.bus_run.specs.Left.{IsLeftBehind}
+use Rattle.bus_run.specs.Audit.{OfOrder}
 use Rattle.bus_run.specs.RunText.{report_text, IsRunText}
 use Rattle.bus_logtext.specs.Words.{words_text}
+use Rattle.bus_main.specs.RunReport.{IsRunReport}
 use Rattle.bus_main.specs.RunLog.{IsRunLog}
 use Rattle.bus_run.specs.Stops.{IsStop, IsRunFault}
 use Rattle.bus_run.specs.declared.faults.RunFault.{RunFault}
 use Rattle.bus_run.specs.declared.faults.RunFault.TheVariants as run
 
--- the text of a run, of which this many messages of each sender were asked
-pub is_run_text : (senders receivers messages asked : ℕ) (left : Outcome) (heards : List Hearing) (text : List ℕ) → left.senders ≡ senders → IsLeftBehind (shape_of_run senders receivers) left → IsSpelled left → OfOrder left (SendsEach senders messages) → OfOrder left (CarriesNumbers senders) → OfOrder left IsClosed → messages ≡ asked → length heards ≡ receivers
-    → OfOrder left (λ order. All (IsFair order) heards) → OfOrder left (λ order. All (CountsAll order) heards) → left.page.words ≡ length left.log → OfOrder left (λ order. text ≡ report_text order left.page senders heards) → IsRunText senders receivers asked text
-is_run_text senders receivers messages asked left heards text of behind spelled sent carried closed is each fair all words said = record {
+-- a text of an order that the words spell
+abbrev text_of_order : (senders receivers messages : ℕ) (left : Outcome) (heards : List Hearing) (text : List ℕ) → (made : IsRunReport senders receivers messages left heards) → text ≡ report_text made.spelled.0 left.page senders heards → IsRunText senders receivers messages text
+text_of_order senders receivers messages left heards text made said = record {
   left = left;
-  order = spelled.0;
-  owners = spelled.1;
-  spells = spelled.2;
-  senders_are = of;
-  left_behind = behind;
-  carried = carried spelled.0 spelled.1 spelled.2;
-  sends = subst (λ n. SendsEach senders n spelled.0) is (sent spelled.0 spelled.1 spelled.2);
-  closed = closed spelled.0 spelled.1 spelled.2;
+  order = made.spelled.0;
+  owners = made.spelled.1;
+  spells = made.spelled.2;
+  senders_are = made.senders_are;
+  left_behind = made.left_behind;
+  sends = made.sends made.spelled.0 made.spelled.1 made.spelled.2;
+  carried = made.carried made.spelled.0 made.spelled.1 made.spelled.2;
+  closed = made.closed made.spelled.0 made.spelled.1 made.spelled.2;
   heards = heards;
-  each = each;
-  fair = fair spelled.0 spelled.1 spelled.2;
-  all = all spelled.0 spelled.1 spelled.2;
-  words = words;
-  text_is = said spelled.0 spelled.1 spelled.2;
+  each = made.each;
+  fair = made.fair made.spelled.0 made.spelled.1 made.spelled.2;
+  all = made.all made.spelled.0 made.spelled.1 made.spelled.2;
+  words = made.words;
+  text_is = said;
 }
 
--- the log of a run, of which this many messages of each sender were asked
-pub is_run_log : (senders receivers messages asked : ℕ) (left : Outcome) (heards : List Hearing) (text : List ℕ) → left.senders ≡ senders → IsLeftBehind (shape_of_run senders receivers) left → IsSpelled left → OfOrder left (SendsEach senders messages) → OfOrder left (CarriesNumbers senders) → OfOrder left IsClosed → messages ≡ asked → length heards ≡ receivers
-    → OfOrder left (λ order. All (IsFair order) heards) → OfOrder left (λ order. All (CountsAll order) heards) → left.page.words ≡ length left.log → text ≡ words_text left.log → IsRunLog senders receivers asked text
-is_run_log senders receivers messages asked left heards text of behind spelled sent carried closed is each fair all words said = record {
-  summary = report_text spelled.0 left.page senders heards;
-  run = record {
-    left = left;
-    order = spelled.0;
-    owners = spelled.1;
-    spells = spelled.2;
-    senders_are = of;
-    left_behind = behind;
-    carried = carried spelled.0 spelled.1 spelled.2;
-    sends = subst (λ n. SendsEach senders n spelled.0) is (sent spelled.0 spelled.1 spelled.2);
-    closed = closed spelled.0 spelled.1 spelled.2;
-    heards = heards;
-    each = each;
-    fair = fair spelled.0 spelled.1 spelled.2;
-    all = all spelled.0 spelled.1 spelled.2;
-    words = words;
-    text_is = refl;
-  };
+pub is_run_text : (senders receivers messages : ℕ) (left : Outcome) (heards : List Hearing) (text : List ℕ) → IsRunReport senders receivers messages left heards → OfOrder left (λ order. text ≡ report_text order left.page senders heards) → IsRunText senders receivers messages text
+is_run_text senders receivers messages left heards text made said =
+    text_of_order senders receivers messages left heards text made (said made.spelled.0 made.spelled.1 made.spelled.2)
+
+pub is_run_log : (senders receivers messages : ℕ) (left : Outcome) (heards : List Hearing) (text : List ℕ) → IsRunReport senders receivers messages left heards → text ≡ words_text left.log → IsRunLog senders receivers messages text
+is_run_log senders receivers messages left heards text made said = record {
+  summary = report_text made.spelled.0 left.page senders heards;
+  run = text_of_order senders receivers messages left heards _ made refl;
   text_is = said;
 }
 

@@ -53,35 +53,43 @@ fn bus<R: AllocGlobal + Env + Input + Print + Eprint + Threads + Wait + Sync>(rt
         }
     };
     match parse(rt.alloc(), words.as_slice()) {
-        Ok(Task::Ratify) => end(
-            rt,
-            ratify(rt.alloc(), &mut rt.reader(), &mut io::writer(rt)),
-        ),
-        Ok(Task::Replay) => end(
-            rt,
-            replay::<ThreeWord, _, _>(rt.alloc(), &mut rt.reader(), &mut io::writer(rt)),
-        ),
-        Ok(Task::Trace) => end(
-            rt,
-            trace::<ThreeWord, _, _>(rt.alloc(), &mut rt.reader(), &mut io::writer(rt)),
-        ),
-        Ok(Task::Picture) => end_picture(
-            rt,
-            picture::<ThreeWord, _, _>(rt.alloc(), &mut rt.reader(), &mut io::writer(rt)),
-        ),
-        Ok(Task::Log { senders }) => end(
-            rt,
-            log(rt.alloc(), senders, &mut rt.reader(), &mut io::writer(rt)),
-        ),
-        Ok(Task::RunLog(request)) => {
-            end(rt, print_log(rt, rt.alloc(), request, &mut io::writer(rt)))
-        }
-        Ok(Task::Run(request)) => end(rt, print_run(rt, rt.alloc(), request, &mut io::writer(rt))),
+        Ok(task) => do_task(rt, task),
         Err(error) if error.kind() == ErrorKind::OutOfMemory => end(rt, Err(RunFault::NoMemory)),
         Err(error) => {
             let _ = rt.eprint(&error);
             ExitCode::from(2)
         }
+    }
+}
+
+/// Does what the command line asks for, and gives the exit status.
+fn do_task<R: AllocGlobal + Input + Print + Eprint + Threads + Wait + Sync>(
+    rt: &R,
+    task: Task,
+) -> ExitCode {
+    match task {
+        Task::Ratify => end(
+            rt,
+            ratify(rt.alloc(), &mut rt.reader(), &mut io::writer(rt)),
+        ),
+        Task::Replay => end(
+            rt,
+            replay::<ThreeWord, _, _>(rt.alloc(), &mut rt.reader(), &mut io::writer(rt)),
+        ),
+        Task::Trace => end(
+            rt,
+            trace::<ThreeWord, _, _>(rt.alloc(), &mut rt.reader(), &mut io::writer(rt)),
+        ),
+        Task::Picture => end_picture(
+            rt,
+            picture::<ThreeWord, _, _>(rt.alloc(), &mut rt.reader(), &mut io::writer(rt)),
+        ),
+        Task::Log { senders } => end(
+            rt,
+            log(rt.alloc(), senders, &mut rt.reader(), &mut io::writer(rt)),
+        ),
+        Task::RunLog(request) => end(rt, print_log(rt, rt.alloc(), request, &mut io::writer(rt))),
+        Task::Run(request) => end(rt, print_run(rt, rt.alloc(), request, &mut io::writer(rt))),
     }
 }
 

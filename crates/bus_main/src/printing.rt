@@ -3,6 +3,7 @@
 ghost use Rattle.std.specs.Prelude.{◌≡◌, ◌⊎◌, ℕ, List, IfOk, IfErr, IsErrOf, min};
 ghost use Rattle.std.specs.Io.KnownBytes.{Appends, Keeps};
 ghost use Rattle.bus_main.specs.RunLog.{IsRunLog};
+ghost use Rattle.bus_main.specs.RunReport.{IsRunReport};
 ghost use Rattle.bus_run.specs.RunText.{IsRunText};
 ghost use Rattle.bus_run.specs.Stops.{IsRunFault};
 ghost use Rattle.bus_main.specs.Streams.{WritesPart};
@@ -10,7 +11,7 @@ ghost use Rattle.bus_main.specs.Streams.{WritesPart};
 use crate::streams::write_whole;
 use bus_logtext::print_words;
 use bus_run::limits::MOST_MESSAGES_EACH;
-use bus_run::{OpenGate, RunFault, report_text, run};
+use bus_run::{OpenGate, Report, RunFault, report_text, run};
 use bus_script::Outcome;
 use std::alloc::Global;
 use std::io::Write;
@@ -25,6 +26,30 @@ pub struct Request {
     /// Of each sender. More than `MOST_MESSAGES_EACH` count as so many.
     pub messages: u64,
     pub seed: u64,
+}
+
+/// Runs the bus that is asked for.
+fn run_of<R: Threads + Wait + Sync>(
+    rt: &R,
+    alloc: Global,
+    request: Request,
+) -> Result<Report, RunFault>
+    ensures ok { IfOk result (λ report. IsRunReport request.senders request.receivers
+        (min request.messages MOST_MESSAGES_EACH) report.ended report.heards.items) }
+    ensures fault { IfErr result (IsRunFault request.senders request.receivers) }
+{
+    let messages = request.messages.min(MOST_MESSAGES_EACH);
+    let report = run(
+        rt,
+        alloc,
+        request.senders,
+        request.receivers,
+        messages,
+        request.seed,
+        &OpenGate,
+    )?;
+    let _page = report.ended.page();
+    Ok(report)
 }
 
 /// Runs a bus and writes what came of it.
@@ -52,16 +77,7 @@ pub fn print_run<R: Threads + Wait + Sync, W: Write>(
     ensures unwritten { IfErr result (λ fault. (fault ≡ RunFault.Write → ⊥)
         → Keeps (W.contents writer.old) (W.contents writer.new)) }
 {
-    let messages = request.messages.min(MOST_MESSAGES_EACH);
-    let report = run(
-        rt,
-        alloc,
-        request.senders,
-        request.receivers,
-        messages,
-        request.seed,
-        &OpenGate,
-    )?;
+    let report = run_of(rt, alloc, request)?;
     let text = report_text(alloc, &report, request.senders)?;
     write_whole(writer, text.as_bytes())?;
     Ok(Outcome::Done)
@@ -92,17 +108,7 @@ pub fn print_log<R: Threads + Wait + Sync, W: Write>(
     ensures unwritten { IfErr result (λ fault. (fault ≡ RunFault.Write → ⊥)
         → Keeps (W.contents writer.old) (W.contents writer.new)) }
 {
-    let messages = request.messages.min(MOST_MESSAGES_EACH);
-    let report = run(
-        rt,
-        alloc,
-        request.senders,
-        request.receivers,
-        messages,
-        request.seed,
-        &OpenGate,
-    )?;
-    let _page = report.ended.page();
+    let report = run_of(rt, alloc, request)?;
     let text = print_words(alloc, report.ended.log())?;
     write_whole(writer, text.as_bytes())?;
     Ok(Outcome::Done)

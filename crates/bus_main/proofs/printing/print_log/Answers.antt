@@ -1,26 +1,21 @@
-use Rattle.std.proofs.Common.{string_bytes, refl, sym, ◌∙◌, ap, subst}
+use Rattle.std.proofs.Common.{string_bytes, refl, ◌∙◌, ap, subst}
 use Rattle.std.specs.Io.KnownBytes.{Appends}
 use Rattle.bus_logtext.specs.Words.{words_text}
-use Rattle.bus_tenure.specs.declared.pages.Page.{Page}
 use Rattle.bus_main.specs.Streams.{WritesPart}
 use Rattle.bus_main.proofs.PrintLemmas.{is_run_log}
 use Rattle.bus_main.proofs.printing.print_log.Goals as goal
 
 pub returns-in_err-write_whole-clause-write : goal.returns-in_err-write_whole-clause-write
-returns-in_err-write_whole-clause-write g c is =
-    let made = c.in_ok-report.ensures in
-    let words = sym (ap (λ (page : Page). page.words) c.page-page.ensures.page) ∙ c.page-page.ensures.words in (
-      string_bytes c.in_ok-text.text,
-      is_run_log _ _ _ _ c.in_ok-report.report.ended c.in_ok-report.report.heards.items _ made.of made.left made.spelled made.sent made.carried made.closed c.min-messages.ensures made.each made.heard made.all words (c.in_ok-text.ensures.text ∙ ap words_text c.log.ensures),
-      subst (λ t. WritesPart (g.W.Write.contents c.args.writer.now) (g.W.Write.contents c.write_whole.new.writer) t) c.as_bytes.ensures.value c.in_err-write_whole.ensures.part,
-    )
+returns-in_err-write_whole-clause-write g c is = (
+  string_bytes c.in_ok-text.text,
+  is_run_log _ _ _ c.in_ok-report.report.ended c.in_ok-report.report.heards.items _ c.in_ok-report.ensures.ok (c.in_ok-text.ensures.text ∙ ap words_text c.log.ensures),
+  subst (λ t. WritesPart (g.W.Write.contents c.args.writer.now) (g.W.Write.contents c.write_whole.new.writer) t) c.as_bytes.ensures.value c.in_err-write_whole.ensures.part,
+)
 
 pub returns-clause-ok : goal.returns-clause-ok
-returns-clause-ok g c =
-    let made = c.in_ok-report.ensures in
-    let words = sym (ap (λ (page : Page). page.words) c.page-page.ensures.page) ∙ c.page-page.ensures.words in (
-      refl,
-      string_bytes c.in_ok-text.text,
-      is_run_log _ _ _ _ c.in_ok-report.report.ended c.in_ok-report.report.heards.items _ made.of made.left made.spelled made.sent made.carried made.closed c.min-messages.ensures made.each made.heard made.all words (c.in_ok-text.ensures.text ∙ ap words_text c.log.ensures),
-      subst (λ t. Appends (g.W.Write.contents c.args.writer.now) (g.W.Write.contents c.write_whole.new.writer) t) c.as_bytes.ensures.value c.in_ok-write_whole.ensures.ok,
-    )
+returns-clause-ok g c = (
+  refl,
+  string_bytes c.in_ok-text.text,
+  is_run_log _ _ _ c.in_ok-report.report.ended c.in_ok-report.report.heards.items _ c.in_ok-report.ensures.ok (c.in_ok-text.ensures.text ∙ ap words_text c.log.ensures),
+  subst (λ t. Appends (g.W.Write.contents c.args.writer.now) (g.W.Write.contents c.write_whole.new.writer) t) c.as_bytes.ensures.value c.in_ok-write_whole.ensures.ok,
+)
