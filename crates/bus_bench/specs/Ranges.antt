@@ -1,6 +1,7 @@
 -- Which numbers a measurement can have.
 use Rattle.std.specs.Prelude.{◌≢◌, ◌<◌, ◌⊎◌, ℕ}
 use Rattle.bus_register.specs.declared.limits.TheConstants.{MOST_SENDERS, MOST_RECEIVERS}
+use Rattle.bus_bench.specs.declared.request.TheConstants.{MOST_REPETITIONS}
 use Rattle.bus_bench.specs.declared.request.Field.{Field}
 use Rattle.bus_bench.specs.declared.request.Field.TheVariants as field
 use Rattle.bus_bench.specs.declared.request.Refusal.{Refusal}
@@ -12,7 +13,7 @@ IsOut senders receivers messages bytes repetitions field.Senders = (senders < 1)
 IsOut senders receivers messages bytes repetitions field.Receivers = (receivers < 1) ⊎ (MOST_RECEIVERS < receivers)
 IsOut senders receivers messages bytes repetitions field.Messages = messages < 1
 IsOut senders receivers messages bytes repetitions field.Bytes = (bytes ≢ 8) × (bytes ≢ 56)
-IsOut senders receivers messages bytes repetitions field.Repetitions = 10000 < repetitions
+IsOut senders receivers messages bytes repetitions field.Repetitions = MOST_REPETITIONS < repetitions
 
 -- the refusal names a word that is out of its range
 abbrev pub IsOutOfRange : ℕ → ℕ → ℕ → ℕ → ℕ → Refusal → Type 0

@@ -6,7 +6,7 @@ ghost use Rattle.bus_bench.specs.Checks.{HasEach};
 
 use crate::faults::Fault;
 use crate::needs::Load;
-use crate::workers::{Desk, Ear, Got};
+use crate::workers::{Desk, Got, Listener};
 use bus_pageslot::OfBus;
 use bus_receiver::Heard;
 use bus_register::SenderNo;
@@ -15,26 +15,27 @@ use bus_run::crews::Crew;
 use std::sync::Wait;
 
 /// Sees that each receiver has all items of each sender, and all the same order.
-pub fn check<B: OfBus>(ears: &[Ear<B>], load: Load) -> Result<(), Fault>
+pub fn check<B: OfBus>(listeners: &[Listener<B>], load: Load) -> Result<(), Fault>
     ensures counts { OnOk result
-        (All (λ ear. HasEach load.senders load.messages ear.heard) ears.now) }
+        (All (λ listener. HasEach load.senders load.messages listener.heard) listeners.now) }
     ensures order { OnOk result ((order : List Item)
-        × All (λ ear. ear.order.items ≡ order) ears.now) }
+        × All (λ listener. listener.order.items ≡ order) listeners.now) }
 {
-    check_counts(ears, load)?;
-    match ears.first() {
-        Some(first) => check_orders(ears, first.order.as_slice()),
+    check_counts(listeners, load)?;
+    match listeners.first() {
+        Some(first) => check_orders(listeners, first.order.as_slice()),
         None => Err(Fault::Spawn),
     }
 }
 
 /// Sees that each receiver has all items of each sender.
-fn check_counts<B: OfBus>(ears: &[Ear<B>], load: Load) -> Result<(), Fault>
-    ensures { OnOk result (All (λ ear. HasEach load.senders load.messages ear.heard) ears.now) }
+fn check_counts<B: OfBus>(listeners: &[Listener<B>], load: Load) -> Result<(), Fault>
+    ensures { OnOk result
+        (All (λ listener. HasEach load.senders load.messages listener.heard) listeners.now) }
 {
-    for ear in ears {
-        let receiver = ear.number;
-        if let Some(sender) = first_miscount(&ear.heard, load) {
+    for listener in listeners {
+        let receiver = listener.number;
+        if let Some(sender) = first_miscount(&listener.heard, load) {
             return Err(Fault::Count { receiver, sender });
         }
     }
@@ -54,13 +55,13 @@ fn first_miscount(heard: &Heard, load: Load) -> Option<u64>
 }
 
 /// Sees that each receiver has this order.
-fn check_orders<B: OfBus>(ears: &[Ear<B>], order: &[Got]) -> Result<(), Fault>
-    ensures { OnOk result (All (λ ear. ear.order.items ≡ order.now) ears.now) }
+fn check_orders<B: OfBus>(listeners: &[Listener<B>], order: &[Got]) -> Result<(), Fault>
+    ensures { OnOk result (All (λ listener. listener.order.items ≡ order.now) listeners.now) }
 {
-    for ear in ears {
-        if !is_same(ear.order.as_slice(), order) {
+    for listener in listeners {
+        if !is_same(listener.order.as_slice(), order) {
             return Err(Fault::Order {
-                receiver: ear.number,
+                receiver: listener.number,
             });
         }
     }
@@ -79,12 +80,12 @@ fn is_same(order: &[Got], other: &[Got]) -> bool
 pub fn close_and_end<B: OfBus, W: Wait>(
     wait: &W,
     the: TheBus<B>,
-    crew: Crew<Desk<B>, Ear<B>>,
+    crew: Crew<Desk<B>, Listener<B>>,
     load: Load,
 ) -> Result<(), Fault> {
     let Crew {
         mut desks,
-        ears,
+        listeners,
         ..
     } = crew;
     let Some(closer) = desks.first_mut() else {
@@ -93,7 +94,7 @@ pub fn close_and_end<B: OfBus, W: Wait>(
     if !closer.close(wait, &the) {
         return Err(Fault::End);
     }
-    let Some(first) = ears.into_iter().next() else {
+    let Some(first) = listeners.into_iter().next() else {
         return Err(Fault::Spawn);
     };
     let Ok(ended) = Receiver::end(the.into_bus(), first.into_receiver()) else {

@@ -6,7 +6,7 @@ ghost use Rattle.bus_pageslot.specs.Seats.{table_of};
 use crate::faults::Fault;
 use crate::gates::Gate;
 use crate::needs::Load;
-use crate::workers::{Desk, Ear, HearAll, SendAll, desks_of, ears_of};
+use crate::workers::{Desk, HearAll, Listener, SendAll, desks_of, listeners_of};
 use bus_pageslot::OfBus;
 use bus_run::buses::{Sender, Tap, TheBus};
 use bus_run::crews::Crew;
@@ -19,7 +19,7 @@ use std::time::{Clock, Instant};
 /// A crew that has done its work, and when it began.
 #[derive(Drop)]
 pub struct Worked<B: OfBus> {
-    pub crew: Crew<Desk<B>, Ear<B>>,
+    pub crew: Crew<Desk<B>, Listener<B>>,
     /// The instant before the first thread was started.
     pub started: Option<Instant>,
     /// The instant before the gate was opened.
@@ -33,19 +33,19 @@ pub fn crew_of<B: OfBus + Send>(
     taps: Vec<Tap>,
     load: Load,
     seed: u64,
-) -> Result<Crew<Desk<B>, Ear<B>>, AllocError>
+) -> Result<Crew<Desk<B>, Listener<B>>, AllocError>
     requires senders { All (λ sender. table_of sender ≡ B.table) senders.items }
     requires taps { All (λ tap. tap.table_id ≡ B.table) taps.items }
 {
     let desks = desks_of::<B>(alloc, senders, seed)?;
-    let ears = ears_of::<B>(alloc, taps, load.items())?;
-    Crew::new(alloc, desks, ears)
+    let listeners = listeners_of::<B>(alloc, taps, load.items())?;
+    Crew::new(alloc, desks, listeners)
 }
 
 /// What stopped a worker: that not all are there, or what stopped the lowest sender, or the lowest
 /// receiver.
-pub fn fault_of<B: OfBus>(crew: &Crew<Desk<B>, Ear<B>>, load: Load) -> Option<Fault> {
-    if crew.desks.len() as u64 != load.senders || crew.ears.len() as u64 != load.receivers {
+pub fn fault_of<B: OfBus>(crew: &Crew<Desk<B>, Listener<B>>, load: Load) -> Option<Fault> {
+    if crew.desks.len() as u64 != load.senders || crew.listeners.len() as u64 != load.receivers {
         return Some(Fault::Spawn);
     }
     for desk in &crew.desks {
@@ -53,9 +53,9 @@ pub fn fault_of<B: OfBus>(crew: &Crew<Desk<B>, Ear<B>>, load: Load) -> Option<Fa
             return desk.fault;
         }
     }
-    for ear in &crew.ears {
-        if ear.fault.is_some() {
-            return ear.fault;
+    for listener in &crew.listeners {
+        if listener.fault.is_some() {
+            return listener.fault;
         }
     }
     None
@@ -67,7 +67,7 @@ pub fn man<B: OfBus + Send + Sync, R: Threads + Wait + Clock + Sync>(
     rt: &R,
     the: &TheBus<B>,
     load: Load,
-    crew: Crew<Desk<B>, Ear<B>>,
+    crew: Crew<Desk<B>, Listener<B>>,
 ) -> Worked<B> {
     let gate = Gate::new();
     let gate = &gate;

@@ -1,8 +1,12 @@
 //! What a sitting takes of a bus, and whether a bus has it.
 
-ghost use Rattle.std.specs.Prelude.{◌≡◌, ◌*◌, ◌<◌, ◌≤◌, ◌⊎◌, IfOk, IfErr};
+ghost use Rattle.std.specs.Prelude.{◌≡◌, ◌-◌, ◌*◌, ◌<◌, ◌≤◌, ◌⊎◌, IfOk, IfErr};
 ghost use Rattle.std.specs.Prelude.{OnOk, OnErr};
 ghost use Rattle.bus_receiver.specs.Sizes.{tenures_of, words_of};
+ghost use Rattle.bus_register.specs.declared.limits.TheConstants.{MOST_SENDERS, MOST_RECEIVERS};
+ghost use Rattle.bus_register.specs.declared.limits.TheConstants.{MOST_MESSAGES};
+ghost use Rattle.bus_bench.specs.declared.needs.TheConstants.{MOST_TENURES};
+ghost use Rattle.bus_bench.specs.declared.request.TheConstants.{MOST_REPETITIONS};
 ghost use Rattle.bus_bench.specs.Sizes.{bytes_of};
 
 use crate::request::{Request, Size};
@@ -53,10 +57,10 @@ pub struct Load {
     pub messages: u64,
     pub size: Size,
     pub repetitions: u64,
-    ghost few_senders: { senders ≤ 8 },
-    ghost few_receivers: { receivers ≤ 8 },
-    ghost few_items: { senders * messages ≤ 4080 },
-    ghost few_repetitions: { repetitions ≤ 10000 },
+    ghost few_senders: { senders ≤ MOST_SENDERS },
+    ghost few_receivers: { receivers ≤ MOST_RECEIVERS },
+    ghost few_items: { senders * messages ≤ (MOST_TENURES - 1) * MOST_MESSAGES },
+    ghost few_repetitions: { repetitions ≤ MOST_REPETITIONS },
 }
 
 impl Load {

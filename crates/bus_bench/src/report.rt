@@ -5,6 +5,7 @@ ghost use Rattle.std.specs.Prelude.{length, slice_index, IfSome, MatchOption, Co
 
 use crate::faults::Fault;
 use crate::needs::Load;
+use crate::request::MOST_REPETITIONS;
 use crate::rounds::{Times, round};
 use std::alloc::Global;
 use std::sync::Wait;
@@ -68,7 +69,7 @@ fn print_load<R: Print>(rt: &R, load: Load) -> io::Result<()> {
 
 /// Prints how long a repetition took.
 fn print_times<R: Print>(rt: &R, repetition: u64, took: Times) -> io::Result<()>
-    requires { repetition < 10000 }
+    requires { repetition < MOST_REPETITIONS }
 {
     let number = repetition + 1;
     let (from_gate, with_start) = (took.from_gate, took.with_start);

@@ -4,6 +4,8 @@ ghost use Rattle.std.specs.Prelude.{◌≡◌, ◌≢◌, ◌<◌, ◌≤◌, �
 ghost use Rattle.std.specs.Prelude.{None, IfSome, IfOk, IfErr, OnOk};
 ghost use Rattle.std.specs.Option.{SomeIff};
 ghost use Rattle.std.specs.Str.Parse.{IsNumeral, digits_value};
+ghost use Rattle.bus_register.specs.declared.limits.TheConstants.{MOST_SENDERS, MOST_RECEIVERS};
+ghost use Rattle.bus_bench.specs.declared.request.TheConstants.{MOST_REPETITIONS};
 ghost use Rattle.bus_bench.specs.Sizes.{bytes_of};
 
 use bus_register::limits::{MOST_RECEIVERS, MOST_SENDERS};
@@ -18,7 +20,8 @@ pub const USAGE: &str = "usage: bus_bench SENDERS RECEIVERS MESSAGES BYTES REPET
   REPETITIONS  0 to 10000; with 0 one round is run and its times are not printed
 ";
 
-const MOST_REPETITIONS: u64 = 10_000;
+/// Rounds whose times are printed: at most 10,000.
+pub const MOST_REPETITIONS: u64 = 10_000;
 
 /// A word of the command line, behind the program's name.
 #[derive(Clone, Copy, Debug, PartialEq, Eq)]
@@ -105,10 +108,10 @@ pub struct Request {
     pub messages: u64,
     pub size: Size,
     pub repetitions: u64,
-    ghost some_senders: { (1 ≤ senders) × (senders ≤ 8) },
-    ghost some_receivers: { (1 ≤ receivers) × (receivers ≤ 8) },
+    ghost some_senders: { (1 ≤ senders) × (senders ≤ MOST_SENDERS) },
+    ghost some_receivers: { (1 ≤ receivers) × (receivers ≤ MOST_RECEIVERS) },
     ghost some_messages: { 1 ≤ messages },
-    ghost few_repetitions: { repetitions ≤ 10000 },
+    ghost few_repetitions: { repetitions ≤ MOST_REPETITIONS },
 }
 
 impl Request {

@@ -7,7 +7,7 @@ use crate::checks::{check, close_and_end};
 use crate::crews::{Worked, crew_of, fault_of, man};
 use crate::faults::Fault;
 use crate::needs::Load;
-use crate::workers::Ear;
+use crate::workers::Listener;
 use bus_pageslot::OfBus;
 use bus_register::limits::MOST_LOG_WORDS;
 use bus_run::buses::{Bus, Sender, Tap, TheBus};
@@ -73,15 +73,15 @@ fn round_on<B: OfBus + Send + Sync, R: Threads + Wait + Clock + Sync>(
     if let Some(fault) = fault_of(&crew, load) {
         return Err(fault);
     }
-    let times = times_of(&crew.ears, started, opened)?;
-    check(&crew.ears, load)?;
+    let times = times_of(&crew.listeners, started, opened)?;
+    check(&crew.listeners, load)?;
     close_and_end(rt, the, crew, load)?;
     Ok(times)
 }
 
 /// How long the last receiver took.
 fn times_of<B: OfBus>(
-    ears: &[Ear<B>],
+    listeners: &[Listener<B>],
     started: Option<Instant>,
     opened: Option<Instant>,
 ) -> Result<Times, Fault> {
@@ -92,8 +92,8 @@ fn times_of<B: OfBus>(
         from_gate: 0,
         with_start: 0,
     };
-    for ear in ears {
-        let Some(done) = ear.done else {
+    for listener in listeners {
+        let Some(done) = listener.done else {
             return Err(Fault::Clock);
         };
         times.from_gate = times.from_gate.max(nanoseconds(done, opened));

@@ -1,6 +1,6 @@
 //! What the worker of a sender does, and that of a receiver.
 
-ghost use Rattle.std.specs.Prelude.{◌≡◌, ◌++◌, ◌≤◌, ◌<◌, All, replicate};
+ghost use Rattle.std.specs.Prelude.{◌≡◌, ◌++◌, ◌-◌, ◌≤◌, ◌<◌, All, replicate};
 ghost use Rattle.std.specs.Int.{w64, to_be_bytes};
 ghost use Rattle.bus_pageslot.specs.Seats.{table_of};
 ghost use Rattle.bus_receiver.specs.Listening.{bus_of};
@@ -12,7 +12,7 @@ use bus_deliverylog::RecvTurn;
 use bus_pageslot::OfBus;
 use bus_receiver::Heard;
 use bus_register::SenderNo;
-use bus_register::limits::MOST_MESSAGES;
+use bus_register::limits::{MOST_BYTES, MOST_MESSAGES};
 use bus_run::buses::{Receiver, Sender, Tap, TheBus};
 use bus_run::crews::Work;
 use bus_run::workers::generator;
@@ -89,7 +89,7 @@ pub struct Got {
 
 /// A receiver of the bus B with what was noted of its answers, in order.
 #[derive(Drop)]
-pub struct Ear<B: OfBus> {
+pub struct Listener<B: OfBus> {
     pub number: u64,
     pub receiver: Receiver,
     pub heard: Heard,
@@ -101,12 +101,12 @@ pub struct Ear<B: OfBus> {
     ghost of_bus: { bus_of receiver ≡ B.table },
 }
 
-impl<B: OfBus> Ear<B> {
-    /// The ear of a receiver that has not begun, with room for so many items.
-    pub fn new(alloc: Global, number: u64, tap: Tap, items: u64) -> Result<Ear<B>, AllocError>
+impl<B: OfBus> Listener<B> {
+    /// The listener of a receiver that has not begun, with room for so many items.
+    pub fn new(alloc: Global, number: u64, tap: Tap, items: u64) -> Result<Listener<B>, AllocError>
         requires { tap.table_id ≡ B.table }
     {
-        Ok(Ear {
+        Ok(Listener {
             number,
             receiver: Receiver::new(tap),
             heard: Heard::new(),
@@ -121,25 +121,25 @@ impl<B: OfBus> Ear<B> {
     pub fn into_receiver(self) -> Receiver
         ensures { bus_of result ≡ B.table }
     {
-        let Ear { receiver, .. } = self;
+        let Listener { receiver, .. } = self;
         receiver
     }
 }
 
-/// An ear for each receiver, in order, with room for so many items.
-pub fn ears_of<B: OfBus>(
+/// A listener for each receiver, in order, with room for so many items.
+pub fn listeners_of<B: OfBus>(
     alloc: Global,
     taps: Vec<Tap>,
     items: u64,
-) -> Result<Vec<Ear<B>>, AllocError>
+) -> Result<Vec<Listener<B>>, AllocError>
     requires { All (λ tap. tap.table_id ≡ B.table) taps.items }
 {
-    let mut ears = Vec::with_capacity(alloc, taps.len())?;
+    let mut listeners = Vec::with_capacity(alloc, taps.len())?;
     for tap in taps {
-        let number = ears.len() as u64;
-        ears.push(Ear::new(alloc, number, tap, items)?)?;
+        let number = listeners.len() as u64;
+        listeners.push(Listener::new(alloc, number, tap, items)?)?;
     }
-    Ok(ears)
+    Ok(listeners)
 }
 
 /// The work of the senders of a round.
@@ -187,7 +187,7 @@ impl<B: OfBus, W: Wait> SendAll<'_, B, W> {
 
 /// Puts the messages from `first` up to `end`, of so many bytes each.
 fn put_all<B: OfBus>(desk: &mut Desk<B>, first: u64, end: u64, bytes: usize) -> Result<(), Fault>
-    requires { bytes ≤ 56 }
+    requires { bytes ≤ MOST_BYTES }
 {
     for number in first..end {
         let message = message_of(number);
@@ -200,10 +200,10 @@ fn put_all<B: OfBus>(desk: &mut Desk<B>, first: u64, end: u64, bytes: usize) -> 
 }
 
 /// The longest message of a number: its bytes, the highest first, and zeros behind them.
-fn message_of(number: u64) -> [u8; 56]
-    ensures { result ≡ to_be_bytes w64 number ++ replicate 48 0 }
+fn message_of(number: u64) -> [u8; MOST_BYTES]
+    ensures { result ≡ to_be_bytes w64 number ++ replicate (MOST_BYTES - 8) 0 }
 {
-    let mut message = [0u8; 56];
+    let mut message = [0u8; MOST_BYTES];
     message[..8].copy_from_slice(&number.to_be_bytes());
     message
 }
@@ -217,44 +217,44 @@ pub struct HearAll<'a, B: OfBus, R> {
     pub load: Load,
 }
 
-impl<B: OfBus, R: Wait + Clock> Work<Ear<B>> for HearAll<'_, B, R> {
+impl<B: OfBus, R: Wait + Clock> Work<Listener<B>> for HearAll<'_, B, R> {
     /// Waits at the gate, takes all items, and notes the instant.
-    fn work(&self, mut ear: Ear<B>) -> Ear<B> {
+    fn work(&self, mut listener: Listener<B>) -> Listener<B> {
         if !self.gate.pass(self.rt) {
-            return ear;
+            return listener;
         }
-        match self.take_all(&mut ear) {
+        match self.take_all(&mut listener) {
             Ok(true) => match Instant::now(self.rt) {
-                Ok(now) => ear.done = Some(now),
-                Err(_) => ear.fault = Some(Fault::Clock),
+                Ok(now) => listener.done = Some(now),
+                Err(_) => listener.fault = Some(Fault::Clock),
             },
             Ok(false) => {}
             Err(fault) => {
-                ear.fault = Some(fault);
+                listener.fault = Some(fault);
                 self.gate.give_up();
             }
         }
-        ear
+        listener
     }
 }
 
 impl<B: OfBus, R: Wait> HearAll<'_, B, R> {
     /// Takes turns until it has all items. On false the round was given up before.
-    fn take_all(&self, ear: &mut Ear<B>) -> Result<bool, Fault> {
-        let (items, receiver) = (self.load.items(), ear.number);
+    fn take_all(&self, listener: &mut Listener<B>) -> Result<bool, Fault> {
+        let (items, receiver) = (self.load.items(), listener.number);
         let backoff = Backoff::new();
         for _ in self.rt.forever() {
-            if ear.heard.items() >= items {
+            if listener.heard.items() >= items {
                 return Ok(true);
             }
-            let turn = ear.receiver.turn(&self.the.bus);
-            if !ear.heard.note(&turn) {
+            let turn = listener.receiver.turn(&self.the.bus);
+            if !listener.heard.note(&turn) {
                 return Err(Fault::Heard { receiver });
             }
             match turn {
                 RecvTurn::Item(item) => {
                     let (sender, number) = (item.sender, item.number);
-                    ear.order.push(Got { sender, number })?;
+                    listener.order.push(Got { sender, number })?;
                     backoff.reset();
                 }
                 RecvTurn::Empty => {

@@ -4,8 +4,8 @@ use Rattle.bus_bench.specs.Checks.{HasEach}
 use Rattle.bus_bench.proofs.Checking.{one_more}
 use Rattle.bus_bench.proofs.checks.check_counts.Goals as goal
 
-pub loop-ear-preserved : goal.loop-ear-preserved
-loop-ear-preserved g c = one_more (λ ear. HasEach c.args.load.senders c.args.load.messages ear.heard) c.args.ears.now c.loop-ear.ear-index c.ear-item.result c.loop-ear-test.true c.ear-item.is c.loop-ear.invariant (c.first_miscount.ensures c.in_default.is)
+pub loop-listener-preserved : goal.loop-listener-preserved
+loop-listener-preserved g c = one_more (λ listener. HasEach c.args.load.senders c.args.load.messages listener.heard) c.args.listeners.now c.loop-listener.listener-index c.listener-item.result c.loop-listener-test.true c.listener-item.is c.loop-listener.invariant (c.first_miscount.ensures c.in_default.is)
 
 pub returns : goal.returns
-returns g c = subst (All (λ ear. HasEach c.args.load.senders c.args.load.messages ear.heard)) (take_all c.loop-ear.ear-index c.args.ears.now c.loop-ear-test.false) c.loop-ear.invariant
+returns g c = subst (All (λ listener. HasEach c.args.load.senders c.args.load.messages listener.heard)) (take_all c.loop-listener.listener-index c.args.listeners.now c.loop-listener-test.false) c.loop-listener.invariant

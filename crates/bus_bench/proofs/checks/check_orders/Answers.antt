@@ -3,8 +3,8 @@ use Rattle.std.proofs.lemmas.List.{take_all}
 use Rattle.bus_bench.proofs.Checking.{one_more}
 use Rattle.bus_bench.proofs.checks.check_orders.Goals as goal
 
-pub loop-ear-preserved : goal.loop-ear-preserved
-loop-ear-preserved g c = one_more (λ ear. ear.order.items ≡ c.args.order.now) c.args.ears.now c.loop-ear.ear-index c.ear-item.result c.loop-ear-test.true c.ear-item.is c.loop-ear.invariant (sym c.as_slice.ensures.value ∙ c.is_same.ensures.0 c.if-not-is_same.false)
+pub loop-listener-preserved : goal.loop-listener-preserved
+loop-listener-preserved g c = one_more (λ listener. listener.order.items ≡ c.args.order.now) c.args.listeners.now c.loop-listener.listener-index c.listener-item.result c.loop-listener-test.true c.listener-item.is c.loop-listener.invariant (sym c.as_slice.ensures.value ∙ c.is_same.ensures.0 c.if-not-is_same.false)
 
 pub returns : goal.returns
-returns g c = subst (All (λ ear. ear.order.items ≡ c.args.order.now)) (take_all c.loop-ear.ear-index c.args.ears.now c.loop-ear-test.false) c.loop-ear.invariant
+returns g c = subst (All (λ listener. listener.order.items ≡ c.args.order.now)) (take_all c.loop-listener.listener-index c.args.listeners.now c.loop-listener-test.false) c.loop-listener.invariant

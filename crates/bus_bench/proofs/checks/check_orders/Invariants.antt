@@ -1,5 +1,5 @@
 use Rattle.std.proofs.Common.{◌≡◌, All, take}
 use Rattle.bus_bench.proofs.checks.check_orders.Given as goal
 
-abbrev pub invariant-loop-ear : goal.invariant-loop-ear
-invariant-loop-ear g l = All (λ ear. ear.order.items ≡ l.order) (take l.ear-index l.ears)
+abbrev pub invariant-loop-listener : goal.invariant-loop-listener
+invariant-loop-listener g l = All (λ listener. listener.order.items ≡ l.order) (take l.listener-index l.listeners)
