@@ -1,6 +1,6 @@
 -- The two buses that a script moves, as machines.
 use Rattle.std.specs.Prelude.{◌≡◌, length}
-use Rattle.bus_presence.specs.Hall.{Trails as Visits}
+use Rattle.bus_presence.specs.Hall.{Trails as Beside}
 use Rattle.bus_tenure.specs.Core.{Election}
 use Rattle.bus_world.specs.Playing.{SizedBus, Answers, Refused, log_of}
 use Rattle.bus_world.specs.Trails.{Reached, Takers}
@@ -30,7 +30,7 @@ cycle_moves X = record {
   happens = λ old e new. again.Happens X old.ring e new.ring;
   answers = λ old e a new. again.Answers X old.ring e a new.ring × (new.owners ≡ owners_with old e a);
   refused = λ z e why. again.Refused z.ring e why;
-  reached = λ z T. (visits : Visits) × LeadTo X z (record { visits = visits; deeds = T.deeds; heard = T.heard });
+  reached = λ z T. (visits : Beside) × (sweeps : Beside) × LeadTo X z (record { visits = visits; sweeps = sweeps; deeds = T.deeds; heard = T.heard });
   took = λ z owners T. (owners ≡ z.owners) × AreLastTakers z.ring.rows owners T.deeds;
   senders = λ z. z.ring.layout.senders;
   receivers = λ z. length z.ring.receivers;
