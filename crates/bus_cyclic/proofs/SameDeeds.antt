@@ -6,7 +6,7 @@ use Rattle.bus_world.specs.World.{Event}
 use Rattle.bus_world.specs.declared.events.Answer.{Answer}
 use Rattle.bus_cyclic.specs.Cyclic.{CyclicBus}
 use Rattle.bus_cyclic.specs.Following.{FollowsRefuse}
-use Rattle.bus_cyclic.specs.Staying.{deeds_in, is_in, SaysNoMore}
+use Rattle.bus_cyclic.specs.Staying.{deeds_in, is_in, SaysNoMore, SaysMore}
 
 -- ---- what passes a test
 module _ {A : Type 0} (p : A → Bool) where
@@ -49,10 +49,14 @@ module _ (t : ℕ) (before after : List Deed) (same : deeds_in t after ≡ deeds
     took = λ place w. let was = done_before place _ w.at itself in (was.0, record { found = w.found; chose = w.chose; answer = w.answer; at = was.1 });
   }
 
+pub says_more : (t : ℕ) (before after : List Deed) → SaysMore t before after
+says_more t before after = record {
+  elected_late = λ o never late same. never ((says_no_more t before after same).elected o late);
+  taken_late = λ place never late same. let was = (says_no_more t before after same).took place late in never was.0 was.1;
+}
+
 -- ---- what follows no bus
 pub follows_refused : {E : Type 0} (X : Election E) (old : CyclicBus E) (e : Event) (a : Answer) (new : CyclicBus E) → FollowsRefuse X old e a new
 follows_refused X old e a new = record {
   falls = λ less f. let more = f.rises in omega arith;
-  elected_late = λ T t s o l gone never late f. never ((says_no_more t _ _ (f.stays T l t s gone)).elected o late);
-  taken_late = λ T t s place l gone never late f. let was = (says_no_more t _ _ (f.stays T l t s gone)).took place late in never was.0 was.1;
 }

@@ -3,7 +3,7 @@ use Rattle.std.specs.Prelude.{◌≡◌, ℕ, ◌<◌, ◌≤◌, Option, Some, 
 use Rattle.bus_deliverylog.specs.declared.receiving.RecvTurn.{RecvTurn}
 use Rattle.bus_guest.specs.Turns.{Visitor, due, op_next}
 use Rattle.bus_tenure.specs.Core.{Election}
-use Rattle.bus_world.specs.Headline.{Elected, Took, IsPrefix}
+use Rattle.bus_world.specs.Headline.{IsPrefix}
 use Rattle.bus_world.specs.Rings.{Ring, RingTrails, IsOnWord, IsKeptRing, guest_going, ring_trails, ring_sweeps, ring_deeds}
 use Rattle.bus_world.specs.Trails.{put_deeds, close_deeds}
 use Rattle.bus_world.specs.Turning.{owners_by}
@@ -79,7 +79,7 @@ pub record Steps {E : Type 0} (X : Election E) (old : CyclicBus E) (e : Event) (
 
 -- Whatever trails led to the old bus, with what this event and its answer add they lead to the new one, and the promise holds of them.
 -- The log below the length is extended, and never otherwise changed. The stage never falls; and of a tenure whose row had gone on before,
--- no sender takes a step, so what was elected there stays as it is.
+-- no sender has a deed more: no step of its election, and none of who holds its page. So what was elected there stays as it is.
 pub record Follows {E : Type 0} (X : Election E) (old : CyclicBus E) (e : Event) (a : Answer) (new : CyclicBus E) : Type 0 where
   pub reached : (T : RingTrails) → LeadTo X old T → LeadTo X new (grown X old.ring e a T)
   pub promised : (T : RingTrails) → LeadTo X old T → IsKeptRing X new.ring (grown X old.ring e a T)
@@ -91,6 +91,3 @@ pub record Follows {E : Type 0} (X : Election E) (old : CyclicBus E) (e : Event)
 pub record FollowsRefuse {E : Type 0} (X : Election E) (old : CyclicBus E) (e : Event) (a : Answer) (new : CyclicBus E) : Type 0 where
   -- the stage falls
   pub falls : stage_of new.ring < stage_of old.ring → ¬ Follows X old e a new
-  -- a sender sees the election of a tenure end whose row had gone on before, or takes its page
-  pub elected_late : (T : RingTrails) (t s o : ℕ) → LeadTo X old T → HasGoneOn old.ring t → ¬ Elected (T.deeds s) t o → Elected ((grown X old.ring e a T).deeds s) t o → ¬ Follows X old e a new
-  pub taken_late : (T : RingTrails) (t s place : ℕ) → LeadTo X old T → HasGoneOn old.ring t → ((k : ℕ) → ¬ Took (T.deeds s) t k) → Took ((grown X old.ring e a T).deeds s) t place → ¬ Follows X old e a new

@@ -37,7 +37,7 @@ trails_after X P old (e ∷ events) new run T = trails_after X P run.0 events ne
 
 -- All events were answered, one after another. Whatever trails led to the old bus, with what the events and their answers add they lead
 -- to the new one, and the promise holds of them. The log below the length is extended, and never otherwise changed; the stage never falls;
--- and of a tenure whose row had gone on before, no sender took a step.
+-- and of a tenure whose row had gone on before, no sender has a deed more.
 pub record Played {S : Type 0} (X : Election (Elector S)) (P : Protocol S Bool Verdict) (old : CyclicBus (Elector S)) (events : List Event) (new : CyclicBus (Elector S)) : Type 0 where
   pub answered : AllAnswered X P old events new
   pub reached : (T : RingTrails) → LeadTo X old T → LeadTo X new (trails_after X P old events new answered T)

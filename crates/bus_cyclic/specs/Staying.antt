@@ -1,5 +1,5 @@
 -- What stays of a tenure whose row has gone on to a later one.
-use Rattle.std.specs.Prelude.{ℕ, ◌+◌, ◌/◌, ◌≤◌, Bool, false, Some, None, List, filter, slice_index, ◌==◌}
+use Rattle.std.specs.Prelude.{◌≢◌, ℕ, ◌+◌, ◌/◌, ◌≤◌, Bool, false, Some, None, List, filter, slice_index, ◌==◌}
 use Rattle.bus_tenure.specs.Core.{stage_at}
 use Rattle.bus_world.specs.Headline.{Deed, HasPut, HasClosed, Stepped, Announced, Elected, Took}
 use Rattle.bus_world.specs.Rings.{Ring}
@@ -29,3 +29,8 @@ pub record SaysNoMore (t : ℕ) (before after : List Deed) : Type 0 where
   pub announced : Announced after t → Announced before t
   pub elected : (o : ℕ) → Elected after t o → Elected before t o
   pub took : (place : ℕ) → Took after t place → (earlier : ℕ) × Took before t earlier
+
+-- Deeds in a tenure are not the same as before where a sender has seen its election end since, or has taken its page.
+pub record SaysMore (t : ℕ) (before after : List Deed) : Type 0 where
+  pub elected_late : (o : ℕ) → ¬ Elected before t o → Elected after t o → deeds_in t after ≢ deeds_in t before
+  pub taken_late : (place : ℕ) → ((k : ℕ) → ¬ Took before t k) → Took after t place → deeds_in t after ≢ deeds_in t before

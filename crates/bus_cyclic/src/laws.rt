@@ -10,7 +10,7 @@ ghost use Rattle.bus_world.specs.World.{Event};
 ghost use Rattle.bus_world.specs.declared.events.Answer.{Answer};
 ghost use Rattle.bus_cyclic.specs.Cyclic.{CyclicBus};
 ghost use Rattle.bus_cyclic.specs.Following.{FollowsRefuse};
-ghost use Rattle.bus_cyclic.specs.Staying.{deeds_in, SaysNoMore};
+ghost use Rattle.bus_cyclic.specs.Staying.{deeds_in, SaysNoMore, SaysMore};
 ghost use Rattle.bus_cyclic.specs.Truth.{LossesRefuse, AnswersRefuse};
 
 use bus_adoptcommit::Ratifier;
@@ -31,14 +31,15 @@ pub fn answers_refuse<Q: Ratifier>()
 
 /// A sender whose deeds in a tenure are the same as before has announced itself there, has seen its
 /// election end with an owner, and has taken its page, only where it had done so before. So what
-/// was elected in a tenure stays as it is, once its row has gone on.
+/// was elected in a tenure stays as it is, once its row has gone on. Deeds with which a sender has
+/// seen the election end since, or has taken the page, are not the same.
 pub fn same_deeds_say_no_more()
-    ensures { (t : ℕ) (before after : List Deed) → deeds_in t after ≡ deeds_in t before
+    ensures same { (t : ℕ) (before after : List Deed) → deeds_in t after ≡ deeds_in t before
         → SaysNoMore t before after }
+    ensures more { (t : ℕ) (before after : List Deed) → SaysMore t before after }
 {}
 
-/// No bus follows another by an event with which the stage falls, or with which a sender sees the
-/// election of a tenure end, or takes its page, whose row had gone on before.
+/// No bus follows another by an event with which the stage falls.
 pub fn follows_refuse<Q: Ratifier>()
     ensures { let X = election_of Q.Ratifier in
         (old : CyclicBus (Elector Q)) (event : Event) (given : Answer)

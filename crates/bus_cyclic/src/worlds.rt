@@ -306,7 +306,7 @@ impl<Q: Ratifier + Drop> CyclicWorld<Q> {
     /// the election of that tenure end with the owner that it names, which is another sender; one
     /// that answers Own is elected and took the page; what is Delivered is the last frame of the
     /// order; and Full is answered only where the frame does not fit behind the log. No turn is a
-    /// step in a tenure whose row had gone on before: what was elected there stays as it is.
+    /// deed in a tenure whose row had gone on before: what was elected there stays as it is.
     pub fn step(&mut self, event: &Event) -> Result<Answer, StepFault>
         ensures is { IsEvent (event_told event.now) }
         ensures happens { let X = election_of Q.Ratifier in

@@ -1,4 +1,4 @@
--- Where rows of words are used again: no step of a sender lowers the stage, and none is in a tenure whose row has gone on.
+-- Where rows of words are used again: no step of a sender lowers the stage, and none is a deed in a tenure whose row has gone on.
 use Rattle.std.proofs.Common.{◌≡◌, ℕ, ◌+◌, ◌≤◌, ◌<◌, Option, Some, List, [], slice_index, sym, ◌∙◌, ap, subst}
 use Rattle.std.specs.Prelude.{◌/◌}
 use mathlib.Core.Option.{some}

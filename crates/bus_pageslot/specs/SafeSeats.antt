@@ -1,5 +1,5 @@
 -- What is so of the seats of a bus whose rows are used again, of each sender by the steps of its visits that its seat shows.
-use Rattle.std.specs.Prelude.{◌≡◌, ◌≢◌, ℕ, ◌+◌, ◌/◌, ◌%◌, ◌<◌, ◌≤◌, Option, Some, List, [], slice_index}
+use Rattle.std.specs.Prelude.{◌≡◌, ◌≢◌, ◌⊎◌, ℕ, ◌+◌, ◌/◌, ◌%◌, ◌<◌, ◌≤◌, Option, Some, List, [], slice_index}
 use mathlib.Core.Option.{some}
 use lib.ListN.{get_elem?}
 use Rattle.atomic_table.specs.Table.{State}
@@ -16,7 +16,9 @@ use Rattle.bus_world.specs.Turning.{words_after}
 use Rattle.bus_tenure.specs.declared.pages.Page.{Page}
 use Rattle.bus_tenure.specs.declared.phases.Phase.TheVariants.{Electing}
 use Rattle.bus_pageslot.specs.declared.rule.View.{View}
-use Rattle.bus_pageslot.specs.declared.rule.View.TheVariants.{Sender}
+use Rattle.bus_pageslot.specs.declared.rule.View.TheVariants.{Sender, Telling}
+use Rattle.bus_pageslot.specs.Ears.{Ear}
+use Rattle.bus_pageslot.specs.Processes.{Extent}
 use Rattle.bus_pageslot.specs.RowsAgain.{adds_due}
 use Rattle.bus_pageslot.specs.Tracks.{Track}
 
@@ -24,9 +26,9 @@ use Rattle.bus_pageslot.specs.Tracks.{Track}
 abbrev pub tenure_in : List ℕ → ℕ
 tenure_in words = slice_index words 1 / 2
 
--- the seat j is that of this sender, which has done this
+-- the seat j is that of this sender, which has done this; or a receiver's seat is joined to it
 abbrev pub Shown : {E : Type 0} → State (Option Page) (View (Visitor E)) → ℕ → Visitor E → Track → Type 0
-Shown s j v track = (stored : ℕ) × (get_elem? s.views j ≡ some (Sender v track stored))
+Shown s j v track = ((stored : ℕ) × (get_elem? s.views j ≡ some (Sender v track stored))) ⊎ ((stored : ℕ) × (y : Extent) × (e : Ear) × (get_elem? s.views j ≡ some (Telling v track stored y e)))
 
 pub record AreSafe {E : Type 0} (x : Sizes) (s : State (Option Page) (View (Visitor E))) : Type 0 where
   -- whose election runs stands in its tenure, ..
@@ -37,8 +39,8 @@ pub record AreSafe {E : Type 0} (x : Sizes) (s : State (Option Page) (View (Visi
   pub swept : (j : ℕ) (v : Visitor E) (track : Track) (t : ℕ) (w : Sweeping) → Shown s j v track → held_of v.core.phase ≡ Some t → v.sweep ≡ Some w → x.senders ≤ w.asked
       → (k : ℕ) (u : Visitor E) (other : Track) (past : ℕ) → Shown s k u other → Stands x u.core.me other.visits past → past % x.rows ≢ (tenure_in s.words + 1) % x.rows
 
--- A step of this sender leaves alone what is past: the stage does not fall; and of a tenure whose row has gone on to a later one, the step
--- is none.
+-- A step of this sender leaves alone what is past: the stage does not fall; and the step is no deed in a tenure whose row has gone on to a
+-- later one.
 pub record LeavesPast {E : Type 0} (X : Election E) (rows : ℕ) (words : List ℕ) (d : Visitor E) (word : ℕ) (o : Op) : Type 0 where
   pub rises : slice_index words 1 ≤ slice_index (words_after words (Some o)) 1
   pub leaves : (t : ℕ) → t + rows ≤ tenure_in words → deeds_in t (adds_due X d (due X d) (slice_index words (register o)) word).deeds ≡ []
