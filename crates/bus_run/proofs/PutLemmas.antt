@@ -9,6 +9,7 @@ use Rattle.bus_world.specs.Headline.{Deed, HasPut, put_of, puts}
 use Rattle.bus_pageslot.specs.Buses.{AreNewSeats}
 use Rattle.bus_pageslot.specs.Processes.{Process, Automaton}
 use Rattle.bus_pageslot.specs.Seats.{Seated, deeds_of}
+use Rattle.bus_pageslot.specs.Tracks.{Track}
 use Rattle.bus_run.specs.Numbers.{numbers_below}
 
 -- a put adds its message
@@ -21,4 +22,4 @@ one_number n before after had more = more ∙ ap (λ z. z ++ to_be_bytes w64 n �
 
 -- new senders have put nothing
 pub none_put : {C : Type 0} (P : Process C) (A : Automaton C) (table : TableId) (many : ℕ) (senders : List (Seated C)) → AreNewSeats P A table many senders → All (λ s. puts (deeds_of P s) ≡ []) senders
-none_put P A table many senders h k d l = ap puts (h.each k _ (slice_get-get_or senders k d l)).deeds
+none_put P A table many senders h k d l = ap (λ (t : Track). puts t.deeds) (h.each k _ (slice_get-get_or senders k d l)).track
