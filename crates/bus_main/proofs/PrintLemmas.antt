@@ -3,40 +3,32 @@ use Rattle.std.proofs.Common.{◌≡◌, ℕ, List, inl, inr, refl, sym, subst, 
 use Rattle.std.specs.Prelude.{Result, Err, IsErr, IsErrAnd}
 use Rattle.bus_pageslot.specs.Outcomes.{Outcome}
 use Rattle.bus_receiver.specs.Hearing.{Hearing}
-use Rattle.bus_run.specs.Audit.{OfOrder}
+use Rattle.bus_run.specs.Audit.{OfOrder, shape_of_run}
+use Rattle.bus_run.specs.Reports.{IsRunReport}
 use Rattle.bus_run.specs.RunText.{report_text, IsRunText}
 use Rattle.bus_logtext.specs.Words.{words_text}
-use Rattle.bus_main.specs.RunReport.{IsRunReport}
 use Rattle.bus_main.specs.RunLog.{IsRunLog}
 use Rattle.bus_run.specs.Stops.{IsStop, IsRunFault}
 use Rattle.bus_run.specs.declared.faults.RunFault.{RunFault}
 use Rattle.bus_run.specs.declared.faults.RunFault.TheVariants as run
 
 -- a text of an order that the words spell
-abbrev text_of_order : (senders receivers messages : ℕ) (left : Outcome) (heards : List Hearing) (text : List ℕ) → (made : IsRunReport senders receivers messages left heards) → text ≡ report_text made.spelled.0 left.page senders heards → IsRunText senders receivers messages text
+abbrev text_of_order : (senders receivers messages : ℕ) (left : Outcome) (heards : List Hearing) (text : List ℕ) → (made : IsRunReport (shape_of_run senders receivers) messages left heards) → text ≡ report_text made.spelled.0 left.page senders heards → IsRunText senders receivers messages text
 text_of_order senders receivers messages left heards text made said = record {
   left = left;
+  heards = heards;
+  report = made;
   order = made.spelled.0;
   owners = made.spelled.1;
   spells = made.spelled.2;
-  senders_are = made.senders_are;
-  left_behind = made.left_behind;
-  sends = made.sends made.spelled.0 made.spelled.1 made.spelled.2;
-  carried = made.carried made.spelled.0 made.spelled.1 made.spelled.2;
-  closed = made.closed made.spelled.0 made.spelled.1 made.spelled.2;
-  heards = heards;
-  each = made.each;
-  fair = made.fair made.spelled.0 made.spelled.1 made.spelled.2;
-  all = made.all made.spelled.0 made.spelled.1 made.spelled.2;
-  words = made.words;
   text_is = said;
 }
 
-pub is_run_text : (senders receivers messages : ℕ) (left : Outcome) (heards : List Hearing) (text : List ℕ) → IsRunReport senders receivers messages left heards → OfOrder left (λ order. text ≡ report_text order left.page senders heards) → IsRunText senders receivers messages text
+pub is_run_text : (senders receivers messages : ℕ) (left : Outcome) (heards : List Hearing) (text : List ℕ) → IsRunReport (shape_of_run senders receivers) messages left heards → OfOrder left (λ order. text ≡ report_text order left.page senders heards) → IsRunText senders receivers messages text
 is_run_text senders receivers messages left heards text made said =
     text_of_order senders receivers messages left heards text made (said made.spelled.0 made.spelled.1 made.spelled.2)
 
-pub is_run_log : (senders receivers messages : ℕ) (left : Outcome) (heards : List Hearing) (text : List ℕ) → IsRunReport senders receivers messages left heards → text ≡ words_text left.log → IsRunLog senders receivers messages text
+pub is_run_log : (senders receivers messages : ℕ) (left : Outcome) (heards : List Hearing) (text : List ℕ) → IsRunReport (shape_of_run senders receivers) messages left heards → text ≡ words_text left.log → IsRunLog senders receivers messages text
 is_run_log senders receivers messages left heards text made said = record {
   summary = report_text made.spelled.0 left.page senders heards;
   run = text_of_order senders receivers messages left heards _ made refl;

@@ -1,9 +1,11 @@
 //! What `bus run` prints of a run: its summary, or its log.
 
-ghost use Rattle.std.specs.Prelude.{◌≡◌, ◌⊎◌, ℕ, List, IfOk, IfErr, IsErrOf, min};
+ghost use Rattle.std.specs.Prelude.{◌≡◌, ◌⊎◌, ℕ, List, IfOk, OnOk, IfErr, IsErrOf, min};
 ghost use Rattle.std.specs.Io.KnownBytes.{Appends, Keeps};
 ghost use Rattle.bus_main.specs.RunLog.{IsRunLog};
-ghost use Rattle.bus_main.specs.RunReport.{IsRunReport};
+ghost use Rattle.bus_run.specs.Audit.{shape_of_run};
+ghost use Rattle.bus_run.specs.Left.{RunServes};
+ghost use Rattle.bus_run.specs.Reports.{IsRunReport};
 ghost use Rattle.bus_run.specs.RunText.{IsRunText};
 ghost use Rattle.bus_run.specs.Stops.{IsRunFault};
 ghost use Rattle.bus_main.specs.Streams.{WritesPart};
@@ -34,12 +36,14 @@ fn run_of<R: Threads + Wait + Sync>(
     alloc: Global,
     request: Request,
 ) -> Result<Report, RunFault>
-    ensures ok { IfOk result (λ report. IsRunReport request.senders request.receivers
+    ensures served { OnOk result (RunServes (shape_of_run request.senders request.receivers)) }
+    ensures report { IfOk result
+        (λ report. IsRunReport (shape_of_run request.senders request.receivers)
         (min request.messages MOST_MESSAGES_EACH) report.ended report.heards.items) }
     ensures fault { IfErr result (IsRunFault request.senders request.receivers) }
 {
     let messages = request.messages.min(MOST_MESSAGES_EACH);
-    let report = run(
+    run(
         rt,
         alloc,
         request.senders,
@@ -47,9 +51,7 @@ fn run_of<R: Threads + Wait + Sync>(
         messages,
         request.seed,
         &OpenGate,
-    )?;
-    let _page = report.ended.page();
-    Ok(report)
+    )
 }
 
 /// Runs a bus and writes what came of it.

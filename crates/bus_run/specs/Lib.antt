@@ -1,5 +1,6 @@
 pub mod Printed
 pub mod Audit
+pub mod Reports
 pub mod RunText
 pub mod Stops
 pub mod Numbers

@@ -7,8 +7,8 @@ use Rattle.bus_deliverylog.specs.Orders.{of_sender}
 use Rattle.bus_tenure.specs.declared.pages.Page.{Page}
 use Rattle.bus_pageslot.specs.Outcomes.{Outcome}
 use Rattle.bus_receiver.specs.Hearing.{Hearing}
-use Rattle.bus_run.specs.Audit.{IsFair, CountsAll, SendsEach, CarriesNumbers, IsClosed, shape_of_run}
-use Rattle.bus_run.specs.Left.{IsLeftBehind}
+use Rattle.bus_run.specs.Audit.{shape_of_run}
+use Rattle.bus_run.specs.Reports.{IsRunReport}
 
 abbrev pub sender_line : ℕ → ℕ → List ℕ
 sender_line s items = codes "sender " ++ decimal s ++ codes ": " ++ decimal items ++ 10 ∷ []
@@ -37,23 +37,13 @@ page_lines page = codes "tenures " ++ decimal page.tenures ++ 10 ∷ codes "word
 abbrev pub report_text : Order → Page → ℕ → List Hearing → List ℕ
 report_text order page senders heards = sender_lines order senders ++ receiver_lines 0 heards ++ page_lines page
 
--- What is printed of a run that ended well, of what a bus of so many senders left behind, by the rule of its table: the order has so many
--- items of each sender, which carry the numbers from 0 on, and has ended; each note has counted all of it and the end, and the total
--- that is printed of it is that of all items; and the tenures and words that are printed are those of that bus's page, which knows the
--- words of the log.
+-- What is printed of a run that ended well: of each sender how many items the order has, of each receiver the total that it noted and
+-- whether it was given the end, and the tenures and words that the page knows.
 pub record IsRunText (senders receivers messages : ℕ) (text : List ℕ) : Type 0 where
   pub left : Outcome
+  pub heards : List Hearing
+  pub report : IsRunReport (shape_of_run senders receivers) messages left heards
   pub order : Order
   pub owners : List (ℕ × SenderNo)
   pub spells : Spells left.senders left.log order owners
-  pub senders_are : left.senders ≡ senders
-  pub left_behind : IsLeftBehind (shape_of_run senders receivers) left
-  pub sends : SendsEach senders messages order
-  pub carried : CarriesNumbers senders order
-  pub closed : IsClosed order
-  pub heards : List Hearing
-  pub each : length heards ≡ receivers
-  pub fair : All (IsFair order) heards
-  pub all : All (CountsAll order) heards
-  pub words : left.page.words ≡ length left.log
   pub text_is : text ≡ report_text order left.page senders heards

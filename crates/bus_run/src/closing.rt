@@ -4,9 +4,9 @@ ghost use Rattle.std.specs.Prelude.{◌≡◌, ◌≢◌, ◌≤◌, ◌<◌, �
 ghost use Rattle.std.specs.Prelude.{length, map, vec_len, slice_get, Some};
 ghost use Rattle.std.specs.Prelude.{None, IfOk, OnOk, IfErr, IfSome, true, false};
 ghost use Rattle.std.specs.Vec.{vec_capacity};
-ghost use Rattle.bus_run.specs.Audit.{OfOrder, IsSpelled, IsFair, SendsEach, IsClosed};
-ghost use Rattle.bus_run.specs.Audit.{CarriesNumbers, IsSummed, CountsAll};
-ghost use Rattle.bus_run.specs.Left.{IsLeftBehind, IsLeftBy, IsEndedBy, IsToldByAll};
+ghost use Rattle.bus_run.specs.Audit.{OfOrder, IsSpelled, SendsEach, IsClosed, IsSummed};
+ghost use Rattle.bus_run.specs.Reports.{IsRunReport};
+ghost use Rattle.bus_run.specs.Left.{IsLeftBy, IsEndedBy, IsToldByAll};
 ghost use Rattle.bus_run.specs.Left.{Shown, HasLearnt, number_of};
 ghost use Rattle.bus_run.specs.Told.{HasTold};
 ghost use Rattle.bus_pageslot.specs.Rule.{known_in};
@@ -44,24 +44,13 @@ pub fn end_and_audit<B: OfBus>(
     ensures whole { OnOk result
         (IsWhole (λ desk. number_of desk.sender) shape crew.desks.items crew.listeners.items) }
     ensures unstopped { OnOk result (AreUnstopped (λ desk. desk.fault) crew.desks.items) }
-    ensures of { IfOk result (λ report. report.ended.senders ≡ shape.senders) }
-    ensures left { IfOk result (λ report. IsLeftBehind shape report.ended) }
+    ensures report { IfOk result
+        (λ report. IsRunReport shape messages report.ended report.heards.items) }
     ensures by { let Ends = IsToldByAll (λ desk. desk.sender) messages crew.desks.items
         (map (λ listener. listener.receiver.me.0) crew.listeners.items) in
         IfOk result (λ report. IsEndedBy shape Ends report.ended) }
-    ensures sent { IfOk result
-        (λ report. OfOrder report.ended (SendsEach shape.senders messages)) }
-    ensures carried { IfOk result
-        (λ report. OfOrder report.ended (CarriesNumbers shape.senders)) }
-    ensures closed { IfOk result (λ report. OfOrder report.ended IsClosed) }
-    ensures heard { IfOk result
-        (λ report. OfOrder report.ended (λ order. All (IsFair order) report.heards.items)) }
-    ensures all { IfOk result
-        (λ report. OfOrder report.ended (λ order. All (CountsAll order) report.heards.items)) }
     ensures notes { IfOk result
         (λ report. report.heards.items ≡ map (λ listener. listener.heard) crew.listeners.items) }
-    ensures each { IfOk result (λ report. length report.heards.items ≡ shape.receivers) }
-    ensures spelled { IfOk result (λ report. IsSpelled report.ended) }
 
     // Who is missing comes before what stopped a sender, and that before all else.
     ensures fault { let Whole = IsWhole (λ desk. number_of desk.sender) shape
@@ -155,24 +144,13 @@ fn end_whole<B: OfBus>(
     requires senders { shape.senders ≤ MOST_SENDERS }
     requires bus { the.bus.shape ≡ shape }
     requires whole { IsWhole (λ desk. number_of desk.sender) shape desks.items listeners.items }
-    ensures of { IfOk result (λ report. report.ended.senders ≡ shape.senders) }
-    ensures left { IfOk result (λ report. IsLeftBehind shape report.ended) }
+    ensures report { IfOk result
+        (λ report. IsRunReport shape messages report.ended report.heards.items) }
     ensures by { let Ends = IsToldByAll (λ desk. desk.sender) messages desks.items
         (map (λ listener. listener.receiver.me.0) listeners.items) in
         IfOk result (λ report. IsEndedBy shape Ends report.ended) }
-    ensures sent { IfOk result
-        (λ report. OfOrder report.ended (SendsEach shape.senders messages)) }
-    ensures carried { IfOk result
-        (λ report. OfOrder report.ended (CarriesNumbers shape.senders)) }
-    ensures closed { IfOk result (λ report. OfOrder report.ended IsClosed) }
-    ensures heard { IfOk result
-        (λ report. OfOrder report.ended (λ order. All (IsFair order) report.heards.items)) }
-    ensures all { IfOk result
-        (λ report. OfOrder report.ended (λ order. All (CountsAll order) report.heards.items)) }
     ensures notes { IfOk result
         (λ report. report.heards.items ≡ map (λ listener. listener.heard) listeners.items) }
-    ensures each { IfOk result (λ report. length report.heards.items ≡ shape.receivers) }
-    ensures spelled { IfOk result (λ report. IsSpelled report.ended) }
     ensures late { IfErr result
         (IsLate (λ desk. desk.sender) shape messages (vec_capacity room) desks.items
         (map (λ listener. listener.receiver.me.0) listeners.items)
@@ -281,6 +259,7 @@ fn end_closed<B: OfBus>(the: TheBus<B>, first: Receiver) -> Result<Ended, RunFau
     ensures of { IfOk result (λ ended. ended.senders ≡ the.bus.shape.senders) }
     ensures left { IfOk result
         (λ ended. IsLeftBy the.bus.shape first.me.0 ended.log (Some ended.page)) }
+    ensures words { IfOk result (λ ended. ended.page.words ≡ length ended.log) }
     ensures closed { IfOk result (λ ended. OfOrder ended IsClosed) }
     ensures front { IfOk result (λ ended. IsPrefix (known_in first.me.0) ended.log) }
     ensures open { let Ends : Shown → Type 0 = λ seen. seen ≡ first.me.0 in

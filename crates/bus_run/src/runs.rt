@@ -1,9 +1,9 @@
 //! A run: a bus that a worker of each sender and of each receiver takes its steps on.
 
-ghost use Rattle.std.specs.Prelude.{◌≡◌, ◌≤◌, [], All, length, IfOk, OnOk, IfErr};
-ghost use Rattle.bus_run.specs.Audit.{OfOrder, IsSpelled, IsFair, SendsEach, IsClosed};
-ghost use Rattle.bus_run.specs.Audit.{shape_of_run, CarriesNumbers, CountsAll};
-ghost use Rattle.bus_run.specs.Left.{run_process, RunServes, IsLeftBehind};
+ghost use Rattle.std.specs.Prelude.{◌≡◌, ◌≤◌, [], All, IfOk, OnOk, IfErr};
+ghost use Rattle.bus_run.specs.Audit.{shape_of_run};
+ghost use Rattle.bus_run.specs.Left.{run_process, RunServes};
+ghost use Rattle.bus_run.specs.Reports.{IsRunReport};
 ghost use Rattle.bus_run.specs.Stops.{IsStop, IsRunFault};
 ghost use Rattle.bus_pageslot.specs.Seats.{table_of, deeds_of};
 ghost use Rattle.bus_world.specs.Headline.{puts};
@@ -39,18 +39,8 @@ pub fn run<R: Threads + Wait + Sync, G: Gate + Sync>(
 ) -> Result<Report, RunFault>
     requires { messages ≤ MOST_MESSAGES_EACH }
     ensures served { OnOk result (RunServes (shape_of_run senders receivers)) }
-    ensures of { IfOk result (λ report. report.ended.senders ≡ senders) }
-    ensures left { IfOk result
-        (λ report. IsLeftBehind (shape_of_run senders receivers) report.ended) }
-    ensures sent { IfOk result (λ report. OfOrder report.ended (SendsEach senders messages)) }
-    ensures carried { IfOk result (λ report. OfOrder report.ended (CarriesNumbers senders)) }
-    ensures closed { IfOk result (λ report. OfOrder report.ended IsClosed) }
-    ensures heard { IfOk result
-        (λ report. OfOrder report.ended (λ order. All (IsFair order) report.heards.items)) }
-    ensures all { IfOk result
-        (λ report. OfOrder report.ended (λ order. All (CountsAll order) report.heards.items)) }
-    ensures each { IfOk result (λ report. length report.heards.items ≡ receivers) }
-    ensures spelled { IfOk result (λ report. IsSpelled report.ended) }
+    ensures report { IfOk result (λ report. IsRunReport (shape_of_run senders receivers)
+        messages report.ended report.heards.items) }
     ensures fault { IfErr result (IsRunFault senders receivers) }
 {
     let shape = Shape {
@@ -78,19 +68,8 @@ fn run_on<B: OfBus + Send + Sync, R: Threads + Wait + Sync, G: Gate + Sync>(
     requires put { All (λ sender. puts (deeds_of run_process sender) ≡ []) made.1.items }
     requires taps { All (λ tap. tap.table_id ≡ B.table) made.2.items }
     requires served { RunServes shape }
-    ensures of { IfOk result (λ report. report.ended.senders ≡ shape.senders) }
-    ensures left { IfOk result (λ report. IsLeftBehind shape report.ended) }
-    ensures sent { IfOk result
-        (λ report. OfOrder report.ended (SendsEach shape.senders load.messages)) }
-    ensures carried { IfOk result
-        (λ report. OfOrder report.ended (CarriesNumbers shape.senders)) }
-    ensures closed { IfOk result (λ report. OfOrder report.ended IsClosed) }
-    ensures heard { IfOk result
-        (λ report. OfOrder report.ended (λ order. All (IsFair order) report.heards.items)) }
-    ensures all { IfOk result
-        (λ report. OfOrder report.ended (λ order. All (CountsAll order) report.heards.items)) }
-    ensures each { IfOk result (λ report. length report.heards.items ≡ shape.receivers) }
-    ensures spelled { IfOk result (λ report. IsSpelled report.ended) }
+    ensures report { IfOk result
+        (λ report. IsRunReport shape load.messages report.ended report.heards.items) }
     ensures fault { IfErr result (IsStop shape.senders shape.receivers) }
 {
     let (bus, senders, taps) = made;

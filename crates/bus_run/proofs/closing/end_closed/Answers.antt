@@ -1,4 +1,5 @@
 use Rattle.std.proofs.Common.{◌≡◌, Some, None, inl, inr, refl, sym, ap, subst, ◌∙◌}
+use Rattle.bus_tenure.specs.declared.pages.Page.{Page}
 use Rattle.bus_pageslot.specs.Buses.{Site}
 use Rattle.bus_run.specs.Left.{Shown, IsLeftBy}
 use Rattle.bus_run.specs.Stops.{IsOpen}
@@ -25,3 +26,6 @@ returns-clause-left g c = subst (λ (b : Site). IsLeftBy b.shape c.args.first.me
 
 pub returns-clause-closed : goal.returns-clause-closed
 returns-clause-closed g c = λ order owners spells. sym (c.page.ensures.ended order owners spells) ∙ c.if-not-page.false
+
+pub returns-clause-words : goal.returns-clause-words
+returns-clause-words g c = sym (ap (λ (page : Page). page.words) c.page.ensures.page) ∙ c.page.ensures.words

@@ -88,33 +88,36 @@ returns-in_err-audit-clause-late g c =
       )),
     )
 
-pub returns-clause-carried : goal.returns-clause-carried
-returns-clause-carried g c = λ order owners spells s k item lt at.
+pub returns-clause-report : goal.returns-clause-report
+returns-clause-report g c =
     let left = c.in_ok-ended.ended in
     let many = c.args.messages in
     let known = known_in c.tell_all-told.result.me.0 in
-    let below : s < length c.args.desks.items = subst (λ n. s < n) (sym c.requires.whole.all_send) lt in
-    let told = of_each (λ desk. number_of desk.sender) (λ desk. HasTold (number_of desk.sender) many known) c.args.desks.items s c.requires.whole.in_order c.tell_all-told.ensures.told below in
-    let has_told = still_told s many known left.log (subst (λ n. HasTold n many known) told.1 told.2) c.in_ok-ended.ensures.front in
-    carries (of_sender s order) many k item (told_all s many left.log left.senders order owners has_told spells (c.in_ok-all_sent.ensures.ok order owners spells s lt)) at
-
-pub returns-clause-heard : goal.returns-clause-heard
-returns-clause-heard g c = λ order owners spells. subst (All (IsFair order)) c.as_slice-2.ensures.value (c.in_ok-audit.ensures.ok order owners spells)
-
-pub returns-clause-all : goal.returns-clause-all
-returns-clause-all g c = λ order owners spells.
-    let left = c.in_ok-ended.ended in
-    let few = subst (λ n. n ≤ 8) (sym (c.in_ok-ended.ensures.of ∙ ap (λ (x : Shape). x.senders) c.requires.bus)) c.requires.senders in
-    all_counted left.senders left.log order owners _ few spells c.in_ok-first.ensures.summed (subst (All (IsFair order)) c.as_slice-2.ensures.value (c.in_ok-audit.ensures.ok order owners spells))
-
-pub returns-clause-each : goal.returns-clause-each
-returns-clause-each g c = ap length c.in_ok-first.ensures.notes ∙ length-map c.args.listeners.items (λ listener. listener.heard) ∙ c.requires.whole.all_hear
-
-pub returns-clause-left : goal.returns-clause-left
-returns-clause-left g c = record {
-  seen = c.tell_all-told.result.me.0;
-  left = subst (λ x. IsLeftBy x c.tell_all-told.result.me.0 c.in_ok-ended.ended.log (Some c.in_ok-ended.ended.page)) c.requires.bus c.in_ok-ended.ensures.left;
-}
+    let senders_are = c.in_ok-ended.ensures.of ∙ ap (λ (x : Shape). x.senders) c.requires.bus in
+    record {
+      senders_are = senders_are;
+      left_behind = record {
+        seen = c.tell_all-told.result.me.0;
+        left = subst (λ x. IsLeftBy x c.tell_all-told.result.me.0 left.log (Some left.page)) c.requires.bus c.in_ok-ended.ensures.left;
+      };
+      words = c.in_ok-ended.ensures.words;
+      spelled = c.audit.ensures.spelled;
+      heard = λ order owners spells.
+        let sends = c.in_ok-all_sent.ensures.ok order owners spells in
+        let fair = subst (All (IsFair order)) c.as_slice-2.ensures.value (c.in_ok-audit.ensures.ok order owners spells) in
+        record {
+          sends = sends;
+          carried = λ s k item lt at.
+            let below : s < length c.args.desks.items = subst (λ n. s < n) (sym c.requires.whole.all_send) lt in
+            let told = of_each (λ desk. number_of desk.sender) (λ desk. HasTold (number_of desk.sender) many known) c.args.desks.items s c.requires.whole.in_order c.tell_all-told.ensures.told below in
+            let has_told = still_told s many known left.log (subst (λ n. HasTold n many known) told.1 told.2) c.in_ok-ended.ensures.front in
+            carries (of_sender s order) many k item (told_all s many left.log left.senders order owners has_told spells (sends s lt)) at;
+          closed = c.in_ok-ended.ensures.closed order owners spells;
+          fair = fair;
+          all = all_counted left.senders left.log order owners _ (subst (λ n. n ≤ 8) (sym senders_are) c.requires.senders) spells c.in_ok-first.ensures.summed fair;
+        };
+      each = ap length c.in_ok-first.ensures.notes ∙ length-map c.args.listeners.items (λ listener. listener.heard) ∙ c.requires.whole.all_hear;
+    }
 
 pub returns-clause-by : goal.returns-clause-by
 returns-clause-by g c = (
