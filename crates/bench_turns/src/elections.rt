@@ -6,6 +6,7 @@ ghost use Rattle.bus_register.specs.Words.{register};
 use anyhow::{Context, bail, ensure};
 use bus_adoptcommit::{Ratifier, ThreeWord, TwoCollect};
 use bus_ownerbits::{Election, bound};
+use bus_register::limits::MOST_SENDERS;
 use bus_register::{Cells, Machine, Op, Reg, SenderNo};
 use rand_core::Rng;
 use rand_pcg::Pcg32;
@@ -56,7 +57,7 @@ fn elect<Q: Ratifier + Drop>(
     dice: &mut Pcg32,
     taken: &mut Vec<u64>,
 ) -> anyhow::Result<()>
-    requires { (1 ≤ n) × (n ≤ 8) }
+    requires { (1 ≤ n) × (n ≤ MOST_SENDERS) }
 {
     let mut cells = Cells::new(alloc, Election::<Q>::width(n, ROUNDS))?;
     let mut seats = Vec::new(alloc);
@@ -87,7 +88,7 @@ fn elect<Q: Ratifier + Drop>(
 
 /// Prints mean, worst and bound of the own steps of `n` senders.
 fn print_steps<Q: Ratifier + Drop, R: Print>(rt: &R, alloc: Global, n: u64) -> anyhow::Result<()>
-    requires { (1 ≤ n) × (n ≤ 8) }
+    requires { (1 ≤ n) × (n ≤ MOST_SENDERS) }
 {
     let mut dice = Pcg32::new(n, ROUNDS);
     let mut taken = Vec::new(alloc);
@@ -109,7 +110,7 @@ fn print_steps<Q: Ratifier + Drop, R: Print>(rt: &R, alloc: Global, n: u64) -> a
 /// Prints a line for each number of senders.
 pub fn print_elections<R: Print>(rt: &R, alloc: Global) -> anyhow::Result<()> {
     println!(rt; "n | TwoCollect   mean worst bound | ThreeWord    mean worst bound")?;
-    for n in 1..9 {
+    for n in 1..MOST_SENDERS as u64 + 1 {
         print!(rt; "{n}")?;
         print_steps::<TwoCollect, R>(rt, alloc, n)?;
         print_steps::<ThreeWord, R>(rt, alloc, n)?;

@@ -10,7 +10,7 @@ use anyhow::{bail, ensure};
 use bus_deliverylog::{LogRead, read_log};
 use bus_pageslot::OfBus;
 use bus_receiver::{EndFault, Ended, LEAST_ROWS_AGAIN, SenderNo, Shape, Turn};
-use bus_register::limits::MOST_SENDERS;
+use bus_register::limits::{MOST_MESSAGES, MOST_RECEIVERS, MOST_SENDERS};
 use bus_run::Report;
 use bus_run::audits::audit;
 use bus_run::buses::{Bus, Sender, Tap, TheBus};
@@ -84,7 +84,7 @@ pub fn run<R: Threads + Clock + Sync>(
     let is_long = seed % 32 == LONG_SEED;
     let few = u64::from(dice.next_u32() % 32);
     let load = Load {
-        senders: if is_long { 2 } else { 1 + seed % 8 },
+        senders: if is_long { 2 } else { 1 + seed % MOST_SENDERS as u64 },
         messages: if is_long { 1_500 } else { few },
         hands: hands.max(1),
         is_calm: dice.next_u32() % 4 == 0,
@@ -93,7 +93,7 @@ pub fn run<R: Threads + Clock + Sync>(
     let is_scarce = !load.is_calm && !is_long && dice.next_u32() % 4 == 0;
     let shape = Shape {
         senders: load.senders,
-        receivers: 1 + seed / 8 % 8,
+        receivers: 1 + seed / MOST_SENDERS as u64 % MOST_RECEIVERS,
         rounds: 1 + u64::from(dice.next_u32() % 4),
         rows: LEAST_ROWS_AGAIN + u64::from(dice.next_u32() % 7),
         log_words: if is_scarce { 128 } else { 16_384 },
@@ -120,7 +120,7 @@ fn run_on<B: OfBus + Send + Sync, R: Threads + Clock + Sync>(
     let mut tellers = Vec::with_capacity(alloc, senders.len())?;
     for desk in desks_of::<B>(alloc, senders)? {
         let patience = Patience::cast(&mut dice, load.is_calm);
-        let batch = if load.is_long { 1 } else { 16 };
+        let batch = if load.is_long { 1 } else { MOST_MESSAGES as u32 };
         tellers.push(Teller::new(desk, load.messages, batch, patience))?;
     }
     let listeners = listeners_of::<B>(alloc, taps, &mut dice, load.is_calm)?;

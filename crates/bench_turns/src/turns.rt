@@ -7,6 +7,7 @@ use crate::desks::{Desk, desks_of};
 use bus_pageslot::OfBus;
 use bus_receiver::{MOST_ROWS_AGAIN, Shape};
 use bus_register::Kind;
+use bus_register::limits::MOST_MESSAGES;
 use bus_run::buses::{Bus, Sender, Tap, TheBus};
 use bus_run::workers::{Listener, listeners_of};
 use rand_core::Rng;
@@ -139,7 +140,7 @@ fn take_turns<B: OfBus, R: Clock>(
 /// Puts as many messages as its batch takes. Says whether one was taken.
 fn fill<B: OfBus>(desk: &mut Desk<B>) -> bool {
     let mut is_taken = false;
-    for _ in 0..16 {
+    for _ in 0..MOST_MESSAGES {
         is_taken |= desk.put();
     }
     is_taken
