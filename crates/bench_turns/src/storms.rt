@@ -84,7 +84,11 @@ pub fn run<R: Threads + Clock + Sync>(
     let is_long = seed % 32 == LONG_SEED;
     let few = u64::from(dice.next_u32() % 32);
     let load = Load {
-        senders: if is_long { 2 } else { 1 + seed % MOST_SENDERS as u64 },
+        senders: if is_long {
+            2
+        } else {
+            1 + seed % MOST_SENDERS as u64
+        },
         messages: if is_long { 1_500 } else { few },
         hands: hands.max(1),
         is_calm: dice.next_u32() % 4 == 0,
@@ -120,7 +124,11 @@ fn run_on<B: OfBus + Send + Sync, R: Threads + Clock + Sync>(
     let mut tellers = Vec::with_capacity(alloc, senders.len())?;
     for desk in desks_of::<B>(alloc, senders)? {
         let patience = Patience::cast(&mut dice, load.is_calm);
-        let batch = if load.is_long { 1 } else { MOST_MESSAGES as u32 };
+        let batch = if load.is_long {
+            1
+        } else {
+            MOST_MESSAGES as u32
+        };
         tellers.push(Teller::new(desk, load.messages, batch, patience))?;
     }
     let listeners = listeners_of::<B>(alloc, taps, &mut dice, load.is_calm)?;

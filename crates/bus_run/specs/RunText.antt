@@ -1,5 +1,5 @@
 -- What `run` prints of a run.
-use Rattle.std.specs.Prelude.{◌≡◌, ℕ, zero, suc, Bool, true, false, List, [], ◌∷◌, ◌++◌, All, codes, decimal, flat_map, length}
+use Rattle.std.specs.Prelude.{◌≡◌, ℕ, zero, suc, Bool, true, false, List, [], ◌∷◌, ◌++◌, codes, decimal, flat_map, length}
 use Rattle.std.specs.List.{enumerate_from}
 use Rattle.bus_register.specs.declared.registers.SenderNo.{SenderNo}
 use Rattle.bus_batch.specs.Frames.{Order, Spells}

@@ -103,19 +103,19 @@ returns-clause-report g c =
       words = c.in_ok-ended.ensures.words;
       spelled = c.audit.ensures.spelled;
       heard = λ order owners spells.
-        let sends = c.in_ok-all_sent.ensures.ok order owners spells in
-        let fair = subst (All (IsFair order)) c.as_slice-2.ensures.value (c.in_ok-audit.ensures.ok order owners spells) in
-        record {
-          sends = sends;
-          carried = λ s k item lt at.
-            let below : s < length c.args.desks.items = subst (λ n. s < n) (sym c.requires.whole.all_send) lt in
-            let told = of_each (λ desk. number_of desk.sender) (λ desk. HasTold (number_of desk.sender) many known) c.args.desks.items s c.requires.whole.in_order c.tell_all-told.ensures.told below in
-            let has_told = still_told s many known left.log (subst (λ n. HasTold n many known) told.1 told.2) c.in_ok-ended.ensures.front in
-            carries (of_sender s order) many k item (told_all s many left.log left.senders order owners has_told spells (sends s lt)) at;
-          closed = c.in_ok-ended.ensures.closed order owners spells;
-          fair = fair;
-          all = all_counted left.senders left.log order owners _ (subst (λ n. n ≤ 8) (sym senders_are) c.requires.senders) spells c.in_ok-first.ensures.summed fair;
-        };
+          let sends = c.in_ok-all_sent.ensures.ok order owners spells in
+          let fair = subst (All (IsFair order)) c.as_slice-2.ensures.value (c.in_ok-audit.ensures.ok order owners spells) in
+          record {
+            sends = sends;
+            carried = λ s k item lt at.
+                let below : s < length c.args.desks.items = subst (λ n. s < n) (sym c.requires.whole.all_send) lt in
+                let told = of_each (λ desk. number_of desk.sender) (λ desk. HasTold (number_of desk.sender) many known) c.args.desks.items s c.requires.whole.in_order c.tell_all-told.ensures.told below in
+                let has_told = still_told s many known left.log (subst (λ n. HasTold n many known) told.1 told.2) c.in_ok-ended.ensures.front in
+                carries (of_sender s order) many k item (told_all s many left.log left.senders order owners has_told spells (sends s lt)) at;
+            closed = c.in_ok-ended.ensures.closed order owners spells;
+            fair = fair;
+            all = all_counted left.senders left.log order owners _ (subst (λ n. n ≤ 8) (sym senders_are) c.requires.senders) spells c.in_ok-first.ensures.summed fair;
+          };
       each = ap length c.in_ok-first.ensures.notes ∙ length-map c.args.listeners.items (λ listener. listener.heard) ∙ c.requires.whole.all_hear;
     }
 
