@@ -61,6 +61,9 @@ pub fn print_run<R: Threads + Wait + Sync, W: Write>(
     request: Request,
     writer: &mut W,
 ) -> Result<Outcome, RunFault>
+    // The shape is one that is served.
+    ensures served { OnOk result (RunServes (shape_of_run request.senders request.receivers)) }
+
     // The run ended well, and all of its text was written.
     ensures ok { IfOk result (λ outcome. (outcome ≡ Outcome.Done) × (text : List ℕ)
         × IsRunText request.senders request.receivers
@@ -68,12 +71,13 @@ pub fn print_run<R: Threads + Wait + Sync, W: Write>(
         × Appends (W.contents writer.old) (W.contents writer.new) text) }
 
     // The run ended well, and a part of its text was written.
-    ensures write { IsErrOf result RunFault.Write → (text : List ℕ)
+    ensures write { IsErrOf result RunFault.Write
+        → RunServes (shape_of_run request.senders request.receivers) × (text : List ℕ)
         × IsRunText request.senders request.receivers
         (min request.messages MOST_MESSAGES_EACH) text
         × WritesPart (W.contents writer.old) (W.contents writer.new) text }
 
-    // Else the run did not end well, and nothing was written.
+    // Else the run did not end well, or there was no memory for the text, and nothing was written.
     ensures fault { IfErr result (λ fault. (fault ≡ RunFault.Write)
         ⊎ IsRunFault request.senders request.receivers fault) }
     ensures unwritten { IfErr result (λ fault. (fault ≡ RunFault.Write → ⊥)
@@ -92,6 +96,9 @@ pub fn print_log<R: Threads + Wait + Sync, W: Write>(
     request: Request,
     writer: &mut W,
 ) -> Result<Outcome, RunFault>
+    // The shape is one that is served.
+    ensures served { OnOk result (RunServes (shape_of_run request.senders request.receivers)) }
+
     // The run ended well, and all of its log was written.
     ensures ok { IfOk result (λ outcome. (outcome ≡ Outcome.Done) × (text : List ℕ)
         × IsRunLog request.senders request.receivers
@@ -99,7 +106,8 @@ pub fn print_log<R: Threads + Wait + Sync, W: Write>(
         × Appends (W.contents writer.old) (W.contents writer.new) text) }
 
     // The run ended well, and a part of its log was written.
-    ensures write { IsErrOf result RunFault.Write → (text : List ℕ)
+    ensures write { IsErrOf result RunFault.Write
+        → RunServes (shape_of_run request.senders request.receivers) × (text : List ℕ)
         × IsRunLog request.senders request.receivers
         (min request.messages MOST_MESSAGES_EACH) text
         × WritesPart (W.contents writer.old) (W.contents writer.new) text }

@@ -1,5 +1,5 @@
 -- The picture of a trace.
-use Rattle.std.specs.Prelude.{◌≡◌, ℕ, ◌+◌, Option, List, [], ◌∷◌, ◌++◌, codes, length, take}
+use Rattle.std.specs.Prelude.{◌≡◌, ℕ, ◌+◌, Option, Some, List, [], ◌∷◌, ◌++◌, codes, length, take, slice_get}
 use Rattle.bus_picture.specs.declared.columns.Columns.{Columns}
 use Rattle.bus_picture.specs.declared.finding.Found.{Found}
 use Rattle.bus_picture.specs.Rows.{Shown, rows_of}
@@ -45,3 +45,12 @@ picture trace = drawn (arrows_of (rows_of trace)) (rows_of trace)
 -- the text is a picture of the trace that has just its arrows
 abbrev pub HasItsArrows : (trace text : List ℕ) → Type 0
 HasItsArrows trace text = (arrows : ℕ → Option Found) × AreArrows (rows_of trace) arrows × (text ≡ drawn arrows (rows_of trace))
+
+-- this part stands somewhere in the text
+abbrev pub StandsIn : (part text : List ℕ) → Type 0
+StandsIn part text = (before : List ℕ) × (after : List ℕ) × (text ≡ before ++ part ++ after)
+
+-- the text has each row of the trace: in its place beneath those above it, with its arrow
+abbrev pub HasItsRows : (trace text : List ℕ) → Type 0
+HasItsRows trace text = (place : ℕ) (s : Shown) → slice_get (rows_of trace) place ≡ Some s
+    → StandsIn (row_text (columns_from no_columns (rows_of trace)) (rows_of trace) (take place (rows_of trace)) (arrows_of (rows_of trace) place) place s) text

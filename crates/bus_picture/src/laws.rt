@@ -4,13 +4,19 @@ ghost use Rattle.std.specs.Prelude.{◌≡◌, ℕ, Some, List};
 ghost use Rattle.bus_register.specs.declared.kinds.Kind.{Kind};
 ghost use Rattle.bus_register.specs.Names.{kind_name};
 ghost use Rattle.bus_picture.specs.Families.{family_of, family_at};
-ghost use Rattle.bus_picture.specs.Pictures.{HasItsArrows, picture};
+ghost use Rattle.bus_picture.specs.Pictures.{HasItsArrows, HasItsRows, picture};
 ghost use Rattle.bus_picture.specs.AllLines.{HasAllLines};
 ghost use Rattle.bus_picture.specs.Refusals.{ArrowsRefuse, unread};
 
 /// Each kind of step has the family that `family_at` lists for it.
 pub fn kinds_have_families()
     ensures { (k : Kind) → family_of (kind_name k) ≡ Some (family_at k) }
+{}
+
+/// A picture has each line of the trace that is read as a row, drawn in its place, and leaves none
+/// out.
+pub fn pictures_have_their_rows()
+    ensures { (trace : List ℕ) → HasItsRows trace (picture trace) }
 {}
 
 /// A picture has an arrow to a load exactly where its word was last stored, added to or exchanged
@@ -26,7 +32,7 @@ pub fn arrows_refuse()
     ensures { ArrowsRefuse }
 {}
 
-/// A picture has not all lines of a trace with a line of a sender that no bus has.
+/// Not all lines of a trace are read as rows where one is of a sender that no bus has.
 pub fn lines_refuse()
     ensures { ¬ HasAllLines unread }
 {}

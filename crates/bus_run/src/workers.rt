@@ -136,7 +136,8 @@ impl<B: OfBus> Desk<B> {
         ensures fault { self.new.fault ≡ self.old.fault }
         ensures closed { result ≡ true → Closes self.old.sender Turn.Closed self.new.sender }
         ensures open { result ≡ false
-            → ((why : CloseFault) × IsCloseFault (batch_of self.old.sender) why)
+            → ((why : CloseFault) × IsCloseFault (batch_of self.old.sender) why
+            × (self.new.sender ≡ self.old.sender))
             ⊎ ((answer : _) × (answer ≢ Turn.Closed)
             × Closes self.old.sender answer self.new.sender) }
     {

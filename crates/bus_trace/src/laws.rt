@@ -8,8 +8,8 @@ ghost use Rattle.bus_trace.specs.Traces.{IsTrace};
 
 use bus_adoptcommit::Ratifier;
 
-/// All lines of a trace that show events stand in its picture: each line behind the names of the
-/// columns that has columns is read as a row.
+/// All lines of a trace that show events are read as rows: each line that has columns, behind the
+/// names of these. And each row is drawn in the picture (`pictures_have_their_rows`).
 pub fn traces_are_drawn_whole<Q: Ratifier>()
     ensures { let X = election_of Q.Ratifier in
         (input : List ℕ) (outcome : Outcome) (trace : List ℕ)

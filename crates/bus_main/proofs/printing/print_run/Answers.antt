@@ -29,6 +29,7 @@ returns-in_err-text-clause-fault g c =
 
 pub returns-in_err-write_whole-clause-write : goal.returns-in_err-write_whole-clause-write
 returns-in_err-write_whole-clause-write g c is = (
+  c.in_ok-report.ensures.served,
   string_bytes c.in_ok-text.text,
   is_run_text _ _ _ c.in_ok-report.report.ended c.in_ok-report.report.heards.items _ c.in_ok-report.ensures.report c.in_ok-text.ensures.text,
   subst (λ t. WritesPart (g.W.Write.contents c.args.writer.now) (g.W.Write.contents c.write_whole.new.writer) t) c.as_bytes.ensures.value c.in_err-write_whole.ensures.part,
