@@ -11,8 +11,8 @@ use Rattle.bus_presence.specs.Sweeps.{behind_of}
 use Rattle.bus_presence.specs.declared.sweeps.Behind.{Behind}
 use Rattle.bus_presence.specs.declared.visits.Visit.{Visit}
 use Rattle.bus_presence.specs.declared.visits.Visit.TheVariants.{Away, Entering, Looking, Inside, Parting, Barred}
-use Rattle.bus_guest.specs.Guests.{Due, Visits, Sweeps, Goes, log_from}
-use Rattle.bus_guest.specs.Turns.{Visitor, due, op_next, words_with, answer_due, answer_of_visit, answer_of_sweep, answer_of_loss, answer_going, queue_seen}
+use Rattle.bus_guest.specs.Guests.{Due, Visits, Sweeps, Goes, log_from, answer_going}
+use Rattle.bus_guest.specs.Turns.{Visitor, due, op_next, words_with, answer_due, answer_of_visit, answer_of_sweep, answer_of_loss, queue_seen}
 use Rattle.bus_register.specs.declared.registers.SenderNo.{SenderNo}
 use Rattle.bus_tenure.specs.Core.{Election, Layout, is_empty}
 use Rattle.bus_tenure.specs.Seen.{AwaitsItsPage}

@@ -15,8 +15,8 @@ use Rattle.bus_presence.specs.Hall.{presence_at}
 use Rattle.bus_presence.specs.Visits.{step_at}
 use Rattle.bus_presence.specs.declared.visits.Visit.{Visit}
 use Rattle.bus_presence.specs.declared.visits.Visit.TheVariants.{Inside, Parting}
-use Rattle.bus_guest.specs.Guests.{Due, Visits, Sweeps, Goes, sizes_with, place_for, due_beside, visit_elected}
-use Rattle.bus_guest.specs.Turns.{Visitor, due, op_due, placed, visitor_due, lost_elected, queue_seen}
+use Rattle.bus_guest.specs.Guests.{Due, Visits, Sweeps, Goes, sizes_with, place_for, due_beside, visit_elected, lost_elected}
+use Rattle.bus_guest.specs.Turns.{Visitor, due, op_due, placed, visitor_due, queue_seen}
 use Rattle.bus_tenure.specs.Core.{Election, stage_at}
 use Rattle.bus_tenure.specs.Situations.{Situation, IsClosed, IsIdle, IsSpent, LooksAtStage, Elects, TakesPage, AwaitsPage, StoresWord, StoresLength, GivesBack, HasHanded, situation_of}
 use Rattle.bus_tenure.specs.declared.turns.Turn.{Turn as Answered}

@@ -12,8 +12,8 @@ use Rattle.bus_presence.specs.Sweeps.{behind_of}
 use Rattle.bus_presence.specs.declared.sweeps.Behind.{Behind}
 use Rattle.bus_presence.specs.declared.visits.Visit.{Visit}
 use Rattle.bus_presence.specs.declared.visits.Visit.TheVariants.{Away, Entering, Looking, Inside, Parting, Barred}
-use Rattle.bus_guest.specs.Guests.{Due, Visits, Sweeps, Goes, log_from}
-use Rattle.bus_guest.specs.Turns.{Visitor, due, op_due, answer_due, answer_going, answer_of_loss, answer_of_visit, answer_of_sweep}
+use Rattle.bus_guest.specs.Guests.{Due, Visits, Sweeps, Goes, log_from, answer_going}
+use Rattle.bus_guest.specs.Turns.{Visitor, due, op_due, answer_due, answer_of_loss, answer_of_visit, answer_of_sweep}
 use Rattle.bus_tenure.specs.Core.{Core, Election, log_at, is_empty, is_closing, is_closed, has_room, frame_len}
 use Rattle.bus_tenure.specs.Situations.{Situation, IsClosed, IsIdle, IsSpent, LooksAtStage, Elects, TakesPage, StoresWord, StoresLength, GivesBack, situation_at, situation_of, resting, electing, holding, waits}
 use Rattle.bus_tenure.specs.declared.pages.Page.{Page}

@@ -21,8 +21,8 @@ use Rattle.bus_tenure.specs.declared.phases.Phase.TheVariants.{Resting, Electing
 use Rattle.bus_tenure.specs.declared.turns.Turn.{Turn}
 use Rattle.bus_tenure.specs.declared.turns.Turn.TheVariants as turn
 use Rattle.bus_tenure.proofs.Situated.{tells}
-use Rattle.bus_guest.specs.Guests.{Due, Goes, due_beside, sizes_with, core_looked, core_going, visit_going, sweep_going, visit_elected}
-use Rattle.bus_guest.specs.Turns.{Visitor, due, sizes_of, answer_going, lost_elected, lost_going}
+use Rattle.bus_guest.specs.Guests.{Due, Goes, due_beside, sizes_with, core_looked, core_going, visit_going, sweep_going, visit_elected, answer_going, lost_elected, lost_going}
+use Rattle.bus_guest.specs.Turns.{Visitor, due, sizes_of}
 use Rattle.bus_guest.specs.Following.{visit_by, lost_by, sweep_by, told_by}
 use Rattle.bus_guest.specs.Keeping.{IsBound, IsOutside, VisitKeeps, held_of, SweepKeeps, LostKeeps, GuestKeeps, IsTied}
 use Rattle.bus_guest.proofs.Keeps.{runs_inside, stays_outside, ElectionsKeep}

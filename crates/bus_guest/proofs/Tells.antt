@@ -24,8 +24,8 @@ use Rattle.bus_tenure.specs.declared.phases.Phase.TheVariants.{Electing, Holding
 use Rattle.bus_tenure.specs.declared.turns.Turn.{Turn}
 use Rattle.bus_tenure.specs.declared.turns.Turn.TheVariants as turn
 use Rattle.bus_tenure.proofs.Situated.{tells}
-use Rattle.bus_guest.specs.Guests.{Due, Visits, Sweeps, Goes, sizes_with, due_beside, due_home, due_swept, sweep_due}
-use Rattle.bus_guest.specs.Turns.{Visitor, sizes_of, due, op_due, op_next, answer_of_loss, answer_of_visit, answer_of_sweep, answer_going}
+use Rattle.bus_guest.specs.Guests.{Due, Visits, Sweeps, Goes, sizes_with, due_beside, due_home, due_swept, sweep_due, answer_going}
+use Rattle.bus_guest.specs.Turns.{Visitor, sizes_of, due, op_due, op_next, answer_of_loss, answer_of_visit, answer_of_sweep}
 use Rattle.bus_guest.specs.Besides.{sweeps_by, due_by}
 use Rattle.bus_guest.specs.declared.besides.Beside.TheVariants.{Sweep, Visit as VisitsBy}
 use Rattle.bus_guest.specs.Keeping.{held_of, IsSweepAfter, IsRowReady, SweepKeeps, IsHeldSweep, LostKeeps, GuestKeeps}

@@ -1,14 +1,19 @@
 -- A sender of a bus whose rows are used again: what it does beside the turns of a sender that has a row for each tenure. It stores its
--- presence before it enters a tenure and clears it afterwards; as a holder it makes the row of the next tenure ready.
+-- presence before it enters a tenure and clears it afterwards; as a holder it makes the row of the next tenure ready. In each situation
+-- of such a sender one line of a table says what a guest does otherwise.
 use Rattle.std.specs.Prelude.{ℕ, ◌+◌, ◌-◌, ◌*◌, ◌/◌, Option, Some, None, nat_le, ◌==◌, if◌then◌else◌}
 use Rattle.bus_register.specs.declared.registers.Op.{Op}
+use Rattle.bus_register.specs.declared.registers.SenderNo.{SenderNo}
 use Rattle.bus_presence.specs.Visits.{step_at}
 use Rattle.bus_presence.specs.Sweeps.{Sweeping, sweep_op}
-use Rattle.bus_presence.specs.Hall.{Sizes, presence_at, row_of, sweep_after}
+use Rattle.bus_presence.specs.Hall.{Sizes, presence_at, row_of}
+use Rattle.bus_presence.specs.Hall as hall
 use Rattle.bus_presence.specs.declared.visits.Visit.{Visit}
 use Rattle.bus_presence.specs.declared.visits.Visit.TheVariants.{Away, Entering, Looking, Inside, Parting, Barred}
 use Rattle.bus_tenure.specs.Core.{Core, Election, Layout, stage_at, row_at, log_at}
-use Rattle.bus_tenure.specs.Situations.{Situation, IsClosed, IsIdle, IsSpent, LooksAtStage, Elects, TakesPage, AwaitsPage, StoresWord, StoresLength, GivesBack, HasHanded, situation_of, fed_at, waits, core_begun}
+use Rattle.bus_tenure.specs.Situations.{Situation, IsClosed, IsIdle, IsSpent, LooksAtStage, Elects, TakesPage, AwaitsPage, StoresWord, StoresLength, GivesBack, HasHanded, situation_of, fed_at, answer_at, waits, core_begun}
+use Rattle.bus_tenure.specs.declared.turns.Turn.{Turn}
+use Rattle.bus_tenure.specs.declared.turns.Turn.TheVariants as turn
 
 -- ---- the words
 -- Those of a layout, which has a row for each tenure, with so many rows in place of them: the length, the stage, a presence for each
@@ -19,19 +24,108 @@ sizes_with x rows = record { at = stage_at; senders = x.senders; rows = rows; wi
 abbrev pub log_from : Layout → ℕ → ℕ
 log_from x rows = 2 + x.senders + rows * x.width
 
--- where the word lies on which a sender in this situation takes its step
+-- ---- what its own step leaves that depends on what it found
+-- a sender that has looked at the stage for the first time finds no tenure left, or enters the one that is open
+abbrev pub core_seen : {E : Type 0} → Core E → ℕ → Core E
+core_seen c got = if waits c got then c else (if nat_le c.layout.rows (got / 2) then record c { least = got / 2 } else c)
+
+abbrev pub visit_seen : {E : Type 0} → Core E → ℕ → Visit
+visit_seen c got = if waits c got then Away else (if nat_le c.layout.rows (got / 2) then Away else Entering (got / 2))
+
+-- who lost the tenure parts from it
+abbrev pub visit_elected : {E : Type 0} → Core E → ℕ → Option ℕ → Visit
+visit_elected c t None = Inside t
+visit_elected c t (Some o) = if o == c.me then Inside t else Parting t
+
+-- who lost the tenure remembers to whom, until its presence is cleared
+abbrev pub lost_elected : {E : Type 0} → Core E → Option SenderNo → Option ℕ → Option SenderNo
+lost_elected c l None = l
+lost_elected c l (Some o) = if o == c.me then l else Some record { 0 = o }
+
+-- ---- a line of the table
+-- what a guest's turn is in a situation of the sender that it is
+pub record GuestLine (E : Type 0) : Type 0 where
+  -- where with so many rows the word lies that has this place on a bus with a row for each tenure
+  pub place : Layout → (rows place : ℕ) → ℕ
+  -- of the sweep that it has: what comes before the step
+  pub sweep_before : Option Sweeping → Option Sweeping
+  -- after a step that found this number, with this random word: what it holds as a sender, how far its visit has come, and who won the
+  -- tenure that it lost
+  pub core : Election E → Core E → (got word : ℕ) → Core E
+  pub visit : Election E → Core E → Visit → (got word : ℕ) → Visit
+  pub lost : Election E → Core E → Option SenderNo → (got word : ℕ) → Option SenderNo
+  -- of the sweep that it has: what is left of it after the step, or begins with that
+  pub sweep_after : Layout → (rows : ℕ) → Option Sweeping → Option Sweeping
+  -- its answer to the step
+  pub answer : Election E → Core E → (got word : ℕ) → Turn
+
+-- a guest that has nothing to do, with this answer
+abbrev pub rests_as : {E : Type 0} → Turn → GuestLine E
+rests_as answer = record {
+  place = λ x rows r. r;
+  sweep_before = λ s. None;
+  core = λ X c got word. c;
+  visit = λ X c v got word. v;
+  lost = λ X c l got word. l;
+  sweep_after = λ x rows s. s;
+  answer = λ X c got word. answer;
+}
+
+-- it holds afterwards what a sender does in this situation, and answers this
+abbrev pub steps_as : {E : Type 0} → Situation E → Turn → GuestLine E
+steps_as z answer = record (rests_as answer) { core = λ X c got word. fed_at X c z got word }
+
+-- it answers as a sender does, too
+abbrev pub steps_alike : {E : Type 0} → Situation E → GuestLine E
+steps_alike z = record (steps_as z turn.Going) { answer = λ X c got word. answer_at X c z got word }
+
+-- ---- THE TABLE: one line for each situation
+-- No step of the election is answered by Lost. The sweep begins with the page that is taken, comes before the step that gives the page
+-- back, and is over with that; a page that is handed on already has its sweep behind it.
+abbrev pub guest_line : {E : Type 0} → Situation E → GuestLine E
+guest_line IsClosed = rests_as turn.Closed
+guest_line IsIdle = rests_as turn.Idle
+guest_line IsSpent = rests_as turn.Spent
+guest_line LooksAtStage = record (steps_alike LooksAtStage) {
+  core = λ X c got word. core_seen c got;
+  visit = λ X c v got word. visit_seen c got;
+}
+guest_line (Elects t e) = record (steps_as (Elects t e) turn.Going) {
+  place = λ x rows r. row_of (sizes_with x rows) t + (r - row_at x t);
+  visit = λ X c v got word. visit_elected c t (X.owner (X.fed e got word));
+  lost = λ X c l got word. lost_elected c l (X.owner (X.fed e got word));
+}
+guest_line (TakesPage t) = record (steps_as (TakesPage t) (turn.Own t)) {
+  visit = λ X c v got word. Parting t;
+  sweep_after = λ x rows s. hall.sweep_after (sizes_with x rows) t;
+}
+guest_line (AwaitsPage t) = steps_as (AwaitsPage t) turn.Going
+guest_line (StoresWord t page stored) = record (steps_as (StoresWord t page stored) turn.Going) { place = λ x rows r. log_from x rows + (r - log_at x) }
+guest_line (StoresLength t page stored) = steps_as (StoresLength t page stored) turn.Going
+guest_line (GivesBack t page reason) = record (steps_alike (GivesBack t page reason)) { sweep_before = λ s. s; sweep_after = λ x rows s. None }
+guest_line (HasHanded t reason) = record (steps_alike (HasHanded t reason)) { sweep_after = λ x rows s. None }
+
+-- ---- a line, read by its parts
 abbrev pub place_for : {E : Type 0} → Layout → ℕ → Situation E → ℕ → ℕ
-place_for x rows IsClosed r = r
-place_for x rows IsIdle r = r
-place_for x rows IsSpent r = r
-place_for x rows LooksAtStage r = r
-place_for x rows (Elects t e) r = row_of (sizes_with x rows) t + (r - row_at x t)
-place_for x rows (TakesPage t) r = r
-place_for x rows (AwaitsPage t) r = r
-place_for x rows (StoresWord t page stored) r = log_from x rows + (r - log_at x)
-place_for x rows (StoresLength t page stored) r = r
-place_for x rows (GivesBack t page reason) r = r
-place_for x rows (HasHanded t reason) r = r
+place_for x rows z r = (guest_line z).place x rows r
+
+abbrev pub sweep_due : {E : Type 0} → Situation E → Option Sweeping → Option Sweeping
+sweep_due z s = (guest_line z).sweep_before s
+
+abbrev pub core_going : {E : Type 0} → Election E → Core E → Situation E → ℕ → ℕ → Core E
+core_going X c z got word = (guest_line z).core X c got word
+
+abbrev pub visit_going : {E : Type 0} → Election E → Core E → Visit → Situation E → ℕ → ℕ → Visit
+visit_going X c v z got word = (guest_line z).visit X c v got word
+
+abbrev pub lost_going : {E : Type 0} → Election E → Core E → Option SenderNo → Situation E → ℕ → ℕ → Option SenderNo
+lost_going X c l z got word = (guest_line z).lost X c l got word
+
+abbrev pub sweep_going : {E : Type 0} → Layout → ℕ → Option Sweeping → Situation E → Option Sweeping
+sweep_going x rows s z = (guest_line z).sweep_after x rows s
+
+abbrev pub answer_going : {E : Type 0} → Election E → Core E → Situation E → ℕ → ℕ → Turn
+answer_going X c z got word = (guest_line z).answer X c got word
 
 -- ---- what a guest does next
 pub data Due (E : Type 0) : Type 0 where
@@ -41,20 +135,6 @@ pub data Due (E : Type 0) : Type 0 where
   Sweeps : Sweeping → Op → Due E
   -- it goes on as a sender that has a row for each tenure
   Goes : Situation E → Due E
-
--- before it gives the page back, a holder makes the row of the next tenure ready
-abbrev pub sweep_due : {E : Type 0} → Situation E → Option Sweeping → Option Sweeping
-sweep_due IsClosed s = None
-sweep_due IsIdle s = None
-sweep_due IsSpent s = None
-sweep_due LooksAtStage s = None
-sweep_due (Elects t e) s = None
-sweep_due (TakesPage t) s = None
-sweep_due (AwaitsPage t) s = None
-sweep_due (StoresWord t page stored) s = None
-sweep_due (StoresLength t page stored) s = None
-sweep_due (GivesBack t page reason) s = s
-sweep_due (HasHanded t reason) s = None
 
 abbrev pub due_swept : {E : Type 0} → Sweeping → Option Op → Situation E → Due E
 due_swept s None z = Goes z
@@ -73,7 +153,7 @@ due_beside None s z = due_home (sweep_due z s) z
 abbrev pub due_of : {E : Type 0} → Election E → Layout → ℕ → ℕ → Core E → Visit → Option Sweeping → Due E
 due_of X x rows p c visit sweep = due_beside (step_at visit (presence_at (sizes_with x rows) p) stage_at) sweep (situation_of X c)
 
--- ---- what it holds after a step that found this number
+-- ---- what it holds after a step of its visit
 -- a sender that has looked at the stage again begins the tenure, where the stage is of that tenure still
 abbrev pub core_looked : {E : Type 0} → Election E → Core E → Visit → ℕ → Core E
 core_looked X c Away got = c
@@ -82,55 +162,3 @@ core_looked X c (Looking t) got = if got / 2 == t then core_begun X c t else c
 core_looked X c (Inside t) got = c
 core_looked X c (Parting t) got = c
 core_looked X c (Barred t) got = c
-
--- a sender that has looked at the stage for the first time finds no tenure left, or enters the one that is open
-abbrev pub core_seen : {E : Type 0} → Core E → ℕ → Core E
-core_seen c got = if waits c got then c else (if nat_le c.layout.rows (got / 2) then record c { least = got / 2 } else c)
-
-abbrev pub visit_seen : {E : Type 0} → Core E → ℕ → Visit
-visit_seen c got = if waits c got then Away else (if nat_le c.layout.rows (got / 2) then Away else Entering (got / 2))
-
--- who lost the tenure parts from it
-abbrev pub visit_elected : {E : Type 0} → Core E → ℕ → Option ℕ → Visit
-visit_elected c t None = Inside t
-visit_elected c t (Some o) = if o == c.me then Inside t else Parting t
-
-abbrev pub core_going : {E : Type 0} → Election E → Core E → Situation E → ℕ → ℕ → Core E
-core_going X c IsClosed got word = c
-core_going X c IsIdle got word = c
-core_going X c IsSpent got word = c
-core_going X c LooksAtStage got word = core_seen c got
-core_going X c (Elects t e) got word = fed_at X c (Elects t e) got word
-core_going X c (TakesPage t) got word = fed_at X c (TakesPage t) got word
-core_going X c (AwaitsPage t) got word = fed_at X c (AwaitsPage t) got word
-core_going X c (StoresWord t page stored) got word = fed_at X c (StoresWord t page stored) got word
-core_going X c (StoresLength t page stored) got word = fed_at X c (StoresLength t page stored) got word
-core_going X c (GivesBack t page reason) got word = fed_at X c (GivesBack t page reason) got word
-core_going X c (HasHanded t reason) got word = fed_at X c (HasHanded t reason) got word
-
-abbrev pub visit_going : {E : Type 0} → Election E → Core E → Visit → Situation E → ℕ → ℕ → Visit
-visit_going X c v IsClosed got word = v
-visit_going X c v IsIdle got word = v
-visit_going X c v IsSpent got word = v
-visit_going X c v LooksAtStage got word = visit_seen c got
-visit_going X c v (Elects t e) got word = visit_elected c t (X.owner (X.fed e got word))
-visit_going X c v (TakesPage t) got word = Parting t
-visit_going X c v (AwaitsPage t) got word = v
-visit_going X c v (StoresWord t page stored) got word = v
-visit_going X c v (StoresLength t page stored) got word = v
-visit_going X c v (GivesBack t page reason) got word = v
-visit_going X c v (HasHanded t reason) got word = v
-
--- the sweep begins with the page that is taken, and is over with the page that is given back
-abbrev pub sweep_going : {E : Type 0} → Layout → ℕ → Option Sweeping → Situation E → Option Sweeping
-sweep_going x rows s IsClosed = s
-sweep_going x rows s IsIdle = s
-sweep_going x rows s IsSpent = s
-sweep_going x rows s LooksAtStage = s
-sweep_going x rows s (Elects t e) = s
-sweep_going x rows s (TakesPage t) = sweep_after (sizes_with x rows) t
-sweep_going x rows s (AwaitsPage t) = s
-sweep_going x rows s (StoresWord t page stored) = s
-sweep_going x rows s (StoresLength t page stored) = s
-sweep_going x rows s (GivesBack t page reason) = None
-sweep_going x rows s (HasHanded t reason) = None

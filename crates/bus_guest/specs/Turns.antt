@@ -1,6 +1,6 @@
 -- The turns of a guest: its next step, and on which word; what it holds after that step, and what it answers. It goes by the
 -- definitions of a guest, and the table of a sender's turns.
-use Rattle.std.specs.Prelude.{◌≡◌, ℕ, ◌+◌, Bool, true, false, Option, Some, None, nat_lt, ◌==◌, if◌then◌else◌}
+use Rattle.std.specs.Prelude.{◌≡◌, ℕ, ◌+◌, Bool, true, false, Option, Some, None, nat_lt, if◌then◌else◌}
 use Rattle.bus_register.specs.declared.kinds.Kind.{Kind}
 use Rattle.bus_register.specs.declared.kinds.Kind.TheVariants as kind
 use Rattle.bus_register.specs.declared.registers.Op.{Op}
@@ -14,13 +14,13 @@ use Rattle.bus_presence.specs.declared.sweeps.Behind.{Behind}
 use Rattle.bus_presence.specs.declared.visits.Visit.{Visit}
 use Rattle.bus_presence.specs.declared.visits.Visit.TheVariants.{Away, Entering, Looking, Inside, Parting, Barred}
 use Rattle.bus_tenure.specs.Core.{Core, Election}
-use Rattle.bus_tenure.specs.Situations.{Situation, IsClosed, IsIdle, IsSpent, LooksAtStage, Elects, TakesPage, AwaitsPage, StoresWord, StoresLength, GivesBack, HasHanded, op_at, kind_at, wants_at, rest_at, answer_at}
+use Rattle.bus_tenure.specs.Situations.{GivesBack, op_at, kind_at, wants_at, rest_at}
 use Rattle.bus_tenure.specs.Seen.{tenure_of}
 use Rattle.bus_tenure.specs.declared.pages.Page.{Page}
 use Rattle.bus_tenure.specs.declared.phases.Reason.{Reason}
 use Rattle.bus_tenure.specs.declared.turns.Turn.{Turn}
 use Rattle.bus_tenure.specs.declared.turns.Turn.TheVariants as turn
-use Rattle.bus_guest.specs.Guests.{sizes_with, log_from, place_for, Due, Visits, Sweeps, Goes, due_of, core_looked, core_going, visit_going, sweep_going}
+use Rattle.bus_guest.specs.Guests.{sizes_with, log_from, place_for, Due, Visits, Sweeps, Goes, due_of, core_looked, core_going, visit_going, lost_going, sweep_going, answer_going}
 
 -- what a guest holds
 pub record Visitor (E : Type 0) : Type 0 where
@@ -104,24 +104,6 @@ tenure_begun_by c (Parting t) = Some t
 tenure_begun_by c (Barred t) = Some t
 
 -- ---- what it holds after a step that found this number
--- who lost the tenure remembers to whom, until its presence is cleared
-abbrev pub lost_elected : {E : Type 0} → Core E → Option SenderNo → Option ℕ → Option SenderNo
-lost_elected c l None = l
-lost_elected c l (Some o) = if o == c.me then l else Some record { 0 = o }
-
-abbrev pub lost_going : {E : Type 0} → Election E → Core E → Option SenderNo → Situation E → ℕ → ℕ → Option SenderNo
-lost_going X c l IsClosed got word = l
-lost_going X c l IsIdle got word = l
-lost_going X c l IsSpent got word = l
-lost_going X c l LooksAtStage got word = l
-lost_going X c l (Elects t e) got word = lost_elected c l (X.owner (X.fed e got word))
-lost_going X c l (TakesPage t) got word = l
-lost_going X c l (AwaitsPage t) got word = l
-lost_going X c l (StoresWord t page stored) got word = l
-lost_going X c l (StoresLength t page stored) got word = l
-lost_going X c l (GivesBack t page reason) got word = l
-lost_going X c l (HasHanded t reason) got word = l
-
 abbrev pub visitor_due : {E : Type 0} → Election E → Visitor E → Due E → ℕ → ℕ → Visitor E
 visitor_due X v (Visits o) got word = record { core = core_looked X v.core v.visit got; visit = visit_fed v.visit got; sweep = v.sweep; lost = None; rows = v.rows }
 visitor_due X v (Sweeps s o) got word = record v { sweep = Some (sweep_fed s got) }
@@ -155,20 +137,6 @@ answer_of_visit (Barred t) l = turn.Waiting
 abbrev pub answer_of_sweep : Option Behind → Turn
 answer_of_sweep None = turn.Going
 answer_of_sweep (Some b) = turn.Behind b.tenure record { 0 = b.sender }
-
--- no step of the election is answered by Lost
-abbrev pub answer_going : {E : Type 0} → Election E → Core E → Situation E → ℕ → ℕ → Turn
-answer_going X c IsClosed got word = turn.Closed
-answer_going X c IsIdle got word = turn.Idle
-answer_going X c IsSpent got word = turn.Spent
-answer_going X c LooksAtStage got word = answer_at X c LooksAtStage got word
-answer_going X c (Elects t e) got word = turn.Going
-answer_going X c (TakesPage t) got word = turn.Own t
-answer_going X c (AwaitsPage t) got word = turn.Going
-answer_going X c (StoresWord t page stored) got word = turn.Going
-answer_going X c (StoresLength t page stored) got word = turn.Going
-answer_going X c (GivesBack t page reason) got word = answer_at X c (GivesBack t page reason) got word
-answer_going X c (HasHanded t reason) got word = answer_at X c (HasHanded t reason) got word
 
 abbrev pub answer_due : {E : Type 0} → Election E → Visitor E → Due E → ℕ → ℕ → Turn
 answer_due X v (Visits o) got word = answer_of_visit v.visit v.lost

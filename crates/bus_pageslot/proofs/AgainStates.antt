@@ -24,8 +24,8 @@ use Rattle.bus_cyclic.proofs.LossLaws.{ring_seen}
 use Rattle.bus_cyclic.proofs.StartingLaws.{one_more_guest}
 use Rattle.bus_cyclic.specs.Starting.{AreNewGuests}
 use Rattle.bus_deliverylog.specs.Orders.{of_sender}
-use Rattle.bus_guest.specs.Guests.{Due, Visits, Sweeps, Goes, place_for, log_from, core_looked}
-use Rattle.bus_guest.specs.Turns.{Visitor, due, op_due, op_next, placed, visitor_due, answer_due, queue_seen, answer_going}
+use Rattle.bus_guest.specs.Guests.{Due, Visits, Sweeps, Goes, place_for, log_from, core_looked, answer_going}
+use Rattle.bus_guest.specs.Turns.{Visitor, due, op_due, op_next, placed, visitor_due, answer_due, queue_seen}
 use Rattle.bus_presence.specs.Hall.{Entry, Trails, grown}
 use Rattle.bus_presence.specs.declared.visits.Visit.{Visit}
 use Rattle.bus_presence.specs.declared.visits.Visit.TheVariants.{Away, Entering, Looking, Inside, Parting, Barred}
@@ -392,7 +392,7 @@ module _ {E : Type 0} (X : Election E) (P : Protocol E (Unit {0}) ℕ) (x : Layo
         with_batch w ds r = record {
           state = record { ring = with_guest b p w; trails = record T { deeds = deeds_with p ds T.deeds } };
           changes = record {
-            reached = record { served = ok; two = two; layout = same; rows_are = rows_are; reached = r; alone = alone; running = running };
+            reached = record { served = ok; rows_some = two; layout = same; rows_are = rows_are; reached = r; alone = alone; running = running };
             here = get_set_same b.guests p w (slice_get_within b.guests p v at);
             others = λ q ne. get_set_other b.guests p w q ne;
             track = λ i. record { deeds = own_deeds p ds T.deeds i; visits = T.visits p; sweeps = T.sweeps p };
@@ -445,31 +445,31 @@ module _ {E : Type 0} (X : Election E) (P : Protocol E (Unit {0}) ℕ) (x : Layo
 
     module _ (p : ℕ) (v : Visitor E) (at : slice_get b.guests p ≡ Some v) (word : ℕ) (o : Op) (op : op_next X v word ≡ Some o) (low : register o < (extent_again x rows).words) where
       low_here : register o < length b.words
-      low_here = let w = wide b T h.served h.two h.layout h.rows_are h.reached in omega arith
+      low_here = let w = wide b T h.served h.rows_some h.layout h.rows_are h.reached in omega arith
 
       abbrev next_ring : Ring E
-      next_ring = later b T h.served h.two h.layout h.rows_are h.reached p v at h.running word o op low_here
+      next_ring = later b T h.served h.rows_some h.layout h.rows_are h.reached p v at h.running word o op low_here
 
       abbrev next_trails : RingTrails
-      next_trails = trails b T h.served h.two h.layout h.rows_are h.reached p v at h.running word o op low_here
+      next_trails = trails b T h.served h.rows_some h.layout h.rows_are h.reached p v at h.running word o op low_here
 
       next_reached : RingReached X next_ring next_trails
-      next_reached = reaches b T h.served h.two h.layout h.rows_are h.reached p v at h.running word o op low_here
+      next_reached = reaches b T h.served h.rows_some h.layout h.rows_are h.reached p v at h.running word o op low_here
 
       steps_in : StepsIn (process_again X) (bus_again X x rows) z p v word o
       steps_in =
-          let before = has_log b T h.served h.two h.layout h.rows_are h.reached in
-          let next = has_log next_ring next_trails h.served h.two h.layout h.rows_are next_reached in
-          let goes_on = prefix b T h.served h.two h.layout h.rows_are h.reached p v at h.running word o op low_here in
+          let before = has_log b T h.served h.rows_some h.layout h.rows_are h.reached in
+          let next = has_log next_ring next_trails h.served h.rows_some h.layout h.rows_are next_reached in
+          let goes_on = prefix b T h.served h.rows_some h.layout h.rows_are h.reached p v at h.running word o op low_here in
           let begins = frames_begin x.senders 0 0 before.frames next.frames goes_on.rest before.lawful next.lawful (ap (λ l. l ++ goes_on.rest) before.words_are ∙ goes_on.together ∙ sym next.words_are) in
           record {
             state = record { ring = next_ring; trails = next_trails };
             changes = record {
-              reached = record { served = h.served; two = h.two; layout = h.layout; rows_are = h.rows_are; reached = next_reached; alone = h.alone; running = h.running };
-              here = here_now b T h.served h.two h.layout h.rows_are h.reached p v at h.running word o op low_here;
+              reached = record { served = h.served; rows_some = h.rows_some; layout = h.layout; rows_are = h.rows_are; reached = next_reached; alone = h.alone; running = h.running };
+              here = here_now b T h.served h.rows_some h.layout h.rows_are h.reached p v at h.running word o op low_here;
               others = λ q ne. get_set_other b.guests p _ q ne;
-              track = own_track b T h.served h.two h.layout h.rows_are h.reached p v at h.running word o op low_here (due X v) op _ refl;
-              nothing_else = λ q ne. other_track b T h.served h.two h.layout h.rows_are h.reached p v at h.running word o op low_here (due X v) _ q ne;
+              track = own_track b T h.served h.rows_some h.layout h.rows_are h.reached p v at h.running word o op low_here (due X v) op _ refl;
+              nothing_else = λ q ne. other_track b T h.served h.rows_some h.layout h.rows_are h.reached p v at h.running word o op low_here (due X v) _ q ne;
             };
             words = ap (words_after b.words) op;
             home = refl;
@@ -477,10 +477,10 @@ module _ {E : Type 0} (X : Election E) (P : Protocol E (Unit {0}) ℕ) (x : Layo
           }
 
       pub stage_rises : slice_index b.words 1 ≤ slice_index (words_after b.words (Some o)) 1
-      stage_rises = subst (λ (q : Option Op). slice_index b.words 1 ≤ slice_index (words_after b.words q) 1) op (rises b T h.served h.two h.layout h.rows_are h.reached p v at h.running word o op low_here)
+      stage_rises = subst (λ (q : Option Op). slice_index b.words 1 ≤ slice_index (words_after b.words q) 1) op (rises b T h.served h.rows_some h.layout h.rows_are h.reached p v at h.running word o op low_here)
 
       pub leaves_past : (t : ℕ) → t + rows ≤ slice_index b.words 1 / 2 → deeds_in t (adds_due X v (due X v) (slice_index b.words (register o)) word).deeds ≡ []
-      leaves_past t gone = leaves b T h.served h.two h.layout h.rows_are h.reached p v at h.running word o op low_here t (subst (λ n. t + n ≤ slice_index b.words 1 / 2) (sym h.rows_are) gone)
+      leaves_past t gone = leaves b T h.served h.rows_some h.layout h.rows_are h.reached p v at h.running word o op low_here t (subst (λ n. t + n ≤ slice_index b.words 1 / 2) (sym h.rows_are) gone)
 
   -- who is none of its senders does nothing
   nobody_did : (b : Ring E) (T : RingTrails) → IsLayout x → 2 ≤ rows → b.layout ≡ x → b.rows ≡ rows → RingReached X b T → (q : ℕ) → x.senders ≤ q → T.deeds q ≡ []
@@ -492,10 +492,10 @@ module _ {E : Type 0} (X : Election E) (P : Protocol E (Unit {0}) ℕ) (x : Layo
   nobody_did b T ok two same rows_are (StopTaken w U s v before _) q past = nobody_did w U ok two same rows_are before q past
 
   pub shown_is_safe : (s : State (Option Page) (View (Visitor E))) → (r : IsShown (process_again X) (bus_again X x rows) s) → IsKeptRing X r.state.ring r.state.trails
-  shown_is_safe s r = safe r.state.ring r.state.trails r.reached.served r.reached.two r.reached.layout r.reached.rows_are r.reached.reached
+  shown_is_safe s r = safe r.state.ring r.state.trails r.reached.served r.reached.rows_some r.reached.layout r.reached.rows_are r.reached.reached
 
   pub shown_losses_are_seen : (s : State (Option Page) (View (Visitor E))) → (r : IsShown (process_again X) (bus_again X x rows) s) → LossesAreSeen r.state.ring r.state.trails.deeds
-  shown_losses_are_seen s r = losses r.state.ring r.state.trails r.reached.served r.reached.two r.reached.layout r.reached.rows_are r.reached.reached
+  shown_losses_are_seen s r = losses r.state.ring r.state.trails r.reached.served r.reached.rows_some r.reached.layout r.reached.rows_are r.reached.reached
 
   pub automaton_laws : AutomatonLaws (process_again X) (bus_again X x rows)
   automaton_laws = record {
@@ -505,21 +505,21 @@ module _ {E : Type 0} (X : Election E) (P : Protocol E (Unit {0}) ℕ) (x : Layo
     started_extent = λ p. refl;
     started_next = λ p. refl;
     started_away = λ p. refl;
-    wide = λ z h. wide z.ring z.trails h.served h.two h.layout h.rows_are h.reached;
-    senders = λ z p v h at. is_sender z.ring z.trails h.served h.two h.layout h.rows_are h.reached p v at;
-    nobody = λ z q h past. nobody_did z.ring z.trails h.served h.two h.layout h.rows_are h.reached q past;
-    message = λ z p v bytes h at can small. takes_message z.ring z.trails h.served h.two h.layout h.rows_are h.reached p v at h.running h.alone bytes can small;
-    close = λ z p v h at can. takes_close z.ring z.trails h.served h.two h.layout h.rows_are h.reached p v at h.running h.alone can;
+    wide = λ z h. wide z.ring z.trails h.served h.rows_some h.layout h.rows_are h.reached;
+    senders = λ z p v h at. is_sender z.ring z.trails h.served h.rows_some h.layout h.rows_are h.reached p v at;
+    nobody = λ z q h past. nobody_did z.ring z.trails h.served h.rows_some h.layout h.rows_are h.reached q past;
+    message = λ z p v bytes h at can small. takes_message z.ring z.trails h.served h.rows_some h.layout h.rows_are h.reached p v at h.running h.alone bytes can small;
+    close = λ z p v h at can. takes_close z.ring z.trails h.served h.rows_some h.layout h.rows_are h.reached p v at h.running h.alone can;
     step = λ z p v word o h at op low. steps_in z h p v at word o op low;
-    ends = λ z p v word o h at op home got. ends_due z.ring z.trails h.served h.two h.layout h.rows_are h.reached p v at (due X v) refl word o op home got;
-    fits = λ z p v word o h at op. sum_fits z.ring z.trails h.served h.two h.layout h.rows_are h.reached p v at word o op;
-    finds_home = λ z p v word o t h at op is. comes_home z.ring z.trails h.served h.two h.layout h.rows_are h.reached p v at (due X v) refl word o t op is;
-    even_at_home = λ z h even. (stage_is z.ring z.trails h.served h.two h.layout h.rows_are h.reached).1 even;
-    odd_away = λ z h odd. (stage_is z.ring z.trails h.served h.two h.layout h.rows_are h.reached).0 odd;
-    page_knows = λ z page frames h home lawful words. page_knows z.ring z.trails h.served h.two h.layout h.rows_are h.reached page frames home lawful words;
-    log = λ z h. has_log z.ring z.trails h.served h.two h.layout h.rows_are h.reached;
-    sent = λ z p v frames h at lawful words. sent z.ring z.trails h.served h.two h.layout h.rows_are h.reached p v at frames lawful words;
-    promised = λ z h. promised z.ring z.trails h.served h.two h.layout h.rows_are h.reached;
+    ends = λ z p v word o h at op home got. ends_due z.ring z.trails h.served h.rows_some h.layout h.rows_are h.reached p v at (due X v) refl word o op home got;
+    fits = λ z p v word o h at op. sum_fits z.ring z.trails h.served h.rows_some h.layout h.rows_are h.reached p v at word o op;
+    finds_home = λ z p v word o t h at op is. comes_home z.ring z.trails h.served h.rows_some h.layout h.rows_are h.reached p v at (due X v) refl word o t op is;
+    even_at_home = λ z h even. (stage_is z.ring z.trails h.served h.rows_some h.layout h.rows_are h.reached).1 even;
+    odd_away = λ z h odd. (stage_is z.ring z.trails h.served h.rows_some h.layout h.rows_are h.reached).0 odd;
+    page_knows = λ z page frames h home lawful words. page_knows z.ring z.trails h.served h.rows_some h.layout h.rows_are h.reached page frames home lawful words;
+    log = λ z h. has_log z.ring z.trails h.served h.rows_some h.layout h.rows_are h.reached;
+    sent = λ z p v frames h at lawful words. sent z.ring z.trails h.served h.rows_some h.layout h.rows_are h.reached p v at frames lawful words;
+    promised = λ z h. promised z.ring z.trails h.served h.rows_some h.layout h.rows_are h.reached;
   }
 
 -- ---- it begins with all at their starts
@@ -548,7 +548,7 @@ opens_again {E} X x rows ok two =
       state = record { ring = ring; trails = no_ring_trails };
       reached = record {
         served = ok;
-        two = two;
+        rows_some = two;
         layout = refl;
         rows_are = refl;
         reached = NewRing ring (record { words = refl; home = refl; guests = λ p v e. (guests_new {E = E} x rows x.senders).each p v e; receivers = λ r v e. none_here v e; stopped = refl });

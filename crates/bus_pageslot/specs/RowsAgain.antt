@@ -1,8 +1,9 @@
 -- A bus whose rows of words are used again, as threads go by it: its senders as processes, and the bus as an automaton.
 use Rattle.std.specs.Prelude.{◌≡◌, ℕ, ◌+◌, ◌≤◌, Some, None, List, [], ◌∷◌, ◌++◌, slice_get}
 use Rattle.bus_batch.specs.declared.batches.Phase.TheVariants.{Closing}
-use Rattle.bus_guest.specs.Guests.{Due, Visits, Sweeps, Goes, log_from}
-use Rattle.bus_guest.specs.Turns.{Visitor, due, op_next, kind_due, wants_due, rest_due, visitor_after, answer_going, answer_after, queue_seen}
+use Rattle.bus_guest.specs.declared.limits.TheConstants.{LEAST_ROWS_AGAIN}
+use Rattle.bus_guest.specs.Guests.{Due, Visits, Sweeps, Goes, log_from, answer_going}
+use Rattle.bus_guest.specs.Turns.{Visitor, due, op_next, kind_due, wants_due, rest_due, visitor_after, answer_after, queue_seen}
 use Rattle.bus_presence.specs.declared.visits.Visit.TheVariants.{Away}
 use Rattle.bus_tenure.specs.Core.{Election, Layout}
 use Rattle.bus_tenure.specs.Seen.{turns_of}
@@ -63,7 +64,7 @@ pub record RingHistory (E : Type 0) : Type 0 where
 -- Its senders have taken turns, put messages and closed, in any order. It has no receivers of its own, and nobody has stopped.
 pub record IsRingHistory {E : Type 0} (X : Election E) (x : Layout) (rows : ℕ) (z : RingHistory E) : Type 0 where
   pub served : IsLayout x
-  pub two : 2 ≤ rows
+  pub rows_some : LEAST_ROWS_AGAIN ≤ rows
   pub layout : z.ring.layout ≡ x
   pub rows_are : z.ring.rows ≡ rows
   pub reached : RingReached X z.ring z.trails

@@ -22,9 +22,9 @@ use Rattle.bus_presence.specs.Sweeps.{Sweeping, sweep_op, sweep_fed}
 use Rattle.bus_presence.specs.Visits.{step_at, visit_fed}
 use Rattle.bus_presence.specs.declared.visits.Visit.{Visit}
 use Rattle.bus_presence.specs.declared.visits.Visit.TheVariants.{Away, Entering, Looking, Inside, Parting, Barred}
-use Rattle.bus_guest.specs.Guests.{log_from, Due, Visits, Sweeps, Goes, due_of, due_beside, due_home, due_swept, sweep_due, sizes_with, place_for, core_looked, core_seen, core_going, visit_going, sweep_going}
+use Rattle.bus_guest.specs.Guests.{log_from, Due, Visits, Sweeps, Goes, due_of, due_beside, due_home, due_swept, sweep_due, sizes_with, place_for, core_looked, core_seen, core_going, visit_going, sweep_going, answer_going}
 use Rattle.bus_guest.specs.Keeping.{held_of}
-use Rattle.bus_guest.specs.Turns.{Visitor, due, op_due, on_place, placed, visitor_due, answer_due, answer_going, queue_seen}
+use Rattle.bus_guest.specs.Turns.{Visitor, due, op_due, on_place, placed, visitor_due, answer_due, queue_seen}
 use Rattle.bus_tenure.specs.Core.{Core, Election, Layout, stage_at}
 use Rattle.bus_tenure.specs.Situations.{Situation, IsClosed, IsIdle, IsSpent, LooksAtStage, Elects, TakesPage, AwaitsPage, StoresWord, StoresLength, GivesBack, HasHanded, PageMove, situation_of, line_of, op_at, core_begun, core_elected, waits}
 use Rattle.bus_tenure.specs.declared.pages.Page.{Page}

@@ -19,8 +19,7 @@ use Rattle.bus_tenure.specs.Situations.{Situation, Elects, line_of, op_at, kind_
 use Rattle.bus_tenure.specs.declared.pages.Page.{Page}
 use Rattle.bus_tenure.specs.declared.phases.Phase.TheVariants.{Electing}
 use Rattle.bus_tenure.specs.declared.turns.Turn.{Turn as Answered}
-use Rattle.bus_guest.specs.Guests.{sizes_with, log_from, Due, Visits, Sweeps, Goes, due_of, place_for, core_looked, core_going, visit_going, sweep_going}
-use Rattle.bus_guest.specs.Turns.{answer_going}
+use Rattle.bus_guest.specs.Guests.{sizes_with, log_from, Due, Visits, Sweeps, Goes, due_of, place_for, core_looked, core_going, visit_going, sweep_going, answer_going}
 use Rattle.bus_world.specs.Turning.{core_moved, after_step, home_after, owners_after}
 use Rattle.bus_world.specs.Headline.{Deed, HasPut, HasClosed, Elected, Promises}
 use Rattle.bus_world.specs.Log.{read}
