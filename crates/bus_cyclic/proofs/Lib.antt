@@ -10,3 +10,4 @@ pub mod TruthLaws
 pub mod EventLaws
 pub mod PlayLaws
 pub mod ViewLaws
+pub mod StopLaws

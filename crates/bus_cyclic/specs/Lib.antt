@@ -6,3 +6,4 @@ pub mod Staying
 pub mod Following
 pub mod Truth
 pub mod Playing
+pub mod Stopping

@@ -1,5 +1,5 @@
-//! What no bus whose rows are used again is, what no turn on it may answer, and what of a tenure
-//! stays once its row has gone on.
+//! What no bus whose rows are used again is, what no turn on it may answer, what of a tenure stays
+//! once its row has gone on, and that a stop is for good.
 
 ghost use Rattle.std.specs.Prelude.{◌≡◌, ℕ, List};
 ghost use Rattle.bus_tenure.specs.Core.{Core};
@@ -11,6 +11,7 @@ ghost use Rattle.bus_world.specs.declared.events.Answer.{Answer};
 ghost use Rattle.bus_cyclic.specs.Cyclic.{CyclicBus};
 ghost use Rattle.bus_cyclic.specs.Following.{FollowsRefuse};
 ghost use Rattle.bus_cyclic.specs.Staying.{deeds_in, SaysNoMore, SaysMore};
+ghost use Rattle.bus_cyclic.specs.Stopping.{StopsAreForGood, StopRefuses};
 ghost use Rattle.bus_cyclic.specs.Truth.{LossesRefuse, AnswersRefuse};
 
 use bus_adoptcommit::Ratifier;
@@ -44,4 +45,14 @@ pub fn follows_refuse<Q: Ratifier>()
     ensures { let X = election_of Q.Ratifier in
         (old : CyclicBus (Elector Q)) (event : Event) (given : Answer)
         (new : CyclicBus (Elector Q)) → FollowsRefuse X old event given new }
+{}
+
+/// A stop that is answered changes who has stopped, and nothing else. Whoever has stopped does
+/// nothing any more, whatever happens next: no event of it is answered, it holds what it held, and
+/// it has no deed more and no step of a visit or of a sweep; whatever else is wrong with an event
+/// of it, it is refused as Stopped. Nothing is refused as Stopped of one that goes on, or that
+/// there is not, and one that goes on may stop.
+pub fn stops_are_for_good<Q: Ratifier>()
+    ensures stops { StopsAreForGood (election_of Q.Ratifier) Q.protocol }
+    ensures refuses { StopRefuses (election_of Q.Ratifier) }
 {}

@@ -1,5 +1,6 @@
 -- A stop is for good, and changes nothing else.
 use Rattle.std.proofs.Common.{◌≡◌, ◌≢◌, ℕ, ◌<◌, Bool, true, false, cond, ne_eqb, arith, is_some, Option, Some, None, inl, inr, List, [], ◌∷◌, ◌++◌, length, slice_get, refl, sym, ◌∙◌, ap, subst}
+use Rattle.std.specs.Prelude.{◌⊎◌}
 use Rattle.std.proofs.lemmas.Bool.{true≢false, cases_eq}
 use Rattle.std.proofs.lemmas.List.{append-nil, length-replicate}
 use Rattle.std.proofs.Math.ListN.{length-set}
@@ -10,7 +11,7 @@ use Rattle.bus_ownerbits.specs.OneOwner.{OneOwner}
 use Rattle.bus_tenure.specs.Core.{Core, Election, Layout}
 use Rattle.bus_tenure.specs.Situations.{situation_of}
 use Rattle.bus_world.specs.Bus.{IsLayout}
-use Rattle.bus_world.specs.Playing.{AllAnswered, Answers, PutGives, CloseGives, TurnAnswers, StopGives, StopRefused, UnlessStopped}
+use Rattle.bus_world.specs.Playing.{AllAnswered, Answers, PutGives, CloseGives, TurnAnswers, StopGives, PutRefused, CloseRefused, TurnRefused, StopRefused, UnlessStopped}
 use Rattle.bus_world.specs.Stopping.{JustStopped, StaysStopped, StopsAreForGood, StopRefuses}
 use Rattle.bus_world.specs.Trails.{Trails, Reached, trails_grown, trails_after, deeds_of, put_deeds, close_deeds, turning_deeds}
 use Rattle.bus_world.specs.Trails.Reached.{New, Then}
@@ -115,6 +116,7 @@ module _ {E : Type 0} (X : Election E) (P : Protocol E (Unit {0}) ℕ) (laws : L
       let many = reached_stops X x old T r in
       let room : s < length old.stopped = (let below = part.below in let few = ok.senders in omega arith) in
       record {
+        answered = w.1;
         went_on = not_stopped old s c.0 c.1;
         stopped = set_now X old.stopped new.stopped s (going old s) w.0 room d.2;
         others = λ q ne. stop_apart X old.stopped new.stopped s q (going old s) ne d.2;
@@ -125,32 +127,46 @@ module _ {E : Type 0} (X : Election E) (P : Protocol E (Unit {0}) ℕ) (laws : L
       }
 
   -- the fault of who has stopped, and of who has not
-  stopped_first : (t : Bool) (o : Option (Core E)) (c : Core E) (why : StepFault) (own : Type 0) → t ≡ true → o ≡ Some c → UnlessStopped t o why own → why ≡ fault.Stopped
-  stopped_first true None c why own is there w = absurd (let bad : None ≡ Some c = there in cc)
-  stopped_first true (Some d) c why own is there w = w
-  stopped_first false o c why own is there w = absurd (true≢false (sym is))
+  as_stopped : (t : Bool) (o : Option (Core E)) (c : Core E) (own : StepFault → Type 0) → t ≡ true → o ≡ Some c → (why : StepFault) → (UnlessStopped t o why (own why) → why ≡ fault.Stopped) × (why ≡ fault.Stopped → UnlessStopped t o why (own why))
+  as_stopped true None c own is there why = absurd (let bad : None ≡ Some c = there in cc)
+  as_stopped true (Some d) c own is there why = (λ w. w, λ w. w)
+  as_stopped false o c own is there why = absurd (true≢false (sym is))
 
-  own_untimely : (t : Bool) (o : Option (Core E)) (why : StepFault) (own : Type 0) → t ≡ false → UnlessStopped t o why own → own
-  own_untimely true o why own is w = absurd (true≢false is)
-  own_untimely false o why own is w = w
+  own_otherwise : (t : Bool) (o : Option (Core E)) (why : StepFault) (own : Type 0) → (o ≡ None) ⊎ (t ≡ false) → UnlessStopped t o why own → own
+  own_otherwise true None why own e w = w
+  own_otherwise true (Some c) why own (inl e) w = absurd (let bad : Some c ≡ None = e in cc)
+  own_otherwise true (Some c) why own (inr e) w = absurd (true≢false e)
+  own_otherwise false o why own e w = w
 
-  own_unknown : (t : Bool) (o : Option (Core E)) (why : StepFault) (own : Type 0) → o ≡ None → UnlessStopped t o why own → own
-  own_unknown true None why own is w = w
-  own_unknown true (Some c) why own is w = absurd (let bad : Some c ≡ None = is in cc)
-  own_unknown false o why own is w = w
+  never_refused : (o : Option (Core E)) (c : Core E) (why : StepFault) → o ≡ Some c → StopRefused o why → ⊥
+  never_refused None c why e w = absurd (let bad : None ≡ Some c = e in cc)
+  never_refused (Some d) c why e w = w
 
   never_its_own : (o : Option (Core E)) → StopRefused o fault.Stopped → ⊥
   never_its_own None e = cc
   never_its_own (Some c) e = e
 
+  never_of_a_put : (o : Option (Core E)) (len : ℕ) → PutRefused o len fault.Stopped → ⊥
+  never_of_a_put None len e = cc
+  never_of_a_put (Some c) len e = let bad : fault.Stopped ≡ fault.Put e.0 = e.2 in cc
+
+  never_of_a_close : (o : Option (Core E)) → CloseRefused o fault.Stopped → ⊥
+  never_of_a_close None e = cc
+  never_of_a_close (Some c) e = let bad : fault.Stopped ≡ fault.Close e.0 = e.2 in cc
+
+  never_of_a_turn : (o : Option (Core E)) → TurnRefused o fault.Stopped → ⊥
+  never_of_a_turn None e = cc
+  never_of_a_turn (Some c) e = e
+
   pub for_good : StopsAreForGood X x
   for_good = record {
     stops = stops;
     stays = λ old new events run T s stop. stays X events old new run T s stop;
-    put_refused = λ b s c bytes why there stop w. stopped_first (has_stopped b s) (slice_get b.side.senders s) c why _ stop there w;
-    close_refused = λ b s c why there stop w. stopped_first (has_stopped b s) (slice_get b.side.senders s) c why _ stop there w;
-    turn_refused = λ b s c word why there stop w. stopped_first (has_stopped b s) (slice_get b.side.senders s) c why _ stop there w;
-    stop_refused = λ b s c why there stop w. stopped_first (has_stopped b s) (slice_get b.side.senders s) c why _ stop there w;
+    put_refused = λ b s c bytes there stop. as_stopped (has_stopped b s) (slice_get b.side.senders s) c (λ why. PutRefused (slice_get b.side.senders s) (length bytes) why) stop there;
+    close_refused = λ b s c there stop. as_stopped (has_stopped b s) (slice_get b.side.senders s) c (λ why. CloseRefused (slice_get b.side.senders s) why) stop there;
+    turn_refused = λ b s c word there stop. as_stopped (has_stopped b s) (slice_get b.side.senders s) c (λ why. TurnRefused (slice_get b.side.senders s) why) stop there;
+    stop_refused = λ b s c there stop. as_stopped (has_stopped b s) (slice_get b.side.senders s) c (λ why. StopRefused (slice_get b.side.senders s) why) stop there;
+    may_stop = λ b s c why there goes w. never_refused (slice_get b.side.senders s) c why there (own_otherwise (has_stopped b s) (slice_get b.side.senders s) why _ (inr goes) w);
   }
 
   pub refuses : StopRefuses X x
@@ -160,6 +176,8 @@ module _ {E : Type 0} (X : Election E) (P : Protocol E (Unit {0}) ℕ) (laws : L
     late_put = λ old new s bytes a stop w. subst (λ o. PutGives o (length bytes) w.0) (stopped_stays old s stop) w.1;
     late_close = λ old new s a stop w. subst (λ o. CloseGives o) (stopped_stays old s stop) w.0;
     second_stop = λ old new s a stop w. subst (λ o. StopGives o) (stopped_stays old s stop) w.0;
-    stopped_untimely = λ b s goes w. never_its_own (slice_get b.side.senders s) (own_untimely (has_stopped b s) (slice_get b.side.senders s) fault.Stopped _ goes w);
-    stopped_unknown = λ b s none w. never_its_own (slice_get b.side.senders s) (own_unknown (has_stopped b s) (slice_get b.side.senders s) fault.Stopped _ none w);
+    put_untimely = λ b s bytes goes w. never_of_a_put (slice_get b.side.senders s) (length bytes) (own_otherwise (has_stopped b s) (slice_get b.side.senders s) fault.Stopped _ goes w);
+    close_untimely = λ b s goes w. never_of_a_close (slice_get b.side.senders s) (own_otherwise (has_stopped b s) (slice_get b.side.senders s) fault.Stopped _ goes w);
+    turn_untimely = λ b s word goes w. never_of_a_turn (slice_get b.side.senders s) (own_otherwise (has_stopped b s) (slice_get b.side.senders s) fault.Stopped _ goes w);
+    stop_untimely = λ b s goes w. never_its_own (slice_get b.side.senders s) (own_otherwise (has_stopped b s) (slice_get b.side.senders s) fault.Stopped _ goes w);
   }

@@ -1,16 +1,18 @@
 -- What a stop does, and that it is for good.
-use Rattle.std.specs.Prelude.{◌≡◌, ◌≢◌, ℕ, true, false, Some, None, List, slice_get}
+use Rattle.std.specs.Prelude.{◌≡◌, ◌≢◌, ◌⊎◌, ℕ, true, false, Some, None, List, slice_get}
 use Rattle.bus_tenure.specs.Core.{Core, Election, Layout}
 use Rattle.bus_world.specs.Playing.{AllAnswered, Answers, Refused}
 use Rattle.bus_world.specs.Trails.{Trails, Reached, trails_grown, trails_after}
 use Rattle.bus_world.specs.World.{Bus, Event, Put, Close, Turn, Stop, has_stopped, Happens}
 use Rattle.bus_world.specs.declared.events.Answer.{Answer}
+use Rattle.bus_world.specs.declared.events.Answer.TheVariants as answer
 use Rattle.bus_world.specs.declared.events.StepFault.{StepFault}
 use Rattle.bus_world.specs.declared.events.StepFault.TheVariants as fault
 
 -- The stop of a sender that went on was answered: it has stopped now, and nothing else has changed. It is no deed of any sender and no
 -- answer of any receiver.
 pub record JustStopped {E : Type 0} (X : Election E) (old : Bus E) (s : ℕ) (a : Answer) (new : Bus E) : Type 0 where
+  pub answered : a ≡ answer.Stopped
   pub went_on : has_stopped old s ≡ false
   pub stopped : has_stopped new s ≡ true
   pub others : (q : ℕ) → q ≢ s → has_stopped new q ≡ has_stopped old q
@@ -25,15 +27,25 @@ pub record StaysStopped {E : Type 0} (old : Bus E) (T : Trails) (s : ℕ) (new :
   pub state : slice_get new.side.senders s ≡ slice_get old.side.senders s
   pub deeds : T'.deeds s ≡ T.deeds s
 
+-- an event is refused as Stopped, and for nothing else
+abbrev pub IsRefusedAsStopped : {E : Type 0} → Bus E → Event → Type 0
+IsRefusedAsStopped b e = (why : StepFault) → (Refused b e why → why ≡ fault.Stopped) × (why ≡ fault.Stopped → Refused b e why)
+
+-- there is no such sender, or it goes on
+abbrev pub HasNotStopped : {E : Type 0} → Bus E → ℕ → Type 0
+HasNotStopped b s = (slice_get b.side.senders s ≡ None) ⊎ (has_stopped b s ≡ false)
+
 -- each stop is one, and whoever has stopped stays so, whatever happens next
 pub record StopsAreForGood {E : Type 0} (X : Election E) (x : Layout) : Type 0 where
   pub stops : (old new : Bus E) (T : Trails) (s : ℕ) (a : Answer) → Reached X x old T → Happens X old (Stop s) new → Answers X old (Stop s) a new → JustStopped X old s a new
   pub stays : (old new : Bus E) (events : List Event) (run : AllAnswered X old events new) (T : Trails) (s : ℕ) → has_stopped old s ≡ true → StaysStopped old T s new (trails_after X old events new run T)
-  -- whatever else is wrong with an event of one that has stopped, that is its fault
-  pub put_refused : (b : Bus E) (s : ℕ) (c : Core E) (bytes : List ℕ) (why : StepFault) → slice_get b.side.senders s ≡ Some c → has_stopped b s ≡ true → Refused b (Put s bytes) why → why ≡ fault.Stopped
-  pub close_refused : (b : Bus E) (s : ℕ) (c : Core E) (why : StepFault) → slice_get b.side.senders s ≡ Some c → has_stopped b s ≡ true → Refused b (Close s) why → why ≡ fault.Stopped
-  pub turn_refused : (b : Bus E) (s : ℕ) (c : Core E) (word : ℕ) (why : StepFault) → slice_get b.side.senders s ≡ Some c → has_stopped b s ≡ true → Refused b (Turn s word) why → why ≡ fault.Stopped
-  pub stop_refused : (b : Bus E) (s : ℕ) (c : Core E) (why : StepFault) → slice_get b.side.senders s ≡ Some c → has_stopped b s ≡ true → Refused b (Stop s) why → why ≡ fault.Stopped
+  -- whatever else is wrong with an event of one that has stopped
+  pub put_refused : (b : Bus E) (s : ℕ) (c : Core E) (bytes : List ℕ) → slice_get b.side.senders s ≡ Some c → has_stopped b s ≡ true → IsRefusedAsStopped b (Put s bytes)
+  pub close_refused : (b : Bus E) (s : ℕ) (c : Core E) → slice_get b.side.senders s ≡ Some c → has_stopped b s ≡ true → IsRefusedAsStopped b (Close s)
+  pub turn_refused : (b : Bus E) (s : ℕ) (c : Core E) (word : ℕ) → slice_get b.side.senders s ≡ Some c → has_stopped b s ≡ true → IsRefusedAsStopped b (Turn s word)
+  pub stop_refused : (b : Bus E) (s : ℕ) (c : Core E) → slice_get b.side.senders s ≡ Some c → has_stopped b s ≡ true → IsRefusedAsStopped b (Stop s)
+  -- a sender that goes on may stop
+  pub may_stop : (b : Bus E) (s : ℕ) (c : Core E) (why : StepFault) → slice_get b.side.senders s ≡ Some c → has_stopped b s ≡ false → ¬ Refused b (Stop s) why
 
 -- what is no such thing
 pub record StopRefuses {E : Type 0} (X : Election E) (x : Layout) : Type 0 where
@@ -44,6 +56,8 @@ pub record StopRefuses {E : Type 0} (X : Election E) (x : Layout) : Type 0 where
   pub late_put : (old new : Bus E) (s : ℕ) (bytes : List ℕ) (a : Answer) → has_stopped old s ≡ true → ¬ Answers X old (Put s bytes) a new
   pub late_close : (old new : Bus E) (s : ℕ) (a : Answer) → has_stopped old s ≡ true → ¬ Answers X old (Close s) a new
   pub second_stop : (old new : Bus E) (s : ℕ) (a : Answer) → has_stopped old s ≡ true → ¬ Answers X old (Stop s) a new
-  -- a stop's fault of a sender that goes on, or that there is none of
-  pub stopped_untimely : (b : Bus E) (s : ℕ) → has_stopped b s ≡ false → ¬ Refused b (Stop s) fault.Stopped
-  pub stopped_unknown : (b : Bus E) (s : ℕ) → slice_get b.side.senders s ≡ None → ¬ Refused b (Stop s) fault.Stopped
+  -- the fault Stopped of a sender that goes on, or that there is not
+  pub put_untimely : (b : Bus E) (s : ℕ) (bytes : List ℕ) → HasNotStopped b s → ¬ Refused b (Put s bytes) fault.Stopped
+  pub close_untimely : (b : Bus E) (s : ℕ) → HasNotStopped b s → ¬ Refused b (Close s) fault.Stopped
+  pub turn_untimely : (b : Bus E) (s word : ℕ) → HasNotStopped b s → ¬ Refused b (Turn s word) fault.Stopped
+  pub stop_untimely : (b : Bus E) (s : ℕ) → HasNotStopped b s → ¬ Refused b (Stop s) fault.Stopped

@@ -2,6 +2,7 @@
 
 ghost use Rattle.std.specs.Prelude.{◌≡◌, ◌≤◌, ℕ, List};
 ghost use Rattle.bus_deliverylog.specs.declared.receiving.RecvTurn.{RecvTurn};
+ghost use Rattle.bus_guest.specs.declared.limits.TheConstants.{LEAST_ROWS_AGAIN};
 ghost use Rattle.bus_tenure.specs.Elections.{Elector, election_of, layout_with};
 ghost use Rattle.bus_world.specs.Bus.{IsLayout};
 ghost use Rattle.bus_world.specs.Playing.{AllAnswered};
@@ -55,7 +56,8 @@ pub fn promise_refuses()
 /// tenure of it.
 pub fn rows_used_again_keep_promises<Q: Ratifier>()
     ensures { (senders rounds tenures capacity rows : ℕ)
-        → IsLayout (layout_with Q.protocol senders rounds tenures capacity) → 2 ≤ rows
+        → IsLayout (layout_with Q.protocol senders rounds tenures capacity)
+        → LEAST_ROWS_AGAIN ≤ rows
         → (yard : Yard (Elector Q)) (visits : Visiting) (deeds : ℕ → List Deed)
         (heard : ℕ → List RecvTurn)
         → Led (election_of Q.Ratifier)
@@ -72,7 +74,8 @@ pub fn rings_keep_promises<Q: Ratifier>()
     ensures { (senders rounds tenures capacity : ℕ)
         → IsLayout (layout_with Q.protocol senders rounds tenures capacity)
         → (ring : Ring (Elector Q)) (trails : RingTrails)
-        → ring.layout ≡ layout_with Q.protocol senders rounds tenures capacity → 2 ≤ ring.rows
+        → ring.layout ≡ layout_with Q.protocol senders rounds tenures capacity
+        → LEAST_ROWS_AGAIN ≤ ring.rows
         → RingReached (election_of Q.Ratifier) ring trails
         → IsKeptRing (election_of Q.Ratifier) ring trails }
 {
@@ -91,8 +94,8 @@ pub fn yards_refuse<Q: Ratifier>()
 /// A stop that is answered changes who has stopped, and nothing else. Whoever has stopped does
 /// nothing any more, whatever happens next: no event of it is answered, its state is what it was,
 /// and it has no deed more; whatever else is wrong with an event of it, it is refused as Stopped.
-/// A stop that does nothing is none. No stop is refused as Stopped of one that goes on, or that
-/// there is none of.
+/// A stop that does nothing is none. Nothing is refused as Stopped of one that goes on, or that
+/// there is not, and one that goes on may stop.
 pub fn stops_are_for_good<Q: Ratifier>()
     ensures stops { (senders rounds rows capacity : ℕ)
         → IsLayout (layout_with Q.protocol senders rounds rows capacity)
