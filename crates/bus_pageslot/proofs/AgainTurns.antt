@@ -1,5 +1,5 @@
 -- A sender of a bus whose rows are used again is a process.
-use Rattle.std.proofs.Common.{◌≡◌, ℕ, ◌+◌, ◌/◌, ◌<◌, ◌==◌, ◌&&◌, Bool, true, false, cond, nat_lt, nat_le, Option, Some, None, List, [], ◌∷◌, ◌++◌, length, arith, refl, sym, ◌∙◌, ap, inl, inr, subst}
+use Rattle.std.proofs.Common.{◌≡◌, ℕ, ◌+◌, ◌/◌, ◌<◌, ◌==◌, ◌&&◌, Bool, true, false, cond, nat_lt, nat_le, Option, Some, None, List, [], ◌∷◌, ◌++◌, length, is_some, arith, refl, sym, ◌∙◌, ap, inl, inr, subst}
 use Rattle.std.specs.Prelude.{◌⊎◌}
 use Rattle.std.proofs.lemmas.Option.{same_Some}
 use Rattle.bus_register.specs.declared.registers.Op.{Op}
@@ -14,8 +14,8 @@ use Rattle.bus_presence.specs.Visits.{step_at, visit_fed}
 use Rattle.bus_presence.specs.declared.sweeps.Behind.{Behind}
 use Rattle.bus_presence.specs.declared.visits.Visit.{Visit}
 use Rattle.bus_presence.specs.declared.visits.Visit.TheVariants.{Away, Entering, Looking, Inside, Parting, Barred}
-use Rattle.bus_guest.specs.Guests.{Due, Visits, Sweeps, Goes, sweep_due, due_swept, due_home, due_beside, core_looked, visit_elected}
-use Rattle.bus_guest.specs.Turns.{Visitor, due, placed, op_due, visitor_due, answer_due, kind_due, answer_of_visit, answer_of_sweep, rest_due, queue_seen, lost_elected}
+use Rattle.bus_guest.specs.Guests.{Due, Visits, Sweeps, Goes, sweep_due, due_swept, due_home, due_beside, core_looked, visit_elected, lost_elected}
+use Rattle.bus_guest.specs.Turns.{Visitor, due, placed, op_due, visitor_due, answer_due, kind_due, kind_of_visit, answer_of_visit, answer_of_sweep, rest_due, queue_seen}
 use Rattle.bus_tenure.specs.Core.{Core, Election}
 use Rattle.bus_tenure.specs.Situations.{Situation, IsClosed, IsIdle, IsSpent, LooksAtStage, Elects, TakesPage, AwaitsPage, StoresWord, StoresLength, GivesBack, HasHanded, Stays, situation_of, op_at, kind_at, tenure_at, chosen_at, core_begun, core_elected, waits}
 use Rattle.bus_tenure.specs.declared.pages.Page.{Page}
@@ -380,8 +380,27 @@ module _ {E : Type 0} (X : Election E) (v : Visitor E) where
   gives_held (Sweeps s o) e page is = absurd (apart.none_given page is)
   gives_held (Goes z) e page is = apart.gives_held X v.core z (due_goes _ v.sweep (situation_of X v.core) z e) page is
 
-pub process_laws : {E : Type 0} (X : Election E) (P : Protocol E (Unit {0}) ℕ) → Laws X.op X.fed P OneOwner → ProcessLaws (process_again X)
-process_laws X P laws = record {
+-- ---- a kind is named exactly where a step is due
+visit_named : (u : Visit) (word stage : ℕ) (o : Op) → step_at u word stage ≡ Some o → is_some (kind_of_visit u) ≡ true
+visit_named Away word stage o e = absurd (let bad : None ≡ Some o = e in let wrong : ⊥ = cc in wrong)
+visit_named (Entering t) word stage o e = refl
+visit_named (Looking t) word stage o e = refl
+visit_named (Inside t) word stage o e = absurd (let bad : None ≡ Some o = e in let wrong : ⊥ = cc in wrong)
+visit_named (Parting t) word stage o e = refl
+visit_named (Barred t) word stage o e = refl
+
+placed_is : (f : ℕ → ℕ) (o : Option Op) → is_some o ≡ is_some (placed f o)
+placed_is f None = refl
+placed_is f (Some o) = refl
+
+named_due : {E : Type 0} (X : Election E) → ((e : E) (word : ℕ) → is_some (X.kind_of e) ≡ is_some (X.op e word)) → (v : Visitor E) (d : Due E) → due X v ≡ d → (word : ℕ) → is_some (kind_due X v d) ≡ is_some (op_due X v d word)
+named_due X names v (Visits o) e word = visit_named v.visit _ _ o (due_visits _ v.sweep (situation_of X v.core) o e)
+named_due X names v (Sweeps s o) e word = refl
+named_due X names v (Goes z) e word = apart.named_at X names v.core z word ∙ placed_is _ (op_at X v.core z word)
+
+pub process_laws : {E : Type 0} (X : Election E) (P : Protocol E (Unit {0}) ℕ) → Laws X.op X.fed P OneOwner → ((e : E) (word : ℕ) → is_some (X.kind_of e) ≡ is_some (X.op e word)) → ProcessLaws (process_again X)
+process_laws X P laws names = record {
+  named = λ v word. named_due X names v (due X v) refl word;
   some_words = λ v. omega arith;
   same_extent = λ v home got word. λ i. extent_again (wide_due X v (due X v) home got word i) (rows_due X v (due X v) home got word i);
   blind = λ v word r n op got got' home. due_blind X P laws v (due X v) refl word r n op got got' home;

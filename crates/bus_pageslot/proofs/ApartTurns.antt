@@ -104,7 +104,7 @@ module _ {E : Type 0} (X : Election E) (d : Core E) where
   op_handed (GivesBack t page reason) i word = refl
   op_handed (HasHanded t reason) i word = ap (λ z. op_at X d z word) i
 
-  answer_handed : (z : Situation E) → situation_of X d ≡ z → (got word : ℕ) → answer_at X (handed d z) (situation_of X (handed d z)) got word ≡ answer_at X d z got word
+  pub answer_handed : (z : Situation E) → situation_of X d ≡ z → (got word : ℕ) → answer_at X (handed d z) (situation_of X (handed d z)) got word ≡ answer_at X d z got word
   answer_handed IsClosed i got word = ap (λ z. answer_at X d z got word) i
   answer_handed IsIdle i got word = ap (λ z. answer_at X d z got word) i
   answer_handed IsSpent i got word = ap (λ z. answer_at X d z got word) i
@@ -340,10 +340,25 @@ none_hidden c (phase.Holding t page stored true) e = refl
 none_hidden c (phase.Holding t page stored false) e = e
 none_hidden c (phase.Giving t reason) e = refl
 
-pub process_laws : {E : Type 0} (X : Election E) (P : Protocol E (Unit {0}) ℕ) → Laws X.op X.fed P OneOwner → ProcessLaws (process_apart X)
-process_laws X P laws = record {
+-- ---- a kind is named exactly where a step is due
+pub named_at : {E : Type 0} (X : Election E) → ((e : E) (word : ℕ) → is_some (X.kind_of e) ≡ is_some (X.op e word)) → (c : Core E) (z : Situation E) (word : ℕ) → is_some (kind_at X c z) ≡ is_some (op_at X c z word)
+named_at X names c IsClosed word = refl
+named_at X names c IsIdle word = refl
+named_at X names c IsSpent word = refl
+named_at X names c LooksAtStage word = refl
+named_at X names c (Elects t e) word = names e word
+named_at X names c (TakesPage t) word = refl
+named_at X names c (AwaitsPage t) word = refl
+named_at X names c (StoresWord t page stored) word = refl
+named_at X names c (StoresLength t page stored) word = refl
+named_at X names c (GivesBack t page reason) word = refl
+named_at X names c (HasHanded t reason) word = refl
+
+pub process_laws : {E : Type 0} (X : Election E) (P : Protocol E (Unit {0}) ℕ) → Laws X.op X.fed P OneOwner → ((e : E) (word : ℕ) → is_some (X.kind_of e) ≡ is_some (X.op e word)) → ProcessLaws (process_apart X)
+process_laws X P laws names = record {
   some_words = λ c. omega arith;
   same_extent = λ c home got word. ap extent_of (layout_stays X c (situation_of X c) home got word);
+  named = λ c word. named_at X names c (situation_of X c) word;
   blind = λ c word r v due got got' home. store_blind X P laws word (Store record { 0 = r } v) r v refl c due got got' home;
   mute = λ c word r v due got got'. answer_blind X P laws word (Store record { 0 = r } v) r v refl c due got got';
   leaves = λ c home got word. left_after X c (situation_of X c) home got word;

@@ -43,6 +43,8 @@ pub record ProcessLaws {C : Type 0} (P : Process C) : Type 0 where
   -- a bus has a word for its length, and one for its stage; and a step changes no bus's size
   pub some_words : (c : C) → 2 ≤ (P.extent c).words
   pub same_extent : (c : C) (home : Option Page) (got word : ℕ) → P.extent (P.after c home got word) ≡ P.extent c
+  -- a kind is named exactly where a step is due, whatever the random word
+  pub named : (c : C) (word : ℕ) → is_some (P.kind c) ≡ is_some (P.op c word)
   -- a store does not look at what it found
   pub blind : (c : C) (word r v : ℕ) → P.op c word ≡ Some (Store record { 0 = r } v) → (got got' : ℕ) (home : Option Page) → P.after c home got word ≡ P.after c home got' word
   pub mute : (c : C) (word r v : ℕ) → P.op c word ≡ Some (Store record { 0 = r } v) → (got got' : ℕ) → P.answer c got word ≡ P.answer c got' word

@@ -142,11 +142,14 @@ pub trait Seatable {
 
     /// What it owes to threads: the parts of a turn are the whole turn; what may happen leads from
     /// state to state; the log is only extended; and the headline's page holds. What an answer
-    /// tells once the page is out of the sender's hands, it tells of the sender before that.
+    /// tells once the page is out of the sender's hands, it tells of the sender before that. A
+    /// shape that is served is refused for want of memory alone.
     fn is_lawful()
         ensures process { ProcessLaws process }
         ensures tells { (c : Self) (got word : ℕ) (answer : Turn)
             → AnswerTells (process.handed c) got word answer → AnswerTells c got word answer }
+        ensures refuses { (shape : Shape) (why : MakeFault)
+            → Serves shape → Refuses shape why → why ≡ NoMemory }
         ensures automaton { (shape : Shape) → AutomatonLaws process (automaton shape) }
         ensures opens { (shape : Shape) → Serves shape → Opens process (automaton shape) };
 

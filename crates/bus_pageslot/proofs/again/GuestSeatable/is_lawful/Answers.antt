@@ -6,13 +6,15 @@ use Rattle.bus_world.proofs.Serving.{serves}
 use Rattle.bus_cyclic.proofs.GuestTurns.{feed_tells_before}
 use Rattle.bus_pageslot.proofs.AgainStates.{automaton_laws, opens_again}
 use Rattle.bus_pageslot.proofs.AgainTurns.{process_laws}
+use Rattle.bus_pageslot.proofs.ServedShapes.{only_memory_again}
 use Rattle.bus_pageslot.proofs.again.GuestSeatable.is_lawful.Goals as goal
 
 pub returns-clause-process : goal.returns-clause-process
 returns-clause-process g c =
     let Q = g.Q.Ratifier.protocol in
     let X = election_with g.Q.Machine.kind_of g.Q.Machine.op g.Q.Machine.fed Q in
-    process_laws X (elections Q 0) (c.election_is_lawful.ensures.lawful.laws 0)
+    let law = c.election_is_lawful.ensures.lawful.laws 0 in
+    process_laws X (elections Q 0) law (serves g.Q.Machine.kind_of g.Q.Machine.op g.Q.Machine.fed Q g.met.Q.Machine.names_each_step g.met.Q.Ratifier.own_kinds 0 0 0 0 law).named
 
 pub returns-clause-automaton : goal.returns-clause-automaton
 returns-clause-automaton g c shape =
@@ -31,3 +33,6 @@ pub returns-clause-tells : goal.returns-clause-tells
 returns-clause-tells g c guest got word answer w =
     let X = election_with g.Q.Machine.kind_of g.Q.Machine.op g.Q.Machine.fed g.Q.Ratifier.protocol in
     feed_tells_before X guest None word got answer (due X guest) refl w
+
+pub returns-clause-refuses : goal.returns-clause-refuses
+returns-clause-refuses g c shape why served refused = only_memory_again shape why served refused

@@ -1,15 +1,18 @@
-use Rattle.std.proofs.Common.{◌∙◌, arith}
+use Rattle.std.proofs.Common.{refl, ◌∙◌, arith}
 use Rattle.bus_tenure.specs.Elections.{elections, election_with, layout_with}
+use Rattle.bus_tenure.specs.Situations.{situation_of}
 use Rattle.bus_world.proofs.Serving.{serves}
 use Rattle.bus_pageslot.proofs.ApartStates.{automaton_laws, opens_apart}
-use Rattle.bus_pageslot.proofs.ApartTurns.{process_laws}
+use Rattle.bus_pageslot.proofs.ApartTurns.{process_laws, answer_handed}
+use Rattle.bus_pageslot.proofs.ServedShapes.{only_memory}
 use Rattle.bus_pageslot.proofs.apart.SenderCoreSeatable.is_lawful.Goals as goal
 
 pub returns-clause-process : goal.returns-clause-process
 returns-clause-process g c =
     let Q = g.Q.Ratifier.protocol in
     let X = election_with g.Q.Machine.kind_of g.Q.Machine.op g.Q.Machine.fed Q in
-    process_laws X (elections Q 0) (c.election_is_lawful.ensures.lawful.laws 0)
+    let law = c.election_is_lawful.ensures.lawful.laws 0 in
+    process_laws X (elections Q 0) law (serves g.Q.Machine.kind_of g.Q.Machine.op g.Q.Machine.fed Q g.met.Q.Machine.names_each_step g.met.Q.Ratifier.own_kinds 0 0 0 0 law).named
 
 pub returns-clause-automaton : goal.returns-clause-automaton
 returns-clause-automaton g c shape =
@@ -28,4 +31,7 @@ pub returns-clause-tells : goal.returns-clause-tells
 returns-clause-tells g c core got word answer w =
     let Q = g.Q.Ratifier.protocol in
     let X = election_with g.Q.Machine.kind_of g.Q.Machine.op g.Q.Machine.fed Q in
-    w ∙ (process_laws X (elections Q 0) (c.election_is_lawful.ensures.lawful.laws 0)).handed_answer core got word
+    w ∙ answer_handed X core (situation_of X core) refl got word
+
+pub returns-clause-refuses : goal.returns-clause-refuses
+returns-clause-refuses g c shape why served refused = only_memory shape why served refused
