@@ -28,6 +28,3 @@ mod turns;
 pub mod worlds;
 
 pub use worlds::CyclicWorld;
-
-#[cfg(test)]
-mod tests;

@@ -25,6 +25,3 @@ pub mod limits;
 pub mod refusals;
 
 pub use guests::Guest;
-
-#[cfg(test)]
-mod tests;

@@ -40,6 +40,3 @@ pub use rule::{BusRule, Ear, Extent, OfBus, Told, Track, View};
 pub use seatables::Seatable;
 pub use seats::{SendFault, SenderOf, Unsent};
 pub use taps::TapOf;
-
-#[cfg(test)]
-mod tests;

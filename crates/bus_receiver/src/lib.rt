@@ -32,10 +32,3 @@ pub use bus_world::{MakeFault, Shape};
 pub use hearing::Heard;
 pub use receivers::{CyclicReceiver, Next, Receiver, ReceiverOf};
 pub use sizes::{tenures_needed, tenures_of_sitting, words_needed, words_of_sitting};
-
-#[cfg(test)]
-mod tests;
-#[cfg(test)]
-mod tests_cyclic;
-#[cfg(test)]
-mod tests_world;

@@ -31,6 +31,3 @@ pub mod worlds;
 
 pub use answers::answer_to;
 pub use machines::Playable;
-
-#[cfg(test)]
-mod tests;

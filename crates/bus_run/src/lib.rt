@@ -32,6 +32,3 @@ pub use faults::{RunFault, SenderFault};
 pub use gates::{Gate, OpenGate};
 pub use reports::{Report, report_text};
 pub use runs::run;
-
-#[cfg(test)]
-mod tests;

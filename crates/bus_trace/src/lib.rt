@@ -30,6 +30,3 @@ pub mod words;
 pub mod worlds;
 
 pub use traces::trace_of;
-
-#[cfg(test)]
-mod tests;

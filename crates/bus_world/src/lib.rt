@@ -28,6 +28,3 @@ pub mod worlds;
 pub use events::{Answer, Event, PlayFault, StepFault};
 pub use shapes::{MakeFault, Shape};
 pub use worlds::World;
-
-#[cfg(test)]
-mod tests;

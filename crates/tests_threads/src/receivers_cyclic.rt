@@ -1,0 +1,78 @@
+//! A sender and a receiver of a bus whose rows are used again.
+
+ghost use Rattle.std.specs.Prelude.{◌≡◌};
+ghost use Rattle.bus_pageslot.specs.Seats.{table_of};
+ghost use Rattle.bus_receiver.specs.Listening.{bus_of};
+
+use bus_adoptcommit::ThreeWord;
+use bus_pageslot::{CyclicBus, CyclicSender};
+use bus_receiver::CyclicReceiver;
+use bus_register::SenderNo;
+use bus_tenure::Turn;
+use bus_world::Shape;
+use rand_pcg::Pcg32;
+use std::alloc::Global;
+use std::process::Abort;
+use std::sync::Wait;
+
+/// One sender and one receiver over two rows.
+const TWO_ROWS: Shape = Shape {
+    senders: 1,
+    receivers: 1,
+    rounds: 1,
+    rows: 2,
+    log_words: 64,
+};
+
+/// The number-th message is sent in a tenure of its own, and comes to the receiver.
+fn passes<R: Wait + Abort>(
+    rt: &R,
+    bus: &CyclicBus<ThreeWord>,
+    sender: &mut CyclicSender<ThreeWord>,
+    ear: &mut CyclicReceiver<ThreeWord>,
+    number: u64,
+)
+    requires sender { table_of sender.old ≡ bus.now.table }
+    requires ear { bus_of ear.old ≡ bus.now.table }
+    ensures sender { table_of sender.new ≡ bus.now.table }
+    ensures ear { bus_of ear.new ≡ bus.now.table }
+{
+    assert_eq!(rt; sender.put(b"a"), Ok(number));
+    let delivered = Turn::Delivered {
+        tenure: number,
+        first: number,
+        last: number,
+    };
+    assert_eq!(rt; sender.send(rt, bus, &mut Pcg32::new(0, 0)), delivered);
+    let item = ear.next_item(rt, bus).expect(rt, "an item");
+    assert_eq!(rt; (item.sender, item.number), (SenderNo(0), number));
+    assert_eq!(rt; item.message.as_slice(), b"a".as_slice());
+}
+
+/// The bus with its sender and its receiver.
+fn made(
+    rt: &impl Abort,
+    alloc: Global,
+) -> (
+    CyclicBus<ThreeWord>,
+    CyclicSender<ThreeWord>,
+    CyclicReceiver<ThreeWord>,
+)
+    ensures sender { table_of result.1 ≡ result.0.table }
+    ensures ear { bus_of result.2 ≡ result.0.table }
+{
+    let made = CyclicBus::new(alloc, TWO_ROWS);
+    let (bus, mut senders, mut taps) = made.expect(rt, "memory");
+    let ear = CyclicReceiver::new(taps.pop().expect(rt, "a seat"));
+    (bus, senders.pop().expect(rt, "a sender"), ear)
+}
+
+#[test]
+fn five_tenures_over_two_rows(rt: HostRuntime) {
+    let (bus, mut sender, mut ear) = made(&rt, rt.alloc());
+    passes(&rt, &bus, &mut sender, &mut ear, 0);
+    passes(&rt, &bus, &mut sender, &mut ear, 1);
+    passes(&rt, &bus, &mut sender, &mut ear, 2);
+    passes(&rt, &bus, &mut sender, &mut ear, 3);
+    passes(&rt, &bus, &mut sender, &mut ear, 4);
+}

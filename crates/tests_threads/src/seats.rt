@@ -1,0 +1,646 @@
+//! A bus as its callers use it, in one thread and in two.
+
+ghost use Rattle.std.specs.Prelude.{◌≡◌, ◌<◌, All};
+ghost use Rattle.bus_pageslot.specs.Seats.{table_of};
+
+mod cyclic;
+mod elections;
+mod making;
+mod stops;
+
+use self::making::{has_page_out, last_tap, left, made, one_and_four, pair, small, three};
+use bus_adoptcommit::ThreeWord;
+use bus_batch::{CloseFault, Item, Message, PutFault};
+use bus_deliverylog::read_log;
+use bus_pageslot::{BusOf, EndFault, Ended, Seatable, SenderOf, TapOf};
+use bus_register::{Kind, SenderNo};
+use bus_tenure::{SenderCore, Turn};
+use bus_world::{MakeFault, Shape};
+use rand_pcg::Pcg32;
+use std::alloc::Global;
+use std::process::Abort;
+use std::sync::Wait;
+use std::thread::{Threads, join, map_vec};
+
+/// One sender, two receivers, two tenures.
+const SMALL: Shape = Shape {
+    senders: 1,
+    receivers: 2,
+    rounds: 1,
+    rows: 2,
+    log_words: 64,
+};
+
+/// A sender of a bus with a row for each tenure, over the ratifier at work. What a test does is
+/// written of any sender and proved once, from what any promises; the test names the sender alone.
+type Apart = SenderCore<ThreeWord>;
+
+/// Puts a message, which is answered so.
+fn puts<S: Seatable + Drop>(
+    rt: &impl Abort,
+    sender: &mut SenderOf<S>,
+    bytes: &[u8],
+    want: Result<u64, PutFault>,
+)
+    ensures { table_of sender.new ≡ table_of sender.old }
+{
+    assert_eq!(rt; sender.put(bytes), want);
+}
+
+/// Closes, which is answered so.
+fn closes<S: Seatable + Drop>(
+    rt: &impl Abort,
+    sender: &mut SenderOf<S>,
+    want: Result<(), CloseFault>,
+)
+    ensures { table_of sender.new ≡ table_of sender.old }
+{
+    assert_eq!(rt; sender.close(), want);
+}
+
+/// The next step is for this.
+fn is_due<S: Seatable + Drop>(rt: &impl Abort, sender: &SenderOf<S>, want: Kind) {
+    assert_eq!(rt; sender.kind(), Some(want));
+}
+
+/// So many messages wait, and the next one gets this number.
+fn has<S: Seatable + Drop>(rt: &impl Abort, sender: &SenderOf<S>, pending: u64, next: u64) {
+    assert_eq!(rt; (sender.pending(), sender.next_number()), (pending, next));
+}
+
+/// One turn. Nothing is proved here of its answer, nor of what it did: runs see that.
+fn take_turn<S: Seatable + Drop>(bus: &BusOf<S>, sender: &mut SenderOf<S>, word: u32) -> Turn
+    requires { table_of sender.old ≡ bus.now.table }
+    ensures { table_of sender.new ≡ bus.now.table }
+{
+    sender.turn(bus, word)
+}
+
+/// Turns, at most so many, up to the first answer that is not Going. Their words go from 0 up to
+/// below `words` and round again.
+fn first_answer<S: Seatable + Drop>(
+    bus: &BusOf<S>,
+    sender: &mut SenderOf<S>,
+    most: u32,
+    words: u32,
+) -> Turn
+    requires table { table_of sender.old ≡ bus.now.table }
+    requires words { 0 < words }
+    ensures { table_of sender.new ≡ bus.now.table }
+{
+    for turn in 0..most {
+        let answer = take_turn(bus, sender, turn % words);
+        if !matches!(answer, Turn::Going) {
+            return answer;
+        }
+    }
+    Turn::Going
+}
+
+/// The answer is the one that is wanted.
+fn is_answer(rt: &impl Abort, found: Turn, want: Turn) {
+    assert_eq!(rt; found, want);
+}
+
+/// Turns, each of which is to be answered so.
+fn turns<S: Seatable + Drop>(
+    rt: &impl Abort,
+    bus: &BusOf<S>,
+    sender: &mut SenderOf<S>,
+    want: &[Turn],
+)
+    requires { table_of sender.old ≡ bus.now.table }
+    ensures { table_of sender.new ≡ bus.now.table }
+{
+    for (i, turn) in want.iter().enumerate() {
+        let got = take_turn(bus, sender, 0);
+        assert_eq!(rt; got, *turn, "turn {i}");
+    }
+}
+
+/// Loads one word below the length.
+fn loads_one<S: Seatable + Drop>(
+    rt: &impl Abort,
+    bus: &BusOf<S>,
+    tap: &mut TapOf<S>,
+    place: u64,
+    want: u64,
+)
+    requires { tap.old.table_id ≡ bus.now.table }
+    ensures { tap.new.table_id ≡ bus.now.table }
+{
+    assert!(rt; place < tap.known());
+    let got = tap.load_word(bus, place);
+    assert_eq!(rt; got, want);
+}
+
+/// Loads the length, and then the words below it.
+fn loads<S: Seatable + Drop>(rt: &impl Abort, bus: &BusOf<S>, tap: &mut TapOf<S>, want: &[u64])
+    requires { tap.old.table_id ≡ bus.now.table }
+    ensures { tap.new.table_id ≡ bus.now.table }
+{
+    let length = tap.load_length(bus);
+    assert_eq!(rt; length, want.len() as u64);
+    assert!(rt; tap.known() == length);
+    for (place, word) in want.iter().enumerate() {
+        loads_one(rt, bus, tap, place as u64, *word);
+    }
+}
+
+/// The words of an a, the first message of sender 0, in tenure 0.
+const WORDS: [u64; 3] = [
+    0x4000_0200_0000_0000,
+    0x8040_0000_0000_0000,
+    0x6100_0000_0000_0000,
+];
+
+/// The answers of its tenure 0 from the announcement to the last word.
+const TO_LAST_WORD: [Turn; 5] = [
+    Turn::Going,
+    Turn::Own { tenure: 0 },
+    Turn::Going,
+    Turn::Going,
+    Turn::Going,
+];
+
+/// The a is delivered.
+const DELIVERED: Turn = Turn::Delivered {
+    tenure: 0,
+    first: 0,
+    last: 0,
+};
+
+/// A receiver that is told of a message, and one that it meets.
+fn tells_and_meets<S: Seatable + Drop, R: Abort>(rt: &R, alloc: Global) {
+    let (bus, mut sender, mut first, mut second) = small::<S>(rt, alloc);
+    puts(rt, &mut sender, b"a", Ok(0));
+    turns(rt, &bus, &mut sender, &[Turn::Going]);
+    turns(rt, &bus, &mut sender, &TO_LAST_WORD);
+    is_due(rt, &sender, Kind::StoreLength);
+    loads(rt, &bus, &mut first, &[]);
+    assert_eq!(rt; sender.words(), 0);
+    turns(rt, &bus, &mut sender, &[Turn::Going]);
+    assert_eq!(rt; sender.words(), 3);
+    loads(rt, &bus, &mut first, &WORDS);
+    assert_eq!(rt; (first.known(), second.known()), (3, 0));
+    tells(rt, &bus, &mut sender, &mut second, 3);
+    turns(rt, &bus, &mut sender, &[DELIVERED, Turn::Idle]);
+    has(rt, &sender, 0, 1);
+    meet(rt, &bus, &mut first, &mut second, 3);
+}
+
+#[test]
+fn told_and_meet(rt: HostRuntime) {
+    tells_and_meets::<Apart, HostRuntime>(&rt, rt.alloc());
+}
+
+/// In a tenure nothing more is put, and no close.
+fn is_busy<S: Seatable + Drop, R: Abort>(rt: &R, alloc: Global) {
+    let (bus, mut sender, _, _) = small::<S>(rt, alloc);
+    assert_eq!(rt; sender.number(), SenderNo(0));
+    turns(rt, &bus, &mut sender, &[Turn::Idle]);
+    puts(rt, &mut sender, b"a", Ok(0));
+    assert_eq!(rt; sender.pending(), 1);
+    is_due(rt, &sender, Kind::LoadStage);
+    turns(rt, &bus, &mut sender, &[Turn::Going]);
+    is_due(rt, &sender, Kind::Announce);
+    assert_eq!(rt; (sender.turns_left(), sender.wants_word()), (2, false));
+    puts(rt, &mut sender, b"b", Err(PutFault::Busy));
+    closes(rt, &mut sender, Err(CloseFault::Busy));
+}
+
+#[test]
+fn busy_in_a_tenure(rt: HostRuntime) {
+    is_busy::<Apart, HostRuntime>(&rt, rt.alloc());
+}
+
+/// Turns up to the first that is not going, at most so many, and sees what it answers. The words
+/// of its votes go from 0 to 4 and round again.
+fn goes<S: Seatable + Drop>(
+    rt: &impl Abort,
+    bus: &BusOf<S>,
+    sender: &mut SenderOf<S>,
+    most: u32,
+    want: Turn,
+)
+    requires { table_of sender.old ≡ bus.now.table }
+    ensures { table_of sender.new ≡ bus.now.table }
+{
+    is_answer(rt, first_answer(bus, sender, most, 5), want);
+}
+
+/// The bus ended with an a and an end mark.
+fn ends_closed(rt: &impl Abort, ended: &Ended) {
+    let log = [
+        WORDS[0],
+        WORDS[1],
+        WORDS[2],
+        0x4000_0100_0000_0001,
+        0xC000_0000_0000_0000,
+    ];
+    assert_eq!(rt; ended.log(), log.as_slice());
+    let page = *ended.page();
+    assert_eq!(rt; (page.next[0], page.next[1]), (1, 0));
+    assert_eq!(rt; (page.ended, page.tenures, page.words), (true, 2, 5));
+}
+
+/// Two receivers meet, from when on both know so many words.
+fn meet<S: Seatable + Drop>(
+    rt: &impl Abort,
+    bus: &BusOf<S>,
+    first: &mut TapOf<S>,
+    second: &mut TapOf<S>,
+    words: u64,
+)
+    requires { (first.old.table_id ≡ bus.now.table) × (second.old.table_id ≡ bus.now.table) }
+    ensures { (first.new.table_id ≡ bus.now.table) × (second.new.table_id ≡ bus.now.table) }
+{
+    assert_eq!(rt; first.meet(second, bus), words);
+    assert_eq!(rt; (first.known(), second.known()), (words, words));
+}
+
+/// A sender tells a receiver, which knows so many words from then on.
+fn tells<S: Seatable + Drop>(
+    rt: &impl Abort,
+    bus: &BusOf<S>,
+    sender: &mut SenderOf<S>,
+    tap: &mut TapOf<S>,
+    words: u64,
+)
+    requires { (table_of sender.old ≡ bus.now.table) × (tap.old.table_id ≡ bus.now.table) }
+    ensures { (table_of sender.new ≡ bus.now.table) × (tap.new.table_id ≡ bus.now.table) }
+{
+    assert_eq!(rt; tap.told(sender, bus), words);
+    assert_eq!(rt; tap.known(), words);
+}
+
+/// A message and a close, and what they leave behind.
+fn closes_and_ends<S: Seatable + Drop, R: Abort>(rt: &R, alloc: Global) {
+    let (bus, mut sender, mut first, mut second) = small::<S>(rt, alloc);
+    puts(rt, &mut sender, b"a", Ok(0));
+    goes(rt, &bus, &mut sender, 20, Turn::Own { tenure: 0 });
+    goes(rt, &bus, &mut sender, 20, DELIVERED);
+    closes(rt, &mut sender, Ok(()));
+    goes(rt, &bus, &mut sender, 20, Turn::Own { tenure: 1 });
+    goes(rt, &bus, &mut sender, 20, Turn::Closed);
+    puts(rt, &mut sender, b"b", Err(PutFault::Closed));
+    meet(rt, &bus, &mut first, &mut second, 5);
+    ends_closed(rt, &left(rt, bus, second));
+}
+
+#[test]
+fn closed_and_ended(rt: HostRuntime) {
+    closes_and_ends::<Apart, HostRuntime>(&rt, rt.alloc());
+}
+
+/// A sender is dropped with the page.
+fn ends_with_page_out<S: Seatable + Drop, R: Abort>(rt: &R, alloc: Global) {
+    let shape = Shape {
+        senders: 2,
+        receivers: 1,
+        rounds: 4,
+        rows: 256,
+        log_words: 65536,
+    };
+    let (bus, _, mut sender, tap) = pair::<S>(rt, alloc, shape);
+    puts(rt, &mut sender, b"a", Ok(0));
+    goes(rt, &bus, &mut sender, 1000, Turn::Own { tenure: 0 });
+    drop(sender);
+    has_page_out(rt, bus, tap);
+}
+
+#[test]
+fn end_with_page_out(rt: HostRuntime) {
+    ends_with_page_out::<Apart, HostRuntime>(&rt, rt.alloc());
+}
+
+/// So many items of senders 0 and 1, and so many words.
+fn has_numbers(rt: &impl Abort, ended: &Ended, want: (u64, u64, usize)) {
+    let next = ended.page().next;
+    assert_eq!(rt; (next[0], next[1], ended.log().len()), want);
+}
+
+/// Each takes 400 turns, one after one of the other. Says which of them delivered.
+fn alternate<S: Seatable + Drop>(
+    bus: &BusOf<S>,
+    first: &mut SenderOf<S>,
+    second: &mut SenderOf<S>,
+) -> (bool, bool)
+    requires { (table_of first.old ≡ bus.now.table) × (table_of second.old ≡ bus.now.table) }
+{
+    let (mut first_sent, mut second_sent) = (false, false);
+    for turn in 0..400u32 {
+        if let Turn::Delivered { .. } = take_turn(bus, first, turn % 3) {
+            first_sent = true;
+        }
+        if let Turn::Delivered { .. } = take_turn(bus, second, turn % 2) {
+            second_sent = true;
+        }
+    }
+    (first_sent, second_sent)
+}
+
+/// Two senders, of which the first takes one turn for each of the second's.
+fn take_turns<S: Seatable + Drop, R: Abort>(rt: &R, alloc: Global) {
+    let shape = Shape {
+        senders: 2,
+        receivers: 1,
+        rounds: 1,
+        rows: 4,
+        log_words: 64,
+    };
+    let (bus, mut first, mut second, tap) = pair::<S>(rt, alloc, shape);
+    puts(rt, &mut first, b"a", Ok(0));
+    puts(rt, &mut second, b"b", Ok(0));
+    let sent = alternate(&bus, &mut first, &mut second);
+    assert_eq!(rt; sent, (true, true));
+    has_numbers(rt, &left(rt, bus, tap), (1, 1, 6));
+}
+
+#[test]
+fn two_senders_take_turns(rt: HostRuntime) {
+    take_turns::<Apart, HostRuntime>(&rt, rt.alloc());
+}
+
+/// Sends three messages, one after another, and says whether all were delivered.
+fn sends_three<S: Seatable + Drop>(bus: &BusOf<S>, mut sender: SenderOf<S>) -> bool
+    requires { table_of sender ≡ bus.now.table }
+{
+    let first = sends(bus, &mut sender);
+    let second = sends(bus, &mut sender);
+    let third = sends(bus, &mut sender);
+    first && second && third
+}
+
+/// Sends one message, and says whether it was delivered.
+fn sends<S: Seatable + Drop>(bus: &BusOf<S>, sender: &mut SenderOf<S>) -> bool
+    requires { table_of sender.old ≡ bus.now.table }
+    ensures { table_of sender.new ≡ bus.now.table }
+{
+    let put = sender.put(b"abc");
+    let sent = is_sent(bus, sender);
+    put.is_ok() && sent
+}
+
+/// Turns until what waits is delivered.
+fn is_sent<S: Seatable + Drop>(bus: &BusOf<S>, sender: &mut SenderOf<S>) -> bool
+    requires { table_of sender.old ≡ bus.now.table }
+    ensures { table_of sender.new ≡ bus.now.table }
+{
+    for turn in 0..10_000_000u32 {
+        if let Turn::Delivered { .. } = take_turn(bus, sender, turn % 5) {
+            return true;
+        }
+    }
+    false
+}
+
+/// Each of these two sends three messages in a thread of its own.
+fn both_send<S: Seatable + Drop + Send + Sync, R: Threads>(
+    rt: &R,
+    bus: &BusOf<S>,
+    first: SenderOf<S>,
+    second: SenderOf<S>,
+) -> (bool, bool)
+    requires { (table_of first ≡ bus.now.table) × (table_of second ≡ bus.now.table) }
+{
+    join(
+        rt,
+        move || sends_three(bus, first),
+        move || sends_three(bus, second),
+    )
+}
+
+/// Two senders, each in a thread of its own.
+fn threads_send<S: Seatable + Drop + Send + Sync, R: Threads + Abort + AllocGlobal>(rt: &R) {
+    let shape = Shape {
+        senders: 2,
+        receivers: 1,
+        rounds: 2,
+        rows: 256,
+        log_words: 1024,
+    };
+    let (bus, first, second, tap) = pair::<S>(rt, rt.alloc(), shape);
+    assert_eq!(rt; both_send(rt, &bus, first, second), (true, true));
+    has_numbers(rt, &left(rt, bus, tap), (3, 3, 18));
+}
+
+#[test]
+fn two_threads_send(rt: HostRuntime) {
+    threads_send::<Apart, HostRuntime>(&rt);
+}
+
+/// Sends 20 messages, each in a tenure of its own, and says how many were delivered.
+fn sends_twenty<S: Seatable + Drop>(
+    wait: &impl Wait,
+    bus: &BusOf<S>,
+    mut sender: SenderOf<S>,
+) -> u32
+    requires { table_of sender ≡ bus.now.table }
+{
+    let mut rng = Pcg32::new(0, u64::from(sender.number().0));
+    let mut delivered = 0u32;
+    for _ in 0..20 {
+        let put = sender.put(b"abc");
+        let sent = sender.send(wait, bus, &mut rng);
+        if put.is_ok() && matches!(sent, Turn::Delivered { .. }) {
+            delivered = delivered.saturating_add(1);
+        }
+    }
+    delivered
+}
+
+/// Each of these senders sends so in a thread of its own.
+fn send_at_once<S: Seatable + Drop + Send + Sync, R: Threads + Wait + Abort + Sync>(
+    rt: &R,
+    bus: &BusOf<S>,
+    senders: Vec<SenderOf<S>>,
+) -> Vec<u32>
+    requires { All (λ s. table_of s ≡ bus.now.table) senders.items }
+{
+    map_vec(rt, senders, &|sender| sends_twenty(rt, bus, sender)).expect(rt, "memory")
+}
+
+/// Twenty items of each of three senders, each in a tenure of its own.
+fn has_sixty(rt: &impl Abort, ended: &Ended) {
+    for sender in 0..3 {
+        assert_eq!(rt; ended.count(SenderNo(sender)), 20, "of sender {sender}");
+    }
+    let page = ended.page();
+    assert_eq!(rt; page.next, [20, 20, 20, 0, 0, 0, 0, 0]);
+    assert_eq!(rt; (page.ended, page.tenures, page.words), (false, 60, 180));
+    assert_eq!(rt; ended.log().len(), 180);
+}
+
+/// Three senders, each in a thread of its own.
+fn three_at_once<S: Seatable + Drop + Send + Sync, R: Threads + Wait + Abort + AllocGlobal + Sync>(
+    rt: &R,
+) {
+    let shape = Shape {
+        senders: 3,
+        receivers: 1,
+        rounds: 2,
+        rows: 60,
+        log_words: 1024,
+    };
+    let (bus, senders, mut taps) = made::<S>(rt, rt.alloc(), shape);
+    let tap = last_tap(rt, &bus, &mut taps);
+    let sent = send_at_once(rt, &bus, senders);
+    assert_eq!(rt; sent.as_slice(), [20, 20, 20].as_slice());
+    has_sixty(rt, &left(rt, bus, tap));
+}
+
+#[test]
+fn three_threads(rt: HostRuntime) {
+    three_at_once::<Apart, HostRuntime>(&rt);
+}
+
+/// Turns at word 0 up to the first that is not going, at most so many, and sees what it answers.
+fn ends_in<S: Seatable + Drop>(
+    rt: &impl Abort,
+    bus: &BusOf<S>,
+    sender: &mut SenderOf<S>,
+    most: u32,
+    want: Turn,
+)
+    requires { table_of sender.old ≡ bus.now.table }
+    ensures { table_of sender.new ≡ bus.now.table }
+{
+    is_answer(rt, first_answer(bus, sender, most, 1), want);
+}
+
+/// Sees the items of an ended bus and the owners of its frames.
+fn leaves<R: Abort + AllocGlobal>(
+    rt: &R,
+    ended: &Ended,
+    senders: u64,
+    items: &[Item],
+    owners: &[(u64, SenderNo)],
+) {
+    let read = read_log(rt.alloc(), ended.log(), senders).expect(rt, "a log");
+    assert_eq!(rt; read.order.items.as_slice(), items);
+    assert_eq!(rt; read.owners.as_slice(), owners);
+    assert!(rt; !read.order.ended);
+}
+
+/// The item of this sender and number, which carries one byte.
+fn item(rt: &impl Abort, sender: u8, number: u64, byte: u8) -> Item {
+    Item {
+        sender: SenderNo(sender),
+        number,
+        message: Message::of_bytes(&[byte]).expect(rt, "short"),
+    }
+}
+
+/// The tenure delivered one message of this number.
+fn delivered(tenure: u64, number: u64) -> Turn {
+    Turn::Delivered {
+        tenure,
+        first: number,
+        last: number,
+    }
+}
+
+/// The tenure is this sender's, which delivers the one message that waits, of this number.
+fn delivers<S: Seatable + Drop>(
+    rt: &impl Abort,
+    bus: &BusOf<S>,
+    sender: &mut SenderOf<S>,
+    tenure: u64,
+    number: u64,
+)
+    requires { table_of sender.old ≡ bus.now.table }
+    ensures { table_of sender.new ≡ bus.now.table }
+{
+    ends_in(rt, bus, sender, 99, Turn::Own { tenure });
+    ends_in(rt, bus, sender, 99, delivered(tenure, number));
+}
+
+/// Tenure 0 is lost to this sender.
+fn lost(owner: u8) -> Turn {
+    Turn::Lost {
+        tenure: 0,
+        owner: SenderNo(owner),
+    }
+}
+
+/// A candidate changes while it is voted on.
+fn changes_candidate<S: Seatable + Drop, R: Abort + AllocGlobal>(rt: &R) {
+    let (bus, mut one, mut four, tap) = one_and_four::<S>(rt, rt.alloc());
+    assert_eq!(rt; (one.number(), four.number()), (SenderNo(1), SenderNo(4)));
+    puts(rt, &mut one, b"a", Ok(0));
+    puts(rt, &mut four, b"b", Ok(0));
+    ends_in(rt, &bus, &mut four, 14, Turn::Going);
+    ends_in(rt, &bus, &mut one, 99, lost(4));
+    delivers(rt, &bus, &mut four, 0, 0);
+    let ended = left(rt, bus, tap);
+    leaves(rt, &ended, 5, &[item(rt, 4, 0, b'b')], &[(0, SenderNo(4))]);
+}
+
+#[test]
+fn candidate_changes(rt: HostRuntime) {
+    changes_candidate::<Apart, HostRuntime>(&rt);
+}
+
+/// Two items of sender 0, and then one of sender 1.
+fn leaves_three<R: Abort + AllocGlobal>(rt: &R, ended: &Ended) {
+    let items = [
+        item(rt, 0, 0, b'a'),
+        item(rt, 0, 1, b'c'),
+        item(rt, 1, 0, b'b'),
+    ];
+    let owners = [(0, SenderNo(0)), (1, SenderNo(0)), (2, SenderNo(1))];
+    leaves(rt, ended, 2, &items, &owners);
+}
+
+/// A sender that comes late to an old tenure.
+fn comes_late<S: Seatable + Drop, R: Abort + AllocGlobal>(rt: &R) {
+    let shape = Shape {
+        senders: 2,
+        receivers: 1,
+        rows: 4,
+        ..SMALL
+    };
+    let (bus, mut zero, mut one, tap) = pair::<S>(rt, rt.alloc(), shape);
+    puts(rt, &mut zero, b"a", Ok(0));
+    puts(rt, &mut one, b"b", Ok(0));
+    ends_in(rt, &bus, &mut one, 1, Turn::Going);
+    delivers(rt, &bus, &mut zero, 0, 0);
+    puts(rt, &mut zero, b"c", Ok(1));
+    delivers(rt, &bus, &mut zero, 1, 1);
+    ends_in(rt, &bus, &mut one, 99, lost(0));
+    delivers(rt, &bus, &mut one, 2, 0);
+    leaves_three(rt, &left(rt, bus, tap));
+}
+
+#[test]
+fn late_to_an_old_tenure(rt: HostRuntime) {
+    comes_late::<Apart, HostRuntime>(&rt);
+}
+
+/// As many senders and receivers as the shape says, or no memory.
+fn makes_as_many<S: Seatable + Drop, R: Abort>(rt: &R, alloc: Global) {
+    match BusOf::<S>::new(alloc, SMALL) {
+        Ok((_, senders, taps)) => assert_eq!(rt; (senders.len(), taps.len()), (1, 2)),
+        Err(fault) => assert_eq!(rt; fault, MakeFault::NoMemory),
+    }
+}
+
+#[test]
+fn as_many_as_the_shape_says_unless_memory_is_refused(rt: HostRuntime) {
+    makes_as_many::<Apart, HostRuntime>(&rt, rt.alloc());
+}
+
+/// A bus of this shape is refused so.
+fn refuses<S: Seatable + Drop, R: Abort>(rt: &R, alloc: Global, shape: Shape, fault: MakeFault) {
+    assert_eq!(rt; BusOf::<S>::new(alloc, shape).err(), Some(fault));
+}
+
+#[test]
+fn shapes_that_are_refused(rt: HostRuntime) {
+    let shape = Shape {
+        receivers: 9,
+        ..SMALL
+    };
+    refuses::<Apart, HostRuntime>(&rt, rt.alloc(), shape, MakeFault::Receivers);
+}
