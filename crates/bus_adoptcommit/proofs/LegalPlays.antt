@@ -14,7 +14,7 @@ use Rattle.bus_register.specs.Words.{register}
 use Rattle.bus_adoptcommit.specs.declared.verdicts.Verdict.{Verdict}
 use Rattle.bus_adoptcommit.specs.Agreement.{Legal}
 use Rattle.bus_adoptcommit.specs.Plays.{Moment, IsStep, IsMove, Plays, at_starts, AtStarts, IsPlay}
-use Rattle.bus_adoptcommit.specs.Schedule.{table_of, entries, entered}
+use Rattle.bus_adoptcommit.specs.Schedule.{table_of, entries, entered_input}
 use Rattle.bus_adoptcommit.proofs.Moves.{moment_is}
 use Rattle.bus_adoptcommit.proofs.Schedules.{zero_words, mapped, entered-none}
 use Rattle.bus_adoptcommit.proofs.Starts.{starts_one}
@@ -124,7 +124,7 @@ module _ {S : Type 0} (op : S → ℕ → Option Op) (fed : S → ℕ → ℕ �
       subst (λ c. Reached c new) (fun_ext (λ q. let all = sum_by-cons (λ z. cond (z == q) 1 0) p schedule in omega arith)) rest
 
   -- the inputs that count are those of the processes with entries
-  inputs_are : (schedule : List ℕ) (count : ℕ → ℕ) (m : Moment S) → Reached count m → ((p : ℕ) → count p ≡ entries schedule p) → (p : ℕ) → entered given schedule p ≡ inputs P m.locals p
+  inputs_are : (schedule : List ℕ) (count : ℕ → ℕ) (m : Moment S) → Reached count m → ((p : ℕ) → count p ≡ entries schedule p) → (p : ℕ) → entered_input given schedule p ≡ inputs P m.locals p
   inputs_are schedule count m r same p = elim (some_or_none (m.locals p)) [
     | inl none ↦ entered-none given schedule p (sym (r.brought p) ∙ ap (option_map P.input) none) ∙ sym (ap (of_some (counted_input P)) none)
     | inr s ↦
@@ -133,7 +133,7 @@ module _ {S : Type 0} (op : S → ℕ → Option Op) (fed : S → ℕ → ℕ �
         ∙ sym (ap (of_some (counted_input P)) s.1)
   ]
 
-  pub plays_legal : (schedule : List ℕ) (outs : List (Option Verdict)) → IsPlay op fed P given schedule outs → Legal (entered given schedule) (table_of outs)
+  pub plays_legal : (schedule : List ℕ) (outs : List (Option Verdict)) → IsPlay op fed P given schedule outs → Legal (entered_input given schedule) (table_of outs)
   plays_legal schedule outs h =
       let r = reached_after schedule (λ _. 0) (at_starts P given) h.last h.plays reached_start in
       let in_are = fun_ext (inputs_are schedule _ h.last r (λ p. omega arith)) in

@@ -17,7 +17,7 @@ use Rattle.bus_adoptcommit.specs.Agreement.{Legal}
 use Rattle.bus_adoptcommit.proofs.AgreementLaws.{Legal-fewer}
 use Rattle.bus_adoptcommit.specs.Plays.{AtStarts, IsExact, IsPlay, Verdicts}
 use Rattle.bus_adoptcommit.proofs.Moves.{Turn}
-use Rattle.bus_adoptcommit.specs.Schedule.{table_of, entries, entered, finished, LegalThroughout}
+use Rattle.bus_adoptcommit.specs.Schedule.{table_of, entries, entered_input, finished_output, LegalThroughout}
 
 -- ── lists ──
 -- a vector that was lent whole
@@ -41,7 +41,7 @@ same_arms true = refl
 same_arms false = refl
 
 -- who has no input has none that counts
-pub entered-none : (given : List Bool) (sch : List ℕ) (p : ℕ) → slice_get given p ≡ None → entered given sch p ≡ None
+pub entered-none : (given : List Bool) (sch : List ℕ) (p : ℕ) → slice_get given p ≡ None → entered_input given sch p ≡ None
 entered-none given sch p e = ap (λ z. cond (nat_lt 0 (entries sch p)) z None) e ∙ same_arms (nat_lt 0 (entries sch p))
 
 -- the outputs in a list, and in a table
@@ -50,13 +50,13 @@ mapped f None = refl
 mapped f (Some x) = refl
 
 -- an output that stands is that of a process with all its entries
-finished_is : (steps : ℕ) (v : ℕ → Option Verdict) (sch : List ℕ) (p : ℕ) (d : Verdict) → finished steps v sch p ≡ Some d → (steps ≤ entries sch p) × (v p ≡ Some d)
+finished_is : (steps : ℕ) (v : ℕ → Option Verdict) (sch : List ℕ) (p : ℕ) (d : Verdict) → finished_output steps v sch p ≡ Some d → (steps ≤ entries sch p) × (v p ≡ Some d)
 finished_is steps v sch p d e = elim (cases_lt (entries sch p) steps) [
   | inl l ↦ absurd (let a : None ≡ Some d = ap (λ b. cond b None (v p)) (sym (lt-ltb _ _ l)) ∙ e in cc)
   | inr g ↦ (g, ap (λ b. cond b None (v p)) (sym (le-ltb _ _ g)) ∙ e)
 ]
 
-finished_so : (steps : ℕ) (v : ℕ → Option Verdict) (sch : List ℕ) (p : ℕ) (d : Verdict) → steps ≤ entries sch p → v p ≡ Some d → finished steps v sch p ≡ Some d
+finished_so : (steps : ℕ) (v : ℕ → Option Verdict) (sch : List ℕ) (p : ℕ) (d : Verdict) → steps ≤ entries sch p → v p ≡ Some d → finished_output steps v sch p ≡ Some d
 finished_so steps v sch p d g e = ap (λ b. cond b None (v p)) (le-ltb _ _ g) ∙ e
 
 module _ {S : Type 0} (op : S → ℕ → Option Op) (fed : S → ℕ → ℕ → S) (P : Protocol S Bool Verdict) where
@@ -79,7 +79,7 @@ module _ {S : Type 0} (op : S → ℕ → Option Op) (fed : S → ℕ → ℕ �
     pub follows : AllFollow n given (take i schedule) processes
     -- who has all its entries in a prefix has them now
     pub past : (k p : ℕ) → k ≤ i → P.steps n ≤ entries (take k schedule) p → P.steps n ≤ entries (take i schedule) p
-    pub legal : (k : ℕ) → k ≤ i → Legal (entered given (take k schedule)) (finished (P.steps n) (outputs P (slice_get processes)) (take k schedule))
+    pub legal : (k : ℕ) → k ≤ i → Legal (entered_input given (take k schedule)) (finished_output (P.steps n) (outputs P (slice_get processes)) (take k schedule))
 
 module _ {S : Type 0} (op : S → ℕ → Option Op) (fed : S → ℕ → ℕ → S) (P : Protocol S Bool Verdict) (laws : Laws op fed P Legal) where
   -- where a step is left, no output stands
@@ -122,7 +122,7 @@ module _ {S : Type 0} (op : S → ℕ → Option Op) (fed : S → ℕ → ℕ �
       }
 
   -- the inputs that count are those of the processes with entries
-  entered_is : (n : ℕ) (given : List Bool) (sch : List ℕ) (processes : List S) → length processes ≡ length given → AllFollow op fed P n given sch processes → entered given sch ≡ inputs P (slice_get processes)
+  entered_is : (n : ℕ) (given : List Bool) (sch : List ℕ) (processes : List S) → length processes ≡ length given → AllFollow op fed P n given sch processes → entered_input given sch ≡ inputs P (slice_get processes)
   entered_is n given sch processes size f = fun_ext (λ p. elim (some_or_none (slice_get processes p)) [
     | inl e ↦ entered-none given sch p (slice_get_past given p (elim (cases_lt p (length processes)) [ inl l ↦ absurd (here_not processes p l e) | inr g ↦ omega arith ])) ∙ sym (ap (of_some (counted_input P)) e)
     | inr s ↦ let a = f p s.0 s.1 in
@@ -130,11 +130,11 @@ module _ {S : Type 0} (op : S → ℕ → Option Op) (fed : S → ℕ → ℕ �
   ])
 
   -- what stands now is legal
-  legal_now : (n : ℕ) (given : List Bool) (sch : List ℕ) (processes : List S) (ws : ℕ → ℕ) → length processes ≡ length given → AllFollow op fed P n given sch processes → P.Keeps n 0 ws (slice_get processes) → Legal (entered given sch) (outputs P (slice_get processes))
+  legal_now : (n : ℕ) (given : List Bool) (sch : List ℕ) (processes : List S) (ws : ℕ → ℕ) → length processes ≡ length given → AllFollow op fed P n given sch processes → P.Keeps n 0 ws (slice_get processes) → Legal (entered_input given sch) (outputs P (slice_get processes))
   legal_now n given sch processes ws size f k = subst (λ z. Legal z (outputs P (slice_get processes))) (sym (entered_is n given sch processes size f)) (laws.outcome n 0 ws (slice_get processes) k)
 
   -- and so is a part of it
-  legal_part : (n : ℕ) (given : List Bool) (sch : List ℕ) (processes : List S) (ws : ℕ → ℕ) → length processes ≡ length given → AllFollow op fed P n given sch processes → P.Keeps n 0 ws (slice_get processes) → Legal (entered given sch) (finished (P.steps n) (outputs P (slice_get processes)) sch)
+  legal_part : (n : ℕ) (given : List Bool) (sch : List ℕ) (processes : List S) (ws : ℕ → ℕ) → length processes ≡ length given → AllFollow op fed P n given sch processes → P.Keeps n 0 ws (slice_get processes) → Legal (entered_input given sch) (finished_output (P.steps n) (outputs P (slice_get processes)) sch)
   legal_part n given sch processes ws size f k = Legal-fewer _ _ _ (λ q d e. (finished_is (P.steps n) (outputs P (slice_get processes)) sch q d e).1) (legal_now n given sch processes ws size f k)
 
   module _ (n : ℕ) (given : List Bool) (schedule : List ℕ) (i p : ℕ) (processes processes' : List S) (ws : ℕ → ℕ) (h : Playing op fed P n given schedule i processes)
@@ -204,10 +204,10 @@ module _ {S : Type 0} (op : S → ℕ → Option Op) (fed : S → ℕ → ℕ �
     ]
 
     -- legal after each prefix, with one entry more
-    now_legal : (k : ℕ) → k ≤ i + 1 → Legal (entered given (take k schedule)) (finished (P.steps n) (outputs P (slice_get processes')) (take k schedule))
+    now_legal : (k : ℕ) → k ≤ i + 1 → Legal (entered_input given (take k schedule)) (finished_output (P.steps n) (outputs P (slice_get processes')) (take k schedule))
     now_legal k m = elim (cases_lt i k) [
       | inr c ↦ Legal-fewer _ _ _ (λ q d f. let x = finished_is (P.steps n) (outputs P (slice_get processes')) (take k schedule) q d f in finished_so (P.steps n) (outputs P (slice_get processes)) (take k schedule) q d x.0 (stood k c q d x.0 x.1)) (h.legal k c)
-      | inl c ↦ subst (λ z. Legal (entered given (take z schedule)) (finished (P.steps n) (outputs P (slice_get processes')) (take z schedule))) (omega arith) (legal_part n given (take (i + 1) schedule) processes' ws (size ∙ h.size) now_follows k')
+      | inl c ↦ subst (λ z. Legal (entered_input given (take z schedule)) (finished_output (P.steps n) (outputs P (slice_get processes')) (take z schedule))) (omega arith) (legal_part n given (take (i + 1) schedule) processes' ws (size ∙ h.size) now_follows k')
     ]
 
     -- one entry more
@@ -225,7 +225,7 @@ module _ {S : Type 0} (op : S → ℕ → Option Op) (fed : S → ℕ → ℕ �
         size = size;
         follows = follows;
         past = λ k p c z. let e0 : k ≡ 0 = omega arith in subst (λ x. P.steps n ≤ entries (take x schedule) p) e0 z;
-        legal = λ k c. let e0 : 0 ≡ k = omega arith in subst (λ x. Legal (entered given (take x schedule)) (finished (P.steps n) (outputs P (slice_get processes)) (take x schedule))) e0
+        legal = λ k c. let e0 : 0 ≡ k = omega arith in subst (λ x. Legal (entered_input given (take x schedule)) (finished_output (P.steps n) (outputs P (slice_get processes)) (take x schedule))) e0
             (legal_part n given (take 0 schedule) processes (λ _. 0) size follows h.kept);
       }
 
@@ -244,10 +244,10 @@ module _ {S : Type 0} (op : S → ℕ → Option Op) (fed : S → ℕ → ℕ �
     all_follow : AllFollow op fed P (length given) given schedule processes
     all_follow = subst (λ z. AllFollow op fed P (length given) given z processes) (take_all i schedule l) h.follows
 
-    legal_after : (j : ℕ) → Legal (entered given (take j schedule)) (finished (P.steps (length given)) (outputs P (slice_get processes)) (take j schedule))
+    legal_after : (j : ℕ) → Legal (entered_input given (take j schedule)) (finished_output (P.steps (length given)) (outputs P (slice_get processes)) (take j schedule))
     legal_after j = elim (cases_lt i j) [
       | inr c ↦ h.legal j c
-      | inl c ↦ subst (λ z. Legal (entered given z) (finished (P.steps (length given)) (outputs P (slice_get processes)) z)) (take_all i schedule l ∙ sym (take_all j schedule (omega arith))) (h.legal i (omega arith))
+      | inl c ↦ subst (λ z. Legal (entered_input given z) (finished_output (P.steps (length given)) (outputs P (slice_get processes)) z)) (take_all i schedule l ∙ sym (take_all j schedule (omega arith))) (h.legal i (omega arith))
     ]
 
     -- the verdict of a process with all its entries
@@ -271,7 +271,7 @@ module _ {S : Type 0} (op : S → ℕ → Option Op) (fed : S → ℕ → ℕ �
       play = play;
       one_each = ap length e ∙ length-map processes P.output ∙ h.size;
       throughout = subst (LegalThroughout (P.steps (length given)) given schedule) (sym verdicts_are) legal_after;
-      at_end = subst (Legal (entered given schedule)) (sym verdicts_are) (legal_now (length given) given schedule processes ws h.size all_follow k);
+      at_end = subst (Legal (entered_input given schedule)) (sym verdicts_are) (legal_now (length given) given schedule processes ws h.size all_follow k);
       stands = λ p below c. subst (λ z. IsSome (z p)) (sym verdicts_are) (elim (some_or_none (slice_get processes p)) [
         | inl none ↦ absurd (here_not processes p (let z = h.size in omega arith) none)
         | inr s ↦ stands p s.0 s.1 c

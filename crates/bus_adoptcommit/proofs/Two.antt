@@ -7,7 +7,7 @@ use Rattle.bus_adoptcommit.specs.declared.verdicts.Verdict.TheVariants.{Commit, 
 use Rattle.bus_adoptcommit.specs.Agreement.{value_of, IsValid, IsConvergent, IsCoherent, Legal}
 use Rattle.bus_adoptcommit.specs.Plays.{IsPlay}
 use Rattle.bus_adoptcommit.specs.Refused.{of_two, taking_turns}
-use Rattle.bus_adoptcommit.specs.Schedule.{entries, entered}
+use Rattle.bus_adoptcommit.specs.Schedule.{entries, entered_input}
 use Rattle.bus_adoptcommit.specs.TwoCollect.{op_of, fed_of}
 use Rattle.bus_adoptcommit.specs.TwoCollectKeeps.{two_collect}
 use Rattle.bus_adoptcommit.proofs.Moves.{outputs_are}
@@ -37,7 +37,7 @@ both_true zero w e = sym (same_Some _ _ e)
 both_true (suc zero) w e = sym (same_Some _ _ e)
 both_true (suc (suc q)) w e = absurd cc
 
-pub adopts_refused : (schedule : List ℕ) → ¬ IsConvergent (entered (true ∷ true ∷ []) schedule) (of_two (Adopt true) (Adopt true))
+pub adopts_refused : (schedule : List ℕ) → ¬ IsConvergent (entered_input (true ∷ true ∷ []) schedule) (of_two (Adopt true) (Adopt true))
 adopts_refused schedule h = absurd (let e = h true (λ q w f. both_true q w (given_of (nat_lt 0 (entries schedule q)) _ w f)) 1 (Adopt true) refl in cc)
 
 pub unbrought_refused : ¬ IsValid (of_two true true) (of_two (Adopt false) (Adopt false))

@@ -7,7 +7,7 @@ use Rattle.bus_register.specs.Tables.{Beside}
 use Rattle.bus_register.specs.Words.{register, after}
 use Rattle.bus_adoptcommit.specs.declared.verdicts.Verdict.{Verdict}
 use Rattle.bus_adoptcommit.specs.Agreement.{Legal}
-use Rattle.bus_adoptcommit.specs.Schedule.{table_of, entries, entered, LegalThroughout}
+use Rattle.bus_adoptcommit.specs.Schedule.{table_of, entries, entered_input, LegalThroughout}
 
 -- what stands between two steps: a word at each place, and the local state of each process
 pub record Moment (S : Type 0) : Type 0 where
@@ -69,7 +69,7 @@ pub record Verdicts {S : Type 0} (op : S → ℕ → Option Op) (fed : S → ℕ
   -- after each prefix, those of the processes that have all their entries in it are legal
   pub throughout : LegalThroughout (P.steps (length given)) given schedule (table_of outs)
   -- all are legal
-  pub at_end : Legal (entered given schedule) (table_of outs)
+  pub at_end : Legal (entered_input given schedule) (table_of outs)
   -- a process that has all its entries has a verdict
   pub stands : (p : ℕ) → p < length given → P.steps (length given) ≤ entries schedule p → IsSome (table_of outs p)
   -- and where each process takes all its steps, no other has

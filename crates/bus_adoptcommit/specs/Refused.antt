@@ -12,7 +12,7 @@ use Rattle.bus_adoptcommit.specs.declared.verdicts.Verdict.TheVariants.{Adopt}
 use Rattle.bus_adoptcommit.specs.Agreement.{value_of, IsConvergent, IsCoherent}
 use Rattle.bus_adoptcommit.specs.Kinds.{IsNamedFor, ComesAfter}
 use Rattle.bus_adoptcommit.specs.Plays.{IsPlay}
-use Rattle.bus_adoptcommit.specs.Schedule.{table_of, entered}
+use Rattle.bus_adoptcommit.specs.Schedule.{table_of, entered_input}
 use Rattle.bus_adoptcommit.specs.ThreeWord.{Local, op_at, fed_of, output_of}
 use Rattle.bus_adoptcommit.specs.ThreeWordKeeps.{three_word}
 
@@ -40,7 +40,7 @@ pub record PlaysIncoherently (op : Local → Option Op) (fed : Local → ℕ →
 -- they play just that, and all inputs that count agree where an output is no commit of them
 pub record PlaysUnconverged (op : Local → Option Op) (fed : Local → ℕ → Local) (P : Protocol Local Bool Verdict) (given : List Bool) (schedule : List ℕ) (outs : List (Option Verdict)) : Type 0 where
   pub plays : PlaysThreeWords op fed P given schedule outs
-  pub refused : ¬ IsConvergent (entered given schedule) (table_of outs)
+  pub refused : ¬ IsConvergent (entered_input given schedule) (table_of outs)
 
 -- ── wrong processes of three words ──
 -- it goes on preferring its own input, whatever it found

@@ -12,14 +12,14 @@ table_of xs p = of_some (λ o. o) (slice_get xs p)
 abbrev pub entries : List ℕ → ℕ → ℕ
 entries schedule p = count_by (λ q. q == p) schedule
 
--- the inputs that count: those of the processes that have an entry
-abbrev pub entered : List Bool → List ℕ → ℕ → Option Bool
-entered given schedule p = if nat_lt 0 (entries schedule p) then slice_get given p else None
+-- the input of each process that counts: of one that has an entry
+abbrev pub entered_input : List Bool → List ℕ → ℕ → Option Bool
+entered_input given schedule p = if nat_lt 0 (entries schedule p) then slice_get given p else None
 
--- the outputs that stand: those of the processes that have as many entries as they take steps at most
-abbrev pub finished : ℕ → (ℕ → Option Verdict) → List ℕ → ℕ → Option Verdict
-finished steps verdicts schedule p = if nat_lt (entries schedule p) steps then None else verdicts p
+-- the output of each process that stands: of one that has as many entries as it takes steps at most
+abbrev pub finished_output : ℕ → (ℕ → Option Verdict) → List ℕ → ℕ → Option Verdict
+finished_output steps verdicts schedule p = if nat_lt (entries schedule p) steps then None else verdicts p
 
 -- after each prefix of the schedule, the outputs that stand are legal for the inputs that count
 abbrev pub LegalThroughout : ℕ → List Bool → List ℕ → (ℕ → Option Verdict) → Type 0
-LegalThroughout steps given schedule verdicts = (k : ℕ) → Legal (entered given (take k schedule)) (finished steps verdicts (take k schedule))
+LegalThroughout steps given schedule verdicts = (k : ℕ) → Legal (entered_input given (take k schedule)) (finished_output steps verdicts (take k schedule))

@@ -42,13 +42,13 @@ abbrev pub op_of : Local → Option Op
 op_of s = op_at s.progress s
 
 -- s after it found this proposal, or none: it proposes its own value where there is none, and else prefers what it found
-abbrev pub looked : Local → ℕ → Local
-looked s got = if got == 0 then record s { progress = Propose } else record s { preference = got == 2; progress = ReadOther }
+abbrev pub local_after_look : Local → ℕ → Local
+local_after_look s got = if got == 0 then record s { progress = Propose } else record s { preference = got == 2; progress = ReadOther }
 
 -- s after a step that found this number, were it at this point
 abbrev pub fed_at : Progress → Local → ℕ → Local
 fed_at Bring s got = record s { progress = ReadProposal }
-fed_at ReadProposal s got = looked s got
+fed_at ReadProposal s got = local_after_look s got
 fed_at Propose s got = record s { progress = ReadOther }
 fed_at ReadOther s got = record s { unopposed = got == 0; progress = Ended }
 fed_at Ended s got = s

@@ -6,7 +6,7 @@ ghost use Rattle.bus_adoptcommit.specs.declared.verdicts.Verdict.{Verdict};
 ghost use Rattle.bus_adoptcommit.specs.declared.verdicts.Verdict.TheVariants.{Commit, Adopt};
 ghost use Rattle.bus_adoptcommit.specs.Agreement.{IsValid, IsConvergent, IsCoherent, Legal};
 ghost use Rattle.bus_adoptcommit.specs.Plays.{IsPlay};
-ghost use Rattle.bus_adoptcommit.specs.Schedule.{entered, table_of};
+ghost use Rattle.bus_adoptcommit.specs.Schedule.{entered_input, table_of};
 ghost use Rattle.bus_adoptcommit.specs.Refused.{of_two, taking_turns};
 ghost use Rattle.bus_adoptcommit.specs.Refused.{one_after_another, RefusesNames, RefusesOrders};
 ghost use Rattle.bus_adoptcommit.specs.Refused.{PlaysThreeWords, PlaysIncoherently};
@@ -42,7 +42,7 @@ pub fn plays_are_one<Q: Ratifier>()
 pub fn plays_are_legal<Q: Ratifier>()
     ensures { (given : List Bool) (schedule : List ℕ) (outs : List (Option Verdict))
         → length given ≤ MOST_PROCESSES → IsPlay Q.op Q.fed Q.protocol given schedule outs
-        → Legal (entered given schedule) (table_of outs) }
+        → Legal (entered_input given schedule) (table_of outs) }
 {}
 
 /// Two processes of different inputs that take turns adopt their own: a commit of the first one's

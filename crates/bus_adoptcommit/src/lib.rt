@@ -23,8 +23,6 @@ pub mod objects;
 pub mod phases;
 pub mod progress;
 pub mod ratifiers;
-#[cfg(test)]
-mod tests;
 pub mod three_word;
 pub mod two_collect;
 pub mod verdicts;

@@ -211,7 +211,8 @@ impl Ratifier for TwoCollect {
 
 /// A process of two collects takes all its steps, and has no output before.
 pub fn two_collect_is_exact()
-    ensures exact { IsExact ⟦<TwoCollect as Machine>⟧.op ⟦<TwoCollect as Machine>⟧.fed ⟦<TwoCollect as Ratifier>⟧.protocol }
+    ensures exact { IsExact ⟦<TwoCollect as Machine>⟧.op ⟦<TwoCollect as Machine>⟧.fed
+        ⟦<TwoCollect as Ratifier>⟧.protocol }
     ensures steps { (n : ℕ)
         → Protocol.steps ⟦<TwoCollect as Ratifier>⟧.protocol n ≡ 2 * n + 2 }
 {}

@@ -6,18 +6,18 @@ use Rattle.std.proofs.lemmas.List.Elements.{All-nil, All-cons, All-head, All-tai
 use Rattle.bus_register.specs.declared.limits.TheConstants.{MOST_MESSAGES, NUMBERS}
 use Rattle.bus_batch.specs.declared.batches.Phase.{Phase}
 use Rattle.bus_batch.specs.declared.batches.Phase.TheVariants as phase
-use Rattle.bus_batch.specs.Messages.{IsMessage, IsNumbered, numbered}
+use Rattle.bus_batch.specs.Messages.{IsMessage, IsNumbered, numbered_messages}
 use Rattle.bus_batch.specs.Frames.{IsFrame, IsBody}
 use Rattle.bus_batch.specs.Batches.{Pending, HasSomething, IsKept, body_of, frame_of, next_of}
 
-pub length-numbered : (first : ℕ) (ms : List (List ℕ)) → length (numbered first ms) ≡ length ms
+pub length-numbered : (first : ℕ) (ms : List (List ℕ)) → length (numbered_messages first ms) ≡ length ms
 length-numbered first [] = refl
 length-numbered first (m ∷ ms) = ap suc (length-numbered (first + 1) ms)
 
-pub numbered_each : (first : ℕ) (ms : List (List ℕ)) → first + length ms ≤ 2 ^ 48 → All IsMessage ms → All IsNumbered (numbered first ms)
+pub numbered_each : (first : ℕ) (ms : List (List ℕ)) → first + length ms ≤ 2 ^ 48 → All IsMessage ms → All IsNumbered (numbered_messages first ms)
 numbered_each first [] fits each = All-nil IsNumbered
 numbered_each first (m ∷ ms) fits each =
-    All-cons IsNumbered (record { number = first; message = m }) (numbered (first + 1) ms)
+    All-cons IsNumbered (record { number = first; message = m }) (numbered_messages (first + 1) ms)
     (omega arith, All-head IsMessage m ms each) (numbered_each (first + 1) ms (omega arith) (All-tail IsMessage m ms each))
 
 is_body : (p : Phase) (first : ℕ) (ms : List (List ℕ)) → (0 < length ms) ⊎ (p ≡ phase.Closing) → length ms ≤ 16 → first + length ms ≤ 2 ^ 48 → All IsMessage ms → IsBody (body_of p first ms)

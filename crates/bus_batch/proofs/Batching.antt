@@ -8,7 +8,7 @@ use Rattle.std.proofs.lemmas.List.{length-append, get_or-take, get_or-drop, get_
 use Rattle.std.proofs.lemmas.Grind.{common_steps}
 use Rattle.bus_batch.specs.declared.batches.Phase.{Phase}
 use Rattle.bus_batch.specs.declared.batches.Phase.TheVariants as phase
-use Rattle.bus_batch.specs.Messages.{Numbered, numbered}
+use Rattle.bus_batch.specs.Messages.{Numbered, numbered_messages}
 use Rattle.bus_batch.specs.Frames.{body_words, data_word, data_len, words_of_bytes, message_words}
 use Rattle.bus_batch.specs.Batches.{body_of, starts_from}
 use Rattle.bus_batch.proofs.WordLaws.{length-message_words, words_least}
@@ -16,10 +16,10 @@ use Rattle.bus_batch.proofs.BatchLaws.{length-numbered}
 use Rattle.bus_batch.proofs.Bytes.{padded_len}
 
 pub body_least : (p : Phase) (first : ℕ) (ms : List (List ℕ)) → (0 < length ms) ⊎ (p ≡ phase.Closing) → 1 ≤ length (body_words (body_of p first ms))
-body_least phase.Open first ms (inl some) = let a = words_least (numbered first ms) in let b = length-numbered first ms in omega arith
+body_least phase.Open first ms (inl some) = let a = words_least (numbered_messages first ms) in let b = length-numbered first ms in omega arith
 body_least phase.Open first ms (inr e) = absurd (cc)
 body_least phase.Closing first ms h = omega arith
-body_least phase.Closed first ms (inl some) = let a = words_least (numbered first ms) in let b = length-numbered first ms in omega arith
+body_least phase.Closed first ms (inl some) = let a = words_least (numbered_messages first ms) in let b = length-numbered first ms in omega arith
 body_least phase.Closed first ms (inr e) = absurd (cc)
 
 -- ---- data words
@@ -64,7 +64,7 @@ get_right (x ∷ xs) ys zero past = absurd (omega arith)
 get_right (x ∷ xs) ys (suc k) past = get_right xs ys k (omega arith) ∙ ap (slice_get ys) (let e : k - length xs ≡ suc k - suc (length xs) = omega arith in e)
 
 -- one message more
-pub len_put : (first : ℕ) (ms : List (List ℕ)) (m : List ℕ) → length (flat_map message_words (numbered first (ms ++ m ∷ []))) ≡ length (flat_map message_words (numbered first ms)) + (1 + data_len (length m))
+pub len_put : (first : ℕ) (ms : List (List ℕ)) (m : List ℕ) → length (flat_map message_words (numbered_messages first (ms ++ m ∷ []))) ≡ length (flat_map message_words (numbered_messages first ms)) + (1 + data_len (length m))
 len_put first [] m =
     let one : Numbered = record { number = first; message = m } in
     let parts = length-append (message_words one) [] in
@@ -73,8 +73,8 @@ len_put first [] m =
 len_put first (x ∷ ms) m =
     let one : Numbered = record { number = first; message = x } in
     let more = len_put (first + 1) ms m in
-    let left = length-append (message_words one) (flat_map message_words (numbered (first + 1) (ms ++ m ∷ []))) in
-    let right = length-append (message_words one) (flat_map message_words (numbered (first + 1) ms)) in
+    let left = length-append (message_words one) (flat_map message_words (numbered_messages (first + 1) (ms ++ m ∷ []))) in
+    let right = length-append (message_words one) (flat_map message_words (numbered_messages (first + 1) ms)) in
     omega arith
 
 -- ---- where messages begin
@@ -98,7 +98,7 @@ starts_next start (suc k) (m ∷ ms) d below =
     ∙ starts_next (start + (1 + data_len (length m))) k ms d (omega arith)
 
 -- all words end with those of the last message
-pub starts_last : (first start k : ℕ) (ms : List (List ℕ)) (d : List ℕ) → k + 1 ≡ length ms → get_or (starts_from start ms) k 0 + (1 + data_len (length (get_or ms k d))) ≡ start + length (flat_map message_words (numbered first ms))
+pub starts_last : (first start k : ℕ) (ms : List (List ℕ)) (d : List ℕ) → k + 1 ≡ length ms → get_or (starts_from start ms) k 0 + (1 + data_len (length (get_or ms k d))) ≡ start + length (flat_map message_words (numbered_messages first ms))
 starts_last first start k [] d last = absurd (omega arith)
 starts_last first start zero (m ∷ []) d last =
     let one : Numbered = record { number = first; message = m } in
@@ -108,50 +108,50 @@ starts_last first start zero (m ∷ []) d last =
 starts_last first start zero (m ∷ x ∷ ms) d last = absurd (omega arith)
 starts_last first start (suc k) (m ∷ ms) d last =
     let one : Numbered = record { number = first; message = m } in
-    let parts = length-append (message_words one) (flat_map message_words (numbered (first + 1) ms)) in
+    let parts = length-append (message_words one) (flat_map message_words (numbered_messages (first + 1) ms)) in
     let own = length-message_words one in
     let more = starts_last (first + 1) (start + (1 + data_len (length m))) k ms d (omega arith) in
     omega arith
 
 -- a word of the messages is one of the message within whose words it stands
 pub word_at : (first start k i : ℕ) (ms : List (List ℕ)) (d : List ℕ) → k < length ms → get_or (starts_from start ms) k 0 ≤ i → i < get_or (starts_from start ms) k 0 + (1 + data_len (length (get_or ms k d)))
-    → slice_get (flat_map message_words (numbered first ms)) (i - start) ≡ slice_get (message_words (record { number = first + k; message = get_or ms k d })) (i - get_or (starts_from start ms) k 0)
+    → slice_get (flat_map message_words (numbered_messages first ms)) (i - start) ≡ slice_get (message_words (record { number = first + k; message = get_or ms k d })) (i - get_or (starts_from start ms) k 0)
 word_at first start k i [] d below from to = absurd (omega arith)
 word_at first start zero i (m ∷ ms) d below from to =
     let one : Numbered = record { number = first; message = m } in
-    get_left (message_words one) (flat_map message_words (numbered (first + 1) ms)) (i - start) (let own = length-message_words one in omega arith)
+    get_left (message_words one) (flat_map message_words (numbered_messages (first + 1) ms)) (i - start) (let own = length-message_words one in omega arith)
     ∙ ap (λ z. slice_get (message_words (record { number = z; message = m })) (i - start)) (let e : first ≡ first + 0 = omega arith in e)
 word_at first start (suc k) i (m ∷ ms) d below from to =
     let one : Numbered = record { number = first; message = m } in
     let own = length-message_words one in
     let least = starts_least (start + (1 + data_len (length m))) k ms (omega arith) in
-    get_right (message_words one) (flat_map message_words (numbered (first + 1) ms)) (i - start) (omega arith)
-    ∙ ap (slice_get (flat_map message_words (numbered (first + 1) ms))) (let e : i - start - length (message_words one) ≡ i - (start + (1 + data_len (length m))) = omega arith in e)
+    get_right (message_words one) (flat_map message_words (numbered_messages (first + 1) ms)) (i - start) (omega arith)
+    ∙ ap (slice_get (flat_map message_words (numbered_messages (first + 1) ms))) (let e : i - start - length (message_words one) ≡ i - (start + (1 + data_len (length m))) = omega arith in e)
     ∙ word_at (first + 1) (start + (1 + data_len (length m))) k i ms d (omega arith) from to
     ∙ ap (λ z. slice_get (message_words (record { number = z; message = get_or ms k d })) (i - get_or (starts_from (start + (1 + data_len (length m))) ms) k 0)) (let e : first + 1 + k ≡ first + suc k = omega arith in e)
 
 -- a message more begins after all words
-pub starts_put : (first start : ℕ) (ms : List (List ℕ)) (m : List ℕ) → starts_from start (ms ++ m ∷ []) ≡ starts_from start ms ++ (start + length (flat_map message_words (numbered first ms))) ∷ []
+pub starts_put : (first start : ℕ) (ms : List (List ℕ)) (m : List ℕ) → starts_from start (ms ++ m ∷ []) ≡ starts_from start ms ++ (start + length (flat_map message_words (numbered_messages first ms))) ∷ []
 starts_put first start [] m = ap (λ z. z ∷ []) (let e : start ≡ start + 0 = omega arith in e)
 starts_put first start (x ∷ ms) m =
     let one : Numbered = record { number = first; message = x } in
-    let parts = length-append (message_words one) (flat_map message_words (numbered (first + 1) ms)) in
+    let parts = length-append (message_words one) (flat_map message_words (numbered_messages (first + 1) ms)) in
     let own = length-message_words one in
     ap (λ z. start ∷ z) (starts_put (first + 1) (start + (1 + data_len (length x))) ms m
     ∙ ap (λ z. starts_from (start + (1 + data_len (length x))) ms ++ z ∷ [])
-    (let e : start + (1 + data_len (length x)) + length (flat_map message_words (numbered (first + 1) ms)) ≡ start + length (flat_map message_words (numbered first (x ∷ ms))) = omega arith in e))
+    (let e : start + (1 + data_len (length x)) + length (flat_map message_words (numbered_messages (first + 1) ms)) ≡ start + length (flat_map message_words (numbered_messages first (x ∷ ms))) = omega arith in e))
 
 pub starts_first : (ms : List (List ℕ)) → get_or (starts_from 0 ms) 0 0 ≡ 0
 starts_first [] = refl
 starts_first (m ∷ ms) = refl
 
 -- where there is a word, there is a message
-pub some_message : (first i : ℕ) (ms : List (List ℕ)) → i < length (flat_map message_words (numbered first ms)) → 0 < length ms
+pub some_message : (first i : ℕ) (ms : List (List ℕ)) → i < length (flat_map message_words (numbered_messages first ms)) → 0 < length ms
 some_message first i [] below = absurd (omega arith)
 some_message first i (m ∷ ms) below = omega arith
 
 -- a word before the next message, or before the end, is before the end of this one
-pub within_message : (first k next i : ℕ) (ms : List (List ℕ)) (d : List ℕ) → next ≡ k + 1 → next ≤ length ms → (next < length ms → i < get_or (starts_from 0 ms) next 0) → i < length (flat_map message_words (numbered first ms))
+pub within_message : (first k next i : ℕ) (ms : List (List ℕ)) (d : List ℕ) → next ≡ k + 1 → next ≤ length ms → (next < length ms → i < get_or (starts_from 0 ms) next 0) → i < length (flat_map message_words (numbered_messages first ms))
     → i < get_or (starts_from 0 ms) k 0 + (1 + data_len (length (get_or ms k d)))
 within_message first k next i ms d is within before below = elim (cases_lt next (length ms)) [
   | inl more ↦ (let h = before more in let e = starts_next 0 k ms d (omega arith) in let same = ap (λ z. get_or (starts_from 0 ms) z 0) is in omega arith)

@@ -8,7 +8,7 @@ use Rattle.bus_batch.specs.declared.batches.PutFault.{PutFault}
 use Rattle.bus_batch.specs.declared.batches.PutFault.TheVariants as put
 use Rattle.bus_batch.specs.declared.batches.CloseFault.{CloseFault}
 use Rattle.bus_batch.specs.declared.batches.CloseFault.TheVariants as close
-use Rattle.bus_batch.specs.Messages.{IsMessage, numbered}
+use Rattle.bus_batch.specs.Messages.{IsMessage, numbered_messages}
 use Rattle.bus_batch.specs.Frames.{Frame, Body, Messages, EndMark, data_len}
 
 -- a sender's batch: its messages, numbered from first on, whether it accepts more, and whether they are on their way
@@ -33,9 +33,9 @@ HasSomething b = (0 < length b.messages) ⊎ (b.phase ≡ Closing)
 
 -- what its frame carries: the end mark where it is closing, else its messages
 abbrev pub body_of : Phase → ℕ → List (List ℕ) → Body
-body_of Open first messages = Messages (numbered first messages)
+body_of Open first messages = Messages (numbered_messages first messages)
 body_of Closing first messages = EndMark
-body_of Closed first messages = Messages (numbered first messages)
+body_of Closed first messages = Messages (numbered_messages first messages)
 
 -- its frame in a tenure
 abbrev pub frame_of : Pending → ℕ → Frame
@@ -68,10 +68,10 @@ IsCloseFault b close.Busy = (b.phase ≡ Open) × (b.busy ≡ true)
 IsCloseFault b close.Pending = (b.phase ≡ Open) × (b.busy ≡ false) × (0 < length b.messages)
 
 -- the phase once the contents are sent
-abbrev pub sent : Phase → Phase
-sent Open = Open
-sent Closing = Closed
-sent Closed = Closed
+abbrev pub phase_sent : Phase → Phase
+phase_sent Open = Open
+phase_sent Closing = Closed
+phase_sent Closed = Closed
 
 -- at which of their words messages begin, the first of them at this one
 abbrev pub starts_from : ℕ → List (List ℕ) → List ℕ

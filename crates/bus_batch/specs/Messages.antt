@@ -16,6 +16,6 @@ abbrev pub IsNumbered : Numbered → Type 0
 IsNumbered m = (m.number < NUMBERS) × IsMessage m.message
 
 -- messages with the numbers from first on
-abbrev pub numbered : ℕ → List (List ℕ) → List Numbered
-numbered first [] = []
-numbered first (m ∷ messages) = record { number = first; message = m } ∷ numbered (first + 1) messages
+abbrev pub numbered_messages : ℕ → List (List ℕ) → List Numbered
+numbered_messages first [] = []
+numbered_messages first (m ∷ messages) = record { number = first; message = m } ∷ numbered_messages (first + 1) messages

@@ -8,7 +8,7 @@ ghost use Rattle.bus_batch.specs.Messages.{Numbered, IsMessage};
 ghost use Rattle.bus_batch.specs.Frames.{data_word, message_words, data_len, frame_words, IsFrame};
 ghost use Rattle.bus_batch.specs.Frames.{body_words};
 ghost use Rattle.std.specs.Prelude.{flat_map};
-ghost use Rattle.bus_batch.specs.Messages.{numbered};
+ghost use Rattle.bus_batch.specs.Messages.{numbered_messages};
 
 use crate::messages::Message;
 use crate::words::{COUNT, END, HIGH, TAG};
@@ -67,7 +67,7 @@ pub struct Batch {
 
 impl Model for Batch {
     ghost use Rattle.std.specs.Prelude.{◌≡◌, ◌≤◌, ◌*◌, length, flat_map};
-    ghost use Rattle.bus_batch.specs.Messages.{numbered};
+    ghost use Rattle.bus_batch.specs.Messages.{numbered_messages};
     ghost use Rattle.bus_batch.specs.Frames.{message_words};
     ghost use Rattle.bus_register.specs.declared.limits.TheConstants.{MOST_MESSAGE_WORDS};
     ghost use Rattle.bus_batch.specs.Batches.{Pending, IsKept, starts_from};
@@ -90,14 +90,15 @@ impl Model for Batch {
       busy = b.busy;
     })
         × (b.starts.items ≡ starts_from 0 b.messages.items)
-        × (b.words ≡ length (flat_map message_words (numbered b.first b.messages.items)))
+        × (b.words ≡ length (flat_map message_words (numbered_messages b.first b.messages.items)))
         × (b.words ≤ MOST_MESSAGE_WORDS * length b.messages.items) };
 }
 
 impl Batch {
     ghost use Rattle.bus_batch.specs.declared.batches.Phase.TheVariants as phase;
     ghost use Rattle.bus_batch.specs.Batches.{Pending, next_of, HasSomething, frame_of, body_of};
-    ghost use Rattle.bus_batch.specs.Batches.{CanPut, IsPutFault, CanClose, IsCloseFault, sent};
+    ghost use Rattle.bus_batch.specs.Batches.{CanPut, IsPutFault, CanClose, IsCloseFault};
+    ghost use Rattle.bus_batch.specs.Batches.{phase_sent};
 
     /// An empty batch of a sender whose next message has the number `next`.
     pub fn new(sender: SenderNo, next: u64) -> Batch
@@ -245,7 +246,7 @@ impl Batch {
           sender = self.old.sender;
           first = next_of self.old;
           messages = [];
-          phase = sent self.old.phase;
+          phase = phase_sent self.old.phase;
           busy = false;
         } }
     {
@@ -315,9 +316,10 @@ impl Batch {
 
     /// The word at `i` of those of the messages.
     fn body_word(&self, i: u64) -> u64
-        requires { i < length (flat_map message_words (numbered self.now.first self.now.messages)) }
-        ensures { slice_get (flat_map message_words (numbered self.now.first self.now.messages)) i
-            ≡ Some result }
+        requires { i < length (flat_map message_words
+            (numbered_messages self.now.first self.now.messages)) }
+        ensures { slice_get (flat_map message_words
+            (numbered_messages self.now.first self.now.messages)) i ≡ Some result }
     {
         let starts = self.starts.as_slice();
         let mut low = 0;

@@ -28,6 +28,3 @@ mod words;
 pub use batches::{Batch, CloseFault, PutFault};
 pub use messages::{Item, Message, Piece};
 pub use readers::{BadWord, FrameReader};
-
-#[cfg(test)]
-mod tests;

@@ -5,21 +5,9 @@
 //! which standard error then says; 2 where the command line was refused.
 #![tactic(auto)]
 
-mod checks;
-mod crews;
-mod faults;
-mod gates;
-mod needs;
-mod report;
-mod request;
-mod rounds;
-#[cfg(test)]
-mod tests;
-mod workers;
-
-use self::needs::Load;
-use self::report::bench;
-use self::request::{Refusal, USAGE, parse};
+use bench_rounds::needs::Load;
+use bench_rounds::report::bench;
+use bench_rounds::request::{Refusal, USAGE, parse};
 use std::process::ExitCode;
 use std::rt::Env;
 use std::sync::Wait;

@@ -5,8 +5,8 @@ use Rattle.bus_register.specs.Protocol.{Laws}
 use Rattle.bus_adoptcommit.specs.declared.verdicts.Verdict.{Verdict}
 use Rattle.bus_adoptcommit.specs.declared.verdicts.Verdict.TheVariants.{Adopt}
 use Rattle.bus_binconsensus.specs.Deciding.{Decides}
-use Rattle.bus_binconsensus.specs.Chain.{Objects, HandsOn, handed, value_told, chain_op, chain_fed, chain_protocol}
-use Rattle.bus_binconsensus.proofs.ChainSteps.{span_own, span_within, begun_in, chain_starts, chain_goes}
+use Rattle.bus_binconsensus.specs.Chain.{Objects, link_handed, value_told, chain_op, chain_fed, chain_protocol}
+use Rattle.bus_binconsensus.proofs.ChainSteps.{HandsOn, span_own, span_within, begun_in, chain_starts, chain_goes}
 use Rattle.bus_binconsensus.proofs.ChainMoves.{chain_moves, chain_enters}
 use Rattle.bus_binconsensus.proofs.ChainOutcome.{chain_decides}
 
@@ -22,8 +22,8 @@ module _ {X : Type 0} (op : X → ℕ → Option Op) (fed : X → ℕ → ℕ �
     goes = λ n me at d got word o b q. chain_goes op fed objects laws top n me at d got word o b q;
     ends = λ d word e. let a = (laws d.after).ends d.object word e in (told_some _ a.0, begun_in op fed objects laws top d a.1);
     unended = λ d word o q. ap value_told ((laws d.after).unended d.object word o q);
-    unmoved = λ d got word word' e. let a = (laws d.after).unmoved d.object got word word' e in (a.0, ap (λ z. handed objects (record d { object = z })) a.1);
-    blind = λ d got got' word o q s. ap (λ z. handed objects (record d { object = z })) ((laws d.after).blind d.object got got' word o q s);
+    unmoved = λ d got word word' e. let a = (laws d.after).unmoved d.object got word word' e in (a.0, ap (λ z. link_handed objects (record d { object = z })) a.1);
+    blind = λ d got got' word o q s. ap (λ z. link_handed objects (record d { object = z })) ((laws d.after).blind d.object got got' word o q s);
     fresh = λ n at words agree. record {
       visits = λ k p. None;
       kept = λ k r h e. (laws k).fresh n r words (λ q a b. let w = span_within objects n k top h in let o = span_own objects n k in agree q (omega arith) (omega arith));

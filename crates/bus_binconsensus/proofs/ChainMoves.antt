@@ -10,8 +10,8 @@ use Rattle.bus_register.specs.Proved.TableLaws.{put_here, put_beside}
 use Rattle.bus_register.specs.Protocol.{Laws, Goes}
 use Rattle.bus_adoptcommit.specs.declared.verdicts.Verdict.{Verdict}
 use Rattle.bus_adoptcommit.specs.declared.verdicts.Verdict.TheVariants.{Commit, Adopt}
-use Rattle.bus_binconsensus.specs.Chain.{Objects, HandsOn, Link, span, entered, handed_by, chain_fed, chain_started, Passed, Walk, Rests, ChainKeeps}
-use Rattle.bus_binconsensus.proofs.ChainSteps.{span_own, span_next, span_below, span_within}
+use Rattle.bus_binconsensus.specs.Chain.{Objects, Link, span, link_entered, handed_by, chain_fed, chain_started, Passed, Walk, Rests, ChainKeeps}
+use Rattle.bus_binconsensus.proofs.ChainSteps.{HandsOn, span_own, span_next, span_below, span_within}
 
 -- a table of tables with another value at one place
 abbrev pub put_at : {A : Type 0} → ℕ → ℕ → A → (ℕ → ℕ → A) → ℕ → ℕ → A
@@ -150,13 +150,13 @@ module _ {X : Type 0} (op : X → ℕ → Option Op) (fed : X → ℕ → ℕ �
     next_place = let s = span_next objects n d.after more in let b = walk.belongs.place in omega arith
 
     -- what the machine holds is what stands in the table
-    object_is : (entered objects d v).object ≡ (objects (d.after - 1)).started n p v (d.at + (objects d.after).width n)
+    object_is : (link_entered objects d v).object ≡ (objects (d.after - 1)).started n p v (d.at + (objects d.after).width n)
     object_is =
         ap (λ z. (objects (d.after - 1)).started d.n d.me v (d.at + (objects d.after).width z)) walk.belongs.n_is
         ∙ ap (λ z. (objects (d.after - 1)).started z d.me v (d.at + (objects d.after).width n)) walk.belongs.n_is
         ∙ ap (λ z. (objects (d.after - 1)).started n z v (d.at + (objects d.after).width n)) walk.belongs.me_is
 
-    next_walk : Walk objects top n at next_visits p (entered objects d v)
+    next_walk : Walk objects top n at next_visits p (link_entered objects d v)
     next_walk = record {
       belongs = let b = walk.belongs in record {
         n_is = b.n_is;
@@ -165,7 +165,7 @@ module _ {X : Type 0} (op : X → ℕ → Option Op) (fed : X → ℕ → ℕ �
         few = b.few;
         within = let w = b.within in omega arith;
         place = let w : (objects d.after).width d.n ≡ (objects d.after).width n = ap (objects d.after).width b.n_is in let s = next_place in omega arith;
-        object = subst (λ z. (objects (d.after - 1)).Belongs n p (d.at + (objects d.after).width z) (entered objects d v).object) (sym b.n_is)
+        object = subst (λ z. (objects (d.after - 1)).Belongs n p (d.at + (objects d.after).width z) (link_entered objects d v).object) (sym b.n_is)
             (subst (λ z. (objects (d.after - 1)).Belongs n p (d.at + (objects d.after).width n) z) (sym object_is) ((laws (d.after - 1)).starts n p _ v b.below b.few).belongs);
       };
       here = put_at_here (d.after - 1) p _ visits ∙ ap Some (sym object_is);
@@ -191,7 +191,7 @@ module _ {X : Type 0} (op : X → ℕ → Option Op) (fed : X → ℕ → ℕ �
       ];
     }
 
-    next_rests : Rests objects (entered objects d v)
+    next_rests : Rests objects (link_entered objects d v)
     next_rests w e = absurd (let f = fresh_open (d.after - 1) p (d.at + (objects d.after).width n) v walk.belongs.below walk.belongs.few in let g = sym (ap (objects (d.after - 1)).output object_is ∙ f) ∙ e in cc g)
 
   -- the whole step
@@ -235,11 +235,11 @@ module _ {X : Type 0} (op : X → ℕ → Option Op) (fed : X → ℕ → ℕ �
     stays : new p ≡ Some stayed → Rests objects stayed → ChainKeeps objects top n at words' new
     stays now rests = keeps_with visits1 stayed kept1 (λ j q ne. put_at_process d.after p _ k.visits j q ne) now walk1 rests
 
-    enters : (v : Bool) → d.after ≢ 0 → (objects d.after).output stayed.object ≡ Some (Adopt v) → new p ≡ Some (entered objects stayed v) → ChainKeeps objects top n at words' new
+    enters : (v : Bool) → d.after ≢ 0 → (objects d.after).output stayed.object ≡ Some (Adopt v) → new p ≡ Some (link_entered objects stayed v) → ChainKeeps objects top n at words' new
     enters v more adopted now =
         let r : ℕ = d.at + (objects d.after).width n in
         let b = walk1.belongs in
-        keeps_with (next_visits visits1 p stayed walk1 v more adopted) (entered objects stayed v)
+        keeps_with (next_visits visits1 p stayed walk1 v more adopted) (link_entered objects stayed v)
         (entered_kept words' visits1 kept1 p (d.after - 1) r v (let w = b.within in omega arith) (next_place visits1 p stayed walk1 v more adopted) b.below b.few (walk1.ahead (d.after - 1) (omega arith)))
         (λ j q ne. put_at_process (d.after - 1) p _ visits1 j q ne ∙ put_at_process d.after p _ k.visits j q ne)
         now (next_walk visits1 p stayed walk1 v more adopted) (next_rests visits1 p stayed walk1 v more adopted)
@@ -248,8 +248,8 @@ module _ {X : Type 0} (op : X → ℕ → Option Op) (fed : X → ℕ → ℕ �
     by_verdict None e now = stays now (λ v f. absurd (let g = sym e ∙ f in cc g))
     by_verdict (Some (Commit u)) e now = stays now (λ v f. absurd (let g = sym e ∙ f in cc g))
     by_verdict (Some (Adopt u)) e now = elim (eqb_tells d.after 0) [
-      | inl h ↦ stays (now ∙ ap (λ z. Some (cond z stayed (entered objects stayed u))) h.0) (λ v f. h.1)
-      | inr h ↦ enters u h.1 e (now ∙ ap (λ z. Some (cond z stayed (entered objects stayed u))) h.0)
+      | inl h ↦ stays (now ∙ ap (λ z. Some (cond z stayed (link_entered objects stayed u))) h.0) (λ v f. h.1)
+      | inr h ↦ enters u h.1 e (now ∙ ap (λ z. Some (cond z stayed (link_entered objects stayed u))) h.0)
     ]
 
     pub chain_moves : ChainKeeps objects top n at words' new

@@ -10,8 +10,8 @@ use Rattle.bus_adoptcommit.specs.declared.verdicts.Verdict.{Verdict}
 use Rattle.bus_adoptcommit.specs.declared.verdicts.Verdict.TheVariants.{Commit, Adopt}
 use Rattle.bus_adoptcommit.specs.Agreement.{value_of}
 use Rattle.bus_binconsensus.specs.Deciding.{Decides}
-use Rattle.bus_binconsensus.specs.Chain.{Objects, HandsOn, Link, span, value_told, chain_protocol, Walk, ChainKeeps}
-use Rattle.bus_binconsensus.proofs.ChainSteps.{span_within, begun_in, begun_past}
+use Rattle.bus_binconsensus.specs.Chain.{Objects, Link, span, value_told, chain_protocol, Walk, ChainKeeps}
+use Rattle.bus_binconsensus.proofs.ChainSteps.{HandsOn, span_within, begun_in, begun_past}
 
 -- an input that counts is that of a local state that has begun
 pub counted_is : {S I O : Type 0} (P : Protocol S I O) (s : S) (v : I) → counted_input P s ≡ Some v → (P.has_begun s ≡ true) × (P.input s ≡ v)

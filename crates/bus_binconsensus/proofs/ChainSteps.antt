@@ -7,7 +7,13 @@ use Rattle.bus_register.specs.Words.{register}
 use Rattle.bus_register.specs.Protocol.{Laws, Goes, Starts}
 use Rattle.bus_adoptcommit.specs.declared.verdicts.Verdict.{Verdict}
 use Rattle.bus_adoptcommit.specs.declared.verdicts.Verdict.TheVariants.{Commit, Adopt}
-use Rattle.bus_binconsensus.specs.Chain.{Objects, HandsOn, Link, span, steps_from, steps_after, entered, handed_by, chain_fed, chain_protocol, ChainBelongs}
+use Rattle.bus_adoptcommit.specs.Agreement.{IsValid, IsCoherent}
+use Rattle.bus_binconsensus.specs.Chain.{Objects, Link, span, steps_from, steps_after, link_entered, handed_by, chain_fed, chain_protocol, ChainBelongs}
+
+-- what an object of a chain must be: it hands on inputs alone, and where it commits a value it hands on no other
+pub record HandsOn (inputs : ℕ → Option Bool) (outputs : ℕ → Option Verdict) : Type 0 where
+  pub valid : IsValid inputs outputs
+  pub coherent : IsCoherent outputs
 
 module _ {X : Type 0} (objects : Objects X) (n : ℕ) where
   pub span_own : (k : ℕ) → (objects k).width n ≤ span objects n k
@@ -82,7 +88,7 @@ module _ {X : Type 0} (op : X → ℕ → Option Op) (fed : X → ℕ → ℕ �
       falls = let f = own.falls in omega arith;
     }
 
-    enters : (v : Bool) → d.after ≢ 0 → Goes (chain_protocol objects top) n me at o d (entered objects (record d { object = fed d.object got word }) v)
+    enters : (v : Bool) → d.after ≢ 0 → Goes (chain_protocol objects top) n me at o d (link_entered objects (record d { object = fed d.object got word }) v)
     enters v ne =
         let r : ℕ = d.at + (objects d.after).width d.n in
         let start = (laws (d.after - 1)).starts n me r v b.below b.few in
@@ -101,7 +107,7 @@ module _ {X : Type 0} (op : X → ℕ → Option Op) (fed : X → ℕ → ℕ �
             object = subst (λ z. (objects (d.after - 1)).Belongs n me r ((objects (d.after - 1)).started z d.me v r)) (sym n') (subst (λ z. (objects (d.after - 1)).Belongs n me r ((objects (d.after - 1)).started n z v r)) (sym me') start.belongs);
           };
           input = refl;
-          begun = begun_past (entered objects (record d { object = fed d.object got word }) v) (let w = b.within in omega arith);
+          begun = begun_past (link_entered objects (record d { object = fed d.object got word }) v) (let w = b.within in omega arith);
           falls =
               let f = own.falls in
               let s = steps_next objects d.n d.after ne in
@@ -115,8 +121,8 @@ module _ {X : Type 0} (op : X → ℕ → Option Op) (fed : X → ℕ → ℕ �
     goes_by None = stays
     goes_by (Some (Commit v)) = stays
     goes_by (Some (Adopt v)) = elim (eqb_tells d.after 0) [
-      | inl h ↦ subst (λ z. Goes (chain_protocol objects top) n me at o d (cond z (record d { object = fed d.object got word }) (entered objects (record d { object = fed d.object got word }) v))) (sym h.0) stays
-      | inr h ↦ subst (λ z. Goes (chain_protocol objects top) n me at o d (cond z (record d { object = fed d.object got word }) (entered objects (record d { object = fed d.object got word }) v))) (sym h.0) (enters v h.1)
+      | inl h ↦ subst (λ z. Goes (chain_protocol objects top) n me at o d (cond z (record d { object = fed d.object got word }) (link_entered objects (record d { object = fed d.object got word }) v))) (sym h.0) stays
+      | inr h ↦ subst (λ z. Goes (chain_protocol objects top) n me at o d (cond z (record d { object = fed d.object got word }) (link_entered objects (record d { object = fed d.object got word }) v))) (sym h.0) (enters v h.1)
     ]
 
     pub chain_goes : Goes (chain_protocol objects top) n me at o d (chain_fed objects fed d got word)

@@ -8,7 +8,7 @@ use Rattle.bus_adoptcommit.specs.declared.verdicts.Verdict.TheVariants.{Commit, 
 use Rattle.bus_adoptcommit.specs.Agreement.{Legal}
 use Rattle.bus_binconsensus.specs.declared.objects.Object.{Object}
 use Rattle.bus_binconsensus.specs.declared.objects.Object.TheVariants.{Ratify, Concile, Fall}
-use Rattle.bus_binconsensus.specs.Chain.{entered, handed_by}
+use Rattle.bus_binconsensus.specs.Chain.{link_entered, handed_by}
 use Rattle.bus_binconsensus.specs.Deciding.{IsChosen}
 use Rattle.bus_binconsensus.specs.DecideLaw.{Onward, DecideLaw}
 use Rattle.bus_binconsensus.proofs.ObjectLaws.{objects_law, decide_laws}
@@ -33,8 +33,8 @@ module _ {S T : Type 0} (op : S → ℕ → Option Op) (fed : S → ℕ → ℕ 
     onward_by None e = inl record { same = refl; object = refl; unadopted = λ v more f. let g = sym e ∙ f in absurd cc }
     onward_by (Some (Commit u)) e = inl record { same = refl; object = refl; unadopted = λ v more f. let g = sym e ∙ f in absurd cc }
     onward_by (Some (Adopt u)) e = elim (eqb_tells d.after 0) [
-      | inl h ↦ subst (λ z. Onward P C x d (cond z stepped (entered (objects_of P C) stepped u))) (sym h.0) (inl record { same = refl; object = refl; unadopted = λ v more f. more h.1 })
-      | inr h ↦ subst (λ z. Onward P C x d (cond z stepped (entered (objects_of P C) stepped u))) (sym h.0) (inr record {
+      | inl h ↦ subst (λ z. Onward P C x d (cond z stepped (link_entered (objects_of P C) stepped u))) (sym h.0) (inl record { same = refl; object = refl; unadopted = λ v more f. more h.1 })
+      | inr h ↦ subst (λ z. Onward P C x d (cond z stepped (link_entered (objects_of P C) stepped u))) (sym h.0) (inr record {
         next = let more = h.1 in omega arith;
         value = u;
         adopted = e;

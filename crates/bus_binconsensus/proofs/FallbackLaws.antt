@@ -12,9 +12,9 @@ use Rattle.bus_register.specs.Digits.{digit}
 use Rattle.bus_register.proofs.DigitLaws.{digit_same}
 use Rattle.bus_binconsensus.specs.declared.fallbacks.Fallback.{Fallback}
 use Rattle.bus_binconsensus.specs.Deciding.{Decides}
-use Rattle.bus_binconsensus.specs.Fallback.{won, op_from, op_of, fed_of, Belongs, Filled, Keeps, fallback_protocol, left_from}
+use Rattle.bus_binconsensus.specs.Fallback.{won_value, op_from, op_of, fed_of, Belongs, Filled, Keeps, fallback_protocol, left_from}
 
-won_is : (u v : Bool) → won (1 + digit u) v ≡ u
+won_is : (u v : Bool) → won_value (1 + digit u) v ≡ u
 won_is true v = refl
 won_is false v = refl
 
@@ -69,16 +69,16 @@ module _ (n at : ℕ) (words words' : ℕ → ℕ) (old new : ℕ → Option Fal
   mine = goes ∙ ap (λ z. Some (fed_of s (words z))) place
 
   -- what stands now, and what stood stays
-  stood : (Filled (words' at) new) × (words' at ≡ 1 + digit (won (words at) s.value)) × ((words at ≡ 0) ⊎ (words' at ≡ words at))
+  stood : (Filled (words' at) new) × (words' at ≡ 1 + digit (won_value (words at) s.value)) × ((words at ≡ 0) ⊎ (words' at ≡ words at))
   stood = elim k.stands [
     | inl z ↦
         let now : words' at ≡ 1 + digit s.value = word_after ∙ ap (λ x. cond (x == 0) (1 + digit s.value) x) z in
-        (record { by = p; local = fed_of s (words at); here = mine; took = refl; is = now }, now ∙ ap (λ x. 1 + digit (won x s.value)) (sym z), inl z)
+        (record { by = p; local = fed_of s (words at); here = mine; took = refl; is = now }, now ∙ ap (λ x. 1 + digit (won_value x s.value)) (sym z), inl z)
     | inr f ↦
         let same : words' at ≡ words at = word_after ∙ ap (λ x. cond (x == 0) (1 + digit s.value) x) f.is ∙ nonzero f.local.value s.value ∙ sym f.is in
         let apart : f.by ≢ p = λ i. let e : s ≡ f.local = same_Some _ _ (sym here ∙ ap old (sym i) ∙ f.here) in let g : is_some s.decided ≡ true = ap (λ z. is_some z.decided) e ∙ f.took in let h : is_some s.decided ≡ false = ap is_some undecided in cc in (
           record { by = f.by; local = f.local; here = beside f.by apart ∙ f.here; took = f.took; is = same ∙ f.is },
-          same ∙ f.is ∙ ap (λ x. 1 + digit x) (sym (won_is f.local.value s.value)) ∙ ap (λ x. 1 + digit (won x s.value)) (sym f.is),
+          same ∙ f.is ∙ ap (λ x. 1 + digit x) (sym (won_is f.local.value s.value)) ∙ ap (λ x. 1 + digit (won_value x s.value)) (sym f.is),
           inr same,
         )
   ]

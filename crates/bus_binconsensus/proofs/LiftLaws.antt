@@ -8,14 +8,14 @@ use Rattle.bus_register.specs.Tables.{of_some, Beside, Stepped, put}
 use Rattle.bus_register.specs.Proved.TableLaws.{put_here, put_beside}
 use Rattle.bus_register.specs.Protocol.{Protocol, Laws, Goes, IsStore, counted_input, inputs, outputs}
 use Rattle.bus_adoptcommit.specs.declared.verdicts.Verdict.{Verdict}
-use Rattle.bus_binconsensus.specs.Chain.{HandsOn}
-use Rattle.bus_binconsensus.specs.Lift.{Reads, lifted, LiftBelongs, LiftKeeps, lift}
+use Rattle.bus_binconsensus.specs.Lift.{Reads, lifted_option, LiftBelongs, LiftKeeps, lift}
+use Rattle.bus_binconsensus.proofs.ChainSteps.{HandsOn}
 
-lifted_none : {A B : Type 0} (f : A → B) (o : Option A) → None ≡ lifted f o → o ≡ None
+lifted_none : {A B : Type 0} (f : A → B) (o : Option A) → None ≡ lifted_option f o → o ≡ None
 lifted_none f None e = refl
 lifted_none f (Some x) e = absurd cc
 
-lifted_some : {A B : Type 0} (f : A → B) (o : Option A) (y : B) → Some y ≡ lifted f o → (x : A) × (o ≡ Some x) × (y ≡ f x)
+lifted_some : {A B : Type 0} (f : A → B) (o : Option A) (y : B) → Some y ≡ lifted_option f o → (x : A) × (o ≡ Some x) × (y ≡ f x)
 lifted_some f None y e = absurd cc
 lifted_some f (Some x) y e = (x, refl, same_Some _ _ e)
 
@@ -32,13 +32,13 @@ pub record Embeds {S X M : Type 0} (op : S → ℕ → Option Op) (fed : S → �
   pub fed_is : (s : S) (got word : ℕ) → fedX (into s) got word ≡ into (fed s got word)
   pub input_is : (s : S) → reads.input (into s) ≡ P.input s
   pub begun_is : (s : S) → reads.has_begun (into s) ≡ P.has_begun s
-  pub output_is : (s : S) → reads.output (into s) ≡ lifted tell (P.output s)
+  pub output_is : (s : S) → reads.output (into s) ≡ lifted_option tell (P.output s)
   pub left_is : (s : S) → reads.left (into s) ≡ P.left s
 
 module _ {S X M : Type 0} (op : S → ℕ → Option Op) (fed : S → ℕ → ℕ → S) (P : Protocol S Bool M) (Out : (ℕ → Option Bool) → (ℕ → Option M) → Type 0) (laws : Laws op fed P Out)
     (opX : X → ℕ → Option Op) (fedX : X → ℕ → ℕ → X) (reads : Reads X) (into : S → X) (tell : M → Verdict)
     (e : Embeds op fed P opX fedX reads into tell) (common : Ends opX fedX reads)
-    (tells : (ins ins' : ℕ → Option Bool) (outs : ℕ → Option M) (outs' : ℕ → Option Verdict) → Out ins outs → ((p : ℕ) → ins' p ≡ ins p) → ((p : ℕ) → outs' p ≡ lifted tell (outs p)) → HandsOn ins' outs') where
+    (tells : (ins ins' : ℕ → Option Bool) (outs : ℕ → Option M) (outs' : ℕ → Option Verdict) → Out ins outs → ((p : ℕ) → ins' p ≡ ins p) → ((p : ℕ) → outs' p ≡ lifted_option tell (outs p)) → HandsOn ins' outs') where
   -- the step inside
   op_inside : (x : X) (s : S) (word : ℕ) (o : Op) → x ≡ into s → opX x word ≡ Some o → op s word ≡ Some o
   op_inside x s word o i q = sym (e.op_is s word) ∙ ap (λ z. opX z word) (sym i) ∙ q
@@ -69,8 +69,8 @@ module _ {S X M : Type 0} (op : S → ℕ → Option Op) (fed : S → ℕ → �
       record {
         inner = put p s k.inner;
         is = λ q. elim (cases_eq q p) [
-          | inl i ↦ ap new i ∙ goes ∙ ap (lifted into) (sym (ap (put p s k.inner) i ∙ put_here p s k.inner))
-          | inr ne ↦ beside q ne ∙ k.is q ∙ ap (lifted into) (sym (put_beside p s k.inner q ne))
+          | inl i ↦ ap new i ∙ goes ∙ ap (lifted_option into) (sym (ap (put p s k.inner) i ∙ put_here p s k.inner))
+          | inr ne ↦ beside q ne ∙ k.is q ∙ ap (lifted_option into) (sym (put_beside p s k.inner q ne))
         ];
         keeps = laws.enters n at words k.inner (put p s k.inner) p v k.keeps below few (lifted_none into (k.inner p) (sym none ∙ k.is p)) (put_here p s k.inner) (put_beside p s k.inner);
       }
@@ -82,18 +82,18 @@ module _ {S X M : Type 0} (op : S → ℕ → Option Op) (fed : S → ℕ → �
       record {
         inner = put p s k.inner;
         is = λ r. elim (cases_eq r p) [
-          | inl i ↦ ap new i ∙ goes ∙ ap Some (fed_inside x a.0 (words (register o)) word a.2) ∙ ap (lifted into) (sym (ap (put p s k.inner) i ∙ put_here p s k.inner))
-          | inr ne ↦ beside r ne ∙ k.is r ∙ ap (lifted into) (sym (put_beside p s k.inner r ne))
+          | inl i ↦ ap new i ∙ goes ∙ ap Some (fed_inside x a.0 (words (register o)) word a.2) ∙ ap (lifted_option into) (sym (ap (put p s k.inner) i ∙ put_here p s k.inner))
+          | inr ne ↦ beside r ne ∙ k.is r ∙ ap (lifted_option into) (sym (put_beside p s k.inner r ne))
         ];
         keeps = laws.moves n at words words' k.inner (put p s k.inner) p a.0 word o k.keeps a.1 (op_inside x a.0 word o a.2 q) (put_here p s k.inner) (put_beside p s k.inner) step;
       }
 
   -- what is counted and told inside
-  inputs_inside : (o : Option S) → of_some (counted_input (lift reads into P)) (lifted into o) ≡ of_some (counted_input P) o
+  inputs_inside : (o : Option S) → of_some (counted_input (lift reads into P)) (lifted_option into o) ≡ of_some (counted_input P) o
   inputs_inside None = refl
   inputs_inside (Some s) = rw (e.begun_is s, e.input_is s)
 
-  outputs_inside : (o : Option S) → of_some reads.output (lifted into o) ≡ lifted tell (of_some P.output o)
+  outputs_inside : (o : Option S) → of_some reads.output (lifted_option into o) ≡ lifted_option tell (of_some P.output o)
   outputs_inside None = refl
   outputs_inside (Some s) = e.output_is s
 

@@ -11,30 +11,30 @@ use Rattle.bus_binconsensus.specs.declared.objects.Object.TheVariants.{Ratify, C
 use Rattle.bus_binconsensus.specs.Deciding.{Decides, IsChosen}
 use Rattle.bus_binconsensus.specs.Fallback.{op_of, fed_of, fallback_protocol}
 use Rattle.bus_binconsensus.proofs.FallbackLaws.{fallback_laws}
-use Rattle.bus_binconsensus.specs.Chain.{HandsOn}
 use Rattle.bus_binconsensus.proofs.ChainLaws.{chain_laws}
-use Rattle.bus_binconsensus.specs.Lift.{lifted}
+use Rattle.bus_binconsensus.specs.Lift.{lifted_option}
 use Rattle.bus_binconsensus.proofs.LiftLaws.{Ends, lift_laws}
 use Rattle.bus_binconsensus.specs.Objects.{Part, part_at, first_of, object_op, object_fed, object_output, object_begun, object_wants, reads_of, part_protocol, objects_of, decide_op, decide_fed, decide_protocol}
 use Rattle.bus_binconsensus.specs.Objects.Part.{Ratifier, Conciliator, FallbackWord}
+use Rattle.bus_binconsensus.proofs.ChainSteps.{HandsOn}
 
-lifted_own : {A : Type 0} (o : Option A) → lifted (λ x. x) o ≡ o
+lifted_own : {A : Type 0} (o : Option A) → lifted_option (λ x. x) o ≡ o
 lifted_own None = refl
 lifted_own (Some x) = refl
 
-lifted_is : {A B : Type 0} (f : A → B) (o : Option A) (y : B) → lifted f o ≡ Some y → (x : A) × (o ≡ Some x) × (f x ≡ y)
+lifted_is : {A B : Type 0} (f : A → B) (o : Option A) (y : B) → lifted_option f o ≡ Some y → (x : A) × (o ≡ Some x) × (f x ≡ y)
 lifted_is f None y e = absurd cc
 lifted_is f (Some x) y e = (x, refl, same_Some _ _ e)
 
-lifted_none : {A B : Type 0} (f : A → B) (o : Option A) → o ≡ None → lifted f o ≡ None
-lifted_none f o e = ap (lifted f) e
+lifted_none : {A B : Type 0} (f : A → B) (o : Option A) → o ≡ None → lifted_option f o ≡ None
+lifted_none f o e = ap (lifted_option f) e
 
-lifted_stands : {A B : Type 0} (f : A → B) (o : Option A) → IsSome o → IsSome (lifted f o)
+lifted_stands : {A B : Type 0} (f : A → B) (o : Option A) → IsSome o → IsSome (lifted_option f o)
 lifted_stands f None s = absurd cc
 lifted_stands f (Some x) s = refl
 
 -- legal outputs
-ratifier_tells : (ins ins' : ℕ → Option Bool) (outs outs' : ℕ → Option Verdict) → Legal ins outs → ((p : ℕ) → ins' p ≡ ins p) → ((p : ℕ) → outs' p ≡ lifted (λ x. x) (outs p)) → HandsOn ins' outs'
+ratifier_tells : (ins ins' : ℕ → Option Bool) (outs outs' : ℕ → Option Verdict) → Legal ins outs → ((p : ℕ) → ins' p ≡ ins p) → ((p : ℕ) → outs' p ≡ lifted_option (λ x. x) (outs p)) → HandsOn ins' outs'
 ratifier_tells ins ins' outs outs' l same told =
     let own : (p : ℕ) → outs' p ≡ outs p = λ p. told p ∙ lifted_own (outs p) in
     record {
@@ -43,7 +43,7 @@ ratifier_tells ins ins' outs outs' l same told =
     }
 
 -- outputs that are inputs, all adopted
-adopts_tell : (ins ins' : ℕ → Option Bool) (outs : ℕ → Option Bool) (outs' : ℕ → Option Verdict) → IsChosen ins outs → ((p : ℕ) → ins' p ≡ ins p) → ((p : ℕ) → outs' p ≡ lifted Adopt (outs p)) → HandsOn ins' outs'
+adopts_tell : (ins ins' : ℕ → Option Bool) (outs : ℕ → Option Bool) (outs' : ℕ → Option Verdict) → IsChosen ins outs → ((p : ℕ) → ins' p ≡ ins p) → ((p : ℕ) → outs' p ≡ lifted_option Adopt (outs p)) → HandsOn ins' outs'
 adopts_tell ins ins' outs outs' chosen same told = record {
   valid = λ p d e.
       let a = lifted_is Adopt (outs p) d (sym (told p) ∙ e) in
@@ -53,7 +53,7 @@ adopts_tell ins ins' outs outs' chosen same told = record {
 }
 
 -- equal outputs that are inputs, all committed
-commits_tell : (ins ins' : ℕ → Option Bool) (outs : ℕ → Option Bool) (outs' : ℕ → Option Verdict) → Decides ins outs → ((p : ℕ) → ins' p ≡ ins p) → ((p : ℕ) → outs' p ≡ lifted Commit (outs p)) → HandsOn ins' outs'
+commits_tell : (ins ins' : ℕ → Option Bool) (outs : ℕ → Option Bool) (outs' : ℕ → Option Verdict) → Decides ins outs → ((p : ℕ) → ins' p ≡ ins p) → ((p : ℕ) → outs' p ≡ lifted_option Commit (outs p)) → HandsOn ins' outs'
 commits_tell ins ins' outs outs' d same told = record {
   valid = λ p x e.
       let a = lifted_is Commit (outs p) x (sym (told p) ∙ e) in
@@ -115,7 +115,7 @@ module _ {S T : Type 0} (op : S → ℕ → Option Op) (fed : S → ℕ → ℕ 
 
   fallback_commits : (n me at : ℕ) (x : Object S T) (v : Bool) → (objects_of P C 0).Belongs n me at x → object_output P C x ≡ Some (Adopt v) → ⊥
   fallback_commits n me at x v b e =
-      let f : lifted Commit b.inner.decided ≡ Some (Adopt v) = ap (object_output P C) (sym b.is) ∙ e in
+      let f : lifted_option Commit b.inner.decided ≡ Some (Adopt v) = ap (object_output P C) (sym b.is) ∙ e in
       let a = lifted_is Commit b.inner.decided (Adopt v) f in
       let g = a.2 in
       absurd cc

@@ -7,12 +7,7 @@ use Rattle.bus_register.specs.declared.registers.Op.{Op}
 use Rattle.bus_register.specs.Protocol.{Protocol}
 use Rattle.bus_adoptcommit.specs.declared.verdicts.Verdict.{Verdict}
 use Rattle.bus_adoptcommit.specs.declared.verdicts.Verdict.TheVariants.{Commit, Adopt}
-use Rattle.bus_adoptcommit.specs.Agreement.{IsValid, IsCoherent, value_of}
-
--- what an object of a chain must be: it hands on inputs alone, and where it commits a value it hands on no other
-pub record HandsOn (inputs : ℕ → Option Bool) (outputs : ℕ → Option Verdict) : Type 0 where
-  pub valid : IsValid inputs outputs
-  pub coherent : IsCoherent outputs
+use Rattle.bus_adoptcommit.specs.Agreement.{value_of}
 
 -- the objects of a chain, by the number of those that come after
 abbrev pub Objects : Type 0 → Type 1
@@ -44,8 +39,8 @@ steps_after objects n zero = 0
 steps_after objects n (suc k) = steps_from objects n k
 
 -- the process goes on to the next object with this value
-abbrev pub entered : {X : Type 0} → Objects X → Link X → Bool → Link X
-entered objects d v = record d {
+abbrev pub link_entered : {X : Type 0} → Objects X → Link X → Bool → Link X
+link_entered objects d v = record d {
   at = d.at + (objects d.after).width d.n;
   after = d.after - 1;
   object = (objects (d.after - 1)).started d.n d.me v (d.at + (objects d.after).width d.n);
@@ -54,11 +49,11 @@ entered objects d v = record d {
 abbrev pub handed_by : {X : Type 0} → Objects X → Option Verdict → Link X → Link X
 handed_by objects None d = d
 handed_by objects (Some (Commit v)) d = d
-handed_by objects (Some (Adopt v)) d = if d.after == 0 then d else entered objects d v
+handed_by objects (Some (Adopt v)) d = if d.after == 0 then d else link_entered objects d v
 
 -- a process that adopts a value goes on, where there is a next object
-abbrev pub handed : {X : Type 0} → Objects X → Link X → Link X
-handed objects d = handed_by objects ((objects d.after).output d.object) d
+abbrev pub link_handed : {X : Type 0} → Objects X → Link X → Link X
+link_handed objects d = handed_by objects ((objects d.after).output d.object) d
 
 -- the next step is that in the object
 abbrev pub chain_op : {X : Type 0} → (X → ℕ → Option Op) → Link X → ℕ → Option Op
@@ -66,7 +61,7 @@ chain_op op d word = op d.object word
 
 -- what the process holds after a step that found this number
 abbrev pub chain_fed : {X : Type 0} → Objects X → (X → ℕ → ℕ → X) → Link X → ℕ → ℕ → Link X
-chain_fed objects fed d got word = handed objects (record d { object = fed d.object got word })
+chain_fed objects fed d got word = link_handed objects (record d { object = fed d.object got word })
 
 abbrev pub value_told : Option Verdict → Option Bool
 value_told None = None

@@ -25,8 +25,8 @@ abbrev pub op_of : Fallback → Option Op
 op_of s = op_from s.decided s
 
 -- the value that stands once a process with this value has found this number
-abbrev pub won : ℕ → Bool → Bool
-won got value = if got == 0 then value else (if got == 1 then false else true)
+abbrev pub won_value : ℕ → Bool → Bool
+won_value got value = if got == 0 then value else (if got == 1 then false else true)
 
 abbrev pub left_from : Option Bool → ℕ
 left_from None = 1
@@ -34,7 +34,7 @@ left_from (Some v) = 0
 
 -- what the process holds after a step that found this number
 abbrev pub fed_of : Fallback → ℕ → Fallback
-fed_of s got = record s { decided = Some (won got s.value) }
+fed_of s got = record s { decided = Some (won_value got s.value) }
 
 -- s is a local state of process me of n, at the word at
 pub record Belongs (n me at : ℕ) (s : Fallback) : Type 0 where

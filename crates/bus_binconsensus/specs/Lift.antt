@@ -12,8 +12,8 @@ pub record Reads (X : Type 0) : Type 0 where
   pub wants_word : X → Bool
   pub left : X → ℕ
 
-abbrev pub lifted : {A B : Type 0} → (A → B) → Option A → Option B
-lifted f o = of_some (λ x. Some (f x)) o
+abbrev pub lifted_option : {A B : Type 0} → (A → B) → Option A → Option B
+lifted_option f o = of_some (λ x. Some (f x)) o
 
 -- x is a local state of this kind, and belongs there
 pub record LiftBelongs {S X M : Type 0} (into : S → X) (P : Protocol S Bool M) (n me at : ℕ) (x : X) : Type 0 where
@@ -24,7 +24,7 @@ pub record LiftBelongs {S X M : Type 0} (into : S → X) (P : Protocol S Bool M)
 -- all local states are of this kind, and keep what the protocol keeps
 pub record LiftKeeps {S X M : Type 0} (into : S → X) (P : Protocol S Bool M) (n at : ℕ) (words : ℕ → ℕ) (locals : ℕ → Option X) : Type 0 where
   pub inner : ℕ → Option S
-  pub is : (p : ℕ) → locals p ≡ lifted into (inner p)
+  pub is : (p : ℕ) → locals p ≡ lifted_option into (inner p)
   pub keeps : P.Keeps n at words inner
 
 -- the protocol over the local states of all kinds

@@ -10,7 +10,7 @@ use Rattle.bus_binconsensus.specs.declared.objects.Object.{Object}
 use Rattle.bus_binconsensus.specs.declared.objects.Object.TheVariants.{Ratify, Concile, Fall}
 use Rattle.bus_binconsensus.specs.Fallback as fallback
 use Rattle.bus_binconsensus.specs.Chain.{Objects, Link, chain_op, chain_fed, chain_protocol}
-use Rattle.bus_binconsensus.specs.Lift.{Reads, lifted, lift}
+use Rattle.bus_binconsensus.specs.Lift.{Reads, lifted_option, lift}
 
 -- what an object is
 pub data Part : Type 0 where
@@ -50,8 +50,8 @@ object_fed fed fedC (Fall f) got word = Fall (fallback.fed_of f got)
 -- a conciliator adopts, and the fallback word commits
 abbrev pub object_output : {S T : Type 0} → Protocol S Bool Verdict → Protocol T Bool Bool → Object S T → Option Verdict
 object_output P C (Ratify q) = P.output q
-object_output P C (Concile c) = lifted Adopt (C.output c)
-object_output P C (Fall f) = lifted Commit f.decided
+object_output P C (Concile c) = lifted_option Adopt (C.output c)
+object_output P C (Fall f) = lifted_option Commit f.decided
 
 abbrev pub object_input : {S T : Type 0} → Protocol S Bool Verdict → Protocol T Bool Bool → Object S T → Bool
 object_input P C (Ratify q) = P.input q

@@ -2,7 +2,7 @@
 
 ghost use Rattle.std.specs.Prelude.{◌≡◌, ◌≢◌, ℕ, ◌+◌, ◌*◌, ◌-◌, ◌<◌};
 ghost use Rattle.std.specs.Prelude.{◌≤◌, ◌^◌};
-ghost use Rattle.bus_binconsensus.specs.Chain.{span, entered};
+ghost use Rattle.bus_binconsensus.specs.Chain.{span, link_entered};
 ghost use Rattle.bus_binconsensus.specs.Proved.ObjectNames.{objects_named};
 ghost use Rattle.bus_binconsensus.specs.Objects.{objects_of, object_kind, object_calls, decide_op};
 ghost use Rattle.bus_binconsensus.specs.Objects.{decide_fed};
@@ -111,7 +111,8 @@ impl<Q: Ratifier + Drop> Decide<Q> {
     /// Goes on to the next object with the value of this one.
     fn enter_next(&mut self, value: bool)
         requires { self.old.after ≢ 0 }
-        ensures { self.new ≡ entered (objects_of Q.protocol conciliator_protocol) self.old value }
+        ensures { self.new
+            ≡ link_entered (objects_of Q.protocol conciliator_protocol) self.old value }
     {
         self.at = Reg(self.at.0 + Object::<Q, Conciliator>::width(self.n, self.after));
         self.after -= 1;

@@ -14,7 +14,7 @@ use Rattle.bus_coinconc.specs.declared.conciliators.Stage.{Stage}
 use Rattle.bus_coinconc.specs.declared.conciliators.Stage.TheVariants.{SetMark, ReadOtherMark, Alone, AskCoin}
 use Rattle.bus_coinconc.specs.Conciliation.{IsInput, Conciles}
 use Rattle.bus_coinconc.specs.Conciliator.{ConciliatorState, conciliator_op, conciliator_fed, op_at, stage_after, output_at, output_of, wants_at}
-use Rattle.bus_coinconc.specs.ConciliatorProtocol.{coin_steps, left_at, begun_at, StageBelongs, Belongs, counted, marked, StageSaw, Keeps, conciliator_protocol}
+use Rattle.bus_coinconc.specs.ConciliatorProtocol.{coin_steps, left_at, begun_at, StageBelongs, Belongs, input_once_begun, marked_input, StageSaw, Keeps, conciliator_protocol}
 
 either : (v w : Bool) → (w ≡ v) ⊎ (w ≡ not v)
 either true true = inl refl
@@ -100,20 +100,20 @@ goes_of n me at s got word o b q =
 -- ---- what follows
 
 module _ (n at : ℕ) (words : ℕ → ℕ) (locals : ℕ → Option ConciliatorState) (k : Keeps n at words locals) where
-  own_input : (p : ℕ) (s : ConciliatorState) → locals p ≡ Some s → begun_at s.stage ≡ true → IsInput (marked locals) s.input
-  own_input p s here b = (p, ap (of_some counted) here ∙ ap (λ z. cond z (Some s.input) None) b)
+  own_input : (p : ℕ) (s : ConciliatorState) → locals p ≡ Some s → begun_at s.stage ≡ true → IsInput (marked_input locals) s.input
+  own_input p s here b = (p, ap (of_some input_once_begun) here ∙ ap (λ z. cond z (Some s.input) None) b)
 
-  valid_at : (p : ℕ) (s : ConciliatorState) (v : Bool) (st : Stage) → s.stage ≡ st → locals p ≡ Some s → StageSaw (marked locals) st s.input → output_at st s.input ≡ Some v → IsInput (marked locals) v
+  valid_at : (p : ℕ) (s : ConciliatorState) (v : Bool) (st : Stage) → s.stage ≡ st → locals p ≡ Some s → StageSaw (marked_input locals) st s.input → output_at st s.input ≡ Some v → IsInput (marked_input locals) v
   valid_at p s v SetMark at_stage here saw out = absurd cc
   valid_at p s v ReadOtherMark at_stage here saw out = absurd cc
-  valid_at p s v Alone at_stage here saw out = subst (IsInput (marked locals)) (same_Some _ _ out) (own_input p s here (ap begun_at at_stage))
+  valid_at p s v Alone at_stage here saw out = subst (IsInput (marked_input locals)) (same_Some _ _ out) (own_input p s here (ap begun_at at_stage))
   valid_at p s v (AskCoin c) at_stage here saw out = elim (either s.input v) [
-    | inl e ↦ subst (IsInput (marked locals)) (sym e) (own_input p s here (ap begun_at at_stage))
-    | inr e ↦ subst (IsInput (marked locals)) (sym e) saw
+    | inl e ↦ subst (IsInput (marked_input locals)) (sym e) (own_input p s here (ap begun_at at_stage))
+    | inr e ↦ subst (IsInput (marked_input locals)) (sym e) saw
   ]
 
-  valid : (p : ℕ) (v : Bool) → of_some output_of (locals p) ≡ Some v → IsInput (marked locals) v
+  valid : (p : ℕ) (v : Bool) → of_some output_of (locals p) ≡ Some v → IsInput (marked_input locals) v
   valid p v e = let a = some_of output_of (locals p) v e in valid_at p a.0 v a.0.stage refl a.1 (k.saw p a.0 a.1) a.2
 
-  pub keeps_conciles : Conciles (marked locals) (λ p. of_some output_of (locals p))
+  pub keeps_conciles : Conciles (marked_input locals) (λ p. of_some output_of (locals p))
   keeps_conciles = record { valid = valid; unanimous = λ v all p w e. let i = valid p w e in all i.0 w i.1 }

@@ -10,7 +10,7 @@ use Rattle.bus_register.specs.Digits.{digit}
 use Rattle.bus_register.proofs.DigitLaws.{digit_le}
 use Rattle.bus_coinconc.specs.Conciliation.{Conciles}
 use Rattle.bus_coinconc.specs.Conciliator.{ConciliatorState, conciliator_started, conciliator_op, conciliator_fed}
-use Rattle.bus_coinconc.specs.ConciliatorProtocol.{Belongs, coin_at, coins, counted, marked, StageSaw, Keeps, conciliator_protocol}
+use Rattle.bus_coinconc.specs.ConciliatorProtocol.{Belongs, coin_at, coins, input_once_begun, marked_input, StageSaw, Keeps, conciliator_protocol}
 use Rattle.bus_coinconc.proofs.ConciliatorGoes.{ends_at, unended_at, unmoved_at, blind_at, fits_at, goes_of, keeps_conciles}
 use Rattle.bus_coinconc.proofs.ConciliatorMoves.{saw_stays, moves_keep}
 
@@ -30,21 +30,21 @@ module _ (n at : ℕ) (words words' : ℕ → ℕ) (old new : ℕ → Option Con
   frame_keep : Keeps n at words' new
   frame_keep = record {
     inside = λ p s e. k.inside p s (sym (same p) ∙ e);
-    set = λ p v e. agree (at + digit v) (omega arith) (let l = digit_le v in omega arith) ∙ k.set p v (ap (of_some counted) (sym (same p)) ∙ e);
+    set = λ p v e. agree (at + digit v) (omega arith) (let l = digit_le v in omega arith) ∙ k.set p v (ap (of_some input_once_begun) (sym (same p)) ∙ e);
     unset = λ v. elim (k.unset v) [
       | inl z ↦ inl (agree (at + digit v) (omega arith) (let l = digit_le v in omega arith) ∙ z)
-      | inr i ↦ inr (i.0, ap (of_some counted) (same i.0) ∙ i.1)
+      | inr i ↦ inr (i.0, ap (of_some input_once_begun) (same i.0) ∙ i.1)
     ];
-    saw = λ p s e. saw_stays (marked old) (marked new) (λ v i. (i.0, ap (of_some counted) (same i.0) ∙ i.1)) s.stage s.input (k.saw p s (sym (same p) ∙ e));
+    saw = λ p s e. saw_stays (marked_input old) (marked_input new) (λ v i. (i.0, ap (of_some input_once_begun) (same i.0) ∙ i.1)) s.stage s.input (k.saw p s (sym (same p) ∙ e));
     coin = coin_laws.frame n (at + 2) words words' (coins old) (coins new) k.coin (λ r a b. agree r (omega arith) (omega arith)) (λ q. ap (of_some (λ s. coin_at s.stage)) (same q));
   }
 
 module _ (n at : ℕ) (words : ℕ → ℕ) (old new : ℕ → Option ConciliatorState) (p : ℕ) (v : Bool) (k : Keeps n at words old) (below : p < n) (few : n ≤ 64) (none : old p ≡ None) (start : new p ≡ Some (conciliator_started n v at)) (beside : Beside p old new) where
   -- whoever is not there counts as little as one that has not begun
-  marked_same : (q : ℕ) → marked new q ≡ marked old q
+  marked_same : (q : ℕ) → marked_input new q ≡ marked_input old q
   marked_same q = elim (cases_eq q p) [
-    | inl i ↦ ap (marked new) i ∙ ap (of_some counted) start ∙ sym (ap (of_some counted) none) ∙ ap (marked old) (sym i)
-    | inr ne ↦ ap (of_some counted) (beside q ne)
+    | inl i ↦ ap (marked_input new) i ∙ ap (of_some input_once_begun) start ∙ sym (ap (of_some input_once_begun) none) ∙ ap (marked_input old) (sym i)
+    | inr ne ↦ ap (of_some input_once_begun) (beside q ne)
   ]
 
   coins_same : (q : ℕ) → coins new q ≡ coins old q
@@ -62,8 +62,8 @@ module _ (n at : ℕ) (words : ℕ → ℕ) (old new : ℕ → Option Conciliato
     set = λ q w e. k.set q w (sym (marked_same q) ∙ e);
     unset = λ w. elim (k.unset w) [ inl z ↦ inl z | inr i ↦ inr (i.0, marked_same i.0 ∙ i.1) ];
     saw = λ q u e. elim (cases_eq q p) [
-      | inl i ↦ subst (λ z. StageSaw (marked new) z.stage z.input) (same_Some _ _ (sym start ∙ ap new (sym i) ∙ e)) tt
-      | inr ne ↦ saw_stays (marked old) (marked new) (λ w i. (i.0, marked_same i.0 ∙ i.1)) u.stage u.input (k.saw q u (sym (beside q ne) ∙ e))
+      | inl i ↦ subst (λ z. StageSaw (marked_input new) z.stage z.input) (same_Some _ _ (sym start ∙ ap new (sym i) ∙ e)) tt
+      | inr ne ↦ saw_stays (marked_input old) (marked_input new) (λ w i. (i.0, marked_same i.0 ∙ i.1)) u.stage u.input (k.saw q u (sym (beside q ne) ∙ e))
     ];
     coin = coin_laws.frame n (at + 2) words words (coins old) (coins new) k.coin (λ r a b. refl) coins_same;
   }

@@ -15,7 +15,7 @@ use Rattle.bus_coinconc.specs.declared.conciliators.Stage.{Stage}
 use Rattle.bus_coinconc.specs.declared.conciliators.Stage.TheVariants.{SetMark, ReadOtherMark, Alone, AskCoin}
 use Rattle.bus_coinconc.specs.Conciliation.{IsInput}
 use Rattle.bus_coinconc.specs.Conciliator.{ConciliatorState, conciliator_op, conciliator_fed, op_at, stage_after}
-use Rattle.bus_coinconc.specs.ConciliatorProtocol.{begun_at, Belongs, coin_at, coins, counted, marked, StageSaw, Keeps}
+use Rattle.bus_coinconc.specs.ConciliatorProtocol.{begun_at, Belongs, coin_at, coins, input_once_begun, marked_input, StageSaw, Keeps}
 use Rattle.bus_coinconc.proofs.ConciliatorGoes.{goes_of}
 
 cases_bool : (v w : Bool) → (v ≡ w) ⊎ (v ≢ w)
@@ -45,32 +45,32 @@ module _ (n at : ℕ) (words words' : ℕ → ℕ) (old new : ℕ → Option Con
     | inr ne ↦ k.inside q u (sym (beside q ne) ∙ e)
   ]
 
-  marked_now : marked new p ≡ Some s.input
-  marked_now = ap (of_some counted) goes ∙ ap (λ z. cond z (Some s.input) None) begun_now
+  marked_now : marked_input new p ≡ Some s.input
+  marked_now = ap (of_some input_once_begun) goes ∙ ap (λ z. cond z (Some s.input) None) begun_now
 
-  marked_was : (v : Bool) → marked old p ≡ Some v → v ≡ s.input
-  marked_was v e = sym (cond_some (begun_at s.stage) s.input v (ap (of_some counted) (sym here) ∙ e)).1
+  marked_was : (v : Bool) → marked_input old p ≡ Some v → v ≡ s.input
+  marked_was v e = sym (cond_some (begun_at s.stage) s.input v (ap (of_some input_once_begun) (sym here) ∙ e)).1
 
   -- an input that counts goes on to count
-  marked_stays : (q : ℕ) (v : Bool) → marked old q ≡ Some v → marked new q ≡ Some v
+  marked_stays : (q : ℕ) (v : Bool) → marked_input old q ≡ Some v → marked_input new q ≡ Some v
   marked_stays q v e = elim (cases_eq q p) [
-    | inl i ↦ ap (marked new) i ∙ marked_now ∙ ap Some (sym (marked_was v (ap (marked old) (sym i) ∙ e)))
-    | inr ne ↦ ap (of_some counted) (beside q ne) ∙ e
+    | inl i ↦ ap (marked_input new) i ∙ marked_now ∙ ap Some (sym (marked_was v (ap (marked_input old) (sym i) ∙ e)))
+    | inr ne ↦ ap (of_some input_once_begun) (beside q ne) ∙ e
   ]
 
-  input_stays : (v : Bool) → IsInput (marked old) v → IsInput (marked new) v
+  input_stays : (v : Bool) → IsInput (marked_input old) v → IsInput (marked_input new) v
   input_stays v i = (i.0, marked_stays i.0 v i.1)
 
   -- the marks before the step, where it was not the step that sets the own mark
   record Marks : Type 0 where
-    set : (q : ℕ) (v : Bool) → marked new q ≡ Some v → words' (at + digit v) ≡ 1
-    unset : (v : Bool) → (words' (at + digit v) ≡ 0) ⊎ IsInput (marked new) v
+    set : (q : ℕ) (v : Bool) → marked_input new q ≡ Some v → words' (at + digit v) ≡ 1
+    unset : (v : Bool) → (words' (at + digit v) ≡ 0) ⊎ IsInput (marked_input new) v
 
   marks_stay : begun_at s.stage ≡ true → ((v : Bool) → words' (at + digit v) ≡ words (at + digit v)) → Marks
   marks_stay b same = record {
     set = λ q v e. same v ∙ elim (cases_eq q p) [
-      | inl i ↦ k.set p v (ap (of_some counted) here ∙ ap (λ z. cond z (Some s.input) None) b ∙ sym marked_now ∙ ap (marked new) (sym i) ∙ e)
-      | inr ne ↦ k.set q v (ap (of_some counted) (sym (beside q ne)) ∙ e)
+      | inl i ↦ k.set p v (ap (of_some input_once_begun) here ∙ ap (λ z. cond z (Some s.input) None) b ∙ sym marked_now ∙ ap (marked_input new) (sym i) ∙ e)
+      | inr ne ↦ k.set q v (ap (of_some input_once_begun) (sym (beside q ne)) ∙ e)
     ];
     unset = λ v. elim (k.unset v) [ inl z ↦ inl (same v ∙ z) | inr i ↦ inr (input_stays v i) ];
   }
@@ -85,14 +85,14 @@ module _ (n at : ℕ) (words words' : ℕ → ℕ) (old new : ℕ → Option Con
   coin_now = ap (of_some (λ s. coin_at s.stage)) goes
 
   -- all together
-  whole : Marks → StageSaw (marked new) (stage_after s.stage s (words (register o)) word) s.input → coin_protocol.Keeps n (at + 2) words' (coins new) → Keeps n at words' new
+  whole : Marks → StageSaw (marked_input new) (stage_after s.stage s (words (register o)) word) s.input → coin_protocol.Keeps n (at + 2) words' (coins new) → Keeps n at words' new
   whole marks saw coin = record {
     inside = inside;
     set = marks.set;
     unset = marks.unset;
     saw = λ q u e. elim (cases_eq q p) [
-      | inl i ↦ subst (λ z. StageSaw (marked new) z.stage z.input) (same_Some _ _ (sym goes ∙ ap new (sym i) ∙ e)) saw
-      | inr ne ↦ saw_stays (marked old) (marked new) input_stays u.stage u.input (k.saw q u (sym (beside q ne) ∙ e))
+      | inl i ↦ subst (λ z. StageSaw (marked_input new) z.stage z.input) (same_Some _ _ (sym goes ∙ ap new (sym i) ∙ e)) saw
+      | inr ne ↦ saw_stays (marked_input old) (marked_input new) input_stays u.stage u.input (k.saw q u (sym (beside q ne) ∙ e))
     ];
     coin = coin;
   }
@@ -122,8 +122,8 @@ module _ (n at : ℕ) (words words' : ℕ → ℕ) (old new : ℕ → Option Con
         set = λ q' v m. elim (cases_bool v s.input) [
           | inl same ↦ ap (λ z. words' (at + digit z)) same ∙ written
           | inr ne ↦ beside_it v ne ∙ elim (cases_eq q' p) [
-            | inl i ↦ absurd (ne (same_Some _ _ (sym m ∙ ap (marked new) i ∙ marked_now)))
-            | inr other ↦ k.set q' v (ap (of_some counted) (sym (beside q' other)) ∙ m)
+            | inl i ↦ absurd (ne (same_Some _ _ (sym m ∙ ap (marked_input new) i ∙ marked_now)))
+            | inr other ↦ k.set q' v (ap (of_some input_once_begun) (sym (beside q' other)) ∙ m)
           ]
         ];
         unset = λ v. elim (cases_bool v s.input) [
@@ -131,7 +131,7 @@ module _ (n at : ℕ) (words words' : ℕ → ℕ) (old new : ℕ → Option Con
           | inr ne ↦ elim (k.unset v) [ inl z ↦ inl (beside_it v ne ∙ z) | inr i ↦ inr (input_stays v i) ]
         ];
       }
-      (subst (λ z. StageSaw (marked new) z s.input) (sym to) tt)
+      (subst (λ z. StageSaw (marked_input new) z s.input) (sym to) tt)
       (coin_stays (ap coin_at e) (ap coin_at to) (λ r a b. step.elsewhere r (omega arith) (omega arith) (omega arith)))
   by_stage ReadOtherMark e q =
       let place : register o ≡ at + digit (not s.input) = ap register (sym (same_Some _ _ q)) ∙ ap (λ z. z + digit (not s.input)) mine.at_is in
@@ -141,12 +141,12 @@ module _ (n at : ℕ) (words words' : ℕ → ℕ) (old new : ℕ → Option Con
       elim (eqb_tells (words (register o)) 0) [
         | inl zero ↦
             let alone : stage_after s.stage s (words (register o)) word ≡ Alone = to ∙ ap (λ z. cond z Alone (AskCoin (coin_started s.n (s.at + 2)))) zero.0 in
-            whole marks (subst (λ z. StageSaw (marked new) z s.input) (sym alone) tt) (coin_stays (ap coin_at e) (ap coin_at alone) (λ r a b. same r (omega arith) (omega arith)))
+            whole marks (subst (λ z. StageSaw (marked_input new) z s.input) (sym alone) tt) (coin_stays (ap coin_at e) (ap coin_at alone) (λ r a b. same r (omega arith) (omega arith)))
         | inr some ↦
             let asks : stage_after s.stage s (words (register o)) word ≡ AskCoin (coin_started s.n (s.at + 2)) = to ∙ ap (λ z. cond z Alone (AskCoin (coin_started s.n (s.at + 2)))) some.0 in
             let begins : coin_started s.n (s.at + 2) ≡ coin_started n (at + 2) = ap (λ z. coin_started z (s.at + 2)) mine.n_is ∙ ap (λ z. coin_started n (z + 2)) mine.at_is in
             whole marks
-            (subst (λ z. StageSaw (marked new) z s.input) (sym asks) (elim (k.unset (not s.input)) [ inl z ↦ absurd (some.1 (ap words place ∙ z)) | inr i ↦ input_stays (not s.input) i ]))
+            (subst (λ z. StageSaw (marked_input new) z s.input) (sym asks) (elim (k.unset (not s.input)) [ inl z ↦ absurd (some.1 (ap words place ∙ z)) | inr i ↦ input_stays (not s.input) i ]))
             (coin_laws.enters n (at + 2) words' (coins old) (coins new) p tt
             (coin_laws.frame n (at + 2) words words' (coins old) (coins old) k.coin (λ r a b. same r (omega arith) (omega arith)) (λ q'. refl))
             mine.below mine.few (coin_here ∙ ap coin_at e) (coin_now ∙ ap coin_at asks ∙ ap Some begins) coins_beside)
@@ -157,7 +157,7 @@ module _ (n at : ℕ) (words words' : ℕ → ℕ) (old new : ℕ → Option Con
       let asked : coins old p ≡ Some c = coin_here ∙ ap coin_at e in
       let g = coin_laws.goes n p (at + 2) c (words (register o)) word o (coin_laws.known n (at + 2) words (coins old) p c k.coin asked).1 q in
       whole (marks_stay (ap begun_at e) (λ v. step.elsewhere (at + digit v) (omega arith) (let l = digit_le v in omega arith) (let l = digit_le v in let h = g.above in omega arith)))
-      (subst (λ z. StageSaw (marked new) z s.input) (sym to) (input_stays (not s.input) (subst (λ z. StageSaw (marked old) z s.input) e (k.saw p s here))))
+      (subst (λ z. StageSaw (marked_input new) z s.input) (sym to) (input_stays (not s.input) (subst (λ z. StageSaw (marked_input old) z s.input) e (k.saw p s here))))
       (coin_laws.moves n (at + 2) words words' (coins old) (coins new) p c word o k.coin asked q (coin_now ∙ ap coin_at to) coins_beside record { here = step.here; elsewhere = λ r a b ne. step.elsewhere r (omega arith) (omega arith) ne })
 
   pub moves_keep : Keeps n at words' new

@@ -54,12 +54,13 @@ coin_at (AskCoin c) = Some c
 abbrev pub coins : (ℕ → Option ConciliatorState) → ℕ → Option CoinState
 coins locals p = of_some (λ s. coin_at s.stage) (locals p)
 
-abbrev pub counted : ConciliatorState → Option Bool
-counted s = if begun_at s.stage then Some s.input else None
+-- its input, once its mark is set
+abbrev pub input_once_begun : ConciliatorState → Option Bool
+input_once_begun s = if begun_at s.stage then Some s.input else None
 
--- the inputs of the processes that have set their marks
-abbrev pub marked : (ℕ → Option ConciliatorState) → ℕ → Option Bool
-marked locals p = of_some counted (locals p)
+-- the input of each process that has set its mark
+abbrev pub marked_input : (ℕ → Option ConciliatorState) → ℕ → Option Bool
+marked_input locals p = of_some input_once_begun (locals p)
 
 -- a process that asks the coin has seen the other mark set
 abbrev pub StageSaw : (ℕ → Option Bool) → Stage → Bool → Type 0
@@ -71,9 +72,9 @@ StageSaw inputs (AskCoin c) input = IsInput inputs (not input)
 pub record Keeps (n at : ℕ) (words : ℕ → ℕ) (locals : ℕ → Option ConciliatorState) : Type 0 where
   pub inside : (p : ℕ) (s : ConciliatorState) → locals p ≡ Some s → (p < n) × Belongs n p at s
   -- a mark is set by the processes with that input, and stays
-  pub set : (p : ℕ) (v : Bool) → marked locals p ≡ Some v → words (at + digit v) ≡ 1
-  pub unset : (v : Bool) → (words (at + digit v) ≡ 0) ⊎ IsInput (marked locals) v
-  pub saw : (p : ℕ) (s : ConciliatorState) → locals p ≡ Some s → StageSaw (marked locals) s.stage s.input
+  pub set : (p : ℕ) (v : Bool) → marked_input locals p ≡ Some v → words (at + digit v) ≡ 1
+  pub unset : (v : Bool) → (words (at + digit v) ≡ 0) ⊎ IsInput (marked_input locals) v
+  pub saw : (p : ℕ) (s : ConciliatorState) → locals p ≡ Some s → StageSaw (marked_input locals) s.stage s.input
   pub coin : coin_protocol.Keeps n (at + 2) words (coins locals)
 
 abbrev pub conciliator_protocol : Protocol ConciliatorState Bool Bool

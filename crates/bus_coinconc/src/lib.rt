@@ -20,7 +20,5 @@
 
 pub mod conciliators;
 pub mod laws;
-#[cfg(test)]
-mod tests;
 
 pub use conciliators::Conciliator;

@@ -33,10 +33,10 @@ use Rattle.bus_world.proofs.RingFits as fits
 use Rattle.bus_world.proofs.RingLaws.{IsRingLayout, IsLed, ring_led, ring_kept, turn_led, turn_owners, owners_due}
 use Rattle.bus_world.proofs.Serving.{Serves}
 use Rattle.bus_cyclic.specs.Cyclic.{CyclicBus, LeadTo, AreLastTakers, IsServedRing, last_of, log_of}
-use Rattle.bus_cyclic.specs.Following.{Steps, Follows, grown, turn_grown, heard_grown, TurnsWithin}
+use Rattle.bus_cyclic.specs.Following.{Steps, Follows, ring_trails_grown, turn_grown, heard_grown, TurnsWithin}
 use Rattle.bus_cyclic.specs.Following as following
 use Rattle.bus_cyclic.specs.Staying.{HasGoneOn, deeds_in, stage_of}
-use Rattle.bus_cyclic.specs.Happening.{Happens, GuestDoes, ReaderDoes, TurnAnswers, RecvAnswers, seen}
+use Rattle.bus_cyclic.specs.Happening.{Happens, GuestDoes, ReaderDoes, TurnAnswers, RecvAnswers, core_found}
 use Rattle.bus_cyclic.proofs.LastTakers.{takers_one, last_told, last_beside, put_takes, close_takes}
 
 -- ---- what an answer tells of who took the page
@@ -132,7 +132,7 @@ module _ {E : Type 0} (X : Election E) (P : Protocol E (Unit {0}) ℕ) where
 
     -- ---- whatever happens, with what it is answered
     put_leads : (p : ℕ) (bytes : List ℕ) (a : Answer) (z' : CyclicBus E) → All (λ byte. byte < 256) bytes → z'.owners ≡ z.owners → (o : Option (Visitor E)) → guest_going b p ≡ o → GuestDoes b o (λ v. with_guest b p (visitor_put v bytes)) z'.ring
-        → (number : ℕ) → PutGives (seen o) (length bytes) number → a ≡ answer.Number number → LeadTo X z' (grown X b (Put p bytes) a T)
+        → (number : ℕ) → PutGives (core_found o) (length bytes) number → a ≡ answer.Number number → LeadTo X z' (ring_trails_grown X b (Put p bytes) a T)
     put_leads p bytes a z' small owners None goes does number gives told = absurd gives
     put_leads p bytes a z' small owners (Some v) goes does number gives told =
         let can : can_put (queue_seen v.core.queue v.visit) (length bytes) ≡ true = put_taken (queue_seen v.core.queue v.visit) (length bytes) gives.0 in
@@ -145,7 +145,7 @@ module _ {E : Type 0} (X : Election E) (P : Protocol E (Unit {0}) ℕ) where
           reached = subst (RingReached X (with_guest b p (visitor_put v bytes))) same whole;
           owners = last_beside b.rows z.owners T.deeds p ds (put_takes number bytes) l.owners;
         } in
-        subst (λ c. LeadTo X z' (grown X b (Put p bytes) c T)) (sym told) (subst (λ y. LeadTo X y (record T { deeds = deeds_with p ds T.deeds })) (sym (parts z' _ _ does owners)) base)
+        subst (λ c. LeadTo X z' (ring_trails_grown X b (Put p bytes) c T)) (sym told) (subst (λ y. LeadTo X y (record T { deeds = deeds_with p ds T.deeds })) (sym (parts z' _ _ does owners)) base)
       where
         parts : (y : CyclicBus E) (r : Ring E) (owners : List ℕ) → y.ring ≡ r → y.owners ≡ owners → y ≡ record { ring = r; owners = owners }
         parts y r owners i j = ap (λ q. record { ring = q; owners = y.owners }) i ∙ ap (λ q. record { ring = r; owners = q }) j
@@ -154,7 +154,7 @@ module _ {E : Type 0} (X : Election E) (P : Protocol E (Unit {0}) ℕ) where
     same_parts y r owners i j = ap (λ q. record { ring = q; owners = y.owners }) i ∙ ap (λ q. record { ring = r; owners = q }) j
 
     close_leads : (p : ℕ) (a : Answer) (z' : CyclicBus E) → z'.owners ≡ z.owners → (o : Option (Visitor E)) → guest_going b p ≡ o → GuestDoes b o (λ v. with_guest b p (visitor_closed v)) z'.ring
-        → CloseGives (seen o) → a ≡ answer.Closing → LeadTo X z' (grown X b (Close p) a T)
+        → CloseGives (core_found o) → a ≡ answer.Closing → LeadTo X z' (ring_trails_grown X b (Close p) a T)
     close_leads p a z' owners None goes does gives told = absurd gives
     close_leads p a z' owners (Some v) goes does gives told =
         let can : can_close (queue_seen v.core.queue v.visit) ≡ true = close_taken (queue_seen v.core.queue v.visit) gives in
@@ -166,7 +166,7 @@ module _ {E : Type 0} (X : Election E) (P : Protocol E (Unit {0}) ℕ) where
           reached = subst (RingReached X (with_guest b p (visitor_closed v))) same whole;
           owners = last_beside b.rows z.owners T.deeds p ds close_takes l.owners;
         } in
-        subst (λ c. LeadTo X z' (grown X b (Close p) c T)) (sym told) (subst (λ y. LeadTo X y (record T { deeds = deeds_with p ds T.deeds })) (sym (same_parts z' _ _ does owners)) base)
+        subst (λ c. LeadTo X z' (ring_trails_grown X b (Close p) c T)) (sym told) (subst (λ y. LeadTo X y (record T { deeds = deeds_with p ds T.deeds })) (sym (same_parts z' _ _ does owners)) base)
 
     there_shown : (t : Bool) (o : Option (Visitor E)) (v : Visitor E) → cond t None o ≡ Some v → o ≡ Some v
     there_shown true o v e = absurd (let bad : None ≡ Some v = e in cc)
@@ -185,17 +185,17 @@ module _ {E : Type 0} (X : Election E) (P : Protocol E (Unit {0}) ℕ) where
         subst (λ c. LeadTo X z' (turn_grown X b p (Some v) word c T)) (sym gives)
         (subst (λ y. LeadTo X y (later p v word at low)) (sym (same_parts z' _ _ does (owners ∙ ap (following.owners_told z p) gives))) base)
 
-    recv_leads : (r : ℕ) (a : Answer) (z' : CyclicBus E) → z'.owners ≡ z.owners → (o : Option Receiving) → slice_get b.receivers r ≡ o → RecvAnswers b r o a z'.ring → LeadTo X z' (grown X b (Recv r) a T)
+    recv_leads : (r : ℕ) (a : Answer) (z' : CyclicBus E) → z'.owners ≡ z.owners → (o : Option Receiving) → slice_get b.receivers r ≡ o → RecvAnswers b r o a z'.ring → LeadTo X z' (ring_trails_grown X b (Recv r) a T)
     recv_leads r a z' owners None at gives = absurd gives
     recv_leads r a z' owners (Some v) at gives =
         let next = gives.0 in let t = gives.1 in
-        let base : LeadTo X (record { ring = record b { receivers = slice_set b.receivers r next }; owners = z.owners }) (grown X b (Recv r) (answer.Recv t) T) = record {
+        let base : LeadTo X (record { ring = record b { receivers = slice_set b.receivers r next }; owners = z.owners }) (ring_trails_grown X b (Recv r) (answer.Recv t) T) = record {
           reached = RecvTaken b T r v next t l.reached at gives.2;
           owners = record { all = l.owners.all; takers = l.owners.takers; last_are = l.owners.last_are };
         } in
-        subst (λ c. LeadTo X z' (grown X b (Recv r) c T)) (sym gives.4) (subst (λ y. LeadTo X y (grown X b (Recv r) (answer.Recv t) T)) (sym (same_parts z' _ _ gives.3 owners)) base)
+        subst (λ c. LeadTo X z' (ring_trails_grown X b (Recv r) c T)) (sym gives.4) (subst (λ y. LeadTo X y (ring_trails_grown X b (Recv r) (answer.Recv t) T)) (sym (same_parts z' _ _ gives.3 owners)) base)
 
-    stop_leads : (p : ℕ) (a : Answer) (z' : CyclicBus E) → z'.owners ≡ z.owners → (o : Option (Visitor E)) → guest_going b p ≡ o → GuestDoes b o (λ v. record b { stopped = slice_set b.stopped p true }) z'.ring → StopGives (seen o) → LeadTo X z' (grown X b (Stop p) a T)
+    stop_leads : (p : ℕ) (a : Answer) (z' : CyclicBus E) → z'.owners ≡ z.owners → (o : Option (Visitor E)) → guest_going b p ≡ o → GuestDoes b o (λ v. record b { stopped = slice_set b.stopped p true }) z'.ring → StopGives (core_found o) → LeadTo X z' (ring_trails_grown X b (Stop p) a T)
     stop_leads p a z' owners None goes does gives = absurd gives
     stop_leads p a z' owners (Some v) goes does gives =
         let base : LeadTo X (record { ring = record b { stopped = slice_set b.stopped p true }; owners = z.owners }) T = record {
@@ -204,7 +204,7 @@ module _ {E : Type 0} (X : Election E) (P : Protocol E (Unit {0}) ℕ) where
         } in
         subst (λ y. LeadTo X y T) (sym (same_parts z' _ _ does owners)) base
 
-    pub leads_on : (e : Event) (a : Answer) (z' : CyclicBus E) → Steps X z e a z' → LeadTo X z' (grown X b e a T)
+    pub leads_on : (e : Event) (a : Answer) (z' : CyclicBus E) → Steps X z e a z' → LeadTo X z' (ring_trails_grown X b e a T)
     leads_on (Put p bytes) a z' d = put_leads p bytes a z' d.is d.owners (guest_going b p) refl d.happens d.answers.0 d.answers.1 d.answers.2
     leads_on (Close p) a z' d = close_leads p a z' d.owners (guest_going b p) refl d.happens d.answers.0 d.answers.1
     leads_on (Turn p word) a z' d = turn_leads p word a z' d.owners (guest_going b p) refl d.within d.happens d.answers
@@ -253,8 +253,8 @@ module _ {E : Type 0} (X : Election E) (P : Protocol E (Unit {0}) ℕ) where
           tenures = ap (λ x. x.rows) same.layout ∙ h.tenures;
           senders = same.guests ∙ h.senders ∙ sym (ap (λ x. x.senders) same.layout);
           owners_few = subst (λ n. length z'.owners ≤ n) (sym same.rows) few;
-          is = (led z' (subst (Serves X P) (sym same.layout) s) (subst IsLayout (sym same.layout) ok) (subst (λ n. 2 ≤ n) (sym same.rows) h.rows_some) (grown X z.ring e a h.trails) l).is;
-          trails = grown X z.ring e a h.trails;
+          is = (led z' (subst (Serves X P) (sym same.layout) s) (subst IsLayout (sym same.layout) ok) (subst (λ n. 2 ≤ n) (sym same.rows) h.rows_some) (ring_trails_grown X z.ring e a h.trails) l).is;
+          trails = ring_trails_grown X z.ring e a h.trails;
           leads = l;
         }
 
@@ -262,14 +262,14 @@ module _ {E : Type 0} (X : Election E) (P : Protocol E (Unit {0}) ℕ) where
     promised T l = ring_kept X P s.laws s.owner_is s.named s.announces s.apart z.ring (layout_served z.ring.layout z.ring.rows s ok h.rows_some) T l.reached
 
     pub follows : (e : Event) (a : Answer) (z' : CyclicBus E) → Steps X z e a z' → IsPrefix (log_of z.ring) (log_of z'.ring) → stage_of z.ring ≤ stage_of z'.ring
-        → ((T : RingTrails) → LeadTo X z T → (t p : ℕ) → HasGoneOn z.ring t → deeds_in t ((grown X z.ring e a T).deeds p) ≡ deeds_in t (T.deeds p)) → Follows X z e a z'
+        → ((T : RingTrails) → LeadTo X z T → (t p : ℕ) → HasGoneOn z.ring t → deeds_in t ((ring_trails_grown X z.ring e a T).deeds p) ≡ deeds_in t (T.deeds p)) → Follows X z e a z'
     follows e a z' d grows rises stays =
         let same = event_sizes z.ring z'.ring e d.happens in
         record {
           reached = λ T l. leads_on z s ok h.rows_some T l e a z' d;
           promised = λ T l.
               let s' : Serves X P z'.ring.layout = subst (Serves X P) (sym same.layout) s in
-              ring_kept X P s'.laws s'.owner_is s'.named s'.announces s'.apart z'.ring (layout_served z'.ring.layout z'.ring.rows s' (subst IsLayout (sym same.layout) ok) (subst (λ n. 2 ≤ n) (sym same.rows) h.rows_some)) (grown X z.ring e a T)
+              ring_kept X P s'.laws s'.owner_is s'.named s'.announces s'.apart z'.ring (layout_served z'.ring.layout z'.ring.rows s' (subst IsLayout (sym same.layout) ok) (subst (λ n. 2 ≤ n) (sym same.rows) h.rows_some)) (ring_trails_grown X z.ring e a T)
               (leads_on z s ok h.rows_some T l e a z' d).reached;
           grows = grows;
           rises = rises;

@@ -24,7 +24,7 @@ use Rattle.bus_world.proofs.Serving.{Serves}
 use Rattle.bus_world.proofs.Stopping.{set_there}
 use Rattle.bus_cyclic.specs.Cyclic.{CyclicBus, IsServedRing, last_of}
 use Rattle.bus_cyclic.specs.Following.{StepsWithin, TurnsWithin, owners_with}
-use Rattle.bus_cyclic.specs.Happening.{Happens, Answers, Refused, GuestDoes, ReaderDoes, TurnAnswers, RecvAnswers, seen}
+use Rattle.bus_cyclic.specs.Happening.{Happens, Answers, Refused, GuestDoes, ReaderDoes, TurnAnswers, RecvAnswers, core_found}
 use Rattle.bus_cyclic.specs.Telling.{StepTells, TurnTells, Tells}
 use Rattle.bus_cyclic.proofs.CyclicLaws.{sits_after}
 
@@ -35,9 +35,9 @@ on_word b (Some o) h = h
 -- who is there and has stopped is refused as such
 pub stop_unknown : {E : Type 0} (z now : CyclicBus E) → z ≡ now → (p : ℕ) → p < length z.ring.guests → get_or z.ring.stopped p false ≡ true → Refused now.ring (Stop p) fault.Stopped
 stop_unknown {E} z now is p l e = subst (λ y. Refused y.ring (Stop p) fault.Stopped) is
-    (subst (λ t. UnlessStopped t (seen (slice_get z.ring.guests p)) fault.Stopped (StopRefused (seen (slice_get z.ring.guests p)) fault.Stopped)) (sym (set_there z.ring.stopped p e)) (by_some (slice_get z.ring.guests p) refl))
+    (subst (λ t. UnlessStopped t (core_found (slice_get z.ring.guests p)) fault.Stopped (StopRefused (core_found (slice_get z.ring.guests p)) fault.Stopped)) (sym (set_there z.ring.stopped p e)) (by_some (slice_get z.ring.guests p) refl))
   where
-    by_some : (o : Option (Visitor E)) → slice_get z.ring.guests p ≡ o → UnlessStopped true (seen o) fault.Stopped (StopRefused (seen o) fault.Stopped)
+    by_some : (o : Option (Visitor E)) → slice_get z.ring.guests p ≡ o → UnlessStopped true (core_found o) fault.Stopped (StopRefused (core_found o) fault.Stopped)
     by_some (Some v) i = refl
     by_some None i = absurd (let there = one_of z.ring.guests p l in let bad : None ≡ Some there.0 = sym i ∙ there.1 in cc)
 
@@ -56,8 +56,8 @@ module _ {E : Type 0} (X : Election E) (P : Protocol E (Unit {0}) ℕ) (z : Cycl
 
   -- ---- where there is none, or it has stopped
   module _ (p : ℕ) (why : StepFault) (refused : Refused now.ring (Stop p) why) where
-    refused_as : (own : Option (Core E) → Type 0) → (why ≡ fault.NoSuchSender → own None) → UnlessStopped (is_set (slice_get now.ring.stopped p)) (seen (slice_get now.ring.guests p)) why (own (seen (slice_get now.ring.guests p)))
-    refused_as own unknown = by_test (is_set (slice_get now.ring.stopped p)) (seen (slice_get now.ring.guests p)) refused
+    refused_as : (own : Option (Core E) → Type 0) → (why ≡ fault.NoSuchSender → own None) → UnlessStopped (is_set (slice_get now.ring.stopped p)) (core_found (slice_get now.ring.guests p)) why (own (core_found (slice_get now.ring.guests p)))
+    refused_as own unknown = by_test (is_set (slice_get now.ring.stopped p)) (core_found (slice_get now.ring.guests p)) refused
       where
         by_test : (t : Bool) (o : Option (Core E)) → UnlessStopped t o why (StopRefused o why) → UnlessStopped t o why (own o)
         by_test true (Some c) r = r
@@ -68,7 +68,7 @@ module _ {E : Type 0} (X : Election E) (P : Protocol E (Unit {0}) ℕ) (z : Cycl
     pub nobody : guest_going now.ring p ≡ None
     nobody = by_test (is_set (slice_get now.ring.stopped p)) (slice_get now.ring.guests p) refused
       where
-        by_test : (t : Bool) (o : Option (Visitor E)) → UnlessStopped t (seen o) why (StopRefused (seen o) why) → cond t None o ≡ None
+        by_test : (t : Bool) (o : Option (Visitor E)) → UnlessStopped t (core_found o) why (StopRefused (core_found o) why) → cond t None o ≡ None
         by_test true o r = refl
         by_test false None r = refl
         by_test false (Some v) r = absurd r
@@ -123,8 +123,8 @@ module _ {E : Type 0} (X : Election E) (P : Protocol E (Unit {0}) ℕ) (z : Cycl
     same_guest : with_guest b p v ≡ b
     same_guest = ap (λ g. record b { guests = g }) (set_same b.guests p v at)
 
-    own_cause : (why : StepFault) (own : Option (Core E) → Type 0) → own (seen (Some v)) → UnlessStopped (is_set (slice_get now.ring.stopped p)) (seen (slice_get now.ring.guests p)) why (own (seen (slice_get now.ring.guests p)))
-    own_cause why own e = subst (λ t. UnlessStopped t (seen (slice_get now.ring.guests p)) why (own (seen (slice_get now.ring.guests p)))) (sym free) (subst (λ o. own (seen o)) now_has e)
+    own_cause : (why : StepFault) (own : Option (Core E) → Type 0) → own (core_found (Some v)) → UnlessStopped (is_set (slice_get now.ring.stopped p)) (core_found (slice_get now.ring.guests p)) why (own (core_found (slice_get now.ring.guests p)))
+    own_cause why own e = subst (λ t. UnlessStopped t (core_found (slice_get now.ring.guests p)) why (own (core_found (slice_get now.ring.guests p)))) (sym free) (subst (λ o. own (core_found o)) now_has e)
 
     does_now : (f : Visitor E → Ring E) (r : Ring E) → r ≡ f v → GuestDoes b (guest_going b p) f r
     does_now f r e = subst (λ o. GuestDoes b o f r) (sym goes) e
@@ -137,23 +137,23 @@ module _ {E : Type 0} (X : Election E) (P : Protocol E (Unit {0}) ℕ) (z : Cycl
       pub put_happens : Happens X now.ring (Put p bytes) (with_guest b p v')
       put_happens = subst (λ y. Happens X y.ring (Put p bytes) (with_guest b p v')) is put_does
 
-      unchanged : (why : StepFault) → PutRefused (seen (Some v)) (length bytes) why → with_guest b p v' ≡ b
+      unchanged : (why : StepFault) → PutRefused (core_found (Some v)) (length bytes) why → with_guest b p v' ≡ b
       unchanged why q =
           let same : v' ≡ v = put_is ∙ ap (λ t. cond t (record v { core = record v.core { queue = record v.core.queue { messages = v.core.queue.messages ++ bytes ∷ [] } } }) v) (put_allowed (queue_seen v.core.queue v.visit) (length bytes) q.0 q.1) in
           ap (with_guest b p) same ∙ same_guest
 
-      pub put_sits : All (λ byte. byte < 256) bytes → (r : Result ℕ StepFault) → IfOk r (PutGives (seen (Some v)) (length bytes)) → IfErr r (PutRefused (seen (Some v)) (length bytes)) → IsServedRing X (with_ring (with_guest b p v'))
+      pub put_sits : All (λ byte. byte < 256) bytes → (r : Result ℕ StepFault) → IfOk r (PutGives (core_found (Some v)) (length bytes)) → IfErr r (PutRefused (core_found (Some v)) (length bytes)) → IsServedRing X (with_ring (with_guest b p v'))
       put_sits small (Ok n) gives cause = sits_after X P z s h (Put p bytes) (answer.Number n) (with_ring (with_guest b p v'))
-          record { is = small; within = tt; happens = put_does; answers = (n, subst (λ o. PutGives (seen o) (length bytes) n) (sym goes) gives, refl); owners = refl } h.owners_few
+          record { is = small; within = tt; happens = put_does; answers = (n, subst (λ o. PutGives (core_found o) (length bytes) n) (sym goes) gives, refl); owners = refl } h.owners_few
       put_sits small (Err why) gives cause = subst (λ r. IsServedRing X (with_ring r)) (sym (unchanged why cause)) h
 
-      pub put_keeps : (r : Result ℕ StepFault) → IfErr r (PutRefused (seen (Some v)) (length bytes)) → OnErr r (with_ring (with_guest b p v') ≡ now)
-      put_keeps r w = refuses r (PutRefused (seen (Some v)) (length bytes)) _ w (λ why q. ap with_ring (unchanged why q) ∙ is)
+      pub put_keeps : (r : Result ℕ StepFault) → IfErr r (PutRefused (core_found (Some v)) (length bytes)) → OnErr r (with_ring (with_guest b p v') ≡ now)
+      put_keeps r w = refuses r (PutRefused (core_found (Some v)) (length bytes)) _ w (λ why q. ap with_ring (unchanged why q) ∙ is)
 
-    pub put_gives : (len : ℕ) (r : Result ℕ StepFault) → IfOk r (PutGives (seen (Some v)) len) → IfOk r (PutGives (seen (guest_going now.ring p)) len)
-    put_gives len r = subst (λ o. IfOk r (PutGives (seen o) len)) now_goes
+    pub put_gives : (len : ℕ) (r : Result ℕ StepFault) → IfOk r (PutGives (core_found (Some v)) len) → IfOk r (PutGives (core_found (guest_going now.ring p)) len)
+    put_gives len r = subst (λ o. IfOk r (PutGives (core_found o) len)) now_goes
 
-    pub put_refused : (bytes : List ℕ) (r : Result ℕ StepFault) → IfErr r (PutRefused (seen (Some v)) (length bytes)) → IfErr r (Refused now.ring (Put p bytes))
+    pub put_refused : (bytes : List ℕ) (r : Result ℕ StepFault) → IfErr r (PutRefused (core_found (Some v)) (length bytes)) → IfErr r (Refused now.ring (Put p bytes))
     put_refused bytes r w = for_each r _ _ w (λ why q. own_cause why (λ o. PutRefused o (length bytes) why) q)
 
     -- ---- a close
@@ -164,23 +164,23 @@ module _ {E : Type 0} (X : Election E) (P : Protocol E (Unit {0}) ℕ) (z : Cycl
       pub close_happens : Happens X now.ring (Close p) (with_guest b p v')
       close_happens = subst (λ y. Happens X y.ring (Close p) (with_guest b p v')) is close_does
 
-      left_open : (why : StepFault) → CloseRefused (seen (Some v)) why → with_guest b p v' ≡ b
+      left_open : (why : StepFault) → CloseRefused (core_found (Some v)) why → with_guest b p v' ≡ b
       left_open why q =
           let same : v' ≡ v = close_is ∙ ap (λ t. cond t (record v { core = record v.core { queue = record v.core.queue { phase = Closing } } }) v) (close_allowed (queue_seen v.core.queue v.visit) q.0 q.1) in
           ap (with_guest b p) same ∙ same_guest
 
-      pub close_sits : (r : Result (Unit {0}) StepFault) → OnOk r (CloseGives (seen (Some v))) → IfErr r (CloseRefused (seen (Some v))) → IsServedRing X (with_ring (with_guest b p v'))
+      pub close_sits : (r : Result (Unit {0}) StepFault) → OnOk r (CloseGives (core_found (Some v))) → IfErr r (CloseRefused (core_found (Some v))) → IsServedRing X (with_ring (with_guest b p v'))
       close_sits (Ok u) gives cause = sits_after X P z s h (Close p) answer.Closing (with_ring (with_guest b p v'))
-          record { is = tt; within = tt; happens = close_does; answers = (subst (λ o. CloseGives (seen o)) (sym goes) gives, refl); owners = refl } h.owners_few
+          record { is = tt; within = tt; happens = close_does; answers = (subst (λ o. CloseGives (core_found o)) (sym goes) gives, refl); owners = refl } h.owners_few
       close_sits (Err why) gives cause = subst (λ r. IsServedRing X (with_ring r)) (sym (left_open why cause)) h
 
-      pub close_keeps : (r : Result (Unit {0}) StepFault) → IfErr r (CloseRefused (seen (Some v))) → OnErr r (with_ring (with_guest b p v') ≡ now)
-      close_keeps r w = refuses r (CloseRefused (seen (Some v))) _ w (λ why q. ap with_ring (left_open why q) ∙ is)
+      pub close_keeps : (r : Result (Unit {0}) StepFault) → IfErr r (CloseRefused (core_found (Some v))) → OnErr r (with_ring (with_guest b p v') ≡ now)
+      close_keeps r w = refuses r (CloseRefused (core_found (Some v))) _ w (λ why q. ap with_ring (left_open why q) ∙ is)
 
-    pub close_gives : (r : Result (Unit {0}) StepFault) → OnOk r (CloseGives (seen (Some v))) → OnOk r (CloseGives (seen (guest_going now.ring p)))
-    close_gives r = subst (λ o. OnOk r (CloseGives (seen o))) now_goes
+    pub close_gives : (r : Result (Unit {0}) StepFault) → OnOk r (CloseGives (core_found (Some v))) → OnOk r (CloseGives (core_found (guest_going now.ring p)))
+    close_gives r = subst (λ o. OnOk r (CloseGives (core_found o))) now_goes
 
-    pub close_refused : (r : Result (Unit {0}) StepFault) → IfErr r (CloseRefused (seen (Some v))) → IfErr r (Refused now.ring (Close p))
+    pub close_refused : (r : Result (Unit {0}) StepFault) → IfErr r (CloseRefused (core_found (Some v))) → IfErr r (Refused now.ring (Close p))
     close_refused r w = for_each r _ _ w (λ why q. own_cause why (λ o. CloseRefused o why) q)
 
     -- ---- a stop
@@ -195,10 +195,10 @@ module _ {E : Type 0} (X : Election E) (P : Protocol E (Unit {0}) ℕ) (z : Cycl
 
     pub stop_sits : IsServedRing X (with_ring stopped_ring)
     stop_sits = sits_after X P z s h (Stop p) answer.Stopped (with_ring stopped_ring)
-        record { is = tt; within = tt; happens = stop_does; answers = (subst (λ o. StopGives (seen o)) (sym goes) tt, refl); owners = refl } h.owners_few
+        record { is = tt; within = tt; happens = stop_does; answers = (subst (λ o. StopGives (core_found o)) (sym goes) tt, refl); owners = refl } h.owners_few
 
-    pub stop_gives : StopGives (seen (guest_going now.ring p))
-    stop_gives = subst (λ o. StopGives (seen o)) now_goes tt
+    pub stop_gives : StopGives (core_found (guest_going now.ring p))
+    stop_gives = subst (λ o. StopGives (core_found o)) now_goes tt
 
     -- ---- a turn
     pub turn_causes : (W : Option (Visitor E) → Type 0) → W (Some v) → W (guest_going now.ring p)

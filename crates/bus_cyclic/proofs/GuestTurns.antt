@@ -13,7 +13,7 @@ use Rattle.bus_guest.specs.Guests.{Due, Visits, Sweeps, Goes, sizes_with, due_be
 use Rattle.bus_guest.specs.Keeping.{IsRowReady, held_of}
 use Rattle.bus_guest.proofs.Tells.{Shows, gives_shows}
 use Rattle.bus_guest.specs.Telling.{FeedTells, GivesReady, Returns as Gives, Gives as Hands, Says, HasPublished, Published, HandsOnSent, LacksRoom, FindsNoRoom, HandsOnFull, FindsEnd, Ended, HandsOnEnd}
-use Rattle.bus_guest.specs.Turns.{Visitor, sizes_of, due, op_due, op_next, placed, rest_due, visitor_due, visitor_after, answer_due, answer_after}
+use Rattle.bus_guest.specs.Turns.{Visitor, sizes_of, due, op_due, op_next, op_placed, rest_due, visitor_due, visitor_after, answer_due, answer_after}
 use Rattle.bus_tenure.specs.Core.{Core, Election, stage_at}
 use Rattle.bus_tenure.specs.Seen.{AwaitsItsPage}
 use Rattle.bus_tenure.specs.Situations.{Situation, IsClosed, IsIdle, IsSpent, LooksAtStage, Elects, TakesPage, AwaitsPage, StoresWord, StoresLength, GivesBack, HasHanded, PageMove, Stays, Comes, Returns, situation_of, op_at, waits, core_begun, core_elected}
@@ -43,7 +43,7 @@ some_step : (x : Option Op) → IsSome x → x ≡ None → ⊥
 some_step None h e = let q : false ≡ true = h in cc
 some_step (Some o) h e = cc
 
-placed_none : (f : ℕ → ℕ) (x : Option Op) → placed f x ≡ None → x ≡ None
+placed_none : (f : ℕ → ℕ) (x : Option Op) → op_placed f x ≡ None → x ≡ None
 placed_none f None e = refl
 placed_none f (Some o) e = absurd (let bad : Some _ ≡ None = e in cc)
 
@@ -208,6 +208,7 @@ module _ {E : Type 0} (X : Election E) (v : Visitor E) (home : Option Page) (wor
       gives = λ u i. w.gives t (handed_ready u i);
       waits = λ i. let bad = sym e ∙ i.looks in cc;
       spent = λ i. let bad = sym e ∙ i.looks in cc;
+      begins = λ i. let bad = sym e ∙ i in absurd cc;
       behind = λ u p i. let bad = sym now ∙ i.loads in cc;
     }
     gives_too (turn.Lost u o) w = record { parts = w.parts; lost = w.lost }

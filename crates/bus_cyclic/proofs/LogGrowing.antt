@@ -22,10 +22,10 @@ use Rattle.bus_tenure.specs.declared.phases.Phase.TheVariants as phase
 use Rattle.bus_tenure.proofs.Situated.{tells}
 use Rattle.bus_guest.specs.Guests.{Due, Visits, Sweeps, Goes, sizes_with, log_from, place_for, sweep_due, due_swept, due_home, due_beside}
 use Rattle.bus_guest.specs.Keeping.{held_of}
-use Rattle.bus_guest.specs.Turns.{Visitor, due, op_due, on_place, placed}
+use Rattle.bus_guest.specs.Turns.{Visitor, due, op_due, on_place, op_placed}
 use Rattle.bus_world.specs.Bus.{IsLayout, Part, Fits}
 use Rattle.bus_world.specs.Headline.{IsPrefix}
-use Rattle.bus_world.specs.Log.{read}
+use Rattle.bus_world.specs.Log.{words_read_from}
 use Rattle.bus_world.specs.Rings.{Ring, RingTrails, IsOnWord, yard_of, core_in, guest_going, ring_after}
 use Rattle.bus_world.specs.Turning.{words_after}
 use Rattle.bus_world.specs.World.{Event, Put, Close, Turn, Recv, Stop, is_set}
@@ -64,25 +64,25 @@ module _ (xs : List ℕ) (from : ℕ) where
   ])
 
   abbrev Grows : Option Op → Type 0
-  Grows o = IsPrefix (read (slice_index xs) from len) (read (slice_index (words_after xs o)) from (slice_index (words_after xs o) 0))
+  Grows o = IsPrefix (words_read_from (slice_index xs) from len) (words_read_from (slice_index (words_after xs o)) from (slice_index (words_after xs o) 0))
 
   none_grows : Grows None
   none_grows = same_prefix _ _ refl
 
   apart_grows : (o : Op) → register o < length xs → IsApart from len o → Grows (Some o)
   apart_grows o low far = same_prefix _ _
-      (ap (read (slice_index (words_after xs (Some o))) from) (word_same o low far 0 (inl refl))
+      (ap (words_read_from (slice_index (words_after xs (Some o))) from) (word_same o low far 0 (inl refl))
       ∙ read-agree (slice_index xs) (slice_index (words_after xs (Some o))) from len (λ q a b. word_same o low far q (inr (a, b))))
 
   -- the length is raised
-  length_grows : (n : ℕ) → 0 < length xs → 0 < from → len ≤ n → IsPrefix (read (slice_index xs) from len) (read (slice_index (slice_set xs 0 n)) from (slice_index (slice_set xs 0 n) 0))
+  length_grows : (n : ℕ) → 0 < length xs → 0 < from → len ≤ n → IsPrefix (words_read_from (slice_index xs) from len) (words_read_from (slice_index (slice_set xs 0 n)) from (slice_index (slice_set xs 0 n) 0))
   length_grows n low some up =
       let more : n ≡ len + (n - len) = omega arith in
       record {
-        rest = read (slice_index xs) (from + len) (n - len);
-        together = sym (ap (read (slice_index (slice_set xs 0 n)) from) (get_or-set_same xs 0 n 0 low)
+        rest = words_read_from (slice_index xs) (from + len) (n - len);
+        together = sym (ap (words_read_from (slice_index (slice_set xs 0 n)) from) (get_or-set_same xs 0 n 0 low)
             ∙ read-agree (slice_index xs) (slice_index (slice_set xs 0 n)) from n (λ q a b. get_or-set_other xs 0 q n 0 (λ e. omega arith))
-            ∙ ap (read (slice_index xs) from) more
+            ∙ ap (words_read_from (slice_index xs) from) more
             ∙ read-add (slice_index xs) from len (n - len));
       }
 
@@ -200,7 +200,7 @@ module _ {E : Type 0} (X : Election E) (P : Protocol E (Unit {0}) ℕ) (z : Cycl
         ])
 
     -- a step of its election
-    elects_grows : (t : ℕ) (e : E) → situation_of X v.core ≡ Elects t e → (d : Option Op) → X.op e word ≡ d → GrowsBy (placed (place_for v.core.layout v.rows (Elects t e)) d)
+    elects_grows : (t : ℕ) (e : E) → situation_of X v.core ≡ Elects t e → (d : Option Op) → X.op e word ≡ d → GrowsBy (op_placed (place_for v.core.layout v.rows (Elects t e)) d)
     elects_grows t e i None n low = none_grows b.words from
     elects_grows t e i (Some q) n low =
         let f = place_for v.core.layout v.rows (Elects t e) in

@@ -16,7 +16,7 @@ use Rattle.bus_presence.specs.Visits.{step_at}
 use Rattle.bus_presence.specs.declared.visits.Visit.{Visit}
 use Rattle.bus_presence.specs.declared.visits.Visit.TheVariants.{Inside, Parting}
 use Rattle.bus_guest.specs.Guests.{Due, Visits, Sweeps, Goes, sizes_with, place_for, due_beside, visit_elected, lost_elected}
-use Rattle.bus_guest.specs.Turns.{Visitor, due, op_due, placed, visitor_due, queue_seen}
+use Rattle.bus_guest.specs.Turns.{Visitor, due, op_due, op_placed, visitor_due, queue_seen}
 use Rattle.bus_tenure.specs.Core.{Election, stage_at}
 use Rattle.bus_tenure.specs.Situations.{Situation, IsClosed, IsIdle, IsSpent, LooksAtStage, Elects, TakesPage, AwaitsPage, StoresWord, StoresLength, GivesBack, HasHanded, situation_of}
 use Rattle.bus_tenure.specs.declared.turns.Turn.{Turn as Answered}
@@ -66,7 +66,7 @@ module _ {E : Type 0} (b : Ring E) (D : ℕ → List Deed) (l : LossesAreSeen b 
   seen_same v' ds lost visit = seen_with v' ds (λ o e. subst (λ u. HasSeenLoss u s o (deeds_with s ds D s)) (sym visit) (loss_still s ds D v.visit s o (l.seen s v o at (sym lost ∙ e))))
 
 -- ---- what a step finds on the word that lies at another place
-found_same : (f : ℕ → ℕ) (w : ℕ → ℕ) (d : Option Op) → number_found w (placed f d) ≡ word_found f w d
+found_same : (f : ℕ → ℕ) (w : ℕ → ℕ) (d : Option Op) → number_found w (op_placed f d) ≡ word_found f w d
 found_same f w None = refl
 found_same f w (Some o) = ap w (same_register f o)
 
@@ -88,8 +88,8 @@ module _ {E : Type 0} (X : Election E) (P : Protocol E (Unit {0}) ℕ) (laws : L
     place_is z = ap (λ y. place_for y v.rows z) (fits.layout_is X P laws owner_is named announces apart b x T h s v at) ∙ ap (λ r. place_for b.layout r z) (h.is.rows s v at)
 
     -- it finds what its deed says that it found
-    pub got_is : (z : Situation E) (d : Option Op) → number_found (slice_index b.words) (placed (place_for v.core.layout v.rows z) d) ≡ word_found (place_for b.layout b.rows z) (slice_index b.words) d
-    got_is z d = ap (λ f. number_found (slice_index b.words) (placed f d)) (place_is z) ∙ found_same (place_for b.layout b.rows z) (slice_index b.words) d
+    pub got_is : (z : Situation E) (d : Option Op) → number_found (slice_index b.words) (op_placed (place_for v.core.layout v.rows z) d) ≡ word_found (place_for b.layout b.rows z) (slice_index b.words) d
+    got_is z d = ap (λ f. number_found (slice_index b.words) (op_placed f d)) (place_is z) ∙ found_same (place_for b.layout b.rows z) (slice_index b.words) d
 
     me_is : v.core.me ≡ s
     me_is = fits.me_is X P laws owner_is named announces apart b x T h s v at

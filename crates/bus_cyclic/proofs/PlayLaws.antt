@@ -13,7 +13,7 @@ use Rattle.bus_world.proofs.Growing.{same_prefix, prefix_after}
 use Rattle.bus_world.proofs.RingLaws.{IsRingLayout}
 use Rattle.bus_world.proofs.Serving.{Serves}
 use Rattle.bus_cyclic.specs.Cyclic.{CyclicBus, LeadTo, AreLastTakers, IsServedRing, log_of}
-use Rattle.bus_cyclic.specs.Following.{Steps, Follows, grown}
+use Rattle.bus_cyclic.specs.Following.{Steps, Follows, ring_trails_grown}
 use Rattle.bus_cyclic.specs.Playing.{IsAnswered, AllAnswered, trails_after, Played}
 use Rattle.bus_cyclic.specs.Staying.{HasGoneOn, deeds_in, stage_of}
 use Rattle.bus_cyclic.proofs.CyclicLaws.{layout_served, led, event_sizes, follows as followed, promised as kept, ok}
@@ -33,11 +33,11 @@ module _ {S : Type 0} (X : Election (Elector S)) (Q : Protocol S Bool Verdict) w
 
   leads_more : (events : List Event) (old new : CyclicBus (Elector S)) (T : RingTrails) → LeadTo X old T → (run : AllAnswered X Q old events new) → LeadTo X new (trails_after X Q old events new run T)
   leads_more [] old new T l run = subst (λ y. LeadTo X y T) (sym run) l
-  leads_more (e ∷ events) old new T l run = leads_more events run.0 new (grown X old.ring e run.1 T) (run.2.follows.reached T l) run.3
+  leads_more (e ∷ events) old new T l run = leads_more events run.0 new (ring_trails_grown X old.ring e run.1 T) (run.2.follows.reached T l) run.3
 
   kept_more : (events : List Event) (old new : CyclicBus (Elector S)) (T : RingTrails) → LeadTo X old T → IsKeptRing X old.ring T → (run : AllAnswered X Q old events new) → IsKeptRing X new.ring (trails_after X Q old events new run T)
   kept_more [] old new T l k run = subst (λ (y : CyclicBus (Elector S)). IsKeptRing X y.ring T) (sym run) k
-  kept_more (e ∷ events) old new T l k run = kept_more events run.0 new (grown X old.ring e run.1 T) (run.2.follows.reached T l) (run.2.follows.promised T l) run.3
+  kept_more (e ∷ events) old new T l k run = kept_more events run.0 new (ring_trails_grown X old.ring e run.1 T) (run.2.follows.reached T l) (run.2.follows.promised T l) run.3
 
   grows_more : (events : List Event) (old new : CyclicBus (Elector S)) → AllAnswered X Q old events new → IsPrefix (log_of old.ring) (log_of new.ring)
   grows_more [] old new run = same_prefix (log_of old.ring) (log_of new.ring) (ap (λ (y : CyclicBus (Elector S)). log_of y.ring) run)
@@ -54,7 +54,7 @@ module _ {S : Type 0} (X : Election (Elector S)) (Q : Protocol S Bool Verdict) w
         let same = (event_sizes X P old.ring run.0.ring e run.2.steps.happens).rows in
         let more = run.2.follows.rises in
         let still : HasGoneOn run.0.ring t = omega arith in
-        stays_more events run.0 new (grown X old.ring e run.1 T) (run.2.follows.reached T l) run.3 t s still ∙ run.2.follows.stays T l t s gone
+        stays_more events run.0 new (ring_trails_grown X old.ring e run.1 T) (run.2.follows.reached T l) run.3 t s still ∙ run.2.follows.stays T l t s gone
 
     pub played : (now : CyclicBus (Elector S)) → ((T : RingTrails) → LeadTo X now T → IsKeptRing X now.ring T) → (events : List Event) (new : CyclicBus (Elector S)) → AllAnswered X Q now events new → Played X Q now events new
     played now kept_now events new run = record {

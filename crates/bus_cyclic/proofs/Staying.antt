@@ -29,7 +29,7 @@ use Rattle.bus_tenure.specs.declared.turns.Turn.{Turn as Answered}
 use Rattle.bus_tenure.proofs.Situated.{tells}
 use Rattle.bus_guest.specs.Guests.{Due, Visits, Sweeps, Goes, sizes_with, log_from, place_for}
 use Rattle.bus_guest.specs.Keeping.{held_of}
-use Rattle.bus_guest.specs.Turns.{Visitor, due, op_due, on_place, placed}
+use Rattle.bus_guest.specs.Turns.{Visitor, due, op_due, on_place, op_placed}
 use Rattle.bus_world.specs.Bus.{Part, Fits, standing_of, stands_at, least_of}
 use Rattle.bus_world.specs.Headline.{Deed}
 use Rattle.bus_world.specs.Rings.{Ring, RingTrails, RingReached, IsOnWord, yard_of, core_in, guest_going, ring_after, ring_deeds}
@@ -42,7 +42,7 @@ use Rattle.bus_world.specs.declared.events.Answer.TheVariants as answer
 use Rattle.bus_world.proofs.RingLaws.{IsRingLayout, IsLed, ring_led, guest_there, same_register, due_goes}
 use Rattle.bus_world.proofs.TenuresLaws as tenures
 use Rattle.bus_world.proofs.YardLaws.{HasKept, led_kept, yard_promised}
-use Rattle.bus_cyclic.specs.Following.{StepsWithin, TurnsWithin, grown, turn_grown}
+use Rattle.bus_cyclic.specs.Following.{StepsWithin, TurnsWithin, ring_trails_grown, turn_grown}
 use Rattle.bus_cyclic.specs.Happening.{Happens, GuestDoes, ReaderDoes}
 use Rattle.bus_cyclic.specs.Staying.{HasGoneOn, deeds_in, is_in, stage_of}
 use Rattle.bus_cyclic.proofs.LogGrowing.{IsSweepDue, loads_same, visits_due, sweeps_due}
@@ -154,7 +154,7 @@ module _ {E : Type 0} (X : Election E) (P : Protocol E (Unit {0}) ℕ) (laws : L
           | inr a ↦ inr (λ j. let place = ap register a.stores in let row = w.row in omega arith)
         ])
 
-    elects_rises : (t : ℕ) (e : E) (d : Option Op) → Rises (placed (place_for v.core.layout v.rows (Elects t e)) d)
+    elects_rises : (t : ℕ) (e : E) (d : Option Op) → Rises (op_placed (place_for v.core.layout v.rows (Elects t e)) d)
     elects_rises t e None low = omega arith
     elects_rises t e (Some q) low =
         let f = place_for v.core.layout v.rows (Elects t e) in
@@ -260,7 +260,7 @@ module _ {E : Type 0} (X : Election E) (P : Protocol E (Unit {0}) ℕ) (laws : L
   event_turn_stays t gone p word (Some v) goes (answer.Recv told) s = refl
   event_turn_stays t gone p word (Some v) goes answer.Stopped s = refl
 
-  pub event_stays : (t : ℕ) → HasGoneOn b t → (e : Event) (a : Answer) (s : ℕ) → deeds_in t ((grown X b e a T).deeds s) ≡ deeds_in t (T.deeds s)
+  pub event_stays : (t : ℕ) → HasGoneOn b t → (e : Event) (a : Answer) (s : ℕ) → deeds_in t ((ring_trails_grown X b e a T).deeds s) ≡ deeds_in t (T.deeds s)
   event_stays t gone (Put p bytes) a s = beside_stays t p (put_deeds bytes a) T.deeds (put_beside_all t bytes a) s
   event_stays t gone (Close p) a s = beside_stays t p (close_deeds a) T.deeds (close_beside_all t a) s
   event_stays t gone (Turn p word) a s = event_turn_stays t gone p word (guest_going b p) refl a s

@@ -1,22 +1,24 @@
 -- A stop is for good, and changes nothing else.
-use Rattle.std.proofs.Common.{◌≡◌, ◌≢◌, ℕ, ◌<◌, ◌≤◌, Bool, true, false, cond, ne_eqb, arith, Option, Some, None, inl, inr, List, [], ◌∷◌, ◌++◌, length, slice_get, slice_set, refl, sym, ◌∙◌, ap, subst}
+use Rattle.std.proofs.Common.{◌≡◌, ◌≢◌, ℕ, zero, suc, ◌<◌, ◌≤◌, Bool, true, false, cond, ne_eqb, arith, Option, Some, None, inl, inr, List, All, [], ◌∷◌, ◌++◌, length, slice_get, slice_set, refl, sym, ◌∙◌, ap, subst}
 use Rattle.std.specs.Prelude.{◌⊎◌}
 use Rattle.std.proofs.lemmas.Bool.{true≢false, cases_eq}
-use Rattle.std.proofs.lemmas.List.{append-nil, length-replicate}
+use Rattle.std.proofs.lemmas.List.{append-nil, length-replicate, set-set, set_comm}
+use Rattle.std.proofs.lemmas.List.Elements.{All-head, All-tail}
 use Rattle.std.proofs.lemmas.Option.{slice_get_within}
 use Rattle.std.proofs.Math.ListN.{length-set}
 use Rattle.bus_register.specs.Proved.TableLaws.{some_or_none, here_not, get_set_same, get_set_other}
 use Rattle.bus_register.specs.Protocol.{Protocol}
 use Rattle.bus_adoptcommit.specs.declared.verdicts.Verdict.{Verdict}
 use Rattle.bus_deliverylog.specs.Receiving.{Receiving}
-use Rattle.bus_presence.specs.Hall.{Trails, Entry, grown as trail_grown}
+use Rattle.bus_presence.specs.Hall.{Trails, Entry, trails_with_entry as trail_grown}
 use Rattle.bus_guest.specs.Guests.{Due, Visits, Sweeps, Goes}
 use Rattle.bus_guest.specs.Turns.{Visitor, due}
 use Rattle.bus_tenure.specs.Core.{Core, Election}
 use Rattle.bus_tenure.specs.Elections.{Elector}
 use Rattle.bus_world.specs.Headline.{Deed}
-use Rattle.bus_world.specs.Playing.{PutGives, CloseGives, StopGives, PutRefused, CloseRefused, TurnRefused, StopRefused, UnlessStopped}
+use Rattle.bus_world.specs.Playing.{PutGives, CloseGives, StopGives, PutRefused, CloseRefused, TurnRefused, RecvRefused, StopRefused, UnlessStopped}
 use Rattle.bus_world.specs.Rings.{Ring, RingTrails, RingReached, IsNewRing, NewRing, TurnTaken, PutTaken, CloseTaken, RecvTaken, StopTaken, guest_going, ring_after, ring_trails, ring_sweeps, with_guest, visitor_put, visitor_closed}
+use Rattle.bus_world.specs.Stopping.{IsOfOther}
 use Rattle.bus_world.specs.Trails.{put_deeds, close_deeds}
 use Rattle.bus_world.specs.World.{Event, Put, Close, Turn, Recv, Stop, is_set}
 use Rattle.bus_world.specs.Yards.{deeds_with}
@@ -26,10 +28,10 @@ use Rattle.bus_world.specs.declared.events.StepFault.{StepFault}
 use Rattle.bus_world.specs.declared.events.StepFault.TheVariants as fault
 use Rattle.bus_world.proofs.RingLaws.{guest_there}
 use Rattle.bus_cyclic.specs.Cyclic.{CyclicBus, LeadTo}
-use Rattle.bus_cyclic.specs.Following.{Steps, grown, turn_grown}
-use Rattle.bus_cyclic.specs.Happening.{Happens, GuestDoes, ReaderDoes, Answers, TurnAnswers, seen}
+use Rattle.bus_cyclic.specs.Following.{Steps, StepsWithin, TurnsWithin, ring_trails_grown, turn_grown}
+use Rattle.bus_cyclic.specs.Happening.{Happens, GuestDoes, ReaderDoes, Answers, RecvAnswers, TurnAnswers, Refused, core_found}
 use Rattle.bus_cyclic.specs.Playing.{AllAnswered, trails_after}
-use Rattle.bus_cyclic.specs.Stopping.{has_stopped, JustStopped, StaysStopped, StopsAreForGood, StopRefuses}
+use Rattle.bus_cyclic.specs.Stopping.{has_stopped, with_stop_of, JustStopped, StaysStopped, StopsAreForGood, StopRefuses}
 
 -- ---- of each bus that is reached
 module _ {E : Type 0} (X : Election E) where
@@ -80,9 +82,13 @@ module _ {E : Type 0} where
   itself : (b : Ring E) (s : ℕ) → Left b s b
   itself b s = record { stopped = refl; state = refl }
 
+  -- what is so of a bus stays so, if it is so after what any guest does
+  guest_keeps : (b b' : Ring E) (o : Option (Visitor E)) (f : Visitor E → Ring E) (P : Ring E → Type 0) → P b → ((v : Visitor E) → P (f v)) → GuestDoes b o f b' → P b'
+  guest_keeps b b' None f P before after d = subst P (sym d) before
+  guest_keeps b b' (Some v) f P before after d = subst P (sym d) (after v)
+
   guest_apart : (b b' : Ring E) (o : Option (Visitor E)) (f : Visitor E → Ring E) (s : ℕ) → ((v : Visitor E) → Left b s (f v)) → GuestDoes b o f b' → Left b s b'
-  guest_apart b b' None f s same d = subst (Left b s) (sym d) (itself b s)
-  guest_apart b b' (Some v) f s same d = subst (Left b s) (sym d) (same v)
+  guest_apart b b' o f s same d = guest_keeps b b' o f (Left b s) (itself b s) same d
 
   reader_apart : (b b' : Ring E) (r : ℕ) (o : Option Receiving) (s : ℕ) → ReaderDoes b r o b' → Left b s b'
   reader_apart b b' r None s d = subst (Left b s) (sym d) (itself b s)
@@ -90,6 +96,115 @@ module _ {E : Type 0} where
 
   set_apart : (b : Ring E) (q s : ℕ) → s ≢ q → Left b s (record b { stopped = slice_set b.stopped q true })
   set_apart b q s ne = record { stopped = ap is_set (get_set_other b.stopped q true s ne); state = refl }
+
+-- ---- what the others do is alike
+-- a bus that is told otherwise who has stopped
+abbrev told : {E : Type 0} → (List Bool → List Bool) → Ring E → Ring E
+told f b = record b { stopped = f b.stopped }
+
+-- where it is told the same of the others than s
+module _ {E : Type 0} (X : Election E) (b : Ring E) (s : ℕ) (f : List Bool → List Bool) (same : (q : ℕ) → q ≢ s → has_stopped (told f b) q ≡ has_stopped b q) where
+  -- they go on alike
+  going_alike : (q : ℕ) → q ≢ s → guest_going (told f b) q ≡ guest_going b q
+  going_alike q ne = ap (λ t. cond t None (slice_get b.guests q)) (same q ne)
+
+  -- a guest does the same
+  guest_alike : (next : Ring E) (o o' : Option (Visitor E)) (g h : Visitor E → Ring E) → o' ≡ o → ((v : Visitor E) → h v ≡ told f (g v)) → GuestDoes b o g next → GuestDoes (told f b) o' h (told f next)
+  guest_alike next None o' g h e is d = subst (λ z. GuestDoes (told f b) z h (told f next)) (sym e) (ap (told f) d)
+  guest_alike next (Some v) o' g h e is d = subst (λ z. GuestDoes (told f b) z h (told f next)) (sym e) (ap (told f) d ∙ sym (is v))
+
+  -- and so does a receiver, which knows of no stop
+  reader_alike : (next : Ring E) (r : ℕ) (o : Option Receiving) → ReaderDoes b r o next → ReaderDoes (told f b) r o (told f next)
+  reader_alike next r None d = ap (told f) d
+  reader_alike next r (Some v) d = (d.0, d.1, d.2, ap (told f) d.3)
+
+  reader_answers : (next : Ring E) (r : ℕ) (o : Option Receiving) (a : Answer) → RecvAnswers b r o a next → RecvAnswers (told f b) r o a (told f next)
+  reader_answers next r None a w = w
+  reader_answers next r (Some v) a w = (w.0, w.1, w.2, ap (told f) w.3, w.4)
+
+  -- an event of another is answered alike
+  answers_alike : (e : Event) (a : Answer) (next : Ring E) → IsOfOther s e → Answers X b e a next → Answers X (told f b) e a (told f next)
+  answers_alike (Put q bytes) a next ne w = (w.0, subst (λ o. PutGives (core_found o) (length bytes) w.0) (sym (going_alike q ne)) w.1, w.2)
+  answers_alike (Close q) a next ne w = (subst (λ o. CloseGives (core_found o)) (sym (going_alike q ne)) w.0, w.1)
+  answers_alike (Turn q word) a next ne w = subst (λ o. TurnAnswers X b.words o word a) (sym (going_alike q ne)) w
+  answers_alike (Recv r) a next ne w = reader_answers next r (slice_get b.receivers r) a w
+  answers_alike (Stop q) a next ne w = (subst (λ o. StopGives (core_found o)) (sym (going_alike q ne)) w.0, w.1)
+
+  -- and refused alike
+  refused_alike : (e : Event) (why : StepFault) → IsOfOther s e → Refused b e why → Refused (told f b) e why
+  refused_alike (Put q bytes) why ne w = subst (λ t. UnlessStopped t (core_found (slice_get b.guests q)) why (PutRefused (core_found (slice_get b.guests q)) (length bytes) why)) (sym (same q ne)) w
+  refused_alike (Close q) why ne w = subst (λ t. UnlessStopped t (core_found (slice_get b.guests q)) why (CloseRefused (core_found (slice_get b.guests q)) why)) (sym (same q ne)) w
+  refused_alike (Turn q word) why ne w = subst (λ t. UnlessStopped t (core_found (slice_get b.guests q)) why (TurnRefused (core_found (slice_get b.guests q)) why)) (sym (same q ne)) w
+  refused_alike (Recv r) why ne w = w
+  refused_alike (Stop q) why ne w = subst (λ t. UnlessStopped t (core_found (slice_get b.guests q)) why (StopRefused (core_found (slice_get b.guests q)) why)) (sym (same q ne)) w
+
+  -- it is on a word of the bus alike
+  within_alike : (e : Event) → IsOfOther s e → StepsWithin X b e → StepsWithin X (told f b) e
+  within_alike (Put q bytes) ne w = w
+  within_alike (Close q) ne w = w
+  within_alike (Turn q word) ne w = subst (λ o. TurnsWithin X b o word) (sym (going_alike q ne)) w
+  within_alike (Recv r) ne w = w
+  within_alike (Stop q) ne w = w
+
+  -- and it adds the same to what happened
+  trails_alike : (e : Event) (g : Answer) (T : RingTrails) → IsOfOther s e → ring_trails_grown X (told f b) e g T ≡ ring_trails_grown X b e g T
+  trails_alike (Put q bytes) g T ne = refl
+  trails_alike (Close q) g T ne = refl
+  trails_alike (Turn q word) g T ne = ap (λ o. turn_grown X b q o word g T) (going_alike q ne)
+  trails_alike (Recv r) g T ne = refl
+  trails_alike (Stop q) g T ne = refl
+
+-- who has stopped, where t is told of s
+abbrev telling : ℕ → Bool → List Bool → List Bool
+telling s t l = slice_set l s t
+
+-- who has stopped, with s
+abbrev with_stop : ℕ → List Bool → List Bool
+with_stop s l = telling s true l
+
+-- to tell of s what is so already changes nothing
+telling_so : (l : List Bool) (s : ℕ) → telling s (is_set (slice_get l s)) l ≡ l
+telling_so [] s = refl
+telling_so (t ∷ l) zero = refl
+telling_so (t ∷ l) (suc s) = ap (λ r. t ∷ r) (telling_so l s)
+
+-- and so a stop of one that went on can be taken back
+taken_back : (l : List Bool) (s : ℕ) → is_set (slice_get l s) ≡ false → telling s false (with_stop s l) ≡ l
+taken_back l s e = set-set l s true false ∙ ap (λ t. telling s t l) (sym e) ∙ telling_so l s
+
+-- whatever is told of s
+module _ {E : Type 0} (X : Election E) (b : Ring E) (s : ℕ) (t : Bool) where
+  -- whether another has stopped is as before
+  told_beside : (q : ℕ) → q ≢ s → has_stopped (told (telling s t) b) q ≡ has_stopped b q
+  told_beside q ne = ap is_set (get_set_other b.stopped s t q ne)
+
+  -- and so is what its event does: of two stops, each may be the first
+  happens_alike : (e : Event) (next : Ring E) → IsOfOther s e → Happens X b e next → Happens X (told (telling s t) b) e (told (telling s t) next)
+  happens_alike (Put q bytes) next ne d =
+      guest_alike X b s (telling s t) told_beside next (guest_going b q) (guest_going (told (telling s t) b) q) (λ v. with_guest b q (visitor_put v bytes)) (λ v. with_guest (told (telling s t) b) q (visitor_put v bytes)) (going_alike X b s (telling s t) told_beside q ne) (λ v. refl) d
+  happens_alike (Close q) next ne d =
+      guest_alike X b s (telling s t) told_beside next (guest_going b q) (guest_going (told (telling s t) b) q) (λ v. with_guest b q (visitor_closed v)) (λ v. with_guest (told (telling s t) b) q (visitor_closed v)) (going_alike X b s (telling s t) told_beside q ne) (λ v. refl) d
+  happens_alike (Turn q word) next ne d =
+      guest_alike X b s (telling s t) told_beside next (guest_going b q) (guest_going (told (telling s t) b) q) (λ v. ring_after X b q v (due X v) word) (λ v. ring_after X (told (telling s t) b) q v (due X v) word) (going_alike X b s (telling s t) told_beside q ne) (λ v. refl) d
+  happens_alike (Recv r) next ne d = reader_alike X b s (telling s t) told_beside next r (slice_get b.receivers r) d
+  happens_alike (Stop q) next ne d =
+      guest_alike X b s (telling s t) told_beside next (guest_going b q) (guest_going (told (telling s t) b) q) (λ v. told (with_stop q) b) (λ v. told (with_stop q) (told (telling s t) b)) (going_alike X b s (telling s t) told_beside q ne)
+      (λ v. ap (λ l. record b { stopped = l }) (set_comm b.stopped s q t true (λ e. ne (sym e)))) d
+
+-- a step of another is taken alike, whatever is told of s
+steps_alike : {E : Type 0} (X : Election E) (z : CyclicBus E) (s : ℕ) (t : Bool) (e : Event) (g : Answer) (next : CyclicBus E) → IsOfOther s e → Steps X z e g next → Steps X (with_stop_of s t z) e g (with_stop_of s t next)
+steps_alike X z s t e g next other step = record {
+  is = step.is;
+  within = within_alike X z.ring s (telling s t) (told_beside X z.ring s t) e other step.within;
+  happens = happens_alike X z.ring s t e next.ring other step.happens;
+  answers = answers_alike X z.ring s (telling s t) (told_beside X z.ring s t) e g next.ring other step.answers;
+  owners = step.owners;
+}
+
+-- and what it does beside a stop of s, it did before the stop
+steps_before : {E : Type 0} (X : Election E) (z : CyclicBus E) (s : ℕ) → has_stopped z.ring s ≡ false → (e : Event) (g : Answer) (next : CyclicBus E) → IsOfOther s e → Steps X (with_stop_of s true z) e g next → Steps X z e g (with_stop_of s false next)
+steps_before X z s went_on e g next other step =
+    subst (λ y. Steps X y e g (with_stop_of s false next)) (ap (λ l. record z { ring = record z.ring { stopped = l } }) (taken_back z.ring.stopped s went_on)) (steps_alike X (with_stop_of s true z) s false e g next other step)
 
 -- ---- what a turn of another adds
 deeds_beside : (q s : ℕ) (ds : List Deed) (D : ℕ → List Deed) → s ≢ q → deeds_with q ds D s ≡ D s
@@ -127,15 +242,15 @@ module _ {E : Type 0} (X : Election E) (b : Ring E) (q s : ℕ) (ne : s ≢ q) w
 
 -- ---- whatever happens next
 module _ {E : Type 0} (X : Election E) where
-  event_leaves : (b b' : Ring E) (e : Event) (a : Answer) (T : RingTrails) (s : ℕ) → has_stopped b s ≡ true → Happens X b e b' → Answers X b e a b' → StaysStopped b T s b' (grown X b e a T)
+  event_leaves : (b b' : Ring E) (e : Event) (a : Answer) (T : RingTrails) (s : ℕ) → has_stopped b s ≡ true → Happens X b e b' → Answers X b e a b' → StaysStopped b T s b' (ring_trails_grown X b e a T)
   event_leaves b b' (Put q bytes) a T s stop d w = elim (cases_eq s q) [
-    | inl e ↦ absurd (subst (λ o. PutGives (seen o) (length bytes) w.0) (gone b q s stop e) w.1)
+    | inl e ↦ absurd (subst (λ o. PutGives (core_found o) (length bytes) w.0) (gone b q s stop e) w.1)
     | inr ne ↦
         let left = guest_apart b b' (guest_going b q) (λ v. with_guest b q (visitor_put v bytes)) s (λ v. record { stopped = refl; state = get_set_other b.guests q (visitor_put v bytes) s ne }) d in
         record { stopped = left.stopped ∙ stop; state = left.state; deeds = deeds_beside q s (put_deeds bytes a) T.deeds ne; visits = refl; sweeps = refl }
   ]
   event_leaves b b' (Close q) a T s stop d w = elim (cases_eq s q) [
-    | inl e ↦ absurd (subst (λ o. CloseGives (seen o)) (gone b q s stop e) w.0)
+    | inl e ↦ absurd (subst (λ o. CloseGives (core_found o)) (gone b q s stop e) w.0)
     | inr ne ↦
         let left = guest_apart b b' (guest_going b q) (λ v. with_guest b q (visitor_closed v)) s (λ v. record { stopped = refl; state = get_set_other b.guests q (visitor_closed v) s ne }) d in
         record { stopped = left.stopped ∙ stop; state = left.state; deeds = deeds_beside q s (close_deeds a) T.deeds ne; visits = refl; sweeps = refl }
@@ -151,14 +266,25 @@ module _ {E : Type 0} (X : Election E) where
       let left = reader_apart b b' r (slice_get b.receivers r) s d in
       record { stopped = left.stopped ∙ stop; state = left.state; deeds = refl; visits = refl; sweeps = refl }
   event_leaves b b' (Stop q) a T s stop d w = elim (cases_eq s q) [
-    | inl e ↦ absurd (subst (λ o. StopGives (seen o)) (gone b q s stop e) w.0)
+    | inl e ↦ absurd (subst (λ o. StopGives (core_found o)) (gone b q s stop e) w.0)
     | inr ne ↦
         let left = guest_apart b b' (guest_going b q) (λ v. record b { stopped = slice_set b.stopped q true }) s (λ v. set_apart b q s ne) d in
         record { stopped = left.stopped ∙ stop; state = left.state; deeds = refl; visits = refl; sweeps = refl }
   ]
 
+  -- nobody stops but by a stop of its own
+  event_tells : (b b' : Ring E) (e : Event) (s : ℕ) → e ≢ Stop s → Happens X b e b' → has_stopped b' s ≡ has_stopped b s
+  event_tells b b' (Put q bytes) s other d = guest_keeps b b' (guest_going b q) (λ v. with_guest b q (visitor_put v bytes)) (λ z. has_stopped z s ≡ has_stopped b s) refl (λ v. refl) d
+  event_tells b b' (Close q) s other d = guest_keeps b b' (guest_going b q) (λ v. with_guest b q (visitor_closed v)) (λ z. has_stopped z s ≡ has_stopped b s) refl (λ v. refl) d
+  event_tells b b' (Turn q word) s other d = guest_keeps b b' (guest_going b q) (λ v. ring_after X b q v (due X v) word) (λ z. has_stopped z s ≡ has_stopped b s) refl (λ v. refl) d
+  event_tells b b' (Recv r) s other d = (reader_apart b b' r (slice_get b.receivers r) s d).stopped
+  event_tells b b' (Stop q) s other d = elim (cases_eq s q) [
+    | inl e ↦ absurd (other (ap Stop (sym e)))
+    | inr ne ↦ guest_keeps b b' (guest_going b q) (λ v. told (with_stop q) b) (λ z. has_stopped z s ≡ has_stopped b s) refl (λ v. (set_apart b q s ne).stopped) d
+  ]
+
   -- ---- a stop
-  who : (o : Option (Visitor E)) → StopGives (seen o) → (v : Visitor E) × (o ≡ Some v)
+  who : (o : Option (Visitor E)) → StopGives (core_found o) → (v : Visitor E) × (o ≡ Some v)
   who None gives = absurd gives
   who (Some v) gives = (v, refl)
 
@@ -167,6 +293,7 @@ module _ {E : Type 0} (X : Election E) where
       let b : Ring E = old.ring in
       let there = who (guest_going b s) step.answers.0 in
       let does : new.ring ≡ record b { stopped = slice_set b.stopped s true } = subst (λ o. GuestDoes b o (λ v. record b { stopped = slice_set b.stopped s true }) new.ring) there.1 step.happens in
+      let after : new ≡ with_stop_of s true old = ap (λ r. record new { ring = r }) does ∙ ap (λ o. record (with_stop_of s true old) { owners = o }) step.owners in
       let below : s < b.layout.senders = reached_below X b T l.reached s (slice_get_within b.guests s there.0 (guest_there b s there.0 there.1)) in
       let many = reached_stops X b T l.reached in
       let room : s < length b.stopped = omega arith in
@@ -178,7 +305,31 @@ module _ {E : Type 0} (X : Election E) where
         nothing_else = does ∙ ap (λ l. record b { stopped = l }) (sym (ap (λ (z : Ring E). z.stopped) does));
         owners = step.owners;
         trails = λ U. refl;
+        trails_alike = λ e g U other. ap (λ (z : Ring E). ring_trails_grown X z e g U) does ∙ trails_alike X b s (with_stop s) (told_beside X b s true) e g U other;
+        steps_alike = λ e g next other w. subst (λ z. Steps X z e g (with_stop_of s true next)) (sym after) (steps_alike X old s true e g next other w);
+        steps_before = λ e g next other w. steps_before X old s (not_stopped b s there.0 there.1) e g next other (subst (λ z. Steps X z e g next) after w);
+        refused_alike = λ e why other. (
+          λ w. subst (λ z. Refused z e why) (sym does) (refused_alike X b s (with_stop s) (told_beside X b s true) e why other w),
+          λ w. refused_alike X (told (with_stop s) b) s (λ l. b.stopped) (λ q ne. sym (told_beside X b s true q ne)) e why other (subst (λ z. Refused z e why) does w),
+        );
       }
+
+  -- a stop that does nothing would be of one that has stopped and goes on
+  idle : (b : CyclicBus E) (T : RingTrails) (s : ℕ) (a : Answer) → LeadTo X b T → b.ring.layout.senders ≤ 8 → Steps X b (Stop s) a b → ⊥
+  idle b T s a l few step = let just = stops b b T s a l few step in true≢false (sym just.stopped ∙ just.went_on)
+
+  -- whoever goes on may stop
+  may : (b : CyclicBus E) (s : ℕ) (v : Visitor E) → guest_going b.ring s ≡ Some v → (new : CyclicBus E) × Steps X b (Stop s) answer.Stopped new
+  may b s v going = (
+    with_stop_of s true b,
+    record {
+      is = tt;
+      within = tt;
+      happens = subst (λ o. GuestDoes b.ring o (λ v. told (with_stop s) b.ring) (told (with_stop s) b.ring)) (sym going) refl;
+      answers = (subst (λ o. StopGives (core_found o)) (sym going) tt, refl);
+      owners = refl;
+    },
+  )
 
 -- and so do all
 stays : {S : Type 0} (X : Election (Elector S)) (P : Protocol S Bool Verdict) (events : List Event) (old new : CyclicBus (Elector S)) (run : AllAnswered X P old events new) (T : RingTrails) (s : ℕ) → has_stopped old.ring s ≡ true
@@ -192,24 +343,34 @@ stays {S} X P [] old new run T s stop = record {
 }
 stays X P (e ∷ events) old new run T s stop =
     let one = event_leaves X old.ring run.0.ring e run.1 T s stop run.2.steps.happens run.2.steps.answers in
-    let rest = stays X P events run.0 new run.3 (grown X old.ring e run.1 T) s one.stopped in
+    let rest = stays X P events run.0 new run.3 (ring_trails_grown X old.ring e run.1 T) s one.stopped in
     record { stopped = rest.stopped; state = rest.state ∙ one.state; deeds = rest.deeds ∙ one.deeds; visits = rest.visits ∙ one.visits; sweeps = rest.sweeps ∙ one.sweeps }
 
+-- and so none does whose stop is not among them
+goes_on : {S : Type 0} (X : Election (Elector S)) (P : Protocol S Bool Verdict) (events : List Event) (old new : CyclicBus (Elector S)) (s : ℕ) → AllAnswered X P old events new → All (λ e. e ≢ Stop s) events → has_stopped new.ring s ≡ has_stopped old.ring s
+goes_on {S} X P [] old new s run others = ap (λ (z : CyclicBus (Elector S)). has_stopped z.ring s) run
+goes_on X P (e ∷ events) old new s run others = goes_on X P events run.0 new s run.3 (All-tail (λ f. f ≢ Stop s) e events others) ∙ event_tells X old.ring run.0.ring e s (All-head (λ f. f ≢ Stop s) e events others) run.2.steps.happens
+
 -- ---- the fault of who has stopped, and of who has not
+-- no receiver stops
+never_a_recv : (o : Option Receiving) → RecvRefused o fault.Stopped → ⊥
+never_a_recv None e = cc
+never_a_recv (Some v) e = e
+
 module _ {E : Type 0} where
   as_stopped : (t : Bool) (o : Option (Visitor E)) (v : Visitor E) (own : StepFault → Type 0) → t ≡ true → o ≡ Some v → (why : StepFault)
-      → (UnlessStopped t (seen o) why (own why) → why ≡ fault.Stopped) × (why ≡ fault.Stopped → UnlessStopped t (seen o) why (own why))
+      → (UnlessStopped t (core_found o) why (own why) → why ≡ fault.Stopped) × (why ≡ fault.Stopped → UnlessStopped t (core_found o) why (own why))
   as_stopped true None v own is there why = absurd (let bad : None ≡ Some v = there in cc)
   as_stopped true (Some u) v own is there why = (λ w. w, λ w. w)
   as_stopped false o v own is there why = absurd (true≢false (sym is))
 
-  own_otherwise : (t : Bool) (o : Option (Visitor E)) (why : StepFault) (own : Type 0) → (o ≡ None) ⊎ (t ≡ false) → UnlessStopped t (seen o) why own → own
+  own_otherwise : (t : Bool) (o : Option (Visitor E)) (why : StepFault) (own : Type 0) → (o ≡ None) ⊎ (t ≡ false) → UnlessStopped t (core_found o) why own → own
   own_otherwise true None why own e w = w
   own_otherwise true (Some v) why own (inl e) w = absurd (let bad : Some v ≡ None = e in cc)
   own_otherwise true (Some v) why own (inr e) w = absurd (true≢false e)
   own_otherwise false o why own e w = w
 
-  never_refused : (o : Option (Visitor E)) (v : Visitor E) (why : StepFault) → o ≡ Some v → StopRefused (seen o) why → ⊥
+  never_refused : (o : Option (Visitor E)) (v : Visitor E) (why : StepFault) → o ≡ Some v → StopRefused (core_found o) why → ⊥
   never_refused None v why e w = absurd (let bad : None ≡ Some v = e in cc)
   never_refused (Some u) v why e w = w
 
@@ -231,23 +392,29 @@ module _ {E : Type 0} where
 
   pub refuses : (X : Election E) → StopRefuses X
   refuses X = record {
+    idle_stop = λ b T s a l few step. idle X b T s a l few step;
     late_turn = λ old new s word a stop w. subst (λ o. TurnAnswers X old.words o word a) (stopped_stays old s stop) w;
-    late_put = λ old new s bytes a stop w. subst (λ o. PutGives (seen o) (length bytes) w.0) (stopped_stays old s stop) w.1;
-    late_close = λ old new s a stop w. subst (λ o. CloseGives (seen o)) (stopped_stays old s stop) w.0;
-    second_stop = λ old new s a stop w. subst (λ o. StopGives (seen o)) (stopped_stays old s stop) w.0;
-    put_untimely = λ b s bytes goes w. never_a_put (seen (slice_get b.guests s)) (length bytes) (own_otherwise (has_stopped b s) (slice_get b.guests s) fault.Stopped _ goes w);
-    close_untimely = λ b s goes w. never_a_close (seen (slice_get b.guests s)) (own_otherwise (has_stopped b s) (slice_get b.guests s) fault.Stopped _ goes w);
-    turn_untimely = λ b s word goes w. never_a_turn (seen (slice_get b.guests s)) (own_otherwise (has_stopped b s) (slice_get b.guests s) fault.Stopped _ goes w);
-    stop_untimely = λ b s goes w. never_a_stop (seen (slice_get b.guests s)) (own_otherwise (has_stopped b s) (slice_get b.guests s) fault.Stopped _ goes w);
+    late_put = λ old new s bytes a stop w. subst (λ o. PutGives (core_found o) (length bytes) w.0) (stopped_stays old s stop) w.1;
+    late_close = λ old new s a stop w. subst (λ o. CloseGives (core_found o)) (stopped_stays old s stop) w.0;
+    second_stop = λ old new s a stop w. subst (λ o. StopGives (core_found o)) (stopped_stays old s stop) w.0;
+    put_untimely = λ b s bytes goes w. never_a_put (core_found (slice_get b.guests s)) (length bytes) (own_otherwise (has_stopped b s) (slice_get b.guests s) fault.Stopped _ goes w);
+    close_untimely = λ b s goes w. never_a_close (core_found (slice_get b.guests s)) (own_otherwise (has_stopped b s) (slice_get b.guests s) fault.Stopped _ goes w);
+    turn_untimely = λ b s word goes w. never_a_turn (core_found (slice_get b.guests s)) (own_otherwise (has_stopped b s) (slice_get b.guests s) fault.Stopped _ goes w);
+    stop_untimely = λ b s goes w. never_a_stop (core_found (slice_get b.guests s)) (own_otherwise (has_stopped b s) (slice_get b.guests s) fault.Stopped _ goes w);
+    recv_untimely = λ b r w. never_a_recv (slice_get b.receivers r) w;
   }
 
 pub for_good : {S : Type 0} (X : Election (Elector S)) (P : Protocol S Bool Verdict) → StopsAreForGood X P
 for_good X P = record {
   stops = λ old new T s a l few step. stops X old new T s a l few step;
   stays = λ old new events run T s stop. stays X P events old new run T s stop;
-  put_refused = λ b s v bytes there stop. as_stopped (has_stopped b s) (slice_get b.guests s) v (λ why. PutRefused (seen (slice_get b.guests s)) (length bytes) why) stop there;
-  close_refused = λ b s v there stop. as_stopped (has_stopped b s) (slice_get b.guests s) v (λ why. CloseRefused (seen (slice_get b.guests s)) why) stop there;
-  turn_refused = λ b s v word there stop. as_stopped (has_stopped b s) (slice_get b.guests s) v (λ why. TurnRefused (seen (slice_get b.guests s)) why) stop there;
-  stop_refused = λ b s v there stop. as_stopped (has_stopped b s) (slice_get b.guests s) v (λ why. StopRefused (seen (slice_get b.guests s)) why) stop there;
-  may_stop = λ b s v why there goes w. never_refused (slice_get b.guests s) v why there (own_otherwise (has_stopped b s) (slice_get b.guests s) why _ (inr goes) w);
+  put_refused = λ b s v bytes there stop. as_stopped (has_stopped b s) (slice_get b.guests s) v (λ why. PutRefused (core_found (slice_get b.guests s)) (length bytes) why) stop there;
+  close_refused = λ b s v there stop. as_stopped (has_stopped b s) (slice_get b.guests s) v (λ why. CloseRefused (core_found (slice_get b.guests s)) why) stop there;
+  turn_refused = λ b s v word there stop. as_stopped (has_stopped b s) (slice_get b.guests s) v (λ why. TurnRefused (core_found (slice_get b.guests s)) why) stop there;
+  stop_refused = λ b s v there stop. as_stopped (has_stopped b s) (slice_get b.guests s) v (λ why. StopRefused (core_found (slice_get b.guests s)) why) stop there;
+  may_stop = λ b s v there goes. (
+    λ why w. never_refused (slice_get b.ring.guests s) v why there (own_otherwise (has_stopped b.ring s) (slice_get b.ring.guests s) why _ (inr goes) w),
+    may X b s v (ap (λ t. cond t None (slice_get b.ring.guests s)) goes ∙ there),
+  );
+  goes_on = λ old new events s run others. goes_on X P events old new s run others;
 }

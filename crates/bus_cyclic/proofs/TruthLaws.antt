@@ -24,7 +24,7 @@ use Rattle.bus_tenure.specs.declared.turns.Turn.{Turn as Answered}
 use Rattle.bus_tenure.specs.declared.turns.Turn.TheVariants as turn
 use Rattle.bus_world.specs.Bus.{IsLayout, Part, Fits}
 use Rattle.bus_world.specs.Headline.{Deed, Elected, Took, AreFramed}
-use Rattle.bus_world.specs.Log.{read}
+use Rattle.bus_world.specs.Log.{words_read_from}
 use Rattle.bus_world.specs.Rings.{Ring, RingTrails, IsKeptRing, yard_of, core_in, guest_going}
 use Rattle.bus_world.specs.Turning.{number_found}
 use Rattle.bus_world.specs.World.{Event, Put, Close, Turn, Recv, Stop}
@@ -38,7 +38,7 @@ use Rattle.bus_world.proofs.RingLaws.{IsRingLayout, IsLed, due_goes, guest_there
 use Rattle.bus_world.proofs.Serving.{Serves}
 use Rattle.bus_world.proofs.YardLaws.{HasKept, led_kept, words_read}
 use Rattle.bus_cyclic.specs.Cyclic.{CyclicBus, LeadTo, IsServedRing, log_of}
-use Rattle.bus_cyclic.specs.Following.{Steps, grown, turn_grown}
+use Rattle.bus_cyclic.specs.Following.{Steps, ring_trails_grown, turn_grown}
 use Rattle.bus_cyclic.specs.Happening.{TurnAnswers}
 use Rattle.bus_cyclic.specs.Truth.{LossesAreSeen, GuestTells, TurnIsTrue, EventIsTrue, TellsTrue, LossesRefuse, AnswersRefuse}
 use Rattle.bus_cyclic.proofs.CyclicLaws.{layout_served, led, ok, leads_on, event_sizes, kept_at}
@@ -81,7 +81,7 @@ module _ {E : Type 0} (X : Election E) (P : Protocol E (Unit {0}) ℕ) (z : Cycl
   log_read : log_of b ≡ log_words k.frames
   log_read =
       let capacity = k.kept.sending.log.fits in
-      ap (read (slice_index b.words) from) length_is
+      ap (words_read_from (slice_index b.words) from) length_is
       ∙ words_read X P s.laws b.layout x.ok x.width x.starts s.owner_is s.named s.announces s.apart b.rows x.two (k.V 0) (slice_index b.words) k.V from (log_at b.layout) (λ j low. k.kept.laid.log j (omega arith))
       ∙ k.kept.sending.log.words_are
 
@@ -224,12 +224,12 @@ module _ {E : Type 0} (X : Election E) (P : Protocol E (Unit {0}) ℕ) (z : Cycl
       subst (λ q. ((t place : ℕ) → Took ((turn_grown X b p (Some v) word q T).deeds p) t place → Elected ((turn_grown X b p (Some v) word q T).deeds p) t p) → TurnIsTrue b p (Some v) ((turn_grown X b p (Some v) word q T).deeds p) q) (sym gives)
       (due_true p v (guest_there b p v goes) word (due X v) refl)
 
-  pub event_true : (e : Event) (a : Answer) (z' : CyclicBus E) → Steps X z e a z' → EventIsTrue b e a (grown X b e a T)
+  pub event_true : (e : Event) (a : Answer) (z' : CyclicBus E) → Steps X z e a z' → EventIsTrue b e a (ring_trails_grown X b e a T)
   event_true (Put p bytes) a z' d = tt
   event_true (Close p) a z' d = tt
   event_true (Turn p word) a z' d =
       let same = event_sizes X P z.ring z'.ring (Turn p word) d.happens in
-      let kept : IsKeptRing X z'.ring (grown X b (Turn p word) a T) = kept_at X P z' (subst (Serves X P) (sym same.layout) s) (subst IsLayout (sym same.layout) ok) (subst (λ n. 2 ≤ n) (sym same.rows) two) (grown X b (Turn p word) a T) (leads_on X P z s ok two T l (Turn p word) a z' d) in
+      let kept : IsKeptRing X z'.ring (ring_trails_grown X b (Turn p word) a T) = kept_at X P z' (subst (Serves X P) (sym same.layout) s) (subst IsLayout (sym same.layout) ok) (subst (λ n. 2 ≤ n) (sym same.rows) two) (ring_trails_grown X b (Turn p word) a T) (leads_on X P z s ok two T l (Turn p word) a z' d) in
       turn_true p word (guest_going b p) refl a d.answers (λ t place. kept.kept.by.promises.took_own t p place)
   event_true (Recv r) a z' d = tt
   event_true (Stop p) a z' d = tt

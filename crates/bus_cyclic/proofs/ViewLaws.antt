@@ -6,7 +6,7 @@ use Rattle.bus_deliverylog.specs.Receiving.{Receiving}
 use Rattle.bus_guest.specs.Guests.{log_from}
 use Rattle.bus_guest.specs.Turns.{Visitor}
 use Rattle.bus_tenure.specs.Core.{Election, Layout}
-use Rattle.bus_world.specs.Headline.{given}
+use Rattle.bus_world.specs.Headline.{order_given}
 use Rattle.bus_world.specs.Rings.{Ring, RingTrails, IsNewRing, no_ring_trails, NewRing}
 use Rattle.bus_world.specs.Starting.{AreNewReaders}
 use Rattle.bus_world.specs.World.{new_page, no_stops, given_at}
@@ -57,13 +57,13 @@ module _ {E : Type 0} (X : Election E) (P : Protocol E (Unit {0}) ℕ) (z : Cycl
   -- what stands below the place of a receiver is what it was given
   pub heard : (now : CyclicBus E) → z ≡ now → (r : ℕ) → r < length now.ring.receivers → (order : Order)
       → ((frames : List Frame) (v : Receiving) → AreFrames now.ring.layout.senders frames → log_of now.ring ≡ log_words frames → slice_get now.ring.receivers r ≡ Some v → order ≡ given_at frames v)
-      → (T : RingTrails) → LeadTo X now T → order ≡ given (T.heard r)
+      → (T : RingTrails) → LeadTo X now T → order ≡ order_given (T.heard r)
   heard now is = subst (λ y. (r : ℕ) → r < length y.ring.receivers → (order : Order)
       → ((frames : List Frame) (v : Receiving) → AreFrames y.ring.layout.senders frames → log_of y.ring ≡ log_words frames → slice_get y.ring.receivers r ≡ Some v → order ≡ given_at frames v)
-      → (T : RingTrails) → LeadTo X y T → order ≡ given (T.heard r)) is by_z
+      → (T : RingTrails) → LeadTo X y T → order ≡ order_given (T.heard r)) is by_z
     where
       by_z : (r : ℕ) → r < length b.receivers → (order : Order) → ((frames : List Frame) (v : Receiving) → AreFrames b.layout.senders frames → log_of b ≡ log_words frames → slice_get b.receivers r ≡ Some v → order ≡ given_at frames v)
-          → (T : RingTrails) → LeadTo X z T → order ≡ given (T.heard r)
+          → (T : RingTrails) → LeadTo X z T → order ≡ order_given (T.heard r)
       by_z r l order stands T leads =
           let v = one_there b.receivers r l in
           let x = layout_served X P b.layout b.rows s (ok X P z s h) h.rows_some in

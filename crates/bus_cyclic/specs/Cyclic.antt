@@ -11,7 +11,7 @@ use Rattle.bus_tenure.specs.Core.{Election, Layout}
 use Rattle.bus_tenure.specs.Elections.{layout_with}
 use Rattle.bus_tenure.specs.declared.pages.Page.{Page}
 use Rattle.bus_world.specs.Headline.{Deed}
-use Rattle.bus_world.specs.Log.{read}
+use Rattle.bus_world.specs.Log.{words_read_from}
 use Rattle.bus_world.specs.Playing.{Within, Beyond}
 use Rattle.bus_world.specs.Rings.{Ring, RingTrails, RingReached, IsRing, IsNewRing}
 use Rattle.bus_world.specs.Trails.{Takers}
@@ -34,7 +34,7 @@ cyclic_bus x rows words home guests receivers stopped owners = record { ring = r
 
 -- the words of its log below the length
 abbrev pub log_of : {E : Type 0} → Ring E → List ℕ
-log_of b = read (slice_index b.words) (log_from b.layout b.rows) (slice_index b.words 0)
+log_of b = words_read_from (slice_index b.words) (log_from b.layout b.rows) (slice_index b.words 0)
 
 -- ---- shapes
 -- a bus of this shape is served

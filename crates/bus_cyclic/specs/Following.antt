@@ -33,12 +33,12 @@ heard_grown r (answer.Recv t) H = answers_with r t H
 heard_grown r answer.Stopped H = H
 
 -- what an event with this answer adds: a stop is no deed
-abbrev pub grown : {E : Type 0} → Election E → Ring E → Event → Answer → RingTrails → RingTrails
-grown X b (Put s bytes) a T = record T { deeds = deeds_with s (put_deeds bytes a) T.deeds }
-grown X b (Close s) a T = record T { deeds = deeds_with s (close_deeds a) T.deeds }
-grown X b (Turn s word) a T = turn_grown X b s (guest_going b s) word a T
-grown X b (Recv r) a T = record T { heard = heard_grown r a T.heard }
-grown X b (Stop s) a T = T
+abbrev pub ring_trails_grown : {E : Type 0} → Election E → Ring E → Event → Answer → RingTrails → RingTrails
+ring_trails_grown X b (Put s bytes) a T = record T { deeds = deeds_with s (put_deeds bytes a) T.deeds }
+ring_trails_grown X b (Close s) a T = record T { deeds = deeds_with s (close_deeds a) T.deeds }
+ring_trails_grown X b (Turn s word) a T = turn_grown X b s (guest_going b s) word a T
+ring_trails_grown X b (Recv r) a T = record T { heard = heard_grown r a T.heard }
+ring_trails_grown X b (Stop s) a T = T
 
 -- ---- who took the last pages
 -- after the turn of a sender that gave this answer
@@ -81,11 +81,11 @@ pub record Steps {E : Type 0} (X : Election E) (old : CyclicBus E) (e : Event) (
 -- The log below the length is extended, and never otherwise changed. The stage never falls; and of a tenure whose row had gone on before,
 -- no sender has a deed more: no step of its election, and none of who holds its page. So what was elected there stays as it is.
 pub record Follows {E : Type 0} (X : Election E) (old : CyclicBus E) (e : Event) (a : Answer) (new : CyclicBus E) : Type 0 where
-  pub reached : (T : RingTrails) → LeadTo X old T → LeadTo X new (grown X old.ring e a T)
-  pub promised : (T : RingTrails) → LeadTo X old T → IsKeptRing X new.ring (grown X old.ring e a T)
+  pub reached : (T : RingTrails) → LeadTo X old T → LeadTo X new (ring_trails_grown X old.ring e a T)
+  pub promised : (T : RingTrails) → LeadTo X old T → IsKeptRing X new.ring (ring_trails_grown X old.ring e a T)
   pub grows : IsPrefix (log_of old.ring) (log_of new.ring)
   pub rises : stage_of old.ring ≤ stage_of new.ring
-  pub stays : (T : RingTrails) → LeadTo X old T → (t s : ℕ) → HasGoneOn old.ring t → deeds_in t ((grown X old.ring e a T).deeds s) ≡ deeds_in t (T.deeds s)
+  pub stays : (T : RingTrails) → LeadTo X old T → (t s : ℕ) → HasGoneOn old.ring t → deeds_in t ((ring_trails_grown X old.ring e a T).deeds s) ≡ deeds_in t (T.deeds s)
 
 -- ---- what follows no bus
 pub record FollowsRefuse {E : Type 0} (X : Election E) (old : CyclicBus E) (e : Event) (a : Answer) (new : CyclicBus E) : Type 0 where

@@ -32,9 +32,9 @@ Happens X old (Stop s) new = GuestDoes old (guest_going old s) (λ v. record old
 
 -- ---- what is answered
 -- a sender as a put and a close find it: while it visits a tenure, its batch is on its way
-abbrev pub seen : {E : Type 0} → Option (Visitor E) → Option (Core E)
-seen None = None
-seen (Some v) = Some (record v.core { queue = queue_seen v.core.queue v.visit })
+abbrev pub core_found : {E : Type 0} → Option (Visitor E) → Option (Core E)
+core_found None = None
+core_found (Some v) = Some (record v.core { queue = queue_seen v.core.queue v.visit })
 
 -- a turn of a sender gives the answer of what is due, and of what its step found
 abbrev pub TurnAnswers : {E : Type 0} → Election E → List ℕ → Option (Visitor E) → ℕ → Answer → Type 0
@@ -48,16 +48,16 @@ RecvAnswers old r (Some v) a new = (next : Receiving) × (turn : RecvTurn) × Re
 
 -- no event of a sender that has stopped is answered
 abbrev pub Answers : {E : Type 0} → Election E → Ring E → Event → Answer → Ring E → Type 0
-Answers X old (Put s bytes) a new = (number : ℕ) × PutGives (seen (guest_going old s)) (length bytes) number × (a ≡ answer.Number number)
-Answers X old (Close s) a new = CloseGives (seen (guest_going old s)) × (a ≡ answer.Closing)
+Answers X old (Put s bytes) a new = (number : ℕ) × PutGives (core_found (guest_going old s)) (length bytes) number × (a ≡ answer.Number number)
+Answers X old (Close s) a new = CloseGives (core_found (guest_going old s)) × (a ≡ answer.Closing)
 Answers X old (Turn s word) a new = TurnAnswers X old.words (guest_going old s) word a
 Answers X old (Recv r) a new = RecvAnswers old r (slice_get old.receivers r) a new
-Answers X old (Stop s) a new = StopGives (seen (guest_going old s)) × (a ≡ answer.Stopped)
+Answers X old (Stop s) a new = StopGives (core_found (guest_going old s)) × (a ≡ answer.Stopped)
 
 -- ---- why an event is refused: each fault where its cause holds and no earlier one
 abbrev pub Refused : {E : Type 0} → Ring E → Event → StepFault → Type 0
-Refused b (Put s bytes) why = UnlessStopped (is_set (slice_get b.stopped s)) (seen (slice_get b.guests s)) why (PutRefused (seen (slice_get b.guests s)) (length bytes) why)
-Refused b (Close s) why = UnlessStopped (is_set (slice_get b.stopped s)) (seen (slice_get b.guests s)) why (CloseRefused (seen (slice_get b.guests s)) why)
-Refused b (Turn s word) why = UnlessStopped (is_set (slice_get b.stopped s)) (seen (slice_get b.guests s)) why (TurnRefused (seen (slice_get b.guests s)) why)
+Refused b (Put s bytes) why = UnlessStopped (is_set (slice_get b.stopped s)) (core_found (slice_get b.guests s)) why (PutRefused (core_found (slice_get b.guests s)) (length bytes) why)
+Refused b (Close s) why = UnlessStopped (is_set (slice_get b.stopped s)) (core_found (slice_get b.guests s)) why (CloseRefused (core_found (slice_get b.guests s)) why)
+Refused b (Turn s word) why = UnlessStopped (is_set (slice_get b.stopped s)) (core_found (slice_get b.guests s)) why (TurnRefused (core_found (slice_get b.guests s)) why)
 Refused b (Recv r) why = RecvRefused (slice_get b.receivers r) why
-Refused b (Stop s) why = UnlessStopped (is_set (slice_get b.stopped s)) (seen (slice_get b.guests s)) why (StopRefused (seen (slice_get b.guests s)) why)
+Refused b (Stop s) why = UnlessStopped (is_set (slice_get b.stopped s)) (core_found (slice_get b.guests s)) why (StopRefused (core_found (slice_get b.guests s)) why)

@@ -10,7 +10,7 @@ use Rattle.bus_world.specs.World.{Event}
 use Rattle.bus_world.specs.declared.events.Answer.{Answer}
 use Rattle.bus_world.specs.declared.events.StepFault.{StepFault}
 use Rattle.bus_cyclic.specs.Cyclic.{CyclicBus, LeadTo, log_of}
-use Rattle.bus_cyclic.specs.Following.{Steps, Follows, grown}
+use Rattle.bus_cyclic.specs.Following.{Steps, Follows, ring_trails_grown}
 use Rattle.bus_cyclic.specs.Happening.{Refused}
 use Rattle.bus_cyclic.specs.Staying.{HasGoneOn, deeds_in, stage_of}
 use Rattle.bus_cyclic.specs.Telling.{Tells, EventCauses}
@@ -33,7 +33,7 @@ AllAnswered {S} X P old (e ∷ events) new = (mid : CyclicBus (Elector S)) × (a
 -- the trails after a list of events with their answers
 abbrev pub trails_after : {S : Type 0} (X : Election (Elector S)) (P : Protocol S Bool Verdict) (old : CyclicBus (Elector S)) (events : List Event) (new : CyclicBus (Elector S)) → AllAnswered X P old events new → RingTrails → RingTrails
 trails_after X P old [] new run T = T
-trails_after X P old (e ∷ events) new run T = trails_after X P run.0 events new run.3 (grown X old.ring e run.1 T)
+trails_after X P old (e ∷ events) new run T = trails_after X P run.0 events new run.3 (ring_trails_grown X old.ring e run.1 T)
 
 -- All events were answered, one after another. Whatever trails led to the old bus, with what the events and their answers add they lead
 -- to the new one, and the promise holds of them. The log below the length is extended, and never otherwise changed; the stage never falls;

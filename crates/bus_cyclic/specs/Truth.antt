@@ -15,7 +15,7 @@ use Rattle.bus_world.specs.World.{Event, Put, Close, Turn, Recv, Stop}
 use Rattle.bus_world.specs.declared.events.Answer.{Answer}
 use Rattle.bus_world.specs.declared.events.Answer.TheVariants as answer
 use Rattle.bus_cyclic.specs.Cyclic.{CyclicBus, LeadTo, log_of}
-use Rattle.bus_cyclic.specs.Following.{grown}
+use Rattle.bus_cyclic.specs.Following.{ring_trails_grown}
 
 -- ---- what a sender remembers that has lost a tenure
 -- sender s, whose visit has come so far, parts from a tenure, whose election it saw end with this owner by a step of its own; and it is
@@ -68,7 +68,7 @@ EventIsTrue b (Stop s) a T = Unit {0}
 
 -- Whatever trails led to the old bus: with what this event and its answer add to them, what the answer tells is so.
 pub record TellsTrue {E : Type 0} (X : Election E) (old : CyclicBus E) (e : Event) (a : Answer) : Type 0 where
-  pub told : (T : RingTrails) → LeadTo X old T → EventIsTrue old.ring e a (grown X old.ring e a T)
+  pub told : (T : RingTrails) → LeadTo X old T → EventIsTrue old.ring e a (ring_trails_grown X old.ring e a T)
 
 -- ---- what no such bus is
 pub record LossesRefuse {E : Type 0} (b : Ring E) : Type 0 where

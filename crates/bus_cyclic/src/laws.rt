@@ -47,11 +47,13 @@ pub fn follows_refuse<Q: Ratifier>()
         (new : CyclicBus (Elector Q)) → FollowsRefuse X old event given new }
 {}
 
-/// A stop that is answered changes who has stopped, and nothing else. Whoever has stopped does
+/// A stop that is answered changes who has stopped, and nothing else: what is no event of that
+/// sender does what it did before, and is answered and refused alike. Whoever has stopped does
 /// nothing any more, whatever happens next: no event of it is answered, it holds what it held, and
 /// it has no deed more and no step of a visit or of a sweep; whatever else is wrong with an event
-/// of it, it is refused as Stopped. Nothing is refused as Stopped of one that goes on, or that
-/// there is not, and one that goes on may stop.
+/// of it, it is refused as Stopped. A stop that does nothing is none. Nothing is refused as Stopped
+/// of one that goes on, or that there is not, or of a receiver. One that goes on may stop, and
+/// nobody stops but by a stop of its own.
 pub fn stops_are_for_good<Q: Ratifier>()
     ensures stops { StopsAreForGood (election_of Q.Ratifier) Q.protocol }
     ensures refuses { StopRefuses (election_of Q.Ratifier) }

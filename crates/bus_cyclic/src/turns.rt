@@ -14,7 +14,7 @@ ghost use Rattle.bus_world.specs.Turning.{words_after, number_found, home_moved,
 ghost use Rattle.bus_world.specs.Turning.{before_step, laying, owners_by};
 ghost use Rattle.bus_world.specs.Playing.{PutGives, PutRefused, CloseGives, CloseRefused};
 ghost use Rattle.bus_cyclic.specs.Cyclic.{last_of};
-ghost use Rattle.bus_cyclic.specs.Happening.{seen};
+ghost use Rattle.bus_cyclic.specs.Happening.{core_found};
 ghost use Rattle.bus_cyclic.specs.Telling.{StepTells};
 
 use arrayvec::ArrayVec;
@@ -122,8 +122,8 @@ pub fn turn_guest<Q: Ratifier + Drop>(
 pub fn put_to<Q: Ratifier + Drop>(guest: &mut Guest<Q>, bytes: &[u8]) -> Result<u64, StepFault>
     requires { next_of guest.old.core.queue < NUMBERS }
     ensures guest { guest.new ≡ visitor_put guest.old bytes.now }
-    ensures number { IfOk result (PutGives (seen (Some guest.old)) (length bytes.now)) }
-    ensures fault { IfErr result (PutRefused (seen (Some guest.old)) (length bytes.now)) }
+    ensures number { IfOk result (PutGives (core_found (Some guest.old)) (length bytes.now)) }
+    ensures fault { IfErr result (PutRefused (core_found (Some guest.old)) (length bytes.now)) }
 {
     match guest.put(bytes) {
         Ok(number) => Ok(number),
@@ -134,8 +134,8 @@ pub fn put_to<Q: Ratifier + Drop>(guest: &mut Guest<Q>, bytes: &[u8]) -> Result<
 /// An end mark waits at a sender, or is refused.
 pub fn close_to<Q: Ratifier + Drop>(guest: &mut Guest<Q>) -> Result<(), StepFault>
     ensures guest { guest.new ≡ visitor_closed guest.old }
-    ensures could { OnOk result (CloseGives (seen (Some guest.old))) }
-    ensures fault { IfErr result (CloseRefused (seen (Some guest.old))) }
+    ensures could { OnOk result (CloseGives (core_found (Some guest.old))) }
+    ensures fault { IfErr result (CloseRefused (core_found (Some guest.old))) }
 {
     match guest.close() {
         Ok(()) => Ok(()),

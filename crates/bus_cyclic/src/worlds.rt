@@ -10,14 +10,14 @@ ghost use Rattle.bus_deliverylog.specs.Orders.{order_held};
 ghost use Rattle.bus_deliverylog.specs.Receiving.{Receiving};
 ghost use Rattle.bus_tenure.specs.Elections.{Elector, election_of};
 ghost use Rattle.bus_world.specs.declared.events.Answer.TheVariants as answer;
-ghost use Rattle.bus_world.specs.Headline.{given};
+ghost use Rattle.bus_world.specs.Headline.{order_given};
 ghost use Rattle.bus_world.specs.Playing.{event_told, PutGives, CloseGives, StopGives};
 ghost use Rattle.bus_world.specs.Rings.{RingTrails, IsKeptRing, guest_going, no_ring_trails};
 ghost use Rattle.bus_world.specs.World.{Put, Close, Turn as SenderTurn, Recv, Stop};
 ghost use Rattle.bus_world.specs.World.{IsEvent, given_at, is_set};
 ghost use Rattle.bus_cyclic.specs.Cyclic.{layout_of, log_of, IsMade, MakeRefused, LeadTo};
 ghost use Rattle.bus_cyclic.specs.Cyclic.{AreLastTakers};
-ghost use Rattle.bus_cyclic.specs.Happening.{Happens, Answers, Refused, seen};
+ghost use Rattle.bus_cyclic.specs.Happening.{Happens, Answers, Refused, core_found};
 ghost use Rattle.bus_cyclic.specs.Following.{Follows, StepsWithin};
 ghost use Rattle.bus_cyclic.specs.Playing.{Played, Stops};
 ghost use Rattle.bus_cyclic.specs.Following.{owners_with};
@@ -129,7 +129,7 @@ impl<Q: Ratifier + Drop> CyclicWorld<Q> {
             Happens X self.old.ring (Put sender bytes.now) self.new.ring }
         ensures owners { self.new.owners ≡ self.old.owners }
         ensures number { IfOk result
-            (PutGives (seen (guest_going self.old.ring sender)) (length bytes.now)) }
+            (PutGives (core_found (guest_going self.old.ring sender)) (length bytes.now)) }
         ensures fault { IfErr result (Refused self.old.ring (Put sender bytes.now)) }
         ensures refused { OnErr result (self.new ≡ self.old) }
     {
@@ -143,7 +143,7 @@ impl<Q: Ratifier + Drop> CyclicWorld<Q> {
         ensures happens { let X = election_of Q.Ratifier in
             Happens X self.old.ring (Close sender) self.new.ring }
         ensures owners { self.new.owners ≡ self.old.owners }
-        ensures could { OnOk result (CloseGives (seen (guest_going self.old.ring sender))) }
+        ensures could { OnOk result (CloseGives (core_found (guest_going self.old.ring sender))) }
         ensures fault { IfErr result (Refused self.old.ring (Close sender)) }
         ensures refused { OnErr result (self.new ≡ self.old) }
     {
@@ -207,7 +207,7 @@ impl<Q: Ratifier + Drop> CyclicWorld<Q> {
         ensures happens { let X = election_of Q.Ratifier in
             Happens X self.old.ring (Stop sender) self.new.ring }
         ensures owners { self.new.owners ≡ self.old.owners }
-        ensures could { OnOk result (StopGives (seen (guest_going self.old.ring sender))) }
+        ensures could { OnOk result (StopGives (core_found (guest_going self.old.ring sender))) }
         ensures fault { IfErr result (Refused self.old.ring (Stop sender)) }
         ensures refused { OnErr result (self.new ≡ self.old) }
     {
@@ -226,7 +226,7 @@ impl<Q: Ratifier + Drop> CyclicWorld<Q> {
             IfOk result (λ number. Follows X self.old (Put sender.0 bytes.now)
             (answer.Number number) self.new) }
         ensures number { IfOk result
-            (PutGives (seen (guest_going self.old.ring sender.0)) (length bytes.now)) }
+            (PutGives (core_found (guest_going self.old.ring sender.0)) (length bytes.now)) }
         ensures fault { IfErr result (Refused self.old.ring (Put sender.0 bytes.now)) }
         ensures refused { OnErr result (self.new ≡ self.old) }
     {
@@ -242,7 +242,7 @@ impl<Q: Ratifier + Drop> CyclicWorld<Q> {
             Happens X self.old.ring (Close sender.0) self.new.ring }
         ensures follows { let X = election_of Q.Ratifier in
             OnOk result (Follows X self.old (Close sender.0) answer.Closing self.new) }
-        ensures could { OnOk result (CloseGives (seen (guest_going self.old.ring sender.0))) }
+        ensures could { OnOk result (CloseGives (core_found (guest_going self.old.ring sender.0))) }
         ensures fault { IfErr result (Refused self.old.ring (Close sender.0)) }
         ensures refused { OnErr result (self.new ≡ self.old) }
     {
@@ -258,7 +258,7 @@ impl<Q: Ratifier + Drop> CyclicWorld<Q> {
             Happens X self.old.ring (Stop sender.0) self.new.ring }
         ensures follows { let X = election_of Q.Ratifier in
             OnOk result (Follows X self.old (Stop sender.0) answer.Stopped self.new) }
-        ensures could { OnOk result (StopGives (seen (guest_going self.old.ring sender.0))) }
+        ensures could { OnOk result (StopGives (core_found (guest_going self.old.ring sender.0))) }
         ensures fault { IfErr result (Refused self.old.ring (Stop sender.0)) }
         ensures refused { OnErr result (self.new ≡ self.old) }
     {
@@ -448,7 +448,7 @@ impl<Q: Ratifier + Drop> CyclicWorld<Q> {
         requires { receiver < length self.now.ring.receivers }
         ensures { let X = election_of Q.Ratifier in
             IfOk result (λ order. (trails : RingTrails) → LeadTo X self.now trails
-            → order_held order ≡ given (trails.heard receiver)) }
+            → order_held order ≡ order_given (trails.heard receiver)) }
     {
         election_is_lawful::<Q>();
         let place = self.receivers[receiver as usize].place();

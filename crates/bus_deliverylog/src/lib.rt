@@ -28,6 +28,3 @@ pub use orders::{LogFault, LogRead, Order};
 pub use reading::read_log;
 pub use receiving::{Reader, RecvTurn};
 pub use writing::Writer;
-
-#[cfg(test)]
-mod tests;

@@ -7,6 +7,7 @@ ghost use Rattle.bus_batch.specs.Frames.{frame_words};
 
 use arrayvec::ArrayVec;
 use bus_batch::Batch;
+use bus_register::limits::{MOST_FRAME_WORDS, TENURES};
 use bus_register::{Kind, Machine, Op, Reg};
 use std::marker::Model;
 
@@ -14,7 +15,7 @@ use std::marker::Model;
 /// length on, and then the new length is stored.
 #[derive(Debug, Drop)]
 pub struct Writer {
-    frame: ArrayVec<u64, 129>,
+    frame: ArrayVec<u64, MOST_FRAME_WORDS>,
     from: u64,
     stored: u64,
     log: Reg,
@@ -23,6 +24,7 @@ pub struct Writer {
 
 impl Model for Writer {
     ghost use Rattle.std.specs.Prelude.{◌+◌, ◌<◌, ◌≤◌, ◌^◌, length as len};
+    ghost use Rattle.bus_register.specs.declared.limits.TheConstants.{MOST_FRAME_WORDS};
     ghost use Rattle.bus_deliverylog.specs.Writing.{Writing};
 
     ghost Value = { Writing };
@@ -36,7 +38,7 @@ impl Model for Writer {
     } };
 
     ghost invariant = { λ w. (w.log.0 + w.from + len w.frame.items < 2 ^ 64)
-        × (len w.frame.items ≤ 129) × (w.stored ≤ len w.frame.items + 1) };
+        × (len w.frame.items ≤ MOST_FRAME_WORDS) × (w.stored ≤ len w.frame.items + 1) };
 }
 
 impl Writer {
@@ -44,8 +46,8 @@ impl Writer {
     /// the log's first word and `length` that of its length. The frame has to fit below 2^64.
     pub fn start(batch: &Batch, tenure: u64, from: u64, log: Reg, length: Reg) -> Writer
         requires something { HasSomething batch.now }
-        requires tenure { tenure < 2 ^ 40 }
-        requires fits { log.0 + from + 129 < 2 ^ 64 }
+        requires tenure { tenure < TENURES }
+        requires fits { log.0 + from + MOST_FRAME_WORDS < 2 ^ 64 }
         ensures { result ≡ record {
           frame = frame_words (frame_of batch.now tenure);
           from = from;

@@ -1,8 +1,8 @@
 -- Each of the wrong answers is refused.
-use Rattle.std.proofs.Common.{◌≡◌, inl, inr, ℕ, ◌+◌, ◌<◌, Bool, true, false, arith, sym, ◌∙◌, ap, subst}
+use Rattle.std.proofs.Common.{◌≡◌, inl, inr, ℕ, ◌+◌, ◌/◌, ◌<◌, Bool, true, false, arith, sym, ◌∙◌, ap, subst}
 use Rattle.std.proofs.lemmas.Bool.{true≢false}
 use Rattle.std.proofs.lemmas.Option.{same_Some}
-use Rattle.bus_presence.specs.declared.visits.Visit.TheVariants.{Inside}
+use Rattle.bus_presence.specs.declared.visits.Visit.TheVariants.{Entering, Inside}
 use Rattle.bus_tenure.specs.Core.{Core, Election, frame_len}
 use Rattle.bus_tenure.specs.Situations.{LooksAtStage, situation_of}
 use Rattle.bus_tenure.specs.declared.pages.Page.{Page}
@@ -21,6 +21,9 @@ same_page t u p q a b c d e = (cc, (cc, cc))
 
 same_election : {E : Type 0} (t u : ℕ) (e f : E) → ◌≡◌ {A = Phase E} (Electing t e) (Electing u f) → e ≡ f
 same_election t u e f i = cc
+
+same_tenure : (t u : ℕ) → Entering t ≡ Entering u → t ≡ u
+same_tenure t u e = cc
 
 -- ---- a page that is held
 published_is : {E : Type 0} (ph : Phase E) (t u : ℕ) (page : Page) (stored : ℕ) (published : Bool) → HasPublished u ph → ph ≡ Holding t page stored published → (t ≡ u) × (published ≡ true)
@@ -94,4 +97,5 @@ module _ {E : Type 0} (X : Election E) (v : Visitor E) (got word : ℕ) where
     barred_silently = λ t barred w. w.barred record { tenure = t; is = barred };
     takes_silently = λ t takes w. w.takes t takes;
     gives_silently = λ t gives w. w.gives t gives;
+    enters_elsewhere = λ t looks enters apart w. apart (same_tenure t (got / 2) (sym enters ∙ w.begins looks));
   }

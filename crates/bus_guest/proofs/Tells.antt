@@ -25,7 +25,7 @@ use Rattle.bus_tenure.specs.declared.turns.Turn.{Turn}
 use Rattle.bus_tenure.specs.declared.turns.Turn.TheVariants as turn
 use Rattle.bus_tenure.proofs.Situated.{tells}
 use Rattle.bus_guest.specs.Guests.{Due, Visits, Sweeps, Goes, sizes_with, due_beside, due_home, due_swept, sweep_due, answer_going}
-use Rattle.bus_guest.specs.Turns.{Visitor, sizes_of, due, op_due, op_next, answer_of_loss, answer_of_visit, answer_of_sweep}
+use Rattle.bus_guest.specs.Turns.{Visitor, sizes_of, due, op_due, op_next, visitor_due, visitor_after, answer_of_loss, answer_of_visit, answer_of_sweep}
 use Rattle.bus_guest.specs.Besides.{sweeps_by, due_by}
 use Rattle.bus_guest.specs.declared.besides.Beside.TheVariants.{Sweep, Visit as VisitsBy}
 use Rattle.bus_guest.specs.Keeping.{held_of, IsSweepAfter, IsRowReady, SweepKeeps, IsHeldSweep, LostKeeps, GuestKeeps}
@@ -160,6 +160,7 @@ module _ {E : Type 0} (X : Election E) (v : Visitor E) (got word : ℕ) where
     gives = λ t w. let bad = sym e ∙ w.due_is in cc;
     waits = λ w. let bad = sym e ∙ w.looks in cc;
     spent = λ w. let bad = sym e ∙ w.looks in cc;
+    begins = λ w. let bad = sym e ∙ w in absurd cc;
     behind = λ t p w. loads p (same_Some _ _ (sym (ap (λ d. op_due X v d word) e) ∙ w.loads));
   }
 
@@ -203,6 +204,7 @@ module _ {E : Type 0} (X : Election E) (v : Visitor E) (got word : ℕ) where
     gives = λ t w. let bad = sym e ∙ w.due_is in cc;
     waits = λ w. let bad = sym e ∙ w.looks in cc;
     spent = λ w. let bad = sym e ∙ w.looks in cc;
+    begins = λ w. let bad = sym e ∙ w in absurd cc;
     behind = behind;
   }
 
@@ -236,8 +238,8 @@ module _ {E : Type 0} (X : Election E) (v : Visitor E) (got word : ℕ) where
   goes_is z w e = cc
 
   goes_quiet : (z : Situation E) → due X v ≡ Goes z → ((t : ℕ) → z ≡ TakesPage t → ⊥) → ((t : ℕ) → Returns t z → ⊥) → (z ≡ LooksAtStage → waits v.core got ≡ true → ⊥) → (z ≡ LooksAtStage → v.core.layout.rows ≤ got / 2 → ⊥)
-      → situation_of X v.core ≡ z → ((t p : ℕ) → IsBehind X v got word t p → ⊥) → TellsNoMore X v got word
-  goes_quiet z e takes returns vain past here behind = record {
+      → (z ≡ LooksAtStage → (visitor_after X v got word).visit ≡ Entering (got / 2)) → situation_of X v.core ≡ z → ((t p : ℕ) → IsBehind X v got word t p → ⊥) → TellsNoMore X v got word
+  goes_quiet z e takes returns vain past begins here behind = record {
     loses = λ t w i. let bad = sym e ∙ parting_due t i.parts in cc;
     holds = λ t i. let bad = sym e ∙ parting_due t i in absurd cc;
     barred = λ b. let bad = sym e ∙ barred_due b.tenure b.is in cc;
@@ -245,6 +247,7 @@ module _ {E : Type 0} (X : Election E) (v : Visitor E) (got word : ℕ) where
     gives = λ t w. returns t (subst (Returns t) here w.returns);
     waits = λ w. vain (goes_is z LooksAtStage (sym e ∙ w.looks)) w.waits;
     spent = λ w. past (goes_is z LooksAtStage (sym e ∙ w.looks)) w.past;
+    begins = λ w. begins (goes_is z LooksAtStage (sym e ∙ w));
     behind = behind;
   }
 
@@ -256,11 +259,18 @@ module _ {E : Type 0} (X : Election E) (v : Visitor E) (got word : ℕ) where
   unloaded : (d : Option Op) → op_next X v word ≡ d → ((r : ℕ) → d ≡ Some (Load record { 0 = r }) → ⊥) → (t p : ℕ) → IsBehind X v got word t p → ⊥
   unloaded d next free t p w = free (presence_at (sizes_of v) p) (sym next ∙ w.loads)
 
+  -- who may enter the tenure that the stage shows does so next
+  enters : waits v.core got ≡ false → nat_le v.core.layout.rows (got / 2) ≡ false → due X v ≡ Goes LooksAtStage → (visitor_after X v got word).visit ≡ Entering (got / 2)
+  enters e f d =
+      ap (λ y. (visitor_due X v y got word).visit) d
+      ∙ ap (λ b. cond b Away (cond (nat_le v.core.layout.rows (got / 2)) Away (Entering (got / 2)))) e
+      ∙ ap (λ b. cond b Away (Entering (got / 2))) f
+
   looks : (a b : Bool) → waits v.core got ≡ a → nat_le v.core.layout.rows (got / 2) ≡ b → situation_of X v.core ≡ LooksAtStage → due X v ≡ Goes LooksAtStage → FeedTells X v got word (cond a turn.Waiting (cond b turn.Spent turn.Going))
   looks true b e f i d = inl record { looks = d; waits = e }
   looks false true e f i d = record { looks = d; enters = e; past = leb-true v.core.layout.rows (got / 2) f }
   looks false false e f i d = goes_quiet LooksAtStage d (λ t w. cc) (λ t w. (returns_no t LooksAtStage w).0 refl)
-      (λ w y. true≢false (sym y ∙ e)) (λ w y. let n = leb-false v.core.layout.rows (got / 2) f in omega arith) i (unheld (ap held_of (tells X v.core LooksAtStage i)))
+      (λ w y. true≢false (sym y ∙ e)) (λ w y. let n = leb-false v.core.layout.rows (got / 2) f in omega arith) (λ w. enters e f d) i (unheld (ap held_of (tells X v.core LooksAtStage i)))
 
   closes : (b : Bool) → is_closing v.core.queue.phase ≡ b → (t : ℕ) → GivesReady X v t → HasPublished t v.core.phase → FeedTells X v got word (cond b turn.Closed (turn.Delivered t v.core.queue.first (next_of v.core.queue - 1)))
   closes true e t g w = record { tenure = t; gives = g; why = inl (e, w) }
@@ -277,12 +287,12 @@ module _ {E : Type 0} (X : Election E) (v : Visitor E) (got word : ℕ) where
     goes own IsIdle i d h = absurd (let q : false ≡ true = h in cc)
     goes own IsSpent i d h = absurd (let q : false ≡ true = h in cc)
     goes own LooksAtStage i d h = looks (waits v.core got) (nat_le v.core.layout.rows (got / 2)) refl refl i d
-    goes own (Elects t e) i d h = goes_quiet (Elects t e) d (λ u w. cc) (λ u w. (returns_no u (Elects t e) w).1.0 t e refl) (λ w y. cc) (λ w y. absurd cc) i (unheld (ap held_of (tells X v.core (Elects t e) i).0))
+    goes own (Elects t e) i d h = goes_quiet (Elects t e) d (λ u w. cc) (λ u w. (returns_no u (Elects t e) w).1.0 t e refl) (λ w y. cc) (λ w y. absurd cc) (λ w. absurd cc) i (unheld (ap held_of (tells X v.core (Elects t e) i).0))
     goes own (TakesPage t) i d h = let c = own t i in record { inside = (runs_inside Belongs v.core v.visit t c.0 k.visit c.1).0; election = c.0; elects = c.1; chosen = c.2 }
     goes own (AwaitsPage t) i d h = absurd (let q : false ≡ true = h in cc)
-    goes own (StoresWord t page stored) i d h = goes_quiet (StoresWord t page stored) d (λ u w. cc) (λ u w. (returns_no u (StoresWord t page stored) w).1.2 t page stored refl) (λ w y. cc) (λ w y. absurd cc) i
+    goes own (StoresWord t page stored) i d h = goes_quiet (StoresWord t page stored) d (λ u w. cc) (λ u w. (returns_no u (StoresWord t page stored) w).1.2 t page stored refl) (λ w y. cc) (λ w y. absurd cc) (λ w. absurd cc) i
         (unloaded _ (ap (λ d. op_due X v d word) d) (λ r e. cc))
-    goes own (StoresLength t page stored) i d h = goes_quiet (StoresLength t page stored) d (λ u w. cc) (λ u w. (returns_no u (StoresLength t page stored) w).1.3 t page stored refl) (λ w y. cc) (λ w y. absurd cc) i
+    goes own (StoresLength t page stored) i d h = goes_quiet (StoresLength t page stored) d (λ u w. cc) (λ u w. (returns_no u (StoresLength t page stored) w).1.3 t page stored refl) (λ w y. cc) (λ w y. absurd cc) (λ w. absurd cc) i
         (unloaded _ (ap (λ d. op_due X v d word) d) (λ r e. cc))
     goes own (GivesBack t page reason) i d h =
         let at = tells X v.core (GivesBack t page reason) i in

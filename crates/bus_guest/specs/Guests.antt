@@ -1,6 +1,6 @@
 -- A sender of a bus whose rows are used again: what it does beside the turns of a sender that has a row for each tenure. It stores its
--- presence before it enters a tenure and clears it afterwards; as a holder it makes the row of the next tenure ready. In each situation
--- of such a sender one line of a table says what a guest does otherwise.
+-- presence before it enters a tenure and clears it afterwards; as a holder it makes the row of the next tenure ready. Where no step of its
+-- visit is due, one line of a table says for each situation of such a sender what a guest does otherwise.
 use Rattle.std.specs.Prelude.{ℕ, ◌+◌, ◌-◌, ◌*◌, ◌/◌, Option, Some, None, nat_le, ◌==◌, if◌then◌else◌}
 use Rattle.bus_register.specs.declared.registers.Op.{Op}
 use Rattle.bus_register.specs.declared.registers.SenderNo.{SenderNo}

@@ -4,13 +4,15 @@ use Rattle.bus_batch.specs.Batches.{next_of}
 use Rattle.bus_register.specs.declared.registers.Op.TheVariants.{Load}
 use Rattle.bus_register.specs.declared.registers.SenderNo.{SenderNo}
 use Rattle.bus_presence.specs.Hall.{presence_at}
-use Rattle.bus_presence.specs.declared.visits.Visit.TheVariants.{Away, Inside, Parting, Barred}
+use Rattle.bus_presence.specs.declared.visits.Visit.TheVariants.{Away, Entering, Inside, Parting, Barred}
 use Rattle.bus_tenure.specs.Core.{Election, frame_len, is_closing}
 use Rattle.bus_tenure.specs.declared.pages.Page.{Page}
 use Rattle.bus_tenure.specs.declared.phases.Phase.TheVariants.{Resting, Electing, Holding}
 use Rattle.bus_tenure.specs.declared.turns.Turn.TheVariants as turn
+use Rattle.bus_tenure.specs.Situations.{LooksAtStage}
+use Rattle.bus_guest.specs.Guests.{Goes}
 use Rattle.bus_guest.specs.Telling.{FeedTells, Withdraws, IsChosen, GivesReady}
-use Rattle.bus_guest.specs.Turns.{Visitor, sizes_of, op_next}
+use Rattle.bus_guest.specs.Turns.{Visitor, sizes_of, due, op_next, visitor_after}
 
 pub record AnswersRefuse {E : Type 0} (X : Election E) (v : Visitor E) (got word : ℕ) : Type 0 where
   -- Idle with a step
@@ -53,3 +55,5 @@ pub record AnswersRefuse {E : Type 0} (X : Election E) (v : Visitor E) (got word
   pub barred_silently : (t : ℕ) → v.visit ≡ Barred t → ¬ FeedTells X v got word turn.Going
   pub takes_silently : (t : ℕ) → IsChosen X v t → ¬ FeedTells X v got word turn.Going
   pub gives_silently : (t : ℕ) → GivesReady X v t → ¬ FeedTells X v got word turn.Going
+  -- Going where it enters another tenure than the one whose stage it looked at
+  pub enters_elsewhere : (t : ℕ) → due X v ≡ Goes LooksAtStage → (visitor_after X v got word).visit ≡ Entering t → t ≢ got / 2 → ¬ FeedTells X v got word turn.Going

@@ -5,7 +5,7 @@ use Rattle.bus_register.specs.declared.registers.SenderNo.{SenderNo}
 use Rattle.bus_batch.specs.Batches.{next_of}
 use Rattle.bus_presence.specs.Hall.{presence_at}
 use Rattle.bus_presence.specs.declared.visits.Visit.{Visit}
-use Rattle.bus_presence.specs.declared.visits.Visit.TheVariants.{Inside, Parting, Barred}
+use Rattle.bus_presence.specs.declared.visits.Visit.TheVariants.{Entering, Inside, Parting, Barred}
 use Rattle.bus_tenure.specs.Core.{Core, Election, frame_len, is_closing}
 use Rattle.bus_tenure.specs.Situations.{Situation, LooksAtStage, GivesBack, HasHanded, situation_of, waits as stage_waits}
 use Rattle.bus_tenure.specs.declared.pages.Page.{Page}
@@ -16,7 +16,7 @@ use Rattle.bus_tenure.specs.declared.phases.Reason.TheVariants.{Sent, FoundEnd, 
 use Rattle.bus_tenure.specs.declared.turns.Turn.{Turn}
 use Rattle.bus_tenure.specs.declared.turns.Turn.TheVariants.{Idle, Waiting, Going, Lost, Own, Delivered, Full, Closed, Spent, Behind}
 use Rattle.bus_guest.specs.Guests.{Goes}
-use Rattle.bus_guest.specs.Turns.{Visitor, sizes_of, due, op_next}
+use Rattle.bus_guest.specs.Turns.{Visitor, sizes_of, due, op_next, visitor_after}
 use Rattle.bus_guest.specs.Keeping.{IsRowReady, held_of}
 
 -- it looked at the stage for the first time, and that was of a held tenure, or of one that it may not enter any more
@@ -104,7 +104,8 @@ pub record IsBehind {E : Type 0} (X : Election E) (v : Visitor E) (got word t p 
   pub past : t + v.rows ≡ tenure + 1
 
 -- No other answer is due. It withdraws from no tenure that it lost, and from none that it came too late for; so where it withdraws, it
--- has taken that tenure's page. It takes no page, and gives none back; the stage that it looked at lets it enter a tenure; and nobody is behind.
+-- has taken that tenure's page. It takes no page, and gives none back; where it looked at the stage for the first time, that lets it enter the
+-- stage's tenure, and it does so next; and nobody is behind.
 pub record TellsNoMore {E : Type 0} (X : Election E) (v : Visitor E) (got word : ℕ) : Type 0 where
   pub loses : (t : ℕ) (o : SenderNo) → ¬ Withdraws v t o
   pub holds : (t : ℕ) → v.visit ≡ Parting t → held_of v.core.phase ≡ Some t
@@ -113,6 +114,7 @@ pub record TellsNoMore {E : Type 0} (X : Election E) (v : Visitor E) (got word :
   pub gives : (t : ℕ) → ¬ GivesReady X v t
   pub waits : ¬ LooksInVain X v got
   pub spent : ¬ FindsNoneLeft X v got
+  pub begins : due X v ≡ Goes LooksAtStage → (visitor_after X v got word).visit ≡ Entering (got / 2)
   pub behind : (t p : ℕ) → ¬ IsBehind X v got word t p
 
 -- With a step that found this number, and this random word. No step is taken where nothing is pending.

@@ -53,14 +53,14 @@ on_place place (Store at x) = Store record { 0 = place at.0 } x
 on_place place (Add at x) = Add record { 0 = place at.0 } x
 on_place place (Cas at x y) = Cas record { 0 = place at.0 } x y
 
-abbrev pub placed : (ℕ → ℕ) → Option Op → Option Op
-placed place None = None
-placed place (Some o) = Some (on_place place o)
+abbrev pub op_placed : (ℕ → ℕ) → Option Op → Option Op
+op_placed place None = None
+op_placed place (Some o) = Some (on_place place o)
 
 abbrev pub op_due : {E : Type 0} → Election E → Visitor E → Due E → ℕ → Option Op
 op_due X v (Visits o) word = Some o
 op_due X v (Sweeps s o) word = Some o
-op_due X v (Goes z) word = placed (place_for v.core.layout v.rows z) (op_at X v.core z word)
+op_due X v (Goes z) word = op_placed (place_for v.core.layout v.rows z) (op_at X v.core z word)
 
 -- with this random word
 abbrev pub op_next : {E : Type 0} → Election E → Visitor E → ℕ → Option Op

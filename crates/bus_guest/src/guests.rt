@@ -22,7 +22,7 @@ ghost use Rattle.bus_presence.specs.Sweeps.{Sweeping, sweep_op, sweep_fed, behin
 ghost use Rattle.bus_tenure.specs.Situations.{op_at, resting, LooksAtStage, answer_of_stage};
 ghost use Rattle.bus_tenure.specs.declared.phases.Reason.{Reason};
 ghost use Rattle.bus_guest.specs.Guests.{Goes, place_for, core_looked, core_seen, visit_seen};
-ghost use Rattle.bus_guest.specs.Turns.{placed, kind_of_visit, kind_of_sweep, answer_of_visit};
+ghost use Rattle.bus_guest.specs.Turns.{op_placed, kind_of_visit, kind_of_sweep, answer_of_visit};
 ghost use Rattle.bus_guest.specs.Turns.{answer_of_sweep, visitor_due, answer_due};
 ghost use Rattle.bus_guest.specs.Keeping.{IsBound, LiesApart};
 ghost use Rattle.bus_guest.specs.Following.{visit_by as spec_visit_by};
@@ -317,7 +317,7 @@ impl<Q: Ratifier + Drop> Guest<Q> {
     /// The next step as a sender, where it lies here.
     fn next_apart(&self, word: u32) -> Option<Op>
         ensures step { let X = election_of Q.Ratifier in
-            result ≡ placed (place_for self.now.core.layout self.now.rows
+            result ≡ op_placed (place_for self.now.core.layout self.now.rows
             (situation_of X self.now.core))
             (op_at X self.now.core (situation_of X self.now.core) word) }
         ensures lies { let X = election_of Q.Ratifier in

@@ -13,7 +13,8 @@ use bus_adoptcommit::Ratifier;
 /// goes on; Spent while a tenure is left; Lost where the guest remembers no owner; Own while it
 /// visits no tenure, or of one whose election chose another; Waiting of a guest that stands in a
 /// tenure and goes through its election; Behind where the step loaded no presence, found another
-/// number than that of the tenure, or was taken without a page; or Going where one of these is due.
+/// number than that of the tenure, or was taken without a page; or Going where one of these is due,
+/// or where it enters another tenure than the one whose stage it looked at.
 pub fn answers_refuse<Q: Ratifier>()
     ensures { let X = election_of Q.Ratifier in
         (guest : Visitor (Elector Q)) (got word : ℕ) → AnswersRefuse X guest got word }

@@ -12,7 +12,7 @@ use Rattle.hex.specs.declared.error.FromHexError.{FromHexError}
 use Rattle.hex.proofs.HexLemmas.{IsDigits-lower_digits, decode_sized-encode_lower, length-encode_with}
 use Rattle.bus_register.specs.declared.limits.TheConstants.{MOST_LOG_WORDS}
 use Rattle.bus_script.specs.Grammar.{lines_of, is_passed_over}
-use Rattle.bus_script.specs.Spelled.{IsLine, ended}
+use Rattle.bus_script.specs.Spelled.{IsLine, ended_lines}
 use Rattle.bus_script.proofs.TextLemmas.{text_read}
 use Rattle.bus_logtext.specs.declared.faults.LineFault.TheVariants.{TooManyWords}
 use Rattle.bus_logtext.specs.Words.{word_of, word_text, words_text, word_at, then_words, words_from, words_of, refused_at}
@@ -63,7 +63,7 @@ all_lines : (words : List ℕ) → AllByRecursion IsLine (map word_text words)
 all_lines [] = tt
 all_lines (word ∷ words) = (word_line_plain word 10 refl, all_lines words)
 
-as_ended : (words : List ℕ) → words_text words ≡ ended (map word_text words)
+as_ended : (words : List ℕ) → words_text words ≡ ended_lines (map word_text words)
 as_ended [] = refl
 as_ended (word ∷ words) = ap (λ (l : List ℕ). (word_text word ++ 10 ∷ []) ++ l) (as_ended words)
 

@@ -21,6 +21,3 @@ pub use answers::read_log_text;
 pub use faults::{LineFault, Refusal, WordsFault};
 pub use text::log_text;
 pub use words::{print_words, words_of};
-
-#[cfg(test)]
-mod tests;

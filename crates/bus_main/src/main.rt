@@ -7,26 +7,14 @@
 //! says; 2 where the command line was refused, or asked for help or the version.
 #![tactic(auto)]
 
-mod command_line;
-mod help;
-mod log;
-mod picture;
-mod printing;
-mod ratify;
-mod replay;
-mod streams;
-#[cfg(test)]
-mod tests;
-mod trace;
-
-use self::command_line::{Task, parse};
-use self::log::log;
-use self::picture::picture;
-use self::printing::{print_log, print_run};
-use self::ratify::ratify;
-use self::replay::replay;
-use self::trace::trace;
 use bus_adoptcommit::ThreeWord;
+use bus_commands::command_line::{Task, parse};
+use bus_commands::log::log;
+use bus_commands::picture::picture;
+use bus_commands::printing::{print_log, print_run};
+use bus_commands::ratify::ratify;
+use bus_commands::replay::replay;
+use bus_commands::trace::trace;
 use bus_run::RunFault;
 use bus_script::{Answer, Outcome};
 use clap::error::ErrorKind;

@@ -2,7 +2,7 @@
 use Rattle.std.proofs.Common.{◌≡◌, ◌≢◌, ℕ, ◌+◌, ◌*◌, ◌/◌, ◌<◌, ◌≤◌, ◌^◌, nat_lt, Bool, false, cond, Option, Some, None, inl, inr, ◌⊎◌, refl, sym, subst}
 use Rattle.std.proofs.lemmas.Bool.Decides.{eqb_tells}
 use Rattle.bus_ownerbits.specs.declared.stages.Stage.TheVariants.{Search, Alone}
-use Rattle.bus_ownerbits.specs.Election.{Decisions, Electing, proposing, going, fits_bits, seeking, with_bit, decided_by, searched}
+use Rattle.bus_ownerbits.specs.Election.{Decisions, Electing, proposing, going, fits_bits, seeking, with_bit, decided_by, search_after}
 use Rattle.bus_ownerbits.proofs.NumberLaws.{tested}
 
 module _ {S : Type 0} (D : Decisions S) (P : Electing S → Type 0) where
@@ -31,7 +31,7 @@ module _ {S : Type 0} (D : Decisions S) (P : Electing S → Type 0) where
   ]
 
   pub searched_case : (s : Electing S) (i got : ℕ) → (got ≡ 0 → i + 1 < s.n → (i + 1) / 2 ^ s.left ≡ s.spelled → P (record s { stage = Search (i + 1) }))
-      → ((got ≢ 0) ⊎ ((s.n ≤ i + 1) ⊎ ((i + 1) / 2 ^ s.left ≢ s.spelled)) → P (going D (record s { candidate = i }))) → P (searched D s i got)
+      → ((got ≢ 0) ⊎ ((s.n ≤ i + 1) ⊎ ((i + 1) / 2 ^ s.left ≢ s.spelled)) → P (going D (record s { candidate = i }))) → P (search_after D s i got)
   searched_case s i got on takes =
       let a : Electing S = record s { stage = Search (i + 1) } in
       let b : Electing S = going D (record s { candidate = i }) in

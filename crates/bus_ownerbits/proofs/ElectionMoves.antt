@@ -15,7 +15,7 @@ use Rattle.bus_register.specs.Digits.{digit}
 use Rattle.bus_ownerbits.specs.declared.stages.Stage.{Stage}
 use Rattle.bus_ownerbits.specs.declared.stages.Stage.TheVariants.{Announce, Propose, Search, Alone}
 use Rattle.bus_ownerbits.specs.Sizes.{bits_of, bit_at}
-use Rattle.bus_ownerbits.specs.Election.{Decisions, Electing, place, proposing, going, seeking, with_bit, decided_by, searched, fed_at, election_fed, op_at, election_op}
+use Rattle.bus_ownerbits.specs.Election.{Decisions, Electing, place, proposing, going, seeking, with_bit, decided_by, search_after, fed_at, election_fed, op_at, election_op}
 use Rattle.bus_ownerbits.proofs.ElectionCases.{going_case, seeking_case, decided_case, searched_case}
 use Rattle.bus_ownerbits.specs.ElectionKeeps.{Fitting, Proposed, Saw, Spelled, Standing, StageStands, ElectionKeeps, StageBelongs, announcement, begun_at, spelled_of}
 use Rattle.bus_ownerbits.proofs.ElectionGrows.{Grows, grows_on, seen_is, spelled_agree, spelled_stays, fitting_stays, proposed_stays, standing_stays}
@@ -418,7 +418,7 @@ module _ {S : Type 0} (op : S → ℕ → Option Op) (fed : S → ℕ → ℕ �
           (fed_begun op fed D cost laws cheap rounds (Propose d) (record tick { stage = Propose d }) (words (register o)) word refl)
 
     -- it loads an announcement
-    searches : (i : ℕ) → s.stage ≡ Search i → op_at op (Search i) s word ≡ Some o → new p ≡ Some (searched D tick i (words (register o))) → ElectionKeeps D cost rounds n at words' new
+    searches : (i : ℕ) → s.stage ≡ Search i → op_at op (Search i) s word ≡ Some o → new p ≡ Some (search_after D tick i (words (register o))) → ElectionKeeps D cost rounds n at words' new
     searches i e next now =
         let b = stand.belongs in
         let st = stage_stands (Search i) e in
@@ -444,7 +444,7 @@ module _ {S : Type 0} (op : S → ℕ → Option Op) (fed : S → ℕ → ℕ �
         let low = st.1 in
         let some = st.2 in
         let one : words (at + c) ≡ 1 = f.announced in
-        let went : Went words' k.visits p (searched D tick i (words (register o))) = searched_case D (Went words' k.visits p) tick i (words (register o))
+        let went : Went words' k.visits p (search_after D tick i (words (register o))) = searched_case D (Went words' k.visits p) tick i (words (register o))
         (λ none less fits.
         let apart : i ≢ c = λ j. let x : words (at + i) ≡ words (at + c) = ap (λ z. words (at + z)) j in omega arith in
         record {
@@ -476,7 +476,7 @@ module _ {S : Type 0} (op : S → ℕ → Option Op) (fed : S → ℕ → ℕ �
           ahead = st.3;
           fitting = record { below = within; announced = calm i within ∙ announced; fits = between s.spelled s.left i c low above f.fits };
         }) in
-        settle k.visits (searched D tick i (words (register o))) grows (λ j q ne. refl) went now (λ q h ne. calm q h)
+        settle k.visits (search_after D tick i (words (register o))) grows (λ j q ne. refl) went now (λ q h ne. calm q h)
         (calm p b.below ∙ k.tells p b.below ∙ ap announcement here ∙ ap (λ z. cond (begun_at z) 1 0) e)
         (fed_begun op fed D cost laws cheap rounds (Search i) (record tick { stage = Search i }) (words (register o)) word refl)
 

@@ -9,7 +9,7 @@ use Rattle.bus_binconsensus.specs.Deciding.{Decides}
 use Rattle.bus_ownerbits.specs.declared.stages.Stage.{Stage}
 use Rattle.bus_ownerbits.specs.declared.stages.Stage.TheVariants.{Announce, Propose, Search, Alone}
 use Rattle.bus_ownerbits.specs.Sizes.{bits_of, bit_at, each_bit}
-use Rattle.bus_ownerbits.specs.Election.{Decisions, Electing, place, proposing, going, fits_bits, seeking, with_bit, searched, fed_at, election_fed, op_at, election_op}
+use Rattle.bus_ownerbits.specs.Election.{Decisions, Electing, place, proposing, going, fits_bits, seeking, with_bit, search_after, fed_at, election_fed, op_at, election_op}
 use Rattle.bus_ownerbits.proofs.ElectionCases.{going_case, seeking_case, decided_case, searched_case}
 use Rattle.bus_ownerbits.specs.ElectionKeeps.{work_at, StageBelongs, ElectionBelongs, begun_at, election_protocol}
 
@@ -189,7 +189,7 @@ module _ {S : Type 0} (op : S → ℕ → Option Op) (fed : S → ℕ → ℕ �
     pub search_takes : (i : ℕ) → s.stage ≡ Search i → Ready n me at 0 (record ticked { candidate = i })
     search_takes i e = ready 0 (record ticked { candidate = i }) refl refl refl refl (omega arith) (let w = enough_is (Search i) e in let n' = b.n_is in let h = (stage_is (Search i) e).0 in omega arith)
 
-    search_belongs : (i got : ℕ) → s.stage ≡ Search i → ElectionBelongs D cost rounds n me at (searched D ticked i got)
+    search_belongs : (i got : ℕ) → s.stage ≡ Search i → ElectionBelongs D cost rounds n me at (search_after D ticked i got)
     search_belongs i got e =
         let own = stage_is (Search i) e in
         let within = own.0 in

@@ -60,8 +60,8 @@ decided_by D s None = s
 decided_by D s (Some bit) = if nat_lt 1 s.left then seeking D (with_bit s bit) else s
 
 -- what follows the load of the announcement of i
-abbrev pub searched : {S : Type 0} → Decisions S → Electing S → ℕ → ℕ → Electing S
-searched D s i got =
+abbrev pub search_after : {S : Type 0} → Decisions S → Electing S → ℕ → ℕ → Electing S
+search_after D s i got =
     if got == 0
     then (if nat_lt (i + 1) s.n then (if fits_bits s (i + 1) then record s { stage = Search (i + 1) } else going D (record s { candidate = i })) else going D (record s { candidate = i }))
     else going D (record s { candidate = i })
@@ -69,7 +69,7 @@ searched D s i got =
 abbrev pub fed_at : {S : Type 0} → Decisions S → (S → ℕ → ℕ → S) → Stage S → Electing S → ℕ → ℕ → Electing S
 fed_at D fed Announce s got word = going D s
 fed_at D fed (Propose d) s got word = decided_by D (record s { stage = Propose (fed d got word) }) ((D s.rounds).output (fed d got word))
-fed_at D fed (Search i) s got word = searched D s i got
+fed_at D fed (Search i) s got word = search_after D s i got
 fed_at D fed Alone s got word = s
 
 -- what the process holds after a step that found this number

@@ -25,6 +25,3 @@ pub mod stages;
 
 pub use elections::Election;
 pub use sizes::{bits, bound};
-
-#[cfg(test)]
-mod tests;

@@ -25,8 +25,8 @@ use Rattle.bus_cyclic.proofs.StartingLaws.{one_more_guest}
 use Rattle.bus_cyclic.specs.Starting.{AreNewGuests}
 use Rattle.bus_deliverylog.specs.Orders.{of_sender}
 use Rattle.bus_guest.specs.Guests.{Due, Visits, Sweeps, Goes, place_for, log_from, core_looked, answer_going}
-use Rattle.bus_guest.specs.Turns.{Visitor, due, op_due, op_next, placed, visitor_due, answer_due, queue_seen}
-use Rattle.bus_presence.specs.Hall.{Entry, Trails, grown}
+use Rattle.bus_guest.specs.Turns.{Visitor, due, op_due, op_next, op_placed, visitor_due, answer_due, queue_seen}
+use Rattle.bus_presence.specs.Hall.{Entry, Trails, trails_with_entry}
 use Rattle.bus_presence.specs.declared.visits.Visit.{Visit}
 use Rattle.bus_presence.specs.declared.visits.Visit.TheVariants.{Away, Entering, Looking, Inside, Parting, Barred}
 use Rattle.bus_tenure.specs.Core.{Core, Election, Layout, log_at, is_empty}
@@ -39,17 +39,18 @@ use Rattle.bus_register.specs.Tables.{of_some}
 use Rattle.bus_world.specs.Bus.{IsLayout, Fits, Part, Sending, least_of, standing_of, stands_at}
 use Rattle.bus_world.proofs.TenuresLaws as tenures
 use Rattle.bus_world.specs.Headline.{Deed, HasPut, HasClosed, IsPrefix, puts}
-use Rattle.bus_world.specs.Log.{Knows, read}
+use Rattle.bus_world.specs.Log.{Knows, words_read_from}
 use Rattle.bus_world.specs.Rings.{Ring, IsKeptRing, RingTrails, RingReached, IsOnWord, yard_of, core_in, visit_in, guest_going, move_due, visitor_moved, with_guest, ring_after, ring_trails, ring_sweeps, ring_deeds, no_ring_trails}
 use Rattle.bus_world.specs.Rings.RingReached.{NewRing, TurnTaken, PutTaken, CloseTaken, RecvTaken, StopTaken}
 use Rattle.bus_world.specs.Tenures.Stage.{Open, Held}
 use Rattle.bus_world.specs.Trails.{step_deed}
 use Rattle.bus_world.specs.Turning.{words_after, number_found, after_step}
-use Rattle.bus_world.specs.Waiting.{waiting_at, waiting_of}
+use Rattle.bus_world.specs.Waiting.{waiting_at}
 use Rattle.bus_world.specs.World.{Turn, can_close, no_stops, is_set, new_page, is_open}
 use Rattle.bus_world.specs.Yards.{Yard, word_found, deeds_with, due_deeds}
 use Rattle.bus_world.proofs.EventTrails as events
 use Rattle.bus_world.proofs.LogLaws.{length-read}
+use Rattle.bus_world.proofs.Waiting.{waiting_of}
 use Rattle.bus_world.proofs.RingFits as fits
 use Rattle.bus_world.proofs.RingLaws.{IsRingLayout, IsLed, ring_led, ring_kept, same_register, due_goes}
 use Rattle.bus_world.proofs.Serving.{Serves}
@@ -97,10 +98,10 @@ there_shown true o v e = absurd (let bad : None ≡ Some v = e in let wrong : �
 there_shown false o v e = e
 
 -- ---- deeds
-own_grown : (p : ℕ) (e : Entry) (T : Trails) → grown T p e p ≡ T p ++ e ∷ []
+own_grown : (p : ℕ) (e : Entry) (T : Trails) → trails_with_entry T p e p ≡ T p ++ e ∷ []
 own_grown p e T = ap (λ b. cond b (T p ++ e ∷ []) (T p)) (eq-eqb p p refl)
 
-other_grown : (p : ℕ) (e : Entry) (T : Trails) (q : ℕ) → q ≢ p → grown T p e q ≡ T q
+other_grown : (p : ℕ) (e : Entry) (T : Trails) (q : ℕ) → q ≢ p → trails_with_entry T p e q ≡ T q
 other_grown p e T q ne = ap (λ b. cond b (T q ++ e ∷ []) (T q)) (ne_eqb q p ne)
 
 own_deeds : (s : ℕ) (ds : List Deed) (D : ℕ → List Deed) → deeds_with s ds D s ≡ D s ++ ds
@@ -162,10 +163,10 @@ module _ {E : Type 0} (X : Election E) (P : Protocol E (Unit {0}) ℕ) (x : Layo
     sizes_are : extent_again b.layout b.rows ≡ extent_again x rows
     sizes_are = λ i. extent_again (same i) (rows_are i)
 
-    log_read : read (slice_index b.words) (log_from b.layout b.rows) (slice_index b.words 0) ≡ log_words k.frames
+    log_read : words_read_from (slice_index b.words) (log_from b.layout b.rows) (slice_index b.words 0) ≡ log_words k.frames
     log_read =
         let capacity = k.kept.sending.log.fits in
-        ap (read (slice_index b.words) (log_from b.layout b.rows)) k.kept.laid.length
+        ap (words_read_from (slice_index b.words) (log_from b.layout b.rows)) k.kept.laid.length
         ∙ words_read X P serves.laws b.layout layout.ok layout.width layout.starts serves.owner_is serves.named serves.announces serves.apart b.rows layout.two (k.V 0) (slice_index b.words) k.V (log_from b.layout b.rows) (log_at b.layout) (λ j l. k.kept.laid.log j (omega arith))
         ∙ k.kept.sending.log.words_are
 
@@ -279,7 +280,7 @@ module _ {E : Type 0} (X : Election E) (P : Protocol E (Unit {0}) ℕ) (x : Layo
       ends_going (GivesBack t page reason) i word o due home got = let h = apart.ends X v.core (GivesBack t page reason) i word o due home got in (refl, h.1, h.2, h.3)
       ends_going (HasHanded t reason) i word o due home got = let h = apart.ends X v.core (HasHanded t reason) i word o due home got in (refl, h.1, h.2)
 
-      some_step : (f : ℕ → ℕ) (o : Option Op) (u : Op) → placed f o ≡ Some u → (q : Op) × (o ≡ Some q)
+      some_step : (f : ℕ → ℕ) (o : Option Op) (u : Op) → op_placed f o ≡ Some u → (q : Op) × (o ≡ Some q)
       some_step f None u e = absurd (let wrong : ⊥ = cc in wrong)
       some_step f (Some q) u e = (q, refl)
 
@@ -328,7 +329,7 @@ module _ {E : Type 0} (X : Election E) (P : Protocol E (Unit {0}) ℕ) (x : Layo
         reaches = TurnTaken b T p v word told reached goes on_word (ap (λ n. answer_due X v (due X v) n word) (sym found_is))
 
         -- its deeds are those of the number that its word had
-        found_at : (z : Situation E) (q : Option Op) → placed (place_for v.core.layout v.rows z) q ≡ Some o → word_found (place_for b.layout b.rows z) (slice_index b.words) q ≡ found
+        found_at : (z : Situation E) (q : Option Op) → op_placed (place_for v.core.layout v.rows z) q ≡ Some o → word_found (place_for b.layout b.rows z) (slice_index b.words) q ≡ found
         found_at z None e = absurd (let wrong : ⊥ = cc in wrong)
         found_at z (Some q) e =
             let f = place_for v.core.layout v.rows z in

@@ -15,7 +15,7 @@ use Rattle.bus_presence.specs.declared.sweeps.Behind.{Behind}
 use Rattle.bus_presence.specs.declared.visits.Visit.{Visit}
 use Rattle.bus_presence.specs.declared.visits.Visit.TheVariants.{Away, Entering, Looking, Inside, Parting, Barred}
 use Rattle.bus_guest.specs.Guests.{Due, Visits, Sweeps, Goes, sweep_due, due_swept, due_home, due_beside, core_looked, visit_elected, lost_elected}
-use Rattle.bus_guest.specs.Turns.{Visitor, due, placed, op_due, visitor_due, answer_due, kind_due, kind_of_visit, answer_of_visit, answer_of_sweep, rest_due, queue_seen}
+use Rattle.bus_guest.specs.Turns.{Visitor, due, op_placed, op_due, visitor_due, answer_due, kind_due, kind_of_visit, answer_of_visit, answer_of_sweep, rest_due, queue_seen}
 use Rattle.bus_tenure.specs.Core.{Core, Election}
 use Rattle.bus_tenure.specs.Situations.{Situation, IsClosed, IsIdle, IsSpent, LooksAtStage, Elects, TakesPage, AwaitsPage, StoresWord, StoresLength, GivesBack, HasHanded, Stays, situation_of, op_at, kind_at, tenure_at, chosen_at, core_begun, core_elected, waits}
 use Rattle.bus_tenure.specs.declared.pages.Page.{Page}
@@ -106,14 +106,14 @@ sweep_mute s r n e got got' = by_tests (nat_lt s.asked s.senders) (nat_lt s.clea
     by_tests false c e = refl
 
 -- a step that is a store where it lies is one where it would lie
-placed_store : (f : ℕ → ℕ) (o : Option Op) (r n : ℕ) → placed f o ≡ Some (Store record { 0 = r } n) → (q m : ℕ) × (o ≡ Some (Store record { 0 = q } m))
+placed_store : (f : ℕ → ℕ) (o : Option Op) (r n : ℕ) → op_placed f o ≡ Some (Store record { 0 = r } n) → (q m : ℕ) × (o ≡ Some (Store record { 0 = q } m))
 placed_store f None r n e = absurd (let wrong : ⊥ = cc in wrong)
 placed_store f (Some (Load at)) r n e = absurd (load_stores (f at.0) r n (same_Some _ _ e))
 placed_store f (Some (Store at m)) r n e = (at.0, m, refl)
 placed_store f (Some (Add at m)) r n e = absurd (let bad : Add record { 0 = f at.0 } m ≡ Store record { 0 = r } n = same_Some _ _ e in let wrong : ⊥ = cc in wrong)
 placed_store f (Some (Cas at m k)) r n e = absurd (let bad : Cas record { 0 = f at.0 } m k ≡ Store record { 0 = r } n = same_Some _ _ e in let wrong : ⊥ = cc in wrong)
 
-placed_some : (f : ℕ → ℕ) (o : Option Op) (u : Op) → placed f o ≡ Some u → (p : Op) × (o ≡ Some p)
+placed_some : (f : ℕ → ℕ) (o : Option Op) (u : Op) → op_placed f o ≡ Some u → (p : Op) × (o ≡ Some p)
 placed_some f None u e = absurd (let wrong : ⊥ = cc in wrong)
 placed_some f (Some p) u e = (p, refl)
 
@@ -389,7 +389,7 @@ visit_named (Inside t) word stage o e = absurd (let bad : None ≡ Some o = e in
 visit_named (Parting t) word stage o e = refl
 visit_named (Barred t) word stage o e = refl
 
-placed_is : (f : ℕ → ℕ) (o : Option Op) → is_some o ≡ is_some (placed f o)
+placed_is : (f : ℕ → ℕ) (o : Option Op) → is_some o ≡ is_some (op_placed f o)
 placed_is f None = refl
 placed_is f (Some o) = refl
 

@@ -24,12 +24,13 @@ use Rattle.bus_world.specs.Tenures.{Stage}
 use Rattle.bus_world.specs.Tenures.Stage.{Open, Held}
 use Rattle.bus_world.specs.Trails.{Trails, no_trails}
 use Rattle.bus_world.specs.Trails.Reached.{New}
-use Rattle.bus_world.specs.Waiting.{waiting_at, waiting_of}
+use Rattle.bus_world.specs.Waiting.{waiting_at}
 use Rattle.bus_world.specs.World.{Bus, new_core, new_page, no_stops}
 use Rattle.bus_world.proofs.EventTrails as events
 use Rattle.bus_world.proofs.Serving.{Serves}
 use Rattle.bus_world.proofs.StartingLaws.{one_more_core}
 use Rattle.bus_world.proofs.LogLaws.{length-read}
+use Rattle.bus_world.proofs.Waiting.{waiting_of}
 use Rattle.bus_pageslot.specs.Processes.{IsCounted}
 use Rattle.bus_pageslot.specs.Lawful.{AutomatonLaws, IsSender, AcceptsIn, StepsIn, HasLog, IsPromisedOf, Opens, no_answers}
 use Rattle.bus_pageslot.specs.RowsApart.{process_apart, bus_apart, extent_of, History, IsHistory}

@@ -13,7 +13,7 @@ use Rattle.bus_presence.specs.declared.visits.Visit.TheVariants.{Away, Entering,
 use Rattle.bus_guest.specs.Guests.{Due, Visits, Sweeps, Goes, place_for, due_beside, due_home, due_swept, sweep_due}
 use Rattle.bus_guest.specs.Keeping.{held_of}
 use Rattle.bus_guest.specs.Telling.{FeedTells, IsBehind}
-use Rattle.bus_guest.specs.Turns.{Visitor, sizes_of, due, op_due, op_next, placed}
+use Rattle.bus_guest.specs.Turns.{Visitor, sizes_of, due, op_due, op_next, op_placed}
 use Rattle.bus_tenure.specs.Core.{Core, Election, stage_at, has_room, frame_len}
 use Rattle.bus_tenure.specs.Situations.{Situation, op_at, situation_at, situation_of, GivesBack, StoresWord, StoresLength}
 use Rattle.bus_tenure.specs.declared.pages.Page.{Page}
@@ -53,7 +53,7 @@ module _ {E : Type 0} (X : Election E) (c : Core E) (word : ℕ) where
   holder_stores (Holding u page stored published) t e = holding_stores u stored page published page.ended (has_room c page) (nat_lt stored (frame_len c))
   holder_stores (Giving u reason) t e = tt
 
-no_placed_load : (place : ℕ → ℕ) (o : Option Op) (r : ℕ) → NoLoad o → placed place o ≡ Some (Load record { 0 = r }) → ⊥
+no_placed_load : (place : ℕ → ℕ) (o : Option Op) (r : ℕ) → NoLoad o → op_placed place o ≡ Some (Load record { 0 = r }) → ⊥
 no_placed_load place None r n e = cc
 no_placed_load place (Some (Load at)) r n e = n
 no_placed_load place (Some (Store at x)) r n e = let bad = same_Some _ _ e in cc

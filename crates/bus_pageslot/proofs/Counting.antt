@@ -10,7 +10,7 @@ use Rattle.bus_tenure.specs.Core.{Core}
 use Rattle.bus_tenure.specs.declared.phases.Phase.{Phase}
 use Rattle.bus_tenure.specs.declared.phases.Phase.TheVariants as phase
 use Rattle.bus_world.specs.Bus.{Fits}
-use Rattle.bus_world.specs.Log.{sent}
+use Rattle.bus_world.specs.Log.{sent_count}
 use Rattle.bus_world.proofs.LogLaws.{log_words-append}
 
 shorter : {A : Type 0} (b : Bool) (x : A) (ys : List A) (n : ℕ) → length ys ≤ n → length (cond b (x ∷ ys) ys) ≤ suc n
@@ -34,7 +34,7 @@ order_short [] = omega arith
 order_short (f ∷ frames) =
     let a = length-append (items_of f) (order_of frames).items in let b = length-append (frame_words f) (log_words frames) in let d = body_short f.owner f.body in let e = order_short frames in omega arith
 
-sent_short : (s : ℕ) (frames : List Frame) → sent s frames ≤ length (log_words frames)
+sent_short : (s : ℕ) (frames : List Frame) → sent_count s frames ≤ length (log_words frames)
 sent_short s frames = let a = filter_short (λ i. i.sender.0 == s) (order_of frames).items in let b = order_short frames in omega arith
 
 -- the number of the first message in its batch

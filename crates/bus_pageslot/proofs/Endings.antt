@@ -8,7 +8,7 @@ use Rattle.atomic_table.specs.Table.{Final, Seen}
 use Rattle.bus_batch.specs.Frames.{order_of, tenure_and_owner}
 use Rattle.bus_tenure.specs.declared.pages.Page.{Page}
 use Rattle.bus_world.specs.Headline.{IsPrefix}
-use Rattle.bus_world.specs.Log.{read}
+use Rattle.bus_world.specs.Log.{words_read_from}
 use Rattle.bus_world.proofs.LogLaws.{length-read}
 use Rattle.bus_world.proofs.ViewingLaws.{frames_spell}
 use Rattle.bus_pageslot.specs.Ears.{Ear}
@@ -28,8 +28,8 @@ word_at (v ∷ ws) zero w e = some-injective v w e
 word_at (v ∷ ws) (suc i) w e = word_at ws i w e
 
 -- one word more
-pub read-next : (words : ℕ → ℕ) (at k w : ℕ) → words (at + k) ≡ w → read words at k ++ w ∷ [] ≡ read words at (k + 1)
-read-next words at k w e = ap (λ z. read words at k ++ z ∷ []) (sym e) ∙ ap (read words at) (let one : suc k ≡ k + 1 = omega arith in one)
+pub read-next : (words : ℕ → ℕ) (at k w : ℕ) → words (at + k) ≡ w → words_read_from words at k ++ w ∷ [] ≡ words_read_from words at (k + 1)
+read-next words at k w e = ap (λ z. words_read_from words at k ++ z ∷ []) (sym e) ∙ ap (words_read_from words at) (let one : suc k ≡ k + 1 = omega arith in one)
 
 none_of : (home : Option Page) → is_some home ≡ false → home ≡ None
 none_of None e = refl
@@ -80,10 +80,10 @@ module _ {C : Type 0} (P : Process C) (A : Automaton C) (L : AutomatonLaws P A) 
     stage_is stage at = ap (λ l. slice_index l 1) words_are ∙ at
 
     -- what is left, with what is home
-    left : (home : Option Page) → A.home shown.state ≡ home → (log : List ℕ) → log ≡ read (slice_index ws) A.extent.log (slice_index ws 0) → IsLeft P A v log home
+    left : (home : Option Page) → A.home shown.state ≡ home → (log : List ℕ) → log ≡ words_read_from (slice_index ws) A.extent.log (slice_index ws 0) → IsLeft P A v log home
     left home at log log_is =
         let k : KnowsLog A shown.state x e = shown.views id (Tap x e) (f.1.1 ∙ ap (λ (u : View C). some u) is) in
-        let same : log_in A shown.state ≡ log = ap (λ l. read (slice_index l) A.extent.log (slice_index l 0)) words_are ∙ sym log_is in
+        let same : log_in A shown.state ≡ log = ap (λ l. words_read_from (slice_index l) A.extent.log (slice_index l 0)) words_are ∙ sym log_is in
         record {
           table = f.0;
           shown = shown;
@@ -97,9 +97,9 @@ module _ {C : Type 0} (P : Process C) (A : Automaton C) (L : AutomatonLaws P A) 
     pub left_out : (stage : ℕ) → slice_index ws 1 ≡ stage → stage % 2 ≡ 1 → (log : List ℕ) × IsLeft P A v log None
     left_out stage at odd =
         let away = L.odd_away shown.state shown.reached (ap (λ n. n % 2) (stage_is stage at) ∙ odd) in
-        (_, left None (none_of (A.home shown.state) away) (read (slice_index ws) A.extent.log (slice_index ws 0)) refl)
+        (_, left None (none_of (A.home shown.state) away) (words_read_from (slice_index ws) A.extent.log (slice_index ws 0)) refl)
 
-    pub left_home : (stage : ℕ) → slice_index ws 1 ≡ stage → stage % 2 ≢ 1 → (slot : Option Page) → get_elem? xs 0 ≡ some slot → (log : List ℕ) → log ≡ read (slice_index ws) A.extent.log (slice_index ws 0) → (page : Page) × (slot ≡ Some page) × IsLeft P A v log (Some page)
+    pub left_home : (stage : ℕ) → slice_index ws 1 ≡ stage → stage % 2 ≢ 1 → (slot : Option Page) → get_elem? xs 0 ≡ some slot → (log : List ℕ) → log ≡ words_read_from (slice_index ws) A.extent.log (slice_index ws 0) → (page : Page) × (slot ≡ Some page) × IsLeft P A v log (Some page)
     left_home stage at even slot in_slot log log_is =
         let there = L.even_at_home shown.state shown.reached (λ odd. even (ap (λ n. n % 2) (sym (stage_is stage at)) ∙ odd)) in
         let h = some_of (A.home shown.state) there in

@@ -16,17 +16,17 @@ use Rattle.bus_deliverylog.specs.Receiving.{turn_of}
 use Rattle.bus_deliverylog.specs.declared.receiving.RecvTurn.{RecvTurn}
 use Rattle.bus_deliverylog.specs.declared.receiving.RecvTurn.TheVariants as turn
 use Rattle.bus_deliverylog.proofs.PrefixLaws.{end_last}
-use Rattle.bus_world.specs.Headline.{IsPrefix, item_heard, end_heard, head_heard, given, heads}
+use Rattle.bus_world.specs.Headline.{IsPrefix, item_heard, end_heard, head_heard, order_given, heads}
 use Rattle.bus_world.proofs.HearTrails.{more_order}
 use Rattle.bus_world.proofs.Places.{got_split}
 use Rattle.bus_world.proofs.ReceivingLaws.{length-log_pieces, given_is_prefix}
-use Rattle.bus_pageslot.specs.Ears.{Ear, new_ear, loaded, learnt, heard_length, heard_word, length_turn, IsSilent, HasHeard, Begins, Agree}
+use Rattle.bus_pageslot.specs.Ears.{Ear, new_ear, ear_after_load, ear_knowing, heard_length, heard_word, length_turn, IsSilent, HasHeard, Begins, Agree}
 
 -- ---- what one answer adds
 order_so : (items items' : List Item) (a b : Bool) → items ≡ items' → a ≡ b → ◌≡◌ {A = Order} (record { items = items; ended = a }) (record { items = items'; ended = b })
 order_so items items' a b e f = ap (λ z. record { items = z; ended = a }) e ∙ ap (λ z. record { items = items'; ended = z }) f
 
-given_more : (trail : List RecvTurn) (a : RecvTurn) → given (trail ++ a ∷ []) ≡ more_order (given trail) (item_heard a) (end_heard a)
+given_more : (trail : List RecvTurn) (a : RecvTurn) → order_given (trail ++ a ∷ []) ≡ more_order (order_given trail) (item_heard a) (end_heard a)
 given_more trail a = order_so _ _ _ _ (flat_map-append item_heard trail (a ∷ []) ∙ ap (λ z. flat_map item_heard trail ++ z) (append-nil (item_heard a)))
     (list_any-append end_heard trail (a ∷ []) ∙ ap (λ z. list_any end_heard trail || z) (or-false (end_heard a)))
 
@@ -64,13 +64,13 @@ or_true true b e = refl
 or_true false b e = e
 
 -- ---- after the end
-end_given : (trail : List RecvTurn) (j : ℕ) → slice_get trail j ≡ Some turn.End → (given trail).ended ≡ true
+end_given : (trail : List RecvTurn) (j : ℕ) → slice_get trail j ≡ Some turn.End → (order_given trail).ended ≡ true
 end_given [] j e = absurd cc
 end_given (x ∷ trail) zero e = ap (λ z. end_heard z || list_any end_heard trail) (same_Some _ _ e)
 end_given (x ∷ trail) (suc j) e = or_true (end_heard x) (list_any end_heard trail) (end_given trail j e)
 
 -- a trail without the end, and one answer more
-silent_more : (trail : List RecvTurn) (answer : RecvTurn) → (given trail).ended ≡ false → IsSilent (trail ++ answer ∷ [])
+silent_more : (trail : List RecvTurn) (answer : RecvTurn) → (order_given trail).ended ≡ false → IsSilent (trail ++ answer ∷ [])
 silent_more trail answer goes j k a at l here = elim (got_split trail (answer ∷ []) j turn.End at) [
   | inl first ↦ absurd (let z = sym (end_given trail j first) ∙ goes in cc)
   | inr r ↦
@@ -86,17 +86,17 @@ module _ (frames : List Frame) where
   heard_new = record { given_is = refl; heads_are = refl; ended_is = refl; silent = λ j k a at l here. absurd (let bad : None ≡ Some turn.End = at in let wrong : ⊥ = cc in wrong) }
 
   module _ (e : Ear) (h : HasHeard frames e) where
-    pub heard_loaded : HasHeard frames (loaded e)
+    pub heard_loaded : HasHeard frames (ear_after_load e)
     heard_loaded = record { given_is = h.given_is; heads_are = h.heads_are; ended_is = h.ended_is; silent = h.silent }
 
-    pub heard_learnt : (known : List ℕ) → HasHeard frames (learnt e known)
+    pub heard_learnt : (known : List ℕ) → HasHeard frames (ear_knowing e known)
     heard_learnt known = record { given_is = h.given_is; heads_are = h.heads_are; ended_is = h.ended_is; silent = h.silent }
 
     -- an answer that tells nothing
     quiet : (known : List ℕ) (answer : RecvTurn) → e.ended ≡ false → item_heard answer ≡ [] → end_heard answer ≡ false → head_heard answer ≡ [] → HasHeard frames (heard_length e known answer)
     quiet known answer going items ends head =
-        let same : given (e.answers ++ answer ∷ []) ≡ given e.answers =
-        given_more e.answers answer ∙ ap (λ z. more_order (given e.answers) z (end_heard answer)) items ∙ ap (more_order (given e.answers) []) ends ∙ order_so _ _ _ _ (append-nil (given e.answers).items) (or-false (given e.answers).ended) in
+        let same : order_given (e.answers ++ answer ∷ []) ≡ order_given e.answers =
+        given_more e.answers answer ∙ ap (λ z. more_order (order_given e.answers) z (end_heard answer)) items ∙ ap (more_order (order_given e.answers) []) ends ∙ order_so _ _ _ _ (append-nil (order_given e.answers).items) (or-false (order_given e.answers).ended) in
         record {
           given_is = same ∙ h.given_is;
           heads_are = heads_more e.answers answer ∙ ap (λ z. heads e.answers ++ z) head ∙ append-nil (heads e.answers) ∙ h.heads_are;
@@ -117,7 +117,7 @@ module _ (frames : List Frame) where
         let all = log_pieces frames in
         let pieces : take (e.place + 1) all ≡ take e.place all ++ found ∷ [] =
         take_more all e.place found (slice_get_within all e.place found at) ∙ ap (λ z. take e.place all ++ z ∷ []) (get_or_from_slice_get all e.place found found at) in
-        let none : (given e.answers).ended ≡ false = sym h.ended_is ∙ going in
+        let none : (order_given e.answers).ended ≡ false = sym h.ended_is ∙ going in
         let more = given_more e.answers (turn_of found) in
         record {
           given_is = more ∙ ap (λ z. more_order z (item_heard (turn_of found)) (end_heard (turn_of found))) h.given_is ∙ ap (λ z. more_order (order_in (take e.place all)) z (end_heard (turn_of found))) (item_told found)
@@ -141,7 +141,7 @@ past p q xs le none = let size = length-drop p xs in let nothing = ap length non
 
 -- ---- a receiver and the whole order
 module _ (n : ℕ) (frames : List Frame) (lawful : AreFrames n frames) where
-  pub begins_order : (e : Ear) → HasHeard frames e → IsPrefixOfOrder (given e.answers) (order_of frames)
+  pub begins_order : (e : Ear) → HasHeard frames e → IsPrefixOfOrder (order_given e.answers) (order_of frames)
   begins_order e h = subst (λ o. IsPrefixOfOrder o (order_of frames)) (sym h.given_is) (given_is_prefix n frames e.place lawful)
 
   pub begins_owners : (e : Ear) → HasHeard frames e → IsPrefix (heads e.answers) (map tenure_and_owner frames)
@@ -160,7 +160,7 @@ module _ (n : ℕ) (frames : List Frame) (lawful : AreFrames n frames) where
       let q = f.place in
       let rest = drop p (take q all) in
       let front : take q all ≡ take p all ++ rest = sym (ap (λ z. z ++ rest) (sym (take-take p q all le)) ∙ take-append-drop p (take q all)) in
-      let order_is : given f.answers ≡ order_in (take p all ++ rest) = k.given_is ∙ ap order_in front in
+      let order_is : order_given f.answers ≡ order_in (take p all ++ rest) = k.given_is ∙ ap order_in front in
       record {
         order = record {
           later = flat_map piece_items rest;

@@ -14,12 +14,12 @@ use Rattle.bus_deliverylog.specs.Orders.{of_sender}
 use Rattle.bus_deliverylog.specs.Receiving.{Receiving}
 use Rattle.bus_tenure.specs.declared.pages.Page.{Page}
 use Rattle.bus_world.specs.Headline.{Deed, puts, IsPrefix}
-use Rattle.bus_pageslot.specs.Ears.{Ear, learnt, HasHeard, Agree}
+use Rattle.bus_pageslot.specs.Ears.{Ear, ear_knowing, HasHeard, Agree}
 use Rattle.bus_pageslot.specs.declared.rule.View.{View}
 use Rattle.bus_pageslot.specs.declared.rule.View.TheVariants.{Maker, Sender, Tap, Meeting, Telling, Spent}
 use Rattle.bus_pageslot.specs.Processes.{Extent, Process, Automaton, log_below, log_in}
 use Rattle.bus_pageslot.specs.Lawful.{AutomatonLaws}
-use Rattle.bus_pageslot.specs.Rule.{Sat, Seats, IsSeated, KnowsLog, IsTrueOf, IsShown, joined, first_of, second_of, all_knowing, ear_in, with_ear, known_in, capacity_in, IsFirst, IsPair}
+use Rattle.bus_pageslot.specs.Rule.{Sat, Seats, IsSeated, KnowsLog, IsTrueOf, IsShown, views_joined, first_of, second_of, all_knowing, ear_in, with_ear, known_in, capacity_in, IsFirst}
 use Rattle.bus_pageslot.specs.Steps.{Accepts, Meets, Met, Learns, KnowsSent}
 use Rattle.bus_pageslot.specs.Seats.{Spot, spot_of, IsTap}
 use Rattle.bus_pageslot.specs.Tracks.{Track}
@@ -28,6 +28,15 @@ use Rattle.bus_pageslot.proofs.Hearing.{agree}
 use Rattle.bus_pageslot.proofs.ReaderLaws.{fits_learnt}
 use Rattle.bus_pageslot.proofs.Loads.{reloaded, whole, size, fits}
 use Rattle.bus_pageslot.proofs.Reaching.{accepted}
+
+-- two seats that were joined
+abbrev pub IsPair : {C : Type 0} → View C → Type 0
+IsPair (Maker c) = ⊥
+IsPair (Sender c track stored) = ⊥
+IsPair (Tap x e) = ⊥
+IsPair (Meeting x e y f) = Unit {0}
+IsPair (Telling c track stored x e) = Unit {0}
+IsPair Spent = ⊥
 
 module _ {C : Type 0} (P : Process C) (A : Automaton C) where
   -- one view replaced
@@ -47,7 +56,7 @@ module _ {C : Type 0} (P : Process C) (A : Automaton C) where
   }
 
   -- a receiver's seat goes into another
-  pub joins_allowed : (v : View C) → IsFirst v → (y : Extent) (l : Ear) (id other : ℕ) → Joins (IsShown P A) id v other (Tap y l) (joined v (Tap y l)) Spent
+  pub joins_allowed : (v : View C) → IsFirst v → (y : Extent) (l : Ear) (id other : ℕ) → Joins (IsShown P A) id v other (Tap y l) (views_joined v (Tap y l)) Spent
   joins_allowed (Maker c) is y l id other = absurd is
   joins_allowed (Sender c t stored) is y l id other = λ s r at apart there.
       let w : View C = Telling c t stored y l in
@@ -90,7 +99,7 @@ module _ {C : Type 0} (P : Process C) (A : Automaton C) where
   parts_allowed (Telling c t stored y l) is id = λ s r at. let h = r.views id (Telling c t stored y l) at in parted s r id (Telling c t stored y l) (Sender c t stored) at (λ p is. is) h.0 y l h.1
   parts_allowed Spent is id = absurd is
 
-  pub pairs : (v : View C) → IsFirst v → (y : Extent) (l : Ear) → IsPair (joined v (Tap y l))
+  pub pairs : (v : View C) → IsFirst v → (y : Extent) (l : Ear) → IsPair (views_joined v (Tap y l))
   pairs (Maker c) is y l = absurd is
   pairs (Sender c t stored) is y l = tt
   pairs (Tap x k) is y l = tt
@@ -145,19 +154,19 @@ module _ {C : Type 0} (P : Process C) (A : Automaton C) (L : AutomatonLaws P A) 
   meets_allowed (Meeting x k y l) carried is slots id = λ s r count at range.
       let h = r.views id (Meeting x k y l) at in
       let all : List ℕ = log_in A r.state in (
-        Meeting x (learnt k all) y (learnt l all),
+        Meeting x (ear_knowing k all) y (ear_knowing l all),
         keeps,
         tt,
-        reloaded P A s r 0 id (Meeting x k y l) (Meeting x (learnt k all) y (learnt l all)) at (λ p is. is) (whole A r.state x k h.0, whole A r.state y l h.1),
+        reloaded P A s r 0 id (Meeting x k y l) (Meeting x (ear_knowing k all) y (ear_knowing l all)) at (λ p is. is) (whole A r.state x k h.0, whole A r.state y l h.1),
         record { known = all; now = refl; length_is = size P A s r; grows = (h.0.front, h.1.front, fits P A L s r x h.0.extent, fits P A L s r y h.1.extent, both_agree A r.state x y k l h.0 h.1) },
       )
   meets_allowed (Telling c t stored y l) carried is slots id = λ s r count at range.
       let h = r.views id (Telling c t stored y l) at in
       let all : List ℕ = log_in A r.state in (
-        Telling c t stored y (learnt l all),
+        Telling c t stored y (ear_knowing l all),
         keeps,
         tt,
-        reloaded P A s r 0 id (Telling c t stored y l) (Telling c t stored y (learnt l all)) at (λ p is. is) (h.0, whole A r.state y l h.1),
+        reloaded P A s r 0 id (Telling c t stored y l) (Telling c t stored y (ear_knowing l all)) at (λ p is. is) (h.0, whole A r.state y l h.1),
         record { known = all; now = refl; length_is = size P A s r; grows = (h.1.front, fits P A L s r y h.1.extent, knows_sent s r id c t stored h.0) },
       )
   meets_allowed Spent carried is slots id = absurd is
@@ -195,11 +204,11 @@ module _ {C : Type 0} (P : Process C) where
   pub learned : (s : Spot C) (log known got : ℕ) (r : Receiving) (m' : Sat C) (table : TableId) → IsTap s log known r → Learns s.me got m' → table.words ≡ s.table_id.words → IsTap (record { table_id = table; me = m' }) log got r
   learned s log known got r m' table h l wide =
       let t = h.sits in
-      let now : m' ≡ (Tap t.extent (learnt t.ear l.known), []) = l.now ∙ (λ i. (with_ear (t.me i).0 (learnt (ear_in (t.me i).0) l.known), (t.me i).1)) in
+      let now : m' ≡ (Tap t.extent (ear_knowing t.ear l.known), []) = l.now ∙ (λ i. (with_ear (t.me i).0 (ear_knowing (ear_in (t.me i).0) l.known), (t.me i).1)) in
       let grows : IsPrefix t.ear.known l.known = subst (λ (y : Sat C). IsPrefix (known_in y.0) l.known) t.me l.grows in
       let within : length l.known ≤ t.extent.capacity = subst (λ (y : Sat C). length l.known ≤ capacity_in y.0) t.me l.within in
       record {
-        sits = record { extent = t.extent; ear = learnt t.ear l.known; me = now; log_is = t.log_is; within = within; room = t.room; few = t.few; behind = t.behind; wide = wide ∙ t.wide; fit = fits_learnt t.extent.senders t.ear (learnt t.ear l.known) r t.fit refl refl grows };
+        sits = record { extent = t.extent; ear = ear_knowing t.ear l.known; me = now; log_is = t.log_is; within = within; room = t.room; few = t.few; behind = t.behind; wide = wide ∙ t.wide; fit = fits_learnt t.extent.senders t.ear (ear_knowing t.ear l.known) r t.fit refl refl grows };
         known_is = sym l.length_is ∙ ap (λ (y : Sat C). length (known_in y.0)) (sym now);
       }
 

@@ -28,4 +28,4 @@ pub mod PastTenures
 pub mod OnePage
 pub mod Endings
 pub mod Staging
-pub mod ServedShapes
+pub mod RefusedShapes

@@ -12,10 +12,10 @@ use Rattle.bus_batch.specs.Frames.{AreFrames, log_pieces}
 use Rattle.bus_deliverylog.specs.Receiving.{turn_of}
 use Rattle.bus_tenure.specs.declared.pages.Page.{Page}
 use Rattle.bus_world.specs.Headline.{IsPrefix}
-use Rattle.bus_world.specs.Log.{read}
+use Rattle.bus_world.specs.Log.{words_read_from}
 use Rattle.bus_world.proofs.LogLaws.{length-read}
 use Rattle.bus_world.proofs.ReceivingLaws.{length-log_pieces}
-use Rattle.bus_pageslot.specs.Ears.{Ear, loaded, learnt, heard_length, heard_word, length_turn, HasHeard}
+use Rattle.bus_pageslot.specs.Ears.{Ear, ear_after_load, ear_knowing, heard_length, heard_word, length_turn, HasHeard}
 use Rattle.bus_pageslot.specs.declared.rule.View.{View}
 use Rattle.bus_pageslot.specs.declared.rule.View.TheVariants.{Tap}
 use Rattle.bus_pageslot.specs.Processes.{Extent, Process, Automaton, log_in}
@@ -26,14 +26,14 @@ use Rattle.bus_pageslot.specs.Listening.{FindsLength, FindsWord}
 use Rattle.bus_pageslot.proofs.AllSeats.{still_seen}
 use Rattle.bus_pageslot.proofs.Hearing.{heard_loaded, heard_learnt, heard_quiet, heard_good}
 
-index-read : (words : ℕ → ℕ) (at k i : ℕ) → i < k → slice_index (read words at k) i ≡ words (at + i)
+index-read : (words : ℕ → ℕ) (at k i : ℕ) → i < k → slice_index (words_read_from words at k) i ≡ words (at + i)
 index-read words at zero i l = absurd (omega arith)
 index-read words at (suc k) i l = elim (cases_lt i k) [
-  | inl below ↦ get_or_append_left (read words at k) (words (at + k) ∷ []) 0 i (let z = length-read words at k in omega arith) ∙ index-read words at k i below
+  | inl below ↦ get_or_append_left (words_read_from words at k) (words (at + k) ∷ []) 0 i (let z = length-read words at k in omega arith) ∙ index-read words at k i below
   | inr past ↦
       let size = length-read words at k in
-      let e : i ≡ length (read words at k) = omega arith in
-      ap (slice_index (read words at k ++ words (at + k) ∷ [])) e ∙ last (read words at k) (words (at + k)) ∙ ap words (omega arith)
+      let e : i ≡ length (words_read_from words at k) = omega arith in
+      ap (slice_index (words_read_from words at k ++ words (at + k) ∷ [])) e ∙ last (words_read_from words at k) (words (at + k)) ∙ ap words (omega arith)
 ] where
   last : (xs : List ℕ) (w : ℕ) → slice_index (xs ++ w ∷ []) (length xs) ≡ w
   last xs w = grind (arith, common_steps)
@@ -66,8 +66,8 @@ knows_all A z x e e' h all place heard = record {
   heard = heard;
 }
 
-pub whole : {C : Type 0} (A : Automaton C) (z : A.State) (x : Extent) (e : Ear) → KnowsLog A z x e → KnowsLog A z x (learnt e (log_in A z))
-whole A z x e h = knows_all A z x e (learnt e (log_in A z)) h refl refl (heard_learnt h.frames e h.heard (log_in A z))
+pub whole : {C : Type 0} (A : Automaton C) (z : A.State) (x : Extent) (e : Ear) → KnowsLog A z x e → KnowsLog A z x (ear_knowing e (log_in A z))
+whole A z x e h = knows_all A z x e (ear_knowing e (log_in A z)) h refl refl (heard_learnt h.frames e h.heard (log_in A z))
 
 -- the log is as long as the length that is found
 pub size : {C : Type 0} (P : Process C) (A : Automaton C) (s : State (Option Page) (View C)) (r : IsShown P A s) → length (log_in A r.state) ≡ slice_index s.words 0
@@ -87,13 +87,13 @@ module _ {C : Type 0} (P : Process C) (A : Automaton C) (L : AutomatonLaws P A) 
       let here : get_elem? s.views id ≡ some (Tap x e) = at ∙ ap (λ (v : View C). some v) is in
       let h : KnowsLog A r.state x e = r.views id (Tap x e) here in
       let all : List ℕ = log_in A r.state in (
-        Tap x (learnt e all),
+        Tap x (ear_knowing e all),
         keeps,
         tt,
-        reloaded P A s r 0 id (Tap x e) (Tap x (learnt e all)) here (λ p is. is) (whole A r.state x e h),
+        reloaded P A s r 0 id (Tap x e) (Tap x (ear_knowing e all)) here (λ p is. is) (whole A r.state x e h),
         record {
           known = all;
-          now = λ i. (with_ear (sym is i) (learnt (ear_in (sym is i)) all), m.1);
+          now = λ i. (with_ear (sym is i) (ear_knowing (ear_in (sym is i)) all), m.1);
           grows = subst (λ (v : View C). IsPrefix (known_in v) all) (sym is) h.front;
           length_is = size P A s r;
           within = subst (λ (v : View C). length all ≤ capacity_in v) (sym is) (fits s r x h.extent);
@@ -137,12 +137,12 @@ word_allowed {C} P A slots id m x e place is below s r count at range =
     let at_view : get_elem? s.views id ≡ some (Tap x e) = at ∙ ap (λ (v : View C). some v) is in
     let h : KnowsLog A r.state x e = r.views id (Tap x e) at_view in
     let here : x.log + place - x.log ≡ place = omega arith in (
-      Tap x (loaded e),
+      Tap x (ear_after_load e),
       keeps,
       tt,
-      reloaded P A s r (x.log + place) id (Tap x e) (Tap x (loaded e)) at_view (λ p is. is) (record { extent = h.extent; front = h.front; below = h.below; frames = h.frames; lawful = h.lawful; words_are = h.words_are; heard = heard_loaded h.frames e h.heard }),
+      reloaded P A s r (x.log + place) id (Tap x e) (Tap x (ear_after_load e)) at_view (λ p is. is) (record { extent = h.extent; front = h.front; below = h.below; frames = h.frames; lawful = h.lawful; words_are = h.words_are; heard = heard_loaded h.frames e h.heard }),
       record {
-        now = λ i. (with_ear (sym is i) (loaded (ear_in (sym is i))), m.1);
+        now = λ i. (with_ear (sym is i) (ear_after_load (ear_in (sym is i))), m.1);
         got_is = known_word P A s r x e h place below ∙ ap (slice_index e.known) (sym here) ∙ ap (λ (v : View C). slice_index (known_in v) (x.log + place - (extent_in v).log)) (sym is);
       },
     )

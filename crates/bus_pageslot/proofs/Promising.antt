@@ -11,7 +11,7 @@ use Rattle.bus_deliverylog.specs.Orders.{IsPrefixOfOrder}
 use Rattle.bus_deliverylog.specs.declared.receiving.RecvTurn.{RecvTurn}
 use Rattle.bus_deliverylog.specs.declared.receiving.RecvTurn.TheVariants as turn
 use Rattle.bus_tenure.specs.declared.pages.Page.{Page}
-use Rattle.bus_world.specs.Headline.{IsPrefix, given, heads}
+use Rattle.bus_world.specs.Headline.{IsPrefix, order_given, heads}
 use Rattle.bus_pageslot.specs.Ears.{Ear, IsSilent}
 use Rattle.bus_pageslot.specs.declared.rule.View.{View}
 use Rattle.bus_pageslot.specs.declared.rule.View.TheVariants.{Maker, Sender, Tap, Meeting, Telling, Spent}
@@ -43,7 +43,7 @@ module _ {C : Type 0} (P : Process C) (A : Automaton C) (z : A.State) (seat : �
 
 -- a trail that the page has room for
 record IsGood (order : Order) (owners : List (ℕ × SenderNo)) (trail : List RecvTurn) : Type 0 where
-  order_is : IsPrefixOfOrder (given trail) order
+  order_is : IsPrefixOfOrder (order_given trail) order
   owners_are : IsPrefix (heads trail) owners
   silent : IsSilent trail
 
@@ -53,7 +53,7 @@ module _ {C : Type 0} (P : Process C) (A : Automaton C) (z : A.State) (order : O
       let mine : Spells A.extent.senders (log_in A z) (order_of h.frames) (map tenure_and_owner h.frames) = record { frames = h.frames; lawful = h.lawful; words_are = h.words_are; order_is = refl; owners_are = refl } in
       let same = spells_one A.extent.senders (log_in A z) (order_of h.frames) order (map tenure_and_owner h.frames) owners mine s in
       record {
-        order_is = subst (IsPrefixOfOrder (given e.answers)) same.0 (begins_order A.extent.senders h.frames h.lawful e h.heard);
+        order_is = subst (IsPrefixOfOrder (order_given e.answers)) same.0 (begins_order A.extent.senders h.frames h.lawful e h.heard);
         owners_are = subst (IsPrefix (heads e.answers)) same.1 (begins_owners A.extent.senders h.frames h.lawful e h.heard);
         silent = h.heard.silent;
       }

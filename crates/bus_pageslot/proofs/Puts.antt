@@ -13,10 +13,14 @@ use Rattle.bus_pageslot.specs.declared.rule.View.TheVariants.{Sender}
 use Rattle.bus_pageslot.specs.Processes.{Extent, Process}
 use Rattle.bus_pageslot.specs.Lawful.{ProcessLaws, Keeps}
 use Rattle.bus_pageslot.specs.Rule.{Sat, track_in, stored_in}
-use Rattle.bus_pageslot.specs.Steps.{Accepts, carried_of, since_in, deeds_in}
+use Rattle.bus_pageslot.specs.Steps.{Accepts, carried_of, since_in, all_in}
 use Rattle.bus_pageslot.specs.Steps.Accepts.{Message, Close}
 use Rattle.bus_pageslot.specs.Seats.{Shows}
 use Rattle.bus_pageslot.proofs.Accepting.{since_is}
+
+-- the deeds of a sender d with this view
+abbrev pub deeds_in : {C : Type 0} → Process C → View C → C → List Deed
+deeds_in P v d = (all_in P v d).deeds
 
 module _ {C : Type 0} (P : Process C) (L : ProcessLaws P) (d : C) (s : Seat (Option Page) (View C)) (h : Shows P d s) where
   -- all that it did, by what it has accepted

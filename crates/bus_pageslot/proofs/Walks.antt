@@ -12,7 +12,7 @@ use Rattle.bus_pageslot.specs.declared.rule.View.TheVariants.{Sender}
 use Rattle.bus_pageslot.specs.Processes.{Extent, Process, Automaton, IsCounted}
 use Rattle.bus_pageslot.specs.Lawful.{ProcessLaws, AutomatonLaws}
 use Rattle.bus_pageslot.specs.Rule.{Sat, track_in, stored_in, IsShown}
-use Rattle.bus_pageslot.specs.Steps.{EndsBy, laid_from, laid_at, carried_of, out_with, carried_by, slot_in, emptied, since_in, all_in, stored_by, Told, Gone, GoesOn, Due}
+use Rattle.bus_pageslot.specs.Steps.{EndsBy, laid_from, laid_at, carried_of, out_with, carried_by, slot_in, slots_emptied, since_in, all_in, stored_by, Told, Gone, GoesOn, Due}
 use Rattle.bus_pageslot.specs.Steps.Accepts.{Nothing}
 use Rattle.bus_pageslot.specs.Tracks.{with_deeds, with_track}
 use Rattle.bus_pageslot.proofs.Accepting.{since_is}
@@ -38,14 +38,14 @@ swaps false x y = refl
 pub record Ends {C : Type 0} (P : Process C) (s s' : C) (carried : List (ℕ × Option Page)) : Type 0 where
   pub page : P.awaits s ≡ true → (page : Page) × (carried ≡ (0, Some page) ∷ [])
   pub core : laid_at P s (P.awaits s) (slot_in carried) ≡ s'
-  pub slot : emptied (P.awaits s) carried ≡ carried_of (P.holds s')
+  pub slot : slots_emptied (P.awaits s) carried ≡ carried_of (P.holds s')
 
 module _ {C : Type 0} (P : Process C) (d s s' : C) (home : Option Page) where
   ends_plain : (carried : List (ℕ × Option Page)) → s' ≡ s → P.awaits s ≡ false → carried ≡ carried_of (P.holds s') → Ends P s s' carried
   ends_plain carried same none slot = record {
     page = λ awaits. absurd (true≢false (sym awaits ∙ none));
     core = ap (λ b. laid_at P s b (slot_in carried)) none ∙ sym same;
-    slot = ap (λ b. emptied b carried) none ∙ slot;
+    slot = ap (λ b. slots_emptied b carried) none ∙ slot;
   }
 
   ends_by : (move : PageMove) → EndsBy P d s s' home move → ((t : ℕ) → move ≡ Comes t → (page : Page) × (home ≡ Some page)) → Ends P s s' (carried_by move home (out_with move (carried_of (P.holds d))))
@@ -56,7 +56,7 @@ module _ {C : Type 0} (P : Process C) (d s s' : C) (home : Option Page) where
       record {
         page = λ awaits. (page.0, λ i. (0, page.1 i) ∷ none i);
         core = ap (λ b. laid_at P s b home) h.0 ∙ ap (laid_from P s) page.1 ∙ sym (h.2 page.0 page.1).0;
-        slot = ap (λ b. emptied b ((0, home) ∷ carried_of (P.holds d))) h.0 ∙ ap (λ l. (0, None) ∷ l) none ∙ ap carried_of (sym (h.2 page.0 page.1).1);
+        slot = ap (λ b. slots_emptied b ((0, home) ∷ carried_of (P.holds d))) h.0 ∙ ap (λ l. (0, None) ∷ l) none ∙ ap carried_of (sym (h.2 page.0 page.1).1);
       }
   ends_by (Returns t reason page) h taken = ends_plain (rest (carried_of (P.holds d))) h.0 h.1 (ap (λ b. rest (carried_of b)) h.2 ∙ ap carried_of (sym h.3))
 
@@ -74,7 +74,7 @@ module _ {C : Type 0} (P : Process C) (K : ProcessLaws P) (d : C) where
     ended = subst (λ (y : C × List (ℕ × Option Page)). Ends P y.0 (P.after d gone.home got word) y.1) (λ i. (sym fed_is i, sym out_is i))
         (ends_by P d (P.fed d got word) (P.after d gone.home got word) gone.home (P.move d) gone.ends gone.taken)
 
-    module _ (m3 : Sat C) (d3 : C) (laid_is : d3 ≡ laid_at P d2 (P.awaits d2) (slot_in m2.1)) (me_is : m3 ≡ (m2.0, emptied (P.awaits d2) m2.1)) where
+    module _ (m3 : Sat C) (d3 : C) (laid_is : d3 ≡ laid_at P d2 (P.awaits d2) (slot_in m2.1)) (me_is : m3 ≡ (m2.0, slots_emptied (P.awaits d2) m2.1)) where
       pub core_is : d3 ≡ P.after d gone.home got word
       core_is = laid_is ∙ ended.core
 

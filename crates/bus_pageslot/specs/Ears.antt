@@ -5,7 +5,7 @@ use Rattle.bus_batch.specs.Frames.{Frame, log_pieces, order_in, owners_in, is_en
 use Rattle.bus_deliverylog.specs.Orders.{IsPrefixOfOrder}
 use Rattle.bus_deliverylog.specs.declared.receiving.RecvTurn.{RecvTurn}
 use Rattle.bus_deliverylog.specs.declared.receiving.RecvTurn.TheVariants as turn
-use Rattle.bus_world.specs.Headline.{IsPrefix, given, heads}
+use Rattle.bus_world.specs.Headline.{IsPrefix, order_given, heads}
 
 -- The words of the log that it knows; how many of these it has read, and whether the end was among them; what its turns that took a
 -- step have answered, the first first; and how many loads its calls count, one for each.
@@ -21,12 +21,12 @@ new_ear = record { known = []; place = 0; ended = false; answers = []; loads = 0
 
 -- ---- one load
 -- of a word that it knows, out of turn
-abbrev pub loaded : Ear → Ear
-loaded e = record e { loads = e.loads + 1 }
+abbrev pub ear_after_load : Ear → Ear
+ear_after_load e = record e { loads = e.loads + 1 }
 
 -- of the length, out of turn: it knows these words from then on
-abbrev pub learnt : Ear → List ℕ → Ear
-learnt e known = record e { known = known; loads = e.loads + 1 }
+abbrev pub ear_knowing : Ear → List ℕ → Ear
+ear_knowing e known = record e { known = known; loads = e.loads + 1 }
 
 -- of the length, by a turn with this answer
 abbrev pub heard_length : Ear → List ℕ → RecvTurn → Ear
@@ -47,14 +47,14 @@ IsSilent answers = (j k : ℕ) (answer : RecvTurn) → slice_get answers j ≡ S
 
 -- Its turns have answered just what the first words of a log with these frames give, as many as it has read.
 pub record HasHeard (frames : List Frame) (e : Ear) : Type 0 where
-  pub given_is : given e.answers ≡ order_in (take e.place (log_pieces frames))
+  pub given_is : order_given e.answers ≡ order_in (take e.place (log_pieces frames))
   pub heads_are : heads e.answers ≡ owners_in (take e.place (log_pieces frames))
-  pub ended_is : e.ended ≡ (given e.answers).ended
+  pub ended_is : e.ended ≡ (order_given e.answers).ended
   pub silent : IsSilent e.answers
 
 -- what the one was answered begins what the other was answered
 pub record Begins (behind ahead : Ear) : Type 0 where
-  pub order : IsPrefixOfOrder (given behind.answers) (given ahead.answers)
+  pub order : IsPrefixOfOrder (order_given behind.answers) (order_given ahead.answers)
   pub owners : IsPrefix (heads behind.answers) (heads ahead.answers)
 
 -- two receivers agree as far as both have read

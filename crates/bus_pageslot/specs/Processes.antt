@@ -9,7 +9,7 @@ use Rattle.bus_tenure.specs.Situations.{PageMove}
 use Rattle.bus_tenure.specs.declared.pages.Page.{Page}
 use Rattle.bus_tenure.specs.declared.turns.Turn.{Turn}
 use Rattle.bus_world.specs.Headline.{Deed}
-use Rattle.bus_world.specs.Log.{read}
+use Rattle.bus_world.specs.Log.{words_read_from}
 use Rattle.bus_pageslot.specs.Tracks.{Track}
 
 -- how large a bus is: its senders, all its words, where the first word of its log stands, and how many words the log has
@@ -88,7 +88,7 @@ deeds_at A z p = (A.track z p).deeds
 
 -- the words below the length
 abbrev pub log_below : Extent → List ℕ → List ℕ
-log_below x words = read (slice_index words) x.log (slice_index words 0)
+log_below x words = words_read_from (slice_index words) x.log (slice_index words 0)
 
 -- of a state
 abbrev pub log_in : {C : Type 0} → (A : Automaton C) → A.State → List ℕ

@@ -1,5 +1,5 @@
 -- A bus whose rows of words are used again, as threads go by it: its senders as processes, and the bus as an automaton.
-use Rattle.std.specs.Prelude.{◌≡◌, ℕ, ◌+◌, ◌≤◌, Some, None, List, [], ◌∷◌, ◌++◌, slice_get}
+use Rattle.std.specs.Prelude.{◌≡◌, ℕ, ◌+◌, ◌≤◌, Some, None, [], ◌∷◌, ◌++◌, slice_get}
 use Rattle.bus_batch.specs.declared.batches.Phase.TheVariants.{Closing}
 use Rattle.bus_guest.specs.declared.limits.TheConstants.{LEAST_ROWS_AGAIN}
 use Rattle.bus_guest.specs.Guests.{Due, Visits, Sweeps, Goes, log_from, answer_going}

@@ -8,7 +8,7 @@ use Rattle.atomic_table.specs.Table.{State, Me}
 use Rattle.bus_batch.specs.Frames.{Frame, AreFrames, log_words}
 use Rattle.bus_tenure.specs.declared.pages.Page.{Page}
 use Rattle.bus_world.specs.Headline.{IsPrefix}
-use Rattle.bus_pageslot.specs.Ears.{Ear, new_ear, learnt, HasHeard}
+use Rattle.bus_pageslot.specs.Ears.{Ear, new_ear, ear_knowing, HasHeard}
 use Rattle.bus_pageslot.specs.Processes.{Extent, no_extent, Process, Automaton, log_in}
 use Rattle.bus_pageslot.specs.Tracks.{Track, no_track}
 use Rattle.bus_pageslot.specs.declared.rule.View.{View}
@@ -104,23 +104,23 @@ abbrev pub capacity_in : {C : Type 0} → View C → ℕ
 capacity_in v = (extent_in v).capacity
 
 -- two seats joined: of two receivers, or of a sender and a receiver
-abbrev pub joined : {C : Type 0} → View C → View C → View C
-joined (Tap x e) (Tap y f) = Meeting x e y f
-joined (Sender c track stored) (Tap x e) = Telling c track stored x e
-joined (Maker c) w = Spent
-joined (Sender c track stored) (Maker d) = Spent
-joined (Sender c track stored) (Sender d other length) = Spent
-joined (Sender c track stored) (Meeting x e y f) = Spent
-joined (Sender c track stored) (Telling d other length x e) = Spent
-joined (Sender c track stored) Spent = Spent
-joined (Tap x e) (Maker d) = Spent
-joined (Tap x e) (Sender d track stored) = Spent
-joined (Tap x e) (Meeting y f z g) = Spent
-joined (Tap x e) (Telling d track length y f) = Spent
-joined (Tap x e) Spent = Spent
-joined (Meeting x e y f) w = Spent
-joined (Telling c track stored x e) w = Spent
-joined Spent w = Spent
+abbrev pub views_joined : {C : Type 0} → View C → View C → View C
+views_joined (Tap x e) (Tap y f) = Meeting x e y f
+views_joined (Sender c track stored) (Tap x e) = Telling c track stored x e
+views_joined (Maker c) w = Spent
+views_joined (Sender c track stored) (Maker d) = Spent
+views_joined (Sender c track stored) (Sender d other length) = Spent
+views_joined (Sender c track stored) (Meeting x e y f) = Spent
+views_joined (Sender c track stored) (Telling d other length x e) = Spent
+views_joined (Sender c track stored) Spent = Spent
+views_joined (Tap x e) (Maker d) = Spent
+views_joined (Tap x e) (Sender d track stored) = Spent
+views_joined (Tap x e) (Meeting y f z g) = Spent
+views_joined (Tap x e) (Telling d track length y f) = Spent
+views_joined (Tap x e) Spent = Spent
+views_joined (Meeting x e y f) w = Spent
+views_joined (Telling c track stored x e) w = Spent
+views_joined Spent w = Spent
 
 -- a seat that another may go into
 abbrev pub IsFirst : {C : Type 0} → View C → Type 0
@@ -130,14 +130,6 @@ IsFirst (Tap x e) = Unit {0}
 IsFirst (Meeting x e y f) = ⊥
 IsFirst (Telling c track stored x e) = ⊥
 IsFirst Spent = ⊥
-
-abbrev pub IsPair : {C : Type 0} → View C → Type 0
-IsPair (Maker c) = ⊥
-IsPair (Sender c track stored) = ⊥
-IsPair (Tap x e) = ⊥
-IsPair (Meeting x e y f) = Unit {0}
-IsPair (Telling c track stored x e) = Unit {0}
-IsPair Spent = ⊥
 
 -- and cut apart again
 abbrev pub first_of : {C : Type 0} → View C → View C
@@ -160,9 +152,9 @@ second_of Spent = Spent
 abbrev pub all_knowing : {C : Type 0} → View C → List ℕ → View C
 all_knowing (Maker c) known = Maker c
 all_knowing (Sender c track stored) known = Sender c track stored
-all_knowing (Tap x e) known = Tap x (learnt e known)
-all_knowing (Meeting x e y f) known = Meeting x (learnt e known) y (learnt f known)
-all_knowing (Telling c track stored x e) known = Telling c track stored x (learnt e known)
+all_knowing (Tap x e) known = Tap x (ear_knowing e known)
+all_knowing (Meeting x e y f) known = Meeting x (ear_knowing e known) y (ear_knowing f known)
+all_knowing (Telling c track stored x e) known = Telling c track stored x (ear_knowing e known)
 all_knowing Spent known = Spent
 
 -- ---- what the views say of a bus

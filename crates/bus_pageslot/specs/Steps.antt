@@ -13,11 +13,11 @@ use Rattle.bus_tenure.specs.Core.{length_at, is_closing}
 use Rattle.bus_tenure.specs.Situations.{PageMove, Stays, Comes, Returns}
 use Rattle.bus_tenure.specs.declared.pages.Page.{Page}
 use Rattle.bus_world.specs.Headline.{Deed, HasPut, HasClosed, puts, IsPrefix}
-use Rattle.bus_pageslot.specs.Ears.{loaded, learnt, Agree}
+use Rattle.bus_pageslot.specs.Ears.{ear_after_load, ear_knowing, Agree}
 use Rattle.bus_pageslot.specs.declared.rule.View.{View}
 use Rattle.bus_pageslot.specs.declared.rule.View.TheVariants.{Maker, Sender, Tap, Meeting, Telling, Spent}
 use Rattle.bus_pageslot.specs.Processes.{Process, IsCounted}
-use Rattle.bus_pageslot.specs.Rule.{Sat, track_in, stored_in, ear_in, known_in, with_ear, joined, first_of, second_of, all_knowing, extent_in, capacity_in}
+use Rattle.bus_pageslot.specs.Rule.{Sat, track_in, stored_in, ear_in, known_in, with_ear, views_joined, first_of, second_of, all_knowing, extent_in, capacity_in}
 use Rattle.bus_pageslot.specs.Tracks.{Track, with_deeds, with_track}
 
 -- ---- what a sender accepts between its steps
@@ -48,12 +48,9 @@ since_in P (Meeting x e y f) d = []
 since_in P (Telling c track stored x e) d = []
 since_in P Spent d = []
 
--- all that a sender d with this view did, and its deeds among that
+-- all that a sender d with this view did
 abbrev pub all_in : {C : Type 0} → Process C → View C → C → Track
 all_in P v d = with_deeds (track_in v) (since_in P v d)
-
-abbrev pub deeds_in : {C : Type 0} → Process C → View C → C → List Deed
-deeds_in P v d = (all_in P v d).deeds
 
 -- ---- the page in the slot
 -- what is out with the seat of a sender between two turns: the slot, where it holds the page
@@ -85,9 +82,9 @@ slot_in [] = None
 slot_in (out ∷ more) = out.1
 
 -- a sender that awaits its page takes it out of the slot, and has it laid before it
-abbrev pub emptied : Bool → List (ℕ × Option Page) → List (ℕ × Option Page)
-emptied true carried = (0, None) ∷ rest carried
-emptied false carried = carried
+abbrev pub slots_emptied : Bool → List (ℕ × Option Page) → List (ℕ × Option Page)
+slots_emptied true carried = (0, None) ∷ rest carried
+slots_emptied false carried = carried
 
 abbrev pub laid_from : {C : Type 0} → Process C → C → Option Page → C
 laid_from P c None = c
@@ -155,7 +152,7 @@ Due P (Some d) word m words o = IsDue P d word m words o
 -- of the length, out of turn: what it knows of the log grows, up to the length that it found
 pub record Learns {C : Type 0} (m : Sat C) (got : ℕ) (m' : Sat C) : Type 0 where
   pub known : List ℕ
-  pub now : m' ≡ (with_ear m.0 (learnt (ear_in m.0) known), m.1)
+  pub now : m' ≡ (with_ear m.0 (ear_knowing (ear_in m.0) known), m.1)
   pub grows : IsPrefix (known_in m.0) known
   pub length_is : length known ≡ got
   pub within : length known ≤ capacity_in m.0
@@ -188,12 +185,12 @@ pub record Meets {C : Type 0} (P : Process C) (m : Sat C) (got : ℕ) (m' : Sat 
 -- two seats that met, the second a receiver's
 pub record Met {C : Type 0} (P : Process C) (m n : Sat C) (got : ℕ) (m' n' : Sat C) : Type 0 where
   pub known : List ℕ
-  pub first : m' ≡ (first_of (all_knowing (joined m.0 n.0) known), m.1)
-  pub second : n' ≡ (second_of (all_knowing (joined m.0 n.0) known), [])
+  pub first : m' ≡ (first_of (all_knowing (views_joined m.0 n.0) known), m.1)
+  pub second : n' ≡ (second_of (all_knowing (views_joined m.0 n.0) known), [])
   pub length_is : length known ≡ got
-  pub grows : GrowsTo P (joined m.0 n.0) known
+  pub grows : GrowsTo P (views_joined m.0 n.0) known
 
 -- of a word of the log below the length that it knows, out of turn
 pub record Reads {C : Type 0} (m : Sat C) (word got : ℕ) (m' : Sat C) : Type 0 where
-  pub now : m' ≡ (with_ear m.0 (loaded (ear_in m.0)), m.1)
+  pub now : m' ≡ (with_ear m.0 (ear_after_load (ear_in m.0)), m.1)
   pub got_is : got ≡ slice_index (known_in m.0) (word - (extent_in m.0).log)

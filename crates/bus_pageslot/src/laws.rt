@@ -139,9 +139,9 @@ pub fn rows_used_again_are_safe<Q: Ratifier>()
     election_is_lawful::<Q>();
 }
 
-/// Where rows of words are used again, no step of a sender lowers the stage, and none is a deed in a
-/// tenure whose row has gone on to a later one: so who announced itself there, whom its election chose and
-/// who took its page stays as it is. Receivers load.
+/// Where rows of words are used again, no step of a sender lowers the stage, and none is a deed in
+/// a tenure whose row has gone on to a later one: so who announced itself there, whom its election
+/// chose and who took its page stays as it is. Receivers load.
 pub fn past_tenures_are_left<Q: Ratifier>()
     ensures { let X = election_of Q.Ratifier in let P = process_again X in
         let x = cyclic.layout_of Q.protocol in (shape : Shape)

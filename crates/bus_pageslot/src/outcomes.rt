@@ -8,7 +8,7 @@ ghost use Rattle.std.specs.Slots.{slots_items, slots_len, IsFull};
 ghost use Rattle.bus_register.specs.declared.registers.SenderNo.{SenderNo as Number};
 ghost use Rattle.bus_batch.specs.Frames.{Order, Spells};
 ghost use Rattle.bus_deliverylog.specs.Orders.{of_sender};
-ghost use Rattle.bus_world.specs.Log.{read};
+ghost use Rattle.bus_world.specs.Log.{words_read_from};
 ghost use Rattle.bus_pageslot.specs.declared.rule.View.TheVariants.{Tap};
 ghost use Rattle.bus_pageslot.specs.Ears.{Ear};
 ghost use Rattle.bus_pageslot.specs.Endings.{IsLeft};
@@ -150,7 +150,8 @@ fn words_from(
     requires within { first + many ≤ slots_len closed.now.words }
     requires empty { (room.items ≡ []) × (vec_len room ≡ 0) }
     requires roomy { many ≤ vec_capacity room }
-    ensures { result.items ≡ read (slice_index (slots_items closed.now.words)) first many }
+    ensures { result.items
+        ≡ words_read_from (slice_index (slots_items closed.now.words)) first many }
 {
     for place in 0..many {
         room.push_reserved(closed.word((first + place) as usize));

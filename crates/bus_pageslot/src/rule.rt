@@ -197,9 +197,9 @@ pub(crate) struct Meet<S> {
 
 impl<S: Seatable> Join<View<S>> for Meet<S> {
     ghost use Rattle.bus_pageslot.specs.declared.rule.View.TheVariants.{Spent};
-    ghost use Rattle.bus_pageslot.specs.Rule.{joined};
+    ghost use Rattle.bus_pageslot.specs.Rule.{views_joined};
 
-    ghost both = { joined };
+    ghost both = { views_joined };
 
     ghost spent = { Spent };
 }

@@ -33,7 +33,7 @@ pub trait Seatable {
     /// A bus of this shape is served.
     ghost Serves: { Shape → Type 0 };
 
-    /// Why no bus of this shape is made: each cause where it holds and no earlier one.
+    /// Why no bus of this shape is made: at most one fault for each shape.
     ghost Refuses: { Shape → MakeFault → Type 0 };
 
     /// A step of this kind has its cause in what the sender holds.
@@ -142,14 +142,16 @@ pub trait Seatable {
 
     /// What it owes to threads: the parts of a turn are the whole turn; what may happen leads from
     /// state to state; the log is only extended; and the headline's page holds. What an answer
-    /// tells once the page is out of the sender's hands, it tells of the sender before that. A
-    /// shape that is served is refused for want of memory alone.
+    /// tells once the page is out of the sender's hands, it tells of the sender before that. No
+    /// shape is refused for two causes, and for want of memory only one that is served. As that is a
+    /// cause of each that is served (`no_memory`), such a shape is refused with no other fault.
     fn is_lawful()
         ensures process { ProcessLaws process }
         ensures tells { (c : Self) (got word : ℕ) (answer : Turn)
             → AnswerTells (process.handed c) got word answer → AnswerTells c got word answer }
-        ensures refuses { (shape : Shape) (why : MakeFault)
-            → Serves shape → Refuses shape why → why ≡ NoMemory }
+        ensures one_cause { (shape : Shape) (why other : MakeFault)
+            → Refuses shape why → Refuses shape other → why ≡ other }
+        ensures memory { (shape : Shape) → Refuses shape NoMemory → Serves shape }
         ensures automaton { (shape : Shape) → AutomatonLaws process (automaton shape) }
         ensures opens { (shape : Shape) → Serves shape → Opens process (automaton shape) };
 

@@ -3,7 +3,7 @@
 ghost use Rattle.std.specs.Prelude.{◌≡◌, ◌<◌, ◌∷◌, true, [], Some};
 ghost use Rattle.bus_register.specs.Words.{register};
 ghost use Rattle.bus_pageslot.specs.Steps.{laid_at, carried_of, out_with, stored_by};
-ghost use Rattle.bus_pageslot.specs.Steps.{GoesOn, Due, slot_in, emptied};
+ghost use Rattle.bus_pageslot.specs.Steps.{GoesOn, Due, slot_in, slots_emptied};
 ghost use Rattle.bus_pageslot.specs.Seats.{Shows, TookAndTold};
 
 use crate::rule::{Goes, Place, Told, Top};
@@ -56,7 +56,7 @@ fn take_in<S: Seatable + Drop>(top: &Top<S>, seat: &mut Place<S>, core: &mut S)
         ≡ laid_at S.process core.old (S.process.awaits core.old) (slot_in seat.old.me.1) }
     ensures table { (seat.new.table_id ≡ seat.old.table_id) × (seat.new.id ≡ seat.old.id) }
     ensures me { seat.new.me
-        ≡ (seat.old.me.0, emptied (S.process.awaits core.old) seat.old.me.1) }
+        ≡ (seat.old.me.0, slots_emptied (S.process.awaits core.old) seat.old.me.1) }
 {
     if core.awaits_page() {
         let page = top.exchange(seat, 0, None).unwrap();
@@ -79,8 +79,8 @@ pub(crate) fn walk<S: Seatable + Drop, K: Told<S>>(
     requires below { register op < (S.process.extent core.old).words }
     ensures table { (seat.new.table_id ≡ seat.old.table_id) × (seat.new.id ≡ seat.old.id) }
     ensures shows { Shows S.process core.new seat.new }
-    ensures took { TookAndTold S.process S.AnswerTells (record { core = core.old; seat = seat.old }) word
-        result (record {
+    ensures took { TookAndTold S.process S.AnswerTells
+        (record { core = core.old; seat = seat.old }) word result (record {
           core = core.new;
           seat = seat.new;
         }) }

@@ -1,7 +1,7 @@
 //! A receiver's seat, and its loads.
 
 ghost use Rattle.std.specs.Prelude.{◌≡◌, ◌<◌, ◌≤◌, [], length, slice_index};
-ghost use Rattle.bus_pageslot.specs.Ears.{Ear, Agree, loaded};
+ghost use Rattle.bus_pageslot.specs.Ears.{Ear, Agree, ear_after_load};
 ghost use Rattle.bus_pageslot.specs.declared.rule.View.TheVariants as View;
 ghost use Rattle.bus_pageslot.specs.Rule.{ear_in, known_in, with_ear};
 ghost use Rattle.bus_pageslot.specs.Steps.{Learns, KnowsSent};
@@ -123,7 +123,7 @@ impl<S: Seatable + Drop> TapOf<S> {
         requires below { place < length (known_in self.old.me.0) }
         ensures table { self.new.table_id ≡ self.old.table_id }
         ensures loads { self.new.me
-            ≡ (with_ear self.old.me.0 (loaded (ear_in self.old.me.0)), self.old.me.1) }
+            ≡ (with_ear self.old.me.0 (ear_after_load (ear_in self.old.me.0)), self.old.me.1) }
         ensures word { result ≡ slice_index (known_in self.old.me.0) place }
     {
         let mut seat = self.seat.take().unwrap();

@@ -8,7 +8,7 @@ use Rattle.bus_picture.specs.Rows.{Shown, reads, writes}
 use Rattle.bus_picture.specs.Arrows.{IsArrow}
 use Rattle.std.specs.List.{join_with_byte}
 use Rattle.bus_picture.specs.AllLines.{HasAllLines}
-use Rattle.bus_picture.specs.Refusals.{unread, stage, stores, loads, exchanges, at, ArrowsRefuse}
+use Rattle.bus_picture.specs.Refusals.{unread_text, stage, stores, loads, exchanges, at, ArrowsRefuse}
 
 -- the row that an arrow goes to, and the one that it comes from, where they are known
 load_is : (rows : List Shown) (source : Found) (to : ℕ) (row : Shown) → slice_get rows to ≡ Some row → (a : IsArrow rows source to) → row ≡ a.load
@@ -82,6 +82,6 @@ refuses = record {
 its_line : List ℕ
 its_line = join_with_byte 9 (codes "1" ∷ codes "2" ∷ codes "sender 8" ∷ codes "-" ∷ codes "put" ∷ codes "-" ∷ codes "-" ∷ codes "-" ∷ codes "number 0" ∷ [])
 
-pub left_out : ¬ HasAllLines unread
+pub left_out : ¬ HasAllLines unread_text
 unfolding its_line
 left_out h = false≢true (h 1 its_line (lit< tt) refl (1, lit< tt, refl))

@@ -33,18 +33,19 @@ abbrev pub rows_text : Columns → (all : List Shown) → (ℕ → Option Found)
 rows_text c all arrows place [] = []
 rows_text c all arrows place (s ∷ rows) = row_text c all (take place all) (arrows place) place s ++ rows_text c all arrows (place + 1) rows
 
-abbrev pub drawn : (ℕ → Option Found) → List Shown → List ℕ
-drawn arrows rows =
+-- the picture of these rows, with these arrows
+abbrev pub picture_of_rows : (ℕ → Option Found) → List Shown → List ℕ
+picture_of_rows arrows rows =
     opening (columns_from no_columns rows) (length rows) ++ styles
     ++ rows_text (columns_from no_columns rows) rows arrows 0 rows ++ (codes "</svg>" ++ 10 ∷ [])
 
 -- the picture of a trace: of its rows, with their arrows
 abbrev pub picture : List ℕ → List ℕ
-picture trace = drawn (arrows_of (rows_of trace)) (rows_of trace)
+picture trace = picture_of_rows (arrows_of (rows_of trace)) (rows_of trace)
 
 -- the text is a picture of the trace that has just its arrows
 abbrev pub HasItsArrows : (trace text : List ℕ) → Type 0
-HasItsArrows trace text = (arrows : ℕ → Option Found) × AreArrows (rows_of trace) arrows × (text ≡ drawn arrows (rows_of trace))
+HasItsArrows trace text = (arrows : ℕ → Option Found) × AreArrows (rows_of trace) arrows × (text ≡ picture_of_rows arrows (rows_of trace))
 
 -- this part stands somewhere in the text
 abbrev pub StandsIn : (part text : List ℕ) → Type 0

@@ -23,8 +23,8 @@ pub record Shown : Type 0 where
   pub answer : List ℕ
 
 -- as a program holds it
-abbrev pub told : Row → Shown
-told r = record { process = r.process; family = r.family; number = r.number.now; who = r.who.now; tenure = r.tenure.now; kind = r.kind.now; word = r.word.now; found = r.found.now; after = r.after.now; answer = r.answer.now }
+abbrev pub row_shown : Row → Shown
+row_shown r = record { process = r.process; family = r.family; number = r.number.now; who = r.who.now; tenure = r.tenure.now; kind = r.kind.now; word = r.word.now; found = r.found.now; after = r.after.now; answer = r.answer.now }
 
 -- of a process and a family, where these texts name them
 abbrev pub shown_with : Option Process → Option Family → (number who tenure kind word found after answer : List ℕ) → Option Shown

@@ -13,8 +13,8 @@ abbrev pub down_to : ℕ → List ℕ
 down_to y = codes "V" ++ decimal y ++ codes "'/>"
 
 -- what a text says, and its end
-abbrev pub said : List ℕ → List ℕ
-said words = codes ">" ++ words ++ codes "</text>" ++ 10 ∷ []
+abbrev pub text_body : List ℕ → List ℕ
+text_body words = codes ">" ++ words ++ codes "</text>" ++ 10 ∷ []
 
 abbrev pub path_end : List ℕ
 path_end = codes "'/>" ++ 10 ∷ []
@@ -25,22 +25,22 @@ use_of mark = codes "<use href='#" ++ mark ++ codes "'"
 -- ---- shapes
 -- the name of a process, and its line
 abbrev pub head_at : (x bottom : ℕ) (who : List ℕ) → List ℕ
-head_at x bottom who = codes "<path class='life' d='M" ++ point x 92 ++ down_to bottom ++ codes "<text class='head'" ++ at x 84 ++ said who
+head_at x bottom who = codes "<path class='life' d='M" ++ point x 92 ++ down_to bottom ++ codes "<text class='head'" ++ at x 84 ++ text_body who
 
 -- with the number of its tenure
 abbrev pub band_at : (x top bottom : ℕ) (tenure : List ℕ) → List ℕ
-band_at x top bottom tenure = codes "<path class='band' d='M" ++ point x top ++ down_to bottom ++ codes "<text class='tenure' dx='-12' dy='4'" ++ at x top ++ said tenure
+band_at x top bottom tenure = codes "<path class='band' d='M" ++ point x top ++ down_to bottom ++ codes "<text class='tenure' dx='-12' dy='4'" ++ at x top ++ text_body tenure
 
 abbrev pub arrow_at : (from_x from_y x y : ℕ) → List ℕ
 arrow_at from_x from_y x y = codes "<path class='arrow' d='M" ++ point from_x from_y ++ codes "L" ++ point x y ++ path_end
 
 -- with the answer beside it
 abbrev pub mark_at : (x y : ℕ) (mark answer : List ℕ) → List ℕ
-mark_at x y mark answer = use_of mark ++ at x y ++ codes "/><text dx='14' dy='4'" ++ at x y ++ said answer
+mark_at x y mark answer = use_of mark ++ at x y ++ codes "/><text dx='14' dy='4'" ++ at x y ++ text_body answer
 
 -- the number of a row, at the left
 abbrev pub number_at : (y : ℕ) (number : List ℕ) → List ℕ
-number_at y number = codes "<text dy='4'" ++ at 8 y ++ said number
+number_at y number = codes "<text dy='4'" ++ at 8 y ++ text_body number
 
 -- where words begin, and how they end
 abbrev pub words_at : (x y : ℕ) → List ℕ

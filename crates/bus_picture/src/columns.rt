@@ -2,7 +2,7 @@
 
 ghost use Rattle.std.specs.Prelude.{◌≡◌, length, map};
 ghost use Rattle.bus_picture.specs.Places.{wider, columns_from, no_columns, across, edge, down};
-ghost use Rattle.bus_picture.specs.Rows.{told};
+ghost use Rattle.bus_picture.specs.Rows.{row_shown};
 
 use crate::processes::Process;
 use crate::rows::Row;
@@ -45,7 +45,7 @@ fn wider(columns: Columns, process: Process) -> Columns
 
 /// So many columns that each process of the rows has one.
 pub fn columns_of(rows: &[Row<'_>]) -> Columns
-    ensures { result ≡ columns_from no_columns (map told rows.now) }
+    ensures { result ≡ columns_from no_columns (map row_shown rows.now) }
 {
     let mut columns = Columns {
         senders: 0,

@@ -1,7 +1,7 @@
 //! What is drawn of a row.
 
 ghost use Rattle.std.specs.Prelude.{◌≡◌, ◌++◌, ◌<◌, ◌^◌, OnOk, length, map, string_bytes};
-ghost use Rattle.bus_picture.specs.Rows.{told};
+ghost use Rattle.bus_picture.specs.Rows.{row_shown};
 ghost use Rattle.bus_picture.specs.Places.{edge, down};
 ghost use Rattle.bus_picture.specs.Shapes.{number_at, words_at};
 ghost use Rattle.bus_picture.specs.Drawing.{of_another, source_of, place_or, head_text};
@@ -30,7 +30,7 @@ fn of_another(process: Process, found: Option<Found>) -> Option<Found>
 /// load and that store is another process's.
 fn source_of(above: &[Row<'_>], row: &Row<'_>) -> Option<Found>
     requires { length above.now < 2 ^ 32 }
-    ensures { result ≡ source_of (map told above.now) (told row.now) }
+    ensures { result ≡ source_of (map row_shown above.now) (row_shown row.now) }
 {
     if reads(row) {
         of_another(row.process, latest(Wanted::Store(row.word), above))
@@ -62,7 +62,8 @@ fn push_head(
     requires rows { length rows.now < 2 ^ 32 }
     requires above { length above.now < 2 ^ 32 }
     ensures { OnOk result (string_bytes text.new ≡ string_bytes text.old
-        ++ head_text columns (map told rows.now) (map told above.now) place (told row.now)) }
+        ++ head_text columns (map row_shown rows.now) (map row_shown above.now) place
+        (row_shown row.now)) }
 {
     if latest(Wanted::Of(row.process), above).is_some() {
         return Ok(());
@@ -85,7 +86,8 @@ fn push_band(
     requires rows { length rows.now < 2 ^ 32 }
     requires above { length above.now < 2 ^ 32 }
     ensures { OnOk result (string_bytes text.new ≡ string_bytes text.old
-        ++ band_text columns (map told rows.now) (map told above.now) place (told row.now)) }
+        ++ band_text columns (map row_shown rows.now) (map row_shown above.now) place
+        (row_shown row.now)) }
 {
     let tenure = row.tenure;
     if tenure == "-" {
@@ -111,8 +113,8 @@ fn push_arrow(
 ) -> Result<(), AllocError>
     requires { length above.now < 2 ^ 32 }
     ensures { OnOk result (string_bytes text.new ≡ string_bytes text.old
-        ++ arrow_text columns (source_of (map told above.now) (told row.now)) place
-        (told row.now)) }
+        ++ arrow_text columns (source_of (map row_shown above.now) (row_shown row.now)) place
+        (row_shown row.now)) }
 {
     let Some(source) = source_of(above, row) else {
         return Ok(());
@@ -132,7 +134,7 @@ fn push_mark(
     row: &Row<'_>,
 ) -> Result<(), AllocError>
     ensures { OnOk result (string_bytes text.new ≡ string_bytes text.old
-        ++ mark_text columns place (told row.now)) }
+        ++ mark_text columns place (row_shown row.now)) }
 {
     let x = across(columns, row.process);
     let y = down(place);
@@ -159,7 +161,7 @@ fn push_beside(text: &mut String, columns: Columns, place: u32) -> Result<(), Al
 /// and what it left.
 fn push_what(text: &mut String, row: &Row<'_>) -> Result<(), AllocError>
     ensures { OnOk result (string_bytes text.new ≡ string_bytes text.old
-        ++ what_text (told row.now)) }
+        ++ what_text (row_shown row.now)) }
 {
     text.push_str(row.kind)?;
     if writes(row) {
@@ -183,8 +185,8 @@ pub fn push_row(
     requires rows { length rows.now < 2 ^ 32 }
     requires above { length above.now < 2 ^ 32 }
     ensures { OnOk result (string_bytes text.new ≡ string_bytes text.old
-        ++ row_text columns (map told rows.now) (map told above.now)
-        (source_of (map told above.now) (told row.now)) place (told row.now)) }
+        ++ row_text columns (map row_shown rows.now) (map row_shown above.now)
+        (source_of (map row_shown above.now) (row_shown row.now)) place (row_shown row.now)) }
 {
     push_head(text, columns, rows, above, place, row)?;
     push_band(text, columns, rows, above, place, row)?;

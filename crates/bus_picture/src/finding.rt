@@ -2,7 +2,7 @@
 
 ghost use Rattle.std.specs.Prelude.{◌≡◌, ◌<◌, ◌^◌, None, length, map};
 ghost use Rattle.bus_picture.specs.Finding.{is_same, fits, latest};
-ghost use Rattle.bus_picture.specs.Rows.{told};
+ghost use Rattle.bus_picture.specs.Rows.{row_shown};
 
 use crate::processes::Process;
 use crate::rows::{Row, writes};
@@ -37,7 +37,7 @@ pub fn is_same(one: Process, other: Process) -> bool
 }
 
 fn fits(wanted: Wanted<'_>, row: &Row<'_>) -> bool
-    ensures { result ≡ fits wanted.entry (told row.now) }
+    ensures { result ≡ fits wanted.entry (row_shown row.now) }
 {
     match wanted {
         Wanted::Store(word) => writes(row) && row.word == word,
@@ -49,7 +49,7 @@ fn fits(wanted: Wanted<'_>, row: &Row<'_>) -> bool
 /// The last of the rows that are looked for.
 pub fn latest(wanted: Wanted<'_>, rows: &[Row<'_>]) -> Option<Found>
     requires { length rows.now < 2 ^ 32 }
-    ensures { result ≡ latest (fits wanted.entry) 0 None (map told rows.now) }
+    ensures { result ≡ latest (fits wanted.entry) 0 None (map row_shown rows.now) }
 {
     let mut found = None;
     for (place, row) in rows.iter().enumerate() {

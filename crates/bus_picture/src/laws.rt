@@ -6,7 +6,7 @@ ghost use Rattle.bus_register.specs.Names.{kind_name};
 ghost use Rattle.bus_picture.specs.Families.{family_of, family_at};
 ghost use Rattle.bus_picture.specs.Pictures.{HasItsArrows, HasItsRows, picture};
 ghost use Rattle.bus_picture.specs.AllLines.{HasAllLines};
-ghost use Rattle.bus_picture.specs.Refusals.{ArrowsRefuse, unread};
+ghost use Rattle.bus_picture.specs.Refusals.{ArrowsRefuse, unread_text};
 
 /// Each kind of step has the family that `family_at` lists for it.
 pub fn kinds_have_families()
@@ -34,5 +34,5 @@ pub fn arrows_refuse()
 
 /// Not all lines of a trace are read as rows where one is of a sender that no bus has.
 pub fn lines_refuse()
-    ensures { ¬ HasAllLines unread }
+    ensures { ¬ HasAllLines unread_text }
 {}

@@ -23,6 +23,3 @@ pub mod rows;
 pub mod shapes;
 
 pub use pictures::picture_of;
-
-#[cfg(test)]
-mod tests;

@@ -1,9 +1,9 @@
 //! The picture of a trace.
 
 ghost use Rattle.std.specs.Prelude.{◌≡◌, ◌++◌, ◌<◌, ◌^◌, IfOk, OnOk, length, map, string_bytes};
-ghost use Rattle.bus_picture.specs.Rows.{told};
+ghost use Rattle.bus_picture.specs.Rows.{row_shown};
 ghost use Rattle.bus_picture.specs.Drawing.{arrows_of};
-ghost use Rattle.bus_picture.specs.Pictures.{opening, styles, rows_text, drawn, picture};
+ghost use Rattle.bus_picture.specs.Pictures.{opening, styles, rows_text, picture_of_rows, picture};
 
 use crate::columns::{Columns, columns_of, down, edge};
 use crate::drawing::push_row;
@@ -56,8 +56,8 @@ fn push_styles(text: &mut String) -> Result<(), AllocError>
 fn push_rows(text: &mut String, columns: Columns, rows: &[Row<'_>]) -> Result<(), AllocError>
     requires { length rows.now < 2 ^ 32 }
     ensures { OnOk result (string_bytes text.new ≡ string_bytes text.old
-        ++ rows_text columns (map told rows.now) (arrows_of (map told rows.now)) 0
-        (map told rows.now)) }
+        ++ rows_text columns (map row_shown rows.now) (arrows_of (map row_shown rows.now)) 0
+        (map row_shown rows.now)) }
 {
     for (place, row) in rows.iter().enumerate() {
         push_row(text, columns, rows, &rows[..place], place as u32, row)?;
@@ -69,7 +69,7 @@ fn push_rows(text: &mut String, columns: Columns, rows: &[Row<'_>]) -> Result<()
 fn drawn(alloc: Global, rows: &[Row<'_>]) -> Result<String, AllocError>
     requires { length rows.now < 2 ^ 32 }
     ensures { IfOk result (λ text. string_bytes text
-        ≡ drawn (arrows_of (map told rows.now)) (map told rows.now)) }
+        ≡ picture_of_rows (arrows_of (map row_shown rows.now)) (map row_shown rows.now)) }
 {
     let columns = columns_of(rows);
     let mut text = String::new(alloc);

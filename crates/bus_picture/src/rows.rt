@@ -3,7 +3,7 @@
 ghost use Rattle.std.specs.Prelude.{◌≡◌, ◌==◌, IfOk, map};
 ghost use Rattle.std.specs.List.{slice_split};
 ghost use Rattle.std.specs.Option.{option_map};
-ghost use Rattle.bus_picture.specs.Rows.{row_of, told, rows_of, reads, writes};
+ghost use Rattle.bus_picture.specs.Rows.{row_of, row_shown, rows_of, reads, writes};
 
 use crate::families::{Family, family_of};
 use crate::processes::{Process, process_of};
@@ -34,7 +34,7 @@ fn texts_of<'a>(alloc: Global, line: &'a str) -> Result<Vec<&'a str>, AllocError
 
 /// The line of a trace that these texts are, if they show an event.
 fn row_with<'a>(texts: &[&'a str]) -> Option<Row<'a>>
-    ensures { option_map told result ≡ row_of (map (λ t. t.now) texts.now) }
+    ensures { option_map row_shown result ≡ row_of (map (λ t. t.now) texts.now) }
 {
     let [number, _, who, tenure, kind, word, found, after, answer] = texts else {
         return None;
@@ -63,7 +63,7 @@ fn lines_of<'a>(alloc: Global, text: &'a str) -> Result<Vec<&'a str>, AllocError
 
 /// The rows of a trace.
 pub fn rows_of<'a>(alloc: Global, trace: &'a str) -> Result<Vec<Row<'a>>, AllocError>
-    ensures { IfOk result (λ rows. map told rows.items ≡ rows_of trace.entry.now) }
+    ensures { IfOk result (λ rows. map row_shown rows.items ≡ rows_of trace.entry.now) }
 {
     let lines = lines_of(alloc, trace)?;
     let mut rows = Vec::new(alloc);
@@ -78,7 +78,7 @@ pub fn rows_of<'a>(alloc: Global, trace: &'a str) -> Result<Vec<Row<'a>>, AllocE
 
 /// Whether a row is a step that finds a value and leaves it.
 pub fn reads(row: &Row<'_>) -> bool
-    ensures { result ≡ reads (told row.now) }
+    ensures { result ≡ reads (row_shown row.now) }
 {
     match row.family {
         Family::Look => true,
@@ -89,7 +89,7 @@ pub fn reads(row: &Row<'_>) -> bool
 
 /// Whether a row is a step that leaves a value of its own.
 pub fn writes(row: &Row<'_>) -> bool
-    ensures { result ≡ writes (told row.now) }
+    ensures { result ≡ writes (row_shown row.now) }
 {
     match row.family {
         Family::Store | Family::Add | Family::Page => true,

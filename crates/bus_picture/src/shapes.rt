@@ -1,7 +1,7 @@
 //! Shapes at places, in units of the picture from its left and its top.
 
 ghost use Rattle.std.specs.Prelude.{◌≡◌, ◌++◌, OnOk, string_bytes};
-ghost use Rattle.bus_picture.specs.Shapes.{point, at, down_to, said, use_of, head_at, band_at};
+ghost use Rattle.bus_picture.specs.Shapes.{point, at, down_to, text_body, use_of, head_at, band_at};
 ghost use Rattle.bus_picture.specs.Shapes.{arrow_at, mark_at, number_at, words_at, size};
 
 use std::alloc::AllocError;
@@ -29,7 +29,7 @@ fn push_down_to(text: &mut String, y: u64) -> Result<(), AllocError>
 
 /// What a text says, and its end.
 fn push_said(text: &mut String, words: &str) -> Result<(), AllocError>
-    ensures { OnOk result (string_bytes text.new ≡ string_bytes text.old ++ said words.now) }
+    ensures { OnOk result (string_bytes text.new ≡ string_bytes text.old ++ text_body words.now) }
 {
     write!(text, ">{words}</text>\n")
 }

@@ -15,9 +15,9 @@ use Rattle.bus_register.specs.Proved.TableLaws.{put_here, put_beside, push_here,
 use Rattle.bus_presence.specs.declared.visits.Visit.{Visit}
 use Rattle.bus_presence.specs.declared.visits.Visit.TheVariants.{Away, Entering, Looking, Inside, Parting, Barred}
 use Rattle.bus_presence.specs.declared.sweeps.Behind.{Behind}
-use Rattle.bus_presence.specs.Visits.{shown, step_at, visit_fed}
+use Rattle.bus_presence.specs.Visits.{number_shown, step_at, visit_fed}
 use Rattle.bus_presence.specs.Sweeps.{Sweeping, sweep_op, sweep_fed, behind_of}
-use Rattle.bus_presence.specs.Hall.{Sizes, Hall, Entry, Trails, stage_at, presence_at, row_of, tenure_of, new_hall, sweep_after, IsReady, no_trails, grown, found, words_after, Moves, Begins, Visits, Parts, Takes, Sweeps, GivesBack, Stores, IsElsewhere, Reached, New, Then, Works}
+use Rattle.bus_presence.specs.Hall.{Sizes, Hall, Entry, Trails, stage_at, presence_at, row_of, tenure_of, new_hall, sweep_after, IsReady, no_trails, trails_with_entry, number_of_step, words_after, Moves, Begins, Visits, Parts, Takes, Sweeps, GivesBack, Stores, IsElsewhere, Reached, New, Then, Works}
 use Rattle.bus_presence.specs.Standing.{Stands, IsSafe}
 use Rattle.bus_presence.specs.Refused.{SafetyRefuses, shows_it, sees_stage, has_come}
 
@@ -58,7 +58,7 @@ HasStood (Inside u) t = u ≡ t
 HasStood (Parting u) t = u ≡ t
 HasStood (Barred u) t = ⊥
 
-stood_shows : (v : Visit) (t : ℕ) → HasStood v t → shown v ≡ 1 + t
+stood_shows : (v : Visit) (t : ℕ) → HasStood v t → number_shown v ≡ 1 + t
 stood_shows Away t h = absurd h
 stood_shows (Entering u) t h = absurd h
 stood_shows (Looking u) t h = absurd h
@@ -66,8 +66,8 @@ stood_shows (Inside u) t h = ap (λ z. 1 + z) h
 stood_shows (Parting u) t h = ap (λ z. 1 + z) h
 stood_shows (Barred u) t h = absurd h
 
-fed_shows : (t got : ℕ) → shown (visit_fed (Looking t) got) ≡ 1 + t
-fed_shows t got = elim (eqb_tells (got / 2) t) [ inl h ↦ ap (λ z. shown (if z then Inside t else Barred t)) h.0 | inr h ↦ ap (λ z. shown (if z then Inside t else Barred t)) h.0 ]
+fed_shows : (t got : ℕ) → number_shown (visit_fed (Looking t) got) ≡ 1 + t
+fed_shows t got = elim (eqb_tells (got / 2) t) [ inl h ↦ ap (λ z. number_shown (if z then Inside t else Barred t)) h.0 | inr h ↦ ap (λ z. number_shown (if z then Inside t else Barred t)) h.0 ]
 
 fed_same : (t got u : ℕ) → HasStood (visit_fed (Looking t) got) u → (u ≡ t) × (got / 2 ≡ u)
 fed_same t got u = elim (eqb_tells (got / 2) t) [
@@ -144,10 +144,10 @@ module _ (x : Sizes) where
   shows_of p trail t s = record { before = s.before; enters = s.enters; stays = s.stays }
 
   pub record Tells (p : ℕ) (trail : List Entry) (v : Visit) : Type 0 where
-    shows : (place t : ℕ) → Shows p trail place t → shown v ≡ 1 + t
+    shows : (place t : ℕ) → Shows p trail place t → number_shown v ≡ 1 + t
     stood : (t : ℕ) → Stands x p trail t → HasStood v t
     -- and the other way
-    entered : (t : ℕ) → shown v ≡ 1 + t → (place : ℕ) × Shows p trail place t
+    entered : (t : ℕ) → number_shown v ≡ 1 + t → (place : ℕ) × Shows p trail place t
     came : (t : ℕ) → HasStood v t → Stands x p trail t
 
   tells_none : (p : ℕ) → Tells p [] Away
@@ -240,10 +240,10 @@ module _ (x : Sizes) where
     tells_withdrawn = record { shows = λ place u s. absurd (nothing_open place u s); stood = λ u s. nothing_open s.entered u (shows_of p (trail ++ withdrawing p got ∷ []) u s); entered = λ u e. absurd (nothing_shown u e); came = λ u s. absurd s }
 
 -- ---- what each hall keeps
-grown_here : (T : Trails) (p : ℕ) (d : Entry) → grown T p d p ≡ T p ++ d ∷ []
+grown_here : (T : Trails) (p : ℕ) (d : Entry) → trails_with_entry T p d p ≡ T p ++ d ∷ []
 grown_here T p d = elim (eqb_tells p p) [ inl h ↦ ap (λ z. if z then T p ++ d ∷ [] else T p) h.0 | inr h ↦ absurd (h.1 refl) ]
 
-grown_beside : (T : Trails) (p : ℕ) (d : Entry) → Beside p T (grown T p d)
+grown_beside : (T : Trails) (p : ℕ) (d : Entry) → Beside p T (trails_with_entry T p d)
 grown_beside T p d q ne = elim (eqb_tells q p) [ inl h ↦ absurd (ne h.1) | inr h ↦ ap (λ z. if z then T q ++ d ∷ [] else T q) h.0 ]
 
 -- A holder's stage is odd. Of those whose presences have passed nobody stands in the past tenure of the row. No word is cleared before
@@ -263,7 +263,7 @@ pub record IsSweep (x : Sizes) (h : Hall) (s : Sweeping) : Type 0 where
   pub cleared : (place : ℕ) → place < s.cleared → h.words (row_of x (tenure + 1) + place) ≡ 0
 
 pub record Keeps (x : Sizes) (h : Hall) (T : Trails) : Type 0 where
-  pub shows : (p : ℕ) → p < x.senders → h.words (presence_at x p) ≡ shown (h.visits p)
+  pub shows : (p : ℕ) → p < x.senders → h.words (presence_at x p) ≡ number_shown (h.visits p)
   pub tells : (p : ℕ) → Tells x p (T p) (h.visits p)
   pub stood : (p t : ℕ) → HasStood (h.visits p) t → (t ≤ tenure_of x h) × (tenure_of x h < t + x.rows)
   pub below : (p : ℕ) → (h.visits p ≡ Away) ⊎ (p < x.senders)
@@ -282,7 +282,7 @@ keeps_new x = record {
 }
 
 -- one visit has gone on, and words of the rows and the stage are as they were
-module _ (x : Sizes) (two : 2 ≤ x.rows) (h : Hall) (T : Trails) (k : Keeps x h T) (p : ℕ) (v : Visit) (words : ℕ → ℕ) (shows_v : p < x.senders → words (presence_at x p) ≡ shown v) (beside : Beside (presence_at x p) h.words words)
+module _ (x : Sizes) (two : 2 ≤ x.rows) (h : Hall) (T : Trails) (k : Keeps x h T) (p : ℕ) (v : Visit) (words : ℕ → ℕ) (shows_v : p < x.senders → words (presence_at x p) ≡ number_shown v) (beside : Beside (presence_at x p) h.words words)
     (T' : Trails) (tells_v : Tells x p (T' p) v) (others : Beside p T T') (from : (t : ℕ) → HasStood v t → HasStood (h.visits p) t ⊎ (t ≡ tenure_of x h)) (below : p < x.senders) where
   abbrev hall : Hall
   hall = record h { words = words; visits = put p v h.visits }
@@ -311,8 +311,8 @@ module _ (x : Sizes) (two : 2 ≤ x.rows) (h : Hall) (T : Trails) (k : Keeps x h
   keeps_visit : Keeps x hall T'
   keeps_visit = record {
     shows = λ q l. elim (cases_eq q p) [
-      | inl e ↦ subst (λ z. words (presence_at x z) ≡ shown (put p v h.visits z)) (sym e) (shows_v below ∙ sym (ap shown here))
-      | inr ne ↦ beside (presence_at x q) (λ e. ne (omega arith)) ∙ k.shows q l ∙ sym (ap shown (there q ne))
+      | inl e ↦ subst (λ z. words (presence_at x z) ≡ number_shown (put p v h.visits z)) (sym e) (shows_v below ∙ sym (ap number_shown here))
+      | inr ne ↦ beside (presence_at x q) (λ e. ne (omega arith)) ∙ k.shows q l ∙ sym (ap number_shown (there q ne))
     ];
     tells = λ q. elim (cases_eq q p) [
       | inl e ↦ subst (λ z. Tells x z (T' z) (put p v h.visits z)) (sym e) (subst (Tells x p (T' p)) (sym here) tells_v)
@@ -362,43 +362,43 @@ module _ (x : Sizes) (two : 2 ≤ x.rows) (h : Hall) (T : Trails) (k : Keeps x h
 
   keeps_begun : (p t : ℕ) → p < x.senders → h.visits p ≡ Away → Keeps x (record h { visits = put p (Entering t) h.visits }) T
   keeps_begun p t below at =
-      keeps_visit x two h T k p (Entering t) h.words (λ l. k.shows p l ∙ ap shown at) (λ q ne. refl) T (tells_begun x p (T p) t (subst (Tells x p (T p)) at (k.tells p))) (λ q ne. refl) (λ u s. absurd s) below
+      keeps_visit x two h T k p (Entering t) h.words (λ l. k.shows p l ∙ ap number_shown at) (λ q ne. refl) T (tells_begun x p (T p) t (subst (Tells x p (T p)) at (k.tells p))) (λ q ne. refl) (λ u s. absurd s) below
 
   keeps_parted : (p t : ℕ) → h.visits p ≡ Inside t → Keeps x (record h { visits = put p (Parting t) h.visits }) T
   keeps_parted p t at =
-      keeps_visit x two h T k p (Parting t) h.words (λ l. k.shows p l ∙ ap shown at) (λ q ne. refl) T (tells_parted x p (T p) t (subst (Tells x p (T p)) at (k.tells p))) (λ q ne. refl)
+      keeps_visit x two h T k p (Parting t) h.words (λ l. k.shows p l ∙ ap number_shown at) (λ q ne. refl) T (tells_parted x p (T p) t (subst (Tells x p (T p)) at (k.tells p))) (λ q ne. refl)
       (λ u s. inl (subst (λ z. HasStood z u) (sym at) s)) (stander p t (subst (λ z. HasStood z t) (sym at) refl))
 
   -- the hall after a visit's step, where the visit was this one
   abbrev visited : ℕ → Visit → Op → Hall
-  visited p v o = record h { words = words_after h o; visits = put p (visit_fed v (found h o)) h.visits }
+  visited p v o = record h { words = words_after h o; visits = put p (visit_fed v (number_of_step h o)) h.visits }
 
   abbrev told : ℕ → Op → Trails
-  told p o = grown T p record { op = o; got = found h o }
+  told p o = trails_with_entry T p record { op = o; got = number_of_step h o }
 
-  keeps_told : (p : ℕ) (v : Visit) (o : Op) → (h.visits p ≡ Away → ⊥) → (p < x.senders → words_after h o (presence_at x p) ≡ shown (visit_fed v (found h o))) → Beside (presence_at x p) h.words (words_after h o)
-      → Tells x p (T p ++ record { op = o; got = found h o } ∷ []) (visit_fed v (found h o)) → ((t : ℕ) → HasStood (visit_fed v (found h o)) t → HasStood (h.visits p) t ⊎ (t ≡ tenure_of x h)) → Keeps x (visited p v o) (told p o)
+  keeps_told : (p : ℕ) (v : Visit) (o : Op) → (h.visits p ≡ Away → ⊥) → (p < x.senders → words_after h o (presence_at x p) ≡ number_shown (visit_fed v (number_of_step h o))) → Beside (presence_at x p) h.words (words_after h o)
+      → Tells x p (T p ++ record { op = o; got = number_of_step h o } ∷ []) (visit_fed v (number_of_step h o)) → ((t : ℕ) → HasStood (visit_fed v (number_of_step h o)) t → HasStood (h.visits p) t ⊎ (t ≡ tenure_of x h)) → Keeps x (visited p v o) (told p o)
   keeps_told p v o there shows_v beside tells from =
-      keeps_visit x two h T k p (visit_fed v (found h o)) (words_after h o) shows_v beside (told p o) (subst (λ z. Tells x p z (visit_fed v (found h o))) (sym (grown_here T p record { op = o; got = found h o })) tells)
-      (grown_beside T p record { op = o; got = found h o }) from (visitor p there)
+      keeps_visit x two h T k p (visit_fed v (number_of_step h o)) (words_after h o) shows_v beside (told p o) (subst (λ z. Tells x p z (visit_fed v (number_of_step h o))) (sym (grown_here T p record { op = o; got = number_of_step h o })) tells)
+      (grown_beside T p record { op = o; got = number_of_step h o }) from (visitor p there)
 
   -- its presence is cleared
   keeps_away : (p : ℕ) (v : Visit) → (h.visits p ≡ Away → ⊥) → ((got : ℕ) → visit_fed v got ≡ Away) → Keeps x (visited p v (Store record { 0 = presence_at x p } 0)) (told p (Store record { 0 = presence_at x p } 0))
   keeps_away p v there leaves = let o : Op = Store record { 0 = presence_at x p } 0 in
-      keeps_told p v o there (λ l. put_here (presence_at x p) 0 h.words ∙ sym (ap shown (leaves (found h o)))) (put_beside (presence_at x p) 0 h.words)
-      (subst (Tells x p (T p ++ record { op = o; got = found h o } ∷ [])) (sym (leaves (found h o))) (tells_withdrawn x p (T p) (found h o))) (λ u s. absurd (subst (λ z. HasStood z u) (leaves (found h o)) s))
+      keeps_told p v o there (λ l. put_here (presence_at x p) 0 h.words ∙ sym (ap number_shown (leaves (number_of_step h o)))) (put_beside (presence_at x p) 0 h.words)
+      (subst (Tells x p (T p ++ record { op = o; got = number_of_step h o } ∷ [])) (sym (leaves (number_of_step h o))) (tells_withdrawn x p (T p) (number_of_step h o))) (λ u s. absurd (subst (λ z. HasStood z u) (leaves (number_of_step h o)) s))
 
   keeps_visited : (p : ℕ) (v : Visit) (o : Op) → h.visits p ≡ v → step_at v (presence_at x p) (stage_at x) ≡ Some o → Keeps x (visited p v o) (told p o)
   keeps_visited p Away o at is = absurd (none_is_not o is)
   keeps_visited p (Entering t) o at is = subst (λ z. Keeps x (visited p (Entering t) z) (told p z)) (same_Some _ _ is)
       (let e : Op = Store record { 0 = presence_at x p } (1 + t) in
-      keeps_told p (Entering t) e (λ a. not_away (sym at ∙ a)) (λ l. put_here (presence_at x p) (1 + t) h.words) (put_beside (presence_at x p) (1 + t) h.words) (tells_entered x p (T p) t (found h e) (subst (Tells x p (T p)) at (k.tells p))) (λ u s. absurd s))
+      keeps_told p (Entering t) e (λ a. not_away (sym at ∙ a)) (λ l. put_here (presence_at x p) (1 + t) h.words) (put_beside (presence_at x p) (1 + t) h.words) (tells_entered x p (T p) t (number_of_step h e) (subst (Tells x p (T p)) at (k.tells p))) (λ u s. absurd s))
     where
       not_away : Entering t ≡ Away → ⊥
       not_away e = cc
   keeps_visited p (Looking t) o at is = subst (λ z. Keeps x (visited p (Looking t) z) (told p z)) (same_Some _ _ is)
       (let e : Op = Load record { 0 = (stage_at x) } in let same = put_same (stage_at x) h.words in
-      keeps_told p (Looking t) e (λ a. not_away (sym at ∙ a)) (λ l. ap (λ z. z (presence_at x p)) same ∙ k.shows p l ∙ ap shown at ∙ sym (fed_shows t (h.words (stage_at x)))) (λ q ne. ap (λ z. z q) same)
+      keeps_told p (Looking t) e (λ a. not_away (sym at ∙ a)) (λ l. ap (λ z. z (presence_at x p)) same ∙ k.shows p l ∙ ap number_shown at ∙ sym (fed_shows t (h.words (stage_at x)))) (λ q ne. ap (λ z. z q) same)
       (tells_looked x p (T p) t (h.words (stage_at x)) (subst (Tells x p (T p)) at (k.tells p))) (λ u s. inr (fed_stood t (h.words (stage_at x)) u s)))
     where
       not_away : Looking t ≡ Away → ⊥
@@ -626,11 +626,11 @@ sweep_does s o = elim (lt_tells s.asked s.senders) [
 ]
 
 module _ (x : Sizes) (two : 2 ≤ x.rows) where
-  keeps_swept : (h : Hall) (T : Trails) (k : Keeps x h T) (s : Sweeping) (o : Op) → h.sweep ≡ Some s → sweep_op s ≡ Some o → Keeps x (record h { words = words_after h o; sweep = Some (sweep_fed s (found h o)) }) T
+  keeps_swept : (h : Hall) (T : Trails) (k : Keeps x h T) (s : Sweeping) (o : Op) → h.sweep ≡ Some s → sweep_op s ≡ Some o → Keeps x (record h { words = words_after h o; sweep = Some (sweep_fed s (number_of_step h o)) }) T
   keeps_swept h T k s o is due = elim (sweep_does s o due) [
-    | inl a ↦ subst (λ z. Keeps x (record h { words = words_after h z; sweep = Some (sweep_fed s (found h z)) }) T) (sym a.loads)
+    | inl a ↦ subst (λ z. Keeps x (record h { words = words_after h z; sweep = Some (sweep_fed s (number_of_step h z)) }) T) (sym a.loads)
         (subst (λ z. Keeps x (record h { words = z; sweep = Some (sweep_fed s (h.words (s.presences + s.asked))) }) T) (sym (put_same (s.presences + s.asked) h.words)) (asked a))
-    | inr c ↦ subst (λ z. Keeps x (record h { words = words_after h z; sweep = Some (sweep_fed s (found h z)) }) T) (sym c.stores)
+    | inr c ↦ subst (λ z. Keeps x (record h { words = words_after h z; sweep = Some (sweep_fed s (number_of_step h z)) }) T) (sym c.stores)
         (subst (λ z. Keeps x (record h { words = put (s.row + s.cleared) 0 h.words; sweep = Some z }) T) (sym (c.fed (h.words (s.row + s.cleared)))) (keeps_wiped x two h T k s (k.sweeps s is) c.all c.less))
   ]
     where
@@ -714,16 +714,16 @@ module _ (x : Sizes) (two : 2 ≤ x.rows) (h : Hall) (T : Trails) (k : Keeps x h
       stores_is : Store record { 0 = r } number ≡ Store record { 0 = s.row + s.cleared } 0 → (r ≡ s.row + s.cleared) × (number ≡ 0)
       stores_is e = (ap register e, cc)
 
-  waits : (s : Sweeping) (o : Op) (b : Behind) (is : h.sweep ≡ Some s) → sweep_op s ≡ Some o → behind_of s (found h o) ≡ Some b
-      → (o ≡ Load record { 0 = presence_at x b.sender }) × (b.sender < x.senders) × (found h o ≡ 1 + b.tenure) × (b.tenure + x.rows ≡ tenure_of x h + 1)
-  waits s o b is due = let got = found h o in let w = k.sweeps s is in elim (sweep_does s o due) [
+  waits : (s : Sweeping) (o : Op) (b : Behind) (is : h.sweep ≡ Some s) → sweep_op s ≡ Some o → behind_of s (number_of_step h o) ≡ Some b
+      → (o ≡ Load record { 0 = presence_at x b.sender }) × (b.sender < x.senders) × (number_of_step h o ≡ 1 + b.tenure) × (b.tenure + x.rows ≡ tenure_of x h + 1)
+  waits s o b is due = let got = number_of_step h o in let w = k.sweeps s is in elim (sweep_does s o due) [
     | inr c ↦ λ e. absurd (none_is_not b (sym (passes_by c got) ∙ e))
     | inl a ↦ elim (eqb_tells got (1 + s.past)) [
       | inr ne ↦ λ e. absurd (none_is_not b (sym (a.behind got ∙ ap (λ z. if z then Some record { tenure = s.past; sender = s.asked } else None) ne.0) ∙ e))
       | inl q ↦ λ e. let named = same_Some _ _ (sym (a.behind got ∙ ap (λ z. if z then Some record { tenure = s.past; sender = s.asked } else None) q.0) ∙ e) in
           let n = w.senders in let past = w.past in let used = w.used in let now = held_tenure s is in let few = a.few in let at = w.presences in
           let place : s.presences + s.asked ≡ presence_at x s.asked = omega arith in
-          subst (λ (z : Behind). (o ≡ Load record { 0 = presence_at x z.sender }) × (z.sender < x.senders) × (found h o ≡ 1 + z.tenure) × (z.tenure + x.rows ≡ tenure_of x h + 1)) named
+          subst (λ (z : Behind). (o ≡ Load record { 0 = presence_at x z.sender }) × (z.sender < x.senders) × (number_of_step h o ≡ 1 + z.tenure) × (z.tenure + x.rows ≡ tenure_of x h + 1)) named
           (a.loads ∙ ap (λ z. Load record { 0 = z }) place, omega arith, q.1, omega arith)
     ]
   ]

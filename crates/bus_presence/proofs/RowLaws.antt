@@ -13,7 +13,7 @@ use Rattle.bus_presence.specs.declared.visits.Visit.{Visit}
 use Rattle.bus_presence.specs.declared.visits.Visit.TheVariants.{Away, Entering, Looking, Inside, Parting, Barred}
 use Rattle.bus_presence.specs.Visits.{step_at, visit_fed}
 use Rattle.bus_presence.specs.Sweeps.{Sweeping, sweep_op, sweep_fed}
-use Rattle.bus_presence.specs.Hall.{Sizes, Hall, Trails, stage_at, presence_at, row_of, tenure_of, new_hall, no_trails, found, words_after, sweep_after, Moves, Begins, Visits, Parts, Takes, Sweeps, GivesBack, Stores, Reached}
+use Rattle.bus_presence.specs.Hall.{Sizes, Hall, Trails, stage_at, presence_at, row_of, tenure_of, new_hall, no_trails, number_of_step, words_after, sweep_after, Moves, Begins, Visits, Parts, Takes, Sweeps, GivesBack, Stores, Reached}
 use Rattle.bus_presence.specs.Rows.{Locals, no_locals, with_local, Played, New, Moved, Starts, Steps, AreApart}
 use Rattle.bus_presence.proofs.HallLaws.{HasStood, IsSweep, Keeps, keeps_new, moves_keep, keeps_worked, stander, one_of_row, rows_apart, visitor, no_stage, no_row, put_same, none_is_not, sweep_does, Asks, keeps, safe}
 
@@ -112,16 +112,16 @@ module _ {S I O : Type 0} (op : S → ℕ → Option Op) (fed : S → ℕ → �
     all_beside : (h' : Hall) (T' : Trails) → Keeps x h' T' → h'.words (stage_at x) ≡ h.words (stage_at x) → h'.sweep ≡ h.sweep → ((t place : ℕ) → place < x.width → h'.words (row_of x t + place) ≡ h.words (row_of x t + place)) → KeepsAll h' T' L
     all_beside h' T' hall stage sweep rows = all_on h' T' hall (λ t. alive_same x h h' t stage sweep) (λ t live place low. rows t place low) (let e = ap (λ z. z / 2) stage in omega arith)
 
-    visits_on : (p : ℕ) (v : Visit) (o : Op) (T' : Trails) → p < x.senders → h.visits p ≡ v → step_at v (presence_at x p) (stage_at x) ≡ Some o → Keeps x (record h { words = words_after h o; visits = put p (visit_fed v (found h o)) h.visits }) T'
-        → KeepsAll (record h { words = words_after h o; visits = put p (visit_fed v (found h o)) h.visits }) T' L
+    visits_on : (p : ℕ) (v : Visit) (o : Op) (T' : Trails) → p < x.senders → h.visits p ≡ v → step_at v (presence_at x p) (stage_at x) ≡ Some o → Keeps x (record h { words = words_after h o; visits = put p (visit_fed v (number_of_step h o)) h.visits }) T'
+        → KeepsAll (record h { words = words_after h o; visits = put p (visit_fed v (number_of_step h o)) h.visits }) T' L
     visits_on p v o T' below at due hall = let place = visit_place x v p o due in
-        all_beside (record h { words = words_after h o; visits = put p (visit_fed v (found h o)) h.visits }) T' hall
+        all_beside (record h { words = words_after h o; visits = put p (visit_fed v (number_of_step h o)) h.visits }) T' hall
         (elim place [
-          | inl e ↦ put_beside (register o) (after o (found h o)) h.words (stage_at x) (λ z. omega arith)
+          | inl e ↦ put_beside (register o) (after o (number_of_step h o)) h.words (stage_at x) (λ z. omega arith)
           | inr load ↦ ap (λ z. z (stage_at x)) (load_same h o load)
         ]) refl
         (λ t j low. elim place [
-          | inl e ↦ put_beside (register o) (after o (found h o)) h.words (row_of x t + j) (λ z. omega arith)
+          | inl e ↦ put_beside (register o) (after o (number_of_step h o)) h.words (row_of x t + j) (λ z. omega arith)
           | inr load ↦ ap (λ z. z (row_of x t + j)) (load_same h o load)
         ])
 
@@ -158,9 +158,9 @@ module _ {S I O : Type 0} (op : S → ℕ → Option Op) (fed : S → ℕ → �
       }
 
     -- a sweep asks: where all have passed now, more rows have gone on
-    asked_on : (s : Sweeping) (o : Op) (T' : Trails) → h.sweep ≡ Some s → Asks s o → Keeps x (record h { words = words_after h o; sweep = Some (sweep_fed s (found h o)) }) T' → KeepsAll (record h { words = words_after h o; sweep = Some (sweep_fed s (found h o)) }) T' L
+    asked_on : (s : Sweeping) (o : Op) (T' : Trails) → h.sweep ≡ Some s → Asks s o → Keeps x (record h { words = words_after h o; sweep = Some (sweep_fed s (number_of_step h o)) }) T' → KeepsAll (record h { words = words_after h o; sweep = Some (sweep_fed s (number_of_step h o)) }) T' L
     asked_on s o T' is a hall = let same = load_same h o (s.presences + s.asked, a.loads) in
-        all_on (record h { words = words_after h o; sweep = Some (sweep_fed s (found h o)) }) T' hall
+        all_on (record h { words = words_after h o; sweep = Some (sweep_fed s (number_of_step h o)) }) T' hall
         (λ u live. let e = ap (λ z. z (stage_at x)) same in let b = live.opened in let c = live.stays in record {
           opened = omega arith;
           stays = omega arith;
@@ -192,10 +192,10 @@ module _ {S I O : Type 0} (op : S → ℕ → Option Op) (fed : S → ℕ → �
           let l = later u live in let held = w.held in let b = live.opened in let r = w.row in let width = w.width in
           rows_apart x u (w.tenure + 1) place s.cleared (λ one. let eq = one_of_row x.rows u (w.tenure + 1) (omega arith) (omega arith) one in omega arith) low (omega arith) (e ∙ ap (λ z. z + s.cleared) r))) (omega arith)
 
-    swept_on : (s : Sweeping) (o : Op) (T' : Trails) → h.sweep ≡ Some s → sweep_op s ≡ Some o → Keeps x (record h { words = words_after h o; sweep = Some (sweep_fed s (found h o)) }) T' → KeepsAll (record h { words = words_after h o; sweep = Some (sweep_fed s (found h o)) }) T' L
+    swept_on : (s : Sweeping) (o : Op) (T' : Trails) → h.sweep ≡ Some s → sweep_op s ≡ Some o → Keeps x (record h { words = words_after h o; sweep = Some (sweep_fed s (number_of_step h o)) }) T' → KeepsAll (record h { words = words_after h o; sweep = Some (sweep_fed s (number_of_step h o)) }) T' L
     swept_on s o T' is due = elim (sweep_does s o due) [
       | inl a ↦ asked_on s o T' is a
-      | inr c ↦ subst (λ z. Keeps x (record h { words = words_after h z; sweep = Some (sweep_fed s (found h z)) }) T' → KeepsAll (record h { words = words_after h z; sweep = Some (sweep_fed s (found h z)) }) T' L) (sym c.stores)
+      | inr c ↦ subst (λ z. Keeps x (record h { words = words_after h z; sweep = Some (sweep_fed s (number_of_step h z)) }) T' → KeepsAll (record h { words = words_after h z; sweep = Some (sweep_fed s (number_of_step h z)) }) T' L) (sym c.stores)
           (subst (λ z. Keeps x (record h { words = put (s.row + s.cleared) 0 h.words; sweep = Some z }) T' → KeepsAll (record h { words = put (s.row + s.cleared) 0 h.words; sweep = Some z }) T' L) (sym (c.fed (h.words (s.row + s.cleared)))) (wiped_on s is c.all c.less T'))
     ]
 
@@ -254,16 +254,16 @@ module _ {S I O : Type 0} (op : S → ℕ → Option Op) (fed : S → ℕ → �
       stepped = record h { words = words_after h o }
 
       abbrev next : S
-      next = fed s (found h o) word
+      next = fed s (number_of_step h o) word
 
       beside_word : Beside (register o) h.words stepped.words
-      beside_word = put_beside (register o) (after o (found h o)) h.words
+      beside_word = put_beside (register o) (after o (number_of_step h o)) h.words
 
       place : row_of x t + (register o - row_of x t) ≡ register o
       place = let l = within.0 in omega arith
 
       hall_on : Keeps x stepped T
-      hall_on = let high = within.1 in subst (λ z. Keeps x (record h { words = put z (after o (found h o)) h.words }) T) place (keeps_worked x two h T k.hall p t (register o - row_of x t) (after o (found h o)) at (omega (arith, place)))
+      hall_on = let high = within.1 in subst (λ z. Keeps x (record h { words = put z (after o (number_of_step h o)) h.words }) T) place (keeps_worked x two h T k.hall p t (register o - row_of x t) (after o (number_of_step h o)) at (omega (arith, place)))
 
       same_stage : stepped.words (stage_at x) ≡ h.words (stage_at x)
       same_stage = let l = within.0 in beside_word (stage_at x) (λ e. omega arith)
@@ -279,7 +279,7 @@ module _ {S I O : Type 0} (op : S → ℕ → Option Op) (fed : S → ℕ → �
           | inl e ↦ subst (IsKept stepped (with_local L t p next)) (sym e) (record {
             words = stepped.words;
             law = subst (P.Keeps x.senders (row_of x t) stepped.words) (sym (here next)) (laws.moves x.senders (row_of x t) h.words stepped.words (L t) (put p (Some next) (L t)) p s word o law has due (put_here p (Some next) (L t)) (put_beside p (Some next) (L t))
-                record { here = put_here (register o) (after o (found h o)) h.words; elsewhere = λ r a b ne. beside_word r ne });
+                record { here = put_here (register o) (after o (number_of_step h o)) h.words; elsewhere = λ r a b ne. beside_word r ne });
             stand = λ live j low. refl;
           })
           | inr ne ↦ let alive_before = alive_same x h stepped u same_stage refl in subst (λ z. IsKept stepped z u) refl (let old = kept_on h stepped L u alive_before (λ live j low. same_row u ne (alive_before live) j low) (k.kept u) in
@@ -308,7 +308,7 @@ module _ (x : Sizes) (two : 2 ≤ x.rows) where
   moves_rise h h' T T' k (Begins g U p t below at) = omega arith
   moves_rise h h' T T' k (Visits g U p o due) = let below = visitor x two g U k p (λ a. none_is_not o (subst (λ z. step_at z (presence_at x p) (stage_at x) ≡ Some o) a due)) in
       let same : words_after g o (stage_at x) ≡ g.words (stage_at x) = elim (visit_place x (g.visits p) p o due) [
-        | inl e ↦ put_beside (register o) (after o (found g o)) g.words (stage_at x) (λ z. omega arith)
+        | inl e ↦ put_beside (register o) (after o (number_of_step g o)) g.words (stage_at x) (λ z. omega arith)
         | inr load ↦ ap (λ z. z (stage_at x)) (load_same g o load)
       ] in
       omega (arith, ap (λ z. z / 2) same)
@@ -317,7 +317,7 @@ module _ (x : Sizes) (two : 2 ≤ x.rows) where
   moves_rise h h' T T' k (Sweeps g U s o is due) =
       let same : words_after g o (stage_at x) ≡ g.words (stage_at x) = elim (sweep_does s o due) [
         | inl a ↦ ap (λ z. z (stage_at x)) (load_same g o (s.presences + s.asked, a.loads))
-        | inr c ↦ put_beside (register o) (after o (found g o)) g.words (stage_at x) (λ z. let r = (k.sweeps s is).row in let at : register o ≡ s.row + s.cleared = ap register c.stores in omega arith)
+        | inr c ↦ put_beside (register o) (after o (number_of_step g o)) g.words (stage_at x) (λ z. let r = (k.sweeps s is).row in let at : register o ≡ s.row + s.cleared = ap register c.stores in omega arith)
       ] in
       omega (arith, ap (λ z. z / 2) same)
   moves_rise h h' T T' k (GivesBack g U t held ready) = omega (arith, put_here (stage_at x) (2 * t + 2) g.words)

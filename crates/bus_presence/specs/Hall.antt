@@ -73,15 +73,15 @@ Trails = ℕ → List Entry
 abbrev pub no_trails : Trails
 no_trails p = []
 
-abbrev pub grown : Trails → ℕ → Entry → Trails
-grown T p e = λ q. if q == p then T q ++ e ∷ [] else T q
+abbrev pub trails_with_entry : Trails → ℕ → Entry → Trails
+trails_with_entry T p e = λ q. if q == p then T q ++ e ∷ [] else T q
 
 -- ---- what may happen next
-abbrev pub found : Hall → Op → ℕ
-found h o = h.words (register o)
+abbrev pub number_of_step : Hall → Op → ℕ
+number_of_step h o = h.words (register o)
 
 abbrev pub words_after : Hall → Op → ℕ → ℕ
-words_after h o = put (register o) (after o (found h o)) h.words
+words_after h o = put (register o) (after o (number_of_step h o)) h.words
 
 -- One move, with the trails before and after it. It stores in no row but what a sweep clears.
 pub data Moves (x : Sizes) : Hall → Trails → Hall → Trails → Type 0 where
@@ -89,13 +89,13 @@ pub data Moves (x : Sizes) : Hall → Trails → Hall → Trails → Type 0 wher
   Begins : (h : Hall) (T : Trails) (p t : ℕ) → p < x.senders → h.visits p ≡ Away → Moves x h T (record h { visits = put p (Entering t) h.visits }) T
   -- it takes the next step of its visit
   Visits : (h : Hall) (T : Trails) (p : ℕ) (o : Op) → visit_op (visiting x h p) ≡ Some o
-      → Moves x h T (record h { words = words_after h o; visits = put p (visit_fed (h.visits p) (found h o)) h.visits }) (grown T p record { op = o; got = found h o })
+      → Moves x h T (record h { words = words_after h o; visits = put p (visit_fed (h.visits p) (number_of_step h o)) h.visits }) (trails_with_entry T p record { op = o; got = number_of_step h o })
   -- it is done with the tenure that it stands in
   Parts : (h : Hall) (T : Trails) (p t : ℕ) → h.visits p ≡ Inside t → Moves x h T (record h { visits = put p (Parting t) h.visits }) T
   -- it takes the page of the tenure that it stands in
   Takes : (h : Hall) (T : Trails) (p t : ℕ) → h.visits p ≡ Inside t → h.words (stage_at x) ≡ 2 * t → Moves x h T (record h { words = put (stage_at x) (2 * t + 1) h.words; sweep = sweep_after x t }) T
   -- the holder takes the next step of its sweep
-  Sweeps : (h : Hall) (T : Trails) (s : Sweeping) (o : Op) → h.sweep ≡ Some s → sweep_op s ≡ Some o → Moves x h T (record h { words = words_after h o; sweep = Some (sweep_fed s (found h o)) }) T
+  Sweeps : (h : Hall) (T : Trails) (s : Sweeping) (o : Op) → h.sweep ≡ Some s → sweep_op s ≡ Some o → Moves x h T (record h { words = words_after h o; sweep = Some (sweep_fed s (number_of_step h o)) }) T
   -- the holder gives the page back
   GivesBack : (h : Hall) (T : Trails) (t : ℕ) → h.words (stage_at x) ≡ 2 * t + 1 → IsReady x t h.sweep → Moves x h T (record h { words = put (stage_at x) (2 * t + 2) h.words; sweep = None }) T
   -- anybody stores a number elsewhere

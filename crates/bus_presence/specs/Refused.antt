@@ -3,7 +3,7 @@ use Rattle.std.specs.Prelude.{◌≡◌, ◌≢◌, ℕ, ◌+◌, ◌*◌, ◌<�
 use Rattle.bus_register.specs.declared.registers.Op.{Op}
 use Rattle.bus_register.specs.declared.registers.Op.TheVariants.{Load, Store}
 use Rattle.bus_presence.specs.Sweeps.{Sweeping, sweep_op, behind_of}
-use Rattle.bus_presence.specs.Hall.{Sizes, Hall, Entry, Trails, IsReady, stage_at, presence_at, row_of, tenure_of, found}
+use Rattle.bus_presence.specs.Hall.{Sizes, Hall, Entry, Trails, IsReady, stage_at, presence_at, row_of, tenure_of, number_of_step}
 use Rattle.bus_presence.specs.Standing.{IsSafe}
 use Rattle.bus_presence.specs.declared.sweeps.Behind.{Behind}
 use Rattle.bus_presence.specs.declared.visits.Visit.TheVariants.{Inside}
@@ -32,6 +32,6 @@ pub record SafetyRefuses : Type 0 where
   -- a holder clears before all presences have passed
   pub unasked : (x : Sizes) (h : Hall) (T : Trails) (r : ℕ) (s : Sweeping) → h.sweep ≡ Some s → sweep_op s ≡ Some (Store record { 0 = r } 0) → s.asked < x.senders → ¬ IsSafe x h T
   -- a holder waits for a sender whose presence names another tenure than the one that used the row before
-  pub causeless : (x : Sizes) (h : Hall) (T : Trails) (s : Sweeping) (o : Op) (b : Behind) → h.sweep ≡ Some s → sweep_op s ≡ Some o → behind_of s (found h o) ≡ Some b → b.tenure + x.rows ≢ tenure_of x h + 1 → ¬ IsSafe x h T
+  pub causeless : (x : Sizes) (h : Hall) (T : Trails) (s : Sweeping) (o : Op) (b : Behind) → h.sweep ≡ Some s → sweep_op s ≡ Some o → behind_of s (number_of_step h o) ≡ Some b → b.tenure + x.rows ≢ tenure_of x h + 1 → ¬ IsSafe x h T
   -- a page may be given back while a word of the next row is not 0
   pub unclean : (x : Sizes) (h : Hall) (T : Trails) (t place : ℕ) → h.words (stage_at x) ≡ 2 * t + 1 → IsReady x t h.sweep → place < x.width → 0 < h.words (row_of x (t + 1) + place) → ¬ IsSafe x h T

@@ -4,7 +4,7 @@ use Rattle.bus_register.specs.declared.registers.Op.{Op}
 use Rattle.bus_register.specs.Words.{SumFits}
 use Rattle.bus_register.specs.Tables.{put}
 use Rattle.bus_register.specs.Protocol.{Protocol, inputs, outputs}
-use Rattle.bus_presence.specs.Hall.{Sizes, Hall, Trails, Moves, row_of, new_hall, no_trails, found, words_after}
+use Rattle.bus_presence.specs.Hall.{Sizes, Hall, Trails, Moves, row_of, new_hall, no_trails, number_of_step, words_after}
 use Rattle.bus_presence.specs.Standing.{IsSafe}
 use Rattle.bus_presence.specs.declared.visits.Visit.TheVariants.{Inside}
 
@@ -27,7 +27,7 @@ pub data Played {S I O : Type 0} (op : S → ℕ → Option Op) (fed : S → ℕ
   Starts : (h : Hall) (T : Trails) (L : Locals S) (p t : ℕ) (v : I) → Played op fed P x h T L → h.visits p ≡ Inside t → L t p ≡ None → Played op fed P x h T (with_local L t p (P.started x.senders p v (row_of x t)))
   -- it takes its next step there, with any random word
   Steps : (h : Hall) (T : Trails) (L : Locals S) (p t word : ℕ) (s : S) (o : Op) → Played op fed P x h T L → h.visits p ≡ Inside t → L t p ≡ Some s → op s word ≡ Some o
-      → Played op fed P x (record h { words = words_after h o }) T (with_local L t p (fed s (found h o) word))
+      → Played op fed P x (record h { words = words_after h o }) T (with_local L t p (fed s (number_of_step h o) word))
 
 -- the hall is safe, and what is promised of an object over a row of its own holds of each tenure's
 pub record AreApart {S I O : Type 0} (op : S → ℕ → Option Op) (P : Protocol S I O) (Outcome : (ℕ → Option I) → (ℕ → Option O) → Type 0) (x : Sizes) (h : Hall) (T : Trails) (L : Locals S) : Type 0 where
@@ -35,4 +35,4 @@ pub record AreApart {S I O : Type 0} (op : S → ℕ → Option Op) (P : Protoco
   -- also of a tenure whose row has gone on to others
   pub outcomes : (t : ℕ) → Outcome (inputs P (L t)) (outputs P (L t))
   -- no addition that comes next passes a word's range
-  pub fits : (p t word : ℕ) (s : S) (o : Op) → h.visits p ≡ Inside t → L t p ≡ Some s → op s word ≡ Some o → SumFits o (found h o)
+  pub fits : (p t word : ℕ) (s : S) (o : Op) → h.visits p ≡ Inside t → L t p ≡ Some s → op s word ≡ Some o → SumFits o (number_of_step h o)

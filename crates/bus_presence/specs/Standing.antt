@@ -2,9 +2,9 @@
 use Rattle.std.specs.Prelude.{◌≡◌, ◌≢◌, ◌⊎◌, ℕ, ◌+◌, ◌*◌, ◌/◌, ◌%◌, ◌<◌, ◌≤◌, Some, List, slice_get}
 use Rattle.bus_register.specs.declared.registers.Op.{Op}
 use Rattle.bus_register.specs.declared.registers.Op.TheVariants.{Load, Store}
-use Rattle.bus_presence.specs.Visits.{shown}
+use Rattle.bus_presence.specs.Visits.{number_shown}
 use Rattle.bus_presence.specs.Sweeps.{Sweeping, sweep_op, behind_of}
-use Rattle.bus_presence.specs.Hall.{Sizes, Hall, stage_at, presence_at, row_of, tenure_of, IsReady, Entry, Trails, found}
+use Rattle.bus_presence.specs.Hall.{Sizes, Hall, stage_at, presence_at, row_of, tenure_of, IsReady, Entry, Trails, number_of_step}
 use Rattle.bus_presence.specs.declared.sweeps.Behind.{Behind}
 use Rattle.bus_presence.specs.declared.visits.Visit.TheVariants.{Inside, Parting}
 
@@ -22,7 +22,7 @@ pub record Stands (x : Sizes) (p : ℕ) (trail : List Entry) (t : ℕ) : Type 0 
 
 pub record IsSafe (x : Sizes) (h : Hall) (T : Trails) : Type 0 where
   -- each presence shows how far its sender's visit has come
-  pub shows : (p : ℕ) → p < x.senders → h.words (presence_at x p) ≡ shown (h.visits p)
+  pub shows : (p : ℕ) → p < x.senders → h.words (presence_at x p) ≡ number_shown (h.visits p)
   -- who may store in the row of a tenure, or take its page, stands in it, ..
   pub stands : (p t : ℕ) → h.visits p ≡ Inside t → Stands x p (T p) t
   -- .. and who stands in one is a sender that may, or that clears its presence next
@@ -43,7 +43,7 @@ pub record IsSafe (x : Sizes) (h : Hall) (T : Trails) : Type 0 where
   -- the words that a holder has cleared are 0
   pub wiped : (s : Sweeping) (place : ℕ) → h.sweep ≡ Some s → place < s.cleared → h.words (row_of x (tenure_of x h + 1) + place) ≡ 0
   -- a holder waits for a sender only where it finds in its presence the tenure that used the row of the next one before
-  pub awaited : (s : Sweeping) (o : Op) (b : Behind) → h.sweep ≡ Some s → sweep_op s ≡ Some o → behind_of s (found h o) ≡ Some b
-      → (o ≡ Load record { 0 = presence_at x b.sender }) × (b.sender < x.senders) × (found h o ≡ 1 + b.tenure) × (b.tenure + x.rows ≡ tenure_of x h + 1)
+  pub awaited : (s : Sweeping) (o : Op) (b : Behind) → h.sweep ≡ Some s → sweep_op s ≡ Some o → behind_of s (number_of_step h o) ≡ Some b
+      → (o ≡ Load record { 0 = presence_at x b.sender }) × (b.sender < x.senders) × (number_of_step h o ≡ 1 + b.tenure) × (b.tenure + x.rows ≡ tenure_of x h + 1)
   -- where the page may be given back, all words of the row of the next tenure are 0
   pub clean : (t place : ℕ) → h.words (stage_at x) ≡ 2 * t + 1 → IsReady x t h.sweep → place < x.width → h.words (row_of x (t + 1) + place) ≡ 0

@@ -14,13 +14,13 @@ pub record Visiting : Type 0 where
   pub visit : Visit
 
 -- the number that its presence is
-abbrev pub shown : Visit → ℕ
-shown Away = 0
-shown (Entering t) = 0
-shown (Looking t) = 1 + t
-shown (Inside t) = 1 + t
-shown (Parting t) = 1 + t
-shown (Barred t) = 1 + t
+abbrev pub number_shown : Visit → ℕ
+number_shown Away = 0
+number_shown (Entering t) = 0
+number_shown (Looking t) = 1 + t
+number_shown (Inside t) = 1 + t
+number_shown (Parting t) = 1 + t
+number_shown (Barred t) = 1 + t
 
 -- the tenure has a number that a presence can show
 abbrev pub CanShow : Visit → Type 0

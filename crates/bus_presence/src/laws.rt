@@ -22,9 +22,9 @@ use bus_register::limits::MOST_PROCESSES;
 /// two rows: who may store in a tenure's row stands in that tenure, by what it did; who stands in
 /// one, stands in one that was opened and whose row has not gone on; all who stand in tenures of
 /// one row stand in one tenure. A holder clears words of the next row alone, once all presences
-/// have passed, and from then on nobody stands in a tenure of that row. It waits for a sender only
-/// where it finds in its presence the tenure that used the row before; and where it may give the
-/// page back, all words of the next row are 0.
+/// have passed and nobody stands in a tenure of that row. It waits for a sender only where it finds
+/// in its presence the tenure that used the row before; and where it may give the page back, all
+/// words of the next row are 0.
 pub fn rows_are_safe()
     ensures { (x : Sizes) → 2 ≤ x.rows → (hall : Hall) (trails : Trails)
         → Reached x hall trails → IsSafe x hall trails }

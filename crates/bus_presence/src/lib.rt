@@ -26,6 +26,3 @@ pub mod visits;
 
 pub use sweeps::{Behind, Sweep};
 pub use visits::{Presence, Visit};
-
-#[cfg(test)]
-mod tests;

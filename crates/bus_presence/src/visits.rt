@@ -1,7 +1,7 @@
 //! A sender's visit to a tenure.
 
 ghost use Rattle.std.specs.Prelude.{◌≡◌, ℕ, ◌+◌, ◌<◌, ◌^◌};
-ghost use Rattle.bus_presence.specs.Visits.{visit_op, visit_fed, shown, CanShow};
+ghost use Rattle.bus_presence.specs.Visits.{visit_op, visit_fed, number_shown, CanShow};
 ghost use Rattle.bus_presence.specs.declared.visits.Visit.TheVariants as visit;
 
 use bus_register::limits::TENURES;

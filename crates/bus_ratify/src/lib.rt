@@ -19,6 +19,3 @@ pub mod scripts;
 pub mod text;
 
 pub use answers::answer_to;
-
-#[cfg(test)]
-mod tests;

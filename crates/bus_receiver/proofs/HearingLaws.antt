@@ -10,7 +10,7 @@ use Rattle.bus_batch.specs.declared.messages.Item.{Item}
 use Rattle.bus_deliverylog.specs.declared.receiving.RecvTurn.{RecvTurn}
 use Rattle.bus_deliverylog.specs.declared.receiving.RecvTurn.TheVariants as turn
 use Rattle.bus_receiver.specs.Hearing.{Hearing, nothing, goes_on, has_room, takes, hearing_after}
-use Rattle.bus_receiver.specs.HearingRuns.{hears, item_taken, heard, items_taken}
+use Rattle.bus_receiver.specs.HearingRuns.{hears, item_taken, hearing_after_all, items_taken}
 
 -- one answer more
 abbrev CountsOne : ℕ → Hearing → Hearing → List Item → Type 0
@@ -57,7 +57,7 @@ counts_one s h turn.End e = (omega arith, e, omega arith)
 
 -- any answers
 counts_all : (s : ℕ) (turns : List RecvTurn) (h : Hearing) → length h.counts ≡ MOST_SENDERS
-    → (slice_index (heard h turns).counts s ≡ slice_index h.counts s + count_by (λ item. item.sender.0 == s) (items_taken h turns)) × ((heard h turns).items ≡ h.items + length (items_taken h turns))
+    → (slice_index (hearing_after_all h turns).counts s ≡ slice_index h.counts s + count_by (λ item. item.sender.0 == s) (items_taken h turns)) × ((hearing_after_all h turns).items ≡ h.items + length (items_taken h turns))
 counts_all s [] h e = (omega arith, omega arith)
 counts_all s (t ∷ turns) h e =
     let one = counts_one s h t e in
@@ -70,8 +70,8 @@ counts_all s (t ∷ turns) h e =
     let lengths = length-append (item_taken h t) (items_taken (hears h t) turns) in
     (omega (arith, sums), omega (arith, lengths))
 
-pub counts_each : (turns : List RecvTurn) (s : ℕ) → s < MOST_SENDERS → slice_index (heard nothing turns).counts s ≡ count_by (λ item. item.sender.0 == s) (items_taken nothing turns)
+pub counts_each : (turns : List RecvTurn) (s : ℕ) → s < MOST_SENDERS → slice_index (hearing_after_all nothing turns).counts s ≡ count_by (λ item. item.sender.0 == s) (items_taken nothing turns)
 counts_each turns s l = let all = (counts_all s turns nothing refl).0 in let zero_is : slice_index (replicate MOST_SENDERS 0) s ≡ 0 = get_or-replicate MOST_SENDERS s 0 0 l in omega arith
 
-pub counts_items : (turns : List RecvTurn) → (heard nothing turns).items ≡ length (items_taken nothing turns)
+pub counts_items : (turns : List RecvTurn) → (hearing_after_all nothing turns).items ≡ length (items_taken nothing turns)
 counts_items turns = let all = (counts_all 0 turns nothing refl).1 in omega arith

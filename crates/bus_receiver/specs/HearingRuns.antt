@@ -20,9 +20,9 @@ abbrev pub item_taken : Hearing → RecvTurn → List Item
 item_taken h t = if takes h t then item_in t else []
 
 -- after any answers, and the items among those that were taken
-abbrev pub heard : Hearing → List RecvTurn → Hearing
-heard h [] = h
-heard h (t ∷ turns) = heard (hears h t) turns
+abbrev pub hearing_after_all : Hearing → List RecvTurn → Hearing
+hearing_after_all h [] = h
+hearing_after_all h (t ∷ turns) = hearing_after_all (hears h t) turns
 
 abbrev pub items_taken : Hearing → List RecvTurn → List Item
 items_taken h [] = []

@@ -19,8 +19,6 @@ pub mod limits;
 pub mod machines;
 pub mod memory;
 pub mod registers;
-#[cfg(test)]
-mod tests;
 
 pub use kinds::Kind;
 pub use machines::Machine;

@@ -34,6 +34,9 @@ pub const MOST_MESSAGE_WORDS: u64 = 8;
 /// Words of a frame behind its head: at most 128.
 pub const MOST_BODY_WORDS: u64 = 128;
 
+/// Words of a frame, its head included: at most 129.
+pub const MOST_FRAME_WORDS: usize = 129;
+
 /// The number of a message stays below 2^48.
 pub const NUMBERS: u64 = 0x0001_0000_0000_0000;
 

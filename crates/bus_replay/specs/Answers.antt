@@ -7,7 +7,7 @@ use Rattle.bus_adoptcommit.specs.declared.verdicts.Verdict.{Verdict}
 use Rattle.bus_batch.specs.Frames.{Order, Spells}
 use Rattle.bus_tenure.specs.Core.{Election}
 use Rattle.bus_tenure.specs.Elections.{Elector}
-use Rattle.bus_world.specs.Headline.{given}
+use Rattle.bus_world.specs.Headline.{order_given}
 use Rattle.bus_world.specs.Trails.{Trails}
 use Rattle.bus_world.specs.World.{Event}
 use Rattle.bus_world.specs.Playing.{layout_of, MakeRefused, IsMade}
@@ -55,7 +55,7 @@ Prints M b (line ∷ lines) text end = Asked M b line.0 (command_of line.1) (λ 
 
 -- what each of so many receivers was given, by these trails
 abbrev pub given_by : Trails → ℕ → List Order
-given_by T receivers = map (λ r. given (T.heard r)) (range_with_len 0 receivers)
+given_by T receivers = map (λ r. order_given (T.heard r)) (range_with_len 0 receivers)
 
 -- The closing lines, whatever trails led to the bus, as some have: who took the pages; the one order that the words below the length spell;
 -- and of each receiver what it was given.

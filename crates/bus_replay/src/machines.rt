@@ -4,7 +4,7 @@ ghost use Rattle.std.specs.Prelude.{◌≡◌, ℕ, ◌<◌, List, true, map, If
 ghost use Rattle.bus_register.specs.declared.registers.SenderNo.{SenderNo as Number};
 ghost use Rattle.bus_batch.specs.Frames.{Spells};
 ghost use Rattle.bus_deliverylog.specs.Orders.{order_held};
-ghost use Rattle.bus_world.specs.Headline.{given};
+ghost use Rattle.bus_world.specs.Headline.{order_given};
 ghost use Rattle.bus_world.specs.Playing.{event_told};
 ghost use Rattle.bus_world.specs.Trails.{Trails};
 ghost use Rattle.bus_world.specs.World.{Event as Happening};
@@ -68,7 +68,7 @@ pub trait Playable {
     fn given(&self, alloc: Global, receiver: u64) -> Result<Order, NoMemory>
         requires { receiver < receivers self.now }
         ensures { IfOk result (λ order. (trails : Trails) → reached self.now trails
-            → order_held order ≡ given (trails.heard receiver)) };
+            → order_held order ≡ order_given (trails.heard receiver)) };
 
     /// Some deeds and answers lead to it.
     fn reached(&self)

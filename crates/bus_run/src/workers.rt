@@ -17,7 +17,7 @@ ghost use Rattle.bus_run.specs.Words.{generator_of};
 ghost use Rattle.bus_world.specs.Headline.{puts};
 ghost use Rattle.bus_pageslot.specs.Listening.{Hears};
 ghost use Rattle.bus_receiver.specs.Hearing.{nothing};
-ghost use Rattle.bus_receiver.specs.HearingRuns.{heard};
+ghost use Rattle.bus_receiver.specs.HearingRuns.{hearing_after_all};
 ghost use Rattle.bus_receiver.specs.Listening.{bus_of};
 ghost use Rattle.bus_run.specs.declared.faults.SenderFault.TheVariants.{Stopped as stopped};
 
@@ -86,7 +86,7 @@ impl<B: OfBus> Listener<B> {
     /// A turn of its receiver, which is noted. The end is noted where it was answered, or before.
     pub fn hear(&mut self, the: &TheBus<B>) -> RecvTurn
         ensures turn { Hears self.old.receiver.me result self.new.receiver.me }
-        ensures noted { self.new.heard ≡ heard self.old.heard (result ∷ []) }
+        ensures noted { self.new.heard ≡ hearing_after_all self.old.heard (result ∷ []) }
         ensures ended { self.new.heard.ended ≡ true
             → (self.old.heard.ended ≡ true) ⊎ (result ≡ RecvTurn.End) }
     {

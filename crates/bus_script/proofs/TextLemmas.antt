@@ -4,7 +4,7 @@ use Rattle.std.specs.List.{AllByRecursion, onto_first}
 use Rattle.std.proofs.lemmas.Bool.{ne_eqb}
 use Rattle.std.proofs.lemmas.Bool.Decides.{eqb_tells}
 use Rattle.bus_script.specs.Grammar.{lines_of}
-use Rattle.bus_script.specs.Spelled.{IsLine, IsText, ended}
+use Rattle.bus_script.specs.Spelled.{IsLine, IsText, ended_lines}
 
 -- ---- from lines to their text and back
 
@@ -20,11 +20,11 @@ line_alone [] is some = absurd (omega arith)
 line_alone (b ∷ []) is some = goes_on b [] is.0
 line_alone (b ∷ c ∷ line) is some = goes_on b (c ∷ line) is.0 ∙ ap (onto_first b) (line_alone (c ∷ line) is.1 (omega arith))
 
-ended_read : (lines : List (List ℕ)) (rest : List ℕ) → AllByRecursion IsLine lines → lines_of (ended lines ++ rest) ≡ lines ++ lines_of rest
+ended_read : (lines : List (List ℕ)) (rest : List ℕ) → AllByRecursion IsLine lines → lines_of (ended_lines lines ++ rest) ≡ lines ++ lines_of rest
 ended_read [] rest is = refl
 ended_read (line ∷ lines) rest is =
-    ap lines_of (append_assoc (line ++ 10 ∷ []) (ended lines) rest ∙ append_assoc line (10 ∷ []) (ended lines ++ rest))
-    ∙ line_then line (ended lines ++ rest) is.0 ∙ ap (λ (l : List (List ℕ)). line ∷ l) (ended_read lines rest is.1)
+    ap lines_of (append_assoc (line ++ 10 ∷ []) (ended_lines lines) rest ∙ append_assoc line (10 ∷ []) (ended_lines lines ++ rest))
+    ∙ line_then line (ended_lines lines ++ rest) is.0 ∙ ap (λ (l : List (List ℕ)). line ∷ l) (ended_read lines rest is.1)
 
 front_lines : (front : List (List ℕ)) (last : List ℕ) → AllByRecursion IsLine (front ++ last ∷ []) → AllByRecursion IsLine front × IsLine last
 front_lines [] last is = (tt, is.0)
@@ -32,7 +32,7 @@ front_lines (line ∷ front) last is = let k = front_lines front last is.1 in ((
 
 pub text_read : (text : List ℕ) (lines : List (List ℕ)) → IsText text lines → lines_of text ≡ lines
 text_read text lines h = elim h.spelled [
-  | inl e ↦ ap lines_of (e ∙ sym (append-nil (ended lines))) ∙ ended_read lines [] h.each ∙ append-nil lines
+  | inl e ↦ ap lines_of (e ∙ sym (append-nil (ended_lines lines))) ∙ ended_read lines [] h.each ∙ append-nil lines
   | inr k ↦
       let is = front_lines k.0 k.1 (subst (AllByRecursion IsLine) k.2 h.each) in
       ap lines_of k.4 ∙ ended_read k.0 k.1 is.0 ∙ ap (λ (l : List (List ℕ)). k.0 ++ l) (line_alone k.1 is.1 k.3) ∙ sym k.2
@@ -66,8 +66,8 @@ longer b bs (line ∷ lines) other h = record {
   ];
 }
   where
-    longer_front : (b : ℕ) (bs line : List ℕ) (lines front : List (List ℕ)) (last : List ℕ) → line ∷ lines ≡ front ++ last ∷ [] → 0 < length last → bs ≡ ended front ++ last
-        → (front' : List (List ℕ)) × (last' : List ℕ) × ((b ∷ line) ∷ lines ≡ front' ++ last' ∷ []) × (0 < length last') × (b ∷ bs ≡ ended front' ++ last')
+    longer_front : (b : ℕ) (bs line : List ℕ) (lines front : List (List ℕ)) (last : List ℕ) → line ∷ lines ≡ front ++ last ∷ [] → 0 < length last → bs ≡ ended_lines front ++ last
+        → (front' : List (List ℕ)) × (last' : List ℕ) × ((b ∷ line) ∷ lines ≡ front' ++ last' ∷ []) × (0 < length last') × (b ∷ bs ≡ ended_lines front' ++ last')
     longer_front b bs line lines [] last e some text =
         let same : line ≡ last = cc in
         let none : lines ≡ [] = cc in

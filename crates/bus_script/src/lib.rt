@@ -22,8 +22,6 @@ pub mod lines;
 pub mod numbers;
 mod pieces;
 pub mod places;
-#[cfg(test)]
-mod tests;
 pub mod words;
 
 pub use answers::{Answer, Outcome};

@@ -5,7 +5,7 @@ use Rattle.bus_register.specs.declared.kinds.Kind.{Kind}
 use Rattle.bus_register.specs.declared.kinds.Kind.TheVariants as kind
 use Rattle.bus_register.specs.declared.registers.Op.{Op}
 use Rattle.bus_register.specs.declared.registers.Op.TheVariants.{Load, Store}
-use Rattle.bus_batch.specs.Batches.{Pending, next_of, frame_of, sent}
+use Rattle.bus_batch.specs.Batches.{Pending, next_of, frame_of, phase_sent}
 use Rattle.bus_batch.specs.declared.batches.Phase.TheVariants.{Closed}
 use Rattle.bus_batch.specs.Frames.{Frame, frame_words}
 use Rattle.bus_tenure.specs.Core.{Core, Election, length_at, stage_at, row_at, log_at, is_closing, is_closed, is_empty, frame_len, has_room, page_after}
@@ -157,7 +157,7 @@ answer_of_election c t (Some o) = if o == c.me then turn.Going else turn.Lost t 
 -- ---- what the end of a tenure leaves
 -- the queue back from a tenure: its contents kept, or sent, or kept for good
 abbrev pub queue_after : Reason → Pending → Pending
-queue_after Sent q = record { sender = q.sender; first = next_of q; messages = []; phase = sent q.phase; busy = false }
+queue_after Sent q = record { sender = q.sender; first = next_of q; messages = []; phase = phase_sent q.phase; busy = false }
 queue_after FoundEnd q = record q { phase = Closed; busy = false }
 queue_after NoRoom q = record q { busy = false }
 

@@ -680,6 +680,3 @@ impl<Q: Ratifier + Drop> SenderCore<Q> {
         unreachable!()
     }
 }
-
-#[cfg(test)]
-mod tests;

@@ -48,7 +48,7 @@ use Rattle.bus_picture.proofs.PlainTexts.{IsPlain, HasNoEnd, plain_by, plain_app
 use Rattle.bus_picture.proofs.ReadingLaws.{IsReadable, AreRows, lines_in, IsRefusal, Nothing, Names, refusal_rows, line_before}
 use Rattle.bus_trace.specs.Words.{sizes_of, ring_sizes_of}
 use Rattle.bus_trace.specs.Rows.{column, header, row_text, ring_row_text}
-use Rattle.bus_trace.specs.Traces.{Row, repeat_rows, asked_rows, printed_rows, numbered, refusal_of, IsRefused, ArePrinted, Opened, Begins, Traces, IsTrace}
+use Rattle.bus_trace.specs.Traces.{Row, repeat_rows, asked_rows, printed_rows, numbered_rows, refusal_of, IsRefused, ArePrinted, Opened, Begins, Traces, IsTrace}
 use Rattle.bus_trace.proofs.LineLaws.{AsksFew, line_read, ring_line_read}
 
 -- ---- refusals
@@ -97,11 +97,11 @@ read_append : (rows more : List (List ℕ)) → AllRead rows → AllRead more �
 read_append [] more h k = k
 read_append (row ∷ rows) more h k = (h.0, read_append rows more h.1 k)
 
-rows_read : (from : ℕ) (rows : List (List ℕ)) (rest : List ℕ) → AllRead rows → AreRows (lines_in rest) → AreRows (lines_in (numbered from rows ++ rest))
+rows_read : (from : ℕ) (rows : List (List ℕ)) (rest : List ℕ) → AllRead rows → AreRows (lines_in rest) → AreRows (lines_in (numbered_rows from rows ++ rest))
 rows_read from [] rest h k = k
 rows_read from (row ∷ rows) rest h k =
-    subst (λ (t : List ℕ). AreRows (lines_in t)) (sym (append_assoc (column (decimal from) ++ row ++ 10 ∷ []) (numbered (from + 1) rows) rest))
-    (line_before (decimal from) row (numbered (from + 1) rows ++ rest) (plain_decimal from) h.0 (rows_read (from + 1) rows rest h.1 k))
+    subst (λ (t : List ℕ). AreRows (lines_in t)) (sym (append_assoc (column (decimal from) ++ row ++ 10 ∷ []) (numbered_rows (from + 1) rows) rest))
+    (line_before (decimal from) row (numbered_rows (from + 1) rows ++ rest) (plain_decimal from) h.0 (rows_read (from + 1) rows rest h.1 k))
 
 -- ---- the header
 names : List ℕ
@@ -155,7 +155,7 @@ module _ {Z : Type 0} (M : Moves Z) (row : Row Z) (HasFew : Z → Type 0) (keeps
   all_printed : (b : Z) (lines : List (ℕ × List ℕ)) (outcome : Outcome) (whole : List ℕ) → HasFew b → ArePrinted M row b lines outcome whole → HasAllLines whole
   all_printed b lines outcome whole few h =
       let r = printed_read b lines h.0 h.1 h.2 few in
-      subst HasAllLines (sym h.4) (all_lines (numbered 1 (printed_rows M row b lines h.0 h.1 h.2) ++ refusal_of h.1) (rows_read 1 (printed_rows M row b lines h.0 h.1 h.2) (refusal_of h.1) r.0 (refusal_rows (refusal_of h.1) r.1)))
+      subst HasAllLines (sym h.4) (all_lines (numbered_rows 1 (printed_rows M row b lines h.0 h.1 h.2) ++ refusal_of h.1) (rows_read 1 (printed_rows M row b lines h.0 h.1 h.2) (refusal_of h.1) r.0 (refusal_rows (refusal_of h.1) r.1)))
 
   all_opened : (IsNew : Z → Type 0) (IsUnmade : MakeFault → Type 0) (line : ℕ) (lines : List (ℕ × List ℕ)) (outcome : Outcome) (whole : List ℕ) → ((b : Z) → IsNew b → HasFew b) → Opened M row IsNew IsUnmade line lines outcome whole → HasAllLines whole
   all_opened IsNew IsUnmade line lines outcome whole new (inl no_bus) =
@@ -245,11 +245,11 @@ module _ {E : Type 0} (X : Election E) where
   ring_kept z (Stop s) a new few h answered = guest_few z.ring (guest_going z.ring s) (λ v. record z.ring { stopped = slice_set z.ring.stopped s true }) new.ring (λ v. few) few h
 
   ring_asked : (z : CyclicBus E) (e : Event) (a : Answer) (new : CyclicBus E) → IsFew z.ring → (cycle_moves X).answers z e a new → AsksFew e
-  ring_asked z (Put s bytes) a new few h = let lt = there (λ (o : Option (Visitor E)). PutGives (again.seen o) (length bytes) h.0.0) (λ none. none) z.ring.guests s (is_set (slice_get z.ring.stopped s)) h.0.1 in omega (arith, lt, few.0)
-  ring_asked z (Close s) a new few h = let lt = there (λ (o : Option (Visitor E)). CloseGives (again.seen o)) (λ none. none) z.ring.guests s (is_set (slice_get z.ring.stopped s)) h.0.0 in omega (arith, lt, few.0)
+  ring_asked z (Put s bytes) a new few h = let lt = there (λ (o : Option (Visitor E)). PutGives (again.core_found o) (length bytes) h.0.0) (λ none. none) z.ring.guests s (is_set (slice_get z.ring.stopped s)) h.0.1 in omega (arith, lt, few.0)
+  ring_asked z (Close s) a new few h = let lt = there (λ (o : Option (Visitor E)). CloseGives (again.core_found o)) (λ none. none) z.ring.guests s (is_set (slice_get z.ring.stopped s)) h.0.0 in omega (arith, lt, few.0)
   ring_asked z (Turn s word) a new few h = let lt = there (λ (o : Option (Visitor E)). again.TurnAnswers X z.ring.words o word a) (λ none. none) z.ring.guests s (is_set (slice_get z.ring.stopped s)) h.0 in omega (arith, lt, few.0)
   ring_asked z (Recv r) a new few h = let lt = there_in (λ (o : Option Receiving). again.RecvAnswers z.ring r o a new.ring) (λ none. none) z.ring.receivers r (slice_get z.ring.receivers r) refl h.0 in omega (arith, lt, few.1)
-  ring_asked z (Stop s) a new few h = let lt = there (λ (o : Option (Visitor E)). StopGives (again.seen o)) (λ none. none) z.ring.guests s (is_set (slice_get z.ring.stopped s)) h.0.0 in omega (arith, lt, few.0)
+  ring_asked z (Stop s) a new few h = let lt = there (λ (o : Option (Visitor E)). StopGives (again.core_found o)) (λ none. none) z.ring.guests s (is_set (slice_get z.ring.stopped s)) h.0.0 in omega (arith, lt, few.0)
 
 -- ---- the whole text
 module _ {S : Type 0} (X : Election (Elector S)) (P : Protocol S Bool Verdict) where

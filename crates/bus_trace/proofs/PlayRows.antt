@@ -12,7 +12,7 @@ use Rattle.bus_replay.specs.Lines.{Command, command_of}
 use Rattle.bus_replay.specs.Text.{answer_line, step_fault_name}
 use Rattle.bus_replay.specs.Answers.{End, Left, Stopped, Asked, Prints}
 use Rattle.bus_trace.specs.Rows.{header}
-use Rattle.bus_trace.specs.Traces.{Row, repeat_rows, asked_rows, printed_rows, numbered, ArePrinted, Opened}
+use Rattle.bus_trace.specs.Traces.{Row, repeat_rows, asked_rows, printed_rows, numbered_rows, ArePrinted, Opened}
 use Rattle.bus_trace.specs.Obeying.{Grows, IsRepeated, IsObeyed, ArePlayed}
 use Rattle.bus_trace.proofs.RowLemmas.{grown_more, grown_none}
 use Rattle.std.specs.Prelude.{codes, Result, Ok, Err, IfOk}
@@ -107,7 +107,7 @@ module _ {Z : Type 0} (M : Moves Z) (row : Row Z) (b : Z) (lines left behind : L
         d.0,
         h.printed ++ [],
         w.0,
-        d.1 ∙ ap (λ (l : List ℕ). l ++ d.0) h.grown.text_is ∙ ap (λ (l : List (List ℕ)). old ++ numbered (before + 1) l ++ d.0) (sym (w.1 ∙ append-nil h.rows)),
+        d.1 ∙ ap (λ (l : List ℕ). l ++ d.0) h.grown.text_is ∙ ap (λ (l : List (List ℕ)). old ++ numbered_rows (before + 1) l ++ d.0) (sym (w.1 ∙ append-nil h.rows)),
       )
 
 -- no line is left
@@ -115,7 +115,7 @@ pub all_played : {Z : Type 0} (M : Moves Z) (row : Row Z) (b : Z) (lines left : 
 all_played {Z} M row b lines left old before new after now h none =
     let end : (run : Prints M now left [] (Left now)) × (printed_rows M row now left [] (Left now) run ≡ []) = subst (λ l. (run : Prints M now l [] (Left now)) × (printed_rows M row now l [] (Left now) run ≡ [])) (sym none) ((refl, refl), refl) in
     let whole = h.from_first [] (Left now) end.0 in
-    (h.printed ++ [], whole.0, h.grown.text_is ∙ ap (λ (l : List (List ℕ)). old ++ numbered (before + 1) l) (sym (whole.1 ∙ ap (λ (l : List (List ℕ)). h.rows ++ l) end.1 ∙ append-nil h.rows)))
+    (h.printed ++ [], whole.0, h.grown.text_is ∙ ap (λ (l : List (List ℕ)). old ++ numbered_rows (before + 1) l) (sym (whole.1 ∙ ap (λ (l : List (List ℕ)). h.rows ++ l) end.1 ∙ append-nil h.rows)))
 
 -- ---- the whole text
 -- the lines behind the first one moved a new bus, and all that was put behind the names of the columns is theirs
@@ -123,7 +123,7 @@ pub printed : {Z : Type 0} (M : Moves Z) (row : Row Z) (b : Z) (lines : List (�
 printed {Z} M row b lines b' o old before whole old_is none played = all o (subst (λ l. ArePlayed M row b lines l 0 whole o b') old_is (subst (λ j. ArePlayed M row b lines old j whole o b') none played))
   where
     all : (r : Outcome) → ArePlayed M row b lines header 0 whole r b' → ArePrinted M row b lines r whole
-    all outcome.Done h = (h.0, Left b', h.1, refl, h.2 ∙ sym (append-nil (header ++ numbered 1 (printed_rows M row b lines h.0 (Left b') h.1))))
+    all outcome.Done h = (h.0, Left b', h.1, refl, h.2 ∙ sym (append-nil (header ++ numbered_rows 1 (printed_rows M row b lines h.0 (Left b') h.1))))
     all outcome.Refused h = (h.1, Stopped h.0, h.2, refl, h.3)
 
 -- a new bus was made

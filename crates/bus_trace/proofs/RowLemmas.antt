@@ -24,7 +24,7 @@ use Rattle.bus_register.specs.Names.{kind_name}
 use Rattle.bus_trace.specs.Rows.{column, tenure_text, no_step, deeds_text, due_text, receiving_text, turning_op, who_text, deed_columns, row_text}
 use Rattle.bus_trace.specs.Watching.{step_of, sender_due, receiver_due, due_by, seen_in}
 use Rattle.bus_trace.specs.Told.{name_told, seen_columns, seen_told, row_told, numbered_row}
-use Rattle.bus_trace.specs.Traces.{numbered}
+use Rattle.bus_trace.specs.Traces.{numbered_rows}
 use Rattle.bus_trace.specs.Obeying.{Grows}
 
 own : (s : ℕ) (deeds : List Deed) → cond (s == s) deeds [] ≡ deeds
@@ -71,16 +71,16 @@ pub row_is : {E : Type 0} (p : Sizes) (X : Election E) (line : ℕ) (z z' : Size
 row_is p X line z z' e a h seen is = ap (λ k. row_told p line e k a) is ∙ ap (λ (l : List ℕ). column (decimal line) ++ who_text e ++ l ++ answer_text a) (sym (columns_told p X z.bus z'.bus e a h))
 
 -- ---- lines one after another
-numbered_more : (from : ℕ) (rows more : List (List ℕ)) → numbered from (rows ++ more) ≡ numbered from rows ++ numbered (from + length rows) more
-numbered_more from [] more = ap (λ k. numbered k more) (let z : from ≡ from + 0 = omega arith in z)
+numbered_more : (from : ℕ) (rows more : List (List ℕ)) → numbered_rows from (rows ++ more) ≡ numbered_rows from rows ++ numbered_rows (from + length rows) more
+numbered_more from [] more = ap (λ k. numbered_rows k more) (let z : from ≡ from + 0 = omega arith in z)
 numbered_more from (row ∷ rows) more =
-    ap (λ (l : List ℕ). numbered_row from row ++ l) (numbered_more (from + 1) rows more ∙ ap (λ k. numbered (from + 1) rows ++ numbered k more) (let z : from + 1 + length rows ≡ from + length (row ∷ rows) = omega arith in z))
-    ∙ sym (append_assoc (numbered_row from row) (numbered (from + 1) rows) (numbered (from + length (row ∷ rows)) more))
+    ap (λ (l : List ℕ). numbered_row from row ++ l) (numbered_more (from + 1) rows more ∙ ap (λ k. numbered_rows (from + 1) rows ++ numbered_rows k more) (let z : from + 1 + length rows ≡ from + length (row ∷ rows) = omega arith in z))
+    ∙ sym (append_assoc (numbered_row from row) (numbered_rows (from + 1) rows) (numbered_rows (from + length (row ∷ rows)) more))
 
 pub grown_more : (old mid new : List ℕ) (k m n : ℕ) (rows more : List (List ℕ)) → Grows old k mid m rows → Grows mid m new n more → Grows old k new n (rows ++ more)
 grown_more old mid new k m n rows more g h = record {
-  text_is = h.text_is ∙ ap (λ (l : List ℕ). l ++ numbered (m + 1) more) g.text_is ∙ append_assoc old (numbered (k + 1) rows) (numbered (m + 1) more)
-      ∙ ap (λ j. old ++ (numbered (k + 1) rows ++ numbered j more)) (let a = g.lines_are in let z : m + 1 ≡ k + 1 + length rows = omega arith in z)
+  text_is = h.text_is ∙ ap (λ (l : List ℕ). l ++ numbered_rows (m + 1) more) g.text_is ∙ append_assoc old (numbered_rows (k + 1) rows) (numbered_rows (m + 1) more)
+      ∙ ap (λ j. old ++ (numbered_rows (k + 1) rows ++ numbered_rows j more)) (let a = g.lines_are in let z : m + 1 ≡ k + 1 + length rows = omega arith in z)
       ∙ ap (λ (l : List ℕ). old ++ l) (sym (numbered_more (k + 1) rows more));
   lines_are = h.lines_are ∙ ap (λ j. j + length more) g.lines_are ∙ (let s = length-append rows more in let z : k + length rows + length more ≡ k + length (rows ++ more) = omega arith in z);
 }

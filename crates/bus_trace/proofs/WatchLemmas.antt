@@ -11,7 +11,7 @@ use Rattle.bus_register.specs.declared.kinds.Kind.{Kind}
 use Rattle.bus_register.specs.declared.kinds.Kind.TheVariants as kind
 use Rattle.bus_register.specs.declared.registers.Op.{Op}
 use Rattle.bus_register.specs.declared.registers.Op.TheVariants.{Load}
-use Rattle.bus_register.specs.Words.{register, SumFits}
+use Rattle.bus_register.specs.Words.{register, after, SumFits}
 use Rattle.bus_register.specs.Protocol.{Protocol}
 use Rattle.bus_batch.specs.Frames.{Frame, IsBadWord, log_words, log_pieces, is_end}
 use Rattle.bus_batch.specs.declared.messages.Piece.{Piece}
@@ -21,7 +21,7 @@ use Rattle.bus_deliverylog.specs.declared.receiving.RecvTurn.{RecvTurn}
 use Rattle.bus_tenure.specs.Core.{Core, Election, Layout, log_at, words_of}
 use Rattle.bus_tenure.specs.Situations.{Situation, IsClosed, IsIdle, IsSpent, LooksAtStage, Elects, TakesPage, AwaitsPage, StoresWord, StoresLength, GivesBack, HasHanded, situation_of, tenure_at, kind_at, op_at}
 use Rattle.bus_world.specs.Headline.{end_heard}
-use Rattle.bus_world.specs.Log.{Logged, read}
+use Rattle.bus_world.specs.Log.{Logged, words_read_from}
 use Rattle.std.proofs.lemmas.Grind.{common_steps}
 use Rattle.bus_world.specs.Turning.{Side, side_after, words_after}
 use Rattle.bus_world.specs.World.{Bus, Event, Put, Close, Turn, Recv, Stop, going, IsEvent, Happens, SenderDoes, RecvDoes, RecvStep, recv_found, IsReceiver, IsNew}
@@ -37,17 +37,17 @@ use Rattle.bus_world.proofs.ReceivingLaws.{goes_on}
 use Rattle.bus_world.proofs.WorldLaws.{new_is_lawful, received}
 use Rattle.bus_trace.specs.declared.seen.Spot.{Spot}
 use Rattle.bus_trace.specs.declared.seen.Step.{Step}
-use Rattle.bus_trace.specs.Watching.{step_of, sender_due, receiver_due, due_by, words_stepped, CanStep, spot_of, new_spot, spot_due, spot_after, spot_heard, answer_heard, spots_heard, AreShort, IsWatched}
+use Rattle.bus_trace.specs.Watching.{step_of, sender_due, receiver_due, due_by, CanStep, spot_of, new_spot, spot_due, spot_after, spot_heard, answer_heard, spots_heard, AreShort, IsWatched}
 
 -- ---- words of the log
-index-read : (words : ℕ → ℕ) (at k i : ℕ) → i < k → slice_index (read words at k) i ≡ words (at + i)
+index-read : (words : ℕ → ℕ) (at k i : ℕ) → i < k → slice_index (words_read_from words at k) i ≡ words (at + i)
 index-read words at zero i l = absurd (omega arith)
 index-read words at (suc k) i l = elim (cases_lt i k) [
-  | inl below ↦ get_or_append_left (read words at k) (words (at + k) ∷ []) 0 i (let z = length-read words at k in omega arith) ∙ index-read words at k i below
+  | inl below ↦ get_or_append_left (words_read_from words at k) (words (at + k) ∷ []) 0 i (let z = length-read words at k in omega arith) ∙ index-read words at k i below
   | inr past ↦
       let size = length-read words at k in
-      let e : i ≡ length (read words at k) = omega arith in
-      ap (slice_index (read words at k ++ words (at + k) ∷ [])) e ∙ last (read words at k) (words (at + k)) ∙ ap words (omega arith)
+      let e : i ≡ length (words_read_from words at k) = omega arith in
+      ap (slice_index (words_read_from words at k ++ words (at + k) ∷ [])) e ∙ last (words_read_from words at k) (words (at + k)) ∙ ap words (omega arith)
 ] where
   last : (xs : List ℕ) (w : ℕ) → slice_index (xs ++ w ∷ []) (length xs) ≡ w
   last xs w = grind (arith, common_steps)
@@ -129,6 +129,11 @@ named_at X named c (StoresWord t page stored) word = refl
 named_at X named c (StoresLength t page stored) word = refl
 named_at X named c (GivesBack t page reason) word = refl
 named_at X named c (HasHanded t reason) word = refl
+
+-- the words after a step
+abbrev pub words_stepped : List ℕ → Option Step → List ℕ
+words_stepped words None = words
+words_stepped words (Some step) = slice_set words (register step.op) (after step.op (slice_index words (register step.op)))
 
 stepped_so : (words : List ℕ) (tenure : Option ℕ) (k : Option Kind) (o : Option Op) → is_some k ≡ is_some o → words_after words o ≡ words_stepped words (step_of tenure k o)
 stepped_so words tenure None None e = refl

@@ -7,7 +7,7 @@ use Rattle.bus_script.specs.declared.answers.Outcome.{Outcome}
 use Rattle.bus_script.specs.declared.answers.Outcome.TheVariants.{Done, Refused}
 use Rattle.bus_replay.specs.declared.machines.Playable.{Ghosts as Moves}
 use Rattle.bus_replay.specs.Answers.{End, Left, Stopped, Repeats, Prints}
-use Rattle.bus_trace.specs.Traces.{Row, repeat_rows, printed_rows, numbered}
+use Rattle.bus_trace.specs.Traces.{Row, repeat_rows, printed_rows, numbered_rows}
 
 -- so many lines stand in a text: each has two bytes and more, so their number is one that a program can hold
 abbrev pub IsCounted : List ℕ → ℕ → Type 0
@@ -15,7 +15,7 @@ IsCounted text lines = 2 * lines ≤ length text
 
 -- so many lines stood in a text, and these were put behind them
 pub record Grows (old : List ℕ) (before : ℕ) (new : List ℕ) (after : ℕ) (rows : List (List ℕ)) : Type 0 where
-  pub text_is : new ≡ old ++ numbered (before + 1) rows
+  pub text_is : new ≡ old ++ numbered_rows (before + 1) rows
   pub lines_are : after ≡ before + length rows
 
 -- an event was repeated, and the lines of that were put; or it was refused at once
@@ -34,6 +34,6 @@ IsObeyed {Z} M row b line old before new after Refused b' =
 
 -- lines were obeyed; or one was refused, and the text ends with its refusal
 abbrev pub ArePlayed : {Z : Type 0} → Moves Z → Row Z → Z → List (ℕ × List ℕ) → (old : List ℕ) (before : ℕ) (new : List ℕ) → Outcome → Z → Type 0
-ArePlayed M row b lines old before new Done b' = (answers : List ℕ) × (run : Prints M b lines answers (Left b')) × (new ≡ old ++ numbered (before + 1) (printed_rows M row b lines answers (Left b') run))
+ArePlayed M row b lines old before new Done b' = (answers : List ℕ) × (run : Prints M b lines answers (Left b')) × (new ≡ old ++ numbered_rows (before + 1) (printed_rows M row b lines answers (Left b') run))
 ArePlayed M row b lines old before new Refused b' =
-    (refusal : List ℕ) × (answers : List ℕ) × (run : Prints M b lines answers (Stopped refusal)) × (new ≡ old ++ numbered (before + 1) (printed_rows M row b lines answers (Stopped refusal) run) ++ refusal)
+    (refusal : List ℕ) × (answers : List ℕ) × (run : Prints M b lines answers (Stopped refusal)) × (new ≡ old ++ numbered_rows (before + 1) (printed_rows M row b lines answers (Stopped refusal) run) ++ refusal)

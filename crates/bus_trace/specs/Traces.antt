@@ -53,8 +53,8 @@ printed_rows M row b (line ∷ lines) text end run =
     asked_rows M row b line.0 (command_of line.1) (λ mid rest stop. Prints M mid lines rest stop) (λ mid rest stop behind. printed_rows M row mid lines rest stop behind) text end run
 
 -- numbered from this number on
-abbrev pub numbered : ℕ → List (List ℕ) → List ℕ
-numbered from rows = flat_map (λ row. numbered_row row.0 row.1) (enumerate_from from rows)
+abbrev pub numbered_rows : ℕ → List (List ℕ) → List ℕ
+numbered_rows from rows = flat_map (λ row. numbered_row row.0 row.1) (enumerate_from from rows)
 
 -- ---- the whole text
 abbrev pub refusal_of : {Z : Type 0} → End Z → List ℕ
@@ -72,7 +72,7 @@ IsRefused refusal outcome whole = (outcome ≡ Refused) × (whole ≡ header ++ 
 -- the lines behind the first one, played on this bus as `replay` plays them
 abbrev pub ArePrinted : {Z : Type 0} → Moves Z → Row Z → Z → List (ℕ × List ℕ) → Outcome → List ℕ → Type 0
 ArePrinted {Z} M row b lines outcome whole =
-    (answers : List ℕ) × (end : End Z) × (run : Prints M b lines answers end) × (outcome ≡ outcome_of end) × (whole ≡ header ++ numbered 1 (printed_rows M row b lines answers end run) ++ refusal_of end)
+    (answers : List ℕ) × (end : End Z) × (run : Prints M b lines answers end) × (outcome ≡ outcome_of end) × (whole ≡ header ++ numbered_rows 1 (printed_rows M row b lines answers end run) ++ refusal_of end)
 
 -- where the first line asks for such a new bus: it is made, or it is not for such a reason
 abbrev pub Opened : {Z : Type 0} → Moves Z → Row Z → (Z → Type 0) → (MakeFault → Type 0) → ℕ → List (ℕ × List ℕ) → Outcome → List ℕ → Type 0

@@ -61,11 +61,6 @@ abbrev pub seen_in : (ℕ → ℕ) → Option Step → Option Seen
 seen_in words None = None
 seen_in words (Some step) = Some (record { step = step; found = words (register step.op); left = after step.op (words (register step.op)) })
 
--- the words after it
-abbrev pub words_stepped : List ℕ → Option Step → List ℕ
-words_stepped words None = words
-words_stepped words (Some step) = slice_set words (register step.op) (after step.op (slice_index words (register step.op)))
-
 -- it is on one of these words, and adds no more than that can hold
 pub record CanStep (words : List ℕ) (o : Op) : Type 0 where
   pub within : register o < length words

@@ -11,9 +11,9 @@ abbrev pub word_of : Tally → ℕ
 word_of t = t.heads * 2 ^ 32 + t.tails
 
 -- one vote more, on one side
-abbrev pub voted : Tally → Bool → Tally
-voted t true = record t { heads = t.heads + 1 }
-voted t false = record t { tails = t.tails + 1 }
+abbrev pub tally_with : Tally → Bool → Tally
+tally_with t true = record t { heads = t.heads + 1 }
+tally_with t false = record t { tails = t.tails + 1 }
 
 -- what a vote adds to the word
 abbrev pub add_word_of : Bool → ℕ

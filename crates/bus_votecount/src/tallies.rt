@@ -2,7 +2,7 @@
 
 ghost use Rattle.std.specs.Prelude.{◌≡◌, ℕ, ◌+◌, ◌<◌, ◌≤◌, length};
 ghost use Rattle.bus_votecount.specs.declared.tallies.Tally.{Tally};
-ghost use Rattle.bus_votecount.specs.Tally.{tally_of, word_of, voted, add_word_of, total_of};
+ghost use Rattle.bus_votecount.specs.Tally.{tally_of, word_of, tally_with, add_word_of, total_of};
 
 /// The votes of one process in one coin: at most 64.
 pub const MOST_VOTES: u32 = 64;
@@ -40,7 +40,7 @@ impl Tally {
     /// One vote more.
     pub fn vote(self, head: bool) -> Tally
         requires { self.heads + self.tails < MOST_VOTES }
-        ensures { result ≡ voted self head }
+        ensures { result ≡ tally_with self head }
     {
         if head {
             Tally {
@@ -58,7 +58,7 @@ impl Tally {
     /// What a vote adds to a word that holds counts: the counts with the vote stand there then.
     pub fn add_word(head: bool) -> u64
         ensures value { result ≡ add_word_of head }
-        ensures adds { (t : Tally) → word_of t + result ≡ word_of (voted t head) }
+        ensures adds { (t : Tally) → word_of t + result ≡ word_of (tally_with t head) }
     {
         if head { 0x1_0000_0000 } else { 1 }
     }

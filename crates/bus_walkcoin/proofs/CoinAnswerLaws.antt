@@ -11,11 +11,11 @@ use Rattle.bus_register.specs.declared.kinds.Kind.TheVariants as kind
 use Rattle.bus_register.specs.declared.registers.Op.{Op}
 use Rattle.bus_register.specs.declared.registers.Op.TheVariants.{Load, Store, Add, Cas}
 use Rattle.bus_votecount.specs.declared.tallies.Tally.{Tally}
-use Rattle.bus_votecount.specs.Tally.{tally_of, voted, add_word_of, votes_of, total_of}
+use Rattle.bus_votecount.specs.Tally.{tally_of, tally_with, add_word_of, votes_of, total_of}
 use Rattle.bus_walkcoin.specs.declared.coins.Phase.{Phase}
 use Rattle.bus_walkcoin.specs.declared.coins.Phase.TheVariants.{Vote, ReadVotes, Answered}
 use Rattle.bus_walkcoin.specs.Coin.{CoinState, after_settled, after_load, coin_started, answer_at, wants_at, kind_at, coin_kind, coin_op, coin_fed, op_at, fed_at}
-use Rattle.bus_walkcoin.specs.CoinRule.{Entry, is_head, is_addition, is_vote, is_load, settled, votes, counted, is_one_load, are_round, last_steps, total_seen, is_round, coin_answer, is_first, coin_votes, step_due, kind_due}
+use Rattle.bus_walkcoin.specs.CoinRule.{Entry, is_head, is_addition, is_vote, is_load, settled_bit, votes, tally_of_votes, is_one_load, are_round, last_steps, total_seen, is_round, coin_answer, is_first, coin_votes, step_due, kind_due}
 use Rattle.bus_walkcoin.specs.CoinAnswer.{Took, CoinAnswer, RefusesEarlyAnswers, RefusesSteps}
 
 -- ---- one step more in a list
@@ -26,12 +26,12 @@ count_push p vs v = sum_by-append (λ x. cond (p x) 1 0) vs (v ∷ []) ∙ ap (�
 same_tally : (h h' t t' : ℕ) → h ≡ h' → t ≡ t' → (let a : Tally = record { heads = h; tails = t } in let b : Tally = record { heads = h'; tails = t' } in a ≡ b)
 same_tally h h' t t' e f = ap (λ z. (let a : Tally = record { heads = z; tails = t } in a)) e ∙ ap (λ z. (let a : Tally = record { heads = h'; tails = z } in a)) f
 
-counted_push : (vs : List Bool) (v : Bool) → counted (vs ++ v ∷ []) ≡ voted (counted vs) v
+counted_push : (vs : List Bool) (v : Bool) → tally_of_votes (vs ++ v ∷ []) ≡ tally_with (tally_of_votes vs) v
 counted_push vs true = same_tally _ _ _ _ (count_push (λ v. v) vs true) (count_push not vs true ∙ add-zero (count_by not vs))
 counted_push vs false = same_tally _ _ _ _ (count_push (λ v. v) vs false ∙ add-zero (count_by (λ v. v) vs)) (count_push not vs false)
 
 -- as many votes as there are heads and tails
-votes_of-counted : (vs : List Bool) → votes_of (counted vs) ≡ length vs
+votes_of-counted : (vs : List Bool) → votes_of (tally_of_votes vs) ≡ length vs
 votes_of-counted [] = refl
 votes_of-counted (true ∷ vs) = omega (arith, sum_by-cons (λ x. cond x 1 0) true vs, sum_by-cons (λ x. cond (not x) 1 0) true vs, votes_of-counted vs)
 votes_of-counted (false ∷ vs) = omega (arith, sum_by-cons (λ x. cond x 1 0) false vs, sum_by-cons (λ x. cond (not x) 1 0) false vs, votes_of-counted vs)
@@ -121,7 +121,7 @@ StandsAt n at trail (Answered answer) = coin_answer n at trail ≡ Some answer
 record Stands (n at : ℕ) (trail : List Entry) (s : CoinState) : Type 0 where
   n_is : s.n ≡ n
   at_is : s.at ≡ at
-  own : s.own ≡ counted (votes at trail)
+  own : s.own ≡ tally_of_votes (votes at trail)
   phase : StandsAt n at trail s.phase
 
 starts_stand : (n at : ℕ) → Stands n at [] (coin_started n at)
@@ -141,18 +141,18 @@ load_stands n at trail e h loads =
     let same : trail ++ e ∷ [] ≡ h.before ++ h.vote ∷ e ∷ [] = ap (λ z. z ++ e ∷ []) h.is ∙ append_assoc h.before (h.vote ∷ []) (e ∷ []) in
     let round : is_round at (trail ++ e ∷ []) ≡ true = ap (is_round at) same ∙ round_steps at h.before h.vote e ∙ both _ _ h.votes loads in
     let many : length (votes at (trail ++ e ∷ [])) ≡ length (votes at trail) = ap length (votes_load at trail e (loads_or_adds e.op at _ loads)) in
-    settled_stands n at (trail ++ e ∷ []) (settled n (length (votes at trail)) (total_of (tally_of e.got ∷ []))) round
-    (ap (λ z. cond z (settled n (length (votes at (trail ++ e ∷ []))) (total_seen (trail ++ e ∷ []))) None) round
-    ∙ ap (λ z. settled n z (total_seen (trail ++ e ∷ []))) many ∙ ap (settled n (length (votes at trail))) (seen_step trail e))
+    settled_stands n at (trail ++ e ∷ []) (settled_bit n (length (votes at trail)) (total_of (tally_of e.got ∷ []))) round
+    (ap (λ z. cond z (settled_bit n (length (votes at (trail ++ e ∷ []))) (total_seen (trail ++ e ∷ []))) None) round
+    ∙ ap (λ z. settled_bit n z (total_seen (trail ++ e ∷ []))) many ∙ ap (settled_bit n (length (votes at trail))) (seen_step trail e))
 
-step_stands : (ph : Phase) (n at : ℕ) (trail : List Entry) (s : CoinState) (e : Entry) → s.n ≡ n → s.at ≡ at → s.own ≡ counted (votes at trail) → StandsAt n at trail ph → op_at ph s e.word ≡ Some e.op → Stands n at (trail ++ e ∷ []) (fed_at ph s e.got e.word)
+step_stands : (ph : Phase) (n at : ℕ) (trail : List Entry) (s : CoinState) (e : Entry) → s.n ≡ n → s.at ≡ at → s.own ≡ tally_of_votes (votes at trail) → StandsAt n at trail ph → op_at ph s e.word ≡ Some e.op → Stands n at (trail ++ e ∷ []) (fed_at ph s e.got e.word)
 step_stands Vote n at trail s e n_is at_is own h next =
     let vote : is_vote at e ≡ true =
     ap (is_addition at (add_word_of (is_head e.word))) (sym (same_Some _ _ next)) ∙ both _ _ (ap (λ z. z == at) at_is ∙ same_number at) (same_number (add_word_of (is_head e.word))) in
     record {
       n_is = n_is;
       at_is = at_is;
-      own = ap (λ z. voted z (is_head e.word)) own ∙ sym (counted_push (votes at trail) (is_head e.word)) ∙ ap counted (sym (votes_vote at trail e vote));
+      own = ap (λ z. tally_with z (is_head e.word)) own ∙ sym (counted_push (votes at trail) (is_head e.word)) ∙ ap tally_of_votes (sym (votes_vote at trail e vote));
       phase = record { before = trail; vote = e; is = refl; votes = vote };
     }
 step_stands ReadVotes n at trail s e n_is at_is own h next =
@@ -161,7 +161,7 @@ step_stands ReadVotes n at trail s e n_is at_is own h next =
     record {
       n_is = n_is;
       at_is = at_is;
-      own = own ∙ ap counted (sym (votes_load at trail e (loads_or_adds e.op at _ loads)));
+      own = own ∙ ap tally_of_votes (sym (votes_load at trail e (loads_or_adds e.op at _ loads)));
       phase = subst (λ z. StandsAt n at (trail ++ e ∷ []) (after_load z (votes_of s.own) e.got)) (sym n_is)
           (subst (λ z. StandsAt n at (trail ++ e ∷ []) (after_load n z e.got)) many (load_stands n at trail e h loads));
     }
@@ -186,7 +186,7 @@ answer_stands Vote n at trail h = (sym h.1, sym (ap (λ z. z && is_none (coin_an
 answer_stands ReadVotes n at trail h =
     let none = unread at trail h in
     let later : is_first trail ≡ false = ap is_first h.is ∙ not_first h.before h.vote in (
-      sym (ap (λ z. cond z (settled n (length (votes at trail)) (total_seen trail)) None) none),
+      sym (ap (λ z. cond z (settled_bit n (length (votes at trail)) (total_seen trail)) None) none),
       sym (ap (λ z. (z || is_round at trail) && is_none (coin_answer n at trail)) later ∙ ap (λ z. z && is_none (coin_answer n at trail)) none),
     )
 answer_stands (Answered answer) n at trail h = (sym h, sym (ap (λ z. (is_first trail || is_round at trail) && is_none z) h ∙ off (is_first trail || is_round at trail)))

@@ -7,22 +7,22 @@ use Rattle.bus_register.specs.Words.{register, after, SumFits}
 use Rattle.bus_register.specs.Tables.{Beside, Stepped}
 use Rattle.bus_register.specs.Protocol.{Goes, IsStore, Laws}
 use Rattle.bus_votecount.specs.declared.tallies.Tally.{Tally}
-use Rattle.bus_votecount.specs.Tally.{tally_of, word_of, voted, add_word_of, votes_of, total_of, sum_of}
+use Rattle.bus_votecount.specs.Tally.{tally_of, word_of, tally_with, add_word_of, votes_of, total_of, sum_of}
 use Rattle.bus_walkcoin.specs.declared.coins.Phase.{Phase}
 use Rattle.bus_walkcoin.specs.declared.coins.Phase.TheVariants.{Vote, ReadVotes, Answered}
 use Rattle.bus_walkcoin.specs.Coin.{CoinState, after_settled, after_load, coin_started, answer_at, wants_at, coin_op, coin_fed, op_at, fed_at, PhaseFits}
-use Rattle.bus_walkcoin.specs.CoinRule.{settled, is_head}
+use Rattle.bus_walkcoin.specs.CoinRule.{settled_bit, is_head}
 use Rattle.bus_walkcoin.specs.Proved.CoinLaws.{load_fits}
 use Rattle.bus_walkcoin.specs.CoinProtocol.{left_at, begun_at, Belongs, tally_at, tallies, Keeps, coin_protocol, AnyAnswers}
 use Rattle.bus_walkcoin.proofs.VoteSums.{summed_same, summed_beside, summed_most}
 
 -- a vote is one more
-pub votes-voted : (t : Tally) (b : Bool) → votes_of (voted t b) ≡ votes_of t + 1
+pub votes-voted : (t : Tally) (b : Bool) → votes_of (tally_with t b) ≡ votes_of t + 1
 votes-voted t true = omega arith
 votes-voted t false = omega arith
 
 -- the word with a vote more is what the vote adds to it
-word-voted : (t : Tally) (b : Bool) → word_of (voted t b) ≡ word_of t + add_word_of b
+word-voted : (t : Tally) (b : Bool) → word_of (tally_with t b) ≡ word_of t + add_word_of b
 word-voted t true = omega arith
 word-voted t false = omega arith
 
@@ -68,7 +68,7 @@ goes_at Vote me s got word o e b few v f q =
       belongs = record { n_is = refl; at_is = refl; below = b; few = few; votes = omega arith; fits = omega arith };
       input = refl;
       begun = refl;
-      falls = subst (λ z. left_at (votes_of (voted s.own (is_head word))) ReadVotes < left_at (votes_of s.own) z) (sym e) (omega arith);
+      falls = subst (λ z. left_at (votes_of (tally_with s.own (is_head word))) ReadVotes < left_at (votes_of s.own) z) (sym e) (omega arith);
     }
 goes_at ReadVotes me s got word o e b few v f q =
     subst (λ z. Goes coin_protocol s.n me s.at z s (fed_at ReadVotes s got word)) (same_Some _ _ q) record {
@@ -76,9 +76,9 @@ goes_at ReadVotes me s got word o e b few v f q =
       below = omega arith;
       belongs = record { n_is = refl; at_is = refl; below = b; few = few; votes = v; fits = load_fits s.n (votes_of s.own) got f v };
       input = refl;
-      begun = settled_begun (votes_of s.own) (settled s.n (votes_of s.own) (total_of (tally_of got ∷ []))) f;
+      begun = settled_begun (votes_of s.own) (settled_bit s.n (votes_of s.own) (total_of (tally_of got ∷ []))) f;
       falls = subst (λ z. left_at (votes_of s.own) (after_load s.n (votes_of s.own) got) < left_at (votes_of s.own) z) (sym e)
-          (let most = settled_left (votes_of s.own) (settled s.n (votes_of s.own) (total_of (tally_of got ∷ []))) in omega arith);
+          (let most = settled_left (votes_of s.own) (settled_bit s.n (votes_of s.own) (total_of (tally_of got ∷ []))) in omega arith);
     }
 goes_at (Answered answer) me s got word o e b few v f q = absurd cc
 

@@ -8,8 +8,8 @@ use Rattle.bus_register.specs.declared.kinds.Kind.TheVariants as kind
 use Rattle.bus_register.specs.declared.registers.Op.{Op}
 use Rattle.bus_register.specs.declared.registers.Op.TheVariants.{Load, Add}
 use Rattle.bus_votecount.specs.declared.tallies.Tally.{Tally}
-use Rattle.bus_votecount.specs.Tally.{tally_of, voted, add_word_of, votes_of, total_of}
-use Rattle.bus_walkcoin.specs.CoinRule.{is_head, settled}
+use Rattle.bus_votecount.specs.Tally.{tally_of, tally_with, add_word_of, votes_of, total_of}
+use Rattle.bus_walkcoin.specs.CoinRule.{is_head, settled_bit}
 use Rattle.bus_walkcoin.specs.declared.coins.Phase.{Phase}
 use Rattle.bus_walkcoin.specs.declared.coins.Phase.TheVariants.{Vote, ReadVotes, Answered}
 
@@ -65,10 +65,10 @@ after_settled (Some answer) = Answered answer
 
 -- after the load of the counter, of n processes, with so many own votes, which found this number
 abbrev pub after_load : ℕ → ℕ → ℕ → Phase
-after_load n votes got = after_settled (settled n votes (total_of (tally_of got ∷ [])))
+after_load n votes got = after_settled (settled_bit n votes (total_of (tally_of got ∷ [])))
 
 abbrev pub fed_at : Phase → CoinState → ℕ → ℕ → CoinState
-fed_at Vote s got word = record s { own = voted s.own (is_head word); phase = ReadVotes }
+fed_at Vote s got word = record s { own = tally_with s.own (is_head word); phase = ReadVotes }
 fed_at ReadVotes s got word = record s { phase = after_load s.n (votes_of s.own) got }
 fed_at (Answered answer) s got word = s
 

@@ -7,7 +7,7 @@ use Rattle.bus_register.specs.declared.registers.Op.TheVariants.{Load, Store, Ad
 use Rattle.bus_register.specs.declared.registers.Reg.{Reg}
 use Rattle.bus_votecount.specs.Tally.{add_word_of}
 use Rattle.bus_walkcoin.specs.Coin.{CoinState, answer_of, wants_of}
-use Rattle.bus_walkcoin.specs.CoinRule.{Entry, is_head, is_vote, is_load, votes, counted, total_seen, coin_answer, coin_votes, step_due, kind_due}
+use Rattle.bus_walkcoin.specs.CoinRule.{Entry, is_head, is_vote, is_load, votes, tally_of_votes, total_seen, coin_answer, coin_votes, step_due, kind_due}
 
 -- a process that stood at s took these steps, each of which was its next one, and stands at t
 abbrev pub Took : {S : Type 0} → (S → ℕ → Option Op) → (S → ℕ → ℕ → S) → S → List Entry → S → Type 0
@@ -16,7 +16,7 @@ Took op fed s (e ∷ trail) t = (op s e.word ≡ Some e.op) × Took op fed (fed 
 
 -- a process of n, whose counter is this word, that took these steps: its own votes, its answer, and whether it votes next
 pub record CoinAnswer (n at : ℕ) (trail : List Entry) (s : CoinState) : Type 0 where
-  pub votes : s.own ≡ counted (votes at trail)
+  pub votes : s.own ≡ tally_of_votes (votes at trail)
   pub answer : answer_of s ≡ coin_answer n at trail
   pub wants : wants_of s ≡ coin_votes n at trail
 

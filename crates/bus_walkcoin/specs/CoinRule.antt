@@ -43,8 +43,8 @@ abbrev pub votes : ℕ → List Entry → List Bool
 votes at trail = map (λ e. is_head e.word) (filter (is_vote at) trail)
 
 -- these votes, counted
-abbrev pub counted : List Bool → Tally
-counted vs = record { heads = count_by (λ v. v) vs; tails = count_by not vs }
+abbrev pub tally_of_votes : List Bool → Tally
+tally_of_votes vs = record { heads = count_by (λ v. v) vs; tails = count_by not vs }
 
 -- this is one step, a load of the counter word
 abbrev pub is_one_load : ℕ → List Entry → Bool
@@ -71,15 +71,15 @@ is_round at trail = are_round at (last_steps 2 trail)
 
 -- The rule of the coin: what a process of n answers that has voted so often and has found this total since: at least 2n is true, at
 -- most -2n is false, and after 64 votes the sign answers. Else there is no answer, and it votes again.
-abbrev pub settled : ℕ → ℕ → ℤ → Option Bool
-settled n votes total = if int_le (pos (2 * n)) total then Some true
+abbrev pub settled_bit : ℕ → ℕ → ℤ → Option Bool
+settled_bit n votes total = if int_le (pos (2 * n)) total then Some true
     else if int_le total (neg_ℤ (pos (2 * n))) then Some false
     else if votes == MOST_VOTES then Some (int_lt (pos 0) total)
     else None
 
 -- the answer: by that rule once the load after a vote is done, and none at any other time
 abbrev pub coin_answer : ℕ → ℕ → List Entry → Option Bool
-coin_answer n at trail = if is_round at trail then settled n (length (votes at trail)) (total_seen trail) else None
+coin_answer n at trail = if is_round at trail then settled_bit n (length (votes at trail)) (total_seen trail) else None
 
 -- no step was taken yet
 abbrev pub is_first : List Entry → Bool

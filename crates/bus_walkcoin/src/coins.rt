@@ -1,7 +1,7 @@
 //! One process in one coin.
 
 ghost use Rattle.std.specs.Prelude.{◌≡◌, ℕ, ◌≤◌};
-ghost use Rattle.bus_walkcoin.specs.CoinRule.{settled};
+ghost use Rattle.bus_walkcoin.specs.CoinRule.{settled_bit};
 ghost use Rattle.bus_walkcoin.specs.Coin.{after_settled, answer_of, wants_of, coin_started};
 
 use bus_register::limits::MOST_PROCESSES;
@@ -49,7 +49,7 @@ impl Model for WalkCoin {
 /// What the total says after so many own votes.
 fn settle(n: u64, votes: u32, lead: i64) -> Option<bool>
     requires { n ≤ MOST_PROCESSES }
-    ensures { result ≡ settled n votes lead }
+    ensures { result ≡ settled_bit n votes lead }
 {
     let barrier = 2 * n as i64;
     if barrier <= lead {
@@ -66,7 +66,7 @@ fn settle(n: u64, votes: u32, lead: i64) -> Option<bool>
 /// Where a process stands that has loaded the counter and found this total in it.
 fn go_on(n: u64, votes: u32, lead: i64) -> Phase
     requires { n ≤ MOST_PROCESSES }
-    ensures { result ≡ after_settled (settled n votes lead) }
+    ensures { result ≡ after_settled (settled_bit n votes lead) }
 {
     match settle(n, votes, lead) {
         Some(answer) => Phase::Answered(answer),

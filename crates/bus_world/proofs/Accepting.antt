@@ -20,7 +20,7 @@ use Rattle.bus_tenure.specs.declared.pages.Page.{Page}
 use Rattle.bus_tenure.specs.declared.phases.Phase.{Phase as SenderPhase}
 use Rattle.bus_tenure.specs.declared.phases.Phase.TheVariants as phase
 use Rattle.bus_ownerbits.specs.OneOwner.{OneOwner}
-use Rattle.bus_world.specs.Log.{sent}
+use Rattle.bus_world.specs.Log.{sent_count}
 use Rattle.bus_world.proofs.LogLaws.{length-read, log_words-append}
 use Rattle.bus_world.specs.Bus.{IsLayout, Part, Fits, Sending}
 use Rattle.bus_world.proofs.BusLaws as bus
@@ -67,7 +67,7 @@ order_short [] = omega arith
 order_short (f ∷ frames) =
     let a = length-append (items_of f) (order_of frames).items in let b = length-append (frame_words f) (log_words frames) in let d = body_short f.owner f.body in let e = order_short frames in omega arith
 
-sent_short : (s : ℕ) (frames : List Frame) → sent s frames ≤ length (log_words frames)
+sent_short : (s : ℕ) (frames : List Frame) → sent_count s frames ≤ length (log_words frames)
 sent_short s frames = let a = filter_short (λ i. i.sender.0 == s) (order_of frames).items in let b = order_short frames in omega arith
 
 -- ---- tests

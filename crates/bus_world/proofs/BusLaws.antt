@@ -22,7 +22,7 @@ use Rattle.bus_tenure.specs.declared.phases.Reason.TheVariants.{Sent, FoundEnd, 
 use Rattle.bus_tenure.specs.declared.pages.Page.{Page}
 use Rattle.bus_tenure.specs.declared.phases.Phase.{Phase}
 use Rattle.bus_tenure.specs.declared.phases.Phase.TheVariants as phase
-use Rattle.bus_world.specs.Log.{read, sent, AreCounted, AreEarlier, Logged, Knows}
+use Rattle.bus_world.specs.Log.{words_read_from, sent_count, AreCounted, AreEarlier, Logged, Knows}
 use Rattle.bus_register.specs.Tables.{put}
 use Rattle.bus_register.specs.Proved.TableLaws.{put_here, put_beside, some_or_none, push_beside}
 use Rattle.bus_world.proofs.LogLaws.{read-agree, Logged-agree, Logged-publish, sent-append_other, sent-append_owner, has_end-append, AreEarlier-append, AreEarlier-later}
@@ -53,7 +53,7 @@ module _ {E : Type 0} (x : Layout) (words words' : ℕ → ℕ) (frames : List F
     earlier = w.earlier;
     stored_below = w.stored_below;
     allowed = w.allowed;
-    words_are = ap (λ z. read words' (log_at c.layout + z) stored) len ∙ read-agree words words' (log_at c.layout + words 0) stored (λ r a b. agree r (let z = ap log_at layout in omega arith) (bound r a b)) ∙ w.words_are;
+    words_are = ap (λ z. words_read_from words' (log_at c.layout + z) stored) len ∙ read-agree words words' (log_at c.layout + words 0) stored (λ r a b. agree r (let z = ap log_at layout in omega arith) (bound r a b)) ∙ w.words_are;
   } where
     bound : (r : ℕ) → log_at c.layout + words 0 ≤ r → r < log_at c.layout + words 0 + stored → r < log_at x + x.capacity
     bound r a b =
@@ -74,21 +74,21 @@ pub Part-agree : {E : Type 0} (x : Layout) (words words' : ℕ → ℕ) (frames 
 Part-agree x words words' frames p c agree len h = record { layout = h.layout; me = h.me; below = h.below; sender = h.sender; queue = h.queue; fits = Fits-agree x words words' frames c h.layout agree len c.phase h.fits }
 
 -- a sender that holds no page only counts its own items
-Fits-rests : {E : Type 0} (words words' : ℕ → ℕ) (frames frames' : List Frame) (c : Core E) (ph : Phase E) → ((t : ℕ) → stands_at ph ≡ Holds t → ⊥) → sent c.me frames' ≡ sent c.me frames → Fits words frames c ph → Fits words' frames' c ph
+Fits-rests : {E : Type 0} (words words' : ℕ → ℕ) (frames frames' : List Frame) (c : Core E) (ph : Phase E) → ((t : ℕ) → stands_at ph ≡ Holds t → ⊥) → sent_count c.me frames' ≡ sent_count c.me frames → Fits words frames c ph → Fits words' frames' c ph
 Fits-rests words words' frames frames' c phase.Resting free e f = (f.0, f.1 ∙ sym e)
 Fits-rests words words' frames frames' c (phase.Electing t u) free e f = (f.0, f.1 ∙ sym e)
 Fits-rests words words' frames frames' c (phase.Taken t) free e f = absurd (free t refl)
 Fits-rests words words' frames frames' c (phase.Holding t page stored published) free e f = absurd (free t refl)
 Fits-rests words words' frames frames' c (phase.Giving t reason) free e f = absurd (free t refl)
 
-pub Part-rests : {E : Type 0} (x : Layout) (words words' : ℕ → ℕ) (frames frames' : List Frame) (p : ℕ) (c : Core E) → ((t : ℕ) → stands_at c.phase ≡ Holds t → ⊥) → sent p frames' ≡ sent p frames → Part x words frames p c → Part x words' frames' p c
+pub Part-rests : {E : Type 0} (x : Layout) (words words' : ℕ → ℕ) (frames frames' : List Frame) (p : ℕ) (c : Core E) → ((t : ℕ) → stands_at c.phase ≡ Holds t → ⊥) → sent_count p frames' ≡ sent_count p frames → Part x words frames p c → Part x words' frames' p c
 Part-rests x words words' frames frames' p c free e h = record {
   layout = h.layout;
   me = h.me;
   below = h.below;
   sender = h.sender;
   queue = h.queue;
-  fits = Fits-rests words words' frames frames' c c.phase free (subst (λ z. sent z frames' ≡ sent z frames) (sym h.me) e) h.fits;
+  fits = Fits-rests words words' frames frames' c c.phase free (subst (λ z. sent_count z frames' ≡ sent_count z frames) (sym h.me) e) h.fits;
 }
 
 pub part_of : {E : Type 0} (x : Layout) (words words' : ℕ → ℕ) (frames frames' : List Frame) (p : ℕ) (c : Core E) (ph : Phase E) → Part x words frames p c → Fits words' frames' (record c { phase = ph }) ph → Part x words' frames' p (record c { phase = ph })
@@ -220,7 +220,7 @@ module _ {E : Type 0} (X : Election E) (P : Protocol E (Unit {0}) ℕ) (laws : L
       chosen_holding u page k published holds = chosen_from (λ t e o a b. absurd (holding_apart u page k published t e (sym holds ∙ a)))
 
       -- the others, where p alone may hold the page
-      others_rest : (t : ℕ) (words' : ℕ → ℕ) (frames' : List Frame) → S p ≡ Some (Holds t) → ((q : ℕ) → q ≢ p → sent q frames' ≡ sent q frames) → (q : ℕ) (d : Core E) → q ≢ p → senders q ≡ Some d → Part x words' frames' q d
+      others_rest : (t : ℕ) (words' : ℕ → ℕ) (frames' : List Frame) → S p ≡ Some (Holds t) → ((q : ℕ) → q ≢ p → sent_count q frames' ≡ sent_count q frames) → (q : ℕ) (d : Core E) → q ≢ p → senders q ≡ Some d → Part x words' frames' q d
       others_rest t words' frames' holds same q d ne e = Part-rests x words words' frames frames' q d (λ u f. ne (sym (one_holder p q t u holds (stand q d e ∙ ap Some f)))) (same q ne) (h.parts q d e)
 
       others_agree : (words' : ℕ → ℕ) → Agree (log_at x) x.capacity words words' → words' 0 ≡ words 0 → (q : ℕ) (d : Core E) → q ≢ p → senders q ≡ Some d → Part x words' frames q d
@@ -403,10 +403,10 @@ module _ {E : Type 0} (X : Election E) (P : Protocol E (Unit {0}) ℕ) (laws : L
             words_are =
                 let at = log_at c.layout + words' 0 in
                 let same_at : log_at c.layout + words' 0 ≡ log_at x + words 0 = ap (λ z. log_at c.layout + z) len_same ∙ ap (λ z. log_at z + words 0) own_part.layout in
-                let before : read words' (log_at c.layout + words' 0) stored ≡ take stored (frame_words (frame_of c.queue t)) =
-                read-agree words words' (log_at c.layout + words' 0) stored (λ r a b. past r (omega arith)) ∙ ap (λ z. read words (log_at c.layout + z) stored) len_same ∙ w.words_are in
+                let before : words_read_from words' (log_at c.layout + words' 0) stored ≡ take stored (frame_words (frame_of c.queue t)) =
+                read-agree words words' (log_at c.layout + words' 0) stored (λ r a b. past r (omega arith)) ∙ ap (λ z. words_read_from words (log_at c.layout + z) stored) len_same ∙ w.words_are in
                 let last : words' (log_at c.layout + words' 0 + stored) ≡ slice_index (frame_words (frame_of c.queue t)) stored = ap words' (let e = place in omega arith) ∙ word in
-                ap (read words' (log_at c.layout + words' 0)) (let e : stored + 1 ≡ suc stored = omega arith in e) ∙ ap (λ z. z ++ words' (log_at c.layout + words' 0 + stored) ∷ []) before ∙ ap (λ z. take stored (frame_words (frame_of c.queue t)) ++ z ∷ []) last
+                ap (words_read_from words' (log_at c.layout + words' 0)) (let e : stored + 1 ≡ suc stored = omega arith in e) ∙ ap (λ z. z ++ words' (log_at c.layout + words' 0 + stored) ∷ []) before ∙ ap (λ z. take stored (frame_words (frame_of c.queue t)) ++ z ∷ []) last
                 ∙ sym (take_more (frame_words (frame_of c.queue t)) stored 0 more);
           }
 
@@ -446,16 +446,16 @@ module _ {E : Type 0} (X : Election E) (P : Protocol E (Unit {0}) ℕ) (laws : L
           all_stored : stored ≡ frame_len c
           all_stored = let a = written.1.stored_below in omega arith
 
-          whole : read words (log_at x + words 0) (length (frame_words f)) ≡ frame_words f
+          whole : words_read_from words (log_at x + words 0) (length (frame_words f)) ≡ frame_words f
           whole =
-              ap (λ z. read words (log_at z + words 0) (length (frame_words f))) (sym own_part.layout) ∙ ap (read words (log_at c.layout + words 0)) (sym all_stored) ∙ written.1.words_are
+              ap (λ z. words_read_from words (log_at z + words 0) (length (frame_words f))) (sym own_part.layout) ∙ ap (words_read_from words (log_at c.layout + words 0)) (sym all_stored) ∙ written.1.words_are
               ∙ ap (λ z. take z (frame_words f)) all_stored ∙ take-length (frame_words f)
 
           len_now : words' 0 ≡ words 0 + length (frame_words f)
           len_now = word ∙ ap (λ z. z + frame_len c) written.1.page_knows.words
 
-          counts : AreCounted (sent f.owner.0 frames) (items_of f)
-          counts = subst (λ z. AreCounted z (items_of f)) (written.1.base ∙ ap (λ z. sent z frames) (own_part.me ∙ sym sender_is)) (counted_frame c.queue t)
+          counts : AreCounted (sent_count f.owner.0 frames) (items_of f)
+          counts = subst (λ z. AreCounted z (items_of f)) (written.1.base ∙ ap (λ z. sent_count z frames) (own_part.me ∙ sym sender_is)) (counted_frame c.queue t)
 
           pub publishes : Sending P x words' home senders' owners (frames ++ f ∷ [])
           publishes = record {
@@ -486,7 +486,7 @@ module _ {E : Type 0} (X : Election E) (P : Protocol E (Unit {0}) ℕ) (laws : L
 
         -- ── it gives the page back ──
         module _ (reason : Reason) (words' : ℕ → ℕ) (stage : words' 1 ≡ 2 * t + 2) (elsewhere : (r : ℕ) → r ≢ 1 → words' r ≡ words r) (goes : c' ≡ core_at_rest c reason t)
-            (base_now : (queue_after reason c.queue).first ≡ sent c.me frames) (queue_now : IsKept (queue_after reason c.queue)) (knows_now : Knows (page_after c t page reason) frames (t + 1) (words 0)) (earlier_now : AreEarlier (t + 1) frames) where
+            (base_now : (queue_after reason c.queue).first ≡ sent_count c.me frames) (queue_now : IsKept (queue_after reason c.queue)) (knows_now : Knows (page_after c t page reason) frames (t + 1) (words 0)) (earlier_now : AreEarlier (t + 1) frames) where
           rests_now : Fits words' frames (core_at_rest c reason t) phase.Resting
           rests_now = (not_busy reason c.queue, base_now)
 
@@ -526,9 +526,9 @@ module _ {E : Type 0} (X : Election E) (P : Protocol E (Unit {0}) ℕ) (laws : L
               let w = subst (λ z. Fits words frames c (phase.Holding t page stored z)) sent_yet (subst (Fits words frames c) holds own_part.fits) in
               let f = frame_of c.queue t in
               let me_is : c.queue.sender.0 ≡ c.me = own_part.sender ∙ sym own_part.me in
-              let base_now : next_of c.queue ≡ sent c.me frames =
-              ap (λ z. z + length c.queue.messages) w.1.base ∙ ap (λ z. sent c.me w.1.front + z) (sym (length-items c.queue t own_part.queue))
-              ∙ ap (λ z. sent z w.1.front + length (items_of f)) (sym me_is) ∙ sym (sent-append_owner w.1.front f) ∙ ap (λ z. sent z (w.1.front ++ f ∷ [])) me_is ∙ ap (sent c.me) (sym w.1.frames_are) in
+              let base_now : next_of c.queue ≡ sent_count c.me frames =
+              ap (λ z. z + length c.queue.messages) w.1.base ∙ ap (λ z. sent_count c.me w.1.front + z) (sym (length-items c.queue t own_part.queue))
+              ∙ ap (λ z. sent_count z w.1.front + length (items_of f)) (sym me_is) ∙ sym (sent-append_owner w.1.front f) ∙ ap (λ z. sent_count z (w.1.front ++ f ∷ [])) me_is ∙ ap (sent_count c.me) (sym w.1.frames_are) in
               let k = w.1.page_knows in
               let small : c.me < 8 = let a = own_part.me in let b = own_part.below in let d = ok.senders in omega arith in
               gives_back Sent words' stage elsewhere goes base_now
@@ -536,8 +536,8 @@ module _ {E : Type 0} (X : Election E) (P : Protocol E (Unit {0}) ℕ) (laws : L
               record {
                 entries = length-set page.next c.me (next_of c.queue) ∙ k.entries;
                 next = λ s l. elim (cases_eq s c.me) [
-                  | inl i ↦ ap (slice_index (slice_set page.next c.me (next_of c.queue))) i ∙ get_or-set_same page.next c.me (next_of c.queue) 0 (let a = k.entries in omega arith) ∙ base_now ∙ ap (λ z. sent z frames) (sym i)
-                  | inr ne ↦ get_or-set_other page.next c.me s (next_of c.queue) 0 ne ∙ k.next s l ∙ sym (sent-append_other s w.1.front f (λ e. ne (e ∙ me_is))) ∙ ap (sent s) (sym w.1.frames_are)
+                  | inl i ↦ ap (slice_index (slice_set page.next c.me (next_of c.queue))) i ∙ get_or-set_same page.next c.me (next_of c.queue) 0 (let a = k.entries in omega arith) ∙ base_now ∙ ap (λ z. sent_count z frames) (sym i)
+                  | inr ne ↦ get_or-set_other page.next c.me s (next_of c.queue) 0 ne ∙ k.next s l ∙ sym (sent-append_other s w.1.front f (λ e. ne (e ∙ me_is))) ∙ ap (sent_count s) (sym w.1.frames_are)
                 ];
                 ended = sym (ends-body c.queue) ∙ sym (has_end-append w.1.front f (sym k.ended ∙ w.1.is_open)) ∙ ap has_end (sym w.1.frames_are);
                 tenures = refl;

@@ -5,7 +5,7 @@ use Rattle.std.proofs.lemmas.Bool.Decides.{eqb_tells}
 use Rattle.std.proofs.lemmas.Option.{same_Some, slice_get_within}
 use Rattle.bus_register.specs.Tables.{Beside}
 use Rattle.bus_register.specs.Proved.TableLaws.{get_set_same, get_set_other}
-use Rattle.bus_batch.specs.Batches.{Pending, body_of, frame_of, sent}
+use Rattle.bus_batch.specs.Batches.{Pending, body_of, frame_of, phase_sent}
 use Rattle.bus_batch.specs.declared.batches.Phase.{Phase as BatchPhase}
 use Rattle.bus_batch.specs.declared.batches.Phase.TheVariants.{Open, Closing, Closed as Shut}
 use Rattle.bus_batch.specs.Frames.{Frame, EndMark}
@@ -29,7 +29,7 @@ pub still_closed : (xs ys : List Deed) → Closed xs → Closed (xs ++ ys)
 still_closed xs ys h = (h.0, got_before xs ys h.0 HasClosed h.1)
 
 -- ---- a turn makes no batch a closing one
-sent_apart : (ph : BatchPhase) → sent ph ≡ Closing → ⊥
+sent_apart : (ph : BatchPhase) → phase_sent ph ≡ Closing → ⊥
 sent_apart Open e = cc
 sent_apart Closing e = cc
 sent_apart Shut e = cc

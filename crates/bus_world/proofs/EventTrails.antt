@@ -40,8 +40,8 @@ use Rattle.bus_world.specs.Bus.{IsLayout, Fits}
 use Rattle.bus_world.proofs.FrameOwners.{counted_from, owner_took, rise}
 use Rattle.bus_world.proofs.Beginning.{zeros}
 use Rattle.bus_world.proofs.BusLaws as bus
-use Rattle.bus_world.specs.Headline.{Deed, HasPut, HasClosed, Stepped, puts, Took, Closed, item_heard, end_heard, given, IsPrefix, Promises}
-use Rattle.bus_world.specs.Log.{sent}
+use Rattle.bus_world.specs.Headline.{Deed, HasPut, HasClosed, Stepped, puts, Took, Closed, item_heard, end_heard, order_given, IsPrefix, Promises}
+use Rattle.bus_world.specs.Log.{sent_count}
 use Rattle.bus_world.proofs.LogLaws.{length-read}
 use Rattle.bus_world.specs.Turning.{Side, side_after, core_after, number_found}
 use Rattle.bus_world.specs.World.{Bus, Event, Put, Close, Turn, Recv, Stop, going, IsEvent, Happens, SenderDoes, with_sender, can_put, can_close, put_in, close_in, LawfulBus, IsNew, is_open, given_at}
@@ -71,14 +71,14 @@ true_or true b e = refl
 true_or false b e = absurd (let z : false ≡ true = e in cc)
 
 -- what was given grows with the answers
-given_more : (trail trail' : List RecvTurn) → IsPrefix trail trail' → (q q' : Order) → IsPrefixOfOrder (given trail) q → IsPrefixOfOrder (given trail') q' → IsPrefixOfOrder q q' → IsPrefixOfOrder (given trail) (given trail')
+given_more : (trail trail' : List RecvTurn) → IsPrefix trail trail' → (q q' : Order) → IsPrefixOfOrder (order_given trail) q → IsPrefixOfOrder (order_given trail') q' → IsPrefixOfOrder q q' → IsPrefixOfOrder (order_given trail) (order_given trail')
 given_more trail trail' more q q' front front' grown = record {
   later = flat_map item_heard more.rest;
   items = ap (flat_map item_heard) (sym more.together) ∙ flat_map-append item_heard trail more.rest;
   ended = λ e.
       let q_is = front.ended e in
       let q_ended : q.ended ≡ true = ap (λ (z : Order). z.ended) (sym q_is) ∙ e in
-      let also : (given trail').ended ≡ true = ap (list_any end_heard) (sym more.together) ∙ list_any-append end_heard trail more.rest ∙ true_or (list_any end_heard trail) (list_any end_heard more.rest) e in
+      let also : (order_given trail').ended ≡ true = ap (list_any end_heard) (sym more.together) ∙ list_any-append end_heard trail more.rest ∙ true_or (list_any end_heard trail) (list_any end_heard more.rest) e in
       q_is ∙ grown.ended q_ended ∙ sym (front'.ended also);
 }
 
@@ -290,8 +290,8 @@ module _ {E : Type 0} (X : Election E) (P : Protocol E (Unit {0}) ℕ) (laws : L
         let sent_now = map (λ (v : Item). v.message) (of_sender s (order_of frames)) in
         let waits : waiting_of (slice_get b.side.senders s) ≡ c.queue.messages = ap waiting_of i ∙ ap (waiting_at c) e in
         let size : length (put_by b frames s) ≡ length sent_now + length c.queue.messages = ap (λ z. length (sent_now ++ z)) waits ∙ length-append sent_now c.queue.messages in
-        let many : length sent_now ≡ sent s frames = length-map (of_sender s (order_of frames)) (λ (v : Item). v.message) in
-        let first : c.queue.first ≡ sent s frames = fits.1 ∙ ap (λ z. sent z frames) part.me in
+        let many : length sent_now ≡ sent_count s frames = length-map (of_sender s (order_of frames)) (λ (v : Item). v.message) in
+        let first : c.queue.first ≡ sent_count s frames = fits.1 ∙ ap (λ z. sent_count z frames) part.me in
         omega arith
     number_at s c i (phase.Electing t u) e fits idle = absurd (busy_apart c.queue.busy fits.0.busy idle)
     number_at s c i (phase.Taken t) e fits idle = absurd fits
@@ -489,7 +489,7 @@ module _ {E : Type 0} (X : Election E) (P : Protocol E (Unit {0}) ℕ) (laws : L
     grown : IsPrefixOfOrder (order_of k.frames) (order_of (k.frames ++ m.more))
     grown = order_grows x.senders k.frames m.more m.lawful.keeps.sending.log.lawful
 
-    heard_grows : (r : ℕ) → IsPrefixOfOrder (given (T.heard r)) (given (T'.heard r))
+    heard_grows : (r : ℕ) → IsPrefixOfOrder (order_given (T.heard r)) (order_given (T'.heard r))
     heard_grows r = given_more (T.heard r) (T'.heard r) (more r) (order_of k.frames) (order_of (k.frames ++ m.more)) ((page old T k).delivered r) ((page new T' later).delivered r) grown
 
     pub stays : StaysPromised x old T new T'
@@ -532,7 +532,7 @@ module _ {E : Type 0} (X : Election E) (P : Protocol E (Unit {0}) ℕ) (laws : L
   }
 
   -- what each receiver was given is what stands below its place
-  pub given_below : (b : Bus E) (T : Trails) (r : Reached X x b T) (frames : List Frame) → AreFrames x.senders frames → log_of (record { layout = x; bus = b }) ≡ log_words frames → (q : ℕ) (v : Receiving) → slice_get b.receivers q ≡ Some v → given (T.heard q) ≡ given_at frames v
+  pub given_below : (b : Bus E) (T : Trails) (r : Reached X x b T) (frames : List Frame) → AreFrames x.senders frames → log_of (record { layout = x; bus = b }) ≡ log_words frames → (q : ℕ) (v : Receiving) → slice_get b.receivers q ≡ Some v → order_given (T.heard q) ≡ given_at frames v
   given_below b T r frames lawful words q v i = let k = reached_kept b T r in let log = k.lawful.keeps.sending.log in
       (k.tied.heard q v i).given_is ∙ ap (λ z. given_at z v) (same_log x.senders 0 0 k.frames frames log.lawful lawful (sym log.words_are ∙ words))
 

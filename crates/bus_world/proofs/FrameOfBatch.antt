@@ -2,7 +2,7 @@
 use Rattle.std.proofs.Common.{◌≡◌, ℕ, ◌+◌, List, [], ◌∷◌, length, map, refl, sym, ◌∙◌, ap}
 use Rattle.std.proofs.lemmas.List.{length-map}
 use Rattle.bus_register.specs.declared.registers.SenderNo.{SenderNo}
-use Rattle.bus_batch.specs.Messages.{numbered}
+use Rattle.bus_batch.specs.Messages.{numbered_messages}
 use Rattle.bus_batch.specs.Frames.{body_items, items_of, item_of, ends}
 use Rattle.bus_batch.proofs.BatchLaws.{length-numbered}
 use Rattle.bus_batch.specs.Batches.{Pending, IsKept, body_of, frame_of}
@@ -11,7 +11,7 @@ use Rattle.bus_batch.specs.declared.batches.Phase.TheVariants.{Open, Closing, Cl
 use Rattle.bus_tenure.specs.Core.{is_closing}
 use Rattle.bus_world.specs.Log.{AreCounted}
 
-counted_items : (owner : SenderNo) (base : ℕ) (ms : List (List ℕ)) → AreCounted base (map (item_of owner) (numbered base ms))
+counted_items : (owner : SenderNo) (base : ℕ) (ms : List (List ℕ)) → AreCounted base (map (item_of owner) (numbered_messages base ms))
 counted_items owner base [] = tt
 counted_items owner base (m ∷ ms) = (refl, counted_items owner (base + 1) ms)
 
@@ -25,9 +25,9 @@ pub counted_frame : (q : Pending) (t : ℕ) → AreCounted q.first (items_of (fr
 counted_frame q t = counted_at q.phase q
 
 items_at : (ph : Phase) (q : Pending) → q.phase ≡ ph → IsKept q → length (body_items q.sender (body_of ph q.first q.messages)) ≡ length q.messages
-items_at Open q e is = length-map (numbered q.first q.messages) (item_of q.sender) ∙ length-numbered q.first q.messages
+items_at Open q e is = length-map (numbered_messages q.first q.messages) (item_of q.sender) ∙ length-numbered q.first q.messages
 items_at Closing q e is = sym (ap length (is.alone e))
-items_at Closed q e is = length-map (numbered q.first q.messages) (item_of q.sender) ∙ length-numbered q.first q.messages
+items_at Closed q e is = length-map (numbered_messages q.first q.messages) (item_of q.sender) ∙ length-numbered q.first q.messages
 
 -- as many items as messages
 pub length-items : (q : Pending) (t : ℕ) → IsKept q → length (items_of (frame_of q t)) ≡ length q.messages

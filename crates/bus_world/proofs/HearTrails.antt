@@ -18,10 +18,10 @@ use Rattle.bus_deliverylog.specs.Receiving.{Receiving, turn_of}
 use Rattle.bus_deliverylog.specs.declared.receiving.RecvTurn.{RecvTurn}
 use Rattle.bus_deliverylog.specs.declared.receiving.RecvTurn.TheVariants as heard
 use Rattle.bus_tenure.specs.Core.{Layout, log_at}
-use Rattle.bus_world.specs.Log.{read, Logged}
+use Rattle.bus_world.specs.Log.{words_read_from, Logged}
 use Rattle.bus_world.proofs.LogLaws.{length-read}
 use Rattle.bus_world.proofs.ReceivingLaws.{given_is_prefix, length-log_pieces}
-use Rattle.bus_world.specs.Headline.{item_heard, end_heard, head_heard, given, heads, IsPrefix}
+use Rattle.bus_world.specs.Headline.{item_heard, end_heard, head_heard, order_given, heads, IsPrefix}
 use Rattle.bus_world.proofs.Places.{got_split}
 use Rattle.bus_world.proofs.Tying.{Hears, IsSilent}
 use Rattle.bus_world.specs.World.{RecvDoes, RecvStep, recv_found, IsReceiver, given_at}
@@ -34,7 +34,7 @@ more_order o items ended = record { items = o.items ++ items; ended = o.ended ||
 order_so : (items items' : List Item) (a b : Bool) → items ≡ items' → a ≡ b → ◌≡◌ {A = Order} (record { items = items; ended = a }) (record { items = items'; ended = b })
 order_so items items' a b e f = ap (λ z. record { items = z; ended = a }) e ∙ ap (λ z. record { items = items'; ended = z }) f
 
-given_more : (trail : List RecvTurn) (a : RecvTurn) → given (trail ++ a ∷ []) ≡ more_order (given trail) (item_heard a) (end_heard a)
+given_more : (trail : List RecvTurn) (a : RecvTurn) → order_given (trail ++ a ∷ []) ≡ more_order (order_given trail) (item_heard a) (end_heard a)
 given_more trail a = order_so _ _ _ _ (flat_map-append item_heard trail (a ∷ []) ∙ ap (λ z. flat_map item_heard trail ++ z) (append-nil (item_heard a)))
     (list_any-append end_heard trail (a ∷ []) ∙ ap (λ z. list_any end_heard trail || z) (or-false (end_heard a)))
 
@@ -79,14 +79,14 @@ or_left true b e = refl
 or_left false b e = absurd cc
 
 -- ---- words of the log
-index-read : (words : ℕ → ℕ) (at k i : ℕ) → i < k → slice_index (read words at k) i ≡ words (at + i)
+index-read : (words : ℕ → ℕ) (at k i : ℕ) → i < k → slice_index (words_read_from words at k) i ≡ words (at + i)
 index-read words at zero i l = absurd (omega arith)
 index-read words at (suc k) i l = elim (cases_lt i k) [
-  | inl below ↦ get_or_append_left (read words at k) (words (at + k) ∷ []) 0 i (let z = length-read words at k in omega arith) ∙ index-read words at k i below
+  | inl below ↦ get_or_append_left (words_read_from words at k) (words (at + k) ∷ []) 0 i (let z = length-read words at k in omega arith) ∙ index-read words at k i below
   | inr past ↦
       let size = length-read words at k in
-      let e : i ≡ length (read words at k) = omega arith in
-      ap (slice_index (read words at k ++ words (at + k) ∷ [])) e ∙ last (read words at k) (words (at + k)) ∙ ap words (omega arith)
+      let e : i ≡ length (words_read_from words at k) = omega arith in
+      ap (slice_index (words_read_from words at k ++ words (at + k) ∷ [])) e ∙ last (words_read_from words at k) (words (at + k)) ∙ ap words (omega arith)
 ] where
   last : (xs : List ℕ) (w : ℕ) → slice_index (xs ++ w ∷ []) (length xs) ≡ w
   last xs w = grind (arith, common_steps)
@@ -104,7 +104,7 @@ hears_later frames more v trail l h =
     record { given_is = h.given_is ∙ ap order_in (sym front); heads_are = h.heads_are ∙ ap owners_in (sym front); ended = h.ended; going = h.going; silent = h.silent }
 
 -- ---- after the end
-end_given : (trail : List RecvTurn) (j : ℕ) → slice_get trail j ≡ Some heard.End → (given trail).ended ≡ true
+end_given : (trail : List RecvTurn) (j : ℕ) → slice_get trail j ≡ Some heard.End → (order_given trail).ended ≡ true
 end_given [] j e = absurd cc
 end_given (x ∷ trail) zero e = ap (λ z. end_heard z || list_any end_heard trail) (same_Some _ _ e)
 end_given (x ∷ trail) (suc j) e = or_true (end_heard x) (list_any end_heard trail) (end_given trail j e)
@@ -116,7 +116,7 @@ only_one answer (suc i) a e = absurd (none_there i a e)
     none_there : (i : ℕ) (a : RecvTurn) → slice_get [] i ≡ Some a → ⊥
     none_there i a e = cc
 
-silent_more : (trail : List RecvTurn) (answer : RecvTurn) → IsSilent trail → (answer ≡ heard.End) ⊎ ((given trail).ended ≡ false) → IsSilent (trail ++ answer ∷ [])
+silent_more : (trail : List RecvTurn) (answer : RecvTurn) → IsSilent trail → (answer ≡ heard.End) ⊎ ((order_given trail).ended ≡ false) → IsSilent (trail ++ answer ∷ [])
 silent_more trail answer h how j k a at l here = elim (got_split trail (answer ∷ []) k a here) [
   | inl old ↦ elim (got_split trail (answer ∷ []) j heard.End at) [
     | inl first ↦ h j k a first l old
@@ -141,7 +141,7 @@ record Tells_nothing (v next : Receiving) (answer : RecvTurn) : Type 0 where
 module _ (frames : List Frame) (v : Receiving) (trail : List RecvTurn) (h : Hears frames v trail) (answer : RecvTurn) (next : Receiving) where
   quiet : v.ended ≡ false → Tells_nothing v next answer → Hears frames next (trail ++ answer ∷ [])
   quiet on q =
-      let same : given (trail ++ answer ∷ []) ≡ given trail = given_more trail answer ∙ ap (λ z. more_order (given trail) z (end_heard answer)) q.items ∙ ap (more_order (given trail) []) q.ends ∙ nothing_more (given trail) in
+      let same : order_given (trail ++ answer ∷ []) ≡ order_given trail = given_more trail answer ∙ ap (λ z. more_order (order_given trail) z (end_heard answer)) q.items ∙ ap (more_order (order_given trail) []) q.ends ∙ nothing_more (order_given trail) in
       record {
         given_is = same ∙ h.given_is ∙ ap (λ z. order_in (take z (log_pieces frames))) (sym q.place);
         heads_are = heads_more trail answer ∙ ap (λ z. heads trail ++ z) q.head ∙ append-nil (heads trail) ∙ h.heads_are ∙ ap (λ z. owners_in (take z (log_pieces frames))) (sym q.place);
@@ -161,7 +161,7 @@ module _ (frames : List Frame) (v : Receiving) (trail : List RecvTurn) (h : Hear
         given_is = given_more trail answer ∙ ap (λ z. more_order z (item_heard answer) (end_heard answer)) h.given_is ∙ ap (λ z. more_order (given_at frames v) z (end_heard answer)) items ∙ ap (more_order (given_at frames v) (piece_items found)) ends
             ∙ sym (order_more (take v.place (log_pieces frames)) found) ∙ ap order_in (sym pieces);
         heads_are = heads_more trail answer ∙ ap (λ z. z ++ head_heard answer) h.heads_are ∙ ap (λ z. owners_in (take v.place (log_pieces frames)) ++ z) (ap head_heard told ∙ head_told found) ∙ sym (owners_more (take v.place (log_pieces frames)) found) ∙ ap owners_in (sym pieces);
-        ended = λ e. ap (λ (z : Order). z.ended) (given_more trail answer) ∙ or_true (given trail).ended (end_heard answer) (ends ∙ sym ended_is ∙ e);
+        ended = λ e. ap (λ (z : Order). z.ended) (given_more trail answer) ∙ or_true (order_given trail).ended (end_heard answer) (ends ∙ sym ended_is ∙ e);
         going = λ e. ap (λ (z : Order). z.ended) (given_more trail answer) ∙ ap (λ z. z || end_heard answer) (h.going on) ∙ ends ∙ sym ended_is ∙ e;
         silent = silent_more trail answer h.silent (inr (h.going on));
       }
@@ -169,8 +169,8 @@ module _ (frames : List Frame) (v : Receiving) (trail : List RecvTurn) (h : Hear
   -- after the end it hears of it again
   again : v.ended ≡ true → answer ≡ heard.End → next ≡ v → Hears frames next (trail ++ answer ∷ [])
   again e told same =
-      let still : given (trail ++ answer ∷ []) ≡ given trail =
-      given_more trail answer ∙ ap (λ z. more_order (given trail) (item_heard z) (end_heard z)) told ∙ order_so _ _ _ _ (append-nil (given trail).items) (or_left (given trail).ended true (h.ended e)) in
+      let still : order_given (trail ++ answer ∷ []) ≡ order_given trail =
+      given_more trail answer ∙ ap (λ z. more_order (order_given trail) (item_heard z) (end_heard z)) told ∙ order_so _ _ _ _ (append-nil (order_given trail).items) (or_left (order_given trail).ended true (h.ended e)) in
       record {
         given_is = still ∙ h.given_is ∙ ap (λ (z : Receiving). given_at frames z) (sym same);
         heads_are = heads_more trail answer ∙ ap (λ z. heads trail ++ head_heard z) told ∙ append-nil (heads trail) ∙ h.heads_are ∙ ap (λ (z : Receiving). owners_in (take z.place (log_pieces frames))) (sym same);
@@ -236,8 +236,8 @@ heads_prefix frames n = record {
   together = sym (flat_map-append piece_owners (take n (log_pieces frames)) (drop n (log_pieces frames))) ∙ ap owners_in (take-append-drop n (log_pieces frames)) ∙ owners_in-log frames;
 }
 
-pub delivered_to : (n : ℕ) (frames : List Frame) → AreFrames n frames → (o : Option Receiving) (trail : List RecvTurn) → IsTold frames o trail → IsPrefixOfOrder (given trail) (order_of frames)
-delivered_to n frames lawful None trail told = subst (λ z. IsPrefixOfOrder (given z) (order_of frames)) (sym told) (given_is_prefix n frames 0 lawful)
+pub delivered_to : (n : ℕ) (frames : List Frame) → AreFrames n frames → (o : Option Receiving) (trail : List RecvTurn) → IsTold frames o trail → IsPrefixOfOrder (order_given trail) (order_of frames)
+delivered_to n frames lawful None trail told = subst (λ z. IsPrefixOfOrder (order_given z) (order_of frames)) (sym told) (given_is_prefix n frames 0 lawful)
 delivered_to n frames lawful (Some v) trail told = subst (λ z. IsPrefixOfOrder z (order_of frames)) (sym told.given_is) (given_is_prefix n frames v.place lawful)
 
 pub heads_to : (frames : List Frame) (o : Option Receiving) (trail : List RecvTurn) → IsTold frames o trail → IsPrefix (heads trail) (map tenure_and_owner frames)

@@ -11,23 +11,23 @@ use Rattle.bus_batch.specs.Frames.{Frame, Body, Messages, EndMark, AreFramesFrom
 use Rattle.bus_batch.specs.Messages.{Numbered}
 use Rattle.bus_register.specs.declared.registers.SenderNo.{SenderNo}
 use Rattle.bus_deliverylog.specs.Orders.{of_sender}
-use Rattle.bus_world.specs.Log.{read, sent, AreCounted, AreEarlier, Logged}
+use Rattle.bus_world.specs.Log.{words_read_from, sent_count, AreCounted, AreEarlier, Logged}
 
 -- ---- words
-pub read-agree : (words words' : ℕ → ℕ) (at k : ℕ) → Agree at k words words' → read words' at k ≡ read words at k
+pub read-agree : (words words' : ℕ → ℕ) (at k : ℕ) → Agree at k words words' → words_read_from words' at k ≡ words_read_from words at k
 read-agree words words' at zero same = refl
-read-agree words words' at (suc k) same = ap (λ z. z ++ words' (at + k) ∷ []) (read-agree words words' at k (λ r a b. same r a (omega arith))) ∙ ap (λ z. read words at k ++ z ∷ []) (same (at + k) (omega arith) (omega arith))
+read-agree words words' at (suc k) same = ap (λ z. z ++ words' (at + k) ∷ []) (read-agree words words' at k (λ r a b. same r a (omega arith))) ∙ ap (λ z. words_read_from words at k ++ z ∷ []) (same (at + k) (omega arith) (omega arith))
 
-pub read-add : (words : ℕ → ℕ) (at j k : ℕ) → read words at (j + k) ≡ read words at j ++ read words (at + j) k
+pub read-add : (words : ℕ → ℕ) (at j k : ℕ) → words_read_from words at (j + k) ≡ words_read_from words at j ++ words_read_from words (at + j) k
 read-add words at j zero = grind (arith, common_steps)
 read-add words at j (suc k) =
     let e : j + suc k ≡ suc (j + k) = omega arith in
     let f : at + (j + k) ≡ at + j + k = omega arith in
-    ap (read words at) e ∙ ap (λ z. z ++ words (at + (j + k)) ∷ []) (read-add words at j k) ∙ append_assoc (read words at j) (read words (at + j) k) (words (at + (j + k)) ∷ []) ∙ ap (λ z. read words at j ++ (read words (at + j) k ++ words z ∷ [])) f
+    ap (words_read_from words at) e ∙ ap (λ z. z ++ words (at + (j + k)) ∷ []) (read-add words at j k) ∙ append_assoc (words_read_from words at j) (words_read_from words (at + j) k) (words (at + (j + k)) ∷ []) ∙ ap (λ z. words_read_from words at j ++ (words_read_from words (at + j) k ++ words z ∷ [])) f
 
-pub length-read : (words : ℕ → ℕ) (at k : ℕ) → length (read words at k) ≡ k
+pub length-read : (words : ℕ → ℕ) (at k : ℕ) → length (words_read_from words at k) ≡ k
 length-read words at zero = refl
-length-read words at (suc k) = length-append (read words at k) (words (at + k) ∷ []) ∙ (let z = length-read words at k in omega arith)
+length-read words at (suc k) = length-append (words_read_from words at k) (words (at + k) ∷ []) ∙ (let z = length-read words at k in omega arith)
 
 -- ---- items
 pub AreCounted-append : (first : ℕ) (xs ys : List Item) → AreCounted first xs → AreCounted (first + length xs) ys → AreCounted first (xs ++ ys)
@@ -95,23 +95,23 @@ module _ (n capacity at : ℕ) (words : ℕ → ℕ) (len : ℕ) (frames : List 
   Logged-agree words' same = record { lawful = h.lawful; words_are = read-agree words words' at len same ∙ h.words_are; fits = h.fits; counted = h.counted }
 
   -- a frame whose words stand past the length is published by raising the length
-  pub Logged-publish : (f : Frame) → IsFrame n f → has_end frames ≡ false → AreEarlier f.tenure frames → AreCounted (sent f.owner.0 frames) (items_of f) → read words (at + len) (length (frame_words f)) ≡ frame_words f
+  pub Logged-publish : (f : Frame) → IsFrame n f → has_end frames ≡ false → AreEarlier f.tenure frames → AreCounted (sent_count f.owner.0 frames) (items_of f) → words_read_from words (at + len) (length (frame_words f)) ≡ frame_words f
       → len + length (frame_words f) ≤ capacity → Logged n capacity at words (len + length (frame_words f)) (frames ++ f ∷ [])
   Logged-publish f is open_ended earlier counts stored fits = record {
     lawful = AreFramesFrom-append n 0 frames f h.lawful is open_ended earlier (omega arith);
-    words_are = read-add words at len (length (frame_words f)) ∙ ap (λ z. z ++ read words (at + len) (length (frame_words f))) h.words_are ∙ ap (λ z. log_words frames ++ z) stored ∙ sym (log_words-append frames f);
+    words_are = read-add words at len (length (frame_words f)) ∙ ap (λ z. z ++ words_read_from words (at + len) (length (frame_words f))) h.words_are ∙ ap (λ z. log_words frames ++ z) stored ∙ sym (log_words-append frames f);
     fits = fits;
     counted = λ s. subst (AreCounted 0) (sym (of_sender-append s frames f)) (AreCounted-append 0 (of_sender s (order_of frames)) (filter (λ i. i.sender.0 == s) (items_of f)) (h.counted s) (by_sender s));
   } where
     by_sender : (s : ℕ) → AreCounted (0 + length (of_sender s (order_of frames))) (filter (λ i. i.sender.0 == s) (items_of f))
     by_sender s = elim (cases_eq s f.owner.0) [
-      | inl i ↦ subst (λ z. AreCounted (0 + sent z frames) (filter (λ x. x.sender.0 == z) (items_of f))) (sym i) (subst (AreCounted (0 + sent f.owner.0 frames)) (sym (owned_items f)) (subst (λ z. AreCounted z (items_of f)) (omega arith) counts))
-      | inr ne ↦ subst (AreCounted (0 + sent s frames)) (sym (others_items s f ne)) tt
+      | inl i ↦ subst (λ z. AreCounted (0 + sent_count z frames) (filter (λ x. x.sender.0 == z) (items_of f))) (sym i) (subst (AreCounted (0 + sent_count f.owner.0 frames)) (sym (owned_items f)) (subst (λ z. AreCounted z (items_of f)) (omega arith) counts))
+      | inr ne ↦ subst (AreCounted (0 + sent_count s frames)) (sym (others_items s f ne)) tt
     ]
 
 -- how many items of each sender there are then
-pub sent-append_owner : (frames : List Frame) (f : Frame) → sent f.owner.0 (frames ++ f ∷ []) ≡ sent f.owner.0 frames + length (items_of f)
-sent-append_owner frames f = ap length (of_sender-append f.owner.0 frames f) ∙ length-append (of_sender f.owner.0 (order_of frames)) _ ∙ ap (λ z. sent f.owner.0 frames + length z) (owned_items f)
+pub sent-append_owner : (frames : List Frame) (f : Frame) → sent_count f.owner.0 (frames ++ f ∷ []) ≡ sent_count f.owner.0 frames + length (items_of f)
+sent-append_owner frames f = ap length (of_sender-append f.owner.0 frames f) ∙ length-append (of_sender f.owner.0 (order_of frames)) _ ∙ ap (λ z. sent_count f.owner.0 frames + length z) (owned_items f)
 
-pub sent-append_other : (s : ℕ) (frames : List Frame) (f : Frame) → s ≢ f.owner.0 → sent s (frames ++ f ∷ []) ≡ sent s frames
-sent-append_other s frames f ne = ap length (of_sender-append s frames f) ∙ length-append (of_sender s (order_of frames)) _ ∙ ap (λ z. sent s frames + length z) (others_items s f ne) ∙ (omega arith)
+pub sent-append_other : (s : ℕ) (frames : List Frame) (f : Frame) → s ≢ f.owner.0 → sent_count s (frames ++ f ∷ []) ≡ sent_count s frames
+sent-append_other s frames f ne = ap length (of_sender-append s frames f) ∙ length-append (of_sender s (order_of frames)) _ ∙ ap (λ z. sent_count s frames + length z) (others_items s f ne) ∙ (omega arith)

@@ -9,7 +9,7 @@ use Rattle.bus_register.specs.Proved.TableLaws.{get_set_same, get_set_other}
 use Rattle.bus_batch.specs.declared.batches.Phase.{Phase as BatchPhase}
 use Rattle.bus_batch.specs.declared.batches.Phase.TheVariants.{Open, Closing, Closed}
 use Rattle.bus_batch.specs.declared.messages.Item.{Item}
-use Rattle.bus_batch.specs.Messages.{numbered}
+use Rattle.bus_batch.specs.Messages.{numbered_messages}
 use Rattle.bus_batch.specs.Batches.{Pending, IsKept, frame_of, body_of}
 use Rattle.bus_batch.specs.Frames.{Frame, order_of, items_of, body_items, item_of}
 use Rattle.bus_tenure.specs.Core.{Core, Election, frame_len, has_room, is_empty, is_closing, is_closed}
@@ -25,7 +25,7 @@ use Rattle.bus_world.specs.Turning.{Side, number_found, core_with_page, core_aft
 use Rattle.bus_world.proofs.Waiting.{frames_after, waiting_at, waiting_of}
 
 -- the messages of a frame are those of the batch
-messages_numbered : (owner : SenderNo) (base : ℕ) (ms : List (List ℕ)) → map (λ (i : Item). i.message) (map (item_of owner) (numbered base ms)) ≡ ms
+messages_numbered : (owner : SenderNo) (base : ℕ) (ms : List (List ℕ)) → map (λ (i : Item). i.message) (map (item_of owner) (numbered_messages base ms)) ≡ ms
 messages_numbered owner base [] = refl
 messages_numbered owner base (m ∷ ms) = ap (λ z. m ∷ z) (messages_numbered owner (base + 1) ms)
 

@@ -29,10 +29,10 @@ use Rattle.bus_tenure.specs.declared.phases.Reason.{Reason}
 use Rattle.bus_tenure.specs.declared.phases.Phase.TheVariants as phase
 use Rattle.bus_tenure.proofs.Situated.{tells}
 use Rattle.bus_guest.specs.Guests.{Goes, sizes_with, log_from, place_for, sweep_due, due_swept, due_home, due_beside}
-use Rattle.bus_guest.specs.Turns.{Visitor, due, op_due, on_place, placed}
+use Rattle.bus_guest.specs.Turns.{Visitor, due, op_due, on_place, op_placed}
 use Rattle.bus_world.specs.Bus.{Part, Fits, standing_of, stands_at, least_of}
-use Rattle.bus_world.specs.Headline.{given}
-use Rattle.bus_world.specs.Log.{read}
+use Rattle.bus_world.specs.Headline.{order_given}
+use Rattle.bus_world.specs.Log.{words_read_from}
 use Rattle.bus_world.specs.Rings.{Ring, RingTrails, yard_of, core_in}
 use Rattle.bus_world.specs.Tenures.Standing.{Runs}
 use Rattle.bus_world.specs.Trails.{Takers}
@@ -91,14 +91,14 @@ module _ {E : Type 0} (X : Election E) (P : Protocol E (Unit {0}) ℕ) (laws : L
   pub log_below : slice_index b.words 0 ≤ b.layout.capacity
   log_below = subst (λ n. n ≤ b.layout.capacity) (sym k.kept.laid.length) k.kept.sending.log.fits
 
-  log_read : read (slice_index b.words) (log_from b.layout b.rows) (slice_index b.words 0) ≡ log_words k.frames
+  log_read : words_read_from (slice_index b.words) (log_from b.layout b.rows) (slice_index b.words 0) ≡ log_words k.frames
   log_read =
       let capacity = k.kept.sending.log.fits in
-      ap (read (slice_index b.words) (log_from b.layout b.rows)) k.kept.laid.length
+      ap (words_read_from (slice_index b.words) (log_from b.layout b.rows)) k.kept.laid.length
       ∙ words_read X P laws b.layout x.ok x.width x.starts owner_is named announces apart b.rows x.two (k.V 0) (slice_index b.words) k.V (log_from b.layout b.rows) (log_at b.layout) (λ j l. k.kept.laid.log j (omega arith))
       ∙ k.kept.sending.log.words_are
 
-  pub frames_there : (frames : List Frame) × AreFrames b.layout.senders frames × (read (slice_index b.words) (log_from b.layout b.rows) (slice_index b.words 0) ≡ log_words frames)
+  pub frames_there : (frames : List Frame) × AreFrames b.layout.senders frames × (words_read_from (slice_index b.words) (log_from b.layout b.rows) (slice_index b.words 0) ≡ log_words frames)
   frames_there = (k.frames, k.kept.sending.log.lawful, log_read)
 
   pub takers_are : Takers h.leads.owners T.deeds
@@ -168,7 +168,7 @@ module _ {E : Type 0} (X : Election E) (P : Protocol E (Unit {0}) ℕ) (laws : L
       stored_fits : (at n : ℕ) → Some (Store record { 0 = at } n) ≡ Some o → FitsHere o
       stored_fits at n e = subst FitsHere (same_Some _ _ e) tt
 
-      election_fits : (t : ℕ) (u : E) → situation_of X v.core ≡ Elects t u → (d : Option Op) → X.op u word ≡ d → placed (place_for v.core.layout v.rows (Elects t u)) d ≡ Some o → FitsHere o
+      election_fits : (t : ℕ) (u : E) → situation_of X v.core ≡ Elects t u → (d : Option Op) → X.op u word ≡ d → op_placed (place_for v.core.layout v.rows (Elects t u)) d ≡ Some o → FitsHere o
       election_fits t u here None next e = absurd cc
       election_fits t u here (Some q) next e = subst FitsHere (same_Some _ _ e) (placed_fits t u here word q next (place_for v.core.layout v.rows (Elects t u)) (place_same (Elects t u)))
 
@@ -228,5 +228,5 @@ module _ {E : Type 0} (X : Election E) (P : Protocol E (Unit {0}) ℕ) (laws : L
             omega arith
 
     -- it was given what stands below its place
-    pub given_is : (frames : List Frame) → AreFrames b.layout.senders frames → read (slice_index b.words) (log_from b.layout b.rows) (slice_index b.words 0) ≡ log_words frames → given (T.heard r) ≡ given_at frames v
+    pub given_is : (frames : List Frame) → AreFrames b.layout.senders frames → words_read_from (slice_index b.words) (log_from b.layout b.rows) (slice_index b.words 0) ≡ log_words frames → order_given (T.heard r) ≡ given_at frames v
     given_is frames lawful words = hears.hears.given_is ∙ ap (λ f. given_at f v) (same_log b.layout.senders 0 0 k.frames frames k.kept.sending.log.lawful lawful (sym log_read ∙ words))

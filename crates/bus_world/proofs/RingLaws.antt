@@ -24,7 +24,7 @@ use Rattle.bus_presence.specs.declared.visits.Visit.{Visit}
 use Rattle.bus_presence.specs.declared.visits.Visit.TheVariants.{Away, Entering, Looking, Inside, Parting, Barred}
 use Rattle.bus_guest.specs.Guests.{log_from, Due, Visits, Sweeps, Goes, due_of, due_beside, due_home, due_swept, sweep_due, sizes_with, place_for, core_looked, core_seen, core_going, visit_going, sweep_going, answer_going}
 use Rattle.bus_guest.specs.Keeping.{held_of}
-use Rattle.bus_guest.specs.Turns.{Visitor, due, op_due, on_place, placed, visitor_due, answer_due, queue_seen}
+use Rattle.bus_guest.specs.Turns.{Visitor, due, op_due, on_place, op_placed, visitor_due, answer_due, queue_seen}
 use Rattle.bus_tenure.specs.Core.{Core, Election, Layout, stage_at}
 use Rattle.bus_tenure.specs.Situations.{Situation, IsClosed, IsIdle, IsSpent, LooksAtStage, Elects, TakesPage, AwaitsPage, StoresWord, StoresLength, GivesBack, HasHanded, PageMove, situation_of, line_of, op_at, core_begun, core_elected, waits}
 use Rattle.bus_tenure.specs.declared.pages.Page.{Page}
@@ -72,7 +72,7 @@ same_after f (Store at m) n = refl
 same_after f (Add at m) n = refl
 same_after f (Cas at m k) n = refl
 
-placed_words : (f : ℕ → ℕ) (xs : List ℕ) (d : Option Op) → ((o : Op) → placed f d ≡ Some o → register o < length xs) → slice_index (words_after xs (placed f d)) ≡ words_stepped f (slice_index xs) d
+placed_words : (f : ℕ → ℕ) (xs : List ℕ) (d : Option Op) → ((o : Op) → op_placed f d ≡ Some o → register o < length xs) → slice_index (words_after xs (op_placed f d)) ≡ words_stepped f (slice_index xs) d
 placed_words f xs None low = refl
 placed_words f xs (Some o) low =
     let r = register (on_place f o) in
@@ -80,7 +80,7 @@ placed_words f xs (Some o) low =
     ∙ ap (λ q. put q (after (on_place f o) (slice_index xs q)) (slice_index xs)) (same_register f o)
     ∙ ap (λ n. put (f (register o)) n (slice_index xs)) (same_after f o (slice_index xs (f (register o))))
 
-placed_found : (f : ℕ → ℕ) (w : ℕ → ℕ) (d : Option Op) → number_found w (placed f d) ≡ word_found f w d
+placed_found : (f : ℕ → ℕ) (w : ℕ → ℕ) (d : Option Op) → number_found w (op_placed f d) ≡ word_found f w d
 placed_found f w None = refl
 placed_found f w (Some o) = ap w (same_register f o)
 
@@ -293,7 +293,7 @@ module _ {E : Type 0} (X : Election E) (P : Protocol E (Unit {0}) ℕ) (laws : L
       sweep' = sweep_going b.layout b.rows l.sweep z
 
       got_is : got ≡ word_found (place_for b.layout b.rows z) y.hall.words step
-      got_is = ap (λ f. number_found (slice_index b.words) (placed f step)) (place_same z) ∙ placed_found (place_for b.layout b.rows z) (slice_index b.words) step
+      got_is = ap (λ f. number_found (slice_index b.words) (op_placed f step)) (place_same z) ∙ placed_found (place_for b.layout b.rows z) (slice_index b.words) step
 
       goes_as : ((t : ℕ) → held_of v'.core.phase ≡ Some t → v'.sweep ≡ sweep') → ((p : ℕ) (w : Visitor E) (t : ℕ) → p ≢ s → slice_get b.guests p ≡ Some w → held_of w.core.phase ≡ Some t → l.sweep ≡ sweep')
           → ((o : Op) → op_due X v (Goes z) word ≡ Some o → register o < length b.words) → answer ≡ answer_going X v.core z got word → Leads X (ring_after X b s v (Goes z) word) (ring_trails b s (Goes z) T) (ring_deeds X b s v (Goes z) word answer D) H
@@ -303,7 +303,7 @@ module _ {E : Type 0} (X : Election E) (P : Protocol E (Unit {0}) ℕ) (laws : L
         holder = holder_after v' sweep' own others;
         led = subst (λ yy. Led X b.layout b.rows yy (ring_trails b s (Goes z) T) (ring_deeds X b s v (Goes z) word answer D) H)
             (yards_same _ _ _ _ _ _ sweep' (home_after X v.core z b.home) y.receivers (yard_after X b.layout b.rows y s v.core (Goes z) word).owners
-            (sym (ap (λ f. slice_index (words_after b.words (placed f step))) (place_same z) ∙ placed_words (place_for b.layout b.rows z) b.words step (λ o i. low o (ap (λ f. placed f step) (place_same z) ∙ i))))
+            (sym (ap (λ f. slice_index (words_after b.words (op_placed f step))) (place_same z) ∙ placed_words (place_for b.layout b.rows z) b.words step (λ o i. low o (ap (λ f. op_placed f step) (place_same z) ∙ i))))
             (ap (λ u. put s (visit_going X v.core u z (word_found (place_for b.layout b.rows z) y.hall.words step) word) y.hall.visits) visit_is ∙ ap (λ g. put s (visit_going X v.core v.visit z g word) y.hall.visits) (sym got_is) ∙ sym (list_put visit_in b.guests s v' within))
             (ap (λ g. put s (Some (core_moved (after_step (line_of X v.core z).move) b.home (core_going X v.core z g word))) y.senders) (sym got_is) ∙ sym (list_put core_in b.guests s v' within)))
             (led_as (Goes z) e (told ∙ ap (λ g. answer_going X v.core z g word) got_is));

@@ -6,7 +6,7 @@ use Rattle.bus_batch.specs.Frames.{Frame, Order, AreFrames, log_words}
 use Rattle.bus_deliverylog.specs.Receiving.{Receiving}
 use Rattle.bus_tenure.specs.Core.{Election, Layout}
 use Rattle.bus_world.specs.Bus.{IsLayout}
-use Rattle.bus_world.specs.Headline.{given}
+use Rattle.bus_world.specs.Headline.{order_given}
 use Rattle.bus_world.specs.Playing.{SizedBus, AllAnswered, Answers, log_of}
 use Rattle.bus_world.proofs.PlayingLaws.{layout_served, one_there}
 use Rattle.bus_world.specs.Telling.{Tells}
@@ -39,8 +39,8 @@ module _ {E : Type 0} (X : Election E) (P : Protocol E (Unit {0}) ℕ) (x : Layo
   pub took : (T : Trails) → Reached X now.layout now.bus T → Takers now.bus.side.owners T.deeds
   took T r = (promised T r).by.takers
 
-  pub below : (T : Trails) → Reached X now.layout now.bus T → (frames : List Frame) → AreFrames now.layout.senders frames → log_of now ≡ log_words frames → (r : ℕ) (v : Receiving) → slice_get now.bus.receivers r ≡ Some v → given (T.heard r) ≡ given_at frames v
-  below = subst (λ z. (T : Trails) → Reached X z.layout z.bus T → (frames : List Frame) → AreFrames z.layout.senders frames → log_of z ≡ log_words frames → (r : ℕ) (v : Receiving) → slice_get z.bus.receivers r ≡ Some v → given (T.heard r) ≡ given_at frames v) is
+  pub below : (T : Trails) → Reached X now.layout now.bus T → (frames : List Frame) → AreFrames now.layout.senders frames → log_of now ≡ log_words frames → (r : ℕ) (v : Receiving) → slice_get now.bus.receivers r ≡ Some v → order_given (T.heard r) ≡ given_at frames v
+  below = subst (λ z. (T : Trails) → Reached X z.layout z.bus T → (frames : List Frame) → AreFrames z.layout.senders frames → log_of z ≡ log_words frames → (r : ℕ) (v : Receiving) → slice_get z.bus.receivers r ≡ Some v → order_given (T.heard r) ≡ given_at frames v) is
       (λ T r. trails.given_below X P s.laws x served s.width s.starts s.owner_is s.named s.announces s.apart b T r)
 
   frames_there : (frames : List Frame) × AreFrames now.layout.senders frames × (log_of now ≡ log_words frames)
@@ -48,7 +48,7 @@ module _ {E : Type 0} (X : Election E) (P : Protocol E (Unit {0}) ℕ) (x : Layo
 
   -- what stands below the place of a receiver is what it was given
   pub heard : (r : ℕ) → r < length now.bus.receivers → (order : Order) → ((frames : List Frame) (v : Receiving) → AreFrames now.layout.senders frames → log_of now ≡ log_words frames → slice_get now.bus.receivers r ≡ Some v → order ≡ given_at frames v)
-      → (T : Trails) → Reached X now.layout now.bus T → order ≡ given (T.heard r)
+      → (T : Trails) → Reached X now.layout now.bus T → order ≡ order_given (T.heard r)
   heard r l order stands T reached =
       let v = one_there now.bus.receivers r l in
       let f = frames_there in

@@ -1,27 +1,30 @@
 -- A stop is for good, and changes nothing else.
-use Rattle.std.proofs.Common.{◌≡◌, ◌≢◌, ℕ, ◌<◌, Bool, true, false, cond, ne_eqb, arith, is_some, Option, Some, None, inl, inr, List, [], ◌∷◌, ◌++◌, length, slice_get, refl, sym, ◌∙◌, ap, subst}
+use Rattle.std.proofs.Common.{◌≡◌, ◌≢◌, ℕ, zero, suc, ◌<◌, Bool, true, false, cond, ne_eqb, arith, is_some, Option, Some, None, inl, inr, List, [], ◌∷◌, ◌++◌, length, slice_get, slice_set, if◌then◌else◌, ◌==◌, All, refl, sym, ◌∙◌, ap, subst}
 use Rattle.std.specs.Prelude.{◌⊎◌}
 use Rattle.std.proofs.lemmas.Bool.{true≢false, cases_eq}
-use Rattle.std.proofs.lemmas.List.{append-nil, length-replicate}
+use Rattle.std.proofs.lemmas.List.{append-nil, length-replicate, set-set, set_comm}
 use Rattle.std.proofs.Math.ListN.{length-set}
 use Rattle.bus_register.specs.Protocol.{Protocol, Laws}
 use Rattle.bus_register.specs.Proved.TableLaws.{get_set_same, get_set_other}
 use Rattle.bus_register.specs.declared.kinds.Kind.TheVariants as kind
 use Rattle.bus_ownerbits.specs.OneOwner.{OneOwner}
+use Rattle.bus_deliverylog.specs.Receiving.{Receiving}
 use Rattle.bus_tenure.specs.Core.{Core, Election, Layout}
 use Rattle.bus_tenure.specs.Situations.{situation_of}
 use Rattle.bus_world.specs.Bus.{IsLayout}
-use Rattle.bus_world.specs.Playing.{AllAnswered, Answers, PutGives, CloseGives, TurnAnswers, StopGives, PutRefused, CloseRefused, TurnRefused, StopRefused, UnlessStopped}
-use Rattle.bus_world.specs.Stopping.{JustStopped, StaysStopped, StopsAreForGood, StopRefuses}
+use Rattle.bus_world.specs.Headline.{Deed}
+use Rattle.bus_world.specs.Playing.{AllAnswered, Answers, PutGives, CloseGives, TurnAnswers, RecvAnswers, StopGives, Refused, PutRefused, CloseRefused, TurnRefused, RecvRefused, StopRefused, UnlessStopped}
+use Rattle.bus_world.specs.Stopping.{IsOfOther, JustStopped, StaysStopped, StopsAreForGood, StopRefuses}
 use Rattle.bus_world.specs.Trails.{Trails, Reached, trails_grown, trails_after, deeds_of, put_deeds, close_deeds, turning_deeds}
 use Rattle.bus_world.specs.Trails.Reached.{New, Then}
 use Rattle.bus_world.specs.Turning.{Side, side_after}
-use Rattle.bus_world.specs.World.{Bus, Event, Put, Close, Turn, Recv, Stop, is_set, has_stopped, going, Happens, SenderDoes, StopDoes, with_sender, put_in, close_in}
+use Rattle.bus_world.specs.World.{Bus, Event, Put, Close, Turn, Recv, Stop, is_set, has_stopped, going, Happens, SenderDoes, ReceiverDoes, StopDoes, with_sender, put_in, close_in}
 use Rattle.bus_world.specs.declared.events.Answer.{Answer}
+use Rattle.bus_world.specs.declared.events.Answer.TheVariants as answer
 use Rattle.bus_world.specs.declared.events.StepFault.{StepFault}
 use Rattle.bus_world.specs.declared.events.StepFault.TheVariants as fault
 use Rattle.bus_world.proofs.EventTrails as trails
-use Rattle.bus_world.proofs.Stopping.{is_there, not_stopped, stopped_stays}
+use Rattle.bus_world.proofs.Stopping.{is_there, not_stopped, stopped_stays, goes_on}
 
 -- ---- as many as ever
 stops_many : {E : Type 0} (old new : List Bool) (s : ℕ) (o : Option (Core E)) → StopDoes old s o new → length new ≡ length old
@@ -106,6 +109,121 @@ module _ {E : Type 0} (X : Election E) where
   who None gives = absurd gives
   who (Some c) gives = (c, refl)
 
+  -- that it has stopped is all that is new of who has
+  one_more : (old new : List Bool) (s : ℕ) (o : Option (Core E)) → StopGives o → StopDoes old s o new → new ≡ slice_set old s true
+  one_more old new s None gives d = absurd gives
+  one_more old new s (Some c) gives d = d
+
+  -- of one that goes on it is noted that it does
+  noted_so : (l : List Bool) (s : ℕ) → is_set (slice_get l s) ≡ false → slice_set l s false ≡ l
+  noted_so [] s e = refl
+  noted_so (t ∷ l) zero e = ap (λ z. z ∷ l) (sym e)
+  noted_so (t ∷ l) (suc s) e = ap (λ k. t ∷ k) (noted_so l s e)
+
+  -- so without it all is as it was
+  one_less : (old new : List Bool) (s : ℕ) → is_set (slice_get old s) ≡ false → new ≡ slice_set old s true → old ≡ slice_set new s false
+  one_less old new s goes e = sym (ap (λ l. slice_set l s false) e ∙ set-set old s true false ∙ noted_so old s goes)
+
+  -- whoever goes on does stop by it
+  stop_does : (old : List Bool) (s : ℕ) (o : Option (Core E)) (c : Core E) → o ≡ Some c → StopDoes old s o (slice_set old s true)
+  stop_does old s None c e = absurd (let bad : None ≡ Some c = e in cc)
+  stop_does old s (Some d) c e = refl
+
+  -- and its stop is answered
+  stop_gives : (o : Option (Core E)) (c : Core E) → o ≡ Some c → StopGives o
+  stop_gives None c e = absurd (let bad : None ≡ Some c = e in cc)
+  stop_gives (Some d) c e = tt
+
+  -- so there is what a stop of it does
+  can_stop : (b : Bus E) (s : ℕ) (c : Core E) → slice_get b.side.senders s ≡ Some c → has_stopped b s ≡ false → (new : Bus E) × Happens X b (Stop s) new × Answers X b (Stop s) answer.Stopped new
+  can_stop b s c there goes =
+      let on : going b s ≡ Some c = goes_on b s goes ∙ there in
+      (record b { stopped = slice_set b.stopped s true }, (refl, refl, stop_does b.stopped s (going b s) c on), (stop_gives (going b s) c on, refl))
+
+  -- ---- nobody stops but by a stop of its own
+  event_goes : (b b' : Bus E) (e : Event) (s : ℕ) → e ≢ Stop s → Happens X b e b' → has_stopped b' s ≡ has_stopped b s
+  event_goes b b' (Put q bytes) s ne d = ap (λ l. is_set (slice_get l s)) d.2
+  event_goes b b' (Close q) s ne d = ap (λ l. is_set (slice_get l s)) d.2
+  event_goes b b' (Turn q word) s ne d = ap (λ l. is_set (slice_get l s)) d.2
+  event_goes b b' (Recv r) s ne d = ap (λ l. is_set (slice_get l s)) d.2
+  event_goes b b' (Stop q) s ne d = elim (cases_eq s q) [
+    | inl e ↦ absurd (ne (ap Stop (sym e)))
+    | inr other ↦ stop_apart b.stopped b'.stopped q s (going b q) other d.2
+  ]
+
+  -- and so with all events
+  events_go : (events : List Event) (old new : Bus E) (s : ℕ) → AllAnswered X old events new → All (λ e. e ≢ Stop s) events → has_stopped new s ≡ has_stopped old s
+  events_go [] old new s run none = ap (λ (z : Bus E). has_stopped z s) run
+  events_go (e ∷ events) old new s run none = events_go events run.0 new s run.5 (λ k d l. none (suc k) d (omega arith)) ∙ event_goes old run.0 e s (none zero e (omega arith)) run.3
+
+  -- ---- the others
+  -- to all but s one bus is as the other
+  record Alike (s : ℕ) (b b' : Bus E) : Type 0 where
+    others : (q : ℕ) → q ≢ s → has_stopped b' q ≡ has_stopped b q
+    side : b'.side ≡ b.side
+    receivers : b'.receivers ≡ b.receivers
+
+  -- and the other as it
+  alike_back : (s : ℕ) (b b' : Bus E) → Alike s b b' → Alike s b' b
+  alike_back s b b' like = record { others = λ q ne. sym (like.others q ne); side = sym like.side; receivers = sym like.receivers }
+
+  -- the same go on
+  alike_goes : (s : ℕ) (b b' : Bus E) → Alike s b b' → (q : ℕ) → q ≢ s → going b' q ≡ going b q
+  alike_goes s b b' like q ne = ap (λ t. cond t None (slice_get b'.side.senders q)) (like.others q ne) ∙ ap (λ (z : Side E). cond (has_stopped b q) None (slice_get z.senders q)) like.side
+
+  -- what a sender does it does from an equal side too
+  does_too : (side side' : Side E) (o o' : Option (Core E)) (f : Side E → Core E → Side E) (next : Side E) → side' ≡ side → o' ≡ o → SenderDoes side o (f side) next → SenderDoes side' o' (f side') next
+  does_too side side' o o' f next same on d = subst (λ z. SenderDoes z o' (f z) next) (sym same) (subst (λ z. SenderDoes side z (f side) next) (sym on) d)
+
+  -- and a receiver
+  receiver_too : (words words' : List ℕ) (old old' : List Receiving) (r : ℕ) (next : List Receiving) → words' ≡ words → old' ≡ old → ReceiverDoes words old r (slice_get old r) next → ReceiverDoes words' old' r (slice_get old' r) next
+  receiver_too words words' old old' r next same all d = subst (λ z. ReceiverDoes z old' r (slice_get old' r) next) (sym same) (subst (λ z. ReceiverDoes words z r (slice_get z r) next) (sym all) d)
+
+  -- and whoever stops
+  stop_too : (old new next : List Bool) (q s : ℕ) (t : Bool) (o : Option (Core E)) → q ≢ s → new ≡ slice_set old s t → StopDoes old q o next → StopDoes new q o (slice_set next s t)
+  stop_too old new next q s t None ne e d = ap (λ l. slice_set l s t) d ∙ sym e
+  stop_too old new next q s t (Some c) ne e d = ap (λ l. slice_set l s t) d ∙ set_comm old q s true t ne ∙ ap (λ l. slice_set l q true) (sym e)
+
+  -- what happens to one bus happens to the other, where just s is noted as stopped, or as not
+  happens_too : (s : ℕ) (t : Bool) (b b' : Bus E) → Alike s b b' → b'.stopped ≡ slice_set b.stopped s t → (e : Event) (next : Bus E) → IsOfOther s e → Happens X b e next → Happens X b' e (record next { stopped = slice_set next.stopped s t })
+  happens_too s t b b' like now (Put q bytes) next ne d = (does_too b.side b'.side (going b q) (going b' q) (λ z c. with_sender z q (put_in c bytes)) next.side like.side (alike_goes s b b' like q ne) d.0, d.1 ∙ sym like.receivers, ap (λ l. slice_set l s t) d.2 ∙ sym now)
+  happens_too s t b b' like now (Close q) next ne d = (does_too b.side b'.side (going b q) (going b' q) (λ z c. with_sender z q (close_in c)) next.side like.side (alike_goes s b b' like q ne) d.0, d.1 ∙ sym like.receivers, ap (λ l. slice_set l s t) d.2 ∙ sym now)
+  happens_too s t b b' like now (Turn q word) next ne d = (does_too b.side b'.side (going b q) (going b' q) (λ z c. side_after X z q c (situation_of X c) word) next.side like.side (alike_goes s b b' like q ne) d.0, d.1 ∙ sym like.receivers, ap (λ l. slice_set l s t) d.2 ∙ sym now)
+  happens_too s t b b' like now (Recv r) next ne d = (d.0 ∙ sym like.side, receiver_too b.side.words b'.side.words b.receivers b'.receivers r next.receivers (ap (λ (z : Side E). z.words) like.side) like.receivers d.1, ap (λ l. slice_set l s t) d.2 ∙ sym now)
+  happens_too s t b b' like now (Stop q) next ne d = (d.0 ∙ sym like.side, d.1 ∙ sym like.receivers, subst (λ o. StopDoes b'.stopped q o (slice_set next.stopped s t)) (sym (alike_goes s b b' like q ne)) (stop_too b.stopped b'.stopped next.stopped q s t (going b q) ne now d.2))
+
+  -- what an event adds to the trails by one bus it adds by the other: only a turn reads the bus, its words and its sender
+  trails_too : (s : ℕ) (b b' : Bus E) → Alike s b b' → (e : Event) (a : Answer) (T : Trails) → IsOfOther s e → trails_grown X b' e a T ≡ trails_grown X b e a T
+  trails_too s b b' like (Put q bytes) a T ne = refl
+  trails_too s b b' like (Close q) a T ne = refl
+  trails_too s b b' like (Turn q word) a T ne =
+      let grown : List Deed → Trails = λ more. record { deeds = λ p. T.deeds p ++ (if p == q then more else []); heard = λ r. T.heard r ++ [] } in
+      ap (λ (z : Side E). grown (turning_deeds X z.words (going b' q) word a)) like.side ∙ ap (λ o. grown (turning_deeds X b.side.words o word a)) (alike_goes s b b' like q ne)
+  trails_too s b b' like (Recv r) a T ne = refl
+  trails_too s b b' like (Stop q) a T ne = refl
+
+  -- what one bus answers the other does
+  answers_too : (s : ℕ) (b b' : Bus E) → Alike s b b' → (e : Event) (a : Answer) (next : Bus E) → IsOfOther s e → Answers X b e a next → Answers X b' e a next
+  answers_too s b b' like (Put q bytes) a next ne w = (w.0, subst (λ o. PutGives o (length bytes) w.0) (sym (alike_goes s b b' like q ne)) w.1, w.2)
+  answers_too s b b' like (Close q) a next ne w = (subst (λ o. CloseGives o) (sym (alike_goes s b b' like q ne)) w.0, w.1)
+  answers_too s b b' like (Turn q word) a next ne w = subst (λ (z : Side E). TurnAnswers X z.words (going b' q) word a) (sym like.side) (subst (λ o. TurnAnswers X b.side.words o word a) (sym (alike_goes s b b' like q ne)) w)
+  answers_too s b b' like (Recv r) a next ne w = subst (λ (z : Side E). RecvAnswers z.words b'.receivers r (slice_get b'.receivers r) a next.receivers) (sym like.side) (subst (λ l. RecvAnswers b.side.words l r (slice_get l r) a next.receivers) (sym like.receivers) w)
+  answers_too s b b' like (Stop q) a next ne w = (subst (λ o. StopGives o) (sym (alike_goes s b b' like q ne)) w.0, w.1)
+
+  -- whatever an event's own causes are
+  unless_too : (s : ℕ) (b b' : Bus E) → Alike s b b' → (own : Option (Core E) → Type 0) (why : StepFault) (q : ℕ) → q ≢ s → UnlessStopped (has_stopped b q) (slice_get b.side.senders q) why (own (slice_get b.side.senders q)) → UnlessStopped (has_stopped b' q) (slice_get b'.side.senders q) why (own (slice_get b'.side.senders q))
+  unless_too s b b' like own why q ne w =
+      subst (λ (z : Side E). UnlessStopped (has_stopped b' q) (slice_get z.senders q) why (own (slice_get z.senders q))) (sym like.side)
+      (subst (λ t. UnlessStopped t (slice_get b.side.senders q) why (own (slice_get b.side.senders q))) (sym (like.others q ne)) w)
+
+  -- what one bus refuses the other does
+  refused_too : (s : ℕ) (b b' : Bus E) → Alike s b b' → (e : Event) (why : StepFault) → IsOfOther s e → Refused b e why → Refused b' e why
+  refused_too s b b' like (Put q bytes) why ne w = unless_too s b b' like (λ o. PutRefused o (length bytes) why) why q ne w
+  refused_too s b b' like (Close q) why ne w = unless_too s b b' like (λ o. CloseRefused o why) why q ne w
+  refused_too s b b' like (Turn q word) why ne w = unless_too s b b' like (λ o. TurnRefused o why) why q ne w
+  refused_too s b b' like (Recv r) why ne w = subst (λ l. RecvRefused (slice_get l r) why) (sym like.receivers) w
+  refused_too s b b' like (Stop q) why ne w = unless_too s b b' like (λ o. StopRefused o why) why q ne w
+
 module _ {E : Type 0} (X : Election E) (P : Protocol E (Unit {0}) ℕ) (laws : Laws X.op X.fed P OneOwner) (x : Layout) (ok : IsLayout x) (width : x.width ≡ P.width x.senders)
     (starts : (n me at : ℕ) → X.started n me x.rounds at ≡ P.started n me tt at) (owner_is : (e : E) → X.owner e ≡ P.output e)
     (named : (e : E) (word : ℕ) → is_some (X.kind_of e) ≡ is_some (X.op e word)) (announces : (e : E) → P.has_begun e ≡ false → X.kind_of e ≡ Some kind.Announce) (apart : (e : E) → X.kind_of e ≡ Some kind.TakePage → ⊥) where
@@ -115,15 +233,24 @@ module _ {E : Type 0} (X : Election E) (P : Protocol E (Unit {0}) ℕ) (laws : L
       let part = (trails.reached_kept X P laws x ok width starts owner_is named announces apart old T r).lawful.keeps.sending.parts s c.0 (is_there old s c.0 c.1) in
       let many = reached_stops X x old T r in
       let room : s < length old.stopped = (let below = part.below in let few = ok.senders in omega arith) in
+      let now = one_more X old.stopped new.stopped s (going old s) w.0 d.2 in
+      let goes = not_stopped old s c.0 c.1 in
+      let before = one_less X old.stopped new.stopped s goes now in
+      let like : Alike X s old new = record { others = λ q ne. stop_apart X old.stopped new.stopped s q (going old s) ne d.2; side = d.0; receivers = d.1 } in
       record {
         answered = w.1;
-        went_on = not_stopped old s c.0 c.1;
+        went_on = goes;
         stopped = set_now X old.stopped new.stopped s (going old s) w.0 room d.2;
-        others = λ q ne. stop_apart X old.stopped new.stopped s q (going old s) ne d.2;
-        side = d.0;
-        receivers = d.1;
+        others = like.others;
+        side = like.side;
+        receivers = like.receivers;
         deeds = λ D q. append-nil (D.deeds q);
         heard = λ D q. append-nil (D.heard q);
+        trails_alike = λ e g D other. trails_too X s old new like e g D other;
+        happens_alike = λ e next other h. happens_too X s true old new like now e next other h;
+        happens_before = λ e next other h. happens_too X s false new old (alike_back X s old new like) before e next other h;
+        answered_alike = λ e g next other. (λ v. answers_too X s old new like e g next other v, λ v. answers_too X s new old (alike_back X s old new like) e g next other v);
+        refused_alike = λ e why other. (λ v. refused_too X s old new like e why other v, λ v. refused_too X s new old (alike_back X s old new like) e why other v);
       }
 
   -- the fault of who has stopped, and of who has not
@@ -158,6 +285,10 @@ module _ {E : Type 0} (X : Election E) (P : Protocol E (Unit {0}) ℕ) (laws : L
   never_of_a_turn None e = cc
   never_of_a_turn (Some c) e = e
 
+  never_of_a_recv : (o : Option Receiving) → RecvRefused o fault.Stopped → ⊥
+  never_of_a_recv None e = cc
+  never_of_a_recv (Some v) e = e
+
   pub for_good : StopsAreForGood X x
   for_good = record {
     stops = stops;
@@ -166,7 +297,8 @@ module _ {E : Type 0} (X : Election E) (P : Protocol E (Unit {0}) ℕ) (laws : L
     close_refused = λ b s c there stop. as_stopped (has_stopped b s) (slice_get b.side.senders s) c (λ why. CloseRefused (slice_get b.side.senders s) why) stop there;
     turn_refused = λ b s c word there stop. as_stopped (has_stopped b s) (slice_get b.side.senders s) c (λ why. TurnRefused (slice_get b.side.senders s) why) stop there;
     stop_refused = λ b s c there stop. as_stopped (has_stopped b s) (slice_get b.side.senders s) c (λ why. StopRefused (slice_get b.side.senders s) why) stop there;
-    may_stop = λ b s c why there goes w. never_refused (slice_get b.side.senders s) c why there (own_otherwise (has_stopped b s) (slice_get b.side.senders s) why _ (inr goes) w);
+    may_stop = λ b s c there goes. (λ why w. never_refused (slice_get b.side.senders s) c why there (own_otherwise (has_stopped b s) (slice_get b.side.senders s) why _ (inr goes) w), can_stop X b s c there goes);
+    goes_on = λ old new events s run none. events_go X events old new s run none;
   }
 
   pub refuses : StopRefuses X x
@@ -180,4 +312,5 @@ module _ {E : Type 0} (X : Election E) (P : Protocol E (Unit {0}) ℕ) (laws : L
     close_untimely = λ b s goes w. never_of_a_close (slice_get b.side.senders s) (own_otherwise (has_stopped b s) (slice_get b.side.senders s) fault.Stopped _ goes w);
     turn_untimely = λ b s word goes w. never_of_a_turn (slice_get b.side.senders s) (own_otherwise (has_stopped b s) (slice_get b.side.senders s) fault.Stopped _ goes w);
     stop_untimely = λ b s goes w. never_its_own (slice_get b.side.senders s) (own_otherwise (has_stopped b s) (slice_get b.side.senders s) fault.Stopped _ goes w);
+    recv_untimely = λ b r w. never_of_a_recv (slice_get b.receivers r) w;
   }

@@ -30,7 +30,7 @@ use Rattle.bus_world.specs.Tenures.Standing.{Runs}
 use Rattle.bus_world.proofs.TenuresLaws as tenures
 use Rattle.bus_world.specs.Bus.{IsLayout, least_of, standing_of, Part, Fits, HasBegun, Sending, stands_at}
 use Rattle.bus_world.proofs.BusLaws as bus
-use Rattle.bus_world.specs.Log.{sent}
+use Rattle.bus_world.specs.Log.{sent_count}
 use Rattle.bus_world.specs.Turning.{Side, words_after, number_found, core_with_page, home_after, core_after, owners_after, side_after}
 use Rattle.bus_world.specs.World.{Bus, LawfulBus}
 use Rattle.bus_world.proofs.Waiting.{frames_after}
@@ -139,7 +139,7 @@ module _ {E : Type 0} (X : Election E) (P : Protocol E (Unit {0}) ℕ) (laws : L
 
     -- ---- a load of the stage
     module _ (rests : c.phase ≡ phase.Resting) where
-      resting_fits : (c.queue.busy ≡ false) × (c.queue.first ≡ sent c.me frames)
+      resting_fits : (c.queue.busy ≡ false) × (c.queue.first ≡ sent_count c.me frames)
       resting_fits = subst (Fits words frames c) rests part.fits
 
       part_least : (k : ℕ) → Part x words frames p (record c { least = k })
@@ -211,7 +211,7 @@ module _ {E : Type 0} (X : Election E) (P : Protocol E (Unit {0}) ℕ) (laws : L
 
     -- ---- an election
     module _ (t : ℕ) (e : E) (elects : c.phase ≡ phase.Electing t e) where
-      electing_fits : HasBegun c.queue × (c.queue.first ≡ sent c.me frames)
+      electing_fits : HasBegun c.queue × (c.queue.first ≡ sent_count c.me frames)
       electing_fits = subst (Fits words frames c) elects part.fits
 
       -- it takes the page

@@ -8,7 +8,7 @@ use Rattle.bus_deliverylog.specs.Receiving.{Receiving}
 use Rattle.bus_tenure.specs.Core.{Core, Layout}
 use Rattle.bus_tenure.specs.declared.phases.Phase.{Phase}
 use Rattle.bus_tenure.specs.declared.phases.Phase.TheVariants as phase
-use Rattle.bus_world.specs.Headline.{Deed, HasPut, puts, Announced, Elected, Took, given, heads}
+use Rattle.bus_world.specs.Headline.{Deed, HasPut, puts, Announced, Elected, Took, order_given, heads}
 use Rattle.bus_world.specs.Trails.{Trails}
 use Rattle.bus_world.specs.World.{Bus, given_at}
 use Rattle.bus_world.proofs.Waiting.{put_by}
@@ -49,10 +49,10 @@ IsSilent trail = (j k : ℕ) (answer : RecvTurn) → slice_get trail j ≡ Some 
 
 -- a receiver has been told what stands below its place
 pub record Hears (frames : List Frame) (v : Receiving) (trail : List RecvTurn) : Type 0 where
-  pub given_is : given trail ≡ given_at frames v
+  pub given_is : order_given trail ≡ given_at frames v
   pub heads_are : heads trail ≡ owners_in (take v.place (log_pieces frames))
-  pub ended : v.ended ≡ true → (given trail).ended ≡ true
-  pub going : v.ended ≡ false → (given trail).ended ≡ false
+  pub ended : v.ended ≡ true → (order_given trail).ended ≡ true
+  pub going : v.ended ≡ false → (order_given trail).ended ≡ false
   pub silent : IsSilent trail
 
 -- each accepted message was answered how many were put before it

@@ -10,7 +10,7 @@ use Rattle.bus_deliverylog.specs.Logs.{HasGiven}
 use Rattle.bus_deliverylog.specs.Receiving.{Receiving}
 use Rattle.bus_ownerbits.specs.Sizes.{bits_of}
 use Rattle.bus_tenure.specs.Core.{Election, Core, Layout, log_at, words_of}
-use Rattle.bus_world.specs.Log.{read}
+use Rattle.bus_world.specs.Log.{words_read_from}
 use Rattle.bus_world.proofs.LogLaws.{length-read}
 use Rattle.bus_world.specs.World.{IsNew, new_page, no_stops}
 use Rattle.bus_world.specs.Playing.{SizedBus, log_of}
@@ -18,7 +18,7 @@ use Rattle.bus_world.specs.Trails.{IsServedBus}
 use Rattle.bus_world.specs.Starting.{AreNewCores, AreNewReaders}
 
 -- words of a list, from a place on
-pub read-list : (words : List ℕ) (at k : ℕ) → at + k ≤ length words → read (slice_index words) at k ≡ take k (drop at words)
+pub read-list : (words : List ℕ) (at k : ℕ) → at + k ≤ length words → words_read_from (slice_index words) at k ≡ take k (drop at words)
 read-list words at zero l = refl
 read-list words at (suc k) l =
     let size = length-drop at words in

@@ -4,7 +4,7 @@ use Rattle.bus_batch.specs.Frames.{Frame, order_of}
 use Rattle.bus_deliverylog.specs.Orders.{of_sender}
 use Rattle.bus_tenure.specs.Core.{Core, Election}
 use Rattle.bus_tenure.specs.Situations.{Situation, situation_of, line_of}
-pub use Rattle.bus_world.specs.Waiting.{waiting_at, waiting_of}
+pub use Rattle.bus_world.specs.Waiting.{waiting_at}
 use Rattle.bus_world.specs.World.{Bus, Event, Put, Close, Turn, Recv, Stop, going, can_put}
 
 -- ---- the frames of the log
@@ -29,6 +29,11 @@ event_frames X b (Recv r) frames = frames
 event_frames X b (Stop s) frames = frames
 
 -- ---- messages
+-- those of a sender that are not in the order yet
+abbrev pub waiting_of : {E : Type 0} → Option (Core E) → List (List ℕ)
+waiting_of None = []
+waiting_of (Some c) = waiting_at c c.phase
+
 -- what a sender has put: its messages in the order, and those that are not in it yet
 abbrev pub put_by : {E : Type 0} → Bus E → List Frame → ℕ → List (List ℕ)
 put_by bus frames s = map (λ i. i.message) (of_sender s (order_of frames)) ++ waiting_of (slice_get bus.side.senders s)

@@ -17,7 +17,7 @@ use Rattle.bus_tenure.specs.Situations.{situation_of, line_of}
 use Rattle.bus_tenure.specs.declared.phases.Phase.{Phase as SenderPhase}
 use Rattle.bus_tenure.specs.declared.phases.Phase.TheVariants as phase
 use Rattle.bus_deliverylog.specs.Orders.{of_sender}
-use Rattle.bus_world.specs.Log.{read, AreCounted, Logged}
+use Rattle.bus_world.specs.Log.{words_read_from, AreCounted, Logged}
 use Rattle.bus_world.proofs.Stopping.{is_there}
 use Rattle.bus_world.proofs.LogLaws.{length-read, log_words-append}
 use Rattle.bus_world.proofs.ReceivingLaws.{goes_on, Receives-known, Receives-word, Receives-append}
@@ -64,14 +64,14 @@ module _ {E : Type 0} (X : Election E) (P : Protocol E (Unit {0}) ℕ) (laws : L
     }
 
 -- ---- receivers
-index-read : (words : ℕ → ℕ) (at k i : ℕ) → i < k → slice_index (read words at k) i ≡ words (at + i)
+index-read : (words : ℕ → ℕ) (at k i : ℕ) → i < k → slice_index (words_read_from words at k) i ≡ words (at + i)
 index-read words at zero i l = absurd (omega arith)
 index-read words at (suc k) i l = elim (cases_lt i k) [
-  | inl below ↦ get_or_append_left (read words at k) (words (at + k) ∷ []) 0 i (let z = length-read words at k in omega arith) ∙ index-read words at k i below
+  | inl below ↦ get_or_append_left (words_read_from words at k) (words (at + k) ∷ []) 0 i (let z = length-read words at k in omega arith) ∙ index-read words at k i below
   | inr past ↦
       let size = length-read words at k in
-      let e : i ≡ length (read words at k) = omega arith in
-      ap (slice_index (read words at k ++ words (at + k) ∷ [])) e ∙ last (read words at k) (words (at + k)) ∙ ap words (omega arith)
+      let e : i ≡ length (words_read_from words at k) = omega arith in
+      ap (slice_index (words_read_from words at k ++ words (at + k) ∷ [])) e ∙ last (words_read_from words at k) (words (at + k)) ∙ ap words (omega arith)
 ] where
   last : (xs : List ℕ) (w : ℕ) → slice_index (xs ++ w ∷ []) (length xs) ≡ w
   last xs w = grind (arith, common_steps)

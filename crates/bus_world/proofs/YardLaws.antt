@@ -21,7 +21,7 @@ use Rattle.bus_presence.specs.declared.visits.Visit.{Visit}
 use Rattle.bus_presence.specs.declared.visits.Visit.TheVariants.{Away, Entering, Looking, Inside, Parting, Barred}
 use Rattle.bus_presence.specs.Visits.{step_at, visit_fed}
 use Rattle.bus_presence.specs.Sweeps.{Sweeping, sweep_op, sweep_fed, is_swept}
-use Rattle.bus_presence.specs.Hall.{Sizes, Hall, Entry, Trails, no_trails, presence_at, row_of, found, words_after, grown, sweep_after, IsReady, Begins, Visits as Visited, Parts, Takes, Sweeps as Swept, GivesBack as GaveBack, Stores, Reached, New, Then, Works}
+use Rattle.bus_presence.specs.Hall.{Sizes, Hall, Entry, Trails, no_trails, presence_at, row_of, number_of_step, words_after, trails_with_entry, sweep_after, IsReady, Begins, Visits as Visited, Parts, Takes, Sweeps as Swept, GivesBack as GaveBack, Stores, Reached, New, Then, Works}
 use Rattle.bus_presence.proofs.HallLaws.{Keeps, keeps, safe, put_same, lt_tells}
 use Rattle.bus_presence.proofs.RowLaws.{IsLive, alive_inside}
 use Rattle.bus_tenure.specs.Core.{Core, Election, Layout, row_at, log_at, frame_len, has_room}
@@ -36,7 +36,7 @@ use Rattle.bus_tenure.proofs.Situated.{tells}
 use Rattle.bus_world.specs.Bus.{IsLayout, Part, Fits, Sending, standing_of, least_of, stands_at}
 use Rattle.bus_guest.specs.Guests.{Due, sizes_with, log_from, place_for, sweep_due, due_swept, due_home, due_beside, core_looked, core_seen, visit_seen, visit_elected}
 use Rattle.bus_world.specs.Turning.{number_found, core_with_page, core_after, home_after, owners_after}
-use Rattle.bus_world.specs.Yards.{Yard, IsNewYard, Led, IsKeptYard, YardRefuses, NewYard, Turned, PutIn, ClosedIn, Heard, no_answers, answers_with, going_deeds, due_deeds, deeds_with, no_deeds, due_in, words_stepped, word_found, visited, swept, gone, yard_after, trails_with}
+use Rattle.bus_world.specs.Yards.{Yard, IsNewYard, Led, IsKeptYard, YardRefuses, NewYard, Turned, PutIn, ClosedIn, Heard, no_answers, answers_with, going_deeds, due_deeds, deeds_with, no_deeds, due_in, words_stepped, word_found, yard_visited, yard_swept, yard_after_going, yard_after, trails_with}
 use Rattle.bus_world.specs.World.{new_page, RecvDoes, can_put, can_close}
 use Rattle.bus_world.proofs.Accepting.{Accepted, Puts, Closes, AreAccepted, accept, grows}
 use Rattle.bus_world.proofs.Beginning.{new_sending}
@@ -45,7 +45,7 @@ use Rattle.bus_world.proofs.TenuresLaws as tenures
 use Rattle.bus_world.proofs.TurningLaws.{Steps, open_stage, begins_opened, turn_keeps, turn_within, at_home}
 use Rattle.bus_world.proofs.Waiting.{frames_after}
 use Rattle.bus_world.specs.Headline.{Deed, HasPut, HasClosed, Stepped, Took, IsPrefix}
-use Rattle.bus_world.specs.Log.{read}
+use Rattle.bus_world.specs.Log.{words_read_from}
 use Rattle.bus_world.proofs.FrameOwners.{counted_from, owner_took, rise}
 use Rattle.bus_world.proofs.Framing.{framed, last_frame}
 use Rattle.std.proofs.lemmas.List.{map-append}
@@ -54,7 +54,7 @@ use Rattle.bus_world.proofs.Tying.{next_at, next_tenure, Tables, PageTies}
 use Rattle.bus_world.proofs.TableTrails.{IsPlain, plain_none, plain_put, plain_close, plain_step, none_in}
 use Rattle.bus_world.proofs.TurnTrails.{TiesOf, calm, begins, turn_tied, batch_tied}
 use Rattle.bus_world.specs.Headline.{Closed}
-use Rattle.bus_world.specs.Waiting.{waiting_at, waiting_of}
+use Rattle.bus_world.proofs.Waiting.{waiting_at, waiting_of}
 use Rattle.bus_world.proofs.Closings.{turn_closing, turn_frames, frames_later, own_closed}
 use Rattle.bus_world.proofs.PutLaws.{elected_waits, laid_waits, publish_puts}
 use Rattle.bus_world.proofs.HearTrails.{delivered_to, heads_to, silent_to}
@@ -217,13 +217,13 @@ module _ {E : Type 0} (X : Election E) (P : Protocol E (Unit {0}) ℕ) (laws : L
     -- ---- a step of its visit
     module _ (o : Op) (due : step_at (y.hall.visits p) (presence_at z p) 1 ≡ Some o) where
       abbrev got : ℕ
-      got = found y.hall o
+      got = number_of_step y.hall o
 
       abbrev hall' : Hall
       hall' = record y.hall { words = words_after y.hall o; visits = put p (visit_fed (y.hall.visits p) got) y.hall.visits }
 
       abbrev trail' : Trails
-      trail' = grown T p record { op = o; got = got }
+      trail' = trails_with_entry T p record { op = o; got = got }
 
       reached' : Reached z hall' trail'
       reached' = Then y.hall hall' T trail' k.reached (Visited y.hall T p o due)
@@ -235,7 +235,7 @@ module _ {E : Type 0} (X : Election E) (P : Protocol E (Unit {0}) ℕ) (laws : L
       ready' t held none = k.ready t (k.laid.stage ∙ sym laid'.stage ∙ held) none
 
       -- the sender's part is as it was
-      visit_over : (v : Visit) → y.hall.visits p ≡ v → core_looked X c v got ≡ c → IsGuest (visit_fed v got) c → HasKept H (visited X y p c o) trail' same_deeds
+      visit_over : (v : Visit) → y.hall.visits p ≡ v → core_looked X c v got ≡ c → IsGuest (visit_fed v got) c → HasKept H (yard_visited X y p c o) trail' same_deeds
       visit_over v at same is = record {
         V = V;
         frames = frames;
@@ -254,13 +254,13 @@ module _ {E : Type 0} (X : Election E) (P : Protocol E (Unit {0}) ℕ) (laws : L
       }
 
       -- it begins the tenure
-      visit_begins : (t : ℕ) → y.hall.visits p ≡ Looking t → (got / 2 == t) ≡ true → got / 2 ≡ t → HasKept H (visited X y p c o) trail' same_deeds
+      visit_begins : (t : ℕ) → y.hall.visits p ≡ Looking t → (got / 2 == t) ≡ true → got / 2 ≡ t → HasKept H (yard_visited X y p c o) trail' same_deeds
       visit_begins t at told same =
           let v_now : visit_fed (y.hall.visits p) got ≡ Inside t = ap (λ w. visit_fed w got) at ∙ ap (λ b. cond b (Inside t) (Barred t)) told in
           let c_now : core_looked X c (y.hall.visits p) got ≡ core_begun X c t = ap (λ w. core_looked X c w got) at ∙ ap (λ b. cond b (core_begun X c t) c) told in
           let e = guest.entering t (inr at) in
           let loads : Load record { 0 = 1 } ≡ o = same_Some _ _ (sym (ap (λ w. step_at w (presence_at z p) 1) at) ∙ due) in
-          let got_is : got ≡ V 1 = sym (ap (found y.hall) loads) ∙ k.laid.stage in
+          let got_is : got ≡ V 1 = sym (ap (number_of_step y.hall) loads) ∙ k.laid.stage in
           record {
             V = V;
             frames = frames;
@@ -287,7 +287,7 @@ module _ {E : Type 0} (X : Election E) (P : Protocol E (Unit {0}) ℕ) (laws : L
       unelected : (v : Visit) → y.hall.visits p ≡ v → ((t : ℕ) → v ≡ Inside t → ⊥) → (t : ℕ) (e : E) → c.phase ≡ phase.Electing t e → ⊥
       unelected v at out t e i = out t (sym at ∙ guest.electing t e i)
 
-      visit_kept : (v : Visit) → y.hall.visits p ≡ v → HasKept H (visited X y p c o) trail' same_deeds
+      visit_kept : (v : Visit) → y.hall.visits p ≡ v → HasKept H (yard_visited X y p c o) trail' same_deeds
       visit_kept Away at = absurd (let bad = sym (ap (λ w. step_at w (presence_at z p) 1) at) ∙ due in cc)
       visit_kept (Entering t) at = visit_over (Entering t) at refl record {
         inside = λ u i. absurd cc;
@@ -315,9 +315,9 @@ module _ {E : Type 0} (X : Election E) (P : Protocol E (Unit {0}) ℕ) (laws : L
       }
 
     -- ---- a step of a sweep
-    sweep_kept : (s : Sweeping) (o : Op) → y.hall.sweep ≡ Some s → sweep_op s ≡ Some o → HasKept H (swept y s o) T same_deeds
+    sweep_kept : (s : Sweeping) (o : Op) → y.hall.sweep ≡ Some s → sweep_op s ≡ Some o → HasKept H (yard_swept y s o) T same_deeds
     sweep_kept s o is due =
-        let hall' : Hall = record y.hall { words = words_after y.hall o; sweep = Some (sweep_fed s (found y.hall o)) } in
+        let hall' : Hall = record y.hall { words = words_after y.hall o; sweep = Some (sweep_fed s (number_of_step y.hall o)) } in
         record {
           V = V;
           frames = frames;
@@ -455,7 +455,7 @@ module _ {E : Type 0} (X : Election E) (P : Protocol E (Unit {0}) ℕ) (laws : L
               };
             }
 
-        looks_kept : HasKept H (gone X x rows y p c LooksAtStage word) T looked_deeds
+        looks_kept : HasKept H (yard_after_going X x rows y p c LooksAtStage word) T looked_deeds
         looks_kept = subst (λ w. HasKept H (beside_yard w (visit_seen c stage) (core_seen c stage)) T looked_deeds) (sym (put_same 1 y.hall.words)) (by_waits (waits c stage) refl)
           where
             by_room : (b : Bool) → nat_le c.layout.rows (stage / 2) ≡ b → waits c stage ≡ false → HasKept H (beside_yard y.hall.words (cond b Away (Entering (stage / 2))) (cond b (record c { least = stage / 2 }) c)) T looked_deeds
@@ -607,7 +607,7 @@ module _ {E : Type 0} (X : Election E) (P : Protocol E (Unit {0}) ℕ) (laws : L
         abbrev elected_deeds : Option Op → ℕ → List Deed
         elected_deeds d = let g = word_found (place_for x rows (Elects t e)) y.hall.words d in deeds_with p (step_deed (X.kind_of e) (Some t) g (X.owner (X.fed e g word)) answer) D
 
-        elects_kept : is_some (X.owner e) ≡ false → HasKept H (gone X x rows y p c (Elects t e) word) T (deeds_with p (going_deeds X x rows y c (Elects t e) word answer) D)
+        elects_kept : is_some (X.owner e) ≡ false → HasKept H (yard_after_going X x rows y p c (Elects t e) word) T (deeds_with p (going_deeds X x rows y c (Elects t e) word answer) D)
         elects_kept unowned = elim (some_or_none (X.op e word)) [
           | inr o ↦ subst (λ d. HasKept H (elected d) T (elected_deeds d)) (sym o.1) (by_owner o.0 o.1 (X.owner (X.fed e (y.hall.words (row_of z t + (register o.0 - row_at x t))) word)) refl)
           | inl stop ↦ absurd (true≢false (sym (laws.ends e word stop).0 ∙ sym (ap is_some (owner_is e)) ∙ unowned))
@@ -621,7 +621,7 @@ module _ {E : Type 0} (X : Election E) (P : Protocol E (Unit {0}) ℕ) (laws : L
         abbrev hall_taken : (ℕ → Visit) → Hall
         hall_taken visits = record { words = put 1 (2 * t + 1) y.hall.words; visits = visits; sweep = sweep_after z t }
 
-        takes_kept : (u : ℕ) → X.owner e ≡ Some u → HasKept H (gone X x rows y p c (TakesPage t) word) T (deeds_with p (going_deeds X x rows y c (TakesPage t) word answer) D)
+        takes_kept : (u : ℕ) → X.owner e ≡ Some u → HasKept H (yard_after_going X x rows y p c (TakesPage t) word) T (deeds_with p (going_deeds X x rows y c (TakesPage t) word answer) D)
         takes_kept u own =
             let out : P.output e ≡ Some u = sym (owner_is e) ∙ own in
             let mine : P.output e ≡ Some p = out ∙ ap Some (k.sending.chosen p c t e u old elects out) in
@@ -695,7 +695,7 @@ module _ {E : Type 0} (X : Election E) (P : Protocol E (Unit {0}) ℕ) (laws : L
               let within = turn_within X P laws x ok width starts owner_is V y.home y.senders y.owners frames k.sending p c old word V y.senders (λ q ne. refl) (Store record { 0 = r } number) (ap (λ s. op_at X c s word) at) in
               omega arith
 
-          stores_kept : HasKept H (gone X x rows y p c (StoresWord t page stored) word) T (deeds_with p (going_deeds X x rows y c (StoresWord t page stored) word answer) D)
+          stores_kept : HasKept H (yard_after_going X x rows y p c (StoresWord t page stored) word) T (deeds_with p (going_deeds X x rows y c (StoresWord t page stored) word answer) D)
           stores_kept = record {
             V = put (log_at x + spot) number V;
             frames = frames;
@@ -714,7 +714,7 @@ module _ {E : Type 0} (X : Election E) (P : Protocol E (Unit {0}) ℕ) (laws : L
           }
 
         -- it stores the length
-        tells_kept : published ≡ false → situation_of X c ≡ StoresLength t page stored → HasKept H (gone X x rows y p c (StoresLength t page stored) word) T (deeds_with p (going_deeds X x rows y c (StoresLength t page stored) word answer) D)
+        tells_kept : published ≡ false → situation_of X c ≡ StoresLength t page stored → HasKept H (yard_after_going X x rows y p c (StoresLength t page stored) word) T (deeds_with p (going_deeds X x rows y c (StoresLength t page stored) word answer) D)
         tells_kept unpublished at =
             let n = page.words + frame_len c in
             let c' : Core E = record c { phase = phase.Holding t page stored true } in
@@ -741,8 +741,8 @@ module _ {E : Type 0} (X : Election E) (P : Protocol E (Unit {0}) ℕ) (laws : L
             }
 
         -- it gives the page back, where the row of the next tenure is ready
-        gives_kept : (reason : Reason) → situation_of X c ≡ GivesBack t page reason → ((s : Sweeping) → y.hall.sweep ≡ Some s → sweep_op s ≡ None) → HasKept H (gone X x rows y p c (GivesBack t page reason) word) T (deeds_with p (going_deeds X x rows y c (GivesBack t page reason) word answer) D)
-        gives_kept reason at swept =
+        gives_kept : (reason : Reason) → situation_of X c ≡ GivesBack t page reason → ((s : Sweeping) → y.hall.sweep ≡ Some s → sweep_op s ≡ None) → HasKept H (yard_after_going X x rows y p c (GivesBack t page reason) word) T (deeds_with p (going_deeds X x rows y c (GivesBack t page reason) word answer) D)
+        gives_kept reason at yard_swept =
             let c' : Core E = core_at_rest c reason t in
             let is_ready : IsReady z t y.hall.sweep = by_sweep y.hall.sweep refl in
             record {
@@ -763,25 +763,25 @@ module _ {E : Type 0} (X : Election E) (P : Protocol E (Unit {0}) ℕ) (laws : L
           where
             by_sweep : (s : Option Sweeping) → y.hall.sweep ≡ s → IsReady z t s
             by_sweep None e = k.ready t stage_held e
-            by_sweep (Some s) e = swept_is s (swept s e)
+            by_sweep (Some s) e = swept_is s (yard_swept s e)
 
       -- ---- any situation
-      goes_kept : (zz : Situation E) → situation_of X c ≡ zz → ((t : ℕ) (page : Page) (reason : Reason) → zz ≡ GivesBack t page reason → (s : Sweeping) → y.hall.sweep ≡ Some s → sweep_op s ≡ None) → HasKept H (gone X x rows y p c zz word) T (deeds_with p (going_deeds X x rows y c zz word answer) D)
-      goes_kept IsClosed at swept = idle_kept [] plain_none nothing_put
-      goes_kept IsIdle at swept = idle_kept [] plain_none nothing_put
-      goes_kept IsSpent at swept = idle_kept [] plain_none nothing_put
-      goes_kept LooksAtStage at swept = let rests = tells X c LooksAtStage at in looks_kept rests (sym (ap (situation_at X c) rests) ∙ at)
-      goes_kept (Elects t e) at swept = let f = tells X c (Elects t e) at in elects_kept t e at f.0 f.1
-      goes_kept (TakesPage t) at swept = let f = tells X c (TakesPage t) at in let o = owner_of (X.owner f.0) f.2 in takes_kept t f.0 at f.1 o.0 o.1
+      goes_kept : (zz : Situation E) → situation_of X c ≡ zz → ((t : ℕ) (page : Page) (reason : Reason) → zz ≡ GivesBack t page reason → (s : Sweeping) → y.hall.sweep ≡ Some s → sweep_op s ≡ None) → HasKept H (yard_after_going X x rows y p c zz word) T (deeds_with p (going_deeds X x rows y c zz word answer) D)
+      goes_kept IsClosed at yard_swept = idle_kept [] plain_none nothing_put
+      goes_kept IsIdle at yard_swept = idle_kept [] plain_none nothing_put
+      goes_kept IsSpent at yard_swept = idle_kept [] plain_none nothing_put
+      goes_kept LooksAtStage at yard_swept = let rests = tells X c LooksAtStage at in looks_kept rests (sym (ap (situation_at X c) rests) ∙ at)
+      goes_kept (Elects t e) at yard_swept = let f = tells X c (Elects t e) at in elects_kept t e at f.0 f.1
+      goes_kept (TakesPage t) at yard_swept = let f = tells X c (TakesPage t) at in let o = owner_of (X.owner f.0) f.2 in takes_kept t f.0 at f.1 o.0 o.1
         where
           owner_of : (o : Option ℕ) → is_some o ≡ true → (u : ℕ) × (o ≡ Some u)
           owner_of None i = absurd (true≢false (sym i))
           owner_of (Some u) i = (u, refl)
-      goes_kept (AwaitsPage t) at swept = absurd (subst (Fits V frames c) (tells X c (AwaitsPage t) at) part.fits)
-      goes_kept (StoresWord t page stored) at swept = let f = tells X c (StoresWord t page stored) at in stores_kept t page stored f.0 f.1 (stores_unpublished t page stored f.0 page.ended (has_room c page) (nat_lt stored (frame_len c)) (sym (ap (situation_at X c) f.1) ∙ at)) at
-      goes_kept (StoresLength t page stored) at swept = let f = tells X c (StoresLength t page stored) at in tells_kept t page stored f.0 f.1 (tells_unpublished t page stored f.0 page.ended (has_room c page) (nat_lt stored (frame_len c)) (sym (ap (situation_at X c) f.1) ∙ at)) at
-      goes_kept (GivesBack t page reason) at swept = let f = tells X c (GivesBack t page reason) at in gives_kept t page f.0 f.1 f.2 reason at (swept t page reason refl)
-      goes_kept (HasHanded t reason) at swept = absurd (subst (Fits V frames c) (tells X c (HasHanded t reason) at) part.fits)
+      goes_kept (AwaitsPage t) at yard_swept = absurd (subst (Fits V frames c) (tells X c (AwaitsPage t) at) part.fits)
+      goes_kept (StoresWord t page stored) at yard_swept = let f = tells X c (StoresWord t page stored) at in stores_kept t page stored f.0 f.1 (stores_unpublished t page stored f.0 page.ended (has_room c page) (nat_lt stored (frame_len c)) (sym (ap (situation_at X c) f.1) ∙ at)) at
+      goes_kept (StoresLength t page stored) at yard_swept = let f = tells X c (StoresLength t page stored) at in tells_kept t page stored f.0 f.1 (tells_unpublished t page stored f.0 page.ended (has_room c page) (nat_lt stored (frame_len c)) (sym (ap (situation_at X c) f.1) ∙ at)) at
+      goes_kept (GivesBack t page reason) at yard_swept = let f = tells X c (GivesBack t page reason) at in gives_kept t page f.0 f.1 f.2 reason at (yard_swept t page reason refl)
+      goes_kept (HasHanded t reason) at yard_swept = absurd (subst (Fits V frames c) (tells X c (HasHanded t reason) at) part.fits)
 
     -- ---- any turn
     abbrev KeptDue : ℕ → Answered → Due E → Type 0
@@ -963,9 +963,9 @@ module _ {E : Type 0} (X : Election E) (P : Protocol E (Unit {0}) ℕ) (laws : L
   above_it : (a k w : ℕ) → k < w → (a ≤ a + k) × (a + k < a + w)
   above_it a k w l = ((omega arith), (omega arith))
 
-  pub words_read : (n : ℕ) (w v : ℕ → ℕ) (a b : ℕ) → ((j : ℕ) → j < n → w (a + j) ≡ v (b + j)) → read w a n ≡ read v b n
+  pub words_read : (n : ℕ) (w v : ℕ → ℕ) (a b : ℕ) → ((j : ℕ) → j < n → w (a + j) ≡ v (b + j)) → words_read_from w a n ≡ words_read_from v b n
   words_read zero w v a b same = refl
-  words_read (suc n) w v a b same = ap (λ r. r ++ w (a + n) ∷ []) (words_read n w v a b (λ j l. same j (omega arith))) ∙ ap (λ r. read v b n ++ r ∷ []) (same n (omega arith))
+  words_read (suc n) w v a b same = ap (λ r. r ++ w (a + n) ∷ []) (words_read n w v a b (λ j l. same j (omega arith))) ∙ ap (λ r. words_read_from v b n ++ r ∷ []) (same n (omega arith))
 
   pub yard_promised : (y : Yard E) (T : Trails) (D : ℕ → List Deed) (H : ℕ → List RecvTurn) → Led X x rows y T D H → IsKeptYard X x rows y T D H
   yard_promised y T D H led =
@@ -993,7 +993,7 @@ module _ {E : Type 0} (X : Election E) (P : Protocol E (Unit {0}) ℕ) (laws : L
           spelled = record {
             frames = k.frames;
             lawful = lawful;
-            words_are = sym (ap (read y.hall.words (log_from x rows)) h.laid.length ∙ words_read (k.V 0) y.hall.words k.V (log_from x rows) (log_at x) (λ j l. h.laid.log j (let f = h.sending.log.fits in omega arith)) ∙ h.sending.log.words_are);
+            words_are = sym (ap (words_read_from y.hall.words (log_from x rows)) h.laid.length ∙ words_read (k.V 0) y.hall.words k.V (log_from x rows) (log_at x) (λ j l. h.laid.log j (let f = h.sending.log.fits in omega arith)) ∙ h.sending.log.words_are);
             order_is = refl;
             owners_are = refl;
           };

@@ -15,8 +15,8 @@ use Rattle.bus_tenure.specs.Core.{Core, is_empty}
 use Rattle.bus_tenure.specs.declared.phases.Phase.TheVariants as phase
 use Rattle.bus_world.specs.Bus.{Fits}
 use Rattle.bus_world.specs.Headline.{Deed, HasPut, HasClosed, Closed, put_of, puts}
-use Rattle.bus_world.specs.Log.{sent}
-use Rattle.bus_world.specs.Waiting.{waiting_at, waiting_of}
+use Rattle.bus_world.specs.Log.{sent_count}
+use Rattle.bus_world.proofs.Waiting.{waiting_at, waiting_of}
 use Rattle.bus_world.specs.World.{is_open, can_put, can_close}
 use Rattle.bus_world.specs.Yards.{deeds_with}
 use Rattle.bus_world.proofs.Accepting.{idle_rests, not_busy}
@@ -118,8 +118,8 @@ module _ {E : Type 0} (senders : ℕ → Option (Core E)) (frames : List Frame) 
       after : waiting_of (Some c') ≡ c.queue.messages ++ bytes ∷ []
       after = ap (waiting_at c') rests
 
-      first : c.queue.first ≡ sent p frames
-      first = (subst (Fits words frames c) rests fits).1 ∙ ap (λ z. sent z frames) me
+      first : c.queue.first ≡ sent_count p frames
+      first = (subst (Fits words frames c) rests fits).1 ∙ ap (λ z. sent_count z frames) me
 
       number : next_of c.queue ≡ length (puts (D p))
       number =

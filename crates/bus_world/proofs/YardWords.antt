@@ -11,7 +11,7 @@ use Rattle.bus_register.specs.Proved.TableLaws.{put_here, put_beside}
 use Rattle.bus_presence.specs.declared.visits.Visit.{Visit}
 use Rattle.bus_presence.specs.Visits.{step_at}
 use Rattle.bus_presence.specs.Sweeps.{Sweeping, sweep_op, sweep_fed}
-use Rattle.bus_presence.specs.Hall.{Sizes, Hall, Trails, presence_at, row_of, tenure_of, found, words_after, sweep_after}
+use Rattle.bus_presence.specs.Hall.{Sizes, Hall, Trails, presence_at, row_of, tenure_of, number_of_step, words_after, sweep_after}
 use Rattle.bus_presence.proofs.HallLaws.{IsSweep, Keeps, one_of_row, rows_apart, sweep_does, Asks}
 use Rattle.bus_presence.proofs.RowLaws.{IsLive, live_apart, alive_same, visit_place, load_same}
 use Rattle.bus_tenure.specs.Core.{Layout, row_at, log_at}
@@ -82,7 +82,7 @@ module _ (x : Layout) (rows : ℕ) where
   -- a step of a visit
   pub quiet_visit : (h : Hall) (visits : ℕ → Visit) (p : ℕ) (v : Visit) (o : Op) → p < x.senders → step_at v (presence_at z p) 1 ≡ Some o → IsQuiet h (record { words = words_after h o; visits = visits; sweep = h.sweep })
   quiet_visit h visits p v o below due = elim (visit_place z v p o due) [
-    | inl e ↦ subst (λ r. IsQuiet h (record { words = put r (after o (found h o)) h.words; visits = visits; sweep = h.sweep })) (sym e) (quiet_presence h visits p (after o (found h o)) below)
+    | inl e ↦ subst (λ r. IsQuiet h (record { words = put r (after o (number_of_step h o)) h.words; visits = visits; sweep = h.sweep })) (sym e) (quiet_presence h visits p (after o (number_of_step h o)) below)
     | inr load ↦ quiet_same h (record { words = words_after h o; visits = visits; sweep = h.sweep }) (load_same h o load) refl
   ]
 
@@ -91,7 +91,7 @@ module _ (x : Layout) (rows : ℕ) where
     w : IsSweep z h s
     w = keeps.sweeps s is
 
-    quiet_asks : (o : Op) → Asks s o → IsQuiet h (record h { words = words_after h o; sweep = Some (sweep_fed s (found h o)) })
+    quiet_asks : (o : Op) → Asks s o → IsQuiet h (record h { words = words_after h o; sweep = Some (sweep_fed s (number_of_step h o)) })
     quiet_asks o a = let same = load_same h o (s.presences + s.asked, a.loads) in record {
       length = ap (λ y. y 0) same;
       stage = ap (λ y. y 1) same;
@@ -123,10 +123,10 @@ module _ (x : Layout) (rows : ℕ) where
               rows_apart z u (w.tenure + 1) k s.cleared (λ one. let eq = one_of_row rows u (w.tenure + 1) (omega arith) (omega arith) one in omega arith) low (omega arith) (e ∙ ap (λ y. y + s.cleared) at));
         }
 
-    pub quiet_sweep : (o : Op) → sweep_op s ≡ Some o → IsQuiet h (record h { words = words_after h o; sweep = Some (sweep_fed s (found h o)) })
+    pub quiet_sweep : (o : Op) → sweep_op s ≡ Some o → IsQuiet h (record h { words = words_after h o; sweep = Some (sweep_fed s (number_of_step h o)) })
     quiet_sweep o due = elim (sweep_does s o due) [
       | inl a ↦ quiet_asks o a
-      | inr c ↦ subst (λ y. IsQuiet h (record h { words = words_after h y; sweep = Some (sweep_fed s (found h y)) })) (sym c.stores)
+      | inr c ↦ subst (λ y. IsQuiet h (record h { words = words_after h y; sweep = Some (sweep_fed s (number_of_step h y)) })) (sym c.stores)
           (subst (λ y. IsQuiet h (record h { words = put (s.row + s.cleared) 0 h.words; sweep = Some y })) (sym (c.fed (h.words (s.row + s.cleared)))) (quiet_wipes c.all c.less))
     ]
 

@@ -10,7 +10,7 @@ use Rattle.bus_tenure.specs.Core.{Core, Layout, log_at, frame_len}
 use Rattle.bus_tenure.specs.declared.pages.Page.{Page}
 use Rattle.bus_tenure.specs.declared.phases.Phase.{Phase}
 use Rattle.bus_tenure.specs.declared.phases.Phase.TheVariants as phase
-use Rattle.bus_world.specs.Log.{read, sent, AreEarlier, Logged, Knows}
+use Rattle.bus_world.specs.Log.{words_read_from, sent_count, AreEarlier, Logged, Knows}
 use Rattle.bus_world.specs.Tenures.{Standing, Tenures}
 use Rattle.bus_world.specs.Tenures.Standing.{Rests, Runs, Holds}
 
@@ -37,18 +37,18 @@ least_of (Some c) = c.least
 
 -- the frame of a holder is not published: the words that it has stored stand past the length
 pub record IsWriting {E : Type 0} (words : ℕ → ℕ) (frames : List Frame) (c : Core E) (t : ℕ) (page : Page) (stored : ℕ) : Type 0 where
-  pub base : c.queue.first ≡ sent c.me frames
+  pub base : c.queue.first ≡ sent_count c.me frames
   pub page_knows : Knows page frames t (words 0)
   pub earlier : AreEarlier t frames
   pub stored_below : stored ≤ frame_len c
   pub allowed : 0 < stored → (page.ended ≡ false) × (page.words + frame_len c ≤ c.layout.capacity)
-  pub words_are : read words (log_at c.layout + words 0) stored ≡ take stored (frame_words (frame_of c.queue t))
+  pub words_are : words_read_from words (log_at c.layout + words 0) stored ≡ take stored (frame_words (frame_of c.queue t))
 
 -- it is published: it is the last frame, and the page does not know it yet
 pub record HasWritten {E : Type 0} (words : ℕ → ℕ) (frames : List Frame) (c : Core E) (t : ℕ) (page : Page) : Type 0 where
   pub front : List Frame
   pub frames_are : frames ≡ front ++ frame_of c.queue t ∷ []
-  pub base : c.queue.first ≡ sent c.me front
+  pub base : c.queue.first ≡ sent_count c.me front
   pub page_knows : Knows page front t page.words
   pub earlier : AreEarlier t front
   pub is_open : page.ended ≡ false
@@ -60,8 +60,8 @@ pub record HasBegun (q : Pending) : Type 0 where
   pub something : HasSomething q
 
 abbrev pub Fits : {E : Type 0} → (ℕ → ℕ) → List Frame → Core E → Phase E → Type 0
-Fits words frames c phase.Resting = (c.queue.busy ≡ false) × (c.queue.first ≡ sent c.me frames)
-Fits words frames c (phase.Electing t e) = HasBegun c.queue × (c.queue.first ≡ sent c.me frames)
+Fits words frames c phase.Resting = (c.queue.busy ≡ false) × (c.queue.first ≡ sent_count c.me frames)
+Fits words frames c (phase.Electing t e) = HasBegun c.queue × (c.queue.first ≡ sent_count c.me frames)
 -- between events no page is under way
 Fits words frames c (phase.Taken t) = ⊥
 Fits words frames c (phase.Holding t page stored false) = HasBegun c.queue × IsWriting words frames c t page stored

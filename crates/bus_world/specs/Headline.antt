@@ -82,8 +82,8 @@ head_heard (recv.Item item) = []
 head_heard recv.End = []
 
 -- the order that it was given: the items that were answered, and whether the end was
-abbrev pub given : List RecvTurn → Order
-given trail = record { items = flat_map item_heard trail; ended = list_any end_heard trail }
+abbrev pub order_given : List RecvTurn → Order
+order_given trail = record { items = flat_map item_heard trail; ended = list_any end_heard trail }
 
 -- the tenures and owners that were answered
 abbrev pub heads : List RecvTurn → List (ℕ × SenderNo)
@@ -130,7 +130,7 @@ pub record Promises (deeds : ℕ → List Deed) (heard : ℕ → List RecvTurn) 
   pub owned : (k t : ℕ) (o : SenderNo) → slice_get owners k ≡ Some (t, o) → (place : ℕ) × Took (deeds o.0) t place
   pub rising : (j k t u : ℕ) (o p : SenderNo) → slice_get owners j ≡ Some (t, o) → slice_get owners k ≡ Some (u, p) → j < k → t < u
   -- 3. What each receiver was given is a prefix of the one order, and the heads that it was told are a prefix of the one list.
-  pub delivered : (r : ℕ) → IsPrefixOfOrder (given (heard r)) order
+  pub delivered : (r : ℕ) → IsPrefixOfOrder (order_given (heard r)) order
   pub told : (r : ℕ) → IsPrefix (heads (heard r)) owners
   -- 4. Each sender's messages in the order are the first that it put, in its order, none skipped and none repeated.
   pub faithful : Faithful order (λ s. puts (deeds s))

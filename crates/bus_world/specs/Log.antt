@@ -7,13 +7,13 @@ use Rattle.bus_deliverylog.specs.Orders.{of_sender}
 use Rattle.bus_tenure.specs.declared.pages.Page.{Page}
 
 -- so many words of a table, from a place on
-abbrev pub read : (ℕ → ℕ) → ℕ → ℕ → List ℕ
-read words at zero = []
-read words at (suc k) = read words at k ++ words (at + k) ∷ []
+abbrev pub words_read_from : (ℕ → ℕ) → ℕ → ℕ → List ℕ
+words_read_from words at zero = []
+words_read_from words at (suc k) = words_read_from words at k ++ words (at + k) ∷ []
 
 -- how many items of a sender frames have
-abbrev pub sent : ℕ → List Frame → ℕ
-sent s frames = length (of_sender s (order_of frames))
+abbrev pub sent_count : ℕ → List Frame → ℕ
+sent_count s frames = length (of_sender s (order_of frames))
 
 -- items whose numbers count up from a first one, none skipped and none repeated
 abbrev pub AreCounted : ℕ → List Item → Type 0
@@ -28,14 +28,14 @@ AreEarlier tenure (f ∷ frames) = (f.tenure < tenure) × AreEarlier tenure fram
 -- the words below the length are frames, and each sender's numbers count from 0
 pub record Logged (n capacity at : ℕ) (words : ℕ → ℕ) (len : ℕ) (frames : List Frame) : Type 0 where
   pub lawful : AreFrames n frames
-  pub words_are : read words at len ≡ log_words frames
+  pub words_are : words_read_from words at len ≡ log_words frames
   pub fits : len ≤ capacity
   pub counted : (s : ℕ) → AreCounted 0 (of_sender s (order_of frames))
 
 -- the page knows how many items of each sender the frames have, whether they have ended, the tenures and the length
 pub record Knows (page : Page) (frames : List Frame) (past len : ℕ) : Type 0 where
   pub entries : length page.next ≡ MOST_SENDERS
-  pub next : (s : ℕ) → s < MOST_SENDERS → slice_index page.next s ≡ sent s frames
+  pub next : (s : ℕ) → s < MOST_SENDERS → slice_index page.next s ≡ sent_count s frames
   pub ended : page.ended ≡ has_end frames
   pub tenures : page.tenures ≡ past
   pub words : page.words ≡ len

@@ -12,7 +12,7 @@ use Rattle.bus_tenure.specs.Elections.{layout_with}
 use Rattle.bus_tenure.specs.declared.pages.Page.{Page}
 use Rattle.bus_register.specs.Protocol.{Protocol}
 use Rattle.bus_adoptcommit.specs.declared.verdicts.Verdict.{Verdict}
-use Rattle.bus_world.specs.Log.{read}
+use Rattle.bus_world.specs.Log.{words_read_from}
 use Rattle.bus_world.specs.Turning.{number_found}
 use Rattle.bus_world.specs.World.{Bus, Event, Put, Close, Turn, Recv, Stop, has_stopped, going, Happens, RecvDoes, IsNew, IsEvent}
 use Rattle.bus_world.specs.declared.events.Event.{Event as Told}
@@ -36,7 +36,7 @@ sized_bus x words home senders owners receivers stopped = record { layout = x; b
 
 -- the words of its log below the length
 abbrev pub log_of : {E : Type 0} → SizedBus E → List ℕ
-log_of z = read (slice_index z.bus.side.words) (log_at z.layout) (slice_index z.bus.side.words 0)
+log_of z = words_read_from (slice_index z.bus.side.words) (log_at z.layout) (slice_index z.bus.side.words 0)
 
 -- ---- shapes
 -- the words of a bus of this shape, over such ratifiers

@@ -7,7 +7,7 @@ use Rattle.bus_batch.specs.Batches.{next_of}
 use Rattle.bus_batch.specs.declared.batches.Phase.TheVariants.{Closing}
 use Rattle.bus_deliverylog.specs.Receiving.{Receiving}
 use Rattle.bus_deliverylog.specs.declared.receiving.RecvTurn.{RecvTurn}
-use Rattle.bus_presence.specs.Hall.{Trails, no_trails, grown}
+use Rattle.bus_presence.specs.Hall.{Trails, no_trails, trails_with_entry}
 use Rattle.bus_presence.specs.Sweeps.{Sweeping}
 use Rattle.bus_presence.specs.declared.visits.Visit.{Visit}
 use Rattle.bus_presence.specs.declared.visits.Visit.TheVariants.{Away}
@@ -85,7 +85,7 @@ ring_trails b s d = trails_with (yard_of b None []) s d
 
 abbrev pub ring_sweeps : {E : Type 0} → Ring E → ℕ → Due E → Trails → Trails
 ring_sweeps b s (Visits o) T = T
-ring_sweeps b s (Sweeps r o) T = grown T s record { op = o; got = slice_index b.words (register o) }
+ring_sweeps b s (Sweeps r o) T = trails_with_entry T s record { op = o; got = slice_index b.words (register o) }
 ring_sweeps b s (Goes z) T = T
 
 abbrev pub ring_deeds : {E : Type 0} → Election E → Ring E → ℕ → Visitor E → Due E → ℕ → Answered → (ℕ → List Deed) → ℕ → List Deed

@@ -1,16 +1,24 @@
 -- What a stop does, and that it is for good.
-use Rattle.std.specs.Prelude.{◌≡◌, ◌≢◌, ◌⊎◌, ℕ, true, false, Some, None, List, slice_get}
+use Rattle.std.specs.Prelude.{◌≡◌, ◌≢◌, ◌⊎◌, ℕ, true, false, Some, None, List, All, slice_get, slice_set}
 use Rattle.bus_tenure.specs.Core.{Core, Election, Layout}
 use Rattle.bus_world.specs.Playing.{AllAnswered, Answers, Refused}
 use Rattle.bus_world.specs.Trails.{Trails, Reached, trails_grown, trails_after}
-use Rattle.bus_world.specs.World.{Bus, Event, Put, Close, Turn, Stop, has_stopped, Happens}
+use Rattle.bus_world.specs.World.{Bus, Event, Put, Close, Turn, Recv, Stop, has_stopped, Happens}
 use Rattle.bus_world.specs.declared.events.Answer.{Answer}
 use Rattle.bus_world.specs.declared.events.Answer.TheVariants as answer
 use Rattle.bus_world.specs.declared.events.StepFault.{StepFault}
 use Rattle.bus_world.specs.declared.events.StepFault.TheVariants as fault
 
+-- an event of another sender than s, or of a receiver
+abbrev pub IsOfOther : ℕ → Event → Type 0
+IsOfOther s (Put q bytes) = q ≢ s
+IsOfOther s (Close q) = q ≢ s
+IsOfOther s (Turn q word) = q ≢ s
+IsOfOther s (Recv r) = Unit {0}
+IsOfOther s (Stop q) = q ≢ s
+
 -- The stop of a sender that went on was answered: it has stopped now, and nothing else has changed. It is no deed of any sender and no
--- answer of any receiver.
+-- answer of any receiver. Each event of the others does what it did before, and is answered and refused alike.
 pub record JustStopped {E : Type 0} (X : Election E) (old : Bus E) (s : ℕ) (a : Answer) (new : Bus E) : Type 0 where
   pub answered : a ≡ answer.Stopped
   pub went_on : has_stopped old s ≡ false
@@ -20,6 +28,11 @@ pub record JustStopped {E : Type 0} (X : Election E) (old : Bus E) (s : ℕ) (a 
   pub receivers : new.receivers ≡ old.receivers
   pub deeds : (T : Trails) (q : ℕ) → (trails_grown X old (Stop s) a T).deeds q ≡ T.deeds q
   pub heard : (T : Trails) (r : ℕ) → (trails_grown X old (Stop s) a T).heard r ≡ T.heard r
+  pub trails_alike : (e : Event) (g : Answer) (T : Trails) → IsOfOther s e → trails_grown X new e g T ≡ trails_grown X old e g T
+  pub happens_alike : (e : Event) (next : Bus E) → IsOfOther s e → Happens X old e next → Happens X new e (record next { stopped = slice_set next.stopped s true })
+  pub happens_before : (e : Event) (next : Bus E) → IsOfOther s e → Happens X new e next → Happens X old e (record next { stopped = slice_set next.stopped s false })
+  pub answered_alike : (e : Event) (g : Answer) (next : Bus E) → IsOfOther s e → (Answers X old e g next → Answers X new e g next) × (Answers X new e g next → Answers X old e g next)
+  pub refused_alike : (e : Event) (why : StepFault) → IsOfOther s e → (Refused old e why → Refused new e why) × (Refused new e why → Refused old e why)
 
 -- a sender is still stopped, its state is what it was, and it has done nothing more
 pub record StaysStopped {E : Type 0} (old : Bus E) (T : Trails) (s : ℕ) (new : Bus E) (T' : Trails) : Type 0 where
@@ -44,8 +57,10 @@ pub record StopsAreForGood {E : Type 0} (X : Election E) (x : Layout) : Type 0 w
   pub close_refused : (b : Bus E) (s : ℕ) (c : Core E) → slice_get b.side.senders s ≡ Some c → has_stopped b s ≡ true → IsRefusedAsStopped b (Close s)
   pub turn_refused : (b : Bus E) (s : ℕ) (c : Core E) (word : ℕ) → slice_get b.side.senders s ≡ Some c → has_stopped b s ≡ true → IsRefusedAsStopped b (Turn s word)
   pub stop_refused : (b : Bus E) (s : ℕ) (c : Core E) → slice_get b.side.senders s ≡ Some c → has_stopped b s ≡ true → IsRefusedAsStopped b (Stop s)
-  -- a sender that goes on may stop
-  pub may_stop : (b : Bus E) (s : ℕ) (c : Core E) (why : StepFault) → slice_get b.side.senders s ≡ Some c → has_stopped b s ≡ false → ¬ Refused b (Stop s) why
+  -- a sender that goes on may stop: its stop is not refused, and there is what it does and is answered
+  pub may_stop : (b : Bus E) (s : ℕ) (c : Core E) → slice_get b.side.senders s ≡ Some c → has_stopped b s ≡ false → ((why : StepFault) → ¬ Refused b (Stop s) why) × ((new : Bus E) × Happens X b (Stop s) new × Answers X b (Stop s) answer.Stopped new)
+  -- nobody stops but by a stop of its own
+  pub goes_on : (old new : Bus E) (events : List Event) (s : ℕ) → AllAnswered X old events new → All (λ e. e ≢ Stop s) events → has_stopped new s ≡ has_stopped old s
 
 -- what is no such thing
 pub record StopRefuses {E : Type 0} (X : Election E) (x : Layout) : Type 0 where
@@ -61,3 +76,5 @@ pub record StopRefuses {E : Type 0} (X : Election E) (x : Layout) : Type 0 where
   pub close_untimely : (b : Bus E) (s : ℕ) → HasNotStopped b s → ¬ Refused b (Close s) fault.Stopped
   pub turn_untimely : (b : Bus E) (s word : ℕ) → HasNotStopped b s → ¬ Refused b (Turn s word) fault.Stopped
   pub stop_untimely : (b : Bus E) (s : ℕ) → HasNotStopped b s → ¬ Refused b (Stop s) fault.Stopped
+  -- also of a receiver, whatever its number
+  pub recv_untimely : (b : Bus E) (r : ℕ) → ¬ Refused b (Recv r) fault.Stopped

@@ -10,7 +10,7 @@ use Rattle.bus_deliverylog.specs.Orders.{IsPrefixOfOrder}
 use Rattle.bus_tenure.specs.Core.{Core, Election, Layout}
 use Rattle.bus_tenure.specs.Situations.{Situation, situation_of, tenure_at, kind_at, op_at, chosen_at}
 use Rattle.bus_tenure.specs.declared.turns.Turn.{Turn as Answered}
-use Rattle.bus_world.specs.Headline.{Deed, HasPut, HasClosed, Stepped, Took, given, IsPrefix, Promises}
+use Rattle.bus_world.specs.Headline.{Deed, HasPut, HasClosed, Stepped, Took, order_given, IsPrefix, Promises}
 use Rattle.bus_world.specs.Turning.{number_found}
 use Rattle.bus_world.specs.World.{Bus, Event, Put, Close, Turn, Recv, Stop, going, IsEvent, Happens, IsNew, LawfulBus}
 use Rattle.bus_world.specs.Playing.{SizedBus, AllAnswered, Answers, Refused, log_of}
@@ -115,7 +115,7 @@ pub record StaysPromised {E : Type 0} (x : Layout) (old : Bus E) (T : Trails) (n
   pub order : IsPrefixOfOrder before.order after.order
   pub owners : IsPrefix before.owners after.owners
   pub takers : IsPrefix old.side.owners new.side.owners
-  pub given : (r : ℕ) → IsPrefixOfOrder (given (T.heard r)) (given (T'.heard r))
+  pub given : (r : ℕ) → IsPrefixOfOrder (order_given (T.heard r)) (order_given (T'.heard r))
 
 -- Whatever trails led to the old bus, with what this event and its answer add they lead to the new one, and the promise stays.
 pub record Follows {E : Type 0} (X : Election E) (x : Layout) (old : Bus E) (e : Event) (a : Answer) (new : Bus E) : Type 0 where

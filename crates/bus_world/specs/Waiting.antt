@@ -1,5 +1,5 @@
 -- Messages that a sender has put and that are not in the order yet.
-use Rattle.std.specs.Prelude.{ℕ, true, false, Option, Some, None, List, []}
+use Rattle.std.specs.Prelude.{ℕ, true, false, List, []}
 use Rattle.bus_tenure.specs.Core.{Core}
 use Rattle.bus_tenure.specs.declared.phases.Phase.{Phase}
 use Rattle.bus_tenure.specs.declared.phases.Phase.TheVariants as phase
@@ -12,7 +12,3 @@ waiting_at c (phase.Taken t) = c.queue.messages
 waiting_at c (phase.Holding t page stored true) = []
 waiting_at c (phase.Holding t page stored false) = c.queue.messages
 waiting_at c (phase.Giving t reason) = []
-
-abbrev pub waiting_of : {E : Type 0} → Option (Core E) → List (List ℕ)
-waiting_of None = []
-waiting_of (Some c) = waiting_at c c.phase

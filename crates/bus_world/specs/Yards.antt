@@ -12,7 +12,7 @@ use Rattle.bus_deliverylog.specs.declared.receiving.RecvTurn.{RecvTurn}
 use Rattle.bus_presence.specs.Visits.{visit_fed}
 use Rattle.bus_presence.specs.Standing.{IsSafe, Stands}
 use Rattle.bus_presence.specs.Sweeps.{Sweeping, sweep_fed}
-use Rattle.bus_presence.specs.Hall.{Hall, Trails, row_of, no_trails, new_hall, grown, found, words_after as hall_words, Reached}
+use Rattle.bus_presence.specs.Hall.{Hall, Trails, row_of, no_trails, new_hall, trails_with_entry, number_of_step, words_after as hall_words, Reached}
 use Rattle.bus_presence.specs.declared.visits.Visit.TheVariants.{Away}
 use Rattle.bus_tenure.specs.Core.{Core, Election, Layout, stage_at}
 use Rattle.bus_tenure.specs.Situations.{Situation, Elects, line_of, op_at, kind_at, tenure_at, chosen_at}
@@ -22,7 +22,7 @@ use Rattle.bus_tenure.specs.declared.turns.Turn.{Turn as Answered}
 use Rattle.bus_guest.specs.Guests.{sizes_with, log_from, Due, Visits, Sweeps, Goes, due_of, place_for, core_looked, core_going, visit_going, sweep_going, answer_going}
 use Rattle.bus_world.specs.Turning.{core_moved, after_step, home_after, owners_after}
 use Rattle.bus_world.specs.Headline.{Deed, HasPut, HasClosed, Elected, Promises}
-use Rattle.bus_world.specs.Log.{read}
+use Rattle.bus_world.specs.Log.{words_read_from}
 use Rattle.bus_world.specs.Trails.{step_deed, Takers}
 use Rattle.bus_world.specs.World.{new_page, new_core, IsNewReceiver, RecvDoes, can_put, can_close, put_in, close_in}
 
@@ -44,18 +44,18 @@ word_found place words None = 0
 word_found place words (Some o) = words (place (register o))
 
 -- ---- a turn of sender p, which held this, with this random word
-abbrev pub visited : {E : Type 0} → Election E → Yard E → ℕ → Core E → Op → Yard E
-visited X y p c o = record y {
-  hall = record y.hall { words = hall_words y.hall o; visits = put p (visit_fed (y.hall.visits p) (found y.hall o)) y.hall.visits };
-  senders = put p (Some (core_looked X c (y.hall.visits p) (found y.hall o))) y.senders;
+abbrev pub yard_visited : {E : Type 0} → Election E → Yard E → ℕ → Core E → Op → Yard E
+yard_visited X y p c o = record y {
+  hall = record y.hall { words = hall_words y.hall o; visits = put p (visit_fed (y.hall.visits p) (number_of_step y.hall o)) y.hall.visits };
+  senders = put p (Some (core_looked X c (y.hall.visits p) (number_of_step y.hall o))) y.senders;
 }
 
-abbrev pub swept : {E : Type 0} → Yard E → Sweeping → Op → Yard E
-swept y s o = record y { hall = record y.hall { words = hall_words y.hall o; sweep = Some (sweep_fed s (found y.hall o)) } }
+abbrev pub yard_swept : {E : Type 0} → Yard E → Sweeping → Op → Yard E
+yard_swept y s o = record y { hall = record y.hall { words = hall_words y.hall o; sweep = Some (sweep_fed s (number_of_step y.hall o)) } }
 
 -- as a sender that has a row for each tenure, in this situation
-abbrev pub gone : {E : Type 0} → Election E → Layout → ℕ → Yard E → ℕ → Core E → Situation E → ℕ → Yard E
-gone X x rows y p c z word = record y {
+abbrev pub yard_after_going : {E : Type 0} → Election E → Layout → ℕ → Yard E → ℕ → Core E → Situation E → ℕ → Yard E
+yard_after_going X x rows y p c z word = record y {
   hall = record {
     words = words_stepped (place_for x rows z) y.hall.words (op_at X c z word);
     visits = put p (visit_going X c (y.hall.visits p) z (word_found (place_for x rows z) y.hall.words (op_at X c z word)) word) y.hall.visits;
@@ -67,13 +67,13 @@ gone X x rows y p c z word = record y {
 }
 
 abbrev pub yard_after : {E : Type 0} → Election E → Layout → ℕ → Yard E → ℕ → Core E → Due E → ℕ → Yard E
-yard_after X x rows y p c (Visits o) word = visited X y p c o
-yard_after X x rows y p c (Sweeps s o) word = swept y s o
-yard_after X x rows y p c (Goes z) word = gone X x rows y p c z word
+yard_after X x rows y p c (Visits o) word = yard_visited X y p c o
+yard_after X x rows y p c (Sweeps s o) word = yard_swept y s o
+yard_after X x rows y p c (Goes z) word = yard_after_going X x rows y p c z word
 
 -- the step of a visit joins the trail of its sender
 abbrev pub trails_with : {E : Type 0} → Yard E → ℕ → Due E → Trails → Trails
-trails_with y p (Visits o) T = grown T p record { op = o; got = found y.hall o }
+trails_with y p (Visits o) T = trails_with_entry T p record { op = o; got = number_of_step y.hall o }
 trails_with y p (Sweeps s o) T = T
 trails_with y p (Goes z) T = T
 
@@ -149,7 +149,7 @@ pub record KeepsPromises {E : Type 0} (X : Election E) (x : Layout) (rows : ℕ)
   -- who took the pages is who did so by its deeds
   pub takers : Takers y.owners D
   -- the words below the length spell the order and the owners
-  pub spelled : Spells x.senders (read y.hall.words (log_from x rows) (y.hall.words 0)) order owners
+  pub spelled : Spells x.senders (words_read_from y.hall.words (log_from x rows) (y.hall.words 0)) order owners
   -- the headline's promise, also of tenures whose rows have gone on to others
   pub promises : Promises D H order owners
 

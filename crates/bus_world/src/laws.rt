@@ -91,11 +91,13 @@ pub fn yards_refuse<Q: Ratifier>()
         (layout_with Q.protocol senders rounds tenures capacity) rows }
 {}
 
-/// A stop that is answered changes who has stopped, and nothing else. Whoever has stopped does
+/// A stop that is answered changes who has stopped, and nothing else: what is no event of that
+/// sender does what it did before, and is answered and refused alike. Whoever has stopped does
 /// nothing any more, whatever happens next: no event of it is answered, its state is what it was,
 /// and it has no deed more; whatever else is wrong with an event of it, it is refused as Stopped.
 /// A stop that does nothing is none. Nothing is refused as Stopped of one that goes on, or that
-/// there is not, and one that goes on may stop.
+/// there is not, or of a receiver. One that goes on may stop, and nobody stops but by a stop of its
+/// own.
 pub fn stops_are_for_good<Q: Ratifier>()
     ensures stops { (senders rounds rows capacity : ℕ)
         → IsLayout (layout_with Q.protocol senders rounds rows capacity)

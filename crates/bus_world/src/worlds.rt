@@ -9,7 +9,7 @@ ghost use Rattle.bus_deliverylog.specs.Orders.{order_held};
 ghost use Rattle.bus_deliverylog.specs.Receiving.{Receiving};
 ghost use Rattle.bus_tenure.specs.Elections.{Elector, election_of, elections};
 ghost use Rattle.bus_world.specs.declared.events.Answer.TheVariants as answer;
-ghost use Rattle.bus_world.specs.Headline.{given};
+ghost use Rattle.bus_world.specs.Headline.{order_given};
 ghost use Rattle.bus_world.specs.World.{Put, Close, Turn as SenderTurn, Recv, Stop};
 ghost use Rattle.bus_world.specs.World.{has_stopped, going, IsEvent, Happens, given_at};
 ghost use Rattle.bus_world.specs.Telling.{Tells, SenderCauses, EventCauses};
@@ -380,7 +380,7 @@ impl<Q: Ratifier + Drop> World<Q> {
         ensures { let X = election_of Q.Ratifier in
             IfOk result (λ order. (trails : Trails)
             → Reached X self.now.layout self.now.bus trails
-            → order_held order ≡ given (trails.heard receiver)) }
+            → order_held order ≡ order_given (trails.heard receiver)) }
     {
         election_is_lawful::<Q>();
         let _ = &self.shape;

@@ -13,6 +13,6 @@ abbrev pub IsCommand : List ℕ → Type 0
 IsCommand message = (command : Command) × (message ≡ message_of command)
 
 -- the counters after a command, which changes none but the one that it names
-abbrev pub changed : Command → List ℕ → List ℕ
-changed (Add counter amount) counters = slice_set counters counter ((slice_index counters counter + amount) % 2 ^ 64)
-changed (Reset counter) counters = slice_set counters counter 0
+abbrev pub counters_changed : Command → List ℕ → List ℕ
+counters_changed (Add counter amount) counters = slice_set counters counter ((slice_index counters counter + amount) % 2 ^ 64)
+counters_changed (Reset counter) counters = slice_set counters counter 0

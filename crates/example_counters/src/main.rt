@@ -6,7 +6,7 @@
 
 ghost use Rattle.std.specs.Prelude.{◌≡◌, All};
 ghost use Rattle.bus_receiver.specs.Seats.{table_of};
-ghost use Rattle.example_counters.specs.Commands.{changed, message_of, IsCommand};
+ghost use Rattle.example_counters.specs.Commands.{counters_changed, message_of, IsCommand};
 
 use anyhow::{Context, ensure};
 use bus_receiver::{Bus, Receiver, RecvTurn, Sender, Shape, Tap, ThreeWord, Turn};
@@ -36,7 +36,7 @@ fn encode(command: Command) -> [u8; 3]
 /// Carries out the command of a message. Any other message changes nothing.
 fn apply(message: &[u8], counters: &mut [u64; 4])
     ensures command { (command : Command) → message.now ≡ message_of command
-        → counters.new ≡ changed command counters.old }
+        → counters.new ≡ counters_changed command counters.old }
     ensures other { ¬ IsCommand message.now → counters.new ≡ counters.old }
 {
     match *message {

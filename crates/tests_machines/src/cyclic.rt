@@ -54,6 +54,22 @@ fn hear(rt: &impl Abort, world: &mut CyclicWorld<ThreeWord>) -> RecvTurn {
     RecvTurn::Going
 }
 
+/// Wants that a put is answered so.
+fn puts(
+    rt: &impl Abort,
+    world: &mut CyclicWorld<ThreeWord>,
+    sender: u8,
+    bytes: &[u8],
+    want: Result<u64, StepFault>,
+) {
+    assert_eq!(rt; world.put(SenderNo(sender), bytes), want);
+}
+
+/// Wants that the last of at most 99 turns of a sender is answered so.
+fn comes_to(rt: &impl Abort, world: &mut CyclicWorld<ThreeWord>, sender: u64, want: Turn) {
+    assert_eq!(rt; turns(rt, world, sender, 99), want);
+}
+
 /// The message with this number was sent in this tenure.
 fn delivered(tenure: u64, number: u64) -> Turn {
     Turn::Delivered {
@@ -63,30 +79,50 @@ fn delivered(tenure: u64, number: u64) -> Turn {
     }
 }
 
-/// Each item of the order, by its sender and its number.
-fn order(rt: &HostRuntime, world: &CyclicWorld<ThreeWord>) -> Result<Vec<(u8, u64)>, Fail> {
-    let mut items = Vec::new(rt.alloc());
+/// Wants that a sender owns this tenure, and sends the message with this number in it.
+fn sends(
+    rt: &impl Abort,
+    world: &mut CyclicWorld<ThreeWord>,
+    sender: u64,
+    tenure: u64,
+    number: u64,
+) {
+    comes_to(rt, world, sender, Turn::Own { tenure });
+    comes_to(rt, world, sender, delivered(tenure, number));
+}
+
+/// Wants that receiver 0 was given so many items, and that the items of the order are these, each
+/// by its sender and its number.
+fn holds<R: Abort + AllocGlobal>(
+    rt: &R,
+    world: &CyclicWorld<ThreeWord>,
+    given: usize,
+    items: &[(u8, u64)],
+) -> Result<(), Fail> {
+    assert!(rt; world.receivers() > 0);
+    assert_eq!(rt; world.given(rt.alloc(), 0)?.items.len(), given);
+    let mut order = Vec::new(rt.alloc());
     for item in &world.order(rt.alloc())?.items {
-        items.push((item.sender.0, item.number))?;
+        order.push((item.sender.0, item.number))?;
     }
-    Ok(items)
+    assert_eq!(rt; order.as_slice(), items);
+    Ok(())
 }
 
 #[test]
 fn holder_waits_behind(rt: HostRuntime) -> Result<(), Fail> {
     let mut world = made(&rt, shape(2, 2, 64));
-    assert_eq!(rt; world.put(SenderNo(0), b"a"), Ok(0));
-    assert_eq!(rt; world.put(SenderNo(1), b"b"), Ok(0));
+    puts(&rt, &mut world, 0, b"a", Ok(0));
+    puts(&rt, &mut world, 1, b"b", Ok(0));
     assert_eq!(rt; turns(&rt, &mut world, 1, 3), Turn::Going);
-    assert_eq!(rt; turns(&rt, &mut world, 0, 99), Turn::Own { tenure: 0 });
-    assert_eq!(rt; turns(&rt, &mut world, 0, 99), delivered(0, 0));
-    assert_eq!(rt; world.put(SenderNo(0), b"c"), Ok(1));
-    assert_eq!(rt; turns(&rt, &mut world, 0, 99), Turn::Own { tenure: 1 });
+    sends(&rt, &mut world, 0, 0, 0);
+    puts(&rt, &mut world, 0, b"c", Ok(1));
+    comes_to(&rt, &mut world, 0, Turn::Own { tenure: 1 });
     let behind = Turn::Behind {
         tenure: 0,
         sender: SenderNo(1),
     };
-    assert_eq!(rt; turns(&rt, &mut world, 0, 99), behind);
+    comes_to(&rt, &mut world, 0, behind);
     assert_eq!(rt; turns(&rt, &mut world, 0, 1), behind);
     assert!(rt; world.page().is_none());
     assert_eq!(rt; hear(&rt, &mut world), RecvTurn::Empty);
@@ -94,41 +130,27 @@ fn holder_waits_behind(rt: HostRuntime) -> Result<(), Fail> {
         tenure: 0,
         owner: SenderNo(0),
     };
-    assert_eq!(rt; turns(&rt, &mut world, 1, 99), lost);
-    assert_eq!(rt; turns(&rt, &mut world, 0, 99), delivered(1, 1));
+    comes_to(&rt, &mut world, 1, lost);
+    comes_to(&rt, &mut world, 0, delivered(1, 1));
     assert_eq!(rt; world.owners(), [SenderNo(0), SenderNo(0)].as_slice());
-    assert_eq!(rt; order(&rt, &world)?.as_slice(), [(0, 0), (0, 1)].as_slice());
-    assert!(rt; world.receivers() > 0);
-    assert_eq!(rt; world.given(rt.alloc(), 0)?.items.len(), 2);
-    Ok(())
+    holds(&rt, &world, 2, &[(0, 0), (0, 1)])
 }
 
 #[test]
 fn rows_come_round(rt: HostRuntime) -> Result<(), Fail> {
     let mut world = made(&rt, shape(2, 2, 64));
-    assert_eq!(rt; world.put(SenderNo(0), b"a"), Ok(0));
-    assert_eq!(rt; world.put(SenderNo(1), b"b"), Ok(0));
+    puts(&rt, &mut world, 0, b"a", Ok(0));
+    puts(&rt, &mut world, 1, b"b", Ok(0));
     assert_eq!(rt; turns(&rt, &mut world, 1, 1), Turn::Going);
-    assert_eq!(rt;
-        world.put(SenderNo(1), b"late"),
-        Err(StepFault::Put(PutFault::Busy))
-    );
-    assert_eq!(rt; turns(&rt, &mut world, 0, 99), Turn::Own { tenure: 0 });
-    assert_eq!(rt; turns(&rt, &mut world, 0, 99), delivered(0, 0));
-    assert_eq!(rt; world.put(SenderNo(0), b"c"), Ok(1));
-    assert_eq!(rt; turns(&rt, &mut world, 0, 99), Turn::Own { tenure: 1 });
-    assert_eq!(rt; turns(&rt, &mut world, 0, 99), delivered(1, 1));
-    assert_eq!(rt; turns(&rt, &mut world, 1, 99), Turn::Waiting);
-    assert_eq!(rt; turns(&rt, &mut world, 1, 99), Turn::Own { tenure: 2 });
-    assert_eq!(rt; turns(&rt, &mut world, 1, 99), delivered(2, 0));
+    let busy = Err(StepFault::Put(PutFault::Busy));
+    puts(&rt, &mut world, 1, b"late", busy);
+    sends(&rt, &mut world, 0, 0, 0);
+    puts(&rt, &mut world, 0, b"c", Ok(1));
+    sends(&rt, &mut world, 0, 1, 1);
+    comes_to(&rt, &mut world, 1, Turn::Waiting);
+    sends(&rt, &mut world, 1, 2, 0);
     assert_eq!(rt; world.owners(), [SenderNo(0), SenderNo(1)].as_slice());
-    assert_eq!(rt;
-        order(&rt, &world)?.as_slice(),
-        [(0, 0), (0, 1), (1, 0)].as_slice()
-    );
-    assert!(rt; world.receivers() > 0);
-    assert_eq!(rt; world.given(rt.alloc(), 0)?.items.len(), 0);
-    Ok(())
+    holds(&rt, &world, 0, &[(0, 0), (0, 1), (1, 0)])
 }
 
 #[test]

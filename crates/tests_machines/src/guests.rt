@@ -1,3 +1,5 @@
+//! Worked turns of a guest.
+
 ghost use Rattle.std.specs.Prelude.{◌<◌};
 
 use bus_adoptcommit::ThreeWord;

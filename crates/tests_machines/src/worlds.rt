@@ -3,7 +3,7 @@
 mod stops;
 
 use bus_adoptcommit::ThreeWord;
-use bus_batch::{CloseFault, PutFault};
+use bus_batch::{CloseFault, Item, PutFault};
 use bus_deliverylog::RecvTurn;
 use bus_register::SenderNo;
 use bus_tenure::Turn;
@@ -50,11 +50,10 @@ fn recv(rt: &impl Abort, world: &mut World<ThreeWord>, receiver: u64) -> RecvTur
     }
 }
 
-#[test]
-fn empty_message_word_by_word(rt: HostRuntime) -> Result<(), Fail> {
-    let mut world = made(&rt, shape(1, 1, 4, 16));
+/// The only sender sends a message of no bytes.
+fn sends_it(rt: &impl Abort, world: &mut World<ThreeWord>) {
     assert_eq!(rt; world.put(SenderNo(0), b""), Ok(0));
-    assert_eq!(rt; turns(&rt, &mut world, 0), Turn::Own { tenure: 0 });
+    assert_eq!(rt; turns(rt, world, 0), Turn::Own { tenure: 0 });
     assert!(rt; world.page().is_none());
     assert!(rt; world.log().is_empty());
     let delivered = Turn::Delivered {
@@ -62,26 +61,43 @@ fn empty_message_word_by_word(rt: HostRuntime) -> Result<(), Fail> {
         first: 0,
         last: 0,
     };
-    assert_eq!(rt; turns(&rt, &mut world, 0), delivered);
+    assert_eq!(rt; turns(rt, world, 0), delivered);
+}
+
+/// What stands in the bus then.
+fn holds_it(rt: &impl Abort, world: &World<ThreeWord>) {
     let words: [u64; 2] = [0x4000_0100_0000_0000, 0x8000_0000_0000_0000];
     assert_eq!(rt; world.log(), words.as_slice());
-    let page = world.page().expect(&rt, "the page is at home");
+    let page = world.page().expect(rt, "the page is at home");
     assert_eq!(rt; page.next, [1, 0, 0, 0, 0, 0, 0, 0]);
     assert_eq!(rt; page.words, 2);
     assert_eq!(rt; world.owners(), [SenderNo(0)].as_slice());
     assert_eq!(rt; world.receivers(), 1);
-    assert_eq!(rt; recv(&rt, &mut world, 0), RecvTurn::Going);
+}
+
+/// What its receiver is answered, word by word, with the item.
+fn gives_it(rt: &impl Abort, world: &mut World<ThreeWord>) -> Item {
+    assert_eq!(rt; recv(rt, world, 0), RecvTurn::Going);
     let head = RecvTurn::Head {
         tenure: 0,
         owner: SenderNo(0),
     };
-    assert_eq!(rt; recv(&rt, &mut world, 0), head);
-    let RecvTurn::Item(item) = recv(&rt, &mut world, 0) else {
+    assert_eq!(rt; recv(rt, world, 0), head);
+    let RecvTurn::Item(item) = recv(rt, world, 0) else {
         panic!(rt; "the message is given");
     };
+    assert_eq!(rt; recv(rt, world, 0), RecvTurn::Empty);
+    item
+}
+
+#[test]
+fn empty_message_word_by_word(rt: HostRuntime) -> Result<(), Fail> {
+    let mut world = made(&rt, shape(1, 1, 4, 16));
+    sends_it(&rt, &mut world);
+    holds_it(&rt, &world);
+    let item = gives_it(&rt, &mut world);
     assert_eq!(rt; item.number, 0);
     assert!(rt; item.message.as_slice().is_empty());
-    assert_eq!(rt; recv(&rt, &mut world, 0), RecvTurn::Empty);
     let order = world.order(rt.alloc())?;
     assert!(rt; world.receivers() > 0);
     let given = world.given(rt.alloc(), 0)?;

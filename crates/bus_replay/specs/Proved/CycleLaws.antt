@@ -13,7 +13,7 @@ use Rattle.bus_world.specs.declared.events.Answer.TheVariants as answer
 use Rattle.bus_world.specs.declared.events.StepFault.{StepFault}
 use Rattle.bus_cyclic.specs.Cyclic.{CyclicBus}
 use Rattle.bus_cyclic.specs.Following.{owners_with}
-use Rattle.bus_cyclic.specs.Happening.{Happens, Answers, Refused, GuestDoes, TurnAnswers, RecvAnswers, seen}
+use Rattle.bus_cyclic.specs.Happening.{Happens, Answers, Refused, GuestDoes, TurnAnswers, RecvAnswers, core_found}
 use Rattle.bus_replay.specs.GoingOn.{goes_on}
 use Rattle.bus_replay.specs.Proved.WorldLaws.{stops_so}
 
@@ -33,7 +33,7 @@ turn_stays {E} X b b' s word (Some v) a why is does answered refused =
     let unset : is_set (slice_get b'.stopped s) ≡ false = ap (λ (r : Ring E). is_set (slice_get r.stopped s)) does ∙ free (is_set (slice_get b.stopped s)) (slice_get b.guests s) v is in
     let at = there (is_set (slice_get b.stopped s)) (slice_get b.guests s) v is in
     let here = ap (λ (r : Ring E). slice_get r.guests s) does ∙ get_set_same b.guests s _ (slice_get_within b.guests s v at) in
-    subst (λ o. TurnRefused (seen o) why) here (subst (λ t. UnlessStopped t (seen (slice_get b'.guests s)) why (TurnRefused (seen (slice_get b'.guests s)) why)) unset refused)
+    subst (λ o. TurnRefused (core_found o) why) here (subst (λ t. UnlessStopped t (core_found (slice_get b'.guests s)) why (TurnRefused (core_found (slice_get b'.guests s)) why)) unset refused)
 
 recv_stays : {E : Type 0} (b b' : Ring E) (r : ℕ) (o : Option Receiving) (a : Answer) (why : StepFault) → slice_get b.receivers r ≡ o → RecvAnswers b r o a b' → RecvRefused (slice_get b'.receivers r) why → ⊥
 recv_stays b b' r None a why is answered refused = absurd answered

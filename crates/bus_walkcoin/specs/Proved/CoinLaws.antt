@@ -6,7 +6,7 @@ use Rattle.bus_votecount.specs.Tally.{tally_of, total_of}
 use Rattle.bus_walkcoin.specs.declared.coins.Phase.{Phase}
 use Rattle.bus_walkcoin.specs.declared.coins.Phase.TheVariants.{Vote, ReadVotes, Answered}
 use Rattle.bus_walkcoin.specs.Coin.{CoinState, after_settled, after_load, kind_at, op_at, coin_kind, coin_op, PhaseFits}
-use Rattle.bus_walkcoin.specs.CoinRule.{settled}
+use Rattle.bus_walkcoin.specs.CoinRule.{settled_bit}
 
 names_at : (ph : Phase) (s : CoinState) (word : ℕ) → is_some (kind_at ph) ≡ is_some (op_at ph s word)
 names_at Vote s word = refl
@@ -23,7 +23,7 @@ open_if false false true d e = absurd cc
 open_if false false false d e = refl
 
 -- without an answer, votes are left
-pub settled_none : (n votes : ℕ) (total : ℤ) → settled n votes total ≡ None → votes ≢ MOST_VOTES
+pub settled_none : (n votes : ℕ) (total : ℤ) → settled_bit n votes total ≡ None → votes ≢ MOST_VOTES
 settled_none n votes total e = eqb-false votes MOST_VOTES (open_if _ _ _ _ e)
 
 settled_fits : (votes : ℕ) (o : Option Bool) → 0 < votes → votes ≤ MOST_VOTES → (o ≡ None → votes ≢ MOST_VOTES) → PhaseFits votes (after_settled o)
@@ -32,4 +32,4 @@ settled_fits votes (Some answer) some most ne = some
 
 -- after a load the next step fits
 pub load_fits : (n votes got : ℕ) → 0 < votes → votes ≤ MOST_VOTES → PhaseFits votes (after_load n votes got)
-load_fits n votes got some most = settled_fits votes (settled n votes (total_of (tally_of got ∷ []))) some most (settled_none n votes (total_of (tally_of got ∷ [])))
+load_fits n votes got some most = settled_fits votes (settled_bit n votes (total_of (tally_of got ∷ []))) some most (settled_none n votes (total_of (tally_of got ∷ [])))

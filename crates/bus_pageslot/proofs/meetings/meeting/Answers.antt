@@ -2,8 +2,8 @@ use Rattle.std.proofs.Common.{sym, ◌∙◌, ap, subst}
 use Rattle.atomic_table.specs.Table.{Joins}
 use Rattle.bus_pageslot.specs.declared.rule.View.{View}
 use Rattle.bus_pageslot.specs.declared.rule.View.TheVariants.{Spent}
-use Rattle.bus_pageslot.specs.Rule.{IsPair, IsShown, joined}
-use Rattle.bus_pageslot.proofs.Joining.{joins_allowed, parts_allowed, meets_allowed, pairs, still_pair}
+use Rattle.bus_pageslot.specs.Rule.{IsShown, views_joined}
+use Rattle.bus_pageslot.proofs.Joining.{IsPair, joins_allowed, parts_allowed, meets_allowed, pairs, still_pair}
 use Rattle.bus_pageslot.proofs.meetings.meeting.Goals as goal
 
 pub join_seat-requires : goal.join_seat-requires
@@ -18,7 +18,7 @@ join_seat-requires g c =
       c.requires.table.1,
       ap (λ m. m.1) n.2,
       c.requires.table.2,
-      subst (λ (w : V). Joins (IsShown P A) c.args.seat.now.id v c.args.other.id w (joined v w) Spent) (sym (ap (λ m. m.0) n.2)) (joins_allowed P A v c.requires.first n.0 n.1 c.args.seat.now.id c.args.other.id),
+      subst (λ (w : V). Joins (IsShown P A) c.args.seat.now.id v c.args.other.id w (views_joined v w) Spent) (sym (ap (λ m. m.0) n.2)) (joins_allowed P A v c.requires.first n.0 n.1 c.args.seat.now.id c.args.other.id),
     )
 
 pub load-length-requires : goal.load-length-requires
@@ -30,7 +30,7 @@ load-length-requires g c =
     let n = c.requires.second in
     let v : V = c.args.seat.now.me.0 in
     let m = c.join_seat.new.seat.me in
-    let pair : IsPair m.0 = subst (λ (w : V). IsPair w) (sym (ap (λ m. m.0) c.join_seat.ensures.2)) (subst (λ (w : V). IsPair (joined v w)) (sym (ap (λ m. m.0) n.2)) (pairs P A v c.requires.first n.0 n.1)) in (
+    let pair : IsPair m.0 = subst (λ (w : V). IsPair w) (sym (ap (λ m. m.0) c.join_seat.ensures.2)) (subst (λ (w : V). IsPair (views_joined v w)) (sym (ap (λ m. m.0) n.2)) (pairs P A v c.requires.first n.0 n.1)) in (
       c.join_seat.ensures.0 ∙ c.requires.table.0,
       c.requires.table.2,
       meets_allowed P A L m.0 m.1 pair _ _,
@@ -45,7 +45,7 @@ split_seat-part-requires g c =
     let n = c.requires.second in
     let v : V = c.args.seat.now.me.0 in
     let m = c.join_seat.new.seat.me in
-    let pair : IsPair m.0 = subst (λ (w : V). IsPair w) (sym (ap (λ m. m.0) c.join_seat.ensures.2)) (subst (λ (w : V). IsPair (joined v w)) (sym (ap (λ m. m.0) n.2)) (pairs P A v c.requires.first n.0 n.1)) in
+    let pair : IsPair m.0 = subst (λ (w : V). IsPair w) (sym (ap (λ m. m.0) c.join_seat.ensures.2)) (subst (λ (w : V). IsPair (views_joined v w)) (sym (ap (λ m. m.0) n.2)) (pairs P A v c.requires.first n.0 n.1)) in
     let l = c.load-length.ensures.2 in (
       c.load-length.ensures.0 ∙ c.join_seat.ensures.0 ∙ c.requires.table.0,
       c.requires.table.2,

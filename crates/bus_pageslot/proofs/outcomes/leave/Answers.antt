@@ -2,7 +2,7 @@ use Rattle.std.proofs.Common.{◌≤◌, Some, slice_index, refl, arith, sym, �
 use Rattle.std.proofs.lemmas.Option.{same_Some}
 use Rattle.std.specs.Prelude.{IsSome}
 use Rattle.std.specs.Slots.{slots_items, slots_counts}
-use Rattle.bus_world.specs.Log.{read}
+use Rattle.bus_world.specs.Log.{words_read_from}
 use Rattle.bus_pageslot.specs.Endings.{IsLeft}
 use Rattle.bus_pageslot.specs.Outcomes.{IsOutcome}
 use Rattle.bus_pageslot.proofs.Endings.{word_at, wide, fits, left_out, left_home, outcome_of}
@@ -78,7 +78,7 @@ unwrap-requires g c =
     let f = c.close_with-closed.ensures.values.2 in
     let is = ap (λ m. m.0) n.2 in
     let size = (slots_counts c.close_with-closed.result.words).0 ∙ wide P A L seat.id seat.me.0 n.0 n.1 is ws xs f in
-    let read_is = c.words_from-words.ensures ∙ ap (read (slice_index ws) c.args.log) (sym (word_at ws 0 c.word-length.result c.word-length.ensures)) ∙ ap (λ k. read (slice_index ws) k (slice_index ws 0)) c.requires.log in
+    let read_is = c.words_from-words.ensures ∙ ap (words_read_from (slice_index ws) c.args.log) (sym (word_at ws 0 c.word-length.result c.word-length.ensures)) ∙ ap (λ k. words_read_from (slice_index ws) k (slice_index ws 0)) c.requires.log in
     let home = left_home P A L seat.id seat.me.0 n.0 n.1 is ws xs f c.word-stage.result (word_at ws 1 c.word-stage.result c.word-stage.ensures) c.if-stage-eq1.false c.take-page.result c.take-page.ensures.value c.words_from-words.result.items read_is in
     subst IsSome (sym home.1) refl
 
@@ -94,7 +94,7 @@ returns-clause-ended g c =
     let f = c.close_with-closed.ensures.values.2 in
     let is = ap (λ m. m.0) n.2 in
     let size = (slots_counts c.close_with-closed.result.words).0 ∙ wide P A L seat.id seat.me.0 n.0 n.1 is ws xs f in
-    let read_is = c.words_from-words.ensures ∙ ap (read (slice_index ws) c.args.log) (sym (word_at ws 0 c.word-length.result c.word-length.ensures)) ∙ ap (λ k. read (slice_index ws) k (slice_index ws 0)) c.requires.log in
+    let read_is = c.words_from-words.ensures ∙ ap (words_read_from (slice_index ws) c.args.log) (sym (word_at ws 0 c.word-length.result c.word-length.ensures)) ∙ ap (λ k. words_read_from (slice_index ws) k (slice_index ws 0)) c.requires.log in
     let home = left_home P A L seat.id seat.me.0 n.0 n.1 is ws xs f c.word-stage.result (word_at ws 1 c.word-stage.result c.word-stage.ensures) c.if-stage-eq1.false c.take-page.result c.take-page.ensures.value c.words_from-words.result.items read_is in
     subst (λ page. IsLeft P A seat.me.0 c.words_from-words.result.items (Some page)) (same_Some _ _ (sym home.1 ∙ c.unwrap.ensures)) home.2
 
@@ -110,7 +110,7 @@ invariant_of-result g c =
     let f = c.close_with-closed.ensures.values.2 in
     let is = ap (λ m. m.0) n.2 in
     let size = (slots_counts c.close_with-closed.result.words).0 ∙ wide P A L seat.id seat.me.0 n.0 n.1 is ws xs f in
-    let read_is = c.words_from-words.ensures ∙ ap (read (slice_index ws) c.args.log) (sym (word_at ws 0 c.word-length.result c.word-length.ensures)) ∙ ap (λ k. read (slice_index ws) k (slice_index ws 0)) c.requires.log in
+    let read_is = c.words_from-words.ensures ∙ ap (words_read_from (slice_index ws) c.args.log) (sym (word_at ws 0 c.word-length.result c.word-length.ensures)) ∙ ap (λ k. words_read_from (slice_index ws) k (slice_index ws 0)) c.requires.log in
     let home = left_home P A L seat.id seat.me.0 n.0 n.1 is ws xs f c.word-stage.result (word_at ws 1 c.word-stage.result c.word-stage.ensures) c.if-stage-eq1.false c.take-page.result c.take-page.ensures.value c.words_from-words.result.items read_is in
     let left = subst (λ page. IsLeft P A seat.me.0 c.words_from-words.result.items (Some page)) (same_Some _ _ (sym home.1 ∙ c.unwrap.ensures)) home.2 in
     subst (λ n. IsOutcome record { senders = n; log = c.words_from-words.result.items; page = c.unwrap.result }) (sym c.requires.senders) (outcome_of P A L seat.me.0 c.words_from-words.result.items c.unwrap.result left)

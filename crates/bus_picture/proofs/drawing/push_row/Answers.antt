@@ -1,5 +1,5 @@
 use Rattle.std.proofs.Common.{string_bytes, map}
-use Rattle.bus_picture.specs.Rows.{told}
+use Rattle.bus_picture.specs.Rows.{row_shown}
 use Rattle.bus_picture.specs.Places.{down, edge}
 use Rattle.bus_picture.specs.Shapes.{number_at, words_at, words_end}
 use Rattle.bus_picture.specs.Drawing.{source_of, band_text, arrow_text, mark_text, what_text}
@@ -8,4 +8,4 @@ use Rattle.bus_picture.proofs.drawing.push_row.Goals as goal
 
 pub returns : goal.returns
 returns c =
-    grown (string_bytes c.args.text.now) _ (words_end) (grown (string_bytes c.args.text.now) _ (what_text (told c.args.row.now)) (grown (string_bytes c.args.text.now) _ (words_at (edge c.args.columns) (down c.args.place)) (grown (string_bytes c.args.text.now) _ (number_at (down c.args.place) c.args.row.now.number.now) (grown (string_bytes c.args.text.now) _ (mark_text c.args.columns c.args.place (told c.args.row.now)) (grown (string_bytes c.args.text.now) _ (arrow_text c.args.columns (source_of (map told c.args.above.now) (told c.args.row.now)) c.args.place (told c.args.row.now)) (grown (string_bytes c.args.text.now) _ (band_text c.args.columns (map told c.args.rows.now) (map told c.args.above.now) c.args.place (told c.args.row.now)) c.in_ok-push_head.ensures c.in_ok-push_band.ensures) c.in_ok-push_arrow.ensures) c.in_ok-push_mark.ensures) c.in_ok-push_number.ensures) c.in_ok-push_beside.ensures) c.in_ok-push_what.ensures) c.in_ok-push_str.ensures.bytes
+    grown (string_bytes c.args.text.now) _ (words_end) (grown (string_bytes c.args.text.now) _ (what_text (row_shown c.args.row.now)) (grown (string_bytes c.args.text.now) _ (words_at (edge c.args.columns) (down c.args.place)) (grown (string_bytes c.args.text.now) _ (number_at (down c.args.place) c.args.row.now.number.now) (grown (string_bytes c.args.text.now) _ (mark_text c.args.columns c.args.place (row_shown c.args.row.now)) (grown (string_bytes c.args.text.now) _ (arrow_text c.args.columns (source_of (map row_shown c.args.above.now) (row_shown c.args.row.now)) c.args.place (row_shown c.args.row.now)) (grown (string_bytes c.args.text.now) _ (band_text c.args.columns (map row_shown c.args.rows.now) (map row_shown c.args.above.now) c.args.place (row_shown c.args.row.now)) c.in_ok-push_head.ensures c.in_ok-push_band.ensures) c.in_ok-push_arrow.ensures) c.in_ok-push_mark.ensures) c.in_ok-push_number.ensures) c.in_ok-push_beside.ensures) c.in_ok-push_what.ensures) c.in_ok-push_str.ensures.bytes

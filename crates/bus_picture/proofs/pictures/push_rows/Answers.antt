@@ -1,5 +1,5 @@
 use Rattle.std.proofs.Common.{◌++◌, ◌∙◌, ◌+◌, ap, map, drop, string_bytes}
-use Rattle.bus_picture.specs.Rows.{told}
+use Rattle.bus_picture.specs.Rows.{row_shown}
 use Rattle.bus_picture.specs.Drawing.{arrows_of}
 use Rattle.bus_picture.specs.Pictures.{rows_text}
 use Rattle.bus_picture.proofs.PictureLemmas.{row_more}
@@ -7,6 +7,6 @@ use Rattle.bus_picture.proofs.pictures.push_rows.Goals as goal
 
 pub loop-place-preserved : goal.loop-place-preserved
 loop-place-preserved c =
-    ap (λ t. t ++ rows_text c.args.columns (map told c.args.rows.now) (arrows_of (map told c.args.rows.now)) (c.loop-place.place + 1) (map told (drop (c.loop-place.place + 1) c.args.rows.now))) c.in_ok-push_row.ensures
+    ap (λ t. t ++ rows_text c.args.columns (map row_shown c.args.rows.now) (arrows_of (map row_shown c.args.rows.now)) (c.loop-place.place + 1) (map row_shown (drop (c.loop-place.place + 1) c.args.rows.now))) c.in_ok-push_row.ensures
     ∙ row_more c.args.columns c.args.rows.now c.loop-place.place _ (string_bytes c.loop-place.text) c.loop-place-test.true
     ∙ c.loop-place.invariant

@@ -1,8 +1,8 @@
 use Rattle.std.proofs.Common.{codes, string_bytes}
-use Rattle.bus_picture.specs.Shapes.{point, at, down_to, said}
+use Rattle.bus_picture.specs.Shapes.{point, at, down_to, text_body}
 use Rattle.bus_picture.proofs.TextLemmas.{grown}
 use Rattle.bus_picture.proofs.shapes.push_head_at.Goals as goal
 
 pub returns : goal.returns
 returns c =
-    grown (string_bytes c.args.text.now) _ (said c.args.who.now) (grown (string_bytes c.args.text.now) _ (at c.args.x 84) (grown (string_bytes c.args.text.now) _ (codes "<text class='head'") (grown (string_bytes c.args.text.now) _ (down_to c.args.bottom) (grown (string_bytes c.args.text.now) _ (point c.args.x 92) c.in_ok-push_str.ensures.bytes c.in_ok-push_point.ensures) c.in_ok-push_down_to.ensures) c.in_ok-push_str-2.ensures.bytes) c.in_ok-push_at.ensures) c.in_ok-push_said.ensures
+    grown (string_bytes c.args.text.now) _ (text_body c.args.who.now) (grown (string_bytes c.args.text.now) _ (at c.args.x 84) (grown (string_bytes c.args.text.now) _ (codes "<text class='head'") (grown (string_bytes c.args.text.now) _ (down_to c.args.bottom) (grown (string_bytes c.args.text.now) _ (point c.args.x 92) c.in_ok-push_str.ensures.bytes c.in_ok-push_point.ensures) c.in_ok-push_down_to.ensures) c.in_ok-push_str-2.ensures.bytes) c.in_ok-push_at.ensures) c.in_ok-push_said.ensures

@@ -1,7 +1,7 @@
 use Rattle.std.proofs.Common.{◌≡◌, ◌+◌, ◌-◌, length, get_or, arith, sym, ap, ◌∙◌}
 use Rattle.std.specs.Prelude.{slice_get}
 use Rattle.std.specs.List.{flat_map}
-use Rattle.bus_batch.specs.Messages.{numbered}
+use Rattle.bus_batch.specs.Messages.{numbered_messages}
 use Rattle.bus_batch.specs.Frames.{message_words}
 use Rattle.bus_batch.specs.Batches.{starts_from}
 use Rattle.bus_batch.proofs.Batching.{length-starts, starts_first, some_message, within_message, word_at}
@@ -49,7 +49,7 @@ returns c =
     let first = ap (λ z. z.first) c.self.view_is in
     let start = ap (λ z. get_or z c.loop-low.low 0) c.loop-low.invariant.starts_are in
     let message = c.index-as_slice-low.is ∙ ap (λ z. get_or z c.loop-low.low c.index-as_slice-low.result) (c.as_slice.ensures.value ∙ ap (λ z. z.messages) c.self.view_is) in
-    ap (slice_get (flat_map message_words (numbered c.args.self.now.first c.args.self.now.messages))) (let e : c.args.i ≡ c.args.i - 0 = omega arith in e)
+    ap (slice_get (flat_map message_words (numbered_messages c.args.self.now.first c.args.self.now.messages))) (let e : c.args.i ≡ c.args.i - 0 = omega arith in e)
     ∙ word_at c.args.self.now.first 0 c.loop-low.low c.args.i c.args.self.now.messages c.index-as_slice-low.result (omega arith) c.loop-low.invariant.from short
     ∙ ap (λ z. slice_get (message_words (record { number = c.args.self.now.first + c.loop-low.low; message = z })) (c.args.i - get_or (starts_from 0 c.args.self.now.messages) c.loop-low.low 0)) (sym message)
     ∙ ap (λ z. slice_get (message_words (record { number = z + c.loop-low.low; message = c.index-as_slice-low.result })) (c.args.i - get_or (starts_from 0 c.args.self.now.messages) c.loop-low.low 0)) (sym first)

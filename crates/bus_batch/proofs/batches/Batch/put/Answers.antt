@@ -2,7 +2,7 @@ use Rattle.std.proofs.Common.{rules, ◌≡◌, ◌+◌, ◌<◌, ◌≤◌, [],
 use Rattle.std.specs.List.{flat_map}
 use Rattle.std.proofs.lemmas.List.{length-append, get_or_default}
 use Rattle.bus_register.specs.declared.limits.TheConstants.{MOST_BYTES, MOST_MESSAGES, NUMBERS}
-use Rattle.bus_batch.specs.Messages.{numbered, IsMessage}
+use Rattle.bus_batch.specs.Messages.{numbered_messages, IsMessage}
 use Rattle.bus_batch.specs.Frames.{message_words}
 use Rattle.bus_batch.specs.declared.batches.Phase.TheVariants as phase
 use Rattle.bus_batch.proofs.BatchLaws.{kept_put}
@@ -23,7 +23,7 @@ invariant_of-self c =
     let items = c.push-2.ensures.items in
     let long = ap (λ z. length z) items ∙ length-append c.self.inside.messages.items (c.in-Some.message ∷ []) in
     let more = len_put c.self.inside.first c.self.inside.messages.items c.in-Some.message in
-    let here = ap (λ z. length (flat_map message_words (numbered c.self.inside.first z))) items in
+    let here = ap (λ z. length (flat_map message_words (numbered_messages c.self.inside.first z))) items in
     let own = c.words_of.ensures.words in
     let most = c.words_of.ensures.most in
     let starts = c.self.invariant.1 in
@@ -41,6 +41,6 @@ invariant_of-self c =
     let numbers : c.self.inside.first + length c.self.inside.messages.items < NUMBERS = search rules in
     let begins = c.push.ensures.items
     ∙ ap (λ z. z ++ c.self.inside.words ∷ []) starts
-    ∙ ap (λ z. starts_from 0 c.self.inside.messages.items ++ z ∷ []) (let e : c.self.inside.words ≡ 0 + length (flat_map message_words (numbered c.self.inside.first c.self.inside.messages.items)) = omega arith in e)
+    ∙ ap (λ z. starts_from 0 c.self.inside.messages.items ++ z ∷ []) (let e : c.self.inside.words ≡ 0 + length (flat_map message_words (numbered_messages c.self.inside.first c.self.inside.messages.items)) = omega arith in e)
     ∙ sym (starts_put c.self.inside.first 0 c.self.inside.messages.items c.in-Some.message) ∙ ap (starts_from 0) (sym items) in
     (kept_put _ c.in-Some.message c.push-2.new.self.items kept is_open space numbers message items, begins, omega arith, omega arith)

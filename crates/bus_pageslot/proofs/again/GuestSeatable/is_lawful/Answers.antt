@@ -6,7 +6,7 @@ use Rattle.bus_world.proofs.Serving.{serves}
 use Rattle.bus_cyclic.proofs.GuestTurns.{feed_tells_before}
 use Rattle.bus_pageslot.proofs.AgainStates.{automaton_laws, opens_again}
 use Rattle.bus_pageslot.proofs.AgainTurns.{process_laws}
-use Rattle.bus_pageslot.proofs.ServedShapes.{only_memory_again}
+use Rattle.bus_pageslot.proofs.RefusedShapes.{one_cause_again}
 use Rattle.bus_pageslot.proofs.again.GuestSeatable.is_lawful.Goals as goal
 
 pub returns-clause-process : goal.returns-clause-process
@@ -34,5 +34,5 @@ returns-clause-tells g c guest got word answer w =
     let X = election_with g.Q.Machine.kind_of g.Q.Machine.op g.Q.Machine.fed g.Q.Ratifier.protocol in
     feed_tells_before X guest None word got answer (due X guest) refl w
 
-pub returns-clause-refuses : goal.returns-clause-refuses
-returns-clause-refuses g c shape why served refused = only_memory_again shape why served refused
+pub returns-clause-one_cause : goal.returns-clause-one_cause
+returns-clause-one_cause g c = one_cause_again

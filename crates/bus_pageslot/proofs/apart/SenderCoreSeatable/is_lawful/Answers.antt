@@ -4,7 +4,7 @@ use Rattle.bus_tenure.specs.Situations.{situation_of}
 use Rattle.bus_world.proofs.Serving.{serves}
 use Rattle.bus_pageslot.proofs.ApartStates.{automaton_laws, opens_apart}
 use Rattle.bus_pageslot.proofs.ApartTurns.{process_laws, answer_handed}
-use Rattle.bus_pageslot.proofs.ServedShapes.{only_memory}
+use Rattle.bus_pageslot.proofs.RefusedShapes.{one_cause}
 use Rattle.bus_pageslot.proofs.apart.SenderCoreSeatable.is_lawful.Goals as goal
 
 pub returns-clause-process : goal.returns-clause-process
@@ -33,5 +33,5 @@ returns-clause-tells g c core got word answer w =
     let X = election_with g.Q.Machine.kind_of g.Q.Machine.op g.Q.Machine.fed Q in
     w ∙ answer_handed X core (situation_of X core) refl got word
 
-pub returns-clause-refuses : goal.returns-clause-refuses
-returns-clause-refuses g c shape why served refused = only_memory shape why served refused
+pub returns-clause-one_cause : goal.returns-clause-one_cause
+returns-clause-one_cause g c = one_cause

@@ -1,6 +1,6 @@
 use Rattle.std.proofs.Common.{◌≡◌}
 use Rattle.bus_deliverylog.specs.Orders.{order_held}
-use Rattle.bus_world.specs.Headline.{given}
+use Rattle.bus_world.specs.Headline.{order_given}
 use Rattle.bus_world.specs.Rings.{RingTrails}
 use Rattle.bus_world.specs.Trails.{Trails}
 use Rattle.bus_replay.proofs.PlayLemmas.{if_ok}

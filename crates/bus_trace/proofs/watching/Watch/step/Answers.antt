@@ -3,8 +3,8 @@ use Rattle.bus_register.specs.Words.{register, after}
 use Rattle.bus_tenure.specs.Elections.{Elector, elections, election_with, layout_with}
 use Rattle.bus_world.specs.Playing.{SizedBus, event_told}
 use Rattle.bus_world.proofs.Serving.{serves}
-use Rattle.bus_trace.specs.Watching.{due_by, words_stepped, spots_heard}
-use Rattle.bus_trace.proofs.WatchLemmas.{spots_stay, spots_move, are_short, watched_after}
+use Rattle.bus_trace.specs.Watching.{due_by, spots_heard}
+use Rattle.bus_trace.proofs.WatchLemmas.{words_stepped, spots_stay, spots_move, are_short, watched_after}
 use Rattle.bus_trace.proofs.watching.Watch.step.Goals as goal
 
 pub invariant_of-self-in_default : goal.invariant_of-self-in_default

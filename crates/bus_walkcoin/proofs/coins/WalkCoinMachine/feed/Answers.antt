@@ -3,7 +3,7 @@ use Rattle.std.proofs.lemmas.Int.{ints}
 use Rattle.bus_votecount.specs.Tally.{tally_of, votes_of, total_of}
 use Rattle.bus_walkcoin.specs.declared.coins.Phase.{Phase}
 use Rattle.bus_walkcoin.specs.Coin.{CoinState, PhaseFits, after_settled, after_load, coin_fed, fed_at}
-use Rattle.bus_walkcoin.specs.CoinRule.{settled}
+use Rattle.bus_walkcoin.specs.CoinRule.{settled_bit}
 use Rattle.bus_walkcoin.specs.Proved.CoinLaws.{load_fits}
 use Rattle.bus_walkcoin.proofs.coins.WalkCoinMachine.feed.Goals as goal
 
@@ -11,7 +11,7 @@ use Rattle.bus_walkcoin.proofs.coins.WalkCoinMachine.feed.Goals as goal
 goes_on : (c : goal.After-self-in-ReadVotes-1) → c.go_on-self-inside.result ≡ after_load c.self.inside.n (votes_of c.self.inside.own) c.args.got
 goes_on c =
     let t : c.total-lead.result ≡ total_of (tally_of c.args.got ∷ []) = c.total-lead.ensures ∙ ap (λ t. total_of (t ∷ [])) c.of_word.ensures.counts in
-    c.go_on-self-inside.ensures ∙ ap (λ z. after_settled (settled c.self.inside.n (votes_of c.self.inside.own) z)) (omega (arith, ints))
+    c.go_on-self-inside.ensures ∙ ap (λ z. after_settled (settled_bit c.self.inside.n (votes_of c.self.inside.own) z)) (omega (arith, ints))
 
 pub invariant_of-self-in-ReadVotes : goal.invariant_of-self-in-ReadVotes
 invariant_of-self-in-ReadVotes c =

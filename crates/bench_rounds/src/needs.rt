@@ -1,0 +1,105 @@
+//! What a sitting takes of a bus, and whether a bus has it.
+
+ghost use Rattle.std.specs.Prelude.{◌≡◌, ◌-◌, ◌*◌, ◌<◌, ◌≤◌, ◌⊎◌, IfOk, IfErr};
+ghost use Rattle.std.specs.Prelude.{OnOk, OnErr};
+ghost use Rattle.bus_receiver.specs.Sizes.{tenures_of, words_of};
+ghost use Rattle.bus_register.specs.declared.limits.TheConstants.{MOST_SENDERS, MOST_RECEIVERS};
+ghost use Rattle.bus_register.specs.declared.limits.TheConstants.{MOST_MESSAGES};
+ghost use Rattle.bench_rounds.specs.declared.needs.TheConstants.{MOST_TENURES};
+ghost use Rattle.bench_rounds.specs.declared.request.TheConstants.{MOST_REPETITIONS};
+ghost use Rattle.bench_rounds.specs.Sizes.{bytes_of};
+
+use crate::request::{Request, Size};
+use bus_receiver::{tenures_of_sitting, words_of_sitting};
+use bus_register::limits::MOST_LOG_WORDS;
+use std::fmt;
+
+/// Tenures of a round: at most 256.
+pub const MOST_TENURES: u64 = 256;
+
+/// What a sitting takes that a round does not have: more tenures, or log words, or both.
+#[derive(Clone, Copy, Debug, PartialEq, Eq)]
+pub struct Shortage {
+    pub tenures: u128,
+    pub words: u128,
+}
+
+impl fmt::Display for Shortage {
+    fn fmt<W: fmt::Write>(&self, f: &mut fmt::Formatter<W>) -> fmt::Result {
+        let (tenures, words) = (self.tenures, self.words);
+        let few_tenures = tenures > u128::from(MOST_TENURES);
+        let few_words = words > u128::from(MOST_LOG_WORDS);
+        if few_tenures {
+            write!(
+                f,
+                "{tenures} tenures are needed, and a round has {MOST_TENURES}"
+            )?;
+        }
+        if few_tenures && few_words {
+            write!(f, "; ")?;
+        }
+        if few_words {
+            write!(
+                f,
+                "{words} log words are needed, and a bus has {MOST_LOG_WORDS}"
+            )?;
+        }
+        Ok(())
+    }
+}
+
+/// A measurement that fits a bus.
+#[derive(Clone, Copy, Debug, PartialEq, Eq)]
+pub struct Load {
+    pub senders: u64,
+    pub receivers: u64,
+    /// Of each sender.
+    pub messages: u64,
+    pub size: Size,
+    pub repetitions: u64,
+    ghost few_senders: { senders ≤ MOST_SENDERS },
+    ghost few_receivers: { receivers ≤ MOST_RECEIVERS },
+    ghost few_items: { senders * messages ≤ (MOST_TENURES - 1) * MOST_MESSAGES },
+    ghost few_repetitions: { repetitions ≤ MOST_REPETITIONS },
+}
+
+impl Load {
+    /// How many items each receiver gets.
+    pub fn items(self) -> u64
+        ensures { result ≡ self.senders * self.messages }
+    {
+        self.senders * self.messages
+    }
+}
+
+impl Request {
+    /// The measurement, if a round has enough tenures and its bus enough log words for it.
+    pub fn load(self) -> Result<Load, Shortage>
+        ensures workers { IfOk result (λ load. (load.senders ≡ self.senders)
+            × (load.receivers ≡ self.receivers)) }
+        ensures messages { IfOk result (λ load. (load.messages ≡ self.messages)
+            × (load.size ≡ self.size)) }
+        ensures repetitions { IfOk result (λ load. load.repetitions ≡ self.repetitions) }
+        ensures fits { OnOk result ((tenures_of self.senders self.messages ≤ MOST_TENURES)
+            × (words_of self.senders self.messages (bytes_of self.size) ≤ MOST_LOG_WORDS)) }
+        ensures needed { IfErr result
+            (λ short. (short.tenures ≡ tenures_of self.senders self.messages)
+            × (short.words ≡ words_of self.senders self.messages (bytes_of self.size))) }
+        ensures short { OnErr result ((MOST_TENURES < tenures_of self.senders self.messages)
+            ⊎ (MOST_LOG_WORDS < words_of self.senders self.messages (bytes_of self.size))) }
+    {
+        let senders = self.senders as u8;
+        let tenures = tenures_of_sitting(senders, self.messages);
+        let words = words_of_sitting(senders, self.messages, self.size.bytes() as u8);
+        if tenures > u128::from(MOST_TENURES) || words > u128::from(MOST_LOG_WORDS) {
+            return Err(Shortage { tenures, words });
+        }
+        Ok(Load {
+            senders: self.senders,
+            receivers: self.receivers,
+            messages: self.messages,
+            size: self.size,
+            repetitions: self.repetitions,
+        })
+    }
+}

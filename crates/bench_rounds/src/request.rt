@@ -1,0 +1,219 @@
+//! What the command line asks for.
+
+ghost use Rattle.std.specs.Prelude.{◌≡◌, ◌≢◌, ◌<◌, ◌≤◌, ◌^◌, length};
+ghost use Rattle.std.specs.Prelude.{None, IfSome, IfOk, IfErr, OnOk};
+ghost use Rattle.std.specs.Option.{SomeIff};
+ghost use Rattle.std.specs.Str.Parse.{IsNumeral, digits_value};
+ghost use Rattle.bus_register.specs.declared.limits.TheConstants.{MOST_SENDERS, MOST_RECEIVERS};
+ghost use Rattle.bench_rounds.specs.declared.request.TheConstants.{MOST_REPETITIONS};
+ghost use Rattle.bench_rounds.specs.Sizes.{bytes_of};
+
+use bus_register::limits::{MOST_RECEIVERS, MOST_SENDERS};
+use std::fmt;
+
+/// How the program is called.
+pub const USAGE: &str = "usage: bus_bench SENDERS RECEIVERS MESSAGES BYTES REPETITIONS
+  SENDERS      1 to 8
+  RECEIVERS    1 to 8
+  MESSAGES     of each sender: 1 or more
+  BYTES        of each message: 8 or 56
+  REPETITIONS  0 to 10000; with 0 one round is run and its times are not printed
+";
+
+/// Rounds whose times are printed: at most 10,000.
+pub const MOST_REPETITIONS: u64 = 10_000;
+
+/// A word of the command line, behind the program's name.
+#[derive(Clone, Copy, Debug, PartialEq, Eq)]
+pub enum Field {
+    Senders,
+    Receivers,
+    Messages,
+    Bytes,
+    Repetitions,
+}
+
+impl fmt::Display for Field {
+    fn fmt<W: fmt::Write>(&self, f: &mut fmt::Formatter<W>) -> fmt::Result {
+        f.write_str(match self {
+            Field::Senders => "SENDERS",
+            Field::Receivers => "RECEIVERS",
+            Field::Messages => "MESSAGES",
+            Field::Bytes => "BYTES",
+            Field::Repetitions => "REPETITIONS",
+        })
+    }
+}
+
+/// Why a command line is refused.
+#[derive(Clone, Copy, Debug, PartialEq, Eq)]
+pub enum Refusal {
+    NotText,
+    /// Not five words stand behind the program's name, but so many.
+    Count(usize),
+    /// It is not decimal digits alone, or their number passes `u64::MAX`.
+    NotNumber(Field),
+    OutOfRange(Field),
+}
+
+impl fmt::Display for Refusal {
+    fn fmt<W: fmt::Write>(&self, f: &mut fmt::Formatter<W>) -> fmt::Result {
+        match self {
+            Refusal::NotText => write!(f, "an argument is not text"),
+            Refusal::Count(given) => write!(f, "5 words are needed, and {given} are given"),
+            Refusal::NotNumber(field) => { write!(f, "{field} is not a decimal number below 2^64") }
+            Refusal::OutOfRange(field) => write!(f, "{field} is out of range"),
+        }
+    }
+}
+
+/// How many bytes each message has.
+#[derive(Clone, Copy, Debug, PartialEq, Eq)]
+pub enum Size {
+    Eight,
+    FiftySix,
+}
+
+impl Size {
+    ghost use Rattle.bench_rounds.specs.Sizes.{bytes_of};
+
+    /// The size of so many bytes.
+    pub fn of(bytes: u64) -> Option<Size>
+        ensures size { IfSome result (λ size. bytes_of size ≡ bytes) }
+        ensures none { result ≡ None → (bytes ≢ 8) × (bytes ≢ 56) }
+    {
+        match bytes {
+            8 => Some(Size::Eight),
+            56 => Some(Size::FiftySix),
+            _ => None,
+        }
+    }
+
+    pub fn bytes(self) -> usize
+        ensures { result ≡ bytes_of self }
+    {
+        match self {
+            Size::Eight => 8,
+            Size::FiftySix => 56,
+        }
+    }
+}
+
+/// A measurement that is asked for.
+#[derive(Clone, Copy, Debug, PartialEq, Eq)]
+pub struct Request {
+    pub senders: u64,
+    pub receivers: u64,
+    /// Of each sender.
+    pub messages: u64,
+    pub size: Size,
+    pub repetitions: u64,
+    ghost some_senders: { (1 ≤ senders) × (senders ≤ MOST_SENDERS) },
+    ghost some_receivers: { (1 ≤ receivers) × (receivers ≤ MOST_RECEIVERS) },
+    ghost some_messages: { 1 ≤ messages },
+    ghost few_repetitions: { repetitions ≤ MOST_REPETITIONS },
+}
+
+impl Request {
+    ghost use Rattle.bench_rounds.specs.Sizes.{bytes_of};
+    ghost use Rattle.bench_rounds.specs.Ranges.{IsOutOfRange};
+
+    /// A measurement of these numbers, if each is in its range.
+    pub fn new(
+        senders: u64,
+        receivers: u64,
+        messages: u64,
+        bytes: u64,
+        repetitions: u64,
+    ) -> Result<Request, Refusal>
+        ensures senders { IfOk result (λ request. (request.senders ≡ senders)
+            × (request.receivers ≡ receivers)) }
+        ensures messages { IfOk result (λ request. (request.messages ≡ messages)
+            × (bytes_of request.size ≡ bytes)) }
+        ensures repetitions { IfOk result (λ request. request.repetitions ≡ repetitions) }
+        ensures refused { IfErr result (IsOutOfRange senders receivers messages bytes repetitions) }
+    {
+        if senders < 1 || senders > MOST_SENDERS as u64 {
+            return Err(Refusal::OutOfRange(Field::Senders));
+        }
+        if receivers < 1 || receivers > MOST_RECEIVERS {
+            return Err(Refusal::OutOfRange(Field::Receivers));
+        }
+        if messages < 1 {
+            return Err(Refusal::OutOfRange(Field::Messages));
+        }
+        let Some(size) = Size::of(bytes) else {
+            return Err(Refusal::OutOfRange(Field::Bytes));
+        };
+        if repetitions > MOST_REPETITIONS {
+            return Err(Refusal::OutOfRange(Field::Repetitions));
+        }
+        Ok(Request {
+            senders,
+            receivers,
+            messages,
+            size,
+            repetitions,
+        })
+    }
+}
+
+/// The measurement that the words ask for, of which the first is the program's name.
+pub fn parse(words: &[String]) -> Result<Request, Refusal>
+    ensures { OnOk result (length words.now ≡ 6) }
+{
+    if words.len() != 6 {
+        return Err(Refusal::Count(words.len().saturating_sub(1)));
+    }
+    read_request(
+        words[1].as_str(),
+        words[2].as_str(),
+        words[3].as_str(),
+        words[4].as_str(),
+        words[5].as_str(),
+    )
+}
+
+/// The measurement that five words ask for.
+fn read_request(
+    senders: &str,
+    receivers: &str,
+    messages: &str,
+    bytes: &str,
+    repetitions: &str,
+) -> Result<Request, Refusal>
+    ensures senders { IfOk result (λ request. request.senders ≡ digits_value 10 senders.now) }
+    ensures receivers { IfOk result
+        (λ request. request.receivers ≡ digits_value 10 receivers.now) }
+    ensures messages { IfOk result (λ request. request.messages ≡ digits_value 10 messages.now) }
+    ensures bytes { IfOk result (λ request. bytes_of request.size ≡ digits_value 10 bytes.now) }
+    ensures repetitions { IfOk result
+        (λ request. request.repetitions ≡ digits_value 10 repetitions.now) }
+{
+    Request::new(
+        number(senders, Field::Senders)?,
+        number(receivers, Field::Receivers)?,
+        number(messages, Field::Messages)?,
+        number(bytes, Field::Bytes)?,
+        number(repetitions, Field::Repetitions)?,
+    )
+}
+
+/// The number that a word is.
+fn number(word: &str, field: Field) -> Result<u64, Refusal>
+    ensures number { IfOk result (λ number. number ≡ digits_value 10 word.now) }
+    ensures refused { IfErr result (λ refusal. refusal ≡ Refusal.NotNumber field) }
+{
+    number_of(word).ok_or(Refusal::NotNumber(field))
+}
+
+/// The number that decimal digits write, without a sign.
+pub fn number_of(word: &str) -> Option<u64>
+    ensures { SomeIff result (IsNumeral 10 word.now
+        × (digits_value 10 word.now < 2 ^ 64)) (digits_value 10 word.now) }
+{
+    if word.as_bytes().first() == Some(&b'+') {
+        return None;
+    }
+    word.parse().ok()
+}

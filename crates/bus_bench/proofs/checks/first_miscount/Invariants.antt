@@ -1,5 +1,0 @@
-use Rattle.bus_bench.specs.Checks.{HasEach}
-use Rattle.bus_bench.proofs.checks.first_miscount.Given as goal
-
-abbrev pub invariant-loop-number : goal.invariant-loop-number
-invariant-loop-number l = HasEach l.number l.load.messages l.heard

@@ -1,9 +1,0 @@
--- How large messages are.
-use Rattle.std.specs.Prelude.{ℕ}
-use Rattle.bus_bench.specs.declared.request.Size.{Size}
-use Rattle.bus_bench.specs.declared.request.Size.TheVariants.{Eight, FiftySix}
-
--- how many bytes a message has
-abbrev pub bytes_of : Size → ℕ
-bytes_of Eight = 8
-bytes_of FiftySix = 56

@@ -1,0 +1,189 @@
+//! Turns of one sender over words of its own.
+
+use bus_adoptcommit::ThreeWord;
+use bus_register::{Cells, Kind, Op, Reg, SenderNo};
+use bus_tenure::{Page, SenderCore, Turn};
+use std::process::Abort;
+use std::test::Fail;
+
+/// The word of the log's length.
+const LENGTH: Reg = Reg(0);
+
+/// The word of the stage.
+const STAGE: Reg = Reg(1);
+
+/// The page of a bus that has had no tenure.
+fn first_page() -> Page {
+    Page {
+        next: [0; 8],
+        ended: false,
+        tenures: 0,
+        words: 0,
+    }
+}
+
+/// Takes the next step on the words, where one is due.
+fn step(rt: &impl Abort, core: &mut SenderCore<ThreeWord>, cells: &mut Cells) -> Turn {
+    let Some(op) = core.next(0) else {
+        return core.rest();
+    };
+    let place = match op {
+        Op::Load(at) | Op::Store(at, _) | Op::Add(at, _) | Op::Cas(at, _, _) => at.0,
+    };
+    assert!(rt; place < cells.len());
+    if let Op::Add(at, value) = op {
+        assert!(rt; value <= u64::MAX - cells.get(at));
+    }
+    let got = cells.apply(op);
+    core.feed(got, 0)
+}
+
+/// What a word is.
+fn word(rt: &impl Abort, cells: &Cells, at: Reg) -> u64 {
+    assert!(rt; at.0 < cells.len());
+    cells.get(at)
+}
+
+/// Takes turns until one answers anything but Going.
+fn turns(rt: &impl Abort, core: &mut SenderCore<ThreeWord>, cells: &mut Cells) -> Turn {
+    for _ in 0..100 {
+        let turn = step(rt, core, cells);
+        if turn != Turn::Going {
+            return turn;
+        }
+    }
+    Turn::Going
+}
+
+#[test]
+fn alone_in_the_first_tenure(rt: HostRuntime) -> Result<(), Fail> {
+    let mut cells = Cells::new(rt.alloc(), 40)?;
+    let mut core = SenderCore::<ThreeWord>::new(2, SenderNo(0), 1, 1, 16);
+    let number = core.put(b"a").ok().expect(&rt, "put");
+    assert_eq!(rt; number, 0);
+    assert_eq!(rt; core.number().0, 0);
+    assert_eq!(rt; core.next_number(), 1);
+    assert_eq!(rt; core.tenure(), None);
+    assert_eq!(rt; core.turns_left(), 0);
+    assert_eq!(rt; core.kind(), Some(Kind::LoadStage));
+    assert_eq!(rt; step(&rt, &mut core, &mut cells), Turn::Going);
+    assert_eq!(rt; core.tenure(), Some(0));
+    assert_eq!(rt; core.turns_left(), 9);
+    assert!(rt; !core.wants_word());
+    assert_eq!(rt; turns(&rt, &mut core, &mut cells), Turn::Own { tenure: 0 });
+    assert_eq!(rt; word(&rt, &cells, STAGE), 1);
+    assert!(rt; core.awaits_page());
+    core.lay(first_page());
+    for _ in 0..3 {
+        assert_eq!(rt; core.kind(), Some(Kind::StoreLogWord));
+        assert_eq!(rt; step(&rt, &mut core, &mut cells), Turn::Going);
+    }
+    assert_eq!(rt; core.kind(), Some(Kind::StoreLength));
+    assert_eq!(rt; step(&rt, &mut core, &mut cells), Turn::Going);
+    assert_eq!(rt; word(&rt, &cells, LENGTH), 3);
+    assert!(rt; core.gives_back());
+    let page = core.hand();
+    assert_eq!(rt; page.next, [1, 0, 0, 0, 0, 0, 0, 0]);
+    assert_eq!(rt; page.tenures, 1);
+    assert_eq!(rt; page.words, 3);
+    let turn = step(&rt, &mut core, &mut cells);
+    assert_eq!(rt;
+        turn,
+        Turn::Delivered {
+            tenure: 0,
+            first: 0,
+            last: 0
+        }
+    );
+    assert_eq!(rt; word(&rt, &cells, STAGE), 2);
+    assert_eq!(rt; core.pending(), 0);
+    assert_eq!(rt; core.rest(), Turn::Idle);
+    assert_eq!(rt; core.next_number(), 1);
+    let next = core.put(b"b").ok().expect(&rt, "put");
+    assert_eq!(rt; next, 1);
+    assert_eq!(rt; core.rest(), Turn::Spent);
+    Ok(())
+}
+
+#[test]
+fn a_held_stage_makes_it_wait(rt: HostRuntime) -> Result<(), Fail> {
+    let mut core = SenderCore::<ThreeWord>::new(2, SenderNo(1), 1, 4, 16);
+    assert_eq!(rt; core.rest(), Turn::Idle);
+    assert!(rt; core.put(b"").is_ok());
+    assert!(rt; core.next(0).is_some());
+    assert_eq!(rt; core.feed(3, 0), Turn::Waiting);
+    assert!(rt; core.next(0).is_some());
+    assert_eq!(rt; core.feed(8, 0), Turn::Spent);
+    assert_eq!(rt; core.rest(), Turn::Spent);
+    Ok(())
+}
+
+#[test]
+fn its_end_mark_closes_it(rt: HostRuntime) -> Result<(), Fail> {
+    let mut cells = Cells::new(rt.alloc(), 40)?;
+    let mut core = SenderCore::<ThreeWord>::new(1, SenderNo(0), 1, 2, 16);
+    assert!(rt; core.close().is_ok());
+    assert!(rt; core.is_closing());
+    assert_eq!(rt; turns(&rt, &mut core, &mut cells), Turn::Own { tenure: 0 });
+    assert!(rt; core.awaits_page());
+    core.lay(first_page());
+    assert_eq!(rt; turns(&rt, &mut core, &mut cells), Turn::Closed);
+    assert_eq!(rt; core.rest(), Turn::Closed);
+    assert!(rt; core.is_closed());
+    Ok(())
+}
+
+#[test]
+fn a_late_sender_loses(rt: HostRuntime) -> Result<(), Fail> {
+    let mut cells = Cells::new(rt.alloc(), 40)?;
+    let mut first = SenderCore::<ThreeWord>::new(2, SenderNo(0), 1, 1, 16);
+    let mut late = SenderCore::<ThreeWord>::new(2, SenderNo(1), 1, 1, 16);
+    assert!(rt; first.put(b"a").is_ok());
+    assert!(rt; late.put(b"b").is_ok());
+    assert_eq!(rt; step(&rt, &mut late, &mut cells), Turn::Going);
+    assert_eq!(rt; turns(&rt, &mut first, &mut cells), Turn::Own { tenure: 0 });
+    let turn = turns(&rt, &mut late, &mut cells);
+    assert_eq!(rt;
+        turn,
+        Turn::Lost {
+            tenure: 0,
+            owner: SenderNo(0)
+        }
+    );
+    assert_eq!(rt; late.rest(), Turn::Spent);
+    assert_eq!(rt; late.pending(), 1);
+    Ok(())
+}
+
+#[test]
+fn a_full_log_keeps_the_batch(rt: HostRuntime) -> Result<(), Fail> {
+    let mut cells = Cells::new(rt.alloc(), 80)?;
+    let mut core = SenderCore::<ThreeWord>::new(2, SenderNo(0), 1, 4, 16);
+    for _ in 0..16 {
+        assert!(rt; core.next_number() < 16);
+        assert!(rt; core.put(b"").is_ok());
+    }
+    assert_eq!(rt; turns(&rt, &mut core, &mut cells), Turn::Own { tenure: 0 });
+    assert!(rt; core.awaits_page());
+    core.lay(first_page());
+    assert_eq!(rt; turns(&rt, &mut core, &mut cells), Turn::Full);
+    assert_eq!(rt; core.pending(), 16);
+    Ok(())
+}
+
+#[test]
+fn an_ended_page_closes_it(rt: HostRuntime) -> Result<(), Fail> {
+    let mut cells = Cells::new(rt.alloc(), 40)?;
+    let mut core = SenderCore::<ThreeWord>::new(1, SenderNo(0), 1, 2, 16);
+    assert!(rt; core.put(b"a").is_ok());
+    assert_eq!(rt; turns(&rt, &mut core, &mut cells), Turn::Own { tenure: 0 });
+    assert!(rt; core.awaits_page());
+    core.lay(Page {
+        ended: true,
+        ..first_page()
+    });
+    assert_eq!(rt; turns(&rt, &mut core, &mut cells), Turn::Closed);
+    assert!(rt; core.is_closed());
+    assert_eq!(rt; core.pending(), 1);
+    Ok(())
+}
