@@ -1,11 +1,13 @@
 -- From one step of a reader to what it has read.
-use Rattle.std.proofs.Common.{◌≡◌, ℕ, suc, ◌+◌, ◌≤◌, true, false, List, [], ◌∷◌, ◌++◌, length, arith, refl, sym, ap, ◌∙◌, subst, inl, inr, append_assoc, Ok, Err, Some}
-use Rattle.std.specs.Prelude.{Option, Result, IfOk, IsErr, ◌↔◌, slice_get}
+use Rattle.std.proofs.Common.{◌≡◌, ℕ, suc, ◌+◌, ◌≤◌, true, false, List, [], ◌∷◌, ◌++◌, length, arith, refl, sym, ap, ◌∙◌, subst, inl, inr, append_assoc, Ok, Err, Some, None}
+use Rattle.std.specs.Prelude.{Option, Result, IfOk, IfSome, IsErr, ◌↔◌, slice_get}
 use Rattle.std.proofs.lemmas.List.{length-append}
 use Rattle.std.proofs.Common.{append-nil}
 use Rattle.std.specs.List.{flat_map}
 use Rattle.bus_register.specs.declared.registers.SenderNo.{SenderNo}
+use Rattle.bus_batch.specs.declared.messages.Item.{Item}
 use Rattle.bus_batch.specs.declared.messages.Piece.{Piece}
+use Rattle.bus_batch.specs.declared.messages.Piece.TheVariants as piece
 use Rattle.bus_batch.specs.declared.readers.BadWord.{BadWord}
 use Rattle.bus_batch.specs.declared.readers.Place.{Place}
 use Rattle.bus_batch.specs.declared.readers.Place.TheVariants as place
@@ -65,6 +67,15 @@ module _ (senders : ℕ) (words : List ℕ) (pieces : List (Option Piece)) (word
   pub read_of : (answer : Result (Option Piece) BadWord) → Steps old word answer new → IfOk answer (λ found. HasRead senders (words ++ word ∷ []) (pieces ++ found ∷ []) new)
   read_of (Ok found) steps = has_read found steps.good
   read_of (Err e) steps = tt
+
+  pub item_gives : (answer : Option Item) → IfSome answer (λ item. Steps old word (Ok (Some (piece.Item item))) new) → IfSome answer (λ item. GivesPiece senders words word (Some (piece.Item item)))
+  item_gives (Some item) steps = gives_piece (Some (piece.Item item)) steps.good
+  item_gives None steps = tt
+
+  pub item_read : (answer : Option Item) → IfSome answer (λ item. Steps old word (Ok (Some (piece.Item item))) new)
+      → IfSome answer (λ item. HasRead senders (words ++ word ∷ []) (pieces ++ Some (piece.Item item) ∷ []) new)
+  item_read (Some item) steps = has_read (Some (piece.Item item)) steps.good
+  item_read None steps = tt
 
 -- ---- the end of the words
 

@@ -6,7 +6,7 @@ use Rattle.bus_batch.specs.declared.readers.BadWord.{BadWord}
 use Rattle.bus_batch.specs.declared.readers.Head.{Head}
 use Rattle.bus_register.specs.declared.registers.SenderNo.{SenderNo}
 use Rattle.bus_batch.specs.declared.readers.Place.{Place}
-use Rattle.bus_batch.specs.declared.readers.Place.TheVariants.{Between, Body, Bad}
+use Rattle.bus_batch.specs.declared.readers.Place.TheVariants.{Between, Body}
 use Rattle.bus_batch.specs.declared.readers.Length.{Length}
 use Rattle.bus_batch.specs.Frames.{head_word, message_word}
 use Rattle.bus_batch.specs.Reading.{Reading, Awaits}
@@ -37,10 +37,10 @@ pub record Takes (old : Reading) (word : ℕ) (found : Option Piece) (new : Read
 abbrev pub Refuses : Reading → ℕ → Type 0
 Refuses old word = (rest : List ℕ) (pieces : List (Option Piece)) → ¬ Awaits old (word ∷ rest) pieces
 
--- one step of a reader
+-- one step of a reader; a word that it refuses changes nothing
 pub record Steps (old : Reading) (word : ℕ) (answer : Result (Option Piece) BadWord) (new : Reading) : Type 0 where
   pub good : IfOk answer (λ found. Takes old word found new)
-  pub bad : OnErr answer (Refuses old word × (new.place ≡ Bad))
+  pub bad : OnErr answer (Refuses old word × (new ≡ old))
 
 -- the place after a message: in the next one's place, or between frames
 pub record IsAfter (owner : SenderNo) (left room : ℕ) (p : Place) : Type 0 where

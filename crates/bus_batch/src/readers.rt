@@ -2,7 +2,7 @@
 
 ghost use Rattle.std.specs.Prelude.{◌≡◌, ℕ, ◌+◌, ◌*◌, ◌-◌, ◌<◌, ◌≤◌};
 ghost use Rattle.std.specs.Prelude.{◌^◌, List, [], ◌∷◌, ◌++◌, length, All, IfSome};
-ghost use Rattle.std.specs.Prelude.{IfNone, IfOk, OnErr, IsErr, IsTrue, ◌↔◌, false};
+ghost use Rattle.std.specs.Prelude.{IfNone, IfOk, OnErr, IsErr, IsTrue, ◌↔◌, false, ◌⊎◌};
 ghost use Rattle.bus_batch.specs.Frames.{data_len};
 
 use crate::messages::{Item, Message, Piece};
@@ -130,7 +130,8 @@ impl FrameReader {
     ghost use Rattle.bus_batch.specs.Frames.{IsBadWord, GivesPiece, IsLog, Spells, order_in};
     ghost use Rattle.bus_batch.specs.Frames.{owners_in, end_word};
     ghost use Rattle.bus_batch.specs.Reading.{HasRead, HasMetBadWord};
-    ghost use Rattle.bus_batch.specs.Steps.{Steps};
+    ghost use Rattle.bus_batch.specs.declared.messages.Piece.TheVariants as piece;
+    ghost use Rattle.bus_batch.specs.Steps.{Steps, Refuses};
 
     /// A reader of a log of so many senders, before its first word.
     pub fn new(senders: u64) -> FrameReader
@@ -190,10 +191,7 @@ impl FrameReader {
                     owner: head.owner,
                 }))
             }
-            None => {
-                self.place = Place::Bad;
-                Err(BadWord)
-            }
+            None => Err(BadWord),
         }
     }
 
@@ -209,15 +207,13 @@ impl FrameReader {
         ensures senders { self.new.senders ≡ self.old.senders }
         ensures steps { Steps self.old word result self.new }
     {
+        let _held = &self.bytes;
         if word == END {
             return self.take_end(word, owner, left, room);
         }
         match message_of(word) {
             Some(length) => self.take_length(word, owner, left, room, length),
-            None => {
-                self.place = Place::Bad;
-                Err(BadWord)
-            }
+            None => Err(BadWord),
         }
     }
 
@@ -238,7 +234,6 @@ impl FrameReader {
             self.place = Place::Ended;
             Ok(Some(Piece::End))
         } else {
-            self.place = Place::Bad;
             Err(BadWord)
         }
     }
@@ -258,18 +253,45 @@ impl FrameReader {
         ensures steps { Steps self.old word result self.new }
     {
         let _held = &self.bytes;
-        let words = 1 + (length.len + 7) / 8;
-        if left < words || MOST_MESSAGE_WORDS * (room - 1) < left - words {
-            self.place = Place::Bad;
+        if length.len > 0 {
+            return if self.begin_message(word, owner, left, room, length) {
+                Ok(None)
+            } else {
+                Err(BadWord)
+            };
+        }
+        if !can_hold(left, room, 0) {
             return Err(BadWord);
         }
-        if length.len == 0 {
-            self.place = place_after(owner, left - 1, room - 1);
-            return Ok(Some(Piece::Item(Item {
-                sender: owner,
-                number: length.number,
-                message: Message::new(),
-            })));
+        self.place = place_after(owner, left - 1, room - 1);
+        Ok(Some(Piece::Item(Item {
+            sender: owner,
+            number: length.number,
+            message: Message::new(),
+        })))
+    }
+
+    /// Takes the word of a message that has bytes, and says whether it did; a bad one changes
+    /// nothing.
+    #[inline(always)]
+    fn begin_message(
+        &mut self,
+        word: u64,
+        owner: SenderNo,
+        left: u64,
+        room: u64,
+        length: Length,
+    ) -> bool
+        requires place { self.old.place ≡ place.Body owner left room }
+        requires word { IsMessageWord word length }
+        requires some { 0 < length.len }
+        ensures senders { self.new.senders ≡ self.old.senders }
+        ensures good { IsTrue result → Steps self.old word (Ok None) self.new }
+        ensures bad { result ≡ false → Refuses self.old word × (self.new ≡ self.old) }
+    {
+        let _held = &self.bytes;
+        if !can_hold(left, room, length.len) {
+            return false;
         }
         self.place = Place::Data {
             owner,
@@ -278,7 +300,7 @@ impl FrameReader {
             number: length.number,
             len: length.len,
         };
-        Ok(None)
+        true
     }
 
     /// Takes a word of a message's bytes.
@@ -294,31 +316,164 @@ impl FrameReader {
         ensures senders { self.new.senders ≡ self.old.senders }
         ensures steps { Steps self.old word result self.new }
     {
-        let missing = length.len as usize - self.bytes.len();
-        let taken = missing.min(8);
-        let bytes = word.to_be_bytes();
-        if !are_zero(&bytes[taken..]) {
-            self.place = Place::Bad;
-            return Err(BadWord);
+        if length.len as usize - self.bytes.len() > 8 {
+            self.take_part(word, owner, left, room, length);
+            return Ok(None);
         }
-        self.bytes.append(&bytes[..taken]);
-        if taken == missing {
-            let message = mem::take(&mut self.bytes);
-            self.place = place_after(owner, left - 1, room);
-            return Ok(Some(Piece::Item(Item {
-                sender: owner,
-                number: length.number,
-                message,
-            })));
+        match self.take_last(word, owner, left, room, length) {
+            Some(item) => Ok(Some(Piece::Item(item))),
+            None => Err(BadWord),
         }
+    }
+
+    /// Takes eight bytes of a message that has more.
+    #[inline(always)]
+    fn take_part(&mut self, word: u64, owner: SenderNo, left: u64, room: u64, told: Length)
+        requires place { self.old.place ≡ place.Data owner left room told.number told.len }
+        requires more { length self.old.bytes + 8 < told.len }
+        ensures senders { self.new.senders ≡ self.old.senders }
+        ensures steps { Steps self.old word (Ok None) self.new }
+    {
+        let _held = &self.bytes;
         self.place = Place::Data {
             owner,
             left: left - 1,
             room,
-            number: length.number,
-            len: length.len,
+            number: told.number,
+            len: told.len,
         };
-        Ok(None)
+        self.bytes.append(&word.to_be_bytes());
+    }
+
+    /// Takes the last bytes of a message, and gives its item; none where the word is bad, which
+    /// changes nothing.
+    #[inline(always)]
+    fn take_last(
+        &mut self,
+        word: u64,
+        owner: SenderNo,
+        left: u64,
+        room: u64,
+        told: Length,
+    ) -> Option<Item>
+        requires place { self.old.place ≡ place.Data owner left room told.number told.len }
+        requires last { told.len ≤ length self.old.bytes + 8 }
+        ensures senders { self.new.senders ≡ self.old.senders }
+        ensures good { IfSome result
+            (λ item. Steps self.old word (Ok (Some (piece.Item item))) self.new) }
+        ensures bad { IfNone result (Refuses self.old word × (self.new ≡ self.old)) }
+    {
+        let missing = told.len as usize - self.bytes.len();
+        let bytes = word.to_be_bytes();
+        if !are_zero(&bytes[missing..]) {
+            return None;
+        }
+        self.bytes.append(&bytes[..missing]);
+        let message = mem::take(&mut self.bytes);
+        self.place = place_after(owner, left - 1, room);
+        Some(Item {
+            sender: owner,
+            number: told.number,
+            message,
+        })
+    }
+
+    /// Takes the next word where it says nothing by itself, and says whether it did; else nothing
+    /// changes.
+    #[inline(always)]
+    pub fn take_plain(&mut self, word: u64) -> bool
+        ensures senders { self.new.senders ≡ self.old.senders }
+        ensures gives { (words : _) (pieces : _) → HasRead self.old.senders words pieces self.old
+            → IsTrue result → GivesPiece self.old.senders words word None }
+        ensures read { (words : _) (pieces : _) → HasRead self.old.senders words pieces self.old
+            → IsTrue result
+            → HasRead self.old.senders (words ++ word ∷ []) (pieces ++ None ∷ []) self.new }
+        ensures stays { result ≡ false → self.new ≡ self.old }
+    {
+        match self.place {
+            Place::Body { owner, left, room } => {
+                let Some(length) = message_of(word) else {
+                    return false;
+                };
+                length.len > 0 && self.begin_message(word, owner, left, room, length)
+            }
+            Place::Data {
+                owner,
+                left,
+                room,
+                number,
+                len,
+            } => {
+                if len as usize - self.bytes.len() <= 8 {
+                    return false;
+                }
+                self.take_part(word, owner, left, room, Length { len, number });
+                true
+            }
+            _ => false,
+        }
+    }
+
+    /// Takes the next word where it is the last of a message with bytes, and gives the item; else
+    /// nothing changes.
+    #[inline(always)]
+    pub fn take_item(&mut self, word: u64) -> Option<Item>
+        ensures senders { self.new.senders ≡ self.old.senders }
+        ensures gives { (words : _) (pieces : _) → HasRead self.old.senders words pieces self.old
+            → IfSome result
+            (λ item. GivesPiece self.old.senders words word (Some (piece.Item item))) }
+        ensures read { (words : _) (pieces : _) → HasRead self.old.senders words pieces self.old
+            → IfSome result
+            (λ item. HasRead self.old.senders
+            (words ++ word ∷ []) (pieces ++ Some (piece.Item item) ∷ []) self.new) }
+        ensures stays { IfNone result (self.new ≡ self.old) }
+    {
+        match self.place {
+            Place::Data {
+                owner,
+                left,
+                room,
+                number,
+                len,
+            } => {
+                if len as usize - self.bytes.len() > 8 {
+                    return None;
+                }
+                self.take_last(word, owner, left, room, Length { len, number })
+            }
+            _ => None,
+        }
+    }
+
+    /// Takes the next word, and gives what it says. After a bad word it stands where it stood.
+    pub fn try_feed(&mut self, word: u64) -> Result<Option<Piece>, BadWord>
+        ensures senders { self.new.senders ≡ self.old.senders }
+
+        // It refuses exactly the words that no log goes on with.
+        ensures bad { (words : _) (pieces : _) → HasRead self.old.senders words pieces self.old
+            → (IsErr result ↔ IsBadWord self.old.senders words word) }
+        ensures gives { (words : _) (pieces : _) → HasRead self.old.senders words pieces self.old
+            → IfOk result (GivesPiece self.old.senders words word) }
+        ensures read { (words : _) (pieces : _) → HasRead self.old.senders words pieces self.old
+            → IfOk result
+            (λ found. HasRead self.old.senders
+            (words ++ word ∷ []) (pieces ++ found ∷ []) self.new) }
+
+        ensures stays { OnErr result (self.new ≡ self.old) }
+        ensures for_good { HasMetBadWord self.old → IsErr result }
+    {
+        match self.place {
+            Place::Between => self.take_head(word),
+            Place::Body { owner, left, room } => self.take_message(word, owner, left, room),
+            Place::Data {
+                owner,
+                left,
+                room,
+                number,
+                len,
+            } => self.take_bytes(word, owner, left, room, Length { len, number }),
+            Place::Ended | Place::Bad => Err(BadWord),
+        }
     }
 
     /// Takes the next word, and gives what it says.
@@ -338,22 +493,29 @@ impl FrameReader {
         ensures met { OnErr result (HasMetBadWord self.new) }
         ensures for_good { HasMetBadWord self.old → IsErr result }
     {
-        match self.place {
-            Place::Between => self.take_head(word),
-            Place::Body { owner, left, room } => self.take_message(word, owner, left, room),
-            Place::Data {
-                owner,
-                left,
-                room,
-                number,
-                len,
-            } => self.take_bytes(word, owner, left, room, Length { len, number }),
-            Place::Ended | Place::Bad => {
-                self.place = Place::Bad;
-                Err(BadWord)
-            }
+        let found = self.try_feed(word);
+        if found.is_err() {
+            self.place = Place::Bad;
         }
+        found
     }
+}
+
+/// A frame with so many words left, and so many messages at most, can go on with a message of so
+/// many bytes: the words are enough for it, and what is left then can be filled.
+#[inline(always)]
+fn can_hold(left: u64, room: u64, len: u64) -> bool
+    requires len { len ≤ MOST_BYTES }
+    requires room { (1 ≤ room) × (room ≤ MOST_MESSAGES) }
+    ensures enough { IsTrue result → 1 + data_len len ≤ left }
+    ensures fillable { IsTrue result
+        → left - (1 + data_len len) ≤ MOST_MESSAGE_WORDS * (room - 1) }
+    ensures none { result ≡ false
+        → (left < 1 + data_len len)
+        ⊎ (MOST_MESSAGE_WORDS * (room - 1) < left - (1 + data_len len)) }
+{
+    let words = 1 + (len + 7) / 8;
+    left >= words && left - words <= MOST_MESSAGE_WORDS * (room - 1)
 }
 
 /// Where a reader stands after a message, with so many words and messages left.

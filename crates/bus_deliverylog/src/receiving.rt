@@ -1,7 +1,7 @@
 //! A receiver's end of the log.
 
 ghost use Rattle.std.specs.Prelude.{◌≡◌, ◌≢◌, ℕ, ◌+◌, ◌<◌, ◌≤◌};
-ghost use Rattle.std.specs.Prelude.{◌^◌, [], false};
+ghost use Rattle.std.specs.Prelude.{◌^◌, [], false, IsTrue, IfSome, IfNone};
 ghost use Rattle.bus_batch.specs.Reading.{HasRead};
 
 use bus_batch::{FrameReader, Item, Piece};
@@ -158,6 +158,46 @@ impl Reader {
         self.feed_word(got)
     }
 
+    /// Takes the word that was found at its place where that says nothing by itself, and says
+    /// whether it did: then it answers `Going`. Else nothing changes, and `feed` takes the word.
+    #[inline(always)]
+    pub fn take_plain(&mut self, got: u64) -> bool
+        requires unread { self.old.place ≢ self.old.known }
+        requires going { self.old.ended ≡ false }
+        ensures word { IsTrue result → (words : _) (pieces : _) → HasReceived words pieces self.old
+            → TakesWord words pieces self.old got RecvTurn.Going self.new }
+        ensures stays { result ≡ false → self.new ≡ self.old }
+        ensures senders { self.new.frames.senders ≡ self.old.frames.senders }
+    {
+        if self.frames.take_plain(got) {
+            self.place += 1;
+            true
+        } else {
+            false
+        }
+    }
+
+    /// Takes the word that was found at its place where that is the last of a message with bytes,
+    /// and gives the item: then it answers that. Else nothing changes, and `feed` takes the word.
+    #[inline(always)]
+    pub fn take_item(&mut self, got: u64) -> Option<Item>
+        requires unread { self.old.place ≢ self.old.known }
+        requires going { self.old.ended ≡ false }
+        ensures word { IfSome result (λ item. (words : _) (pieces : _)
+            → HasReceived words pieces self.old
+            → TakesWord words pieces self.old got (RecvTurn.Item item) self.new) }
+        ensures stays { IfNone result (self.new ≡ self.old) }
+        ensures senders { self.new.frames.senders ≡ self.old.frames.senders }
+    {
+        match self.frames.take_item(got) {
+            Some(item) => {
+                self.place += 1;
+                Some(item)
+            }
+            None => None,
+        }
+    }
+
     /// A length was found.
     fn feed_length(&mut self, got: u64) -> RecvTurn
         ensures length { TakesLength self.old got result self.new }
@@ -182,11 +222,9 @@ impl Reader {
         ensures place { self.new.place ≤ self.old.place + 1 }
         ensures senders { self.new.frames.senders ≡ self.old.frames.senders }
     {
-        let mut frames = self.frames.copied();
-        let Ok(found) = frames.feed(got) else {
+        let Ok(found) = self.frames.try_feed(got) else {
             return RecvTurn::Going;
         };
-        self.frames = frames;
         self.place += 1;
         match found {
             None => RecvTurn::Going,

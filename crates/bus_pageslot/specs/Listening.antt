@@ -1,5 +1,5 @@
 -- A receiver's turns: what one load makes of its seat, and what is answered.
-use Rattle.std.specs.Prelude.{◌≡◌, ℕ, ◌<◌, ◌≤◌, true, false, Option, Some, List, ◌++◌, length, take, slice_get, slice_index}
+use Rattle.std.specs.Prelude.{◌≡◌, ℕ, ◌<◌, ◌≤◌, Bool, true, false, Option, Some, List, ◌++◌, length, take, slice_get, slice_index}
 use Rattle.bus_batch.specs.declared.messages.Piece.{Piece}
 use Rattle.bus_batch.specs.Frames.{Frame, AreFrames, GivesPiece, log_words, log_pieces}
 use Rattle.bus_deliverylog.specs.declared.receiving.RecvTurn.{RecvTurn}
@@ -43,6 +43,11 @@ pub record HearsWord {C : Type 0} (m : Sat C) (answer : RecvTurn) (m' : Sat C) :
   pub finds : FindsWord m got m'
   pub gives : GivesPiece (senders_in m.0) (take (ear_in m.0).place (known_in m.0)) got finds.found
   pub answer_is : answer ≡ turn_of finds.found
+
+-- what a turn answers that says whether it took a word that says nothing by itself, and else writes its answer
+abbrev pub answer_of : Bool → RecvTurn → RecvTurn
+answer_of true written = turn.Going
+answer_of false written = written
 
 -- One turn of a receiver. After the end it answers so for good, and takes no step. Where it has read all that it knows it loads the
 -- length, and else the word at its place.

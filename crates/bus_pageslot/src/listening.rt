@@ -4,13 +4,15 @@ ghost use Rattle.std.specs.Prelude.{◌≡◌, ◌≢◌, ℕ, ◌-◌, ◌≤�
 ghost use Rattle.std.specs.Prelude.{false};
 ghost use Rattle.bus_pageslot.specs.Rule.{known_in};
 ghost use Rattle.bus_pageslot.specs.Seats.{IsEar, knows};
-ghost use Rattle.bus_pageslot.specs.Listening.{Hears, HearsLength, HearsWord};
+ghost use Rattle.bus_deliverylog.specs.Receiving.{HasReceived, TakesWord};
+ghost use Rattle.bus_pageslot.specs.Listening.{Hears, HearsLength, HearsWord, answer_of};
 
 use crate::rule::{LoadsLengthInTurn, LoadsWordInTurn, Place, Top};
 use crate::seatables::Seatable;
 use bus_deliverylog::{Reader, RecvTurn};
 
 /// A reader that has read all that it knows is told the length that its seat knows.
+#[inline(always)]
 fn catch_up(reader: &mut Reader, known: u64)
     requires going { reader.old.ended ≡ false }
     requires known { reader.old.known ≤ known }
@@ -24,12 +26,14 @@ fn catch_up(reader: &mut Reader, known: u64)
     }
 }
 
-/// The length is loaded.
+/// The length is loaded, and the answer is written.
+#[inline(never)]
 fn hear_length<S: Seatable + Drop>(
     top: &Top<S>,
     seat: &mut Place<S>,
     reader: &mut Reader,
-) -> RecvTurn
+    answer: &mut RecvTurn,
+)
     requires table { seat.old.table_id ≡ top.now.table_id }
     requires ear { (log : ℕ) × IsEar seat.old.me seat.old.table_id.words log reader.old }
     requires going { reader.old.ended ≡ false }
@@ -39,20 +43,38 @@ fn hear_length<S: Seatable + Drop>(
     ensures ear { (log : ℕ) → IsEar seat.old.me seat.old.table_id.words log reader.old
         → IsEar seat.new.me seat.new.table_id.words log reader.new }
     ensures known { reader.new.known ≡ length (known_in seat.new.me.0) }
-    ensures hears { HearsLength seat.old.me result seat.new.me }
+    ensures hears { HearsLength seat.old.me answer.new seat.new.me }
 {
     S::is_lawful();
     let length = top.load::<LoadsLengthInTurn<S>>(seat, 0);
-    reader.feed(length)
+    *answer = reader.feed(length);
 }
 
-/// The word at the reader's place is loaded.
+/// A word that may say something, or be bad, is taken, and the answer is written.
+#[inline(never)]
+fn take_word(reader: &mut Reader, word: u64, answer: &mut RecvTurn)
+    requires going { reader.old.ended ≡ false }
+    requires below { reader.old.place ≢ reader.old.known }
+    ensures word { (words : _) (pieces : _) → HasReceived words pieces reader.old
+        → TakesWord words pieces reader.old word answer.new reader.new }
+    ensures senders { reader.new.frames.senders ≡ reader.old.frames.senders }
+{
+    match reader.take_item(word) {
+        Some(item) => *answer = RecvTurn::Item(item),
+        None => *answer = reader.feed(word),
+    }
+}
+
+/// The word at the reader's place is loaded. Says whether that says nothing by itself; else the
+/// answer is written.
+#[inline(always)]
 fn hear_word<S: Seatable + Drop>(
     top: &Top<S>,
     seat: &mut Place<S>,
     log: u64,
     reader: &mut Reader,
-) -> RecvTurn
+    answer: &mut RecvTurn,
+) -> bool
     requires table { seat.old.table_id ≡ top.now.table_id }
     requires ear { IsEar seat.old.me seat.old.table_id.words log reader.old }
     requires going { reader.old.ended ≡ false }
@@ -60,21 +82,28 @@ fn hear_word<S: Seatable + Drop>(
     ensures table { seat.new.table_id ≡ seat.old.table_id }
     ensures ear { IsEar seat.new.me seat.new.table_id.words log reader.new }
     ensures known { known_in seat.new.me.0 ≡ known_in seat.old.me.0 }
-    ensures hears { HearsWord seat.old.me result seat.new.me }
+    ensures hears { HearsWord seat.old.me (answer_of result answer.new) seat.new.me }
 {
     let word = top.load::<LoadsWordInTurn<S>>(seat, (log + reader.place()) as usize);
-    reader.feed(word)
+    if reader.take_plain(word) {
+        return true;
+    }
+    take_word(reader, word, answer);
+    false
 }
 
 /// The turn of a receiver that has not ended. `log` is the place of the log's first word, and
-/// `known` is how many words of it the receiver knows.
+/// `known` is how many words of it the receiver knows. Says whether it took a word that says
+/// nothing by itself; else the answer is written.
+#[inline(always)]
 pub(crate) fn hear<S: Seatable + Drop>(
     top: &Top<S>,
     seat: &mut Place<S>,
     log: u64,
     known: &mut u64,
     reader: &mut Reader,
-) -> RecvTurn
+    answer: &mut RecvTurn,
+) -> bool
     requires table { seat.old.table_id ≡ top.now.table_id }
     requires ear { IsEar seat.old.me seat.old.table_id.words log reader.old }
     requires going { reader.old.ended ≡ false }
@@ -82,13 +111,13 @@ pub(crate) fn hear<S: Seatable + Drop>(
     ensures table { seat.new.table_id ≡ seat.old.table_id }
     ensures ear { IsEar seat.new.me seat.new.table_id.words log reader.new }
     ensures known { known.new ≡ length (known_in seat.new.me.0) }
-    ensures hears { Hears seat.old.me result seat.new.me }
+    ensures hears { Hears seat.old.me (answer_of result answer.new) seat.new.me }
 {
     catch_up(reader, *known);
     if reader.place() == reader.known() {
-        let answer = hear_length(top, seat, reader);
+        hear_length(top, seat, reader, answer);
         *known = reader.known();
-        return answer;
+        return false;
     }
-    hear_word(top, seat, log, reader)
+    hear_word(top, seat, log, reader, answer)
 }

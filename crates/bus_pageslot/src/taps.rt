@@ -6,7 +6,7 @@ ghost use Rattle.bus_pageslot.specs.declared.rule.View.TheVariants as View;
 ghost use Rattle.bus_pageslot.specs.Rule.{ear_in, known_in, with_ear};
 ghost use Rattle.bus_pageslot.specs.Steps.{Learns, KnowsSent};
 ghost use Rattle.bus_pageslot.specs.Seats.{IsFresh, spot, table_of, deeds_of, stored_of};
-ghost use Rattle.bus_pageslot.specs.Listening.{Hears};
+ghost use Rattle.bus_pageslot.specs.Listening.{Hears, answer_of};
 
 use crate::buses::BusOf;
 use crate::listening::hear;
@@ -88,19 +88,43 @@ impl<S: Seatable + Drop> TapOf<S> {
 
     /// One turn: a load of the length where it has read all that it knows, else a load of the word
     /// at its place. After the end it takes no step.
+    #[inline(always)]
     pub fn turn(&mut self, bus: &BusOf<S>) -> RecvTurn
         requires { self.old.table_id ≡ bus.now.table }
         ensures table { self.new.table_id ≡ self.old.table_id }
         ensures hears { Hears self.old.me result self.new.me }
     {
+        let mut answer = RecvTurn::Going;
+        if self.quick_turn(bus, &mut answer) {
+            return RecvTurn::Going;
+        }
+        answer
+    }
+
+    /// One turn, as `turn`. It says whether it took a word that says nothing by itself, so that the
+    /// answer is Going; else it writes the answer.
+    #[inline(always)]
+    pub fn quick_turn(&mut self, bus: &BusOf<S>, answer: &mut RecvTurn) -> bool
+        requires { self.old.table_id ≡ bus.now.table }
+        ensures table { self.new.table_id ≡ self.old.table_id }
+        ensures hears { Hears self.old.me (answer_of result answer.new) self.new.me }
+    {
         if self.reader.has_ended() {
-            return RecvTurn::End;
+            *answer = RecvTurn::End;
+            return false;
         }
         let top = &bus.table.shared;
         let mut seat = self.seat.take().unwrap();
-        let answer = hear(top, &mut seat, self.log, &mut self.known, &mut self.reader);
+        let went = hear(
+            top,
+            &mut seat,
+            self.log,
+            &mut self.known,
+            &mut self.reader,
+            answer,
+        );
         self.seat = Some(seat);
-        answer
+        went
     }
 
     /// Loads the length, in words, and gives it: it knows the log up to it from then on.

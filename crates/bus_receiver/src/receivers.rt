@@ -5,7 +5,7 @@ ghost use Rattle.std.specs.Prelude.{OnErr, true, false};
 ghost use Rattle.std.specs.Ordering.{nat_cmp};
 ghost use Rattle.bus_pageslot.specs.Endings.{IsLeft};
 ghost use Rattle.bus_pageslot.specs.Rule.{ear_in, known_in};
-ghost use Rattle.bus_pageslot.specs.Listening.{Hears};
+ghost use Rattle.bus_pageslot.specs.Listening.{Hears, answer_of};
 ghost use Rattle.bus_pageslot.specs.Seats.{table_of, deeds_of, stored_of};
 ghost use Rattle.bus_receiver.specs.Listening.{bus_of, is_found, Takes, HaveMet, IsTold};
 ghost use Rattle.bus_receiver.specs.Listening.{PassesTo, PassesWhile, item_or_end};
@@ -78,12 +78,23 @@ impl<S: Seatable + Drop> ReceiverOf<S> {
 
     /// One turn: a load of the length where it has read all that it knows, else a load of the word
     /// at its place. After the end it takes no step.
+    #[inline(always)]
     pub fn turn(&mut self, bus: &BusOf<S>) -> RecvTurn
         requires { bus_of self.old ≡ bus.now.table }
         ensures table { bus_of self.new ≡ bus_of self.old }
         ensures hears { Hears self.old.me result self.new.me }
     {
         self.tap.turn(bus)
+    }
+
+    /// One turn, as the tap's.
+    #[inline(always)]
+    fn quick_turn(&mut self, bus: &BusOf<S>, answer: &mut RecvTurn) -> bool
+        requires { bus_of self.old ≡ bus.now.table }
+        ensures table { bus_of self.new ≡ bus_of self.old }
+        ensures hears { Hears self.old.me (answer_of result answer.new) self.new.me }
+    {
+        self.tap.quick_turn(bus, answer)
     }
 
     /// Turns, until one finds a head, an item or the end. That it ends is not promised.
@@ -137,7 +148,12 @@ impl<S: Seatable + Drop> ReceiverOf<S> {
     {
         let backoff = Backoff::new();
         for _ in wait.forever() {
-            match self.turn(bus) {
+            let mut answer = RecvTurn::Going;
+            if self.quick_turn(bus, &mut answer) {
+                backoff.reset();
+                continue;
+            }
+            match answer {
                 RecvTurn::Item(item) => return Next::Item(item),
                 RecvTurn::End => return Next::End,
                 RecvTurn::Empty => {

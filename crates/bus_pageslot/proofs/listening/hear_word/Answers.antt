@@ -1,7 +1,10 @@
-use Rattle.std.proofs.Common.{◌≡◌, ◌+◌, ◌<◌, length, arith, subst, sym, ◌∙◌, ap}
+use Rattle.std.proofs.Common.{◌≡◌, ◌≢◌, ◌+◌, ◌<◌, length, arith, subst, sym, ◌∙◌, ap}
 use Rattle.atomic_table.specs.Seated.{TableId}
 use Rattle.atomic_table.specs.Table.{Allows}
+use Rattle.bus_deliverylog.specs.declared.receiving.RecvTurn.TheVariants as RecvTurn
+use Rattle.bus_deliverylog.specs.Receiving.{Receiving}
 use Rattle.bus_pageslot.specs.Rule.{IsShown}
+use Rattle.bus_pageslot.specs.Seats.{IsEar}
 use Rattle.bus_pageslot.specs.Listening.{FindsWord}
 use Rattle.bus_pageslot.proofs.Loads.{word_heard_allowed}
 use Rattle.bus_pageslot.proofs.ReaderLaws.{word_ear, word_known, word_heard}
@@ -21,17 +24,35 @@ load-word-requires g c =
           (word_heard_allowed P A c.args.top.now.table_id.slots seat.id seat.me h.extent h.ear (ap (λ m. m.0) h.me) (sym h.fit.ended ∙ c.requires.going) below),
     )
 
+pub returns-then-take_plain-clause-ear : goal.returns-then-take_plain-clause-ear
+returns-then-take_plain-clause-ear g c =
+    let load = c.load-word in
+    word_ear c.args.seat.now.me load.new.seat.me c.args.seat.now.table_id.words load.new.seat.table_id.words c.args.log c.args.reader.now c.take_plain.new.self load.result RecvTurn.Going c.requires.ear load.ensures.2 (ap (λ (z : TableId). z.words) load.ensures.0) c.requires.below c.take_plain.ensures.senders (c.take_plain.ensures.word c.if-take_plain.true)
+
+pub returns-then-take_plain-clause-known : goal.returns-then-take_plain-clause-known
+returns-then-take_plain-clause-known g c =
+    let load = c.load-word in
+    word_known c.args.seat.now.me load.new.seat.me c.args.seat.now.table_id.words load.new.seat.table_id.words c.args.log c.args.reader.now c.take_plain.new.self load.result RecvTurn.Going c.requires.ear load.ensures.2 (ap (λ (z : TableId). z.words) load.ensures.0) c.requires.below c.take_plain.ensures.senders (c.take_plain.ensures.word c.if-take_plain.true)
+
+pub returns-then-take_plain-clause-hears : goal.returns-then-take_plain-clause-hears
+returns-then-take_plain-clause-hears g c =
+    let load = c.load-word in
+    word_heard c.args.seat.now.me load.new.seat.me c.args.seat.now.table_id.words load.new.seat.table_id.words c.args.log c.args.reader.now c.take_plain.new.self load.result RecvTurn.Going c.requires.ear load.ensures.2 (ap (λ (z : TableId). z.words) load.ensures.0) c.requires.below c.take_plain.ensures.senders (c.take_plain.ensures.word c.if-take_plain.true)
+
 pub returns-clause-ear : goal.returns-clause-ear
 returns-clause-ear g c =
     let load = c.load-word in
-    word_ear c.args.seat.now.me load.new.seat.me c.args.seat.now.table_id.words load.new.seat.table_id.words c.args.log c.args.reader.now c.feed.new.self load.result c.feed.result c.requires.ear load.ensures.2 (ap (λ (z : TableId). z.words) load.ensures.0) c.requires.below c.feed.ensures.senders (c.feed.ensures.word c.requires.below)
+    let same : c.take_plain.new.self ≡ c.args.reader.now = c.take_plain.ensures.stays c.if-take_plain.false in
+    word_ear c.args.seat.now.me load.new.seat.me c.args.seat.now.table_id.words load.new.seat.table_id.words c.args.log c.take_plain.new.self c.take_word.new.reader load.result c.take_word.new.answer (subst (λ (r : Receiving). IsEar c.args.seat.now.me c.args.seat.now.table_id.words c.args.log r) (sym same) c.requires.ear) load.ensures.2 (ap (λ (z : TableId). z.words) load.ensures.0) (subst (λ (r : Receiving). r.place ≢ r.known) (sym same) c.requires.below) c.take_word.ensures.senders c.take_word.ensures.word
 
 pub returns-clause-known : goal.returns-clause-known
 returns-clause-known g c =
     let load = c.load-word in
-    word_known c.args.seat.now.me load.new.seat.me c.args.seat.now.table_id.words load.new.seat.table_id.words c.args.log c.args.reader.now c.feed.new.self load.result c.feed.result c.requires.ear load.ensures.2 (ap (λ (z : TableId). z.words) load.ensures.0) c.requires.below c.feed.ensures.senders (c.feed.ensures.word c.requires.below)
+    let same : c.take_plain.new.self ≡ c.args.reader.now = c.take_plain.ensures.stays c.if-take_plain.false in
+    word_known c.args.seat.now.me load.new.seat.me c.args.seat.now.table_id.words load.new.seat.table_id.words c.args.log c.take_plain.new.self c.take_word.new.reader load.result c.take_word.new.answer (subst (λ (r : Receiving). IsEar c.args.seat.now.me c.args.seat.now.table_id.words c.args.log r) (sym same) c.requires.ear) load.ensures.2 (ap (λ (z : TableId). z.words) load.ensures.0) (subst (λ (r : Receiving). r.place ≢ r.known) (sym same) c.requires.below) c.take_word.ensures.senders c.take_word.ensures.word
 
 pub returns-clause-hears : goal.returns-clause-hears
 returns-clause-hears g c =
     let load = c.load-word in
-    word_heard c.args.seat.now.me load.new.seat.me c.args.seat.now.table_id.words load.new.seat.table_id.words c.args.log c.args.reader.now c.feed.new.self load.result c.feed.result c.requires.ear load.ensures.2 (ap (λ (z : TableId). z.words) load.ensures.0) c.requires.below c.feed.ensures.senders (c.feed.ensures.word c.requires.below)
+    let same : c.take_plain.new.self ≡ c.args.reader.now = c.take_plain.ensures.stays c.if-take_plain.false in
+    word_heard c.args.seat.now.me load.new.seat.me c.args.seat.now.table_id.words load.new.seat.table_id.words c.args.log c.take_plain.new.self c.take_word.new.reader load.result c.take_word.new.answer (subst (λ (r : Receiving). IsEar c.args.seat.now.me c.args.seat.now.table_id.words c.args.log r) (sym same) c.requires.ear) load.ensures.2 (ap (λ (z : TableId). z.words) load.ensures.0) (subst (λ (r : Receiving). r.place ≢ r.known) (sym same) c.requires.below) c.take_word.ensures.senders c.take_word.ensures.word

@@ -1,7 +1,7 @@
 use Rattle.bus_batch.specs.declared.readers.Place.TheVariants as place
 use Rattle.std.proofs.Common.{refl, inl, inr}
 use Rattle.bus_batch.proofs.Bodies.{takes_end, refuses_end}
-use Rattle.bus_batch.proofs.Taking.{good, refused, at_place, sound_at}
+use Rattle.bus_batch.proofs.Taking.{good, refused_at, at_place, sound_at}
 use Rattle.bus_batch.proofs.readers.FrameReader.take_end.Goals as goal
 
 pub returns-then-room-eq-BATCH_MESSAGES-clause-steps : goal.returns-then-room-eq-BATCH_MESSAGES-clause-steps
@@ -13,6 +13,6 @@ returns-then-room-eq-BATCH_MESSAGES-clause-steps c =
 pub returns-else-left-eq1-clause-steps : goal.returns-else-left-eq1-clause-steps
 returns-else-left-eq1-clause-steps c =
     let sound = sound_at c.self.inside.senders c.self.inside.least (place.Body c.args.owner c.args.left c.args.room) c.self.inside.place c.self.inside.bytes c.args.self.now c.self.view_is c.requires.place c.self.invariant in
-    at_place c.self.inside.senders c.self.inside.least (place.Body c.args.owner c.args.left c.args.room) c.self.inside.place c.self.inside.bytes c.args.word _ c.args.self.now _ c.self.view_is c.requires.place
-    (refused _ _ c.args.word (refuses_end c.self.inside.senders c.self.inside.least c.args.word c.args.owner c.args.left c.args.room c.self.inside.bytes c.self.inside.bytes sound.1 c.requires.word
-    (λ alone fresh. elim c.else-left-eq1.either [ inl w ↦ w.1 fresh | inr w ↦ w alone ])) refl)
+    refused_at c.self.inside.senders c.self.inside.least (place.Body c.args.owner c.args.left c.args.room) c.self.inside.place c.self.inside.bytes c.args.word c.args.self.now c.self.view_is c.requires.place
+    (refuses_end c.self.inside.senders c.self.inside.least c.args.word c.args.owner c.args.left c.args.room c.self.inside.bytes c.self.inside.bytes sound.1 c.requires.word
+    (λ alone fresh. elim c.else-left-eq1.either [ inl w ↦ w.1 fresh | inr w ↦ w alone ]))

@@ -1,11 +1,11 @@
 use Rattle.bus_batch.specs.declared.readers.Place.TheVariants as place
 use Rattle.std.proofs.Common.{refl}
 use Rattle.bus_batch.proofs.Bodies.{refuses_other}
-use Rattle.bus_batch.proofs.Taking.{refused, at_place, sound_at}
+use Rattle.bus_batch.proofs.Taking.{refused_at, at_place, sound_at}
 use Rattle.bus_batch.proofs.readers.FrameReader.take_message.Goals as goal
 
 pub returns-in-None-clause-steps : goal.returns-in-None-clause-steps
 returns-in-None-clause-steps c =
     let sound = sound_at c.self.inside.senders c.self.inside.least (place.Body c.args.owner c.args.left c.args.room) c.self.inside.place c.self.inside.bytes c.args.self.now c.self.view_is c.requires c.self.invariant in
-    at_place c.self.inside.senders c.self.inside.least (place.Body c.args.owner c.args.left c.args.room) c.self.inside.place c.self.inside.bytes c.args.word _ c.args.self.now _ c.self.view_is c.requires
-    (refused _ _ c.args.word (refuses_other c.self.inside.senders c.self.inside.least c.args.word c.args.owner c.args.left c.args.room c.self.inside.bytes c.self.inside.bytes sound.1 c.if-word-eq-END.false c.in-None.ensures.none) refl)
+    refused_at c.self.inside.senders c.self.inside.least (place.Body c.args.owner c.args.left c.args.room) c.self.inside.place c.self.inside.bytes c.args.word c.args.self.now c.self.view_is c.requires
+    (refuses_other c.self.inside.senders c.self.inside.least c.args.word c.args.owner c.args.left c.args.room c.self.inside.bytes c.self.inside.bytes sound.1 c.if-word-eq-END.false c.in-None.ensures.none)

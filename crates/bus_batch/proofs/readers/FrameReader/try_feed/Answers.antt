@@ -1,5 +1,5 @@
 use Rattle.bus_batch.proofs.Feeding.{bad_of, gives_of, read_of}
-use Rattle.bus_batch.proofs.readers.FrameReader.feed.Goals as goal
+use Rattle.bus_batch.proofs.readers.FrameReader.try_feed.Goals as goal
 
 pub returns-in-Between-clause-bad : goal.returns-in-Between-clause-bad
 returns-in-Between-clause-bad c words pieces had = bad_of c.args.self.now.senders words pieces c.args.word c.args.self.now c.take_head.new.self had c.take_head.result c.take_head.ensures.steps
