@@ -93,10 +93,10 @@ fn is_of_visit(kind: Kind) -> bool {
     match kind {
         Kind::LoadStageAgain
         | Kind::Announce
-        | Kind::StoreProposal
-        | Kind::ReadProposal
-        | Kind::StoreVerdict
-        | Kind::ReadVerdict
+        | Kind::WriteFirst
+        | Kind::ReadFirst
+        | Kind::WriteSecond
+        | Kind::ReadSecond
         | Kind::SetMark
         | Kind::ReadOtherMark
         | Kind::Vote

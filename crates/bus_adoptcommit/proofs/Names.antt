@@ -15,10 +15,10 @@ refuses_names = record {
 
 pub refuses_orders : RefusesOrders
 refuses_orders = record {
-  stored_unread = λ h. let e = h.stores_verdict refl in absurd cc;
-  read_at_once = λ h. h.reads_verdicts refl refl;
-  stored_twice = λ h. let e = h.stores_verdict refl in absurd cc;
-  stored_late = λ h. let e = h.stores_verdict refl in absurd cc;
-  looked_back = λ h. elim (h.reads_proposals refl) [ inl e ↦ absurd cc | inr e ↦ absurd cc ];
-  looked_late = λ h. elim (h.reads_proposals refl) [ inl e ↦ absurd cc | inr e ↦ absurd cc ];
+  stored_unread = λ h. let e = h.writes_second refl in absurd cc;
+  read_at_once = λ h. h.reads_second refl refl;
+  stored_twice = λ h. let e = h.writes_second refl in absurd cc;
+  stored_late = λ h. let e = h.writes_second refl in absurd cc;
+  looked_back = λ h. elim (h.reads_first refl) [ inl e ↦ absurd cc | inr e ↦ absurd cc ];
+  looked_late = λ h. elim (h.reads_first refl) [ inl e ↦ absurd cc | inr e ↦ absurd cc ];
 }

@@ -6,7 +6,7 @@ use Rattle.bus_register.specs.declared.registers.Op.TheVariants.{Load, Store, Ad
 use Rattle.bus_register.specs.declared.registers.Reg.{Reg}
 use Rattle.bus_register.specs.Protocol.{Protocol}
 use Rattle.bus_adoptcommit.specs.declared.progress.Progress.{Progress}
-use Rattle.bus_adoptcommit.specs.declared.progress.Progress.TheVariants.{Bring, ReadProposal, Propose, ReadOther, Ended}
+use Rattle.bus_adoptcommit.specs.declared.progress.Progress.TheVariants.{Bring, ReadFirst, Propose, ReadOther, Ended}
 use Rattle.bus_adoptcommit.specs.declared.verdicts.Verdict.{Verdict}
 use Rattle.bus_adoptcommit.specs.declared.verdicts.Verdict.TheVariants.{Adopt}
 use Rattle.bus_adoptcommit.specs.Agreement.{value_of, IsConvergent, IsCoherent}
@@ -54,7 +54,7 @@ committing_in_spite s got = record (fed_of s got) { unopposed = true }
 -- where it finds no proposal, it goes on without one
 abbrev pub past_proposing : Progress → Progress
 past_proposing Bring = Bring
-past_proposing ReadProposal = ReadProposal
+past_proposing ReadFirst = ReadFirst
 past_proposing Propose = ReadOther
 past_proposing ReadOther = ReadOther
 past_proposing Ended = Ended
@@ -65,7 +65,7 @@ proposing_nothing s got = let t = fed_of s got in record t { progress = past_pro
 -- at the end it loads the word of the value that it prefers, in place of the other one's
 abbrev pub reading_own_at : Progress → Local → Option Op
 reading_own_at Bring s = op_at Bring s
-reading_own_at ReadProposal s = op_at ReadProposal s
+reading_own_at ReadFirst s = op_at ReadFirst s
 reading_own_at Propose s = op_at Propose s
 reading_own_at ReadOther s = op_at ReadOther (record s { preference = not s.preference })
 reading_own_at Ended s = op_at Ended s
@@ -81,24 +81,24 @@ adopting = record three_word { output = λ s. option_map (λ d. Adopt (value_of 
 -- no step of a ratifier is named thus
 pub record RefusesNames : Type 0 where
   -- a read that adds, or exchanges, were it to leave the word as it was; or one that stores
-  pub added : (at : Reg) (x : ℕ) (begun : Bool) → ¬ IsNamedFor kind.ReadProposal (Add at x) begun
-  pub exchanged : (at : Reg) (x y : ℕ) (begun : Bool) → ¬ IsNamedFor kind.ReadVerdict (Cas at x y) begun
-  pub stored : (at : Reg) (x : ℕ) (begun : Bool) → ¬ IsNamedFor kind.ReadVerdict (Store at x) begun
+  pub added : (at : Reg) (x : ℕ) (begun : Bool) → ¬ IsNamedFor kind.ReadFirst (Add at x) begun
+  pub exchanged : (at : Reg) (x y : ℕ) (begun : Bool) → ¬ IsNamedFor kind.ReadSecond (Cas at x y) begun
+  pub stored : (at : Reg) (x : ℕ) (begun : Bool) → ¬ IsNamedFor kind.ReadSecond (Store at x) begun
   -- a verdict's store that loads
-  pub loaded : (at : Reg) (begun : Bool) → ¬ IsNamedFor kind.StoreVerdict (Load at) begun
+  pub loaded : (at : Reg) (begun : Bool) → ¬ IsNamedFor kind.WriteSecond (Load at) begun
   -- a proposal that is stored after the first step, and a first step that reads
-  pub proposed_late : (o : Op) → ¬ IsNamedFor kind.StoreProposal o true
-  pub read_first : (o : Op) → ¬ IsNamedFor kind.ReadProposal o false
+  pub proposed_late : (o : Op) → ¬ IsNamedFor kind.WriteFirst o true
+  pub read_first : (o : Op) → ¬ IsNamedFor kind.ReadFirst o false
 
 -- ── wrong orders ──
 -- no kind of a ratifier's next step comes so after the kind before it
 pub record RefusesOrders : Type 0 where
   -- a verdict that is stored, or read, before any proposal was read
-  pub stored_unread : ¬ ComesAfter kind.StoreProposal kind.StoreVerdict
-  pub read_at_once : ¬ ComesAfter kind.StoreProposal kind.ReadVerdict
+  pub stored_unread : ¬ ComesAfter kind.WriteFirst kind.WriteSecond
+  pub read_at_once : ¬ ComesAfter kind.WriteFirst kind.ReadSecond
   -- a verdict that is stored twice, or once verdicts are read
-  pub stored_twice : ¬ ComesAfter kind.StoreVerdict kind.StoreVerdict
-  pub stored_late : ¬ ComesAfter kind.ReadVerdict kind.StoreVerdict
+  pub stored_twice : ¬ ComesAfter kind.WriteSecond kind.WriteSecond
+  pub stored_late : ¬ ComesAfter kind.ReadSecond kind.WriteSecond
   -- a proposal that is read once the verdict is stored, or verdicts are read
-  pub looked_back : ¬ ComesAfter kind.StoreVerdict kind.ReadProposal
-  pub looked_late : ¬ ComesAfter kind.ReadVerdict kind.ReadProposal
+  pub looked_back : ¬ ComesAfter kind.WriteSecond kind.ReadFirst
+  pub looked_late : ¬ ComesAfter kind.ReadSecond kind.ReadFirst

@@ -1,12 +1,12 @@
 -- Three words: two that say which values were brought, and one proposal. One process, as a local state and its steps.
 use Rattle.std.specs.Prelude.{ℕ, ◌+◌, Bool, false, not, Option, Some, None, ◌==◌, if◌then◌else◌}
 use Rattle.bus_register.specs.declared.kinds.Kind.{Kind}
-use Rattle.bus_register.specs.declared.kinds.Kind.TheVariants.{StoreProposal as storing_proposal, ReadProposal as reading_proposal, StoreVerdict as storing_verdict, ReadVerdict as reading_verdict}
+use Rattle.bus_register.specs.declared.kinds.Kind.TheVariants.{WriteFirst as writing_first, ReadFirst as reading_first, WriteSecond as writing_second, ReadSecond as reading_second}
 use Rattle.bus_register.specs.declared.registers.Op.{Op}
 use Rattle.bus_register.specs.declared.registers.Op.TheVariants.{Load, Store}
 use Rattle.bus_register.specs.Digits.{digit}
 use Rattle.bus_adoptcommit.specs.declared.progress.Progress.{Progress}
-use Rattle.bus_adoptcommit.specs.declared.progress.Progress.TheVariants.{Bring, ReadProposal, Propose, ReadOther, Ended}
+use Rattle.bus_adoptcommit.specs.declared.progress.Progress.TheVariants.{Bring, ReadFirst, Propose, ReadOther, Ended}
 use Rattle.bus_adoptcommit.specs.declared.verdicts.Verdict.{Verdict}
 use Rattle.bus_adoptcommit.specs.declared.verdicts.Verdict.TheVariants.{Commit, Adopt}
 
@@ -23,16 +23,16 @@ pub record Local : Type 0 where
 
 -- what the next step is for
 abbrev pub kind_at : Progress → Option Kind
-kind_at Bring = Some storing_proposal
-kind_at ReadProposal = Some reading_proposal
-kind_at Propose = Some storing_verdict
-kind_at ReadOther = Some reading_verdict
+kind_at Bring = Some writing_first
+kind_at ReadFirst = Some reading_first
+kind_at Propose = Some writing_second
+kind_at ReadOther = Some reading_second
 kind_at Ended = None
 
 -- the next step of s, were it at this point
 abbrev pub op_at : Progress → Local → Option Op
 op_at Bring s = Some (Store record { 0 = s.at + digit s.input } 1)
-op_at ReadProposal s = Some (Load record { 0 = s.at + 2 })
+op_at ReadFirst s = Some (Load record { 0 = s.at + 2 })
 op_at Propose s = Some (Store record { 0 = s.at + 2 } (1 + digit s.preference))
 op_at ReadOther s = Some (Load record { 0 = s.at + digit (not s.preference) })
 op_at Ended s = None
@@ -47,8 +47,8 @@ local_after_look s got = if got == 0 then record s { progress = Propose } else r
 
 -- s after a step that found this number, were it at this point
 abbrev pub fed_at : Progress → Local → ℕ → Local
-fed_at Bring s got = record s { progress = ReadProposal }
-fed_at ReadProposal s got = local_after_look s got
+fed_at Bring s got = record s { progress = ReadFirst }
+fed_at ReadFirst s got = local_after_look s got
 fed_at Propose s got = record s { progress = ReadOther }
 fed_at ReadOther s got = record s { unopposed = got == 0; progress = Ended }
 fed_at Ended s got = s
@@ -64,7 +64,7 @@ verdict_of unopposed preference = if unopposed then Commit preference else Adopt
 -- the output of s, were it at this point
 abbrev pub output_at : Progress → Local → Option Verdict
 output_at Bring s = None
-output_at ReadProposal s = None
+output_at ReadFirst s = None
 output_at Propose s = None
 output_at ReadOther s = None
 output_at Ended s = Some (verdict_of s.unopposed s.preference)
@@ -80,7 +80,7 @@ start_of n me input at = record { at = at; input = input; preference = input; un
 -- how many of the four steps lie behind a process, taken or passed over
 abbrev pub behind : Progress → ℕ
 behind Bring = 0
-behind ReadProposal = 1
+behind ReadFirst = 1
 behind Propose = 2
 behind ReadOther = 3
 behind Ended = 4

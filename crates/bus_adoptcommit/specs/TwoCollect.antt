@@ -2,12 +2,12 @@
 -- all verdicts. One process of n, as a local state and its steps.
 use Rattle.std.specs.Prelude.{ℕ, ◌+◌, ◌*◌, ◌<◌, ◌≤◌, ◌^◌, Bool, true, false, Option, Some, None, ◌==◌, nat_lt, if◌then◌else◌}
 use Rattle.bus_register.specs.declared.kinds.Kind.{Kind}
-use Rattle.bus_register.specs.declared.kinds.Kind.TheVariants.{StoreProposal as storing_proposal, ReadProposal as reading_proposal, StoreVerdict as storing_verdict, ReadVerdict as reading_verdict}
+use Rattle.bus_register.specs.declared.kinds.Kind.TheVariants.{WriteFirst as writing_first, ReadFirst as reading_first, WriteSecond as writing_second, ReadSecond as reading_second}
 use Rattle.bus_register.specs.declared.registers.Op.{Op}
 use Rattle.bus_register.specs.declared.registers.Op.TheVariants.{Load, Store}
 use Rattle.bus_register.specs.Digits.{digit}
 use Rattle.bus_adoptcommit.specs.declared.phases.Phase.{Phase}
-use Rattle.bus_adoptcommit.specs.declared.phases.Phase.TheVariants.{StoreProposal, ReadProposal, StoreVerdict, ReadVerdict, Ended}
+use Rattle.bus_adoptcommit.specs.declared.phases.Phase.TheVariants.{WriteFirst, ReadFirst, WriteSecond, ReadSecond, Ended}
 use Rattle.bus_adoptcommit.specs.declared.verdicts.Verdict.{Verdict}
 use Rattle.bus_adoptcommit.specs.declared.verdicts.Verdict.TheVariants.{Commit, Adopt}
 
@@ -45,10 +45,10 @@ first_verdict agreed input = if agreed then Commit input else Adopt input
 
 -- a number in a phase is that of one of n processes
 abbrev pub PhaseFits : ℕ → Phase → Type 0
-PhaseFits n StoreProposal = Unit {0}
-PhaseFits n (ReadProposal of) = of < n
-PhaseFits n StoreVerdict = Unit {0}
-PhaseFits n (ReadVerdict of) = of < n
+PhaseFits n WriteFirst = Unit {0}
+PhaseFits n (ReadFirst of) = of < n
+PhaseFits n WriteSecond = Unit {0}
+PhaseFits n (ReadSecond of) = of < n
 PhaseFits n Ended = Unit {0}
 
 -- the numbers fit, so that each register has a place
@@ -59,18 +59,18 @@ pub record Sized (n me at : ℕ) (phase : Phase) : Type 0 where
 
 -- what the next step is for
 abbrev pub kind_at : Phase → Option Kind
-kind_at StoreProposal = Some storing_proposal
-kind_at (ReadProposal of) = Some reading_proposal
-kind_at StoreVerdict = Some storing_verdict
-kind_at (ReadVerdict of) = Some reading_verdict
+kind_at WriteFirst = Some writing_first
+kind_at (ReadFirst of) = Some reading_first
+kind_at WriteSecond = Some writing_second
+kind_at (ReadSecond of) = Some reading_second
 kind_at Ended = None
 
 -- the next step of s, were it at this phase
 abbrev pub op_at : Phase → Local → Option Op
-op_at StoreProposal s = Some (Store record { 0 = s.at + s.me } (proposal_code s.input))
-op_at (ReadProposal of) s = Some (Load record { 0 = s.at + of })
-op_at StoreVerdict s = Some (Store record { 0 = s.at + s.n + s.me } (verdict_code (first_verdict s.agreed s.input)))
-op_at (ReadVerdict of) s = Some (Load record { 0 = s.at + s.n + of })
+op_at WriteFirst s = Some (Store record { 0 = s.at + s.me } (proposal_code s.input))
+op_at (ReadFirst of) s = Some (Load record { 0 = s.at + of })
+op_at WriteSecond s = Some (Store record { 0 = s.at + s.n + s.me } (verdict_code (first_verdict s.agreed s.input)))
+op_at (ReadSecond of) s = Some (Load record { 0 = s.at + s.n + of })
 op_at Ended s = None
 
 -- the next step
@@ -79,11 +79,11 @@ op_of s = op_at s.phase s
 
 -- the phase after a proposal was read
 abbrev pub after_proposal : ℕ → ℕ → Phase
-after_proposal n of = if nat_lt (of + 1) n then ReadProposal (of + 1) else StoreVerdict
+after_proposal n of = if nat_lt (of + 1) n then ReadFirst (of + 1) else WriteSecond
 
 -- the phase after a verdict was read
 abbrev pub after_verdict : ℕ → ℕ → Phase
-after_verdict n of = if nat_lt (of + 1) n then ReadVerdict (of + 1) else Ended
+after_verdict n of = if nat_lt (of + 1) n then ReadSecond (of + 1) else Ended
 
 -- still agreed, once this word was seen among the proposals
 abbrev pub agreed_after : Bool → ℕ → Bool → Bool
@@ -103,10 +103,10 @@ only_with (Some (Commit v)) only = only
 
 -- s after a step that found this number, were it at this phase
 abbrev pub fed_at : Phase → Local → ℕ → Local
-fed_at StoreProposal s got = record s { phase = ReadProposal 0 }
-fed_at (ReadProposal of) s got = record s { agreed = agreed_after s.input got s.agreed; phase = after_proposal s.n of }
-fed_at StoreVerdict s got = record s { phase = ReadVerdict 0 }
-fed_at (ReadVerdict of) s got = record s { commit = commit_with (verdict_in got) s.commit; only_commits = only_with (verdict_in got) s.only_commits; phase = after_verdict s.n of }
+fed_at WriteFirst s got = record s { phase = ReadFirst 0 }
+fed_at (ReadFirst of) s got = record s { agreed = agreed_after s.input got s.agreed; phase = after_proposal s.n of }
+fed_at WriteSecond s got = record s { phase = ReadSecond 0 }
+fed_at (ReadSecond of) s got = record s { commit = commit_with (verdict_in got) s.commit; only_commits = only_with (verdict_in got) s.only_commits; phase = after_verdict s.n of }
 fed_at Ended s got = s
 
 -- what the process holds after a step that found this number
@@ -120,10 +120,10 @@ verdict_from (Some v) only input = if only then Commit v else Adopt v
 
 -- the output of s, were it at this phase
 abbrev pub output_at : Phase → Local → Option Verdict
-output_at StoreProposal s = None
-output_at (ReadProposal of) s = None
-output_at StoreVerdict s = None
-output_at (ReadVerdict of) s = None
+output_at WriteFirst s = None
+output_at (ReadFirst of) s = None
+output_at WriteSecond s = None
+output_at (ReadSecond of) s = None
 output_at Ended s = Some (verdict_from s.commit s.only_commits s.input)
 
 -- the output
@@ -132,12 +132,12 @@ output_of s = output_at s.phase s
 
 -- before the first step
 abbrev pub start_of : ℕ → ℕ → Bool → ℕ → Local
-start_of n me input at = record { n = n; me = me; at = at; input = input; agreed = true; commit = None; only_commits = true; phase = StoreProposal }
+start_of n me input at = record { n = n; me = me; at = at; input = input; agreed = true; commit = None; only_commits = true; phase = WriteFirst }
 
 -- how many of its 2n + 2 steps a process has taken
 abbrev pub taken_at : ℕ → Phase → ℕ
-taken_at n StoreProposal = 0
-taken_at n (ReadProposal of) = 1 + of
-taken_at n StoreVerdict = 1 + n
-taken_at n (ReadVerdict of) = 2 + n + of
+taken_at n WriteFirst = 0
+taken_at n (ReadFirst of) = 1 + of
+taken_at n WriteSecond = 1 + n
+taken_at n (ReadSecond of) = 2 + n + of
 taken_at n Ended = 2 + n + n

@@ -60,25 +60,25 @@ pub record Committed (n : ℕ) (m : ℕ → Mark) (v : ℕ) : Type 0 where
   pub is : verdict_word n (m by) ≡ 3 + v
 
 -- a process with this mark has read the proposal of q
-abbrev pub HasReadProposal : ℕ → Mark → Type 0
-HasReadProposal q m = 1 + q < m.taken
+abbrev pub HasReadFirst : ℕ → Mark → Type 0
+HasReadFirst q m = 1 + q < m.taken
 
 -- a process with this mark, one of n, has read the verdict of q
-abbrev pub HasReadVerdict : ℕ → ℕ → Mark → Type 0
-HasReadVerdict n q m = 2 + n + q < m.taken
+abbrev pub HasReadSecond : ℕ → ℕ → Mark → Type 0
+HasReadSecond n q m = 2 + n + q < m.taken
 
 -- two processes that read each other's proposal and still agree have the same input
 abbrev pub AgreeAlike : ℕ → ℕ → ℕ → Mark → Mark → Type 0
-AgreeAlike n p q x y = p < n → q < n → HasReadProposal q x → HasReadProposal p y → x.agreed ≡ 1 → y.agreed ≡ 1 → x.value ≡ y.value
+AgreeAlike n p q x y = p < n → q < n → HasReadFirst q x → HasReadFirst p y → x.agreed ≡ 1 → y.agreed ≡ 1 → x.value ≡ y.value
 
 -- of two processes that read each other's verdict, where p stored a commit and saw nothing but commits, q saw a commit or
 -- stored one
 abbrev pub MeetsCommit : ℕ → ℕ → ℕ → Mark → Mark → Type 0
-MeetsCommit n p q x y = p < n → q < n → HasReadVerdict n q x → HasReadVerdict n p y → x.agreed ≡ 1 → x.only ≡ 1 → (0 < y.commit) ⊎ (y.agreed ≡ 1)
+MeetsCommit n p q x y = p < n → q < n → HasReadSecond n q x → HasReadSecond n p y → x.agreed ≡ 1 → x.only ≡ 1 → (0 < y.commit) ⊎ (y.agreed ≡ 1)
 
 -- a process that read its own verdict saw what it is
 abbrev pub SeesOwn : ℕ → ℕ → Mark → Type 0
-SeesOwn n p x = p < n → HasReadVerdict n p x → (x.agreed ≡ 1 → 0 < x.commit) × (x.agreed ≡ 0 → x.only ≡ 0)
+SeesOwn n p x = p < n → HasReadSecond n p x → (x.agreed ≡ 1 → 0 < x.commit) × (x.agreed ≡ 0 → x.only ≡ 0)
 
 -- what holds of the marks of n processes
 pub record Holds (n : ℕ) (m : ℕ → Mark) : Type 0 where

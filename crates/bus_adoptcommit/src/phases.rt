@@ -3,9 +3,9 @@
 /// The next step. A number is that of the process whose word is loaded.
 #[derive(Clone, Copy, Debug, PartialEq, Eq)]
 pub enum Phase {
-    StoreProposal,
-    ReadProposal(u64),
-    StoreVerdict,
-    ReadVerdict(u64),
+    WriteFirst,
+    ReadFirst(u64),
+    WriteSecond,
+    ReadSecond(u64),
     Ended,
 }

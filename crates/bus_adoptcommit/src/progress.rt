@@ -5,7 +5,7 @@
 pub enum Progress {
     /// It sets the word of its input.
     Bring,
-    ReadProposal,
+    ReadFirst,
     /// There is no proposal: it proposes its own value.
     Propose,
     /// It reads the word of the value that it does not prefer.

@@ -55,10 +55,10 @@ impl Machine for ThreeWord {
 
     fn kind(&self) -> Option<Kind> {
         match self.progress {
-            Progress::Bring => Some(Kind::StoreProposal),
-            Progress::ReadProposal => Some(Kind::ReadProposal),
-            Progress::Propose => Some(Kind::StoreVerdict),
-            Progress::ReadOther => Some(Kind::ReadVerdict),
+            Progress::Bring => Some(Kind::WriteFirst),
+            Progress::ReadFirst => Some(Kind::ReadFirst),
+            Progress::Propose => Some(Kind::WriteSecond),
+            Progress::ReadOther => Some(Kind::ReadSecond),
             Progress::Ended => None,
         }
     }
@@ -67,7 +67,7 @@ impl Machine for ThreeWord {
         let first = self.at.0;
         match self.progress {
             Progress::Bring => Some(Op::Store(Reg(first + u64::from(self.input)), 1)),
-            Progress::ReadProposal => Some(Op::Load(Reg(first + 2))),
+            Progress::ReadFirst => Some(Op::Load(Reg(first + 2))),
             Progress::Propose => { Some(Op::Store(Reg(first + 2), 1 + u64::from(self.preference))) }
             Progress::ReadOther => Some(Op::Load(Reg(first + u64::from(!self.preference)))),
             Progress::Ended => None,
@@ -76,8 +76,8 @@ impl Machine for ThreeWord {
 
     fn feed(&mut self, got: u64, _word: u32) {
         match self.progress {
-            Progress::Bring => self.progress = Progress::ReadProposal,
-            Progress::ReadProposal => {
+            Progress::Bring => self.progress = Progress::ReadFirst,
+            Progress::ReadFirst => {
                 if got == 0 {
                     self.progress = Progress::Propose;
                 } else {

@@ -94,25 +94,25 @@ impl Machine for TwoCollect {
 
     fn kind(&self) -> Option<Kind> {
         match self.phase {
-            Phase::StoreProposal => Some(Kind::StoreProposal),
-            Phase::ReadProposal(_) => Some(Kind::ReadProposal),
-            Phase::StoreVerdict => Some(Kind::StoreVerdict),
-            Phase::ReadVerdict(_) => Some(Kind::ReadVerdict),
+            Phase::WriteFirst => Some(Kind::WriteFirst),
+            Phase::ReadFirst(_) => Some(Kind::ReadFirst),
+            Phase::WriteSecond => Some(Kind::WriteSecond),
+            Phase::ReadSecond(_) => Some(Kind::ReadSecond),
             Phase::Ended => None,
         }
     }
 
     fn next(&self, _word: u32) -> Option<Op> {
         match self.phase {
-            Phase::StoreProposal => {
+            Phase::WriteFirst => {
                 let proposals = self.at.0;
                 Some(Op::Store(
                     Reg(proposals + u64::from(self.me.0)),
                     proposal_word(self.input),
                 ))
             }
-            Phase::ReadProposal(of) => Some(Op::Load(Reg(self.at.0 + of))),
-            Phase::StoreVerdict => {
+            Phase::ReadFirst(of) => Some(Op::Load(Reg(self.at.0 + of))),
+            Phase::WriteSecond => {
                 let verdicts = self.at.0 + self.n;
                 let verdict = if self.agreed {
                     Verdict::Commit(self.input)
@@ -121,33 +121,33 @@ impl Machine for TwoCollect {
                 };
                 Some(Op::Store(Reg(verdicts + u64::from(self.me.0)), verdict_word(verdict)))
             }
-            Phase::ReadVerdict(of) => Some(Op::Load(Reg(self.at.0 + self.n + of))),
+            Phase::ReadSecond(of) => Some(Op::Load(Reg(self.at.0 + self.n + of))),
             Phase::Ended => None,
         }
     }
 
     fn feed(&mut self, got: u64, _word: u32) {
         match self.phase {
-            Phase::StoreProposal => self.phase = Phase::ReadProposal(0),
-            Phase::ReadProposal(of) => {
+            Phase::WriteFirst => self.phase = Phase::ReadFirst(0),
+            Phase::ReadFirst(of) => {
                 if got != 0 && got != proposal_word(self.input) {
                     self.agreed = false;
                 }
                 self.phase = if of + 1 < self.n {
-                    Phase::ReadProposal(of + 1)
+                    Phase::ReadFirst(of + 1)
                 } else {
-                    Phase::StoreVerdict
+                    Phase::WriteSecond
                 };
             }
-            Phase::StoreVerdict => self.phase = Phase::ReadVerdict(0),
-            Phase::ReadVerdict(of) => {
+            Phase::WriteSecond => self.phase = Phase::ReadSecond(0),
+            Phase::ReadSecond(of) => {
                 match verdict_at(got) {
                     Some(Verdict::Adopt(_)) => self.only_commits = false,
                     Some(Verdict::Commit(value)) => self.commit = Some(value),
                     None => {}
                 }
                 self.phase = if of + 1 < self.n {
-                    Phase::ReadVerdict(of + 1)
+                    Phase::ReadSecond(of + 1)
                 } else {
                     Phase::Ended
                 };
@@ -179,7 +179,7 @@ impl Ratifier for TwoCollect {
             agreed: true,
             commit: None,
             only_commits: true,
-            phase: Phase::StoreProposal,
+            phase: Phase::WriteFirst,
         }
     }
 

@@ -45,10 +45,10 @@ module _ {E : Type 0} (v : Visitor E) where
 module _ {S : Type 0} (P : Protocol S Bool Verdict) (v : Visitor (Elector S)) where
   stands : (k : Kind) → IsOfElection k → HasCause P v k → StandsInside v
   stands kind.Announce i w = w.0
-  stands kind.StoreProposal i w = w.0
-  stands kind.ReadProposal i w = w.0
-  stands kind.StoreVerdict i w = w.0
-  stands kind.ReadVerdict i w = w.0
+  stands kind.WriteFirst i w = w.0
+  stands kind.ReadFirst i w = w.0
+  stands kind.WriteSecond i w = w.0
+  stands kind.ReadSecond i w = w.0
   stands kind.SetMark i w = w.0
   stands kind.ReadOtherMark i w = w.0
   stands kind.Vote i w = w.0

@@ -189,10 +189,10 @@ module _ {S : Type 0} (P : Protocol S Bool Verdict) (X : Election (Elector S)) (
   away_cause : (away : v.visit ≡ Away) → IsOutside v.core.phase → due X v ≡ Goes (situation_of X v.core) → (r : Kind) → HasCauseApart P v.core r → HasCause P v r
   away_cause away out d kind.LoadStage c = (away, c)
   away_cause away out d kind.Announce c = runs_not out c.tenure _ c.starts
-  away_cause away out d kind.StoreProposal c = runs_not out c.deciding.tenure c.deciding.election c.deciding.elects
-  away_cause away out d kind.ReadProposal c = runs_not out c.deciding.tenure c.deciding.election c.deciding.elects
-  away_cause away out d kind.StoreVerdict c = runs_not out c.deciding.tenure c.deciding.election c.deciding.elects
-  away_cause away out d kind.ReadVerdict c = runs_not out c.deciding.tenure c.deciding.election c.deciding.elects
+  away_cause away out d kind.WriteFirst c = runs_not out c.deciding.tenure c.deciding.election c.deciding.elects
+  away_cause away out d kind.ReadFirst c = runs_not out c.deciding.tenure c.deciding.election c.deciding.elects
+  away_cause away out d kind.WriteSecond c = runs_not out c.deciding.tenure c.deciding.election c.deciding.elects
+  away_cause away out d kind.ReadSecond c = runs_not out c.deciding.tenure c.deciding.election c.deciding.elects
   away_cause away out d kind.SetMark c = runs_not out c.deciding.tenure c.deciding.election c.deciding.elects
   away_cause away out d kind.ReadOtherMark c = runs_not out c.deciding.tenure c.deciding.election c.deciding.elects
   away_cause away out d kind.Vote c = runs_not out c.asks.deciding.tenure c.asks.deciding.election c.asks.deciding.elects
@@ -221,10 +221,10 @@ module _ {S : Type 0} (P : Protocol S Bool Verdict) (X : Election (Elector S)) (
       by : (r : Kind) → HasCauseApart P v.core r → HasCause P v r
       by kind.LoadStage c = absurd (let bad = sym i.is ∙ c.rests in cc)
       by kind.Announce c = (stands, c)
-      by kind.StoreProposal c = (stands, c)
-      by kind.ReadProposal c = (stands, c)
-      by kind.StoreVerdict c = (stands, c)
-      by kind.ReadVerdict c = (stands, c)
+      by kind.WriteFirst c = (stands, c)
+      by kind.ReadFirst c = (stands, c)
+      by kind.WriteSecond c = (stands, c)
+      by kind.ReadSecond c = (stands, c)
       by kind.SetMark c = (stands, c)
       by kind.ReadOtherMark c = (stands, c)
       by kind.Vote c = (stands, c)

@@ -16,10 +16,10 @@ use Rattle.bus_guest.specs.Turns.{Visitor, sizes_of}
 -- a step of an election, or the one that takes the page
 abbrev pub IsOfElection : Kind → Type 0
 IsOfElection kind.Announce = Unit {0}
-IsOfElection kind.StoreProposal = Unit {0}
-IsOfElection kind.ReadProposal = Unit {0}
-IsOfElection kind.StoreVerdict = Unit {0}
-IsOfElection kind.ReadVerdict = Unit {0}
+IsOfElection kind.WriteFirst = Unit {0}
+IsOfElection kind.ReadFirst = Unit {0}
+IsOfElection kind.WriteSecond = Unit {0}
+IsOfElection kind.ReadSecond = Unit {0}
 IsOfElection kind.SetMark = Unit {0}
 IsOfElection kind.ReadOtherMark = Unit {0}
 IsOfElection kind.Vote = Unit {0}

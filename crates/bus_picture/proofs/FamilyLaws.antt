@@ -8,10 +8,10 @@ use Rattle.bus_picture.specs.Families.{family_of, family_at}
 pub has_family : (k : Kind) → family_of (kind_name k) ≡ Some (family_at k)
 has_family kind.LoadStage = refl
 has_family kind.Announce = refl
-has_family kind.StoreProposal = refl
-has_family kind.ReadProposal = refl
-has_family kind.StoreVerdict = refl
-has_family kind.ReadVerdict = refl
+has_family kind.WriteFirst = refl
+has_family kind.ReadFirst = refl
+has_family kind.WriteSecond = refl
+has_family kind.ReadSecond = refl
 has_family kind.SetMark = refl
 has_family kind.ReadOtherMark = refl
 has_family kind.Vote = refl

@@ -12,10 +12,10 @@ abbrev pub is_one_of : List (List ℕ) → List ℕ → Bool
 is_one_of texts text = list_any (λ one. bytes_eq text one) texts
 
 abbrev pub looks : List (List ℕ)
-looks = codes "LoadStage" ∷ codes "ReadProposal" ∷ codes "ReadVerdict" ∷ codes "ReadOtherMark" ∷ codes "ReadVotes" ∷ codes "ReadAnnouncement" ∷ codes "LoadLength" ∷ codes "LoadLogWord" ∷ codes "LoadStageAgain" ∷ codes "ReadPresence" ∷ []
+looks = codes "LoadStage" ∷ codes "ReadFirst" ∷ codes "ReadSecond" ∷ codes "ReadOtherMark" ∷ codes "ReadVotes" ∷ codes "ReadAnnouncement" ∷ codes "LoadLength" ∷ codes "LoadLogWord" ∷ codes "LoadStageAgain" ∷ codes "ReadPresence" ∷ []
 
 abbrev pub stores : List (List ℕ)
-stores = codes "Announce" ∷ codes "StoreProposal" ∷ codes "StoreVerdict" ∷ codes "SetMark" ∷ codes "StoreLogWord" ∷ codes "StoreLength" ∷ codes "Enter" ∷ codes "Withdraw" ∷ codes "ClearRow" ∷ []
+stores = codes "Announce" ∷ codes "WriteFirst" ∷ codes "WriteSecond" ∷ codes "SetMark" ∷ codes "StoreLogWord" ∷ codes "StoreLength" ∷ codes "Enter" ∷ codes "Withdraw" ∷ codes "ClearRow" ∷ []
 
 -- the family of what stands in the column of kinds, where that is a kind's name, a call's or a dash
 abbrev pub family_of : List ℕ → Option Family
@@ -42,10 +42,10 @@ mark_name family.Nothing = codes "nothing"
 abbrev pub family_at : Kind → Family
 family_at kind.LoadStage = family.Look
 family_at kind.Announce = family.Store
-family_at kind.StoreProposal = family.Store
-family_at kind.ReadProposal = family.Look
-family_at kind.StoreVerdict = family.Store
-family_at kind.ReadVerdict = family.Look
+family_at kind.WriteFirst = family.Store
+family_at kind.ReadFirst = family.Look
+family_at kind.WriteSecond = family.Store
+family_at kind.ReadSecond = family.Look
 family_at kind.SetMark = family.Store
 family_at kind.ReadOtherMark = family.Look
 family_at kind.Vote = family.Add

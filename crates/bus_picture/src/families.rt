@@ -28,8 +28,8 @@ pub fn family_of(kind: &str) -> Option<Family>
 {
     match kind {
         "LoadStage"
-        | "ReadProposal"
-        | "ReadVerdict"
+        | "ReadFirst"
+        | "ReadSecond"
         | "ReadOtherMark"
         | "ReadVotes"
         | "ReadAnnouncement"
@@ -38,8 +38,8 @@ pub fn family_of(kind: &str) -> Option<Family>
         | "LoadStageAgain"
         | "ReadPresence" => { Some(Family::Look) }
         "Announce"
-        | "StoreProposal"
-        | "StoreVerdict"
+        | "WriteFirst"
+        | "WriteSecond"
         | "SetMark"
         | "StoreLogWord"
         | "StoreLength"

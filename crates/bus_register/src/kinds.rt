@@ -11,18 +11,18 @@ pub enum Kind {
     LoadStage,
     /// A sender stores 1 in its announcement, in the row of the tenure that it has begun.
     Announce,
-    /// The first step of a ratifier. Of two collects: a sender stores its proposal, 1 more than its
-    /// bit. Of three words: it sets the word of its bit.
-    StoreProposal,
-    /// After `StoreProposal`. Of two collects: a sender loads the proposals in rising order. Of
-    /// three words: it loads the proposal.
-    ReadProposal,
-    /// After all `ReadProposal`. Of two collects: a sender stores its verdict. Of three words: it
-    /// stores a proposal where it found none, 1 more than its bit.
-    StoreVerdict,
-    /// The last steps of a ratifier. Of two collects: a sender loads the verdicts in rising order.
-    /// Of three words: it loads the word of the bit that it does not prefer.
-    ReadVerdict,
+    /// The first phase of a ratifier: a sender writes what it brings. Of two collects that is its
+    /// proposal, 1 more than its bit; of three words it sets the word of its bit.
+    WriteFirst,
+    /// After `WriteFirst`: a sender reads what was written. Of two collects it loads the proposals
+    /// in rising order; of three words it loads the proposal.
+    ReadFirst,
+    /// The second phase of a ratifier, after all `ReadFirst`. Of two collects a sender stores its
+    /// verdict; of three words it stores a proposal where it found none, 1 more than its bit.
+    WriteSecond,
+    /// The last steps of a ratifier. Of two collects a sender loads the verdicts in rising order;
+    /// of three words it loads the word of the bit that it does not prefer.
+    ReadSecond,
     /// The first step of a conciliator: a sender sets the mark of its bit.
     SetMark,
     /// After `SetMark`: a sender loads the mark of the other bit.
@@ -73,10 +73,10 @@ impl Kind {
         match self {
             Kind::LoadStage => "LoadStage",
             Kind::Announce => "Announce",
-            Kind::StoreProposal => "StoreProposal",
-            Kind::ReadProposal => "ReadProposal",
-            Kind::StoreVerdict => "StoreVerdict",
-            Kind::ReadVerdict => "ReadVerdict",
+            Kind::WriteFirst => "WriteFirst",
+            Kind::ReadFirst => "ReadFirst",
+            Kind::WriteSecond => "WriteSecond",
+            Kind::ReadSecond => "ReadSecond",
             Kind::SetMark => "SetMark",
             Kind::ReadOtherMark => "ReadOtherMark",
             Kind::Vote => "Vote",

@@ -2,7 +2,7 @@
 use Rattle.std.proofs.Common.{◌≡◌, ℕ, ◌≤◌, ◌⊎◌, inl, inr, Bool, true, false, cond, Option, Some, None, IfSome, is_some, nat_lt, arith, refl, sym, ◌∙◌, ap, subst}
 use Rattle.std.proofs.lemmas.Bool.{leb-true, leb-false, ltb-true, ltb-false, true≢false}
 use Rattle.bus_register.specs.declared.kinds.Kind.{Kind}
-use Rattle.bus_register.specs.declared.kinds.Kind.TheVariants.{StoreProposal, ReadProposal, StoreVerdict, ReadVerdict}
+use Rattle.bus_register.specs.declared.kinds.Kind.TheVariants.{WriteFirst, ReadFirst, WriteSecond, ReadSecond}
 use Rattle.bus_register.specs.declared.registers.Op.{Op}
 use Rattle.bus_register.specs.Protocol.{Protocol}
 use Rattle.bus_adoptcommit.specs.declared.verdicts.Verdict.{Verdict}
@@ -99,14 +99,14 @@ module _ {E : Type 0} (c : Core E) (t : ℕ) (page : Page) (stored : ℕ) (publi
 -- ---- a ratifier
 -- a kind of a ratifier that stands to what its local state has begun: only the first step stores a proposal
 abbrev pub IsTimely : {S : Type 0} → Protocol S Bool Verdict → S → Kind → Type 0
-IsTimely P s k = ((k ≡ StoreProposal) × (P.has_begun s ≡ false)) ⊎ (((k ≡ ReadProposal) ⊎ ((k ≡ StoreVerdict) ⊎ (k ≡ ReadVerdict))) × (P.has_begun s ≡ true))
+IsTimely P s k = ((k ≡ WriteFirst) × (P.has_begun s ≡ false)) ⊎ (((k ≡ ReadFirst) ⊎ ((k ≡ WriteSecond) ⊎ (k ≡ ReadSecond))) × (P.has_begun s ≡ true))
 
 -- a kind comes with a step
 named_step : (kind : Option Kind) (op : Option Op) (k : Kind) → is_some kind ≡ is_some op → kind ≡ Some k → (o : Op) × (op ≡ Some o)
 named_step kind (Some o) k e is = (o, refl)
 named_step kind None k e is = absurd (true≢false (sym (ap is_some is) ∙ e))
 
-later : (k : Kind) (begun : Bool) → (begun ≡ false → k ≡ StoreProposal) → (k ≡ StoreProposal → ⊥) → begun ≡ true
+later : (k : Kind) (begun : Bool) → (begun ≡ false → k ≡ WriteFirst) → (k ≡ WriteFirst → ⊥) → begun ≡ true
 later k true first ne = refl
 later k false first ne = absurd (ne (first refl))
 

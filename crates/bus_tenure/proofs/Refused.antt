@@ -41,9 +41,9 @@ module _ {S : Type 0} (P : Protocol S Bool Verdict) where
     resting_stores = λ c rests h. let x = h.holds.holds in absurd cc;
     resting_falls_back = λ c rests h. let x = h.deciding.elects in absurd cc;
     ended_publishes = λ c tenure page stored at ended h. let x = h.holds.holds in let y = h.holds.not_ended in absurd cc;
-    unbrought_reads_proposal = λ c is h. not_both P c h is;
-    unbrought_stores_verdict = λ c is h. not_both P c h is;
-    unbrought_reads_verdict = λ c is h. not_both P c h is;
+    unbrought_reads_first = λ c is h. not_both P c h is;
+    unbrought_writes_second = λ c is h. not_both P c h is;
+    unbrought_reads_second = λ c is h. not_both P c h is;
     brings_again = λ c is h. not_both P c is h;
     unmarked_reads = λ c is h. let x = same_stage c _ _ is h in absurd cc;
     unread_votes = λ c is h. let x = same_stage c _ _ is h.asks in absurd cc;

@@ -134,10 +134,10 @@ pub record HasHandedOn {E : Type 0} (c : Core E) : Type 0 where
 abbrev pub HasCause : {S : Type 0} → Protocol S Bool Verdict → Core (Elector S) → Kind → Type 0
 HasCause P c kind.LoadStage = LooksForTenure c
 HasCause P c kind.Announce = BeginsElection P c
-HasCause P c kind.StoreProposal = IsInRatifier P c false
-HasCause P c kind.ReadProposal = IsInRatifier P c true
-HasCause P c kind.StoreVerdict = IsInRatifier P c true
-HasCause P c kind.ReadVerdict = IsInRatifier P c true
+HasCause P c kind.WriteFirst = IsInRatifier P c false
+HasCause P c kind.ReadFirst = IsInRatifier P c true
+HasCause P c kind.WriteSecond = IsInRatifier P c true
+HasCause P c kind.ReadSecond = IsInRatifier P c true
 HasCause P c kind.SetMark = IsInConciliator c SetMark
 HasCause P c kind.ReadOtherMark = IsInConciliator c ReadOtherMark
 HasCause P c kind.Vote = AsksCoin c Vote

@@ -22,11 +22,11 @@ pub record RefusesCauses {S : Type 0} (P : Protocol S Bool Verdict) : Type 0 whe
   pub ended_publishes : (c : Core (Elector S)) (tenure : ℕ) (page : Page) (stored : ℕ)
       → c.phase ≡ Holding tenure page stored false → page.ended ≡ true → ¬ HasCause P c kind.StoreLength
   -- it has brought nothing to a ratifier, and reads there, or stores a verdict
-  pub unbrought_reads_proposal : (c : Core (Elector S)) → IsInRatifier P c false → ¬ HasCause P c kind.ReadProposal
-  pub unbrought_stores_verdict : (c : Core (Elector S)) → IsInRatifier P c false → ¬ HasCause P c kind.StoreVerdict
-  pub unbrought_reads_verdict : (c : Core (Elector S)) → IsInRatifier P c false → ¬ HasCause P c kind.ReadVerdict
+  pub unbrought_reads_first : (c : Core (Elector S)) → IsInRatifier P c false → ¬ HasCause P c kind.ReadFirst
+  pub unbrought_writes_second : (c : Core (Elector S)) → IsInRatifier P c false → ¬ HasCause P c kind.WriteSecond
+  pub unbrought_reads_second : (c : Core (Elector S)) → IsInRatifier P c false → ¬ HasCause P c kind.ReadSecond
   -- it has brought its bit to a ratifier, and stores a proposal again
-  pub brings_again : (c : Core (Elector S)) → IsInRatifier P c true → ¬ HasCause P c kind.StoreProposal
+  pub brings_again : (c : Core (Elector S)) → IsInRatifier P c true → ¬ HasCause P c kind.WriteFirst
   -- it has not set its mark, and loads the other one
   pub unmarked_reads : (c : Core (Elector S)) → IsInConciliator c SetMark → ¬ HasCause P c kind.ReadOtherMark
   -- it has not loaded the other mark, and votes

@@ -46,10 +46,10 @@ plain_tenure (Some t) = plain_decimal t
 plain_kind : (k : Kind) → IsPlain (kind_name k)
 plain_kind kind.LoadStage = plain_by (codes "LoadStage") refl
 plain_kind kind.Announce = plain_by (codes "Announce") refl
-plain_kind kind.StoreProposal = plain_by (codes "StoreProposal") refl
-plain_kind kind.ReadProposal = plain_by (codes "ReadProposal") refl
-plain_kind kind.StoreVerdict = plain_by (codes "StoreVerdict") refl
-plain_kind kind.ReadVerdict = plain_by (codes "ReadVerdict") refl
+plain_kind kind.WriteFirst = plain_by (codes "WriteFirst") refl
+plain_kind kind.ReadFirst = plain_by (codes "ReadFirst") refl
+plain_kind kind.WriteSecond = plain_by (codes "WriteSecond") refl
+plain_kind kind.ReadSecond = plain_by (codes "ReadSecond") refl
 plain_kind kind.SetMark = plain_by (codes "SetMark") refl
 plain_kind kind.ReadOtherMark = plain_by (codes "ReadOtherMark") refl
 plain_kind kind.Vote = plain_by (codes "Vote") refl

@@ -70,10 +70,10 @@ fn a_holder_waits_behind(rt: HostRuntime) {
          7\t5\tsender 0\t0\tEnter\tpresence 0\t0\t1\tgoing\n\
          8\t5\tsender 0\t0\tLoadStageAgain\tstage\t0\t0\tgoing\n\
          9\t5\tsender 0\t0\tAnnounce\trow 0 announcement 0\t0\t1\tgoing\n\
-         10\t5\tsender 0\t0\tStoreProposal\trow 0 bit 0 round 1 input 0\t0\t1\tgoing\n\
-         11\t5\tsender 0\t0\tReadProposal\trow 0 bit 0 round 1 proposal\t0\t0\tgoing\n\
-         12\t5\tsender 0\t0\tStoreVerdict\trow 0 bit 0 round 1 proposal\t0\t1\tgoing\n\
-         13\t5\tsender 0\t0\tReadVerdict\trow 0 bit 0 round 1 input 1\t0\t0\tgoing\n\
+         10\t5\tsender 0\t0\tWriteFirst\trow 0 bit 0 round 1 input 0\t0\t1\tgoing\n\
+         11\t5\tsender 0\t0\tReadFirst\trow 0 bit 0 round 1 proposal\t0\t0\tgoing\n\
+         12\t5\tsender 0\t0\tWriteSecond\trow 0 bit 0 round 1 proposal\t0\t1\tgoing\n\
+         13\t5\tsender 0\t0\tReadSecond\trow 0 bit 0 round 1 input 1\t0\t0\tgoing\n\
          14\t5\tsender 0\t0\tTakePage\tstage\t0\t1\town 0\n\
          15\t6\tsender 0\t0\tWithdraw\tpresence 0\t1\t0\tgoing\n\
          16\t6\tsender 0\t0\tStoreLogWord\tlog 0\t0\t4611688217450643456\tgoing\n\
@@ -86,10 +86,10 @@ fn a_holder_waits_behind(rt: HostRuntime) {
          23\t8\tsender 0\t1\tEnter\tpresence 0\t0\t2\tgoing\n\
          24\t8\tsender 0\t1\tLoadStageAgain\tstage\t2\t2\tgoing\n\
          25\t8\tsender 0\t1\tAnnounce\trow 1 announcement 0\t0\t1\tgoing\n\
-         26\t8\tsender 0\t1\tStoreProposal\trow 1 bit 0 round 1 input 0\t0\t1\tgoing\n\
-         27\t8\tsender 0\t1\tReadProposal\trow 1 bit 0 round 1 proposal\t0\t0\tgoing\n\
-         28\t8\tsender 0\t1\tStoreVerdict\trow 1 bit 0 round 1 proposal\t0\t1\tgoing\n\
-         29\t8\tsender 0\t1\tReadVerdict\trow 1 bit 0 round 1 input 1\t0\t0\tgoing\n\
+         26\t8\tsender 0\t1\tWriteFirst\trow 1 bit 0 round 1 input 0\t0\t1\tgoing\n\
+         27\t8\tsender 0\t1\tReadFirst\trow 1 bit 0 round 1 proposal\t0\t0\tgoing\n\
+         28\t8\tsender 0\t1\tWriteSecond\trow 1 bit 0 round 1 proposal\t0\t1\tgoing\n\
+         29\t8\tsender 0\t1\tReadSecond\trow 1 bit 0 round 1 input 1\t0\t0\tgoing\n\
          30\t8\tsender 0\t1\tTakePage\tstage\t2\t3\town 1\n\
          31\t9\tsender 0\t1\tWithdraw\tpresence 0\t2\t0\tgoing\n\
          32\t9\tsender 0\t1\tStoreLogWord\tlog 3\t0\t4611688217450643457\tgoing\n\
@@ -99,9 +99,9 @@ fn a_holder_waits_behind(rt: HostRuntime) {
          36\t9\tsender 0\t1\tReadPresence\tpresence 0\t0\t0\tgoing\n\
          37\t9\tsender 0\t1\tReadPresence\tpresence 1\t1\t1\tbehind 0 1\n\
          38\t10\tsender 1\t0\tAnnounce\trow 0 announcement 1\t0\t1\tgoing\n\
-         39\t10\tsender 1\t0\tStoreProposal\trow 0 bit 0 round 1 input 1\t0\t1\tgoing\n\
-         40\t10\tsender 1\t0\tReadProposal\trow 0 bit 0 round 1 proposal\t1\t1\tgoing\n\
-         41\t10\tsender 1\t0\tReadVerdict\trow 0 bit 0 round 1 input 1\t1\t1\tgoing\n\
+         39\t10\tsender 1\t0\tWriteFirst\trow 0 bit 0 round 1 input 1\t0\t1\tgoing\n\
+         40\t10\tsender 1\t0\tReadFirst\trow 0 bit 0 round 1 proposal\t1\t1\tgoing\n\
+         41\t10\tsender 1\t0\tReadSecond\trow 0 bit 0 round 1 input 1\t1\t1\tgoing\n\
          42\t10\tsender 1\t0\tFallback\trow 0 bit 0 fallback\t0\t1\tgoing\n\
          43\t10\tsender 1\t0\tWithdraw\tpresence 1\t1\t0\tlost 0 0\n\
          44\t11\tsender 0\t1\tReadPresence\tpresence 1\t0\t0\tgoing\n\

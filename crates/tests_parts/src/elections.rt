@@ -72,7 +72,7 @@ fn steps_of_decisions<Q: Ratifier + Drop>(rt: &impl Abort, alloc: Global) -> (u6
     let width = Decide::<Q>::width(2, 1);
     let mut cells = Cells::new(alloc, width).expect(rt, "memory");
     let mut first = Decide::<Q>::start(2, SenderNo(0), false, 1, Reg(0));
-    assert!(rt; first.kind() == Some(Kind::StoreProposal) && !first.wants_word());
+    assert!(rt; first.kind() == Some(Kind::WriteFirst) && !first.wants_word());
     let alone = run(rt, &mut cells, &mut first);
     assert!(rt; first.decided() == Some(false));
     let mut second = Decide::<Q>::start(2, SenderNo(1), true, 1, Reg(0));
@@ -161,7 +161,7 @@ impl Reached {
     fn count_step(&mut self, before: &Sender, after: &Sender) {
         match before.act {
             Act::Vote => add_one(&mut self.votes),
-            Act::ReadVotes if after.act == Act::StoreProposal => {
+            Act::ReadVotes if after.act == Act::WriteFirst => {
                 if after.votes < 64 {
                     add_one(&mut self.answers);
                 } else {

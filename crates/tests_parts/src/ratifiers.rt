@@ -100,14 +100,14 @@ fn steps_of_one_process(rt: HostRuntime) {
     assert_eq!(rt; TwoCollect::steps(3), 8);
     let mut process = TwoCollect::start(3, SenderNo(1), true, Reg(10));
     let steps = [
-        (Kind::StoreProposal, Op::Store(Reg(11), 2), 0),
-        (Kind::ReadProposal, Op::Load(Reg(10)), 0),
-        (Kind::ReadProposal, Op::Load(Reg(11)), 2),
-        (Kind::ReadProposal, Op::Load(Reg(12)), 1),
-        (Kind::StoreVerdict, Op::Store(Reg(14), 2), 0),
-        (Kind::ReadVerdict, Op::Load(Reg(13)), 0),
-        (Kind::ReadVerdict, Op::Load(Reg(14)), 2),
-        (Kind::ReadVerdict, Op::Load(Reg(15)), 3),
+        (Kind::WriteFirst, Op::Store(Reg(11), 2), 0),
+        (Kind::ReadFirst, Op::Load(Reg(10)), 0),
+        (Kind::ReadFirst, Op::Load(Reg(11)), 2),
+        (Kind::ReadFirst, Op::Load(Reg(12)), 1),
+        (Kind::WriteSecond, Op::Store(Reg(14), 2), 0),
+        (Kind::ReadSecond, Op::Load(Reg(13)), 0),
+        (Kind::ReadSecond, Op::Load(Reg(14)), 2),
+        (Kind::ReadSecond, Op::Load(Reg(15)), 3),
     ];
     for (kind, op, got) in steps {
         assert_eq!(rt; process.output(), None);

@@ -5,7 +5,7 @@ use Rattle.bus_register.specs.declared.kinds.Kind.TheVariants as kind
 use Rattle.bus_adoptcommit.specs.Kinds.{IsStoring, IsReading, ComesAfter}
 
 -- a kind that reads does not store
-pub not_storing : (k : Kind) → (k ≡ kind.ReadProposal) ⊎ (k ≡ kind.ReadVerdict) → IsStoring k → ⊥
+pub not_storing : (k : Kind) → (k ≡ kind.ReadFirst) ⊎ (k ≡ kind.ReadSecond) → IsStoring k → ⊥
 not_storing k (inl e) (inl w) = let z = sym e ∙ w in cc
 not_storing k (inl e) (inr w) = let z = sym e ∙ w in cc
 not_storing k (inr e) (inl w) = let z = sym e ∙ w in cc
@@ -16,11 +16,11 @@ not_reading k w (inl e) = not_storing k (inl e) w
 not_reading k w (inr e) = not_storing k (inr e) w
 
 -- what comes after k
-pub to_read_proposal : (k next : Kind) → (k ≡ kind.StoreProposal) ⊎ (k ≡ kind.ReadProposal) → kind.ReadProposal ≡ next → ComesAfter k next
-to_read_proposal k next from is = record { reads_proposals = λ w. from; stores_verdict = λ w. absurd (let z = is ∙ w in cc); reads_verdicts = λ w. absurd (let z = is ∙ w in cc) }
+pub to_read_first : (k next : Kind) → (k ≡ kind.WriteFirst) ⊎ (k ≡ kind.ReadFirst) → kind.ReadFirst ≡ next → ComesAfter k next
+to_read_first k next from is = record { reads_first = λ w. from; writes_second = λ w. absurd (let z = is ∙ w in cc); reads_second = λ w. absurd (let z = is ∙ w in cc) }
 
-pub to_store_verdict : (k next : Kind) → k ≡ kind.ReadProposal → kind.StoreVerdict ≡ next → ComesAfter k next
-to_store_verdict k next from is = record { reads_proposals = λ w. absurd (let z = is ∙ w in cc); stores_verdict = λ w. from; reads_verdicts = λ w. absurd (let z = is ∙ w in cc) }
+pub to_write_second : (k next : Kind) → k ≡ kind.ReadFirst → kind.WriteSecond ≡ next → ComesAfter k next
+to_write_second k next from is = record { reads_first = λ w. absurd (let z = is ∙ w in cc); writes_second = λ w. from; reads_second = λ w. absurd (let z = is ∙ w in cc) }
 
-pub to_read_verdict : (k next : Kind) → k ≢ kind.StoreProposal → kind.ReadVerdict ≡ next → ComesAfter k next
-to_read_verdict k next from is = record { reads_proposals = λ w. absurd (let z = is ∙ w in cc); stores_verdict = λ w. absurd (let z = is ∙ w in cc); reads_verdicts = λ w. from }
+pub to_read_second : (k next : Kind) → k ≢ kind.WriteFirst → kind.ReadSecond ≡ next → ComesAfter k next
+to_read_second k next from is = record { reads_first = λ w. absurd (let z = is ∙ w in cc); writes_second = λ w. absurd (let z = is ∙ w in cc); reads_second = λ w. from }

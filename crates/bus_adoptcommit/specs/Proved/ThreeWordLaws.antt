@@ -9,7 +9,7 @@ use Rattle.bus_register.specs.Protocol.{Laws, counted_input, inputs, outputs}
 use Rattle.bus_register.specs.Proved.TableLaws.{some_of}
 use Rattle.bus_register.specs.Tables.{of_some, Beside, Agree}
 use Rattle.bus_adoptcommit.specs.declared.progress.Progress.{Progress}
-use Rattle.bus_adoptcommit.specs.declared.progress.Progress.TheVariants.{Bring, ReadProposal, Propose, ReadOther, Ended}
+use Rattle.bus_adoptcommit.specs.declared.progress.Progress.TheVariants.{Bring, ReadFirst, Propose, ReadOther, Ended}
 use Rattle.bus_adoptcommit.specs.declared.verdicts.Verdict.{Verdict}
 use Rattle.bus_adoptcommit.specs.declared.verdicts.Verdict.TheVariants.{Commit}
 use Rattle.bus_adoptcommit.specs.Agreement.{value_of, IsValid, IsConvergent, IsCoherent, Legal}
@@ -90,7 +90,7 @@ module _ (n at : ℕ) (words words' : ℕ → ℕ) (old new : ℕ → Option Loc
 -- ── what follows ──
 output_ended : (pr : Progress) (s : Local) (d : Verdict) → output_at pr s ≡ Some d → (3 < behind pr) × (verdict_of s.unopposed s.preference ≡ d)
 output_ended Bring s d e = absurd cc
-output_ended ReadProposal s d e = absurd cc
+output_ended ReadFirst s d e = absurd cc
 output_ended Propose s d e = absurd cc
 output_ended ReadOther s d e = absurd cc
 output_ended Ended s d e = (omega arith, same_Some _ _ e)

@@ -10,7 +10,7 @@ use Rattle.bus_register.specs.Tables.{Beside, Stepped}
 use Rattle.bus_register.specs.Digits.{digit}
 use Rattle.bus_register.proofs.DigitLaws.{digit_le}
 use Rattle.bus_adoptcommit.specs.declared.progress.Progress.{Progress}
-use Rattle.bus_adoptcommit.specs.declared.progress.Progress.TheVariants.{Bring, ReadProposal, Propose, ReadOther, Ended}
+use Rattle.bus_adoptcommit.specs.declared.progress.Progress.TheVariants.{Bring, ReadFirst, Propose, ReadOther, Ended}
 use Rattle.bus_adoptcommit.specs.ThreeWord.{Local, op_at, op_of, fed_at, fed_of, behind}
 use Rattle.bus_adoptcommit.specs.ThreeWordKeeps.{Belongs, HasBegun, HasLooked, HasProposed, HasEnded, HasCommitted, IsBrought, IsProposal, Keeps}
 use Rattle.bus_adoptcommit.specs.Proved.ThreeWordStepLaws.{Advances, advances_at, goes_of}
@@ -91,7 +91,7 @@ module _ (s : Local) (words words' : ℕ → ℕ) (o : Op) (step : Stepped s.at 
     values_stay v = let l = digit_le v in same (s.at + digit v) (omega arith) (omega arith)
 
     -- it finds a proposal, or none
-    moved_read : (got : ℕ) → got ≡ words (s.at + 2) → (b : Bool) → (got == 0) ≡ b → Moved s.at words words' ReadProposal s (cond b (record s { progress = Propose }) (record s { preference = got == 2; progress = ReadOther }))
+    moved_read : (got : ℕ) → got ≡ words (s.at + 2) → (b : Bool) → (got == 0) ≡ b → Moved s.at words words' ReadFirst s (cond b (record s { progress = Propose }) (record s { preference = got == 2; progress = ReadOther }))
     moved_read got found true e = record {
       sets = λ h. absurd (omega arith);
       stays = λ v h. let z = values_stay v in omega arith;
@@ -148,7 +148,7 @@ module _ (s : Local) (words words' : ℕ → ℕ) (o : Op) (step : Stepped s.at 
   -- the step at each point
   pub moved_at : (pr : Progress) (got : ℕ) → got ≡ words (register o) → op_at pr s ≡ Some o → Moved s.at words words' pr s (fed_at pr s got)
   moved_at Bring got found e = moved_bring got (sym (same_Some _ _ e))
-  moved_at ReadProposal got found e = let i = sym (same_Some _ _ e) in moved_read (loads _ i) got (found ∙ ap (λ z. words (register z)) i) (got == 0) refl
+  moved_at ReadFirst got found e = let i = sym (same_Some _ _ e) in moved_read (loads _ i) got (found ∙ ap (λ z. words (register z)) i) (got == 0) refl
   moved_at Propose got found e = moved_propose got (sym (same_Some _ _ e))
   moved_at ReadOther got found e = let i = sym (same_Some _ _ e) in moved_other (loads _ i) got (found ∙ ap (λ z. words (register z)) i)
   moved_at Ended got found e = absurd cc

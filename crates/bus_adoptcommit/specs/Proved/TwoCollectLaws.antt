@@ -11,13 +11,13 @@ use Rattle.bus_register.specs.declared.registers.Op.{Op}
 use Rattle.bus_register.specs.Words.{SumFits}
 use Rattle.bus_register.specs.Protocol.{Laws, IsStore}
 use Rattle.bus_adoptcommit.specs.declared.phases.Phase.{Phase}
-use Rattle.bus_adoptcommit.specs.declared.phases.Phase.TheVariants.{StoreProposal, ReadProposal, StoreVerdict, ReadVerdict, Ended}
+use Rattle.bus_adoptcommit.specs.declared.phases.Phase.TheVariants.{WriteFirst, ReadFirst, WriteSecond, ReadSecond, Ended}
 use Rattle.bus_adoptcommit.specs.Agreement.{Legal}
 use Rattle.bus_adoptcommit.specs.Kinds.{IsOfRatifier, IsNamedFor, ComesAfter}
 use Rattle.bus_adoptcommit.specs.Plays.{IsExact}
 use Rattle.bus_adoptcommit.specs.TwoCollect.{Local, kind_at, op_at, op_of, fed_at, fed_of, taken_at}
 use Rattle.bus_adoptcommit.specs.TwoCollectKeeps.{Keeps, two_collect}
-use Rattle.bus_adoptcommit.specs.Proved.KindLaws.{not_storing, not_reading, to_read_proposal, to_store_verdict, to_read_verdict}
+use Rattle.bus_adoptcommit.specs.Proved.KindLaws.{not_storing, not_reading, to_read_first, to_write_second, to_read_second}
 use Rattle.bus_adoptcommit.specs.Proved.TwoCollectStepLaws.{goes_of, falls_of, ends_at, unended_at, none_left_at}
 use Rattle.bus_adoptcommit.specs.Proved.TwoCollectMoveLaws.{moves_keep}
 use Rattle.bus_adoptcommit.specs.Proved.TwoCollectStartLaws.{fresh_keep, enters_keep}
@@ -25,18 +25,18 @@ use Rattle.bus_adoptcommit.specs.Proved.TwoCollectOutcomeLaws.{keeps_legal}
 
 -- a kind is named exactly where there is a step
 pub named_at : (ph : Phase) (s : Local) → is_some (kind_at ph) ≡ is_some (op_at ph s)
-named_at StoreProposal s = refl
-named_at (ReadProposal of) s = refl
-named_at StoreVerdict s = refl
-named_at (ReadVerdict of) s = refl
+named_at WriteFirst s = refl
+named_at (ReadFirst of) s = refl
+named_at WriteSecond s = refl
+named_at (ReadSecond of) s = refl
 named_at Ended s = refl
 
 -- the kinds are those of a ratifier
 own_kinds_at : (ph : Phase) (k : Kind) → kind_at ph ≡ Some k → IsOfRatifier k
-own_kinds_at StoreProposal k e = inl (sym (same_Some _ _ e))
-own_kinds_at (ReadProposal of) k e = inr (inl (sym (same_Some _ _ e)))
-own_kinds_at StoreVerdict k e = inr (inr (inl (sym (same_Some _ _ e))))
-own_kinds_at (ReadVerdict of) k e = inr (inr (inr (sym (same_Some _ _ e))))
+own_kinds_at WriteFirst k e = inl (sym (same_Some _ _ e))
+own_kinds_at (ReadFirst of) k e = inr (inl (sym (same_Some _ _ e)))
+own_kinds_at WriteSecond k e = inr (inr (inl (sym (same_Some _ _ e))))
+own_kinds_at (ReadSecond of) k e = inr (inr (inr (sym (same_Some _ _ e))))
 own_kinds_at Ended k e = absurd cc
 
 pub own_kinds : (s : Local) (k : Kind) → kind_at s.phase ≡ Some k → IsOfRatifier k
@@ -50,34 +50,34 @@ true_apart : {A : Type 0} (b : Bool) → b ≡ true → b ≡ false → A
 true_apart b e f = absurd (true≢false (sym e ∙ f))
 
 pub named_for_at : (ph : Phase) (n : ℕ) (s : Local) (k : Kind) (o : Op) → kind_at ph ≡ Some k → op_at ph s ≡ Some o → IsNamedFor k o (nat_lt 0 (taken_at n ph))
-named_for_at StoreProposal n s k o e q =
+named_for_at WriteFirst n s k o e q =
     let is = same_Some _ _ e in
     record { stores = λ w. inl (sym is); storing = λ w. (_, _, sym (same_Some _ _ q)); reading = λ w. absurd (not_reading k (inl (sym is)) w); proposes = λ w. refl; first = λ w. sym is }
-named_for_at (ReadProposal of) n s k o e q =
-    let is = same_Some _ _ e in let begun = begun_one (taken_at n (ReadProposal of)) (omega arith) in
+named_for_at (ReadFirst of) n s k o e q =
+    let is = same_Some _ _ e in let begun = begun_one (taken_at n (ReadFirst of)) (omega arith) in
     record { stores = λ w. absurd (let z = same_Some _ _ q ∙ w.2 in cc); storing = λ w. absurd (not_storing k (inl (sym is)) w); reading = λ w. (_, sym (same_Some _ _ q)); proposes = λ w. absurd (let z = is ∙ w in cc); first = true_apart _ begun }
-named_for_at StoreVerdict n s k o e q =
-    let is = same_Some _ _ e in let begun = begun_one (taken_at n StoreVerdict) (omega arith) in
+named_for_at WriteSecond n s k o e q =
+    let is = same_Some _ _ e in let begun = begun_one (taken_at n WriteSecond) (omega arith) in
     record { stores = λ w. inr (sym is); storing = λ w. (_, _, sym (same_Some _ _ q)); reading = λ w. absurd (not_reading k (inr (sym is)) w); proposes = λ w. absurd (let z = is ∙ w in cc); first = true_apart _ begun }
-named_for_at (ReadVerdict of) n s k o e q =
-    let is = same_Some _ _ e in let begun = begun_one (taken_at n (ReadVerdict of)) (omega arith) in
+named_for_at (ReadSecond of) n s k o e q =
+    let is = same_Some _ _ e in let begun = begun_one (taken_at n (ReadSecond of)) (omega arith) in
     record { stores = λ w. absurd (let z = same_Some _ _ q ∙ w.2 in cc); storing = λ w. absurd (not_storing k (inr (sym is)) w); reading = λ w. (_, sym (same_Some _ _ q)); proposes = λ w. absurd (let z = is ∙ w in cc); first = true_apart _ begun }
 named_for_at Ended n s k o e q = absurd cc
 
 -- its kinds come in their order
-after_read : (more : Bool) (of : ℕ) (k next : Kind) → k ≡ kind.ReadProposal → kind_at (cond more (ReadProposal (of + 1)) StoreVerdict) ≡ Some next → ComesAfter k next
-after_read true of k next is e = to_read_proposal k next (inr is) (same_Some _ _ e)
-after_read false of k next is e = to_store_verdict k next is (same_Some _ _ e)
+after_read : (more : Bool) (of : ℕ) (k next : Kind) → k ≡ kind.ReadFirst → kind_at (cond more (ReadFirst (of + 1)) WriteSecond) ≡ Some next → ComesAfter k next
+after_read true of k next is e = to_read_first k next (inr is) (same_Some _ _ e)
+after_read false of k next is e = to_write_second k next is (same_Some _ _ e)
 
-after_last : (more : Bool) (of : ℕ) (k next : Kind) → k ≢ kind.StoreProposal → kind_at (cond more (ReadVerdict (of + 1)) Ended) ≡ Some next → ComesAfter k next
-after_last true of k next ne e = to_read_verdict k next ne (same_Some _ _ e)
+after_last : (more : Bool) (of : ℕ) (k next : Kind) → k ≢ kind.WriteFirst → kind_at (cond more (ReadSecond (of + 1)) Ended) ≡ Some next → ComesAfter k next
+after_last true of k next ne e = to_read_second k next ne (same_Some _ _ e)
 after_last false of k next ne e = absurd cc
 
 pub in_order_at : (ph : Phase) (s : Local) (got : ℕ) (k next : Kind) → kind_at ph ≡ Some k → kind_at (fed_at ph s got).phase ≡ Some next → ComesAfter k next
-in_order_at StoreProposal s got k next e f = to_read_proposal k next (inl (sym (same_Some _ _ e))) (same_Some _ _ f)
-in_order_at (ReadProposal of) s got k next e f = after_read (nat_lt (of + 1) s.n) of k next (sym (same_Some _ _ e)) f
-in_order_at StoreVerdict s got k next e f = to_read_verdict k next (λ w. let z = same_Some _ _ e ∙ w in cc) (same_Some _ _ f)
-in_order_at (ReadVerdict of) s got k next e f = after_last (nat_lt (of + 1) s.n) of k next (λ w. let z = same_Some _ _ e ∙ w in cc) f
+in_order_at WriteFirst s got k next e f = to_read_first k next (inl (sym (same_Some _ _ e))) (same_Some _ _ f)
+in_order_at (ReadFirst of) s got k next e f = after_read (nat_lt (of + 1) s.n) of k next (sym (same_Some _ _ e)) f
+in_order_at WriteSecond s got k next e f = to_read_second k next (λ w. let z = same_Some _ _ e ∙ w in cc) (same_Some _ _ f)
+in_order_at (ReadSecond of) s got k next e f = after_last (nat_lt (of + 1) s.n) of k next (λ w. let z = same_Some _ _ e ∙ w in cc) f
 in_order_at Ended s got k next e f = absurd cc
 
 -- it asks for no random word
@@ -86,18 +86,18 @@ wordless s = refl
 
 -- a store does not tell what it found
 blind_at : (ph : Phase) (s : Local) (got got' : ℕ) (o : Op) → op_at ph s ≡ Some o → IsStore o → fed_at ph s got ≡ fed_at ph s got'
-blind_at StoreProposal s got got' o e w = refl
-blind_at (ReadProposal of) s got got' o e w = absurd (let z = same_Some _ _ e ∙ w.2 in cc)
-blind_at StoreVerdict s got got' o e w = refl
-blind_at (ReadVerdict of) s got got' o e w = absurd (let z = same_Some _ _ e ∙ w.2 in cc)
+blind_at WriteFirst s got got' o e w = refl
+blind_at (ReadFirst of) s got got' o e w = absurd (let z = same_Some _ _ e ∙ w.2 in cc)
+blind_at WriteSecond s got got' o e w = refl
+blind_at (ReadSecond of) s got got' o e w = absurd (let z = same_Some _ _ e ∙ w.2 in cc)
 blind_at Ended s got got' o e w = refl
 
 -- no step is an addition
 fits_at : (ph : Phase) (s : Local) (o : Op) (found : ℕ) → op_at ph s ≡ Some o → SumFits o found
-fits_at StoreProposal s o found e = subst (λ z. SumFits z found) (same_Some _ _ e) tt
-fits_at (ReadProposal of) s o found e = subst (λ z. SumFits z found) (same_Some _ _ e) tt
-fits_at StoreVerdict s o found e = subst (λ z. SumFits z found) (same_Some _ _ e) tt
-fits_at (ReadVerdict of) s o found e = subst (λ z. SumFits z found) (same_Some _ _ e) tt
+fits_at WriteFirst s o found e = subst (λ z. SumFits z found) (same_Some _ _ e) tt
+fits_at (ReadFirst of) s o found e = subst (λ z. SumFits z found) (same_Some _ _ e) tt
+fits_at WriteSecond s o found e = subst (λ z. SumFits z found) (same_Some _ _ e) tt
+fits_at (ReadSecond of) s o found e = subst (λ z. SumFits z found) (same_Some _ _ e) tt
 fits_at Ended s o found e = absurd cc
 
 -- Gafni 1998: valid, convergent and coherent, over any order of the steps

@@ -6,7 +6,7 @@ use Rattle.bus_register.specs.declared.registers.Op.{Op}
 use Rattle.bus_register.specs.Words.{register, after}
 use Rattle.bus_register.specs.Digits.{digit}
 use Rattle.bus_adoptcommit.specs.declared.phases.Phase.{Phase}
-use Rattle.bus_adoptcommit.specs.declared.phases.Phase.TheVariants.{StoreProposal, ReadProposal, StoreVerdict, ReadVerdict, Ended}
+use Rattle.bus_adoptcommit.specs.declared.phases.Phase.TheVariants.{WriteFirst, ReadFirst, WriteSecond, ReadSecond, Ended}
 use Rattle.bus_register.specs.Tables.{Beside, Stepped}
 use Rattle.bus_adoptcommit.specs.TwoCollect.{Local, PhaseFits, verdict_code, first_verdict, op_at, op_of, fed_of, taken_at}
 use Rattle.bus_adoptcommit.specs.TwoCollectKeeps.{Belongs, Mark, mark, mark_of, proposal_word, verdict_word, Holds, Keeps}
@@ -33,10 +33,10 @@ verdict_stored false input = omega arith
 -- each step reads only, or stores the proposal, or the verdict
 writes_of : (ph : Phase) (s : Local) (o : Op) → PhaseFits s.n ph → op_at ph s ≡ Some o
     → ReadsOnly (taken_at s.n ph) s.n o ⊎ (((taken_at s.n ph ≡ 0) × WritesHere (s.at + s.me) (1 + digit s.input) o) ⊎ ((taken_at s.n ph ≡ 1 + s.n) × WritesHere (s.at + s.n + s.me) (1 + 2 * digit s.agreed + digit s.input) o))
-writes_of StoreProposal s o f e = inr (inl (refl, record { at = ap register (sym (same_Some _ _ e)); is = λ x. ap (λ z. after z x) (sym (same_Some _ _ e)) }))
-writes_of (ReadProposal of) s o f e = inl record { same = λ x. ap (λ z. after z x) (sym (same_Some _ _ e)); begun = omega arith; other = omega arith }
-writes_of StoreVerdict s o f e = inr (inr (refl, record { at = ap register (sym (same_Some _ _ e)); is = λ x. ap (λ z. after z x) (sym (same_Some _ _ e)) ∙ verdict_stored s.agreed s.input }))
-writes_of (ReadVerdict of) s o f e = inl record { same = λ x. ap (λ z. after z x) (sym (same_Some _ _ e)); begun = omega arith; other = omega arith }
+writes_of WriteFirst s o f e = inr (inl (refl, record { at = ap register (sym (same_Some _ _ e)); is = λ x. ap (λ z. after z x) (sym (same_Some _ _ e)) }))
+writes_of (ReadFirst of) s o f e = inl record { same = λ x. ap (λ z. after z x) (sym (same_Some _ _ e)); begun = omega arith; other = omega arith }
+writes_of WriteSecond s o f e = inr (inr (refl, record { at = ap register (sym (same_Some _ _ e)); is = λ x. ap (λ z. after z x) (sym (same_Some _ _ e)) ∙ verdict_stored s.agreed s.input }))
+writes_of (ReadSecond of) s o f e = inl record { same = λ x. ap (λ z. after z x) (sym (same_Some _ _ e)); begun = omega arith; other = omega arith }
 writes_of Ended s o f e = absurd cc
 
 module _ (n at : ℕ) (words words' : ℕ → ℕ) (old new : ℕ → Option Local) (p : ℕ) (s : Local) (o : Op)

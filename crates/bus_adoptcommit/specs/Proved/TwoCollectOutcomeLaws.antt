@@ -5,7 +5,7 @@ use Rattle.std.proofs.lemmas.Option.{same_Some}
 use Rattle.bus_register.specs.Digits.{digit}
 use Rattle.bus_register.proofs.DigitLaws.{digit_same}
 use Rattle.bus_adoptcommit.specs.declared.phases.Phase.{Phase}
-use Rattle.bus_adoptcommit.specs.declared.phases.Phase.TheVariants.{StoreProposal, ReadProposal, StoreVerdict, ReadVerdict, Ended}
+use Rattle.bus_adoptcommit.specs.declared.phases.Phase.TheVariants.{WriteFirst, ReadFirst, WriteSecond, ReadSecond, Ended}
 use Rattle.bus_adoptcommit.specs.declared.verdicts.Verdict.{Verdict}
 use Rattle.bus_adoptcommit.specs.declared.verdicts.Verdict.TheVariants.{Commit}
 use Rattle.bus_adoptcommit.specs.Agreement.{value_of, IsValid, IsConvergent, IsCoherent, Legal}
@@ -62,10 +62,10 @@ module _ (n : ℕ) (m : ℕ → Mark) (h : Holds n m) where
 
 -- ── the local states ──
 output_ended : (ph : Phase) (s : Local) (d : Verdict) → output_at ph s ≡ Some d → (ph ≡ Ended) × (verdict_from s.commit s.only_commits s.input ≡ d)
-output_ended StoreProposal s d e = absurd cc
-output_ended (ReadProposal of) s d e = absurd cc
-output_ended StoreVerdict s d e = absurd cc
-output_ended (ReadVerdict of) s d e = absurd cc
+output_ended WriteFirst s d e = absurd cc
+output_ended (ReadFirst of) s d e = absurd cc
+output_ended WriteSecond s d e = absurd cc
+output_ended (ReadSecond of) s d e = absurd cc
 output_ended Ended s d e = (refl, same_Some _ _ e)
 
 -- a process that has taken a step counts with its input

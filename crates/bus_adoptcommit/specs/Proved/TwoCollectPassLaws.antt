@@ -7,7 +7,7 @@ use Rattle.bus_register.specs.Words.{register}
 use Rattle.bus_register.specs.Digits.{digit}
 use Rattle.bus_register.proofs.DigitLaws.{digit_le}
 use Rattle.bus_adoptcommit.specs.declared.phases.Phase.{Phase}
-use Rattle.bus_adoptcommit.specs.declared.phases.Phase.TheVariants.{StoreProposal, ReadProposal, StoreVerdict, ReadVerdict, Ended}
+use Rattle.bus_adoptcommit.specs.declared.phases.Phase.TheVariants.{WriteFirst, ReadFirst, WriteSecond, ReadSecond, Ended}
 use Rattle.bus_adoptcommit.specs.TwoCollect.{Local, PhaseFits, op_at, fed_at, taken_at}
 use Rattle.bus_adoptcommit.specs.TwoCollectKeeps.{Mark, mark_of, commit_number, proposal_word, verdict_word, Holds}
 use Rattle.bus_adoptcommit.specs.Proved.TwoCollectMarkLaws.{Pass, verdict_none, verdict_some}
@@ -49,11 +49,11 @@ quiet n m x now small = record {
 pub pass_at : (ph : Phase) (m : ℕ → Mark) (s : Local) (o : Op) (got : ℕ) → Holds s.n m → s.me < s.n → PhaseFits s.n ph → op_at ph s ≡ Some o
     → ((q : ℕ) → q < s.n → register o ≡ s.at + q → got ≡ proposal_word (m q)) → ((q : ℕ) → q < s.n → register o ≡ s.at + s.n + q → got ≡ verdict_word s.n (m q))
     → Pass s.n m (mark_at ph s) (mark_of (fed_at ph s got))
-pass_at StoreProposal m s o got h below f e a b = quiet s.n m (mark_at StoreProposal s) (inl refl) (digit_le s.input)
-pass_at (ReadProposal of) m s o got h below f e a b =
+pass_at WriteFirst m s o got h below f e a b = quiet s.n m (mark_at WriteFirst s) (inl refl) (digit_le s.input)
+pass_at (ReadFirst of) m s o got h below f e a b =
     let place : register o ≡ s.at + of = ap register (sym (same_Some _ _ e)) in
     let read = a of f place in
-    let step = advances_at (ReadProposal of) s got o below f e in
+    let step = advances_at (ReadFirst of) s got o below f e in
     let saw = agreed_saw s.input got s.agreed in
     let missed = agreed_missed s.input got s.agreed in
     record {
@@ -73,14 +73,14 @@ pass_at (ReadProposal of) m s o got h below f e a b =
       commit_stays = λ z. z;
       commit_new = λ q l k. absurd (omega arith);
     }
-pass_at StoreVerdict m s o got h below f e a b = subst (λ z. Pass s.n m (mark_at StoreVerdict s) record (mark_at StoreVerdict s) { taken = z }) (omega arith) (quiet s.n m (mark_at StoreVerdict s) (inr refl) (digit_le s.input))
-pass_at (ReadVerdict of) m s o got h below f e a b =
+pass_at WriteSecond m s o got h below f e a b = subst (λ z. Pass s.n m (mark_at WriteSecond s) record (mark_at WriteSecond s) { taken = z }) (omega arith) (quiet s.n m (mark_at WriteSecond s) (inr refl) (digit_le s.input))
+pass_at (ReadSecond of) m s o got h below f e a b =
     let place : register o ≡ s.at + s.n + of = ap register (sym (same_Some _ _ e)) in
     let read = b of f place in
     let small : got ≤ 4 = let z = verdict_small s.n m h of in omega arith in
-    let step = advances_at (ReadVerdict of) s got o below f e in
+    let step = advances_at (ReadSecond of) s got o below f e in
     let r = reads got s.commit s.only_commits small in
-    let commit = commit_number (fed_at (ReadVerdict of) s got).commit in
+    let commit = commit_number (fed_at (ReadSecond of) s got).commit in
     record {
       more = step.more;
       room = omega arith;

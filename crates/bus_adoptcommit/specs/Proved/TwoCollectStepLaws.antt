@@ -6,18 +6,18 @@ use Rattle.bus_register.specs.declared.registers.Op.{Op}
 use Rattle.bus_register.specs.Words.{register}
 use Rattle.bus_register.specs.Protocol.{Goes}
 use Rattle.bus_adoptcommit.specs.declared.phases.Phase.{Phase}
-use Rattle.bus_adoptcommit.specs.declared.phases.Phase.TheVariants.{StoreProposal, ReadProposal, StoreVerdict, ReadVerdict, Ended}
+use Rattle.bus_adoptcommit.specs.declared.phases.Phase.TheVariants.{WriteFirst, ReadFirst, WriteSecond, ReadSecond, Ended}
 use Rattle.bus_adoptcommit.specs.declared.verdicts.Verdict.{Verdict}
 use Rattle.bus_adoptcommit.specs.TwoCollect.{Local, PhaseFits, op_at, op_of, fed_at, fed_of, taken_at, output_at}
 use Rattle.bus_adoptcommit.specs.TwoCollectKeeps.{Belongs, two_collect}
 
 -- the phase after a read comes next
-proposal_if : (n of : ℕ) (b : Bool) → nat_lt (of + 1) n ≡ b → of < n → PhaseFits n (cond b (ReadProposal (of + 1)) StoreVerdict) × (taken_at n (cond b (ReadProposal (of + 1)) StoreVerdict) ≡ 2 + of)
+proposal_if : (n of : ℕ) (b : Bool) → nat_lt (of + 1) n ≡ b → of < n → PhaseFits n (cond b (ReadFirst (of + 1)) WriteSecond) × (taken_at n (cond b (ReadFirst (of + 1)) WriteSecond) ≡ 2 + of)
 proposal_if n of true e h = (ltb-true (of + 1) n e, omega arith)
 proposal_if n of false e h = (tt, let g = ltb-false (of + 1) n e in omega arith)
 
 -- the same, among the verdicts
-verdict_if : (n of : ℕ) (b : Bool) → nat_lt (of + 1) n ≡ b → of < n → PhaseFits n (cond b (ReadVerdict (of + 1)) Ended) × (taken_at n (cond b (ReadVerdict (of + 1)) Ended) ≡ 3 + n + of)
+verdict_if : (n of : ℕ) (b : Bool) → nat_lt (of + 1) n ≡ b → of < n → PhaseFits n (cond b (ReadSecond (of + 1)) Ended) × (taken_at n (cond b (ReadSecond (of + 1)) Ended) ≡ 3 + n + of)
 verdict_if n of true e h = (ltb-true (of + 1) n e, omega arith)
 verdict_if n of false e h = (tt, let g = ltb-false (of + 1) n e in omega arith)
 
@@ -33,22 +33,22 @@ pub record Advances (s t : Local) (taken : ℕ) : Type 0 where
 
 -- each step is one such
 pub advances_at : (ph : Phase) (s : Local) (got : ℕ) (o : Op) → s.me < s.n → PhaseFits s.n ph → op_at ph s ≡ Some o → Advances s (fed_at ph s got) (taken_at s.n ph)
-advances_at StoreProposal s got o b f e = record { n_is = refl; me_is = refl; at_is = refl; input_is = refl; fits = omega arith; more = refl; room = omega arith }
-advances_at (ReadProposal of) s got o b f e =
+advances_at WriteFirst s got o b f e = record { n_is = refl; me_is = refl; at_is = refl; input_is = refl; fits = omega arith; more = refl; room = omega arith }
+advances_at (ReadFirst of) s got o b f e =
     let next = proposal_if s.n of (nat_lt (of + 1) s.n) refl f in
     record { n_is = refl; me_is = refl; at_is = refl; input_is = refl; fits = next.0; more = next.1 ∙ omega arith; room = omega arith }
-advances_at StoreVerdict s got o b f e = record { n_is = refl; me_is = refl; at_is = refl; input_is = refl; fits = omega arith; more = omega arith; room = omega arith }
-advances_at (ReadVerdict of) s got o b f e =
+advances_at WriteSecond s got o b f e = record { n_is = refl; me_is = refl; at_is = refl; input_is = refl; fits = omega arith; more = omega arith; room = omega arith }
+advances_at (ReadSecond of) s got o b f e =
     let next = verdict_if s.n of (nat_lt (of + 1) s.n) refl f in
     record { n_is = refl; me_is = refl; at_is = refl; input_is = refl; fits = next.0; more = next.1 ∙ omega arith; room = omega arith }
 advances_at Ended s got o b f e = absurd cc
 
 -- the step's word is one of the object's
 inside_at : (ph : Phase) (s : Local) (o : Op) → s.me < s.n → PhaseFits s.n ph → op_at ph s ≡ Some o → (s.at ≤ register o) × (register o < s.at + 2 * s.n)
-inside_at StoreProposal s o b f e = let r = ap register (same_Some _ _ e) in (omega arith, omega arith)
-inside_at (ReadProposal of) s o b f e = let r = ap register (same_Some _ _ e) in (omega arith, omega arith)
-inside_at StoreVerdict s o b f e = let r = ap register (same_Some _ _ e) in (omega arith, omega arith)
-inside_at (ReadVerdict of) s o b f e = let r = ap register (same_Some _ _ e) in (omega arith, omega arith)
+inside_at WriteFirst s o b f e = let r = ap register (same_Some _ _ e) in (omega arith, omega arith)
+inside_at (ReadFirst of) s o b f e = let r = ap register (same_Some _ _ e) in (omega arith, omega arith)
+inside_at WriteSecond s o b f e = let r = ap register (same_Some _ _ e) in (omega arith, omega arith)
+inside_at (ReadSecond of) s o b f e = let r = ap register (same_Some _ _ e) in (omega arith, omega arith)
 inside_at Ended s o b f e = absurd cc
 
 module _ (n me at : ℕ) (s : Local) (b : Belongs n me at s) where
@@ -92,24 +92,24 @@ module _ (n me at : ℕ) (s : Local) (b : Belongs n me at s) where
 
 -- where no step is left, an output stands
 pub ends_at : (ph : Phase) (s : Local) → op_at ph s ≡ None → IsSome (output_at ph s) × (nat_lt 0 (taken_at s.n ph) ≡ true)
-ends_at StoreProposal s e = absurd cc
-ends_at (ReadProposal of) s e = absurd cc
-ends_at StoreVerdict s e = absurd cc
-ends_at (ReadVerdict of) s e = absurd cc
+ends_at WriteFirst s e = absurd cc
+ends_at (ReadFirst of) s e = absurd cc
+ends_at WriteSecond s e = absurd cc
+ends_at (ReadSecond of) s e = absurd cc
 ends_at Ended s e = (refl, lt-ltb _ _ (omega arith))
 
 -- where a step is left, none stands
 pub unended_at : (ph : Phase) (s : Local) (o : Op) → op_at ph s ≡ Some o → output_at ph s ≡ None
-unended_at StoreProposal s o e = refl
-unended_at (ReadProposal of) s o e = refl
-unended_at StoreVerdict s o e = refl
-unended_at (ReadVerdict of) s o e = refl
+unended_at WriteFirst s o e = refl
+unended_at (ReadFirst of) s o e = refl
+unended_at WriteSecond s o e = refl
+unended_at (ReadSecond of) s o e = refl
 unended_at Ended s o e = cc
 
 -- where an output stands, all steps were taken
 pub none_left_at : (ph : Phase) (s : Local) (d : Verdict) → output_at ph s ≡ Some d → (2 + s.n + s.n) - taken_at s.n ph ≡ 0
-none_left_at StoreProposal s d e = absurd cc
-none_left_at (ReadProposal of) s d e = absurd cc
-none_left_at StoreVerdict s d e = absurd cc
-none_left_at (ReadVerdict of) s d e = absurd cc
+none_left_at WriteFirst s d e = absurd cc
+none_left_at (ReadFirst of) s d e = absurd cc
+none_left_at WriteSecond s d e = absurd cc
+none_left_at (ReadSecond of) s d e = absurd cc
 none_left_at Ended s d e = omega arith

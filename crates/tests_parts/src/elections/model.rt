@@ -138,10 +138,10 @@ pub fn empty_board() -> Board {
 #[derive(Clone, Copy, Debug, PartialEq, Eq)]
 pub enum Act {
     Announce,
-    StoreProposal,
-    ReadProposal(usize),
-    StoreVerdict,
-    ReadVerdict(usize),
+    WriteFirst,
+    ReadFirst(usize),
+    WriteSecond,
+    ReadSecond(usize),
     SetMark,
     ReadOtherMark,
     Vote,
@@ -276,7 +276,7 @@ impl Sender {
         self.bit = bit;
         self.round = 0;
         self.value = bit_of(self.candidate, bit);
-        self.act = Act::StoreProposal;
+        self.act = Act::WriteFirst;
     }
 
     /// Goes on to load the first announcement, from this sender's on, that is one of a sender that
@@ -350,17 +350,17 @@ impl Sender {
     /// Leaves a conciliator.
     fn leave_conciliator(&mut self, value: bool) {
         self.value = value;
-        self.act = Act::StoreProposal;
+        self.act = Act::WriteFirst;
     }
 
     /// The kind of its next step.
     pub fn kind(&self) -> Option<Kind> {
         match self.act {
             Act::Announce => Some(Kind::Announce),
-            Act::StoreProposal => Some(Kind::StoreProposal),
-            Act::ReadProposal(_) => Some(Kind::ReadProposal),
-            Act::StoreVerdict => Some(Kind::StoreVerdict),
-            Act::ReadVerdict(_) => Some(Kind::ReadVerdict),
+            Act::WriteFirst => Some(Kind::WriteFirst),
+            Act::ReadFirst(_) => Some(Kind::ReadFirst),
+            Act::WriteSecond => Some(Kind::WriteSecond),
+            Act::ReadSecond(_) => Some(Kind::ReadSecond),
             Act::SetMark => Some(Kind::SetMark),
             Act::ReadOtherMark => Some(Kind::ReadOtherMark),
             Act::Vote => Some(Kind::Vote),
@@ -378,10 +378,10 @@ impl Sender {
         let conciliator = row.conciliator(self.bit, self.round);
         match self.act {
             Act::Announce => store(row.at, self.me, 1),
-            Act::StoreProposal => store(ratifier, self.me, number_of(self.value)),
-            Act::ReadProposal(of) => load(ratifier, of),
-            Act::StoreVerdict => store(verdicts, self.me, verdict_number(self.verdict())),
-            Act::ReadVerdict(of) => load(verdicts, of),
+            Act::WriteFirst => store(ratifier, self.me, number_of(self.value)),
+            Act::ReadFirst(of) => load(ratifier, of),
+            Act::WriteSecond => store(verdicts, self.me, verdict_number(self.verdict())),
+            Act::ReadSecond(of) => load(verdicts, of),
             Act::SetMark => store(conciliator, mark_of(self.value), 1),
             Act::ReadOtherMark => load(conciliator, mark_of(!self.value)),
             Act::Vote => add(conciliator, 2, vote_number(word)),
@@ -433,30 +433,30 @@ impl Sender {
     /// Takes its next step in a ratifier.
     fn step_ratifier(&mut self, row: Row, round: &mut Round) {
         match self.act {
-            Act::StoreProposal => {
+            Act::WriteFirst => {
                 round.proposals[self.me % 8] = Some(self.value);
                 self.proposals = [None; 8];
-                self.act = Act::ReadProposal(0);
+                self.act = Act::ReadFirst(0);
             }
-            Act::ReadProposal(of) => {
+            Act::ReadFirst(of) => {
                 self.proposals[of % 8] = round.proposals[of % 8];
                 let next = of.wrapping_add(1);
                 self.act = if next < row.n {
-                    Act::ReadProposal(next)
+                    Act::ReadFirst(next)
                 } else {
-                    Act::StoreVerdict
+                    Act::WriteSecond
                 };
             }
-            Act::StoreVerdict => {
+            Act::WriteSecond => {
                 round.verdicts[self.me % 8] = Some(self.verdict());
                 self.verdicts = [None; 8];
-                self.act = Act::ReadVerdict(0);
+                self.act = Act::ReadSecond(0);
             }
-            Act::ReadVerdict(of) => {
+            Act::ReadSecond(of) => {
                 self.verdicts[of % 8] = round.verdicts[of % 8];
                 let next = of.wrapping_add(1);
                 if next < row.n {
-                    self.act = Act::ReadVerdict(next);
+                    self.act = Act::ReadSecond(next);
                 } else {
                     self.leave_ratifier(row);
                 }

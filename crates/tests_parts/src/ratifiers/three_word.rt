@@ -68,17 +68,17 @@ fn steps_of_one_process(rt: HostRuntime) {
     assert_eq!(rt; ThreeWord::steps(64), 4);
     let mut first = ThreeWord::start(3, SenderNo(0), false, Reg(10));
     let alone = [
-        (Kind::StoreProposal, Op::Store(Reg(10), 1), 0),
-        (Kind::ReadProposal, Op::Load(Reg(12)), 0),
-        (Kind::StoreVerdict, Op::Store(Reg(12), 1), 0),
-        (Kind::ReadVerdict, Op::Load(Reg(11)), 0),
+        (Kind::WriteFirst, Op::Store(Reg(10), 1), 0),
+        (Kind::ReadFirst, Op::Load(Reg(12)), 0),
+        (Kind::WriteSecond, Op::Store(Reg(12), 1), 0),
+        (Kind::ReadSecond, Op::Load(Reg(11)), 0),
     ];
     takes(&rt, &mut first, &alone, COMMIT_0);
     let mut second = ThreeWord::start(3, SenderNo(1), true, Reg(10));
     let late = [
-        (Kind::StoreProposal, Op::Store(Reg(11), 1), 0),
-        (Kind::ReadProposal, Op::Load(Reg(12)), 1),
-        (Kind::ReadVerdict, Op::Load(Reg(11)), 1),
+        (Kind::WriteFirst, Op::Store(Reg(11), 1), 0),
+        (Kind::ReadFirst, Op::Load(Reg(12)), 1),
+        (Kind::ReadSecond, Op::Load(Reg(11)), 1),
     ];
     takes(&rt, &mut second, &late, ADOPT_0);
 }
