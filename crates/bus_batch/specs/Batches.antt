@@ -1,5 +1,5 @@
 -- What a sender's batch holds, and the frame that it makes.
-use Rattle.std.specs.Prelude.{◌≡◌, ℕ, ◌+◌, ◌<◌, ◌≤◌, ◌^◌, ◌⊎◌, List, [], ◌∷◌, length, All, Bool, true, false}
+use Rattle.std.specs.Prelude.{◌≡◌, ℕ, ◌+◌, ◌<◌, ◌≤◌, ◌^◌, ◌⊎◌, List, [], length, All, Bool, true, false}
 use Rattle.bus_register.specs.declared.limits.TheConstants.{MOST_BYTES, MOST_MESSAGES, NUMBERS}
 use Rattle.bus_register.specs.declared.registers.SenderNo.{SenderNo}
 use Rattle.bus_batch.specs.declared.batches.Phase.{Phase}
@@ -9,7 +9,7 @@ use Rattle.bus_batch.specs.declared.batches.PutFault.TheVariants as put
 use Rattle.bus_batch.specs.declared.batches.CloseFault.{CloseFault}
 use Rattle.bus_batch.specs.declared.batches.CloseFault.TheVariants as close
 use Rattle.bus_batch.specs.Messages.{IsMessage, numbered_messages}
-use Rattle.bus_batch.specs.Frames.{Frame, Body, Messages, EndMark, data_len}
+use Rattle.bus_batch.specs.Frames.{Frame, Body, Messages, EndMark}
 
 -- a sender's batch: its messages, numbered from first on, whether it accepts more, and whether they are on their way
 pub record Pending : Type 0 where
@@ -72,11 +72,6 @@ abbrev pub phase_sent : Phase → Phase
 phase_sent Open = Open
 phase_sent Closing = Closed
 phase_sent Closed = Closed
-
--- at which of their words messages begin, the first of them at this one
-abbrev pub starts_from : ℕ → List (List ℕ) → List ℕ
-starts_from start [] = []
-starts_from start (m ∷ messages) = start ∷ starts_from (start + (1 + data_len (length m))) messages
 
 -- what a batch always keeps
 pub record IsKept (b : Pending) : Type 0 where

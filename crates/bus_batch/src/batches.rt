@@ -17,6 +17,9 @@ use bus_register::SenderNo;
 use bus_register::limits::{MOST_BODY_WORDS, MOST_MESSAGE_WORDS, MOST_MESSAGES, NUMBERS, TENURES};
 use std::marker::Model;
 
+/// The most words of a frame after its head.
+const BODY_WORDS: usize = MOST_BODY_WORDS as usize;
+
 /// Why a message is not taken; of several causes the first counts.
 #[derive(Clone, Copy, Debug, PartialEq, Eq)]
 pub enum PutFault {
@@ -59,10 +62,9 @@ pub struct Batch {
     messages: ArrayVec<Message, MOST_MESSAGES>,
     phase: Phase,
     busy: bool,
-    /// At which of their words each of the messages begins.
-    starts: ArrayVec<u64, MOST_MESSAGES>,
-    /// How many words the messages have.
-    words: u64,
+    /// The words of the messages, spelled once when each is put: a turn of their sender only
+    /// copies one.
+    body: ArrayVec<u64, BODY_WORDS>,
 }
 
 impl Model for Batch {
@@ -70,7 +72,7 @@ impl Model for Batch {
     ghost use Rattle.bus_batch.specs.Messages.{numbered_messages};
     ghost use Rattle.bus_batch.specs.Frames.{message_words};
     ghost use Rattle.bus_register.specs.declared.limits.TheConstants.{MOST_MESSAGE_WORDS};
-    ghost use Rattle.bus_batch.specs.Batches.{Pending, IsKept, starts_from};
+    ghost use Rattle.bus_batch.specs.Batches.{Pending, IsKept};
 
     ghost Value = { Pending };
 
@@ -89,9 +91,8 @@ impl Model for Batch {
       phase = b.phase;
       busy = b.busy;
     })
-        × (b.starts.items ≡ starts_from 0 b.messages.items)
-        × (b.words ≡ length (flat_map message_words (numbered_messages b.first b.messages.items)))
-        × (b.words ≤ MOST_MESSAGE_WORDS * length b.messages.items) };
+        × (b.body.items ≡ flat_map message_words (numbered_messages b.first b.messages.items))
+        × (length b.body.items ≤ MOST_MESSAGE_WORDS * length b.messages.items) };
 }
 
 impl Batch {
@@ -117,8 +118,7 @@ impl Batch {
             messages: ArrayVec::new(),
             phase: Phase::Open,
             busy: false,
-            starts: ArrayVec::new(),
-            words: 0,
+            body: ArrayVec::new(),
         }
     }
 
@@ -195,8 +195,7 @@ impl Batch {
             return Err(PutFault::BatchFull);
         }
         let number = self.first + self.messages.len() as u64;
-        self.starts.push(self.words);
-        self.words += words_of(&message);
+        spell(&mut self.body, &message, number);
         self.messages.push(message);
         Ok(number)
     }
@@ -252,8 +251,7 @@ impl Batch {
     {
         self.first += self.messages.len() as u64;
         self.messages.clear();
-        self.starts.clear();
-        self.words = 0;
+        self.body.clear();
         if self.phase == Phase::Closing {
             self.phase = Phase::Closed;
         }
@@ -310,7 +308,7 @@ impl Batch {
         if self.phase == Phase::Closing {
             1
         } else {
-            self.words
+            self.body.len() as u64
         }
     }
 
@@ -321,43 +319,22 @@ impl Batch {
         ensures { slice_get (flat_map message_words
             (numbered_messages self.now.first self.now.messages)) i ≡ Some result }
     {
-        let starts = self.starts.as_slice();
-        let mut low = 0;
-        let mut high = starts.len();
-        while low + 1 < high {
-            let middle = (low + high) / 2;
-            if starts[middle] <= i {
-                low = middle;
-            } else {
-                high = middle;
-            }
-        }
-        let message = &self.messages.as_slice()[low];
-        word_of(message, self.first + low as u64, i - starts[low])
+        self.body.as_slice()[i as usize]
     }
 }
 
-/// How many words a message has: its own and those of its bytes.
-fn words_of(message: &Message) -> u64
-    ensures words { result ≡ 1 + data_len (length message.now) }
-    ensures most { result ≤ MOST_MESSAGE_WORDS }
-{
-    1 + (message.len() as u64 + 7) / 8
-}
-
-/// The word at `place` of a message with this number.
-fn word_of(message: &Message, number: u64, place: u64) -> u64
+/// Appends the words of a message with this number: its own, and those of its bytes.
+fn spell(body: &mut ArrayVec<u64, BODY_WORDS>, message: &Message, number: u64)
     requires number { number < NUMBERS }
-    requires place { place < 1 + data_len (length message.now) }
-    ensures { slice_get (message_words (record {
+    requires room { length body.old.items + MOST_MESSAGE_WORDS ≤ MOST_BODY_WORDS }
+    ensures { body.new.items ≡ body.old.items ++ message_words (record {
       number = number;
       message = message.now;
-    })) place ≡ Some result }
+    }) }
 {
-    if place == 0 {
-        2 * TAG + message.len() as u64 * HIGH + number
-    } else {
-        data_word_of(message.as_slice(), 8 * (place as usize - 1))
+    body.push(2 * TAG + message.len() as u64 * HIGH + number);
+    for i in 0..(message.len() + 7) / 8 {
+        body.push(data_word_of(message.as_slice(), 8 * i));
     }
 }
 
@@ -367,6 +344,10 @@ fn data_word_of(bytes: &[u8], start: usize) -> u64
     ensures { result ≡ data_word (drop start bytes.now) }
 {
     let mut word = [0u8; 8];
+    if bytes.len() - start >= 8 {
+        word.copy_from_slice(&bytes[start..start + 8]);
+        return u64::from_be_bytes(word);
+    }
     for i in 0..8 {
         if i < bytes.len() - start {
             word[i] = bytes[start + i];

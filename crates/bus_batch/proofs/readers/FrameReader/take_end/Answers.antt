@@ -1,5 +1,5 @@
 use Rattle.bus_batch.specs.declared.readers.Place.TheVariants as place
-use Rattle.std.proofs.Common.{refl, inl, inr}
+use Rattle.std.proofs.Common.{inl, inr}
 use Rattle.bus_batch.proofs.Bodies.{takes_end, refuses_end}
 use Rattle.bus_batch.proofs.Taking.{good, refused_at, at_place, sound_at}
 use Rattle.bus_batch.proofs.readers.FrameReader.take_end.Goals as goal

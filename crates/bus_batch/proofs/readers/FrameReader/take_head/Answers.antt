@@ -1,5 +1,4 @@
 use Rattle.bus_batch.specs.declared.readers.Place.TheVariants as place
-use Rattle.std.proofs.Common.{refl}
 use Rattle.bus_batch.proofs.Heads.{takes_head, refuses_head}
 use Rattle.bus_batch.proofs.Taking.{good, refused_at, at_place}
 use Rattle.bus_batch.proofs.readers.FrameReader.take_head.Goals as goal

@@ -1,6 +1,6 @@
 use Rattle.bus_batch.specs.declared.readers.Place.TheVariants as place
 use Rattle.bus_batch.specs.declared.messages.Piece.TheVariants as piece
-use Rattle.std.proofs.Common.{◌≡◌, ◌-◌, arith, refl, sym, subst, inl, inr, Ok, Some}
+use Rattle.std.proofs.Common.{◌≡◌, arith, sym, subst, inl, inr, Ok, Some}
 use Rattle.bus_batch.specs.Steps.{Steps}
 use Rattle.bus_batch.proofs.Bodies.{takes_empty, refuses_long, refuses_short}
 use Rattle.bus_batch.proofs.Taking.{reading, good, refused, refused_at, at_place, sound_at}

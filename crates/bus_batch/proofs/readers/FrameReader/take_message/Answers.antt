@@ -1,7 +1,6 @@
 use Rattle.bus_batch.specs.declared.readers.Place.TheVariants as place
-use Rattle.std.proofs.Common.{refl}
 use Rattle.bus_batch.proofs.Bodies.{refuses_other}
-use Rattle.bus_batch.proofs.Taking.{refused_at, at_place, sound_at}
+use Rattle.bus_batch.proofs.Taking.{refused_at, sound_at}
 use Rattle.bus_batch.proofs.readers.FrameReader.take_message.Goals as goal
 
 pub returns-in-None-clause-steps : goal.returns-in-None-clause-steps
