@@ -1,4 +1,4 @@
--- What holds of each listener so far, and of one more, holds of all.
+-- What holds of each receiver's worker so far, and of one more, holds of all.
 use Rattle.std.proofs.Common.{◌≡◌, ℕ, ◌+◌, ◌<◌, List, [], ◌∷◌, ◌++◌, length, take, get_or, All, sym, ◌∙◌, ap, subst}
 use Rattle.std.proofs.lemmas.List.{take_more}
 use Rattle.std.proofs.lemmas.List.Elements.{All-append, All-nil, All-cons}

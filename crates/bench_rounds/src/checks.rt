@@ -6,36 +6,38 @@ ghost use Rattle.bench_rounds.specs.Checks.{HasEach};
 
 use crate::faults::Fault;
 use crate::needs::Load;
-use crate::workers::{Desk, Got, Listener};
+use crate::workers::{Got, ReceiveWorker, SendWorker};
 use bus_pageslot::OfBus;
 use bus_receiver::Heard;
 use bus_register::SenderNo;
 use bus_run::buses::{Receiver, TheBus};
-use bus_run::crews::Crew;
+use bus_run::spawning::Workers;
 use std::sync::Wait;
 
 /// Sees that each receiver has all items of each sender, and all the same order.
-pub fn check<B: OfBus>(listeners: &[Listener<B>], load: Load) -> Result<(), Fault>
+pub fn check<B: OfBus>(receive_workers: &[ReceiveWorker<B>], load: Load) -> Result<(), Fault>
     ensures counts { OnOk result
-        (All (λ listener. HasEach load.senders load.messages listener.heard) listeners.now) }
+        (All (λ receive_worker. HasEach load.senders load.messages receive_worker.heard)
+        receive_workers.now) }
     ensures order { OnOk result ((order : List Item)
-        × All (λ listener. listener.order.items ≡ order) listeners.now) }
+        × All (λ receive_worker. receive_worker.order.items ≡ order) receive_workers.now) }
 {
-    check_counts(listeners, load)?;
-    match listeners.first() {
-        Some(first) => check_orders(listeners, first.order.as_slice()),
+    check_counts(receive_workers, load)?;
+    match receive_workers.first() {
+        Some(first) => check_orders(receive_workers, first.order.as_slice()),
         None => Err(Fault::Spawn),
     }
 }
 
 /// Sees that each receiver has all items of each sender.
-fn check_counts<B: OfBus>(listeners: &[Listener<B>], load: Load) -> Result<(), Fault>
+fn check_counts<B: OfBus>(receive_workers: &[ReceiveWorker<B>], load: Load) -> Result<(), Fault>
     ensures { OnOk result
-        (All (λ listener. HasEach load.senders load.messages listener.heard) listeners.now) }
+        (All (λ receive_worker. HasEach load.senders load.messages receive_worker.heard)
+        receive_workers.now) }
 {
-    for listener in listeners {
-        let receiver = listener.number;
-        if let Some(sender) = first_miscount(&listener.heard, load) {
+    for receive_worker in receive_workers {
+        let receiver = receive_worker.number;
+        if let Some(sender) = first_miscount(&receive_worker.heard, load) {
             return Err(Fault::Count { receiver, sender });
         }
     }
@@ -55,13 +57,14 @@ fn first_miscount(heard: &Heard, load: Load) -> Option<u64>
 }
 
 /// Sees that each receiver has this order.
-fn check_orders<B: OfBus>(listeners: &[Listener<B>], order: &[Got]) -> Result<(), Fault>
-    ensures { OnOk result (All (λ listener. listener.order.items ≡ order.now) listeners.now) }
+fn check_orders<B: OfBus>(receive_workers: &[ReceiveWorker<B>], order: &[Got]) -> Result<(), Fault>
+    ensures { OnOk result (All (λ receive_worker. receive_worker.order.items ≡ order.now)
+        receive_workers.now) }
 {
-    for listener in listeners {
-        if !is_same(listener.order.as_slice(), order) {
+    for receive_worker in receive_workers {
+        if !is_same(receive_worker.order.as_slice(), order) {
             return Err(Fault::Order {
-                receiver: listener.number,
+                receiver: receive_worker.number,
             });
         }
     }
@@ -80,21 +83,21 @@ fn is_same(order: &[Got], other: &[Got]) -> bool
 pub fn close_and_end<B: OfBus, W: Wait>(
     wait: &W,
     the: TheBus<B>,
-    crew: Crew<Desk<B>, Listener<B>>,
+    workers: Workers<SendWorker<B>, ReceiveWorker<B>>,
     load: Load,
 ) -> Result<(), Fault> {
-    let Crew {
-        mut desks,
-        listeners,
+    let Workers {
+        mut send_workers,
+        receive_workers,
         ..
-    } = crew;
-    let Some(closer) = desks.first_mut() else {
+    } = workers;
+    let Some(closer) = send_workers.first_mut() else {
         return Err(Fault::End);
     };
     if !closer.close(wait, &the) {
         return Err(Fault::End);
     }
-    let Some(first) = listeners.into_iter().next() else {
+    let Some(first) = receive_workers.into_iter().next() else {
         return Err(Fault::Spawn);
     };
     let Ok(ended) = Receiver::end(the.into_bus(), first.into_receiver()) else {

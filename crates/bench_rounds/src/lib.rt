@@ -13,11 +13,11 @@
 #![tactic(auto)]
 
 pub mod checks;
-pub mod crews;
 pub mod faults;
 pub mod gates;
 pub mod needs;
 pub mod report;
 pub mod request;
 pub mod rounds;
+pub mod spawning;
 pub mod workers;

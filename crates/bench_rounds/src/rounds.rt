@@ -4,10 +4,10 @@ ghost use Rattle.std.specs.Prelude.{◌≡◌, All};
 ghost use Rattle.bus_pageslot.specs.Seats.{table_of};
 
 use crate::checks::{check, close_and_end};
-use crate::crews::{Worked, crew_of, fault_of, man};
 use crate::faults::Fault;
 use crate::needs::Load;
-use crate::workers::Listener;
+use crate::spawning::{Worked, fault_of, spawn_workers, workers_of};
+use crate::workers::ReceiveWorker;
 use bus_pageslot::OfBus;
 use bus_register::limits::MOST_LOG_WORDS;
 use bus_run::buses::{Bus, Sender, Tap, TheBus};
@@ -64,24 +64,24 @@ fn round_on<B: OfBus + Send + Sync, R: Threads + Wait + Clock + Sync>(
 {
     let (bus, senders, taps) = made;
     let the = TheBus::<B>::new(bus);
-    let crew = crew_of::<B>(alloc, senders, taps, load, seed)?;
+    let workers = workers_of::<B>(alloc, senders, taps, load, seed)?;
     let Worked {
-        crew,
+        workers,
         started,
         opened,
-    } = man(rt, &the, load, crew);
-    if let Some(fault) = fault_of(&crew, load) {
+    } = spawn_workers(rt, &the, load, workers);
+    if let Some(fault) = fault_of(&workers, load) {
         return Err(fault);
     }
-    let times = times_of(&crew.listeners, started, opened)?;
-    check(&crew.listeners, load)?;
-    close_and_end(rt, the, crew, load)?;
+    let times = times_of(&workers.receive_workers, started, opened)?;
+    check(&workers.receive_workers, load)?;
+    close_and_end(rt, the, workers, load)?;
     Ok(times)
 }
 
 /// How long the last receiver took.
 fn times_of<B: OfBus>(
-    listeners: &[Listener<B>],
+    receive_workers: &[ReceiveWorker<B>],
     started: Option<Instant>,
     opened: Option<Instant>,
 ) -> Result<Times, Fault> {
@@ -92,8 +92,8 @@ fn times_of<B: OfBus>(
         from_gate: 0,
         with_start: 0,
     };
-    for listener in listeners {
-        let Some(done) = listener.done else {
+    for receive_worker in receive_workers {
+        let Some(done) = receive_worker.done else {
             return Err(Fault::Clock);
         };
         times.from_gate = times.from_gate.max(nanoseconds(done, opened));

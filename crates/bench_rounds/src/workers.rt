@@ -14,7 +14,7 @@ use bus_receiver::Heard;
 use bus_register::SenderNo;
 use bus_register::limits::{MOST_BYTES, MOST_MESSAGES};
 use bus_run::buses::{Receiver, Sender, Tap, TheBus};
-use bus_run::crews::Work;
+use bus_run::spawning::Work;
 use bus_run::workers::generator;
 use bus_tenure::Turn;
 use crossbeam_utils::Backoff;
@@ -26,7 +26,7 @@ use std::time::{Clock, Instant};
 
 /// A sender of the bus B with its random words, and what stopped it.
 #[derive(Drop)]
-pub struct Desk<B: OfBus> {
+pub struct SendWorker<B: OfBus> {
     pub sender: Sender,
     pub fault: Option<Fault>,
     rng: ChaCha8Rng,
@@ -34,14 +34,14 @@ pub struct Desk<B: OfBus> {
     ghost of_bus: { table_of sender ≡ B.table },
 }
 
-impl<B: OfBus> Desk<B> {
-    /// The desk of a sender that has not begun.
-    pub fn new(sender: Sender, seed: u64) -> Desk<B>
+impl<B: OfBus> SendWorker<B> {
+    /// The worker of a sender that has not begun.
+    pub fn new(sender: Sender, seed: u64) -> SendWorker<B>
         requires { table_of sender ≡ B.table }
         ensures { result.sender ≡ sender }
     {
         let rng = generator(seed, u64::from(sender.number().0));
-        Desk {
+        SendWorker {
             sender,
             fault: None,
             rng,
@@ -65,19 +65,19 @@ impl<B: OfBus> Desk<B> {
     }
 }
 
-/// A desk for each sender, in order.
-pub fn desks_of<B: OfBus>(
+/// A worker for each sender, in order.
+pub fn send_workers_of<B: OfBus>(
     alloc: Global,
     senders: Vec<Sender>,
     seed: u64,
-) -> Result<Vec<Desk<B>>, AllocError>
+) -> Result<Vec<SendWorker<B>>, AllocError>
     requires { All (λ sender. table_of sender ≡ B.table) senders.items }
 {
-    let mut desks = Vec::with_capacity(alloc, senders.len())?;
+    let mut send_workers = Vec::with_capacity(alloc, senders.len())?;
     for sender in senders {
-        desks.push(Desk::new(sender, seed))?;
+        send_workers.push(SendWorker::new(sender, seed))?;
     }
-    Ok(desks)
+    Ok(send_workers)
 }
 
 /// One item that a receiver was given.
@@ -89,7 +89,7 @@ pub struct Got {
 
 /// A receiver of the bus B with what was noted of its answers, in order.
 #[derive(Drop)]
-pub struct Listener<B: OfBus> {
+pub struct ReceiveWorker<B: OfBus> {
     pub number: u64,
     pub receiver: Receiver,
     pub heard: Heard,
@@ -101,12 +101,17 @@ pub struct Listener<B: OfBus> {
     ghost of_bus: { bus_of receiver ≡ B.table },
 }
 
-impl<B: OfBus> Listener<B> {
-    /// The listener of a receiver that has not begun, with room for so many items.
-    pub fn new(alloc: Global, number: u64, tap: Tap, items: u64) -> Result<Listener<B>, AllocError>
+impl<B: OfBus> ReceiveWorker<B> {
+    /// The worker of a receiver that has not begun, with room for so many items.
+    pub fn new(
+        alloc: Global,
+        number: u64,
+        tap: Tap,
+        items: u64,
+    ) -> Result<ReceiveWorker<B>, AllocError>
         requires { tap.table_id ≡ B.table }
     {
-        Ok(Listener {
+        Ok(ReceiveWorker {
             number,
             receiver: Receiver::new(tap),
             heard: Heard::new(),
@@ -121,25 +126,25 @@ impl<B: OfBus> Listener<B> {
     pub fn into_receiver(self) -> Receiver
         ensures { bus_of result ≡ B.table }
     {
-        let Listener { receiver, .. } = self;
+        let ReceiveWorker { receiver, .. } = self;
         receiver
     }
 }
 
-/// A listener for each receiver, in order, with room for so many items.
-pub fn listeners_of<B: OfBus>(
+/// A worker for each receiver, in order, with room for so many items.
+pub fn receive_workers_of<B: OfBus>(
     alloc: Global,
     taps: Vec<Tap>,
     items: u64,
-) -> Result<Vec<Listener<B>>, AllocError>
+) -> Result<Vec<ReceiveWorker<B>>, AllocError>
     requires { All (λ tap. tap.table_id ≡ B.table) taps.items }
 {
-    let mut listeners = Vec::with_capacity(alloc, taps.len())?;
+    let mut receive_workers = Vec::with_capacity(alloc, taps.len())?;
     for tap in taps {
-        let number = listeners.len() as u64;
-        listeners.push(Listener::new(alloc, number, tap, items)?)?;
+        let number = receive_workers.len() as u64;
+        receive_workers.push(ReceiveWorker::new(alloc, number, tap, items)?)?;
     }
-    Ok(listeners)
+    Ok(receive_workers)
 }
 
 /// The work of the senders of a round.
@@ -151,33 +156,33 @@ pub struct SendAll<'a, B: OfBus, W> {
     pub load: Load,
 }
 
-impl<B: OfBus, W: Wait> Work<Desk<B>> for SendAll<'_, B, W> {
+impl<B: OfBus, W: Wait> Work<SendWorker<B>> for SendAll<'_, B, W> {
     /// Waits at the gate, and sends all messages of a sender.
-    fn work(&self, mut desk: Desk<B>) -> Desk<B> {
+    fn work(&self, mut send_worker: SendWorker<B>) -> SendWorker<B> {
         if !self.gate.pass(self.wait) {
-            return desk;
+            return send_worker;
         }
-        if let Err(fault) = self.send_batches(&mut desk) {
-            desk.fault = Some(fault);
+        if let Err(fault) = self.send_batches(&mut send_worker) {
+            send_worker.fault = Some(fault);
             self.gate.give_up();
         }
-        desk
+        send_worker
     }
 }
 
 impl<B: OfBus, W: Wait> SendAll<'_, B, W> {
     /// Sends the numbers below `load.messages`, a batch at a time, or until the round was given up.
-    fn send_batches(&self, desk: &mut Desk<B>) -> Result<(), Fault> {
+    fn send_batches(&self, send_worker: &mut SendWorker<B>) -> Result<(), Fault> {
         let messages = self.load.messages;
         for first in (0..messages).step_by(MOST_MESSAGES) {
             if self.gate.is_given_up() {
                 return Ok(());
             }
             let end = messages.min(first.saturating_add(MOST_MESSAGES as u64));
-            put_all(desk, first, end, self.load.size.bytes())?;
-            let turn = desk.send(self.wait, self.the);
+            put_all(send_worker, first, end, self.load.size.bytes())?;
+            let turn = send_worker.send(self.wait, self.the);
             if !matches!(turn, Turn::Delivered { .. }) {
-                let sender = desk.number();
+                let sender = send_worker.number();
                 return Err(Fault::Answer { sender, turn });
             }
         }
@@ -186,13 +191,18 @@ impl<B: OfBus, W: Wait> SendAll<'_, B, W> {
 }
 
 /// Puts the messages from `first` up to `end`, of so many bytes each.
-fn put_all<B: OfBus>(desk: &mut Desk<B>, first: u64, end: u64, bytes: usize) -> Result<(), Fault>
+fn put_all<B: OfBus>(
+    send_worker: &mut SendWorker<B>,
+    first: u64,
+    end: u64,
+    bytes: usize,
+) -> Result<(), Fault>
     requires { bytes ≤ MOST_BYTES }
 {
     for number in first..end {
         let message = message_of(number);
-        if desk.sender.put(&message[..bytes]).is_err() {
-            let sender = desk.number();
+        if send_worker.sender.put(&message[..bytes]).is_err() {
+            let sender = send_worker.number();
             return Err(Fault::Put { sender });
         }
     }
@@ -217,44 +227,44 @@ pub struct HearAll<'a, B: OfBus, R> {
     pub load: Load,
 }
 
-impl<B: OfBus, R: Wait + Clock> Work<Listener<B>> for HearAll<'_, B, R> {
+impl<B: OfBus, R: Wait + Clock> Work<ReceiveWorker<B>> for HearAll<'_, B, R> {
     /// Waits at the gate, takes all items, and notes the instant.
-    fn work(&self, mut listener: Listener<B>) -> Listener<B> {
+    fn work(&self, mut receive_worker: ReceiveWorker<B>) -> ReceiveWorker<B> {
         if !self.gate.pass(self.rt) {
-            return listener;
+            return receive_worker;
         }
-        match self.take_all(&mut listener) {
+        match self.take_all(&mut receive_worker) {
             Ok(true) => match Instant::now(self.rt) {
-                Ok(now) => listener.done = Some(now),
-                Err(_) => listener.fault = Some(Fault::Clock),
+                Ok(now) => receive_worker.done = Some(now),
+                Err(_) => receive_worker.fault = Some(Fault::Clock),
             },
             Ok(false) => {}
             Err(fault) => {
-                listener.fault = Some(fault);
+                receive_worker.fault = Some(fault);
                 self.gate.give_up();
             }
         }
-        listener
+        receive_worker
     }
 }
 
 impl<B: OfBus, R: Wait> HearAll<'_, B, R> {
     /// Takes turns until it has all items. On false the round was given up before.
-    fn take_all(&self, listener: &mut Listener<B>) -> Result<bool, Fault> {
-        let (items, receiver) = (self.load.items(), listener.number);
+    fn take_all(&self, receive_worker: &mut ReceiveWorker<B>) -> Result<bool, Fault> {
+        let (items, receiver) = (self.load.items(), receive_worker.number);
         let backoff = Backoff::new();
         for _ in self.rt.forever() {
-            if listener.heard.items() >= items {
+            if receive_worker.heard.items() >= items {
                 return Ok(true);
             }
-            let turn = listener.receiver.turn(&self.the.bus);
-            if !listener.heard.note(&turn) {
+            let turn = receive_worker.receiver.turn(&self.the.bus);
+            if !receive_worker.heard.note(&turn) {
                 return Err(Fault::Heard { receiver });
             }
             match turn {
                 RecvTurn::Item(item) => {
                     let (sender, number) = (item.sender, item.number);
-                    listener.order.push(Got { sender, number })?;
+                    receive_worker.order.push(Got { sender, number })?;
                     backoff.reset();
                 }
                 RecvTurn::Empty => {

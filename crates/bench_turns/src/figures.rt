@@ -18,7 +18,7 @@ pub struct Figures {
     whole: u64,
     out: u64,
     stops: u64,
-    stops_in_visits: u64,
+    stops_while_pinned: u64,
     behinds: u64,
     gave_up: u64,
     stuck: u64,
@@ -36,7 +36,7 @@ impl Figures {
             whole: 0,
             out: 0,
             stops: 0,
-            stops_in_visits: 0,
+            stops_while_pinned: 0,
             behinds: 0,
             gave_up: 0,
             stuck: 0,
@@ -54,7 +54,7 @@ impl Figures {
             whole: u64::from(tale.is_whole),
             out: u64::from(tale.is_out),
             stops: tale.stops,
-            stops_in_visits: tale.stops_in_visits,
+            stops_while_pinned: tale.stops_while_pinned,
             behinds: tale.behinds,
             gave_up: tale.gave_up,
             stuck: tale.stuck,
@@ -81,7 +81,9 @@ impl Figures {
             whole: self.whole.saturating_add(other.whole),
             out: self.out.saturating_add(other.out),
             stops: self.stops.saturating_add(other.stops),
-            stops_in_visits: self.stops_in_visits.saturating_add(other.stops_in_visits),
+            stops_while_pinned: self
+                .stops_while_pinned
+                .saturating_add(other.stops_while_pinned),
             behinds: self.behinds.saturating_add(other.behinds),
             gave_up: self.gave_up.saturating_add(other.gave_up),
             stuck: self.stuck.saturating_add(other.stuck),
@@ -90,9 +92,9 @@ impl Figures {
         }
     }
 
-    /// Senders stopped while they visited a tenure, and a holder was behind one to the last.
+    /// Senders stopped while they pinned a tenure, and a holder was behind one to the last.
     pub fn shows_behind(&self) -> bool {
-        self.stops_in_visits > 0 && self.behinds > 0 && self.stuck > 0
+        self.stops_while_pinned > 0 && self.behinds > 0 && self.stuck > 0
     }
 
     /// A line for each figure.
@@ -102,7 +104,7 @@ impl Figures {
         println!(rt; "  of these all sent, heard and audited {}", self.whole)?;
         println!(rt; "  page out at the end {}", self.out)?;
         println!(rt; "  workers that stopped {}", self.stops)?;
-        println!(rt; "  of these senders in a visit {}", self.stops_in_visits)?;
+        println!(rt; "  of these senders in a visit {}", self.stops_while_pinned)?;
         println!(rt; "  turns answered behind {}", self.behinds)?;
         println!(rt; "  workers that waited too long {}", self.gave_up)?;
         println!(rt; "  of these senders with the page {}", self.stuck)?;

@@ -9,9 +9,9 @@
 //! the last.
 #![tactic(auto)]
 
-mod desks;
 mod elections;
 mod figures;
+mod send_workers;
 mod storms;
 mod turns;
 mod workers;

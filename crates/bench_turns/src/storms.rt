@@ -4,8 +4,8 @@ ghost use Rattle.std.specs.Prelude.{◌≡◌, ◌≤◌, All, IfOk, OnOk};
 ghost use Rattle.bus_pageslot.specs.Seats.{table_of};
 ghost use Rattle.bus_run.specs.Audit.{OfOrder, IsFair, SendsEach};
 
-use crate::desks::desks_of;
-use crate::workers::{Listener, MOST_TURNS, Patience, Rest, Teller, listeners_of};
+use crate::send_workers::send_workers_of;
+use crate::workers::{MOST_TURNS, Patience, ReceiveWorker, Rest, Teller, receive_workers_of};
 use anyhow::{bail, ensure};
 use bus_deliverylog::{LogRead, read_log};
 use bus_pageslot::OfBus;
@@ -44,7 +44,7 @@ pub struct Tale {
     /// How many workers stopped for good.
     pub stops: u64,
     /// How many of these are senders whose presence names a tenure.
-    pub stops_in_visits: u64,
+    pub stops_while_pinned: u64,
     /// How many turns were answered Behind.
     pub behinds: u64,
     /// How many workers spent their turns in vain.
@@ -67,7 +67,7 @@ pub struct Tale {
 #[derive(Drop)]
 struct Hand<B: OfBus> {
     tellers: Vec<Teller<B>>,
-    listeners: Vec<Listener<B>>,
+    receive_workers: Vec<ReceiveWorker<B>>,
     dice: Pcg32,
 }
 
@@ -122,28 +122,28 @@ fn run_on<B: OfBus + Send + Sync, R: Threads + Clock + Sync>(
     let (bus, senders, taps) = made;
     let the = TheBus::<B>::new(bus);
     let mut tellers = Vec::with_capacity(alloc, senders.len())?;
-    for desk in desks_of::<B>(alloc, senders)? {
+    for send_worker in send_workers_of::<B>(alloc, senders)? {
         let patience = Patience::cast(&mut dice, load.is_calm);
         let batch = if load.is_long {
             1
         } else {
             MOST_MESSAGES as u32
         };
-        tellers.push(Teller::new(desk, load.messages, batch, patience))?;
+        tellers.push(Teller::new(send_worker, load.messages, batch, patience))?;
     }
-    let listeners = listeners_of::<B>(alloc, taps, &mut dice, load.is_calm)?;
-    let hands = deal(alloc, load, tellers, listeners, &mut dice)?;
+    let receive_workers = receive_workers_of::<B>(alloc, taps, &mut dice, load.is_calm)?;
+    let hands = deal(alloc, load, tellers, receive_workers, &mut dice)?;
     let hands = thread::map_vec(rt, hands, &|hand| play(rt, &the, hand))?;
-    let (mut tellers, mut listeners) = gather(alloc, hands)?;
+    let (mut tellers, mut receive_workers) = gather(alloc, hands)?;
     for teller in tellers.iter_mut() {
         if teller.close(&the, &mut dice) {
             break;
         }
     }
-    for listener in listeners.iter_mut() {
-        listener.catch_up(&the);
+    for receive_worker in receive_workers.iter_mut() {
+        receive_worker.catch_up(&the);
     }
-    settle(alloc, the, tellers, listeners, load)
+    settle(alloc, the, tellers, receive_workers, load)
 }
 
 /// Deals the workers to so many hands, the senders from the first hand on, and the receivers from
@@ -152,14 +152,14 @@ fn deal<B: OfBus>(
     alloc: Global,
     load: Load,
     tellers: Vec<Teller<B>>,
-    listeners: Vec<Listener<B>>,
+    receive_workers: Vec<ReceiveWorker<B>>,
     dice: &mut Pcg32,
 ) -> Result<Vec<Hand<B>>, AllocError> {
     let mut hands = Vec::new(alloc);
     for stream in 0..load.hands {
         hands.push(Hand {
             tellers: Vec::new(alloc),
-            listeners: Vec::new(alloc),
+            receive_workers: Vec::new(alloc),
             dice: Pcg32::new(u64::from(dice.next_u32()), stream),
         })?;
     }
@@ -169,9 +169,9 @@ fn deal<B: OfBus>(
             hand.tellers.push(teller)?;
         }
     }
-    for (place, listener) in listeners.into_iter().enumerate() {
+    for (place, receive_worker) in receive_workers.into_iter().enumerate() {
         if let Some(hand) = hands.get_mut(many - 1 - place % many) {
-            hand.listeners.push(listener)?;
+            hand.receive_workers.push(receive_worker)?;
         }
     }
     Ok(hands)
@@ -188,10 +188,10 @@ fn play<B: OfBus, R: Clock>(rt: &R, the: &TheBus<B>, mut hand: Hand<B>) -> Hand<
                 yield_if(is_idle);
             }
         }
-        for listener in hand.listeners.iter_mut() {
-            if listener.rest.is_none() {
+        for receive_worker in hand.receive_workers.iter_mut() {
+            if receive_worker.rest.is_none() {
                 is_at_work = true;
-                let is_idle = pause(rt, &mut hand.dice) && listener.turn(the);
+                let is_idle = pause(rt, &mut hand.dice) && receive_worker.turn(the);
                 yield_if(is_idle);
             }
         }
@@ -224,23 +224,23 @@ fn yield_if(is_idle: bool) {
 fn gather<B: OfBus>(
     alloc: Global,
     hands: Vec<Hand<B>>,
-) -> Result<(Vec<Teller<B>>, Vec<Listener<B>>), AllocError> {
+) -> Result<(Vec<Teller<B>>, Vec<ReceiveWorker<B>>), AllocError> {
     let mut tellers = Vec::new(alloc);
-    let mut listeners = Vec::new(alloc);
+    let mut receive_workers = Vec::new(alloc);
     for hand in hands {
         let Hand {
             tellers: some,
-            listeners: others,
+            receive_workers: others,
             ..
         } = hand;
         for teller in some {
             tellers.push(teller)?;
         }
-        for listener in others {
-            listeners.push(listener)?;
+        for receive_worker in others {
+            receive_workers.push(receive_worker)?;
         }
     }
-    Ok((tellers, listeners))
+    Ok((tellers, receive_workers))
 }
 
 /// Ends the run: what each worker knows has to go with the log, and with how the bus ends.
@@ -248,28 +248,28 @@ fn settle<B: OfBus>(
     alloc: Global,
     the: TheBus<B>,
     tellers: Vec<Teller<B>>,
-    mut listeners: Vec<Listener<B>>,
+    mut receive_workers: Vec<ReceiveWorker<B>>,
     load: Load,
 ) -> anyhow::Result<Tale>
     requires { load.senders ≤ MOST_SENDERS }
 {
-    let Some(first) = listeners.first_mut() else {
+    let Some(first) = receive_workers.first_mut() else {
         bail!("no receiver is there");
     };
     let words = first.words(alloc, &the)?;
     let read = read_log(alloc, words.as_slice(), load.senders)?;
-    have_heard(&read, listeners.as_slice())?;
+    have_heard(&read, receive_workers.as_slice())?;
     have_told(counts_of(&read)?, tellers.as_slice())?;
     have_waited(tellers.as_slice())?;
-    let tale = tale_of(&read, &tellers, &listeners, load);
+    let tale = tale_of(&read, &tellers, &receive_workers, load);
     if tale.is_whole {
-        let report = end_and_audit(alloc, the, listeners, load)?;
+        let report = end_and_audit(alloc, the, receive_workers, load)?;
         let is_same = report.ended.log() == words.as_slice();
         ensure!(is_same, "the log left is another");
     } else {
         let is_cut = !load.is_calm || tale.gave_up > 0;
         ensure!(is_cut, "nobody stopped, and something is missing");
-        end_with(the, listeners, tale.is_out, words.as_slice())?;
+        end_with(the, receive_workers, tale.is_out, words.as_slice())?;
     }
     Ok(tale)
 }
@@ -278,19 +278,21 @@ fn settle<B: OfBus>(
 fn tale_of<B: OfBus>(
     read: &LogRead,
     tellers: &[Teller<B>],
-    listeners: &[Listener<B>],
+    receive_workers: &[ReceiveWorker<B>],
     load: Load,
 ) -> Tale {
     let has_sent = tellers.iter().all(|teller| teller.has_sent());
-    let in_visits = tellers.iter().filter(|teller| teller.stopped_in_visit());
+    let while_pinned = tellers
+        .iter()
+        .filter(|teller| teller.stopped_while_pinned());
     let with_page = tellers.iter().filter(|teller| teller.has_page);
     Tale {
-        stops: count(tellers, listeners, Rest::Stopped),
-        stops_in_visits: in_visits.count() as u64,
+        stops: count(tellers, receive_workers, Rest::Stopped),
+        stops_while_pinned: while_pinned.count() as u64,
         behinds: tellers
             .iter()
             .fold(0u64, |sum, teller| sum.saturating_add(teller.behinds)),
-        gave_up: count(tellers, listeners, Rest::GaveUp),
+        gave_up: count(tellers, receive_workers, Rest::GaveUp),
         stuck: with_page.filter(|teller| teller.waited_too_long()).count() as u64,
         is_out: tellers.iter().any(|teller| teller.has_page),
         is_calm: load.is_calm,
@@ -304,22 +306,30 @@ fn tale_of<B: OfBus>(
 }
 
 /// How many workers rest for this reason.
-fn count<B: OfBus>(tellers: &[Teller<B>], listeners: &[Listener<B>], rest: Rest) -> u64 {
+fn count<B: OfBus>(tellers: &[Teller<B>], receive_workers: &[ReceiveWorker<B>], rest: Rest) -> u64 {
     let resting = tellers.iter().filter(|t| t.rest == Some(rest)).count();
-    resting.saturating_add(listeners.iter().filter(|l| l.rest == Some(rest)).count()) as u64
+    resting.saturating_add(
+        receive_workers
+            .iter()
+            .filter(|l| l.rest == Some(rest))
+            .count(),
+    ) as u64
 }
 
 /// What each receiver was given begins the order of the log, and is all of it for one that did not
 /// stop.
-fn have_heard<B: OfBus>(read: &LogRead, listeners: &[Listener<B>]) -> anyhow::Result<()> {
+fn have_heard<B: OfBus>(
+    read: &LogRead,
+    receive_workers: &[ReceiveWorker<B>],
+) -> anyhow::Result<()> {
     let order = read.order.items.as_slice();
-    for listener in listeners {
-        let items = listener.items.as_slice();
-        ensure!(listener.is_sound, "an item given is not the next");
+    for receive_worker in receive_workers {
+        let items = receive_worker.items.as_slice();
+        ensure!(receive_worker.is_sound, "an item given is not the next");
         ensure!(order.starts_with(items), "another order was given");
-        let is_all = items.len() == order.len() && listener.heard.ended() == read.order.ended;
-        let has_stopped = listener.rest == Some(Rest::Stopped);
-        let has_end = listener.heard.ended();
+        let is_all = items.len() == order.len() && receive_worker.heard.ended() == read.order.ended;
+        let has_stopped = receive_worker.rest == Some(Rest::Stopped);
+        let has_end = receive_worker.heard.ended();
         ensure!(is_all || has_stopped, "a receiver was not given all");
         ensure!(is_all || !has_end, "an end was given too early");
     }
@@ -347,7 +357,7 @@ fn counts_of(read: &LogRead) -> anyhow::Result<[u64; MOST_SENDERS]> {
 /// was told where it has not the page.
 fn have_told<B: OfBus>(counts: [u64; MOST_SENDERS], tellers: &[Teller<B>]) -> anyhow::Result<()> {
     for teller in tellers {
-        let sender = &teller.desk.sender;
+        let sender = &teller.send_worker.sender;
         let count = counts
             .get(usize::from(sender.number().0))
             .copied()
@@ -386,21 +396,21 @@ fn have_waited<B: OfBus>(tellers: &[Teller<B>]) -> anyhow::Result<()> {
 fn has_left<B: OfBus>(tellers: &[Teller<B>], number: SenderNo) -> bool {
     tellers
         .iter()
-        .filter(|teller| teller.desk.sender.number() == number)
+        .filter(|teller| teller.send_worker.sender.number() == number)
         .any(|teller| matches!(teller.rest, Some(Rest::Stopped | Rest::GaveUp)))
 }
 
 /// Ends the bus by the last receiver: it has just these words, unless its page is out.
 fn end_with<B: OfBus>(
     the: TheBus<B>,
-    mut listeners: Vec<Listener<B>>,
+    mut receive_workers: Vec<ReceiveWorker<B>>,
     is_out: bool,
     words: &[u64],
 ) -> anyhow::Result<()> {
-    let Some(last) = listeners.pop() else {
+    let Some(last) = receive_workers.pop() else {
         bail!("no receiver is there");
     };
-    let Listener { tap, .. } = last;
+    let ReceiveWorker { tap, .. } = last;
     match the.into_bus().end(tap) {
         Ok(ended) => {
             ensure!(!is_out, "the bus ended with its page out");
@@ -415,7 +425,7 @@ fn end_with<B: OfBus>(
 fn end_and_audit<B: OfBus>(
     alloc: Global,
     the: TheBus<B>,
-    mut listeners: Vec<Listener<B>>,
+    mut receive_workers: Vec<ReceiveWorker<B>>,
     load: Load,
 ) -> anyhow::Result<Report>
     requires { load.senders ≤ MOST_SENDERS }
@@ -424,14 +434,14 @@ fn end_and_audit<B: OfBus>(
     ensures sent { IfOk result
         (λ report. OfOrder report.ended (SendsEach load.senders load.messages)) }
 {
-    let mut heards = Vec::with_capacity(alloc, listeners.len())?;
-    let Some(last) = listeners.pop() else {
+    let mut heards = Vec::with_capacity(alloc, receive_workers.len())?;
+    let Some(last) = receive_workers.pop() else {
         bail!("no receiver is there");
     };
-    let Listener { tap, heard, .. } = last;
+    let ReceiveWorker { tap, heard, .. } = last;
     heards.push(heard)?;
-    for listener in listeners {
-        let Listener { heard, .. } = listener;
+    for receive_worker in receive_workers {
+        let ReceiveWorker { heard, .. } = receive_worker;
         heards.push(heard)?;
     }
     let ended = the.into_bus().end(tap)?;

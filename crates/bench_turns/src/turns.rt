@@ -3,13 +3,13 @@
 ghost use Rattle.std.specs.Prelude.{◌≡◌, All};
 ghost use Rattle.bus_pageslot.specs.Seats.{table_of};
 
-use crate::desks::{Desk, desks_of};
+use crate::send_workers::{SendWorker, send_workers_of};
 use bus_pageslot::OfBus;
 use bus_receiver::{MOST_ROWS_AGAIN, Shape};
 use bus_register::Kind;
 use bus_register::limits::MOST_MESSAGES;
 use bus_run::buses::{Bus, Sender, Tap, TheBus};
-use bus_run::workers::{Listener, listeners_of};
+use bus_run::workers::{ReceiveWorker, receive_workers_of};
 use rand_core::Rng;
 use rand_pcg::Pcg32;
 use std::alloc::{AllocError, Global};
@@ -119,17 +119,20 @@ fn take_turns<B: OfBus, R: Clock>(
 {
     let (bus, senders, taps) = made;
     let the = TheBus::<B>::new(bus);
-    let mut desks = desks_of::<B>(alloc, senders)?;
-    let mut listeners = listeners_of::<B>(alloc, taps)?;
+    let mut send_workers = send_workers_of::<B>(alloc, senders)?;
+    let mut receive_workers = receive_workers_of::<B>(alloc, taps)?;
     for _ in 0..MOST_TURNS {
-        let seat = dice.next_u32() as usize % (desks.len() + 1);
-        let (kind, readings) = match (desks.get_mut(seat), listeners.first_mut()) {
-            (Some(desk), _) => match desk.sender.kind() {
-                Some(kind) => (kind, time_desk(rt, &the, desk, dice.next_u32())?),
-                None if fill(desk) => continue,
+        let seat = dice.next_u32() as usize % (send_workers.len() + 1);
+        let (kind, readings) = match (send_workers.get_mut(seat), receive_workers.first_mut()) {
+            (Some(send_worker), _) => match send_worker.sender.kind() {
+                Some(kind) => (
+                    kind,
+                    time_send_worker(rt, &the, send_worker, dice.next_u32())?,
+                ),
+                None if fill(send_worker) => continue,
                 None => return Ok(()),
             },
-            (None, Some(listener)) => time_listener(rt, &the, listener)?,
+            (None, Some(receive_worker)) => time_receive_worker(rt, &the, receive_worker)?,
             (None, None) => return Ok(()),
         };
         add(sums, kind, readings)?;
@@ -138,39 +141,39 @@ fn take_turns<B: OfBus, R: Clock>(
 }
 
 /// Puts as many messages as its batch takes. Says whether one was taken.
-fn fill<B: OfBus>(desk: &mut Desk<B>) -> bool {
+fn fill<B: OfBus>(send_worker: &mut SendWorker<B>) -> bool {
     let mut is_taken = false;
     for _ in 0..MOST_MESSAGES {
-        is_taken |= desk.put();
+        is_taken |= send_worker.put();
     }
     is_taken
 }
 
 /// A turn of a sender.
-fn time_desk<B: OfBus, R: Clock>(
+fn time_send_worker<B: OfBus, R: Clock>(
     rt: &R,
     the: &TheBus<B>,
-    desk: &mut Desk<B>,
+    send_worker: &mut SendWorker<B>,
     word: u32,
 ) -> io::Result<[Instant; 3]> {
     let before = Instant::now(rt)?;
     let between = Instant::now(rt)?;
-    desk.sender.turn(&the.bus, word);
+    send_worker.sender.turn(&the.bus, word);
     Ok([before, between, Instant::now(rt)?])
 }
 
 /// A turn of a receiver, which loads the length where its place stays.
-fn time_listener<B: OfBus, R: Clock>(
+fn time_receive_worker<B: OfBus, R: Clock>(
     rt: &R,
     the: &TheBus<B>,
-    listener: &mut Listener<B>,
+    receive_worker: &mut ReceiveWorker<B>,
 ) -> io::Result<(Kind, [Instant; 3])> {
-    let place = listener.receiver.place();
+    let place = receive_worker.receiver.place();
     let before = Instant::now(rt)?;
     let between = Instant::now(rt)?;
-    listener.receiver.turn(&the.bus);
+    receive_worker.receiver.turn(&the.bus);
     let after = Instant::now(rt)?;
-    let kind = if listener.receiver.place() == place {
+    let kind = if receive_worker.receiver.place() == place {
         Kind::LoadLength
     } else {
         Kind::LoadLogWord

@@ -3,7 +3,7 @@
 
 ghost use Rattle.std.specs.Prelude.{◌≡◌, All};
 
-use crate::desks::Desk;
+use crate::send_workers::SendWorker;
 use bus_pageslot::OfBus;
 use bus_receiver::{Heard, Item, RecvTurn, Turn};
 use bus_register::Kind;
@@ -89,7 +89,7 @@ impl Patience {
 }
 
 /// The step of a sender whose presence names a tenure: it has entered one, and has not withdrawn.
-fn is_of_visit(kind: Kind) -> bool {
+fn is_of_pin(kind: Kind) -> bool {
     match kind {
         Kind::LoadStageAgain
         | Kind::Announce
@@ -120,7 +120,7 @@ fn is_of_visit(kind: Kind) -> bool {
 /// A sender with messages to send.
 #[derive(Drop)]
 pub struct Teller<B: OfBus> {
-    pub desk: Desk<B>,
+    pub send_worker: SendWorker<B>,
     pub rest: Option<Rest>,
     /// It has taken the page and not given it back.
     pub has_page: bool,
@@ -138,9 +138,14 @@ pub struct Teller<B: OfBus> {
 
 impl<B: OfBus> Teller<B> {
     /// A sender of so many messages, in batches of at most so many, that has not begun.
-    pub fn new(desk: Desk<B>, messages: u64, batch: u32, patience: Patience) -> Teller<B> {
+    pub fn new(
+        send_worker: SendWorker<B>,
+        messages: u64,
+        batch: u32,
+        patience: Patience,
+    ) -> Teller<B> {
         Teller {
-            desk,
+            send_worker,
             rest: None,
             has_page: false,
             delivered: 0,
@@ -154,7 +159,7 @@ impl<B: OfBus> Teller<B> {
 
     /// All its messages stand in the order.
     pub fn has_sent(&self) -> bool {
-        self.messages == 0 && self.delivered == self.desk.sender.next_number()
+        self.messages == 0 && self.delivered == self.send_worker.sender.next_number()
     }
 
     /// It gave up since it only waited, for as many turns as it may.
@@ -163,8 +168,8 @@ impl<B: OfBus> Teller<B> {
     }
 
     /// It stopped for good, and its presence names a tenure.
-    pub fn stopped_in_visit(&self) -> bool {
-        self.rest == Some(Rest::Stopped) && self.desk.sender.kind().is_some_and(is_of_visit)
+    pub fn stopped_while_pinned(&self) -> bool {
+        self.rest == Some(Rest::Stopped) && self.send_worker.sender.kind().is_some_and(is_of_pin)
     }
 
     /// One turn, unless it rests. Says whether there was nothing to do.
@@ -173,10 +178,10 @@ impl<B: OfBus> Teller<B> {
         if self.rest.is_some() {
             return false;
         }
-        if self.desk.sender.pending() == 0 {
+        if self.send_worker.sender.pending() == 0 {
             self.fill(dice);
         }
-        let turn = self.desk.sender.turn(&the.bus, dice.next_u32());
+        let turn = self.send_worker.sender.turn(&the.bus, dice.next_u32());
         self.take_in(turn);
         let waits = matches!(turn, Turn::Waiting | Turn::Behind { .. });
         self.patience.note(waits);
@@ -186,7 +191,7 @@ impl<B: OfBus> Teller<B> {
     /// Puts one to a batch of the messages that are left.
     fn fill(&mut self, dice: &mut Pcg32) {
         for _ in 0..1 + dice.next_u32() % self.batch.max(1) {
-            if self.messages > 0 && self.desk.put() {
+            if self.messages > 0 && self.send_worker.put() {
                 self.messages -= 1;
             }
         }
@@ -213,7 +218,7 @@ impl<B: OfBus> Teller<B> {
 
     /// Where it has done all, it closes the bus if it can. Says whether the close was taken.
     pub fn close(&mut self, the: &TheBus<B>, dice: &mut Pcg32) -> bool {
-        if self.rest != Some(Rest::Done) || self.desk.sender.close().is_err() {
+        if self.rest != Some(Rest::Done) || self.send_worker.sender.close().is_err() {
             return false;
         }
         self.patience = Patience::all();
@@ -229,7 +234,7 @@ impl<B: OfBus> Teller<B> {
 
 /// A receiver of the bus B, with all that it was given.
 #[derive(Drop)]
-pub struct Listener<B: OfBus> {
+pub struct ReceiveWorker<B: OfBus> {
     pub tap: Tap,
     pub heard: Heard,
     pub items: Vec<Item>,
@@ -241,12 +246,12 @@ pub struct Listener<B: OfBus> {
     ghost of_bus: { tap.table_id ≡ B.table },
 }
 
-impl<B: OfBus> Listener<B> {
+impl<B: OfBus> ReceiveWorker<B> {
     /// A receiver that has not begun.
-    pub fn new(alloc: Global, tap: Tap, patience: Patience) -> Result<Listener<B>, AllocError>
+    pub fn new(alloc: Global, tap: Tap, patience: Patience) -> Result<ReceiveWorker<B>, AllocError>
         requires { tap.table_id ≡ B.table }
     {
-        Ok(Listener {
+        Ok(ReceiveWorker {
             tap,
             heard: Heard::new(),
             items: Vec::with_capacity(alloc, MOST_ITEMS)?,
@@ -299,18 +304,18 @@ impl<B: OfBus> Listener<B> {
     }
 }
 
-/// A listener for each receiver, in order.
-pub fn listeners_of<B: OfBus>(
+/// A worker for each receiver, in order.
+pub fn receive_workers_of<B: OfBus>(
     alloc: Global,
     taps: Vec<Tap>,
     dice: &mut Pcg32,
     is_calm: bool,
-) -> Result<Vec<Listener<B>>, AllocError>
+) -> Result<Vec<ReceiveWorker<B>>, AllocError>
     requires { All (λ tap. tap.table_id ≡ B.table) taps.items }
 {
-    let mut listeners = Vec::with_capacity(alloc, taps.len())?;
+    let mut receive_workers = Vec::with_capacity(alloc, taps.len())?;
     for tap in taps {
-        listeners.push(Listener::new(alloc, tap, Patience::cast(dice, is_calm))?)?;
+        receive_workers.push(ReceiveWorker::new(alloc, tap, Patience::cast(dice, is_calm))?)?;
     }
-    Ok(listeners)
+    Ok(receive_workers)
 }

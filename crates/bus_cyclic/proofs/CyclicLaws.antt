@@ -7,24 +7,24 @@ use Rattle.bus_register.specs.Protocol.{Protocol}
 use Rattle.bus_register.specs.Words.{register, SumFits}
 use Rattle.bus_batch.specs.Batches.{Pending, next_of, CanClose}
 use Rattle.bus_deliverylog.specs.Receiving.{Receiving, receiving_op}
-use Rattle.bus_presence.specs.Sweeps.{behind_of}
-use Rattle.bus_presence.specs.declared.sweeps.Behind.{Behind}
-use Rattle.bus_presence.specs.declared.visits.Visit.{Visit}
-use Rattle.bus_presence.specs.declared.visits.Visit.TheVariants.{Away, Entering, Looking, Inside, Parting, Barred}
-use Rattle.bus_guest.specs.Guests.{Due, Visits, Sweeps, Goes, log_from, answer_going}
-use Rattle.bus_guest.specs.Turns.{Visitor, due, op_next, words_with, answer_due, answer_of_visit, answer_of_sweep, answer_of_loss, queue_seen}
+use Rattle.bus_presence.specs.Reclaimers.{behind_of}
+use Rattle.bus_presence.specs.declared.reclaimers.Behind.{Behind}
+use Rattle.bus_presence.specs.declared.pins.Pin.{Pin}
+use Rattle.bus_presence.specs.declared.pins.Pin.TheVariants.{Away, Announcing, Validating, Pinned, Unpinning, Invalidated}
+use Rattle.bus_guest.specs.Guests.{Due, Pins, Reclaims, Goes, log_from, answer_going}
+use Rattle.bus_guest.specs.Turns.{Visitor, due, op_next, words_with, answer_due, answer_of_pin, answer_of_reclaim, answer_of_loss, queue_seen}
 use Rattle.bus_register.specs.declared.registers.SenderNo.{SenderNo}
 use Rattle.bus_tenure.specs.Core.{Election, Layout, is_empty}
 use Rattle.bus_tenure.specs.Seen.{AwaitsItsPage}
 use Rattle.bus_tenure.specs.Situations.{Situation, IsClosed, IsIdle, IsSpent, LooksAtStage, Elects, TakesPage, AwaitsPage, StoresWord, StoresLength, GivesBack, HasHanded, situation_at}
 use Rattle.bus_tenure.specs.declared.turns.Turn.{Turn as Answered}
 use Rattle.bus_world.specs.Bus.{IsLayout}
-use Rattle.bus_world.specs.Headline.{Deed, HasPut, HasClosed, IsPrefix}
+use Rattle.bus_world.specs.Headline.{Action, HasPut, HasClosed, IsPrefix}
 use Rattle.bus_world.specs.Playing.{PutGives, CloseGives, StopGives}
-use Rattle.bus_world.specs.Rings.{Ring, RingTrails, RingReached, TurnTaken, PutTaken, CloseTaken, RecvTaken, StopTaken, IsKeptRing, IsOnWord, guest_going, ring_after, ring_trails, ring_sweeps, ring_deeds, with_guest, visitor_put, visitor_closed}
+use Rattle.bus_world.specs.Rings.{Ring, RingTrails, RingReached, TurnTaken, PutTaken, CloseTaken, RecvTaken, StopTaken, IsKeptRing, IsOnWord, guest_going, ring_after, ring_trails, ring_reclaims, ring_actions, with_guest, visitor_put, visitor_closed}
 use Rattle.bus_world.specs.Turning.{number_found, owners_by, owners_after}
 use Rattle.bus_world.specs.World.{Event, Put, Close, Turn, Recv, Stop, can_put, can_close, is_open, is_set}
-use Rattle.bus_world.specs.Yards.{deeds_with}
+use Rattle.bus_world.specs.Yards.{actions_with}
 use Rattle.bus_world.specs.declared.events.Answer.{Answer}
 use Rattle.bus_world.specs.declared.events.Answer.TheVariants as answer
 use Rattle.bus_world.proofs.EventTrails.{put_taken}
@@ -35,7 +35,7 @@ use Rattle.bus_world.proofs.Serving.{Serves}
 use Rattle.bus_cyclic.specs.Cyclic.{CyclicBus, LeadTo, AreLastTakers, IsServedRing, last_of, log_of}
 use Rattle.bus_cyclic.specs.Following.{Steps, Follows, ring_trails_grown, turn_grown, heard_grown, TurnsWithin}
 use Rattle.bus_cyclic.specs.Following as following
-use Rattle.bus_cyclic.specs.Staying.{HasGoneOn, deeds_in, stage_of}
+use Rattle.bus_cyclic.specs.Staying.{HasGoneOn, actions_in, stage_of}
 use Rattle.bus_cyclic.specs.Happening.{Happens, GuestDoes, ReaderDoes, TurnAnswers, RecvAnswers, core_found}
 use Rattle.bus_cyclic.proofs.LastTakers.{takers_one, last_told, last_beside, put_takes, close_takes}
 
@@ -45,17 +45,17 @@ module _ {E : Type 0} (X : Election E) (v : Visitor E) (s : ℕ) (owners : List 
   loss_told t None = refl
   loss_told t (Some o) = refl
 
-  visit_told : (u : Visit) (l : Option SenderNo) → owners ≡ owners_by (answer_of_visit u l) s owners
-  visit_told Away l = refl
-  visit_told (Entering t) l = refl
-  visit_told (Looking t) l = refl
-  visit_told (Inside t) l = refl
-  visit_told (Parting t) l = loss_told t l
-  visit_told (Barred t) l = refl
+  pin_told : (u : Pin) (l : Option SenderNo) → owners ≡ owners_by (answer_of_pin u l) s owners
+  pin_told Away l = refl
+  pin_told (Announcing t) l = refl
+  pin_told (Validating t) l = refl
+  pin_told (Pinned t) l = refl
+  pin_told (Unpinning t) l = loss_told t l
+  pin_told (Invalidated t) l = refl
 
-  sweep_told : (b : Option Behind) → owners ≡ owners_by (answer_of_sweep b) s owners
-  sweep_told None = refl
-  sweep_told (Some b) = refl
+  reclaimer_told : (b : Option Behind) → owners ≡ owners_by (answer_of_reclaim b) s owners
+  reclaimer_told None = refl
+  reclaimer_told (Some b) = refl
 
   going_told : (z : Situation E) (got word : ℕ) → owners_after X v.core z s owners ≡ owners_by (answer_going X v.core z got word) s owners
   going_told IsClosed got word = refl
@@ -71,18 +71,18 @@ module _ {E : Type 0} (X : Election E) (v : Visitor E) (s : ℕ) (owners : List 
   going_told (HasHanded t reason) got word = owners_told X v.core s owners (HasHanded t reason) got word
 
   due_told : (d : Due E) (got word : ℕ) → owners_due X v s d owners ≡ owners_by (answer_due X v d got word) s owners
-  due_told (Visits o) got word = visit_told v.visit v.lost
-  due_told (Sweeps r o) got word = sweep_told (behind_of r got)
+  due_told (Pins o) got word = pin_told v.pin v.lost
+  due_told (Reclaims r o) got word = reclaimer_told (behind_of r got)
   due_told (Goes z) got word = going_told z got word
 
 -- ---- a batch that is on its way has the same numbers
-pub next_seen : (q : Pending) (u : Visit) → next_of (queue_seen q u) ≡ next_of q
+pub next_seen : (q : Pending) (u : Pin) → next_of (queue_seen q u) ≡ next_of q
 next_seen q Away = refl
-next_seen q (Entering t) = refl
-next_seen q (Looking t) = refl
-next_seen q (Inside t) = refl
-next_seen q (Parting t) = refl
-next_seen q (Barred t) = refl
+next_seen q (Announcing t) = refl
+next_seen q (Validating t) = refl
+next_seen q (Pinned t) = refl
+next_seen q (Unpinning t) = refl
+next_seen q (Invalidated t) = refl
 
 close_taken : (q : Pending) → CanClose q → can_close q ≡ true
 close_taken q can =
@@ -112,15 +112,15 @@ module _ {E : Type 0} (X : Election E) (P : Protocol E (Unit {0}) ℕ) where
       answered = answer_due X v (due X v) got word
 
       abbrev later : RingTrails
-      later = record T { visits = ring_trails b p (due X v) T.visits; sweeps = ring_sweeps b p (due X v) T.sweeps; deeds = ring_deeds X b p v (due X v) word answered T.deeds }
+      later = record T { pins = ring_trails b p (due X v) T.pins; reclaims = ring_reclaims b p (due X v) T.reclaims; actions = ring_actions X b p v (due X v) word answered T.actions }
 
       turned : IsLed X P s.laws s.owner_is s.named s.announces s.apart (ring_after X b p v (due X v) word) later
       turned = turn_led X P s.laws s.owner_is s.named s.announces s.apart b layout T led p v word answered at (due X v) refl low refl
 
-      turn_last : AreLastTakers b.rows (last_of b.rows (owners_by answered p z.owners)) later.deeds
+      turn_last : AreLastTakers b.rows (last_of b.rows (owners_by answered p z.owners)) later.actions
       unfolding turned
       turn_last =
-          let same : l.owners.all ≡ led.leads.owners = takers_one l.owners.all led.leads.owners T.deeds l.owners.takers (fits.takers_are X P s.laws s.owner_is s.named s.announces s.apart b layout T led) in
+          let same : l.owners.all ≡ led.leads.owners = takers_one l.owners.all led.leads.owners T.actions l.owners.takers (fits.takers_are X P s.laws s.owner_is s.named s.announces s.apart b layout T led) in
           let told : turned.leads.owners ≡ owners_by answered p l.owners.all =
           turn_owners X P s.laws s.owner_is s.named s.announces s.apart b layout T led p v word answered at (due X v) refl low refl
           ∙ ap (owners_due X v p (due X v)) (sym same) ∙ due_told X v p l.owners.all (due X v) got word in
@@ -135,17 +135,17 @@ module _ {E : Type 0} (X : Election E) (P : Protocol E (Unit {0}) ℕ) where
         → (number : ℕ) → PutGives (core_found o) (length bytes) number → a ≡ answer.Number number → LeadTo X z' (ring_trails_grown X b (Put p bytes) a T)
     put_leads p bytes a z' small owners None goes does number gives told = absurd gives
     put_leads p bytes a z' small owners (Some v) goes does number gives told =
-        let can : can_put (queue_seen v.core.queue v.visit) (length bytes) ≡ true = put_taken (queue_seen v.core.queue v.visit) (length bytes) gives.0 in
-        let ds : List Deed = HasPut number bytes ∷ [] in
-        let number_is : number ≡ next_of v.core.queue = gives.1 ∙ next_seen v.core.queue v.visit in
+        let can : can_put (queue_seen v.core.queue v.pin) (length bytes) ≡ true = put_taken (queue_seen v.core.queue v.pin) (length bytes) gives.0 in
+        let ds : List Action = HasPut number bytes ∷ [] in
+        let number_is : number ≡ next_of v.core.queue = gives.1 ∙ next_seen v.core.queue v.pin in
         let whole = PutTaken b T p v bytes l.reached goes small in
-        let same : record T { deeds = deeds_with p (cond (can_put (queue_seen v.core.queue v.visit) (length bytes)) (HasPut (next_of v.core.queue) bytes ∷ []) []) T.deeds } ≡ record T { deeds = deeds_with p ds T.deeds } =
-        ap (λ c. record T { deeds = deeds_with p (cond c (HasPut (next_of v.core.queue) bytes ∷ []) []) T.deeds }) can ∙ ap (λ n. record T { deeds = deeds_with p (HasPut n bytes ∷ []) T.deeds }) (sym number_is) in
-        let base : LeadTo X (record { ring = with_guest b p (visitor_put v bytes); owners = z.owners }) (record T { deeds = deeds_with p ds T.deeds }) = record {
+        let same : record T { actions = actions_with p (cond (can_put (queue_seen v.core.queue v.pin) (length bytes)) (HasPut (next_of v.core.queue) bytes ∷ []) []) T.actions } ≡ record T { actions = actions_with p ds T.actions } =
+        ap (λ c. record T { actions = actions_with p (cond c (HasPut (next_of v.core.queue) bytes ∷ []) []) T.actions }) can ∙ ap (λ n. record T { actions = actions_with p (HasPut n bytes ∷ []) T.actions }) (sym number_is) in
+        let base : LeadTo X (record { ring = with_guest b p (visitor_put v bytes); owners = z.owners }) (record T { actions = actions_with p ds T.actions }) = record {
           reached = subst (RingReached X (with_guest b p (visitor_put v bytes))) same whole;
-          owners = last_beside b.rows z.owners T.deeds p ds (put_takes number bytes) l.owners;
+          owners = last_beside b.rows z.owners T.actions p ds (put_takes number bytes) l.owners;
         } in
-        subst (λ c. LeadTo X z' (ring_trails_grown X b (Put p bytes) c T)) (sym told) (subst (λ y. LeadTo X y (record T { deeds = deeds_with p ds T.deeds })) (sym (parts z' _ _ does owners)) base)
+        subst (λ c. LeadTo X z' (ring_trails_grown X b (Put p bytes) c T)) (sym told) (subst (λ y. LeadTo X y (record T { actions = actions_with p ds T.actions })) (sym (parts z' _ _ does owners)) base)
       where
         parts : (y : CyclicBus E) (r : Ring E) (owners : List ℕ) → y.ring ≡ r → y.owners ≡ owners → y ≡ record { ring = r; owners = owners }
         parts y r owners i j = ap (λ q. record { ring = q; owners = y.owners }) i ∙ ap (λ q. record { ring = r; owners = q }) j
@@ -157,16 +157,16 @@ module _ {E : Type 0} (X : Election E) (P : Protocol E (Unit {0}) ℕ) where
         → CloseGives (core_found o) → a ≡ answer.Closing → LeadTo X z' (ring_trails_grown X b (Close p) a T)
     close_leads p a z' owners None goes does gives told = absurd gives
     close_leads p a z' owners (Some v) goes does gives told =
-        let can : can_close (queue_seen v.core.queue v.visit) ≡ true = close_taken (queue_seen v.core.queue v.visit) gives in
-        let ds : List Deed = HasClosed ∷ [] in
+        let can : can_close (queue_seen v.core.queue v.pin) ≡ true = close_taken (queue_seen v.core.queue v.pin) gives in
+        let ds : List Action = HasClosed ∷ [] in
         let whole = CloseTaken b T p v l.reached goes in
-        let same : record T { deeds = deeds_with p (cond (can_close (queue_seen v.core.queue v.visit)) (HasClosed ∷ []) []) T.deeds } ≡ record T { deeds = deeds_with p ds T.deeds } =
-        ap (λ c. record T { deeds = deeds_with p (cond c (HasClosed ∷ []) []) T.deeds }) can in
-        let base : LeadTo X (record { ring = with_guest b p (visitor_closed v); owners = z.owners }) (record T { deeds = deeds_with p ds T.deeds }) = record {
+        let same : record T { actions = actions_with p (cond (can_close (queue_seen v.core.queue v.pin)) (HasClosed ∷ []) []) T.actions } ≡ record T { actions = actions_with p ds T.actions } =
+        ap (λ c. record T { actions = actions_with p (cond c (HasClosed ∷ []) []) T.actions }) can in
+        let base : LeadTo X (record { ring = with_guest b p (visitor_closed v); owners = z.owners }) (record T { actions = actions_with p ds T.actions }) = record {
           reached = subst (RingReached X (with_guest b p (visitor_closed v))) same whole;
-          owners = last_beside b.rows z.owners T.deeds p ds close_takes l.owners;
+          owners = last_beside b.rows z.owners T.actions p ds close_takes l.owners;
         } in
-        subst (λ c. LeadTo X z' (ring_trails_grown X b (Close p) c T)) (sym told) (subst (λ y. LeadTo X y (record T { deeds = deeds_with p ds T.deeds })) (sym (same_parts z' _ _ does owners)) base)
+        subst (λ c. LeadTo X z' (ring_trails_grown X b (Close p) c T)) (sym told) (subst (λ y. LeadTo X y (record T { actions = actions_with p ds T.actions })) (sym (same_parts z' _ _ does owners)) base)
 
     there_shown : (t : Bool) (o : Option (Visitor E)) (v : Visitor E) → cond t None o ≡ Some v → o ≡ Some v
     there_shown true o v e = absurd (let bad : None ≡ Some v = e in cc)
@@ -262,7 +262,7 @@ module _ {E : Type 0} (X : Election E) (P : Protocol E (Unit {0}) ℕ) where
     promised T l = ring_kept X P s.laws s.owner_is s.named s.announces s.apart z.ring (layout_served z.ring.layout z.ring.rows s ok h.rows_some) T l.reached
 
     pub follows : (e : Event) (a : Answer) (z' : CyclicBus E) → Steps X z e a z' → IsPrefix (log_of z.ring) (log_of z'.ring) → stage_of z.ring ≤ stage_of z'.ring
-        → ((T : RingTrails) → LeadTo X z T → (t p : ℕ) → HasGoneOn z.ring t → deeds_in t ((ring_trails_grown X z.ring e a T).deeds p) ≡ deeds_in t (T.deeds p)) → Follows X z e a z'
+        → ((T : RingTrails) → LeadTo X z T → (t p : ℕ) → HasGoneOn z.ring t → actions_in t ((ring_trails_grown X z.ring e a T).actions p) ≡ actions_in t (T.actions p)) → Follows X z e a z'
     follows e a z' d grows rises stays =
         let same = event_sizes z.ring z'.ring e d.happens in
         record {

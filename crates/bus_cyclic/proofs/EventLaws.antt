@@ -139,7 +139,7 @@ module _ {E : Type 0} (X : Election E) (P : Protocol E (Unit {0}) ℕ) (z : Cycl
 
       unchanged : (why : StepFault) → PutRefused (core_found (Some v)) (length bytes) why → with_guest b p v' ≡ b
       unchanged why q =
-          let same : v' ≡ v = put_is ∙ ap (λ t. cond t (record v { core = record v.core { queue = record v.core.queue { messages = v.core.queue.messages ++ bytes ∷ [] } } }) v) (put_allowed (queue_seen v.core.queue v.visit) (length bytes) q.0 q.1) in
+          let same : v' ≡ v = put_is ∙ ap (λ t. cond t (record v { core = record v.core { queue = record v.core.queue { messages = v.core.queue.messages ++ bytes ∷ [] } } }) v) (put_allowed (queue_seen v.core.queue v.pin) (length bytes) q.0 q.1) in
           ap (with_guest b p) same ∙ same_guest
 
       pub put_sits : All (λ byte. byte < 256) bytes → (r : Result ℕ StepFault) → IfOk r (PutGives (core_found (Some v)) (length bytes)) → IfErr r (PutRefused (core_found (Some v)) (length bytes)) → IsServedRing X (with_ring (with_guest b p v'))
@@ -166,7 +166,7 @@ module _ {E : Type 0} (X : Election E) (P : Protocol E (Unit {0}) ℕ) (z : Cycl
 
       left_open : (why : StepFault) → CloseRefused (core_found (Some v)) why → with_guest b p v' ≡ b
       left_open why q =
-          let same : v' ≡ v = close_is ∙ ap (λ t. cond t (record v { core = record v.core { queue = record v.core.queue { phase = Closing } } }) v) (close_allowed (queue_seen v.core.queue v.visit) q.0 q.1) in
+          let same : v' ≡ v = close_is ∙ ap (λ t. cond t (record v { core = record v.core { queue = record v.core.queue { phase = Closing } } }) v) (close_allowed (queue_seen v.core.queue v.pin) q.0 q.1) in
           ap (with_guest b p) same ∙ same_guest
 
       pub close_sits : (r : Result (Unit {0}) StepFault) → OnOk r (CloseGives (core_found (Some v))) → IfErr r (CloseRefused (core_found (Some v))) → IsServedRing X (with_ring (with_guest b p v'))

@@ -4,12 +4,12 @@ use Rattle.std.specs.Prelude.{IsSome}
 use Rattle.bus_register.specs.declared.registers.Op.{Op}
 use Rattle.bus_register.specs.declared.registers.Op.TheVariants.{Store}
 use Rattle.bus_register.specs.Words.{register}
-use Rattle.bus_presence.specs.Sweeps.{Sweeping}
-use Rattle.bus_presence.specs.Hall.{presence_at}
-use Rattle.bus_presence.specs.Visits.{step_at}
-use Rattle.bus_presence.specs.declared.visits.Visit.{Visit}
-use Rattle.bus_presence.specs.declared.visits.Visit.TheVariants.{Away, Entering, Looking, Inside, Parting, Barred}
-use Rattle.bus_guest.specs.Guests.{Due, Visits, Sweeps, Goes, sizes_with, due_beside, core_looked, core_seen}
+use Rattle.bus_presence.specs.Reclaimers.{Reclaiming}
+use Rattle.bus_presence.specs.Reclamation.{presence_at}
+use Rattle.bus_presence.specs.Pins.{step_at}
+use Rattle.bus_presence.specs.declared.pins.Pin.{Pin}
+use Rattle.bus_presence.specs.declared.pins.Pin.TheVariants.{Away, Announcing, Validating, Pinned, Unpinning, Invalidated}
+use Rattle.bus_guest.specs.Guests.{Due, Pins, Reclaims, Goes, sizes_with, due_beside, core_looked, core_seen}
 use Rattle.bus_guest.specs.Keeping.{IsRowReady, held_of}
 use Rattle.bus_guest.proofs.Tells.{Shows, gives_shows}
 use Rattle.bus_guest.specs.Telling.{FeedTells, GivesReady, Returns as Gives, Gives as Hands, Says, HasPublished, Published, HandsOnSent, LacksRoom, FindsNoRoom, HandsOnFull, FindsEnd, Ended, HandsOnEnd}
@@ -31,7 +31,7 @@ use Rattle.bus_world.proofs.RingLaws.{due_goes}
 use Rattle.bus_cyclic.specs.Telling.{RestTells, StepTells}
 
 -- ---- what is due
-due_free : {E : Type 0} (o : Option Op) (s : Option Sweeping) (z w : Situation E) → due_beside o s z ≡ Goes w → o ≡ None
+due_free : {E : Type 0} (o : Option Op) (s : Option Reclaiming) (z w : Situation E) → due_beside o s z ≡ Goes w → o ≡ None
 due_free (Some p) s z w e = absurd cc
 due_free None s z w e = refl
 
@@ -64,10 +64,10 @@ module _ {E : Type 0} (X : Election E) (v : Visitor E) (word : ℕ) where
     idle_at (HasHanded t reason) i e = absurd cc
 
     idle_due : (d : Due E) → due X v ≡ d → op_due X v d word ≡ None → v ≡ visitor_due X v d (number_found (λ r. 0) (op_due X v d word)) word
-    idle_due (Visits o) i e = absurd (none_is o e)
-    idle_due (Sweeps s o) i e = absurd (none_is o e)
+    idle_due (Pins o) i e = absurd (none_is o e)
+    idle_due (Reclaims s o) i e = absurd (none_is o e)
     idle_due (Goes z) i e =
-        idle_at z (due_goes _ v.sweep (situation_of X v.core) z i) (placed_none _ _ e)
+        idle_at z (due_goes _ v.reclaimer (situation_of X v.core) z i) (placed_none _ _ e)
         ∙ ap (λ o. visitor_due X v (Goes z) (number_found (λ r. 0) o) word) (sym e)
 
     pub idle_turn : (words : ℕ → ℕ) → op_next X v word ≡ None → v ≡ visitor_after X v (number_found words (op_next X v word)) word
@@ -90,9 +90,9 @@ module _ {E : Type 0} (X : Election E) (v : Visitor E) (word : ℕ) where
     rest_at_tells (HasHanded t reason) i e n = absurd cc
 
     rest_tells : (d : Due E) → due X v ≡ d → op_due X v d word ≡ None → RestTells X v (rest_due X v d)
-    rest_tells (Visits o) e n = absurd (none_is o n)
-    rest_tells (Sweeps s o) e n = absurd (none_is o n)
-    rest_tells (Goes z) e n = rest_at_tells z (due_goes _ v.sweep (situation_of X v.core) z e) e (placed_none _ _ n)
+    rest_tells (Pins o) e n = absurd (none_is o n)
+    rest_tells (Reclaims s o) e n = absurd (none_is o n)
+    rest_tells (Goes z) e n = rest_at_tells z (due_goes _ v.reclaimer (situation_of X v.core) z e) e (placed_none _ _ n)
 
     pub idle_tells : (cells : List ℕ) (r : Answered) → op_next X v word ≡ None → r ≡ rest_due X v (due X v) → StepTells X cells v (op_next X v word) word r
     idle_tells cells r e told = subst (λ o. StepTells X cells v o word r) (sym e) (subst (RestTells X v) (sym told) (rest_tells (due X v) refl e))
@@ -122,7 +122,7 @@ module _ {E : Type 0} (X : Election E) (v : Visitor E) (home : Option Page) (wor
   -- whose page was handed over is to store the stage
   hands : (t : ℕ) (page : Page) (reason : Reason) → due X v ≡ Goes (GivesBack t page reason) → due X record v { core = record v.core { phase = phase.Giving t reason } } ≡ Goes (HasHanded t reason)
   hands t page reason e =
-      ap (λ o. due_beside o v.sweep (HasHanded t reason)) (due_free (step_at v.visit (presence_at (sizes_with v.core.layout v.rows) v.core.me) stage_at) v.sweep (situation_of X v.core) (GivesBack t page reason) e)
+      ap (λ o. due_beside o v.reclaimer (HasHanded t reason)) (due_free (step_at v.pin (presence_at (sizes_with v.core.layout v.rows) v.core.me) stage_at) v.reclaimer (situation_of X v.core) (GivesBack t page reason) e)
 
   record AsBefore (d : Due E) : Type 0 where
     same_op : op_next X (handed d) word ≡ op_due X v d word
@@ -137,8 +137,8 @@ module _ {E : Type 0} (X : Election E) (v : Visitor E) (home : Option Page) (wor
   }
 
   as_before : (d : Due E) → due X v ≡ d → AsBefore d
-  as_before (Visits o) e = stays (Visits o) e refl
-  as_before (Sweeps s o) e = stays (Sweeps s o) e refl
+  as_before (Pins o) e = stays (Pins o) e refl
+  as_before (Reclaims s o) e = stays (Reclaims s o) e refl
   as_before (Goes IsClosed) e = stays (Goes IsClosed) e refl
   as_before (Goes IsIdle) e = stays (Goes IsIdle) e refl
   as_before (Goes IsSpent) e = stays (Goes IsSpent) e refl
@@ -174,7 +174,7 @@ module _ {E : Type 0} (X : Election E) (v : Visitor E) (home : Option Page) (wor
     stores = ap (λ w. op_due X g w word) (hands t page reason e)
 
     here : situation_of X v.core ≡ GivesBack t page reason
-    here = due_goes _ v.sweep (situation_of X v.core) (GivesBack t page reason) e
+    here = due_goes _ v.reclaimer (situation_of X v.core) (GivesBack t page reason) e
 
     readies : (u : ℕ) → GivesReady X g u → GivesReady X v u
     readies u w = record {
@@ -194,7 +194,7 @@ module _ {E : Type 0} (X : Election E) (v : Visitor E) (home : Option Page) (wor
     now = ap (λ w. op_due X v w word) e
 
     handed_ready : (u : ℕ) → GivesReady X v u → GivesReady X g t
-    handed_ready u w = record { due_is = hands t page reason e; returns = Says reason; ready = subst (λ k. IsRowReady (sizes_of v) k v.sweep) (back_same u _ w.returns here) w.ready }
+    handed_ready u w = record { due_is = hands t page reason e; returns = Says reason; ready = subst (λ k. IsRowReady (sizes_of v) k v.reclaimer) (back_same u _ w.returns here) w.ready }
 
     gives_too : (r : Answered) → FeedTells X g n word r → FeedTells X v n word r
     gives_too turn.Idle w = w
@@ -203,7 +203,7 @@ module _ {E : Type 0} (X : Election E) (v : Visitor E) (home : Option Page) (wor
     gives_too turn.Going w = record {
       loses = λ u o i. w.loses u o record { parts = i.parts; lost = i.lost };
       holds = λ u i. ap held_of (tells X v.core (GivesBack t page reason) here).2 ∙ w.holds u i;
-      barred = w.barred;
+      invalidated = w.invalidated;
       takes = λ u i. let bad = sym (tells X v.core (GivesBack t page reason) here).2 ∙ i.elects in cc;
       gives = λ u i. w.gives t (handed_ready u i);
       waits = λ i. let bad = sym e ∙ i.looks in cc;
@@ -227,8 +227,8 @@ module _ {E : Type 0} (X : Election E) (v : Visitor E) (home : Option Page) (wor
     gives_too (turn.Behind u p) w = absurd (let bad = sym stores ∙ w.loads in cc)
 
   pub feed_tells_before : (got : ℕ) (r : Answered) (d : Due E) → due X v ≡ d → FeedTells X (handed d) got word r → FeedTells X v got word r
-  feed_tells_before got r (Visits o) e w = w
-  feed_tells_before got r (Sweeps s o) e w = w
+  feed_tells_before got r (Pins o) e w = w
+  feed_tells_before got r (Reclaims s o) e w = w
   feed_tells_before got r (Goes IsClosed) e w = w
   feed_tells_before got r (Goes IsIdle) e w = w
   feed_tells_before got r (Goes IsSpent) e w = w
@@ -242,8 +242,8 @@ module _ {E : Type 0} (X : Election E) (v : Visitor E) (home : Option Page) (wor
   feed_tells_before got r (Goes (HasHanded t reason)) e w = w
 
   tells_before : (cells : List ℕ) (r : Answered) (d : Due E) → due X v ≡ d → StepTells X cells (handed d) (op_next X (handed d) word) word r → StepTells X cells v (op_next X v word) word r
-  tells_before cells r (Visits o) e w = w
-  tells_before cells r (Sweeps s o) e w = w
+  tells_before cells r (Pins o) e w = w
+  tells_before cells r (Reclaims s o) e w = w
   tells_before cells r (Goes IsClosed) e w = w
   tells_before cells r (Goes IsIdle) e w = w
   tells_before cells r (Goes IsSpent) e w = w
@@ -270,17 +270,17 @@ module _ {E : Type 0} (X : Election E) (v : Visitor E) (laid : AwaitsItsPage v.c
   was : laying v.core.phase ≡ Stays
   was = quiet v.core.phase laid
 
-  looked_lays : (u : Visit) (got : ℕ) → laying (core_looked X v.core u got).phase ≡ Stays
+  looked_lays : (u : Pin) (got : ℕ) → laying (core_looked X v.core u got).phase ≡ Stays
   looked_lays Away got = was
-  looked_lays (Entering t) got = was
-  looked_lays (Looking t) got = by_test (got / 2 == t)
+  looked_lays (Announcing t) got = was
+  looked_lays (Validating t) got = by_test (got / 2 == t)
     where
       by_test : (a : Bool) → laying (cond a (core_begun X v.core t) v.core).phase ≡ Stays
       by_test true = refl
       by_test false = was
-  looked_lays (Inside t) got = was
-  looked_lays (Parting t) got = was
-  looked_lays (Barred t) got = was
+  looked_lays (Pinned t) got = was
+  looked_lays (Unpinning t) got = was
+  looked_lays (Invalidated t) got = was
 
   seen_lays : (got : ℕ) → laying (core_seen v.core got).phase ≡ Stays
   seen_lays got = by_tests (waits v.core got) (nat_le v.core.layout.rows (got / 2))
@@ -312,9 +312,9 @@ module _ {E : Type 0} (X : Election E) (v : Visitor E) (laid : AwaitsItsPage v.c
   going_lays (HasHanded t reason) i got = refl
 
   lays : (d : Due E) → due X v ≡ d → (got : ℕ) → laying (visitor_due X v d got word).core.phase ≡ after_step (move_due X v d)
-  lays (Visits o) e got = looked_lays v.visit got
-  lays (Sweeps s o) e got = was
-  lays (Goes z) e got = going_lays z (due_goes _ v.sweep (situation_of X v.core) z e) got
+  lays (Pins o) e got = looked_lays v.pin got
+  lays (Reclaims s o) e got = was
+  lays (Goes z) e got = going_lays z (due_goes _ v.reclaimer (situation_of X v.core) z e) got
 
 -- ---- a move is its two parts
 home_parts : (m : PageMove) (home : Option Page) → home_moved (after_step m) (home_moved (before_step m) home) ≡ home_moved m home

@@ -6,10 +6,10 @@ use Rattle.std.proofs.lemmas.Option.{same_Some}
 use Rattle.std.proofs.Math.Seq.{drop-nil}
 use Rattle.bus_tenure.specs.declared.turns.Turn.{Turn as Answered}
 use Rattle.bus_tenure.specs.declared.turns.Turn.TheVariants as turn
-use Rattle.bus_world.specs.Headline.{Deed, HasPut, HasClosed, Took}
+use Rattle.bus_world.specs.Headline.{Action, HasPut, HasClosed, Took}
 use Rattle.bus_world.specs.Trails.{Takers}
 use Rattle.bus_world.specs.Turning.{owners_by}
-use Rattle.bus_world.specs.Yards.{deeds_with}
+use Rattle.bus_world.specs.Yards.{actions_with}
 use Rattle.bus_world.proofs.Places.{got_before, got_split}
 use Rattle.bus_cyclic.specs.Cyclic.{last_of, AreLastTakers}
 
@@ -20,8 +20,8 @@ lists_same [] (y ∷ ys) e = absurd (let bad : None ≡ Some y = e 0 in cc)
 lists_same (x ∷ xs) [] e = absurd (let bad : Some x ≡ None = e 0 in cc)
 lists_same (x ∷ xs) (y ∷ ys) e = ap (λ a. a ∷ xs) (same_Some _ _ (e 0)) ∙ ap (λ l. y ∷ l) (lists_same xs ys (λ k. e (suc k)))
 
--- deeds tell who took the pages
-pub takers_one : (a b : List ℕ) (D : ℕ → List Deed) → Takers a D → Takers b D → a ≡ b
+-- actions tell who took the pages
+pub takers_one : (a b : List ℕ) (D : ℕ → List Action) → Takers a D → Takers b D → a ≡ b
 takers_one a b D h k = lists_same a b (λ t. by_both t (slice_get a t) (slice_get b t) refl refl)
   where
     by_both : (t : ℕ) (o p : Option ℕ) → slice_get a t ≡ o → slice_get b t ≡ p → slice_get a t ≡ slice_get b t
@@ -65,8 +65,8 @@ last_told r turn.Closed s all = last_again r all
 last_told r turn.Spent s all = last_again r all
 last_told r (turn.Behind t p) s all = last_again r all
 
--- ---- deeds that take no page
-abbrev pub TakesNone : List Deed → Type 0
+-- ---- actions that take no page
+abbrev pub TakesNone : List Action → Type 0
 TakesNone ds = (t place : ℕ) → Took ds t place → ⊥
 
 pub nothing_takes : TakesNone []
@@ -80,7 +80,7 @@ pub close_takes : TakesNone (HasClosed ∷ [])
 close_takes t zero h = let bad = h.at in cc
 close_takes t (suc place) h = let bad = h.at in cc
 
-takers_beside : (all : List ℕ) (D : ℕ → List Deed) (p : ℕ) (ds : List Deed) → TakesNone ds → Takers all D → Takers all (deeds_with p ds D)
+takers_beside : (all : List ℕ) (D : ℕ → List Action) (p : ℕ) (ds : List Action) → TakesNone ds → Takers all D → Takers all (actions_with p ds D)
 takers_beside all D p ds none h = record {
   took = λ t s at. let w = h.took t s at in (w.0, record { found = w.1.found; chose = w.1.chose; answer = w.1.answer; at = got_before (D s) (cond (s == p) ds []) w.0 _ w.1.at });
   only = λ t s place took. elim (got_split (D s) (cond (s == p) ds []) place _ took.at) [
@@ -92,7 +92,7 @@ takers_beside all D p ds none h = record {
   by_test true t place h = none t place h
   by_test false t place h = nothing_takes t place h
 
-pub last_beside : (rows : ℕ) (last : List ℕ) (D : ℕ → List Deed) (p : ℕ) (ds : List Deed) → TakesNone ds → AreLastTakers rows last D → AreLastTakers rows last (deeds_with p ds D)
+pub last_beside : (rows : ℕ) (last : List ℕ) (D : ℕ → List Action) (p : ℕ) (ds : List Action) → TakesNone ds → AreLastTakers rows last D → AreLastTakers rows last (actions_with p ds D)
 last_beside rows last D p ds none h = record { all = h.all; takers = takers_beside h.all D p ds none h.takers; last_are = h.last_are }
 
 -- ---- nothing has happened

@@ -4,7 +4,7 @@ pub mod LastTakers
 pub mod CyclicLaws
 pub mod LogGrowing
 pub mod Staying
-pub mod SameDeeds
+pub mod SameActions
 pub mod LossLaws
 pub mod TruthLaws
 pub mod EventLaws

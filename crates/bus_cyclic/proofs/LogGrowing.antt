@@ -9,18 +9,18 @@ use Rattle.bus_register.specs.Protocol.{Protocol}
 use Rattle.bus_batch.specs.Batches.{frame_of}
 use Rattle.bus_batch.specs.Frames.{frame_words}
 use Rattle.bus_deliverylog.specs.Receiving.{Receiving}
-use Rattle.bus_presence.specs.Sweeps.{Sweeping, sweep_op}
-use Rattle.bus_presence.specs.Hall.{Sizes, presence_at, row_of}
-use Rattle.bus_presence.specs.Visits.{step_at}
-use Rattle.bus_presence.proofs.HallLaws.{keeps, sweep_does, no_row}
-use Rattle.bus_presence.proofs.RowLaws.{visit_place}
+use Rattle.bus_presence.specs.Reclaimers.{Reclaiming, reclaim_op}
+use Rattle.bus_presence.specs.Reclamation.{ReclamationSizes, presence_at, row_of}
+use Rattle.bus_presence.specs.Pins.{step_at}
+use Rattle.bus_presence.proofs.ReclamationLaws.{keeps, reclaim_does, no_row}
+use Rattle.bus_presence.proofs.RowLaws.{pin_place}
 use Rattle.bus_tenure.specs.Core.{Election, stage_at, log_at, frame_len}
 use Rattle.bus_tenure.specs.Situations.{Situation, IsClosed, IsIdle, IsSpent, LooksAtStage, Elects, TakesPage, AwaitsPage, StoresWord, StoresLength, GivesBack, HasHanded, situation_of, situation_at}
 use Rattle.bus_tenure.specs.declared.pages.Page.{Page}
 use Rattle.bus_tenure.specs.declared.phases.Reason.{Reason}
 use Rattle.bus_tenure.specs.declared.phases.Phase.TheVariants as phase
 use Rattle.bus_tenure.proofs.Situated.{tells}
-use Rattle.bus_guest.specs.Guests.{Due, Visits, Sweeps, Goes, sizes_with, log_from, place_for, sweep_due, due_swept, due_home, due_beside}
+use Rattle.bus_guest.specs.Guests.{Due, Pins, Reclaims, Goes, sizes_with, log_from, place_for, reclaim_due, due_reclaimed, due_home, due_beside}
 use Rattle.bus_guest.specs.Keeping.{held_of}
 use Rattle.bus_guest.specs.Turns.{Visitor, due, op_due, on_place, op_placed}
 use Rattle.bus_world.specs.Bus.{IsLayout, Part, Fits}
@@ -86,32 +86,32 @@ module _ (xs : List ℕ) (from : ℕ) where
             ∙ read-add (slice_index xs) from len (n - len));
       }
 
--- ---- a step of a visit, and of a sweep
-pub visits_due : {E : Type 0} (d : Option Op) (s : Option Sweeping) (z : Situation E) (o : Op) → due_beside d s z ≡ Visits o → d ≡ Some o
-visits_due (Some p) s z o e = ap Some (let same : p ≡ o = cc in same)
-visits_due None s z o e = absurd (by_sweep (sweep_due z s) e)
+-- ---- a step of a pin, and of a reclamation
+pub pins_due : {E : Type 0} (d : Option Op) (s : Option Reclaiming) (z : Situation E) (o : Op) → due_beside d s z ≡ Pins o → d ≡ Some o
+pins_due (Some p) s z o e = ap Some (let same : p ≡ o = cc in same)
+pins_due None s z o e = absurd (by_reclaimer (reclaim_due z s) e)
   where
-    by_step : {E : Type 0} (r : Sweeping) (d : Option Op) (z : Situation E) → due_swept r d z ≡ Visits o → ⊥
+    by_step : {E : Type 0} (r : Reclaiming) (d : Option Op) (z : Situation E) → due_reclaimed r d z ≡ Pins o → ⊥
     by_step r None z e = cc
     by_step r (Some p) z e = cc
 
-    by_sweep : (r : Option Sweeping) → due_home r z ≡ Visits o → ⊥
-    by_sweep None e = cc
-    by_sweep (Some r) e = by_step r (sweep_op r) z e
+    by_reclaimer : (r : Option Reclaiming) → due_home r z ≡ Pins o → ⊥
+    by_reclaimer None e = cc
+    by_reclaimer (Some r) e = by_step r (reclaim_op r) z e
 
-pub record IsSweepDue {E : Type 0} (z : Situation E) (s : Option Sweeping) (r : Sweeping) (o : Op) : Type 0 where
+pub record IsReclaimDue {E : Type 0} (z : Situation E) (s : Option Reclaiming) (r : Reclaiming) (o : Op) : Type 0 where
   pub tenure : ℕ
   pub page : Page
   pub reason : Reason
   pub is : z ≡ GivesBack tenure page reason
   pub same : s ≡ Some r
-  pub step : sweep_op r ≡ Some o
+  pub step : reclaim_op r ≡ Some o
 
-pub sweeps_due : {E : Type 0} (d : Option Op) (s : Option Sweeping) (z : Situation E) (r : Sweeping) (o : Op) → due_beside d s z ≡ Sweeps r o → IsSweepDue z s r o
-sweeps_due (Some p) s z r o e = absurd cc
-sweeps_due {E} None s z r o e = by_home (sweep_due z s) refl e
+pub reclaims_due : {E : Type 0} (d : Option Op) (s : Option Reclaiming) (z : Situation E) (r : Reclaiming) (o : Op) → due_beside d s z ≡ Reclaims r o → IsReclaimDue z s r o
+reclaims_due (Some p) s z r o e = absurd cc
+reclaims_due {E} None s z r o e = by_home (reclaim_due z s) refl e
   where
-    giving : (y : Situation E) (w : Sweeping) → sweep_op w ≡ Some o → sweep_due y s ≡ Some w → IsSweepDue y s w o
+    giving : (y : Situation E) (w : Reclaiming) → reclaim_op w ≡ Some o → reclaim_due y s ≡ Some w → IsReclaimDue y s w o
     giving IsClosed w step e = absurd cc
     giving IsIdle w step e = absurd cc
     giving IsSpent w step e = absurd cc
@@ -124,16 +124,16 @@ sweeps_due {E} None s z r o e = by_home (sweep_due z s) refl e
     giving (GivesBack u page reason) w step e = record { tenure = u; page = page; reason = reason; is = refl; same = e; step = step }
     giving (HasHanded u reason) w step e = absurd cc
 
-    by_step : (w : Sweeping) → sweep_due z s ≡ Some w → (d : Option Op) → sweep_op w ≡ d → due_swept w d z ≡ Sweeps r o → IsSweepDue z s r o
+    by_step : (w : Reclaiming) → reclaim_due z s ≡ Some w → (d : Option Op) → reclaim_op w ≡ d → due_reclaimed w d z ≡ Reclaims r o → IsReclaimDue z s r o
     by_step w is None i e = absurd cc
     by_step w is (Some p) i e =
         let w_is : w ≡ r = cc in
         let p_is : p ≡ o = cc in
-        subst (λ y. IsSweepDue z s y o) w_is (giving z w (i ∙ ap Some p_is) is)
+        subst (λ y. IsReclaimDue z s y o) w_is (giving z w (i ∙ ap Some p_is) is)
 
-    by_home : (d : Option Sweeping) → sweep_due z s ≡ d → due_home d z ≡ Sweeps r o → IsSweepDue z s r o
+    by_home : (d : Option Reclaiming) → reclaim_due z s ≡ d → due_home d z ≡ Reclaims r o → IsReclaimDue z s r o
     by_home None is e = absurd cc
-    by_home (Some w) is e = by_step w is (sweep_op w) refl e
+    by_home (Some w) is e = by_step w is (reclaim_op w) refl e
 
 module _ {E : Type 0} (X : Election E) (P : Protocol E (Unit {0}) ℕ) (z : CyclicBus E) (s : Serves X P z.ring.layout) (ok : IsLayout z.ring.layout) (two : 2 ≤ z.ring.rows) (T : RingTrails) (l : LeadTo X z T) where
   abbrev b : Ring E
@@ -142,7 +142,7 @@ module _ {E : Type 0} (X : Election E) (P : Protocol E (Unit {0}) ℕ) (z : Cycl
   abbrev from : ℕ
   from = log_from b.layout b.rows
 
-  abbrev zs : Sizes
+  abbrev zs : ReclamationSizes
   zs = sizes_with b.layout b.rows
 
   x : IsRingLayout X P s.laws s.owner_is s.named s.announces s.apart b.layout b.rows
@@ -152,13 +152,13 @@ module _ {E : Type 0} (X : Election E) (P : Protocol E (Unit {0}) ℕ) (z : Cycl
   h = led X P z s ok two T l
 
   abbrev y : Yard E
-  y = yard_of b h.leads.sweep h.leads.owners
+  y = yard_of b h.leads.reclaimer h.leads.owners
 
-  k : HasKept X P s.laws b.layout x.ok x.width x.starts s.owner_is s.named s.announces s.apart b.rows x.two T.heard y T.visits T.deeds
-  k = led_kept X P s.laws b.layout x.ok x.width x.starts s.owner_is s.named s.announces s.apart b.rows x.two T.heard y T.visits T.deeds h.leads.led
+  k : HasKept X P s.laws b.layout x.ok x.width x.starts s.owner_is s.named s.announces s.apart b.rows x.two T.heard y T.pins T.actions
+  k = led_kept X P s.laws b.layout x.ok x.width x.starts s.owner_is s.named s.announces s.apart b.rows x.two T.heard y T.pins T.actions h.leads.led
 
-  promised : IsKeptYard X b.layout b.rows y T.visits T.deeds T.heard
-  promised = yard_promised X P s.laws b.layout x.ok x.width x.starts s.owner_is s.named s.announces s.apart b.rows x.two y T.visits T.deeds T.heard h.leads.led
+  promised : IsKeptYard X b.layout b.rows y T.pins T.actions T.heard
+  promised = yard_promised X P s.laws b.layout x.ok x.width x.starts s.owner_is s.named s.announces s.apart b.rows x.two y T.pins T.actions T.heard h.leads.led
 
   length_is : slice_index b.words 0 ≡ k.V 0
   length_is = k.kept.laid.length
@@ -183,19 +183,19 @@ module _ {E : Type 0} (X : Election E) (P : Protocol E (Unit {0}) ℕ) (z : Cycl
     grows_apart : (o : Op) → IsApart from (slice_index b.words 0) o → GrowsBy (Some o)
     grows_apart o far low = apart_grows b.words from o low far
 
-    visit_grows : (o : Op) → step_at v.visit (presence_at (sizes_with v.core.layout v.rows) v.core.me) stage_at ≡ Some o → GrowsBy (Some o)
-    visit_grows o e = grows_apart o (elim (visit_place (sizes_with v.core.layout v.rows) v.visit v.core.me o e) [
+    pin_grows : (o : Op) → step_at v.pin (presence_at (sizes_with v.core.layout v.rows) v.core.me) stage_at ≡ Some o → GrowsBy (Some o)
+    pin_grows o e = grows_apart o (elim (pin_place (sizes_with v.core.layout v.rows) v.pin v.core.me o e) [
       | inl i ↦ (let me = part.me in let few = part.below in inr ((λ j. omega arith), inl (omega arith)))
       | inr i ↦ inl i
     ])
 
-    sweep_grows : (r : Sweeping) (o : Op) → IsSweepDue (situation_of X v.core) v.sweep r o → GrowsBy (Some o)
-    sweep_grows r o d =
+    reclaimer_grows : (r : Reclaiming) (o : Op) → IsReclaimDue (situation_of X v.core) v.reclaimer r o → GrowsBy (Some o)
+    reclaimer_grows r o d =
         let held = ap held_of (tells X v.core (GivesBack d.tenure d.page d.reason) d.is).2 in
-        let sweeps : h.leads.sweep ≡ Some r = sym (h.leads.holder p v d.tenure at held) ∙ d.same in
-        let w = (keeps zs two y.hall T.visits k.kept.reached).sweeps r sweeps in
-        grows_apart o (elim (sweep_does r o d.step) [
-          | inl a ↦ inl (r.presences + r.asked, a.loads)
+        let reclaims : h.leads.reclaimer ≡ Some r = sym (h.leads.holder p v d.tenure at held) ∙ d.same in
+        let w = (keeps zs two y.reclamation T.pins k.kept.reached).reclaims r reclaims in
+        grows_apart o (elim (reclaim_does r o d.step) [
+          | inl a ↦ inl (r.presences + r.scanned, a.loads)
           | inr a ↦ in_row (w.tenure + 1) r.cleared o (let b1 = a.less in let b2 = w.width in omega arith) (ap register a.stores ∙ ap (λ q. q + r.cleared) w.row)
         ])
 
@@ -252,9 +252,9 @@ module _ {E : Type 0} (X : Election E) (P : Protocol E (Unit {0}) ℕ) (z : Cycl
     goes_grows (HasHanded t reason) i low = stage_grows (Store record { 0 = stage_at } (2 * t + 2)) refl low
 
     due_grows : (d : Due E) → due X v ≡ d → GrowsBy (op_due X v d word)
-    due_grows (Visits o) e low = visit_grows o (visits_due _ v.sweep (situation_of X v.core) o e) low
-    due_grows (Sweeps r o) e low = sweep_grows r o (sweeps_due _ v.sweep (situation_of X v.core) r o e) low
-    due_grows (Goes w) e low = goes_grows w (due_goes _ v.sweep (situation_of X v.core) w e) low
+    due_grows (Pins o) e low = pin_grows o (pins_due _ v.reclaimer (situation_of X v.core) o e) low
+    due_grows (Reclaims r o) e low = reclaimer_grows r o (reclaims_due _ v.reclaimer (situation_of X v.core) r o e) low
+    due_grows (Goes w) e low = goes_grows w (due_goes _ v.reclaimer (situation_of X v.core) w e) low
 
   -- ---- whatever happens
   there_shown : (t : Bool) (o : Option (Visitor E)) (v : Visitor E) → cond t None o ≡ Some v → o ≡ Some v

@@ -11,38 +11,38 @@ use Rattle.bus_register.specs.declared.registers.SenderNo.{SenderNo}
 use Rattle.bus_register.specs.Protocol.{Protocol, Laws}
 use Rattle.bus_register.specs.Proved.TableLaws.{some_or_none, get_set_same, get_set_other}
 use Rattle.bus_ownerbits.specs.OneOwner.{OneOwner}
-use Rattle.bus_presence.specs.Hall.{presence_at}
-use Rattle.bus_presence.specs.Visits.{step_at}
-use Rattle.bus_presence.specs.declared.visits.Visit.{Visit}
-use Rattle.bus_presence.specs.declared.visits.Visit.TheVariants.{Inside, Parting}
-use Rattle.bus_guest.specs.Guests.{Due, Visits, Sweeps, Goes, sizes_with, place_for, due_beside, visit_elected, lost_elected}
+use Rattle.bus_presence.specs.Reclamation.{presence_at}
+use Rattle.bus_presence.specs.Pins.{step_at}
+use Rattle.bus_presence.specs.declared.pins.Pin.{Pin}
+use Rattle.bus_presence.specs.declared.pins.Pin.TheVariants.{Pinned, Unpinning}
+use Rattle.bus_guest.specs.Guests.{Due, Pins, Reclaims, Goes, sizes_with, place_for, due_beside, pin_elected, lost_elected}
 use Rattle.bus_guest.specs.Turns.{Visitor, due, op_due, op_placed, visitor_due, queue_seen}
 use Rattle.bus_tenure.specs.Core.{Election, stage_at}
 use Rattle.bus_tenure.specs.Situations.{Situation, IsClosed, IsIdle, IsSpent, LooksAtStage, Elects, TakesPage, AwaitsPage, StoresWord, StoresLength, GivesBack, HasHanded, situation_of}
 use Rattle.bus_tenure.specs.declared.turns.Turn.{Turn as Answered}
 use Rattle.bus_tenure.proofs.Situated.{tells}
-use Rattle.bus_world.specs.Headline.{Deed, Stepped, Elected}
-use Rattle.bus_world.specs.Rings.{Ring, RingTrails, RingReached, NewRing, TurnTaken, PutTaken, CloseTaken, RecvTaken, StopTaken, yard_of, ring_after, ring_deeds, visitor_put, visitor_closed}
-use Rattle.bus_world.specs.Trails.{step_deed}
+use Rattle.bus_world.specs.Headline.{Action, Stepped, Elected}
+use Rattle.bus_world.specs.Rings.{Ring, RingTrails, RingReached, NewRing, TurnTaken, PutTaken, CloseTaken, RecvTaken, StopTaken, yard_of, ring_after, ring_actions, visitor_put, visitor_closed}
+use Rattle.bus_world.specs.Trails.{step_action}
 use Rattle.bus_world.specs.Turning.{number_found}
 use Rattle.bus_world.specs.World.{can_put, can_close}
-use Rattle.bus_world.specs.Yards.{deeds_with, going_deeds, word_found}
+use Rattle.bus_world.specs.Yards.{actions_with, going_actions, word_found}
 use Rattle.bus_world.proofs.Places.{got_after}
 use Rattle.bus_world.proofs.RingFits as fits
 use Rattle.bus_world.proofs.RingLaws.{IsRingLayout, IsLed, ring_led, guest_there, due_goes, same_register}
 use Rattle.bus_world.proofs.TableTrails.{Elected-before}
 use Rattle.bus_cyclic.specs.Truth.{HasSeenLoss, LossesAreSeen}
 
--- ---- deeds are added and none is taken away
-module _ (s : ℕ) (ds : List Deed) (D : ℕ → List Deed) where
-  pub own_deeds : deeds_with s ds D s ≡ D s ++ ds
-  own_deeds = elim (eqb_tells s s) [ inl y ↦ ap (λ b. D s ++ cond b ds []) y.0 | inr n ↦ absurd (n.1 refl) ]
+-- ---- actions are added and none is taken away
+module _ (s : ℕ) (ds : List Action) (D : ℕ → List Action) where
+  pub own_actions : actions_with s ds D s ≡ D s ++ ds
+  own_actions = elim (eqb_tells s s) [ inl y ↦ ap (λ b. D s ++ cond b ds []) y.0 | inr n ↦ absurd (n.1 refl) ]
 
-  added : (q : ℕ) → (more : List Deed) × (deeds_with s ds D q ≡ D q ++ more)
+  added : (q : ℕ) → (more : List Action) × (actions_with s ds D q ≡ D q ++ more)
   added q = (cond (q == s) ds [], refl)
 
-  pub loss_still : (visit : Visit) (q : ℕ) (o : SenderNo) → HasSeenLoss visit q o (D q) → HasSeenLoss visit q o (deeds_with s ds D q)
-  loss_still visit q o h = let more = added q in record {
+  pub loss_still : (pin : Pin) (q : ℕ) (o : SenderNo) → HasSeenLoss pin q o (D q) → HasSeenLoss pin q o (actions_with s ds D q)
+  loss_still pin q o h = let more = added q in record {
     tenure = h.tenure;
     parts = h.parts;
     elected = subst (λ d. Elected d h.tenure o.0) (sym more.1) (Elected-before (D q) more.0 h.tenure o.0 h.elected);
@@ -50,20 +50,20 @@ module _ (s : ℕ) (ds : List Deed) (D : ℕ → List Deed) where
   }
 
 -- ---- one guest in its place
-module _ {E : Type 0} (b : Ring E) (D : ℕ → List Deed) (l : LossesAreSeen b D) (s : ℕ) (v : Visitor E) (at : slice_get b.guests s ≡ Some v) where
-  seen_with : (v' : Visitor E) (ds : List Deed) → ((o : SenderNo) → v'.lost ≡ Some o → HasSeenLoss v'.visit s o (deeds_with s ds D s))
-      → (q : ℕ) (w : Visitor E) (o : SenderNo) → slice_get (slice_set b.guests s v') q ≡ Some w → w.lost ≡ Some o → HasSeenLoss w.visit q o (deeds_with s ds D q)
+module _ {E : Type 0} (b : Ring E) (D : ℕ → List Action) (l : LossesAreSeen b D) (s : ℕ) (v : Visitor E) (at : slice_get b.guests s ≡ Some v) where
+  seen_with : (v' : Visitor E) (ds : List Action) → ((o : SenderNo) → v'.lost ≡ Some o → HasSeenLoss v'.pin s o (actions_with s ds D s))
+      → (q : ℕ) (w : Visitor E) (o : SenderNo) → slice_get (slice_set b.guests s v') q ≡ Some w → w.lost ≡ Some o → HasSeenLoss w.pin q o (actions_with s ds D q)
   seen_with v' ds own q w o here e = elim (cases_eq q s) [
     | inl i ↦
         let same : v' ≡ w = same_Some _ _ (sym (get_set_same b.guests s v' (slice_get_within b.guests s v at)) ∙ sym (ap (slice_get (slice_set b.guests s v')) i) ∙ here) in
-        subst (λ r. HasSeenLoss w.visit r o (deeds_with s ds D r)) (sym i) (subst (λ (u : Visitor E). HasSeenLoss u.visit s o (deeds_with s ds D s)) same (own o (ap (λ (u : Visitor E). u.lost) same ∙ e)))
-    | inr ne ↦ loss_still s ds D w.visit q o (l.seen q w o (sym (get_set_other b.guests s v' q ne) ∙ here) e)
+        subst (λ r. HasSeenLoss w.pin r o (actions_with s ds D r)) (sym i) (subst (λ (u : Visitor E). HasSeenLoss u.pin s o (actions_with s ds D s)) same (own o (ap (λ (u : Visitor E). u.lost) same ∙ e)))
+    | inr ne ↦ loss_still s ds D w.pin q o (l.seen q w o (sym (get_set_other b.guests s v' q ne) ∙ here) e)
   ]
 
   -- one that remembers what it did before
-  seen_same : (v' : Visitor E) (ds : List Deed) → v'.lost ≡ v.lost → v'.visit ≡ v.visit
-      → (q : ℕ) (w : Visitor E) (o : SenderNo) → slice_get (slice_set b.guests s v') q ≡ Some w → w.lost ≡ Some o → HasSeenLoss w.visit q o (deeds_with s ds D q)
-  seen_same v' ds lost visit = seen_with v' ds (λ o e. subst (λ u. HasSeenLoss u s o (deeds_with s ds D s)) (sym visit) (loss_still s ds D v.visit s o (l.seen s v o at (sym lost ∙ e))))
+  seen_same : (v' : Visitor E) (ds : List Action) → v'.lost ≡ v.lost → v'.pin ≡ v.pin
+      → (q : ℕ) (w : Visitor E) (o : SenderNo) → slice_get (slice_set b.guests s v') q ≡ Some w → w.lost ≡ Some o → HasSeenLoss w.pin q o (actions_with s ds D q)
+  seen_same v' ds lost pin = seen_with v' ds (λ o e. subst (λ u. HasSeenLoss u s o (actions_with s ds D s)) (sym pin) (loss_still s ds D v.pin s o (l.seen s v o at (sym lost ∙ e))))
 
 -- ---- what a step finds on the word that lies at another place
 found_same : (f : ℕ → ℕ) (w : ℕ → ℕ) (d : Option Op) → number_found w (op_placed f d) ≡ word_found f w d
@@ -87,20 +87,20 @@ module _ {E : Type 0} (X : Election E) (P : Protocol E (Unit {0}) ℕ) (laws : L
     pub place_is : (z : Situation E) → place_for v.core.layout v.rows z ≡ place_for b.layout b.rows z
     place_is z = ap (λ y. place_for y v.rows z) (fits.layout_is X P laws owner_is named announces apart b x T h s v at) ∙ ap (λ r. place_for b.layout r z) (h.is.rows s v at)
 
-    -- it finds what its deed says that it found
+    -- it finds what its action says that it found
     pub got_is : (z : Situation E) (d : Option Op) → number_found (slice_index b.words) (op_placed (place_for v.core.layout v.rows z) d) ≡ word_found (place_for b.layout b.rows z) (slice_index b.words) d
     got_is z d = ap (λ f. number_found (slice_index b.words) (op_placed f d)) (place_is z) ∙ found_same (place_for b.layout b.rows z) (slice_index b.words) d
 
     me_is : v.core.me ≡ s
     me_is = fits.me_is X P laws owner_is named announces apart b x T h s v at
 
-    module _ (l : LossesAreSeen b T.deeds) (word : ℕ) (answer : Answered) where
+    module _ (l : LossesAreSeen b T.actions) (word : ℕ) (answer : Answered) where
       -- who remembers an owner withdraws next
       withdraws : (z : Situation E) → due X v ≡ Goes z → (o : SenderNo) → v.lost ≡ Some o → ⊥
       withdraws z e o lost =
           let seen = l.seen s v o at lost in
-          let bad : Visits (Store record { 0 = presence_at (sizes_with v.core.layout v.rows) v.core.me } 0) ≡ Goes z =
-          sym (ap (λ u. due_beside (step_at u (presence_at (sizes_with v.core.layout v.rows) v.core.me) stage_at) v.sweep (situation_of X v.core)) seen.parts) ∙ e in
+          let bad : Pins (Store record { 0 = presence_at (sizes_with v.core.layout v.rows) v.core.me } 0) ≡ Goes z =
+          sym (ap (λ u. due_beside (step_at u (presence_at (sizes_with v.core.layout v.rows) v.core.me) stage_at) v.reclaimer (situation_of X v.core)) seen.parts) ∙ e in
           cc
 
       module _ (t : ℕ) (f : E) (e : due X v ≡ Goes (Elects t f)) (unowned : is_some (X.owner f) ≡ false) where
@@ -110,30 +110,30 @@ module _ {E : Type 0} (X : Election E) (P : Protocol E (Unit {0}) ℕ) (laws : L
         abbrev found : ℕ
         found = word_found (place_for b.layout b.rows (Elects t f)) (slice_index b.words) (X.op f word)
 
-        abbrev ds : List Deed
-        ds = going_deeds X b.layout b.rows (yard_of b None []) v.core (Elects t f) word answer
+        abbrev ds : List Action
+        ds = going_actions X b.layout b.rows (yard_of b None []) v.core (Elects t f) word answer
 
-        elected : (u : ℕ) → X.owner (X.fed f got word) ≡ Some u → Elected (deeds_with s ds T.deeds s) t u
+        elected : (u : ℕ) → X.owner (X.fed f got word) ≡ Some u → Elected (actions_with s ds T.actions s) t u
         elected u i =
             let k = has_kind f word unowned in
             let same : X.owner (X.fed f found word) ≡ Some u = ap (λ g. X.owner (X.fed f g word)) (sym (got_is (Elects t f) (X.op f word))) ∙ i in
-            let ds_are : ds ≡ Stepped (Some t) k.0 found (Some u) answer ∷ [] = ap (λ c. step_deed c (Some t) found (X.owner (X.fed f found word)) answer) k.1 ∙ ap (λ r. Stepped (Some t) k.0 found r answer ∷ []) same in
-            subst (λ d. Elected d t u) (sym (own_deeds s ds T.deeds)) (subst (λ d. Elected (T.deeds s ++ d) t u) (sym ds_are) record {
-              place = length (T.deeds s) + 0;
+            let ds_are : ds ≡ Stepped (Some t) k.0 found (Some u) answer ∷ [] = ap (λ c. step_action c (Some t) found (X.owner (X.fed f found word)) answer) k.1 ∙ ap (λ r. Stepped (Some t) k.0 found r answer ∷ []) same in
+            subst (λ d. Elected d t u) (sym (own_actions s ds T.actions)) (subst (λ d. Elected (T.actions s ++ d) t u) (sym ds_are) record {
+              place = length (T.actions s) + 0;
               step = k.0;
               found = found;
               answer = answer;
-              at = got_after (T.deeds s) _ 0 _ refl (length (T.deeds s) + 0) refl;
+              at = got_after (T.actions s) _ 0 _ refl (length (T.actions s) + 0) refl;
             })
 
-        by_owner : (r : Option ℕ) → X.owner (X.fed f got word) ≡ r → (o : SenderNo) → lost_elected v.core v.lost r ≡ Some o → HasSeenLoss (visit_elected v.core t r) s o (deeds_with s ds T.deeds s)
+        by_owner : (r : Option ℕ) → X.owner (X.fed f got word) ≡ r → (o : SenderNo) → lost_elected v.core v.lost r ≡ Some o → HasSeenLoss (pin_elected v.core t r) s o (actions_with s ds T.actions s)
         by_owner None i o lost = absurd (withdraws (Elects t f) e o lost)
         by_owner (Some u) i o lost = by_test (u == v.core.me) (eqb_tells u v.core.me) lost
           where
-            by_test : (c : Bool) → ((c ≡ true) × (u ≡ v.core.me)) ⊎ ((c ≡ false) × (u ≡ v.core.me → ⊥)) → cond c v.lost (Some record { 0 = u }) ≡ Some o → HasSeenLoss (cond c (Inside t) (Parting t)) s o (deeds_with s ds T.deeds s)
+            by_test : (c : Bool) → ((c ≡ true) × (u ≡ v.core.me)) ⊎ ((c ≡ false) × (u ≡ v.core.me → ⊥)) → cond c v.lost (Some record { 0 = u }) ≡ Some o → HasSeenLoss (cond c (Pinned t) (Unpinning t)) s o (actions_with s ds T.actions s)
             by_test true how lost = absurd (withdraws (Elects t f) e o lost)
             by_test false (inl how) lost = absurd (true≢false (sym how.0))
-            by_test false (inr how) lost = subst (λ w. HasSeenLoss (Parting t) s w (deeds_with s ds T.deeds s)) (same_Some _ _ lost) record {
+            by_test false (inr how) lost = subst (λ w. HasSeenLoss (Unpinning t) s w (actions_with s ds T.actions s)) (same_Some _ _ lost) record {
               tenure = t;
               parts = refl;
               elected = elected u i;
@@ -141,18 +141,18 @@ module _ {E : Type 0} (X : Election E) (P : Protocol E (Unit {0}) ℕ) (laws : L
             }
 
       abbrev SeenBy : Due E → Type 0
-      SeenBy d = LossesAreSeen (ring_after X b s v d word) (ring_deeds X b s v d word answer T.deeds)
+      SeenBy d = LossesAreSeen (ring_after X b s v d word) (ring_actions X b s v d word answer T.actions)
 
       -- one that remembers nothing after its step
       goes_seen : (z : Situation E) → due X v ≡ Goes z → ((o : SenderNo) → (visitor_due X v (Goes z) (number_found (slice_index b.words) (op_due X v (Goes z) word)) word).lost ≡ Some o → v.lost ≡ Some o) → SeenBy (Goes z)
-      goes_seen z e same = record { seen = seen_with b T.deeds l s v at _ (going_deeds X b.layout b.rows (yard_of b None []) v.core z word answer) (λ o lost. absurd (withdraws z e o (same o lost))) }
+      goes_seen z e same = record { seen = seen_with b T.actions l s v at _ (going_actions X b.layout b.rows (yard_of b None []) v.core z word answer) (λ o lost. absurd (withdraws z e o (same o lost))) }
 
       by_situation : (z : Situation E) → situation_of X v.core ≡ z → due X v ≡ Goes z → SeenBy (Goes z)
       by_situation IsClosed i e = goes_seen IsClosed e (λ o lost. lost)
       by_situation IsIdle i e = goes_seen IsIdle e (λ o lost. lost)
       by_situation IsSpent i e = goes_seen IsSpent e (λ o lost. lost)
       by_situation LooksAtStage i e = goes_seen LooksAtStage e (λ o lost. lost)
-      by_situation (Elects t f) i e = record { seen = seen_with b T.deeds l s v at _ (ds t f e (tells X v.core (Elects t f) i).1) (λ o lost. by_owner t f e (tells X v.core (Elects t f) i).1 _ refl o lost) }
+      by_situation (Elects t f) i e = record { seen = seen_with b T.actions l s v at _ (ds t f e (tells X v.core (Elects t f) i).1) (λ o lost. by_owner t f e (tells X v.core (Elects t f) i).1 _ refl o lost) }
       by_situation (TakesPage t) i e = goes_seen (TakesPage t) e (λ o lost. lost)
       by_situation (AwaitsPage t) i e = goes_seen (AwaitsPage t) e (λ o lost. lost)
       by_situation (StoresWord t page stored) i e = goes_seen (StoresWord t page stored) e (λ o lost. lost)
@@ -161,24 +161,24 @@ module _ {E : Type 0} (X : Election E) (P : Protocol E (Unit {0}) ℕ) (laws : L
       by_situation (HasHanded t reason) i e = goes_seen (HasHanded t reason) e (λ o lost. lost)
 
       turn_seen : (d : Due E) → due X v ≡ d → SeenBy d
-      turn_seen (Visits o) e = record { seen = seen_with b T.deeds l s v at _ [] (λ w lost. absurd (let bad : ◌≡◌ {A = Option SenderNo} None (Some w) = lost in cc)) }
-      turn_seen (Sweeps r o) e = record { seen = seen_same b T.deeds l s v at _ [] refl refl }
-      turn_seen (Goes z) e = by_situation z (due_goes _ v.sweep (situation_of X v.core) z e) e
+      turn_seen (Pins o) e = record { seen = seen_with b T.actions l s v at _ [] (λ w lost. absurd (let bad : ◌≡◌ {A = Option SenderNo} None (Some w) = lost in cc)) }
+      turn_seen (Reclaims r o) e = record { seen = seen_same b T.actions l s v at _ [] refl refl }
+      turn_seen (Goes z) e = by_situation z (due_goes _ v.reclaimer (situation_of X v.core) z e) e
 
   -- ---- whatever happens
-  put_same : (c : Bool) (v w : Visitor E) → w.lost ≡ v.lost → w.visit ≡ v.visit → ((cond c w v).lost ≡ v.lost) × ((cond c w v).visit ≡ v.visit)
+  put_same : (c : Bool) (v w : Visitor E) → w.lost ≡ v.lost → w.pin ≡ v.pin → ((cond c w v).lost ≡ v.lost) × ((cond c w v).pin ≡ v.pin)
   put_same true v w a e = (a, e)
   put_same false v w a e = (refl, refl)
 
-  pub ring_seen : (b : Ring E) → IsRingLayout X P laws owner_is named announces apart b.layout b.rows → (T : RingTrails) → RingReached X b T → LossesAreSeen b T.deeds
+  pub ring_seen : (b : Ring E) → IsRingLayout X P laws owner_is named announces apart b.layout b.rows → (T : RingTrails) → RingReached X b T → LossesAreSeen b T.actions
   ring_seen b x T (NewRing w new) = record { seen = λ s v o at lost. absurd (let bad : ◌≡◌ {A = Option SenderNo} None (Some o) = sym (ap (λ (u : Visitor E). u.lost) (new.guests s v at).1) ∙ lost in cc) }
   ring_seen b x T (TurnTaken w U s v word answer before goes low told) =
       turn_seen w x U (ring_led X P laws owner_is named announces apart w x U before) s v (guest_there w s v goes) (ring_seen w x U before) word answer (due X v) refl
   ring_seen b x T (PutTaken w U s v bytes before goes small) =
-      let same = put_same (can_put (queue_seen v.core.queue v.visit) (length bytes)) v _ refl refl in
-      record { seen = seen_same w U.deeds (ring_seen w x U before) s v (guest_there w s v goes) (visitor_put v bytes) _ same.0 same.1 }
+      let same = put_same (can_put (queue_seen v.core.queue v.pin) (length bytes)) v _ refl refl in
+      record { seen = seen_same w U.actions (ring_seen w x U before) s v (guest_there w s v goes) (visitor_put v bytes) _ same.0 same.1 }
   ring_seen b x T (CloseTaken w U s v before goes) =
-      let same = put_same (can_close (queue_seen v.core.queue v.visit)) v _ refl refl in
-      record { seen = seen_same w U.deeds (ring_seen w x U before) s v (guest_there w s v goes) (visitor_closed v) _ same.0 same.1 }
+      let same = put_same (can_close (queue_seen v.core.queue v.pin)) v _ refl refl in
+      record { seen = seen_same w U.actions (ring_seen w x U before) s v (guest_there w s v goes) (visitor_closed v) _ same.0 same.1 }
   ring_seen b x T (RecvTaken w U r v next answer before at does) = record { seen = (ring_seen w x U before).seen }
   ring_seen b x T (StopTaken w U s v before goes) = record { seen = (ring_seen w x U before).seen }

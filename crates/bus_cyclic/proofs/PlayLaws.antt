@@ -15,7 +15,7 @@ use Rattle.bus_world.proofs.Serving.{Serves}
 use Rattle.bus_cyclic.specs.Cyclic.{CyclicBus, LeadTo, AreLastTakers, IsServedRing, log_of}
 use Rattle.bus_cyclic.specs.Following.{Steps, Follows, ring_trails_grown}
 use Rattle.bus_cyclic.specs.Playing.{IsAnswered, AllAnswered, trails_after, Played}
-use Rattle.bus_cyclic.specs.Staying.{HasGoneOn, deeds_in, stage_of}
+use Rattle.bus_cyclic.specs.Staying.{HasGoneOn, actions_in, stage_of}
 use Rattle.bus_cyclic.proofs.CyclicLaws.{layout_served, led, event_sizes, follows as followed, promised as kept, ok}
 use Rattle.bus_cyclic.proofs.LogGrowing.{log_grows}
 use Rattle.bus_cyclic.proofs.Staying.{event_rises, event_stays}
@@ -48,7 +48,7 @@ module _ {S : Type 0} (X : Election (Elector S)) (Q : Protocol S Bool Verdict) w
   rises_more (e ∷ events) old new run = let first = run.2.follows.rises in let rest = rises_more events run.0 new run.3 in omega arith
 
   module _ (P : Protocol (Elector S) (Unit {0}) ℕ) where
-    stays_more : (events : List Event) (old new : CyclicBus (Elector S)) (T : RingTrails) → LeadTo X old T → (run : AllAnswered X Q old events new) (t s : ℕ) → HasGoneOn old.ring t → deeds_in t ((trails_after X Q old events new run T).deeds s) ≡ deeds_in t (T.deeds s)
+    stays_more : (events : List Event) (old new : CyclicBus (Elector S)) (T : RingTrails) → LeadTo X old T → (run : AllAnswered X Q old events new) (t s : ℕ) → HasGoneOn old.ring t → actions_in t ((trails_after X Q old events new run T).actions s) ≡ actions_in t (T.actions s)
     stays_more [] old new T l run t s gone = refl
     stays_more (e ∷ events) old new T l run t s gone =
         let same = (event_sizes X P old.ring run.0.ring e run.2.steps.happens).rows in
@@ -87,5 +87,5 @@ module _ {E : Type 0} (X : Election E) (P : Protocol E (Unit {0}) ℕ) (z : Cycl
     pub happened : (T : RingTrails) × LeadTo X now T
     happened = subst (λ y. (T : RingTrails) × LeadTo X y T) is (h.trails, h.leads)
 
-    pub took : (T : RingTrails) → LeadTo X now T → AreLastTakers now.ring.rows now.owners T.deeds
+    pub took : (T : RingTrails) → LeadTo X now T → AreLastTakers now.ring.rows now.owners T.actions
     took T l = l.owners

@@ -3,7 +3,7 @@ use Rattle.std.proofs.Common.{◌≡◌, ℕ, ◌+◌, ◌<◌, Some, None, List
 use Rattle.std.proofs.lemmas.List.{length-append}
 use Rattle.bus_register.proofs.PushLaws.{each_more}
 use Rattle.bus_guest.specs.Turns.{Visitor}
-use Rattle.bus_presence.specs.declared.visits.Visit.TheVariants.{Away}
+use Rattle.bus_presence.specs.declared.pins.Pin.TheVariants.{Away}
 use Rattle.bus_tenure.specs.Core.{Layout}
 use Rattle.bus_world.specs.World.{new_core}
 use Rattle.bus_cyclic.specs.Starting.{AreNewGuests}
@@ -11,9 +11,9 @@ use Rattle.bus_cyclic.specs.Starting.{AreNewGuests}
 pub no_guests : {E : Type 0} (x : Layout) (rows : ℕ) (guests : List (Visitor E)) → guests ≡ [] → AreNewGuests x rows 0 guests
 no_guests {E} x rows guests none = record { many_are = ap length none; each = λ p v e. absurd (let bad : None ≡ Some v = sym (ap (λ l. slice_get l p) none) ∙ e in cc) }
 
-pub one_more_guest : {E : Type 0} (x : Layout) (rows many : ℕ) (guests : List (Visitor E)) (v : Visitor E) → AreNewGuests x rows many guests → v ≡ record { core = new_core x many; visit = Away; sweep = None; lost = None; rows = rows } → AreNewGuests x rows (many + 1) (guests ++ v ∷ [])
+pub one_more_guest : {E : Type 0} (x : Layout) (rows many : ℕ) (guests : List (Visitor E)) (v : Visitor E) → AreNewGuests x rows many guests → v ≡ record { core = new_core x many; pin = Away; reclaimer = None; lost = None; rows = rows } → AreNewGuests x rows (many + 1) (guests ++ v ∷ [])
 one_more_guest x rows many guests v h e = record {
   many_are = length-append guests (v ∷ []) ∙ (let z = h.many_are in omega arith);
-  each = each_more (λ p y. (p < many + 1) × (y ≡ record { core = new_core x p; visit = Away; sweep = None; lost = None; rows = rows })) guests v (λ p y i. let k = h.each p y i in (let z = k.0 in omega arith, k.1))
-      (let z = h.many_are in omega arith, e ∙ ap (λ p. record { core = new_core x p; visit = Away; sweep = None; lost = None; rows = rows }) (sym h.many_are));
+  each = each_more (λ p y. (p < many + 1) × (y ≡ record { core = new_core x p; pin = Away; reclaimer = None; lost = None; rows = rows })) guests v (λ p y i. let k = h.each p y i in (let z = k.0 in omega arith, k.1))
+      (let z = h.many_are in omega arith, e ∙ ap (λ p. record { core = new_core x p; pin = Away; reclaimer = None; lost = None; rows = rows }) (sym h.many_are));
 }

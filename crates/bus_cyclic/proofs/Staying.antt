@@ -16,27 +16,27 @@ use Rattle.bus_batch.specs.Batches.{frame_of}
 use Rattle.bus_batch.specs.Frames.{frame_words}
 use Rattle.bus_deliverylog.specs.Receiving.{Receiving}
 use Rattle.bus_ownerbits.specs.OneOwner.{OneOwner}
-use Rattle.bus_presence.specs.Sweeps.{Sweeping}
-use Rattle.bus_presence.specs.Hall.{Sizes, presence_at}
-use Rattle.bus_presence.specs.Visits.{step_at}
-use Rattle.bus_presence.proofs.HallLaws.{keeps, sweep_does}
-use Rattle.bus_presence.proofs.RowLaws.{visit_place}
+use Rattle.bus_presence.specs.Reclaimers.{Reclaiming}
+use Rattle.bus_presence.specs.Reclamation.{ReclamationSizes, presence_at}
+use Rattle.bus_presence.specs.Pins.{step_at}
+use Rattle.bus_presence.proofs.ReclamationLaws.{keeps, reclaim_does}
+use Rattle.bus_presence.proofs.RowLaws.{pin_place}
 use Rattle.bus_tenure.specs.Core.{Election, length_at, stage_at, log_at, frame_len}
 use Rattle.bus_tenure.specs.Situations.{Situation, IsClosed, IsIdle, IsSpent, LooksAtStage, Elects, TakesPage, AwaitsPage, StoresWord, StoresLength, GivesBack, HasHanded, situation_of, tenure_at, kind_at}
 use Rattle.bus_tenure.specs.declared.pages.Page.{Page}
 use Rattle.bus_tenure.specs.declared.phases.Phase.TheVariants as phase
 use Rattle.bus_tenure.specs.declared.turns.Turn.{Turn as Answered}
 use Rattle.bus_tenure.proofs.Situated.{tells}
-use Rattle.bus_guest.specs.Guests.{Due, Visits, Sweeps, Goes, sizes_with, log_from, place_for}
+use Rattle.bus_guest.specs.Guests.{Due, Pins, Reclaims, Goes, sizes_with, log_from, place_for}
 use Rattle.bus_guest.specs.Keeping.{held_of}
 use Rattle.bus_guest.specs.Turns.{Visitor, due, op_due, on_place, op_placed}
 use Rattle.bus_world.specs.Bus.{Part, Fits, standing_of, stands_at, least_of}
-use Rattle.bus_world.specs.Headline.{Deed}
-use Rattle.bus_world.specs.Rings.{Ring, RingTrails, RingReached, IsOnWord, yard_of, core_in, guest_going, ring_after, ring_deeds}
-use Rattle.bus_world.specs.Trails.{step_deed, put_deeds, close_deeds}
+use Rattle.bus_world.specs.Headline.{Action}
+use Rattle.bus_world.specs.Rings.{Ring, RingTrails, RingReached, IsOnWord, yard_of, core_in, guest_going, ring_after, ring_actions}
+use Rattle.bus_world.specs.Trails.{step_action, put_actions, close_actions}
 use Rattle.bus_world.specs.Turning.{words_after}
 use Rattle.bus_world.specs.World.{Event, Put, Close, Turn, Recv, Stop}
-use Rattle.bus_world.specs.Yards.{Yard, IsKeptYard, deeds_with, due_deeds}
+use Rattle.bus_world.specs.Yards.{Yard, IsKeptYard, actions_with, due_actions}
 use Rattle.bus_world.specs.declared.events.Answer.{Answer}
 use Rattle.bus_world.specs.declared.events.Answer.TheVariants as answer
 use Rattle.bus_world.proofs.RingLaws.{IsRingLayout, IsLed, ring_led, guest_there, same_register, due_goes}
@@ -44,8 +44,8 @@ use Rattle.bus_world.proofs.TenuresLaws as tenures
 use Rattle.bus_world.proofs.YardLaws.{HasKept, led_kept, yard_promised}
 use Rattle.bus_cyclic.specs.Following.{StepsWithin, TurnsWithin, ring_trails_grown, turn_grown}
 use Rattle.bus_cyclic.specs.Happening.{Happens, GuestDoes, ReaderDoes}
-use Rattle.bus_cyclic.specs.Staying.{HasGoneOn, deeds_in, is_in, stage_of}
-use Rattle.bus_cyclic.proofs.LogGrowing.{IsSweepDue, loads_same, visits_due, sweeps_due}
+use Rattle.bus_cyclic.specs.Staying.{HasGoneOn, actions_in, is_in, stage_of}
+use Rattle.bus_cyclic.proofs.LogGrowing.{IsReclaimDue, loads_same, pins_due, reclaims_due}
 
 -- ---- words
 -- a step that loads, or is on another word, leaves the stage
@@ -61,34 +61,34 @@ length_apart e = omega arith
 past_rows : (senders rows place : ℕ) → 2 + senders + rows + place ≡ stage_at → ⊥
 past_rows senders rows place e = omega arith
 
--- ---- deeds
--- what joins the deeds is no step in this tenure
+-- ---- actions
+-- what joins the actions is no step in this tenure
 module _ (t : ℕ) where
-  pub beside_stays : (s : ℕ) (ds : List Deed) (D : ℕ → List Deed) → deeds_in t ds ≡ [] → (q : ℕ) → deeds_in t (deeds_with s ds D q) ≡ deeds_in t (D q)
+  pub beside_stays : (s : ℕ) (ds : List Action) (D : ℕ → List Action) → actions_in t ds ≡ [] → (q : ℕ) → actions_in t (actions_with s ds D q) ≡ actions_in t (D q)
   beside_stays s ds D none q =
-      filter-append (is_in t) (D q) (cond (q == s) ds []) ∙ ap (λ rest. deeds_in t (D q) ++ rest) (by_test (q == s)) ∙ append-nil (deeds_in t (D q))
+      filter-append (is_in t) (D q) (cond (q == s) ds []) ∙ ap (λ rest. actions_in t (D q) ++ rest) (by_test (q == s)) ∙ append-nil (actions_in t (D q))
     where
-      by_test : (b : Bool) → deeds_in t (cond b ds []) ≡ []
+      by_test : (b : Bool) → actions_in t (cond b ds []) ≡ []
       by_test true = none
       by_test false = refl
 
   -- a step in another tenure, or in none
-  other_step : (k : Option Kind) (tenure : Option ℕ) (got : ℕ) (chose : Option ℕ) (told : Answered) → ((u : ℕ) → tenure ≡ Some u → t < u) → deeds_in t (step_deed k tenure got chose told) ≡ []
+  other_step : (k : Option Kind) (tenure : Option ℕ) (got : ℕ) (chose : Option ℕ) (told : Answered) → ((u : ℕ) → tenure ≡ Some u → t < u) → actions_in t (step_action k tenure got chose told) ≡ []
   other_step None tenure got chose told later = refl
   other_step (Some k) None got chose told later = refl
   other_step (Some k) (Some u) got chose told later = elim (eqb_tells u t) [
     | inl same ↦ absurd (let l = later u refl in let e = same.1 in omega arith)
-    | inr other ↦ ap (λ b. cond b (step_deed (Some k) (Some u) got chose told) []) other.0
+    | inr other ↦ ap (λ b. cond b (step_action (Some k) (Some u) got chose told) []) other.0
   ]
 
-  put_beside_all : (bytes : List ℕ) (a : Answer) → deeds_in t (put_deeds bytes a) ≡ []
+  put_beside_all : (bytes : List ℕ) (a : Answer) → actions_in t (put_actions bytes a) ≡ []
   put_beside_all bytes (answer.Number n) = refl
   put_beside_all bytes answer.Closing = refl
   put_beside_all bytes (answer.Turn told) = refl
   put_beside_all bytes (answer.Recv told) = refl
   put_beside_all bytes answer.Stopped = refl
 
-  close_beside_all : (a : Answer) → deeds_in t (close_deeds a) ≡ []
+  close_beside_all : (a : Answer) → actions_in t (close_actions a) ≡ []
   close_beside_all (answer.Number n) = refl
   close_beside_all answer.Closing = refl
   close_beside_all (answer.Turn told) = refl
@@ -99,17 +99,17 @@ module _ (t : ℕ) where
 module _ {E : Type 0} (X : Election E) (P : Protocol E (Unit {0}) ℕ) (laws : Laws X.op X.fed P OneOwner) (owner_is : (e : E) → X.owner e ≡ P.output e)
     (named : (e : E) (word : ℕ) → is_some (X.kind_of e) ≡ is_some (X.op e word)) (announces : (e : E) → P.has_begun e ≡ false → X.kind_of e ≡ Some kind.Announce) (apart : (e : E) → X.kind_of e ≡ Some kind.TakePage → ⊥)
     (b : Ring E) (x : IsRingLayout X P laws owner_is named announces apart b.layout b.rows) (T : RingTrails) (h : IsLed X P laws owner_is named announces apart b T) where
-  abbrev zs : Sizes
+  abbrev zs : ReclamationSizes
   zs = sizes_with b.layout b.rows
 
   abbrev y : Yard E
-  y = yard_of b h.leads.sweep h.leads.owners
+  y = yard_of b h.leads.reclaimer h.leads.owners
 
-  k : HasKept X P laws b.layout x.ok x.width x.starts owner_is named announces apart b.rows x.two T.heard y T.visits T.deeds
-  k = led_kept X P laws b.layout x.ok x.width x.starts owner_is named announces apart b.rows x.two T.heard y T.visits T.deeds h.leads.led
+  k : HasKept X P laws b.layout x.ok x.width x.starts owner_is named announces apart b.rows x.two T.heard y T.pins T.actions
+  k = led_kept X P laws b.layout x.ok x.width x.starts owner_is named announces apart b.rows x.two T.heard y T.pins T.actions h.leads.led
 
-  promised : IsKeptYard X b.layout b.rows y T.visits T.deeds T.heard
-  promised = yard_promised X P laws b.layout x.ok x.width x.starts owner_is named announces apart b.rows x.two y T.visits T.deeds T.heard h.leads.led
+  promised : IsKeptYard X b.layout b.rows y T.pins T.actions T.heard
+  promised = yard_promised X P laws b.layout x.ok x.width x.starts owner_is named announces apart b.rows x.two y T.pins T.actions T.heard h.leads.led
 
   -- ---- a turn of sender p, which held v
   module _ (p : ℕ) (v : Visitor E) (at : slice_get b.guests p ≡ Some v) (word : ℕ) where
@@ -138,19 +138,19 @@ module _ {E : Type 0} (X : Election E) (P : Protocol E (Unit {0}) ℕ) (laws : L
     stores_stage : (n : ℕ) → stage_of b ≤ n → Rises (Some (Store record { 0 = stage_at } n))
     stores_stage n more low = let now = get_or-set_same b.words stage_at n 0 low in omega arith
 
-    visit_rises : (o : Op) → step_at v.visit (presence_at (sizes_with v.core.layout v.rows) v.core.me) stage_at ≡ Some o → Rises (Some o)
-    visit_rises o e = leaves_stage o (elim (visit_place (sizes_with v.core.layout v.rows) v.visit v.core.me o e) [
+    pin_rises : (o : Op) → step_at v.pin (presence_at (sizes_with v.core.layout v.rows) v.core.me) stage_at ≡ Some o → Rises (Some o)
+    pin_rises o e = leaves_stage o (elim (pin_place (sizes_with v.core.layout v.rows) v.pin v.core.me o e) [
       | inl i ↦ inr (λ j. omega arith)
       | inr i ↦ inl i
     ])
 
-    sweep_rises : (r : Sweeping) (o : Op) → IsSweepDue (situation_of X v.core) v.sweep r o → Rises (Some o)
-    sweep_rises r o d =
+    reclaimer_rises : (r : Reclaiming) (o : Op) → IsReclaimDue (situation_of X v.core) v.reclaimer r o → Rises (Some o)
+    reclaimer_rises r o d =
         let held = ap held_of (tells X v.core (GivesBack d.tenure d.page d.reason) d.is).2 in
-        let sweeps : h.leads.sweep ≡ Some r = sym (h.leads.holder p v d.tenure at held) ∙ d.same in
-        let w = (keeps zs x.two y.hall T.visits k.kept.reached).sweeps r sweeps in
-        leaves_stage o (elim (sweep_does r o d.step) [
-          | inl a ↦ inl (r.presences + r.asked, a.loads)
+        let reclaims : h.leads.reclaimer ≡ Some r = sym (h.leads.holder p v d.tenure at held) ∙ d.same in
+        let w = (keeps zs x.two y.reclamation T.pins k.kept.reached).reclaims r reclaims in
+        leaves_stage o (elim (reclaim_does r o d.step) [
+          | inl a ↦ inl (r.presences + r.scanned, a.loads)
           | inr a ↦ inr (λ j. let place = ap register a.stores in let row = w.row in omega arith)
         ])
 
@@ -192,14 +192,14 @@ module _ {E : Type 0} (X : Election E) (P : Protocol E (Unit {0}) ℕ) (laws : L
     goes_rises (HasHanded t reason) i low = absurd (subst (Fits k.V k.frames v.core) (tells X v.core (HasHanded t reason) i) part.fits)
 
     due_rises : (d : Due E) → due X v ≡ d → Rises (op_due X v d word)
-    due_rises (Visits o) e low = visit_rises o (visits_due _ v.sweep (situation_of X v.core) o e) low
-    due_rises (Sweeps r o) e low = sweep_rises r o (sweeps_due _ v.sweep (situation_of X v.core) r o e) low
-    due_rises (Goes w) e low = goes_rises w (due_goes _ v.sweep (situation_of X v.core) w e) low
+    due_rises (Pins o) e low = pin_rises o (pins_due _ v.reclaimer (situation_of X v.core) o e) low
+    due_rises (Reclaims r o) e low = reclaimer_rises r o (reclaims_due _ v.reclaimer (situation_of X v.core) r o e) low
+    due_rises (Goes w) e low = goes_rises w (due_goes _ v.reclaimer (situation_of X v.core) w e) low
 
     pub turn_rises : IsOnWord b (op_due X v (due X v) word) → stage_of b ≤ stage_of (ring_after X b p v (due X v) word)
     turn_rises low = due_rises (due X v) refl low
 
-    -- ---- its deed
+    -- ---- its action
     -- whose election runs stands in its tenure, and its row has not gone on
     running : (t : ℕ) (e : E) → v.core.phase ≡ phase.Electing t e → stage_of b / 2 < t + b.rows
     running t e elects = promised.by.safe.in_time p t (promised.by.stands p v.core t e old elects)
@@ -221,13 +221,13 @@ module _ {E : Type 0} (X : Election E) (P : Protocol E (Unit {0}) ℕ) (laws : L
     in_time (GivesBack t page reason) i u e = let same : t ≡ u = same_Some _ _ e in let by = tells X v.core (GivesBack t page reason) i in subst (λ n. stage_of b / 2 < n + b.rows) same (held_in_time t page by.0 by.1 by.2)
     in_time (HasHanded t reason) i u e = absurd (subst (Fits k.V k.frames v.core) (tells X v.core (HasHanded t reason) i) part.fits)
 
-    due_apart : (t : ℕ) → HasGoneOn b t → (told : Answered) (d : Due E) → due X v ≡ d → deeds_in t (due_deeds X b.layout b.rows (yard_of b None []) v.core d word told) ≡ []
-    due_apart t gone told (Visits o) e = refl
-    due_apart t gone told (Sweeps r o) e = refl
-    due_apart t gone told (Goes w) e = other_step t (kind_at X v.core w) (tenure_at X v.core w) _ _ told (λ u is. let early = in_time w (due_goes _ v.sweep (situation_of X v.core) w e) u is in omega arith)
+    due_apart : (t : ℕ) → HasGoneOn b t → (told : Answered) (d : Due E) → due X v ≡ d → actions_in t (due_actions X b.layout b.rows (yard_of b None []) v.core d word told) ≡ []
+    due_apart t gone told (Pins o) e = refl
+    due_apart t gone told (Reclaims r o) e = refl
+    due_apart t gone told (Goes w) e = other_step t (kind_at X v.core w) (tenure_at X v.core w) _ _ told (λ u is. let early = in_time w (due_goes _ v.reclaimer (situation_of X v.core) w e) u is in omega arith)
 
-    pub turn_stays : (t : ℕ) → HasGoneOn b t → (told : Answered) (s : ℕ) → deeds_in t (ring_deeds X b p v (due X v) word told T.deeds s) ≡ deeds_in t (T.deeds s)
-    turn_stays t gone told s = beside_stays t p _ T.deeds (due_apart t gone told (due X v) refl) s
+    pub turn_stays : (t : ℕ) → HasGoneOn b t → (told : Answered) (s : ℕ) → actions_in t (ring_actions X b p v (due X v) word told T.actions s) ≡ actions_in t (T.actions s)
+    turn_stays t gone told s = beside_stays t p _ T.actions (due_apart t gone told (due X v) refl) s
 
   -- ---- whatever happens
   beside_rises : (b' : Ring E) (o : Option (Visitor E)) (f : Visitor E → Ring E) → ((v : Visitor E) → (f v).words ≡ b.words) → GuestDoes b o f b' → b'.words ≡ b.words
@@ -252,7 +252,7 @@ module _ {E : Type 0} (X : Election E) (P : Protocol E (Unit {0}) ℕ) (laws : L
   event_rises (Recv r) b' d low = same_words b' (reader_rises b' r (slice_get b.receivers r) d)
   event_rises (Stop p) b' d low = same_words b' (beside_rises b' (guest_going b p) _ (λ v. refl) d)
 
-  event_turn_stays : (t : ℕ) → HasGoneOn b t → (p word : ℕ) (o : Option (Visitor E)) → guest_going b p ≡ o → (a : Answer) (s : ℕ) → deeds_in t ((turn_grown X b p o word a T).deeds s) ≡ deeds_in t (T.deeds s)
+  event_turn_stays : (t : ℕ) → HasGoneOn b t → (p word : ℕ) (o : Option (Visitor E)) → guest_going b p ≡ o → (a : Answer) (s : ℕ) → actions_in t ((turn_grown X b p o word a T).actions s) ≡ actions_in t (T.actions s)
   event_turn_stays t gone p word None goes a s = refl
   event_turn_stays t gone p word (Some v) goes (answer.Number n) s = refl
   event_turn_stays t gone p word (Some v) goes answer.Closing s = refl
@@ -260,9 +260,9 @@ module _ {E : Type 0} (X : Election E) (P : Protocol E (Unit {0}) ℕ) (laws : L
   event_turn_stays t gone p word (Some v) goes (answer.Recv told) s = refl
   event_turn_stays t gone p word (Some v) goes answer.Stopped s = refl
 
-  pub event_stays : (t : ℕ) → HasGoneOn b t → (e : Event) (a : Answer) (s : ℕ) → deeds_in t ((ring_trails_grown X b e a T).deeds s) ≡ deeds_in t (T.deeds s)
-  event_stays t gone (Put p bytes) a s = beside_stays t p (put_deeds bytes a) T.deeds (put_beside_all t bytes a) s
-  event_stays t gone (Close p) a s = beside_stays t p (close_deeds a) T.deeds (close_beside_all t a) s
+  pub event_stays : (t : ℕ) → HasGoneOn b t → (e : Event) (a : Answer) (s : ℕ) → actions_in t ((ring_trails_grown X b e a T).actions s) ≡ actions_in t (T.actions s)
+  event_stays t gone (Put p bytes) a s = beside_stays t p (put_actions bytes a) T.actions (put_beside_all t bytes a) s
+  event_stays t gone (Close p) a s = beside_stays t p (close_actions a) T.actions (close_beside_all t a) s
   event_stays t gone (Turn p word) a s = event_turn_stays t gone p word (guest_going b p) refl a s
   event_stays t gone (Recv r) a s = refl
   event_stays t gone (Stop p) a s = refl
@@ -279,9 +279,9 @@ module _ {E : Type 0} (X : Election E) (P : Protocol E (Unit {0}) ℕ) (laws : L
   taken_rises = turn_rises X P laws owner_is named announces apart b x T led p v (guest_there b p v goes) word
 
   -- .. and adds no step in a tenure whose row has gone on
-  pub taken_stays : (t : ℕ) → HasGoneOn b t → (told : Answered) (s : ℕ) → deeds_in t (ring_deeds X b p v (due X v) word told T.deeds s) ≡ deeds_in t (T.deeds s)
+  pub taken_stays : (t : ℕ) → HasGoneOn b t → (told : Answered) (s : ℕ) → actions_in t (ring_actions X b p v (due X v) word told T.actions s) ≡ actions_in t (T.actions s)
   taken_stays = turn_stays X P laws owner_is named announces apart b x T led p v (guest_there b p v goes) word
 
-  -- whatever it is answered: its deed is in none
-  pub taken_apart : (t : ℕ) → HasGoneOn b t → (told : Answered) → deeds_in t (due_deeds X b.layout b.rows (yard_of b None []) v.core (due X v) word told) ≡ []
+  -- whatever it is answered: its action is in none
+  pub taken_apart : (t : ℕ) → HasGoneOn b t → (told : Answered) → actions_in t (due_actions X b.layout b.rows (yard_of b None []) v.core (due X v) word told) ≡ []
   taken_apart t gone told = due_apart X P laws owner_is named announces apart b x T led p v (guest_there b p v goes) word t gone told (due X v) refl

@@ -10,18 +10,18 @@ use Rattle.bus_register.specs.Proved.TableLaws.{some_or_none, here_not, get_set_
 use Rattle.bus_register.specs.Protocol.{Protocol}
 use Rattle.bus_adoptcommit.specs.declared.verdicts.Verdict.{Verdict}
 use Rattle.bus_deliverylog.specs.Receiving.{Receiving}
-use Rattle.bus_presence.specs.Hall.{Trails, Entry, trails_with_entry as trail_grown}
-use Rattle.bus_guest.specs.Guests.{Due, Visits, Sweeps, Goes}
+use Rattle.bus_presence.specs.Reclamation.{Trails, Entry, trails_with_entry as trail_grown}
+use Rattle.bus_guest.specs.Guests.{Due, Pins, Reclaims, Goes}
 use Rattle.bus_guest.specs.Turns.{Visitor, due}
 use Rattle.bus_tenure.specs.Core.{Core, Election}
 use Rattle.bus_tenure.specs.Elections.{Elector}
-use Rattle.bus_world.specs.Headline.{Deed}
+use Rattle.bus_world.specs.Headline.{Action}
 use Rattle.bus_world.specs.Playing.{PutGives, CloseGives, StopGives, PutRefused, CloseRefused, TurnRefused, RecvRefused, StopRefused, UnlessStopped}
-use Rattle.bus_world.specs.Rings.{Ring, RingTrails, RingReached, IsNewRing, NewRing, TurnTaken, PutTaken, CloseTaken, RecvTaken, StopTaken, guest_going, ring_after, ring_trails, ring_sweeps, with_guest, visitor_put, visitor_closed}
+use Rattle.bus_world.specs.Rings.{Ring, RingTrails, RingReached, IsNewRing, NewRing, TurnTaken, PutTaken, CloseTaken, RecvTaken, StopTaken, guest_going, ring_after, ring_trails, ring_reclaims, with_guest, visitor_put, visitor_closed}
 use Rattle.bus_world.specs.Stopping.{IsOfOther}
-use Rattle.bus_world.specs.Trails.{put_deeds, close_deeds}
+use Rattle.bus_world.specs.Trails.{put_actions, close_actions}
 use Rattle.bus_world.specs.World.{Event, Put, Close, Turn, Recv, Stop, is_set}
-use Rattle.bus_world.specs.Yards.{deeds_with}
+use Rattle.bus_world.specs.Yards.{actions_with}
 use Rattle.bus_world.specs.declared.events.Answer.{Answer}
 use Rattle.bus_world.specs.declared.events.Answer.TheVariants as answer
 use Rattle.bus_world.specs.declared.events.StepFault.{StepFault}
@@ -207,36 +207,36 @@ steps_before X z s went_on e g next other step =
     subst (λ y. Steps X y e g (with_stop_of s false next)) (ap (λ l. record z { ring = record z.ring { stopped = l } }) (taken_back z.ring.stopped s went_on)) (steps_alike X (with_stop_of s true z) s false e g next other step)
 
 -- ---- what a turn of another adds
-deeds_beside : (q s : ℕ) (ds : List Deed) (D : ℕ → List Deed) → s ≢ q → deeds_with q ds D s ≡ D s
-deeds_beside q s ds D ne = ap (λ z. D s ++ cond z ds []) (ne_eqb s q ne) ∙ append-nil (D s)
+actions_beside : (q s : ℕ) (ds : List Action) (D : ℕ → List Action) → s ≢ q → actions_with q ds D s ≡ D s
+actions_beside q s ds D ne = ap (λ z. D s ++ cond z ds []) (ne_eqb s q ne) ∙ append-nil (D s)
 
 trail_beside : (q s : ℕ) (e : Entry) (T : Trails) → s ≢ q → trail_grown T q e s ≡ T s
 trail_beside q s e T ne = ap (λ z. cond z (T s ++ e ∷ []) (T s)) (ne_eqb s q ne)
 
 record AddsNothing (s : ℕ) (T T' : RingTrails) : Type 0 where
-  deeds : T'.deeds s ≡ T.deeds s
-  visits : T'.visits s ≡ T.visits s
-  sweeps : T'.sweeps s ≡ T.sweeps s
+  actions : T'.actions s ≡ T.actions s
+  pins : T'.pins s ≡ T.pins s
+  reclaims : T'.reclaims s ≡ T.reclaims s
 
 the_same : (s : ℕ) (T : RingTrails) → AddsNothing s T T
-the_same s T = record { deeds = refl; visits = refl; sweeps = refl }
+the_same s T = record { actions = refl; pins = refl; reclaims = refl }
 
 module _ {E : Type 0} (X : Election E) (b : Ring E) (q s : ℕ) (ne : s ≢ q) where
-  visits_beside : (d : Due E) (T : Trails) → ring_trails b q d T s ≡ T s
-  visits_beside (Visits o) T = trail_beside q s _ T ne
-  visits_beside (Sweeps r o) T = refl
-  visits_beside (Goes z) T = refl
+  pins_beside : (d : Due E) (T : Trails) → ring_trails b q d T s ≡ T s
+  pins_beside (Pins o) T = trail_beside q s _ T ne
+  pins_beside (Reclaims r o) T = refl
+  pins_beside (Goes z) T = refl
 
-  sweeps_beside : (d : Due E) (T : Trails) → ring_sweeps b q d T s ≡ T s
-  sweeps_beside (Visits o) T = refl
-  sweeps_beside (Sweeps r o) T = trail_beside q s _ T ne
-  sweeps_beside (Goes z) T = refl
+  reclaims_beside : (d : Due E) (T : Trails) → ring_reclaims b q d T s ≡ T s
+  reclaims_beside (Pins o) T = refl
+  reclaims_beside (Reclaims r o) T = trail_beside q s _ T ne
+  reclaims_beside (Goes z) T = refl
 
   turn_adds : (o : Option (Visitor E)) (word : ℕ) (a : Answer) (T : RingTrails) → AddsNothing s T (turn_grown X b q o word a T)
   turn_adds None word a T = the_same s T
   turn_adds (Some v) word (answer.Number n) T = the_same s T
   turn_adds (Some v) word answer.Closing T = the_same s T
-  turn_adds (Some v) word (answer.Turn t) T = record { deeds = deeds_beside q s _ T.deeds ne; visits = visits_beside (due X v) T.visits; sweeps = sweeps_beside (due X v) T.sweeps }
+  turn_adds (Some v) word (answer.Turn t) T = record { actions = actions_beside q s _ T.actions ne; pins = pins_beside (due X v) T.pins; reclaims = reclaims_beside (due X v) T.reclaims }
   turn_adds (Some v) word (answer.Recv t) T = the_same s T
   turn_adds (Some v) word answer.Stopped T = the_same s T
 
@@ -247,29 +247,29 @@ module _ {E : Type 0} (X : Election E) where
     | inl e ↦ absurd (subst (λ o. PutGives (core_found o) (length bytes) w.0) (gone b q s stop e) w.1)
     | inr ne ↦
         let left = guest_apart b b' (guest_going b q) (λ v. with_guest b q (visitor_put v bytes)) s (λ v. record { stopped = refl; state = get_set_other b.guests q (visitor_put v bytes) s ne }) d in
-        record { stopped = left.stopped ∙ stop; state = left.state; deeds = deeds_beside q s (put_deeds bytes a) T.deeds ne; visits = refl; sweeps = refl }
+        record { stopped = left.stopped ∙ stop; state = left.state; actions = actions_beside q s (put_actions bytes a) T.actions ne; pins = refl; reclaims = refl }
   ]
   event_leaves b b' (Close q) a T s stop d w = elim (cases_eq s q) [
     | inl e ↦ absurd (subst (λ o. CloseGives (core_found o)) (gone b q s stop e) w.0)
     | inr ne ↦
         let left = guest_apart b b' (guest_going b q) (λ v. with_guest b q (visitor_closed v)) s (λ v. record { stopped = refl; state = get_set_other b.guests q (visitor_closed v) s ne }) d in
-        record { stopped = left.stopped ∙ stop; state = left.state; deeds = deeds_beside q s (close_deeds a) T.deeds ne; visits = refl; sweeps = refl }
+        record { stopped = left.stopped ∙ stop; state = left.state; actions = actions_beside q s (close_actions a) T.actions ne; pins = refl; reclaims = refl }
   ]
   event_leaves b b' (Turn q word) a T s stop d w = elim (cases_eq s q) [
     | inl e ↦ absurd (subst (λ o. TurnAnswers X b.words o word a) (gone b q s stop e) w)
     | inr ne ↦
         let left = guest_apart b b' (guest_going b q) (λ v. ring_after X b q v (due X v) word) s (λ v. record { stopped = refl; state = get_set_other b.guests q _ s ne }) d in
         let adds = turn_adds X b q s ne (guest_going b q) word a T in
-        record { stopped = left.stopped ∙ stop; state = left.state; deeds = adds.deeds; visits = adds.visits; sweeps = adds.sweeps }
+        record { stopped = left.stopped ∙ stop; state = left.state; actions = adds.actions; pins = adds.pins; reclaims = adds.reclaims }
   ]
   event_leaves b b' (Recv r) a T s stop d w =
       let left = reader_apart b b' r (slice_get b.receivers r) s d in
-      record { stopped = left.stopped ∙ stop; state = left.state; deeds = refl; visits = refl; sweeps = refl }
+      record { stopped = left.stopped ∙ stop; state = left.state; actions = refl; pins = refl; reclaims = refl }
   event_leaves b b' (Stop q) a T s stop d w = elim (cases_eq s q) [
     | inl e ↦ absurd (subst (λ o. StopGives (core_found o)) (gone b q s stop e) w.0)
     | inr ne ↦
         let left = guest_apart b b' (guest_going b q) (λ v. record b { stopped = slice_set b.stopped q true }) s (λ v. set_apart b q s ne) d in
-        record { stopped = left.stopped ∙ stop; state = left.state; deeds = refl; visits = refl; sweeps = refl }
+        record { stopped = left.stopped ∙ stop; state = left.state; actions = refl; pins = refl; reclaims = refl }
   ]
 
   -- nobody stops but by a stop of its own
@@ -337,14 +337,14 @@ stays : {S : Type 0} (X : Election (Elector S)) (P : Protocol S Bool Verdict) (e
 stays {S} X P [] old new run T s stop = record {
   stopped = ap (λ (z : CyclicBus (Elector S)). has_stopped z.ring s) run ∙ stop;
   state = ap (λ (z : CyclicBus (Elector S)). slice_get z.ring.guests s) run;
-  deeds = refl;
-  visits = refl;
-  sweeps = refl;
+  actions = refl;
+  pins = refl;
+  reclaims = refl;
 }
 stays X P (e ∷ events) old new run T s stop =
     let one = event_leaves X old.ring run.0.ring e run.1 T s stop run.2.steps.happens run.2.steps.answers in
     let rest = stays X P events run.0 new run.3 (ring_trails_grown X old.ring e run.1 T) s one.stopped in
-    record { stopped = rest.stopped; state = rest.state ∙ one.state; deeds = rest.deeds ∙ one.deeds; visits = rest.visits ∙ one.visits; sweeps = rest.sweeps ∙ one.sweeps }
+    record { stopped = rest.stopped; state = rest.state ∙ one.state; actions = rest.actions ∙ one.actions; pins = rest.pins ∙ one.pins; reclaims = rest.reclaims ∙ one.reclaims }
 
 -- and so none does whose stop is not among them
 goes_on : {S : Type 0} (X : Election (Elector S)) (P : Protocol S Bool Verdict) (events : List Event) (old new : CyclicBus (Elector S)) (s : ℕ) → AllAnswered X P old events new → All (λ e. e ≢ Stop s) events → has_stopped new.ring s ≡ has_stopped old.ring s

@@ -8,12 +8,12 @@ use Rattle.bus_batch.specs.Batches.{next_of, frame_of}
 use Rattle.bus_batch.specs.declared.batches.Phase.{Phase as BatchPhase}
 use Rattle.bus_batch.specs.declared.batches.Phase.TheVariants.{Closing}
 use Rattle.bus_batch.specs.Frames.{Frame, AreFrames, log_words, order_of, items_of, tenure_and_owner}
-use Rattle.bus_presence.specs.Sweeps.{behind_of}
-use Rattle.bus_presence.specs.declared.sweeps.Behind.{Behind}
-use Rattle.bus_presence.specs.declared.visits.Visit.{Visit}
-use Rattle.bus_presence.specs.declared.visits.Visit.TheVariants.{Away, Entering, Looking, Inside, Parting, Barred}
-use Rattle.bus_guest.specs.Guests.{Due, Visits, Sweeps, Goes, log_from, answer_going}
-use Rattle.bus_guest.specs.Turns.{Visitor, due, op_due, answer_due, answer_of_loss, answer_of_visit, answer_of_sweep}
+use Rattle.bus_presence.specs.Reclaimers.{behind_of}
+use Rattle.bus_presence.specs.declared.reclaimers.Behind.{Behind}
+use Rattle.bus_presence.specs.declared.pins.Pin.{Pin}
+use Rattle.bus_presence.specs.declared.pins.Pin.TheVariants.{Away, Announcing, Validating, Pinned, Unpinning, Invalidated}
+use Rattle.bus_guest.specs.Guests.{Due, Pins, Reclaims, Goes, log_from, answer_going}
+use Rattle.bus_guest.specs.Turns.{Visitor, due, op_due, answer_due, answer_of_loss, answer_of_pin, answer_of_reclaim}
 use Rattle.bus_tenure.specs.Core.{Core, Election, log_at, is_empty, is_closing, is_closed, has_room, frame_len}
 use Rattle.bus_tenure.specs.Situations.{Situation, IsClosed, IsIdle, IsSpent, LooksAtStage, Elects, TakesPage, StoresWord, StoresLength, GivesBack, situation_at, situation_of, resting, electing, holding, waits}
 use Rattle.bus_tenure.specs.declared.pages.Page.{Page}
@@ -23,12 +23,12 @@ use Rattle.bus_tenure.specs.declared.phases.Phase.TheVariants as phase
 use Rattle.bus_tenure.specs.declared.turns.Turn.{Turn as Answered}
 use Rattle.bus_tenure.specs.declared.turns.Turn.TheVariants as turn
 use Rattle.bus_world.specs.Bus.{IsLayout, Part, Fits}
-use Rattle.bus_world.specs.Headline.{Deed, Elected, Took, AreFramed}
+use Rattle.bus_world.specs.Headline.{Action, Elected, Took, AreFramed}
 use Rattle.bus_world.specs.Log.{words_read_from}
 use Rattle.bus_world.specs.Rings.{Ring, RingTrails, IsKeptRing, yard_of, core_in, guest_going}
 use Rattle.bus_world.specs.Turning.{number_found}
 use Rattle.bus_world.specs.World.{Event, Put, Close, Turn, Recv, Stop}
-use Rattle.bus_world.specs.Yards.{Yard, deeds_with, due_deeds, going_deeds}
+use Rattle.bus_world.specs.Yards.{Yard, actions_with, due_actions, going_actions}
 use Rattle.bus_world.specs.declared.events.Answer.{Answer}
 use Rattle.bus_world.proofs.FrameOfBatch.{counted_frame, length-items}
 use Rattle.bus_world.proofs.Framing.{items_owned, framed, front_lawful}
@@ -42,11 +42,11 @@ use Rattle.bus_cyclic.specs.Following.{Steps, ring_trails_grown, turn_grown}
 use Rattle.bus_cyclic.specs.Happening.{TurnAnswers}
 use Rattle.bus_cyclic.specs.Truth.{LossesAreSeen, GuestTells, TurnIsTrue, EventIsTrue, TellsTrue, LossesRefuse, AnswersRefuse}
 use Rattle.bus_cyclic.proofs.CyclicLaws.{layout_served, led, ok, leads_on, event_sizes, kept_at}
-use Rattle.bus_cyclic.proofs.LossLaws.{own_deeds, loss_still, ring_seen}
+use Rattle.bus_cyclic.proofs.LossLaws.{own_actions, loss_still, ring_seen}
 
--- a visit parts from one tenure
-parting_is : (t u : ℕ) → Parting t ≡ Parting u → t ≡ u
-parting_is t u e = cc
+-- a pin parts from one tenure
+unpinning_is : (t u : ℕ) → Unpinning t ≡ Unpinning u → t ≡ u
+unpinning_is t u e = cc
 
 -- whose frame is no end mark has messages to send
 some_messages : (ph : BatchPhase) (n : ℕ) → (0 < n) ⊎ (ph ≡ Closing) → is_closing ph ≡ false → 0 < n
@@ -67,12 +67,12 @@ module _ {E : Type 0} (X : Election E) (P : Protocol E (Unit {0}) ℕ) (z : Cycl
   h = led X P z s ok two T l
 
   abbrev y : Yard E
-  y = yard_of b h.leads.sweep h.leads.owners
+  y = yard_of b h.leads.reclaimer h.leads.owners
 
-  k : HasKept X P s.laws b.layout x.ok x.width x.starts s.owner_is s.named s.announces s.apart b.rows x.two T.heard y T.visits T.deeds
-  k = led_kept X P s.laws b.layout x.ok x.width x.starts s.owner_is s.named s.announces s.apart b.rows x.two T.heard y T.visits T.deeds h.leads.led
+  k : HasKept X P s.laws b.layout x.ok x.width x.starts s.owner_is s.named s.announces s.apart b.rows x.two T.heard y T.pins T.actions
+  k = led_kept X P s.laws b.layout x.ok x.width x.starts s.owner_is s.named s.announces s.apart b.rows x.two T.heard y T.pins T.actions h.leads.led
 
-  pub seen : LossesAreSeen b T.deeds
+  pub seen : LossesAreSeen b T.actions
   seen = ring_seen X P s.laws s.owner_is s.named s.announces s.apart b x T l.reached
 
   length_is : slice_index b.words 0 ≡ k.V 0
@@ -96,11 +96,11 @@ module _ {E : Type 0} (X : Election E) (P : Protocol E (Unit {0}) ℕ) (z : Cycl
     abbrev told : Situation E → Answered
     told w = answer_going X c w (number_found (slice_index b.words) (op_due X v (Goes w) word)) word
 
-    abbrev deeds : Situation E → List Deed
-    deeds w = T.deeds p ++ going_deeds X b.layout b.rows (yard_of b None []) c w word (told w)
+    abbrev actions : Situation E → List Action
+    actions w = T.actions p ++ going_actions X b.layout b.rows (yard_of b None []) c w word (told w)
 
     abbrev True : Situation E → Type 0
-    True w = ((t place : ℕ) → Took (deeds w) t place → Elected (deeds w) t p) → GuestTells b p c (deeds w) (told w)
+    True w = ((t place : ℕ) → Took (actions w) t place → Elected (actions w) t p) → GuestTells b p c (actions w) (told w)
 
     pick : (q : Bool) (w u : Situation E) → (q ≡ true → True w) → (q ≡ false → True u) → True (cond q w u)
     pick true w u f g = f refl
@@ -108,9 +108,9 @@ module _ {E : Type 0} (X : Election E) (P : Protocol E (Unit {0}) ℕ) (z : Cycl
 
     -- at rest
     looks : True LooksAtStage
-    looks own = by_tests (waits c (slice_index b.words 1)) (nat_le c.layout.rows (slice_index b.words 1 / 2)) (deeds LooksAtStage)
+    looks own = by_tests (waits c (slice_index b.words 1)) (nat_le c.layout.rows (slice_index b.words 1 / 2)) (actions LooksAtStage)
       where
-        by_tests : (d e : Bool) (ds : List Deed) → GuestTells b p c ds (cond d turn.Waiting (cond e turn.Spent turn.Going))
+        by_tests : (d e : Bool) (ds : List Action) → GuestTells b p c ds (cond d turn.Waiting (cond e turn.Spent turn.Going))
         by_tests true e ds = tt
         by_tests false true ds = tt
         by_tests false false ds = tt
@@ -121,8 +121,8 @@ module _ {E : Type 0} (X : Election E) (P : Protocol E (Unit {0}) ℕ) (z : Cycl
     -- elected
     takes : (t : ℕ) → True (TakesPage t)
     takes t own =
-        let taken : Took (deeds (TakesPage t)) t (length (T.deeds p) + 0) = record { found = slice_index b.words 1; chose = None; answer = turn.Own t; at = got_after (T.deeds p) _ 0 _ refl (length (T.deeds p) + 0) refl } in
-        (own t (length (T.deeds p) + 0) taken, (length (T.deeds p) + 0, taken))
+        let taken : Took (actions (TakesPage t)) t (length (T.actions p) + 0) = record { found = slice_index b.words 1; chose = None; answer = turn.Own t; at = got_after (T.actions p) _ 0 _ refl (length (T.actions p) + 0) refl } in
+        (own t (length (T.actions p) + 0) taken, (length (T.actions p) + 0, taken))
 
     elect_true : (t : ℕ) (e : E) → True (electing X t e)
     elect_true t e = pick (is_some (X.owner e)) (TakesPage t) (Elects t e) (λ _. takes t) (λ _ own. tt)
@@ -135,7 +135,7 @@ module _ {E : Type 0} (X : Election E) (P : Protocol E (Unit {0}) ℕ) (z : Cycl
           by_closing (is_closing c.queue.phase) refl fits.1.front fits.1.frames_are (some_messages c.queue.phase (length c.queue.messages) fits.0.something)
         where
           by_closing : (q : Bool) → is_closing c.queue.phase ≡ q → (front : List Frame) → k.frames ≡ front ++ frame_of c.queue t ∷ [] → (is_closing c.queue.phase ≡ false → 0 < length c.queue.messages)
-              → GuestTells b p c (deeds (GivesBack t page Sent)) (cond q turn.Closed (turn.Delivered t c.queue.first (next_of c.queue - 1)))
+              → GuestTells b p c (actions (GivesBack t page Sent)) (cond q turn.Closed (turn.Delivered t c.queue.first (next_of c.queue - 1)))
           by_closing true i front e some = tt
           by_closing false i front e some = (
             order_of k.frames,
@@ -184,44 +184,44 @@ module _ {E : Type 0} (X : Election E) (P : Protocol E (Unit {0}) ℕ) (z : Cycl
     abbrev answered : Due E → Answered
     answered d = answer_due X v d (number_found (slice_index b.words) (op_due X v d word)) word
 
-    abbrev added : Due E → List Deed
-    added d = due_deeds X b.layout b.rows (yard_of b None []) c d word (answered d)
+    abbrev added : Due E → List Action
+    added d = due_actions X b.layout b.rows (yard_of b None []) c d word (answered d)
 
     abbrev DueTrue : Due E → Type 0
-    DueTrue d = ((t place : ℕ) → Took (deeds_with p (added d) T.deeds p) t place → Elected (deeds_with p (added d) T.deeds p) t p) → GuestTells b p c (deeds_with p (added d) T.deeds p) (answered d)
+    DueTrue d = ((t place : ℕ) → Took (actions_with p (added d) T.actions p) t place → Elected (actions_with p (added d) T.actions p) t p) → GuestTells b p c (actions_with p (added d) T.actions p) (answered d)
 
     -- who withdraws has seen to whom it lost
-    lost_true : (t : ℕ) (o : Option SenderNo) → v.visit ≡ Parting t → v.lost ≡ o → GuestTells b p c (deeds_with p [] T.deeds p) (answer_of_loss t o)
+    lost_true : (t : ℕ) (o : Option SenderNo) → v.pin ≡ Unpinning t → v.lost ≡ o → GuestTells b p c (actions_with p [] T.actions p) (answer_of_loss t o)
     lost_true t None parts lost = tt
     lost_true t (Some o) parts lost =
-        let w = loss_still p [] T.deeds v.visit p o (seen.seen p v o at lost) in
-        (subst (λ u. Elected (deeds_with p [] T.deeds p) u o.0) (parting_is w.tenure t (sym w.parts ∙ parts)) w.elected, w.other)
+        let w = loss_still p [] T.actions v.pin p o (seen.seen p v o at lost) in
+        (subst (λ u. Elected (actions_with p [] T.actions p) u o.0) (unpinning_is w.tenure t (sym w.parts ∙ parts)) w.elected, w.other)
 
-    visit_true : (u : Visit) → v.visit ≡ u → GuestTells b p c (deeds_with p [] T.deeds p) (answer_of_visit u v.lost)
-    visit_true Away is = tt
-    visit_true (Entering t) is = tt
-    visit_true (Looking t) is = tt
-    visit_true (Inside t) is = tt
-    visit_true (Parting t) is = lost_true t v.lost is refl
-    visit_true (Barred t) is = tt
+    pin_true : (u : Pin) → v.pin ≡ u → GuestTells b p c (actions_with p [] T.actions p) (answer_of_pin u v.lost)
+    pin_true Away is = tt
+    pin_true (Announcing t) is = tt
+    pin_true (Validating t) is = tt
+    pin_true (Pinned t) is = tt
+    pin_true (Unpinning t) is = lost_true t v.lost is refl
+    pin_true (Invalidated t) is = tt
 
-    sweep_true : (o : Option Behind) → GuestTells b p c (deeds_with p [] T.deeds p) (answer_of_sweep o)
-    sweep_true None = tt
-    sweep_true (Some o) = tt
+    reclaimer_true : (o : Option Behind) → GuestTells b p c (actions_with p [] T.actions p) (answer_of_reclaim o)
+    reclaimer_true None = tt
+    reclaimer_true (Some o) = tt
 
     due_true : (d : Due E) → due X v ≡ d → DueTrue d
-    due_true (Visits o) e = λ own. visit_true v.visit refl
-    due_true (Sweeps r o) e = λ own. sweep_true (behind_of r (number_found (slice_index b.words) (Some o)))
+    due_true (Pins o) e = λ own. pin_true v.pin refl
+    due_true (Reclaims r o) e = λ own. reclaimer_true (behind_of r (number_found (slice_index b.words) (Some o)))
     due_true (Goes w) e =
-        let so : True w = subst True (due_goes _ v.sweep (situation_of X c) w e) (true_at c.phase refl) in
-        subst (λ ds. ((t place : ℕ) → Took ds t place → Elected ds t p) → GuestTells b p c ds (told w)) (sym (own_deeds p (going_deeds X b.layout b.rows (yard_of b None []) c w word (told w)) T.deeds)) so
+        let so : True w = subst True (due_goes _ v.reclaimer (situation_of X c) w e) (true_at c.phase refl) in
+        subst (λ ds. ((t place : ℕ) → Took ds t place → Elected ds t p) → GuestTells b p c ds (told w)) (sym (own_actions p (going_actions X b.layout b.rows (yard_of b None []) c w word (told w)) T.actions)) so
 
   -- ---- whatever happens
   turn_true : (p word : ℕ) (o : Option (Visitor E)) → guest_going b p ≡ o → (a : Answer) → TurnAnswers X b.words o word a
-      → ((t place : ℕ) → Took ((turn_grown X b p o word a T).deeds p) t place → Elected ((turn_grown X b p o word a T).deeds p) t p) → TurnIsTrue b p o ((turn_grown X b p o word a T).deeds p) a
+      → ((t place : ℕ) → Took ((turn_grown X b p o word a T).actions p) t place → Elected ((turn_grown X b p o word a T).actions p) t p) → TurnIsTrue b p o ((turn_grown X b p o word a T).actions p) a
   turn_true p word None goes a gives = λ own. tt
   turn_true p word (Some v) goes a gives =
-      subst (λ q. ((t place : ℕ) → Took ((turn_grown X b p (Some v) word q T).deeds p) t place → Elected ((turn_grown X b p (Some v) word q T).deeds p) t p) → TurnIsTrue b p (Some v) ((turn_grown X b p (Some v) word q T).deeds p) q) (sym gives)
+      subst (λ q. ((t place : ℕ) → Took ((turn_grown X b p (Some v) word q T).actions p) t place → Elected ((turn_grown X b p (Some v) word q T).actions p) t p) → TurnIsTrue b p (Some v) ((turn_grown X b p (Some v) word q T).actions p) q) (sym gives)
       (due_true p v (guest_there b p v goes) word (due X v) refl)
 
   pub event_true : (e : Event) (a : Answer) (z' : CyclicBus E) → Steps X z e a z' → EventIsTrue b e a (ring_trails_grown X b e a T)
@@ -240,11 +240,11 @@ module _ {E : Type 0} (X : Election E) (P : Protocol E (Unit {0}) ℕ) (z : Cycl
   tells_true = subst (λ y. (e : Event) (a : Answer) (new : CyclicBus E) → Steps X y e a new → TellsTrue X y e a) is
       (λ e a new d. record { told = λ T l. event_true X P z s (ok X P z s h) h.rows_some T l e a new d })
 
-  pub losses_seen : (T : RingTrails) → LeadTo X now T → LossesAreSeen now.ring T.deeds
-  losses_seen = subst (λ y. (T : RingTrails) → LeadTo X y T → LossesAreSeen y.ring T.deeds) is (λ T l. seen X P z s (ok X P z s h) h.rows_some T l)
+  pub losses_seen : (T : RingTrails) → LeadTo X now T → LossesAreSeen now.ring T.actions
+  losses_seen = subst (λ y. (T : RingTrails) → LeadTo X y T → LossesAreSeen y.ring T.actions) is (λ T l. seen X P z s (ok X P z s h) h.rows_some T l)
 
 -- ---- what is refused
-nothing_there : (i : ℕ) (d : Deed) → slice_get [] i ≡ Some d → ⊥
+nothing_there : (i : ℕ) (d : Action) → slice_get [] i ≡ Some d → ⊥
 nothing_there i d e = cc
 
 none_spelled : (frames : List Frame) → log_words frames ≡ [] → frames ≡ []
@@ -261,11 +261,11 @@ module _ {E : Type 0} (b : Ring E) where
     idle_loser = λ D p v o at lost none l. let w = l.seen p v o at lost in nothing_there w.elected.place _ (ap (λ d. slice_get d w.elected.place) (sym none) ∙ w.elected.at);
     own_loser = λ D p v o at lost same l. (l.seen p v o at lost).other same;
     wrong_owner = λ D p v o t u at lost parts only apart l. let w = l.seen p v o at lost in
-        apart (only o.0 (subst (λ r. Elected (D p) r o.0) (parting_is w.tenure t (sym w.parts ∙ parts)) w.elected));
+        apart (only o.0 (subst (λ r. Elected (D p) r o.0) (unpinning_is w.tenure t (sym w.parts ∙ parts)) w.elected));
   }
 
-  pub answers_refused : (p : ℕ) (c : Core E) (deeds : List Deed) → AnswersRefuse b p c deeds
-  answers_refused p c deeds = record {
+  pub answers_refused : (p : ℕ) (c : Core E) (actions : List Action) → AnswersRefuse b p c actions
+  answers_refused p c actions = record {
     lost_unseen = λ t o unseen told. unseen told.0;
     lost_to_itself = λ t o same told. told.1 same;
     own_untaken = λ t untaken told. untaken told.1.0 told.1.1;

@@ -10,7 +10,7 @@ use Rattle.bus_guest.specs.Turns.{Visitor}
 use Rattle.bus_tenure.specs.Core.{Election, Layout}
 use Rattle.bus_tenure.specs.Elections.{layout_with}
 use Rattle.bus_tenure.specs.declared.pages.Page.{Page}
-use Rattle.bus_world.specs.Headline.{Deed}
+use Rattle.bus_world.specs.Headline.{Action}
 use Rattle.bus_world.specs.Log.{words_read_from}
 use Rattle.bus_world.specs.Playing.{Within, Beyond}
 use Rattle.bus_world.specs.Rings.{Ring, RingTrails, RingReached, IsRing, IsNewRing}
@@ -70,16 +70,16 @@ abbrev pub last_of : ℕ → List ℕ → List ℕ
 last_of many owners = drop (length owners - many) owners
 
 -- of those who took the pages, by tenure, these are the last, at most as many as there are rows
-pub record AreLastTakers (rows : ℕ) (last : List ℕ) (deeds : ℕ → List Deed) : Type 0 where
+pub record AreLastTakers (rows : ℕ) (last : List ℕ) (actions : ℕ → List Action) : Type 0 where
   pub all : List ℕ
-  pub takers : Takers all deeds
+  pub takers : Takers all actions
   pub last_are : last ≡ last_of rows all
 
 -- ---- what leads to such a bus
--- these trails lead to its words, its page, its senders and its receivers, and who took the last pages did so by their deeds
+-- these trails lead to its words, its page, its senders and its receivers, and who took the last pages did so by their actions
 pub record LeadTo {E : Type 0} (X : Election E) (z : CyclicBus E) (T : RingTrails) : Type 0 where
   pub reached : RingReached X z.ring T
-  pub owners : AreLastTakers z.ring.rows z.owners T.deeds
+  pub owners : AreLastTakers z.ring.rows z.owners T.actions
 
 -- what every such bus that a program holds keeps: some trails lead to it
 pub record IsServedRing {E : Type 0} (X : Election E) (z : CyclicBus E) : Type 0 where

@@ -4,23 +4,23 @@ use Rattle.bus_deliverylog.specs.declared.receiving.RecvTurn.{RecvTurn}
 use Rattle.bus_guest.specs.Turns.{Visitor, due, op_next}
 use Rattle.bus_tenure.specs.Core.{Election}
 use Rattle.bus_world.specs.Headline.{IsPrefix}
-use Rattle.bus_world.specs.Rings.{Ring, RingTrails, IsOnWord, IsKeptRing, guest_going, ring_trails, ring_sweeps, ring_deeds}
-use Rattle.bus_world.specs.Trails.{put_deeds, close_deeds}
+use Rattle.bus_world.specs.Rings.{Ring, RingTrails, IsOnWord, IsKeptRing, guest_going, ring_trails, ring_reclaims, ring_actions}
+use Rattle.bus_world.specs.Trails.{put_actions, close_actions}
 use Rattle.bus_world.specs.Turning.{owners_by}
 use Rattle.bus_world.specs.World.{Event, Put, Close, Turn, Recv, Stop, IsEvent}
-use Rattle.bus_world.specs.Yards.{deeds_with, answers_with}
+use Rattle.bus_world.specs.Yards.{actions_with, answers_with}
 use Rattle.bus_world.specs.declared.events.Answer.{Answer}
 use Rattle.bus_world.specs.declared.events.Answer.TheVariants as answer
 use Rattle.bus_cyclic.specs.Cyclic.{CyclicBus, LeadTo, last_of, log_of}
 use Rattle.bus_cyclic.specs.Happening.{Happens, Answers}
-use Rattle.bus_cyclic.specs.Staying.{HasGoneOn, deeds_in, stage_of}
+use Rattle.bus_cyclic.specs.Staying.{HasGoneOn, actions_in, stage_of}
 
 -- the trails after a turn of the sender that there is, by its answer
 abbrev pub turn_grown : {E : Type 0} → Election E → Ring E → ℕ → Option (Visitor E) → ℕ → Answer → RingTrails → RingTrails
 turn_grown X b s None word a T = T
 turn_grown X b s (Some v) word (answer.Number n) T = T
 turn_grown X b s (Some v) word answer.Closing T = T
-turn_grown X b s (Some v) word (answer.Turn t) T = record T { visits = ring_trails b s (due X v) T.visits; sweeps = ring_sweeps b s (due X v) T.sweeps; deeds = ring_deeds X b s v (due X v) word t T.deeds }
+turn_grown X b s (Some v) word (answer.Turn t) T = record T { pins = ring_trails b s (due X v) T.pins; reclaims = ring_reclaims b s (due X v) T.reclaims; actions = ring_actions X b s v (due X v) word t T.actions }
 turn_grown X b s (Some v) word (answer.Recv t) T = T
 turn_grown X b s (Some v) word answer.Stopped T = T
 
@@ -32,10 +32,10 @@ heard_grown r (answer.Turn t) H = H
 heard_grown r (answer.Recv t) H = answers_with r t H
 heard_grown r answer.Stopped H = H
 
--- what an event with this answer adds: a stop is no deed
+-- what an event with this answer adds: a stop is no action
 abbrev pub ring_trails_grown : {E : Type 0} → Election E → Ring E → Event → Answer → RingTrails → RingTrails
-ring_trails_grown X b (Put s bytes) a T = record T { deeds = deeds_with s (put_deeds bytes a) T.deeds }
-ring_trails_grown X b (Close s) a T = record T { deeds = deeds_with s (close_deeds a) T.deeds }
+ring_trails_grown X b (Put s bytes) a T = record T { actions = actions_with s (put_actions bytes a) T.actions }
+ring_trails_grown X b (Close s) a T = record T { actions = actions_with s (close_actions a) T.actions }
 ring_trails_grown X b (Turn s word) a T = turn_grown X b s (guest_going b s) word a T
 ring_trails_grown X b (Recv r) a T = record T { heard = heard_grown r a T.heard }
 ring_trails_grown X b (Stop s) a T = T
@@ -79,13 +79,13 @@ pub record Steps {E : Type 0} (X : Election E) (old : CyclicBus E) (e : Event) (
 
 -- Whatever trails led to the old bus, with what this event and its answer add they lead to the new one, and the promise holds of them.
 -- The log below the length is extended, and never otherwise changed. The stage never falls; and of a tenure whose row had gone on before,
--- no sender has a deed more: no step of its election, and none of who holds its page. So what was elected there stays as it is.
+-- no sender has an action more: no step of its election, and none of who holds its page. So what was elected there stays as it is.
 pub record Follows {E : Type 0} (X : Election E) (old : CyclicBus E) (e : Event) (a : Answer) (new : CyclicBus E) : Type 0 where
   pub reached : (T : RingTrails) → LeadTo X old T → LeadTo X new (ring_trails_grown X old.ring e a T)
   pub promised : (T : RingTrails) → LeadTo X old T → IsKeptRing X new.ring (ring_trails_grown X old.ring e a T)
   pub grows : IsPrefix (log_of old.ring) (log_of new.ring)
   pub rises : stage_of old.ring ≤ stage_of new.ring
-  pub stays : (T : RingTrails) → LeadTo X old T → (t s : ℕ) → HasGoneOn old.ring t → deeds_in t ((ring_trails_grown X old.ring e a T).deeds s) ≡ deeds_in t (T.deeds s)
+  pub stays : (T : RingTrails) → LeadTo X old T → (t s : ℕ) → HasGoneOn old.ring t → actions_in t ((ring_trails_grown X old.ring e a T).actions s) ≡ actions_in t (T.actions s)
 
 -- ---- what follows no bus
 pub record FollowsRefuse {E : Type 0} (X : Election E) (old : CyclicBus E) (e : Event) (a : Answer) (new : CyclicBus E) : Type 0 where

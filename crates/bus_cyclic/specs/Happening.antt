@@ -31,10 +31,10 @@ Happens X old (Recv r) new = ReaderDoes old r (slice_get old.receivers r) new
 Happens X old (Stop s) new = GuestDoes old (guest_going old s) (λ v. record old { stopped = slice_set old.stopped s true }) new
 
 -- ---- what is answered
--- a sender as a put and a close find it: while it visits a tenure, its batch is on its way
+-- a sender as a put and a close find it: while it pins a tenure, its batch is on its way
 abbrev pub core_found : {E : Type 0} → Option (Visitor E) → Option (Core E)
 core_found None = None
-core_found (Some v) = Some (record v.core { queue = queue_seen v.core.queue v.visit })
+core_found (Some v) = Some (record v.core { queue = queue_seen v.core.queue v.pin })
 
 -- a turn of a sender gives the answer of what is due, and of what its step found
 abbrev pub TurnAnswers : {E : Type 0} → Election E → List ℕ → Option (Visitor E) → ℕ → Answer → Type 0

@@ -12,7 +12,7 @@ use Rattle.bus_world.specs.declared.events.StepFault.{StepFault}
 use Rattle.bus_cyclic.specs.Cyclic.{CyclicBus, LeadTo, log_of}
 use Rattle.bus_cyclic.specs.Following.{Steps, Follows, ring_trails_grown}
 use Rattle.bus_cyclic.specs.Happening.{Refused}
-use Rattle.bus_cyclic.specs.Staying.{HasGoneOn, deeds_in, stage_of}
+use Rattle.bus_cyclic.specs.Staying.{HasGoneOn, actions_in, stage_of}
 use Rattle.bus_cyclic.specs.Telling.{Tells, EventCauses}
 use Rattle.bus_cyclic.specs.Truth.{TellsTrue}
 
@@ -37,14 +37,14 @@ trails_after X P old (e ∷ events) new run T = trails_after X P run.0 events ne
 
 -- All events were answered, one after another. Whatever trails led to the old bus, with what the events and their answers add they lead
 -- to the new one, and the promise holds of them. The log below the length is extended, and never otherwise changed; the stage never falls;
--- and of a tenure whose row had gone on before, no sender has a deed more.
+-- and of a tenure whose row had gone on before, no sender has an action more.
 pub record Played {S : Type 0} (X : Election (Elector S)) (P : Protocol S Bool Verdict) (old : CyclicBus (Elector S)) (events : List Event) (new : CyclicBus (Elector S)) : Type 0 where
   pub answered : AllAnswered X P old events new
   pub reached : (T : RingTrails) → LeadTo X old T → LeadTo X new (trails_after X P old events new answered T)
   pub promised : (T : RingTrails) → LeadTo X old T → IsKeptRing X new.ring (trails_after X P old events new answered T)
   pub grows : IsPrefix (log_of old.ring) (log_of new.ring)
   pub rises : stage_of old.ring ≤ stage_of new.ring
-  pub stays : (T : RingTrails) → LeadTo X old T → (t s : ℕ) → HasGoneOn old.ring t → deeds_in t ((trails_after X P old events new answered T).deeds s) ≡ deeds_in t (T.deeds s)
+  pub stays : (T : RingTrails) → LeadTo X old T → (t s : ℕ) → HasGoneOn old.ring t → actions_in t ((trails_after X P old events new answered T).actions s) ≡ actions_in t (T.actions s)
 
 -- the event at a place is the first that is refused: those before it have happened, and no other
 pub record Stops {S : Type 0} (X : Election (Elector S)) (P : Protocol S Bool Verdict) (old : CyclicBus (Elector S)) (events : List Event) (place : ℕ) (why : StepFault) (new : CyclicBus (Elector S)) : Type 0 where

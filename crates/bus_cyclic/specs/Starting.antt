@@ -1,11 +1,11 @@
 -- Senders at their starts.
 use Rattle.std.specs.Prelude.{◌≡◌, ℕ, ◌<◌, Some, None, List, length, slice_get}
 use Rattle.bus_guest.specs.Turns.{Visitor}
-use Rattle.bus_presence.specs.declared.visits.Visit.TheVariants.{Away}
+use Rattle.bus_presence.specs.declared.pins.Pin.TheVariants.{Away}
 use Rattle.bus_tenure.specs.Core.{Layout}
 use Rattle.bus_world.specs.World.{new_core}
 
 -- so many senders, each at its start
 pub record AreNewGuests {E : Type 0} (x : Layout) (rows many : ℕ) (guests : List (Visitor E)) : Type 0 where
   pub many_are : length guests ≡ many
-  pub each : (p : ℕ) (v : Visitor E) → slice_get guests p ≡ Some v → (p < many) × (v ≡ record { core = new_core x p; visit = Away; sweep = None; lost = None; rows = rows })
+  pub each : (p : ℕ) (v : Visitor E) → slice_get guests p ≡ Some v → (p < many) × (v ≡ record { core = new_core x p; pin = Away; reclaimer = None; lost = None; rows = rows })

@@ -44,9 +44,9 @@ pub record JustStopped {E : Type 0} (X : Election E) (old : CyclicBus E) (s : �
 pub record StaysStopped {E : Type 0} (old : Ring E) (T : RingTrails) (s : ℕ) (new : Ring E) (T' : RingTrails) : Type 0 where
   pub stopped : has_stopped new s ≡ true
   pub state : slice_get new.guests s ≡ slice_get old.guests s
-  pub deeds : T'.deeds s ≡ T.deeds s
-  pub visits : T'.visits s ≡ T.visits s
-  pub sweeps : T'.sweeps s ≡ T.sweeps s
+  pub actions : T'.actions s ≡ T.actions s
+  pub pins : T'.pins s ≡ T.pins s
+  pub reclaims : T'.reclaims s ≡ T.reclaims s
 
 -- an event is refused as Stopped, and for nothing else
 abbrev pub IsRefusedAsStopped : {E : Type 0} → Ring E → Event → Type 0

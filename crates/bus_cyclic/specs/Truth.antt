@@ -3,12 +3,12 @@ use Rattle.std.specs.Prelude.{◌≡◌, ◌≢◌, ℕ, ◌+◌, ◌<◌, ◌�
 use Rattle.bus_register.specs.declared.registers.SenderNo.{SenderNo}
 use Rattle.bus_batch.specs.Frames.{Order, Spells}
 use Rattle.bus_guest.specs.Turns.{Visitor}
-use Rattle.bus_presence.specs.declared.visits.Visit.{Visit}
-use Rattle.bus_presence.specs.declared.visits.Visit.TheVariants.{Parting}
+use Rattle.bus_presence.specs.declared.pins.Pin.{Pin}
+use Rattle.bus_presence.specs.declared.pins.Pin.TheVariants.{Unpinning}
 use Rattle.bus_tenure.specs.Core.{Core, Election, frame_len}
 use Rattle.bus_tenure.specs.declared.turns.Turn.{Turn as Answered}
 use Rattle.bus_tenure.specs.declared.turns.Turn.TheVariants as turn
-use Rattle.bus_world.specs.Headline.{Deed, Elected, Took}
+use Rattle.bus_world.specs.Headline.{Action, Elected, Took}
 use Rattle.bus_world.specs.Rings.{Ring, RingTrails, guest_going}
 use Rattle.bus_world.specs.Telling.{HasDelivered}
 use Rattle.bus_world.specs.World.{Event, Put, Close, Turn, Recv, Stop}
@@ -18,51 +18,51 @@ use Rattle.bus_cyclic.specs.Cyclic.{CyclicBus, LeadTo, log_of}
 use Rattle.bus_cyclic.specs.Following.{ring_trails_grown}
 
 -- ---- what a sender remembers that has lost a tenure
--- sender s, whose visit has come so far, parts from a tenure, whose election it saw end with this owner by a step of its own; and it is
+-- sender s, whose pin has come so far, parts from a tenure, whose election it saw end with this owner by a step of its own; and it is
 -- not this owner itself
-pub record HasSeenLoss (visit : Visit) (s : ℕ) (o : SenderNo) (deeds : List Deed) : Type 0 where
+pub record HasSeenLoss (pin : Pin) (s : ℕ) (o : SenderNo) (actions : List Action) : Type 0 where
   pub tenure : ℕ
-  pub parts : visit ≡ Parting tenure
-  pub elected : Elected deeds tenure o.0
+  pub parts : pin ≡ Unpinning tenure
+  pub elected : Elected actions tenure o.0
   pub other : o.0 ≢ s
 
 -- so has each that remembers an owner
-pub record LossesAreSeen {E : Type 0} (b : Ring E) (deeds : ℕ → List Deed) : Type 0 where
-  pub seen : (s : ℕ) (v : Visitor E) (o : SenderNo) → slice_get b.guests s ≡ Some v → v.lost ≡ Some o → HasSeenLoss v.visit s o (deeds s)
+pub record LossesAreSeen {E : Type 0} (b : Ring E) (actions : ℕ → List Action) : Type 0 where
+  pub seen : (s : ℕ) (v : Visitor E) (o : SenderNo) → slice_get b.guests s ≡ Some v → v.lost ≡ Some o → HasSeenLoss v.pin s o (actions s)
 
 -- ---- an answer
 -- A tenure is lost to the owner with which a step of this sender saw its election end, and which is another sender. A tenure is the
 -- sender's own where it is elected in it and took its page. Messages are delivered where the last frame of the order is that of this
 -- sender and tenure and holds them, with these numbers. The log is full where the sender's frame does not fit behind it.
-abbrev pub GuestTells : {E : Type 0} → Ring E → ℕ → Core E → List Deed → Answered → Type 0
-GuestTells b s c deeds turn.Idle = Unit {0}
-GuestTells b s c deeds turn.Waiting = Unit {0}
-GuestTells b s c deeds turn.Going = Unit {0}
-GuestTells b s c deeds (turn.Lost t o) = Elected deeds t o.0 × (o.0 ≢ s)
-GuestTells b s c deeds (turn.Own t) = Elected deeds t s × ((place : ℕ) × Took deeds t place)
-GuestTells b s c deeds (turn.Delivered t first last) = (order : Order) × (owners : List (ℕ × SenderNo)) × Spells b.layout.senders (log_of b) order owners × HasDelivered order owners s t first last
-GuestTells b s c deeds turn.Full = b.layout.capacity < length (log_of b) + frame_len c
-GuestTells b s c deeds turn.Closed = Unit {0}
-GuestTells b s c deeds turn.Spent = Unit {0}
-GuestTells b s c deeds (turn.Behind t p) = Unit {0}
+abbrev pub GuestTells : {E : Type 0} → Ring E → ℕ → Core E → List Action → Answered → Type 0
+GuestTells b s c actions turn.Idle = Unit {0}
+GuestTells b s c actions turn.Waiting = Unit {0}
+GuestTells b s c actions turn.Going = Unit {0}
+GuestTells b s c actions (turn.Lost t o) = Elected actions t o.0 × (o.0 ≢ s)
+GuestTells b s c actions (turn.Own t) = Elected actions t s × ((place : ℕ) × Took actions t place)
+GuestTells b s c actions (turn.Delivered t first last) = (order : Order) × (owners : List (ℕ × SenderNo)) × Spells b.layout.senders (log_of b) order owners × HasDelivered order owners s t first last
+GuestTells b s c actions turn.Full = b.layout.capacity < length (log_of b) + frame_len c
+GuestTells b s c actions turn.Closed = Unit {0}
+GuestTells b s c actions turn.Spent = Unit {0}
+GuestTells b s c actions (turn.Behind t p) = Unit {0}
 
-abbrev pub AnswerIsTrue : {E : Type 0} → Ring E → ℕ → Core E → List Deed → Answer → Type 0
-AnswerIsTrue b s c deeds (answer.Number n) = Unit {0}
-AnswerIsTrue b s c deeds answer.Closing = Unit {0}
-AnswerIsTrue b s c deeds (answer.Turn t) = GuestTells b s c deeds t
-AnswerIsTrue b s c deeds (answer.Recv r) = Unit {0}
-AnswerIsTrue b s c deeds answer.Stopped = Unit {0}
+abbrev pub AnswerIsTrue : {E : Type 0} → Ring E → ℕ → Core E → List Action → Answer → Type 0
+AnswerIsTrue b s c actions (answer.Number n) = Unit {0}
+AnswerIsTrue b s c actions answer.Closing = Unit {0}
+AnswerIsTrue b s c actions (answer.Turn t) = GuestTells b s c actions t
+AnswerIsTrue b s c actions (answer.Recv r) = Unit {0}
+AnswerIsTrue b s c actions answer.Stopped = Unit {0}
 
 -- of the sender that goes on
-abbrev pub TurnIsTrue : {E : Type 0} → Ring E → ℕ → Option (Visitor E) → List Deed → Answer → Type 0
-TurnIsTrue b s None deeds a = Unit {0}
-TurnIsTrue b s (Some v) deeds a = AnswerIsTrue b s v.core deeds a
+abbrev pub TurnIsTrue : {E : Type 0} → Ring E → ℕ → Option (Visitor E) → List Action → Answer → Type 0
+TurnIsTrue b s None actions a = Unit {0}
+TurnIsTrue b s (Some v) actions a = AnswerIsTrue b s v.core actions a
 
 -- an event of the bus as it was, with its answer, by the trails that lead to the bus as it is then
 abbrev pub EventIsTrue : {E : Type 0} → Ring E → Event → Answer → RingTrails → Type 0
 EventIsTrue b (Put s bytes) a T = Unit {0}
 EventIsTrue b (Close s) a T = Unit {0}
-EventIsTrue b (Turn s word) a T = TurnIsTrue b s (guest_going b s) (T.deeds s) a
+EventIsTrue b (Turn s word) a T = TurnIsTrue b s (guest_going b s) (T.actions s) a
 EventIsTrue b (Recv r) a T = Unit {0}
 EventIsTrue b (Stop s) a T = Unit {0}
 
@@ -73,21 +73,21 @@ pub record TellsTrue {E : Type 0} (X : Election E) (old : CyclicBus E) (e : Even
 -- ---- what no such bus is
 pub record LossesRefuse {E : Type 0} (b : Ring E) : Type 0 where
   -- a sender remembers an owner, and has done nothing
-  pub idle_loser : (D : ℕ → List Deed) (s : ℕ) (v : Visitor E) (o : SenderNo) → slice_get b.guests s ≡ Some v → v.lost ≡ Some o → D s ≡ [] → ¬ LossesAreSeen b D
+  pub idle_loser : (D : ℕ → List Action) (s : ℕ) (v : Visitor E) (o : SenderNo) → slice_get b.guests s ≡ Some v → v.lost ≡ Some o → D s ≡ [] → ¬ LossesAreSeen b D
   -- or remembers itself
-  pub own_loser : (D : ℕ → List Deed) (s : ℕ) (v : Visitor E) (o : SenderNo) → slice_get b.guests s ≡ Some v → v.lost ≡ Some o → o.0 ≡ s → ¬ LossesAreSeen b D
+  pub own_loser : (D : ℕ → List Action) (s : ℕ) (v : Visitor E) (o : SenderNo) → slice_get b.guests s ≡ Some v → v.lost ≡ Some o → o.0 ≡ s → ¬ LossesAreSeen b D
   -- or another owner than that with which it saw the election of its tenure end
-  pub wrong_owner : (D : ℕ → List Deed) (s : ℕ) (v : Visitor E) (o : SenderNo) (t u : ℕ) → slice_get b.guests s ≡ Some v → v.lost ≡ Some o → v.visit ≡ Parting t → ((w : ℕ) → Elected (D s) t w → w ≡ u) → o.0 ≢ u → ¬ LossesAreSeen b D
+  pub wrong_owner : (D : ℕ → List Action) (s : ℕ) (v : Visitor E) (o : SenderNo) (t u : ℕ) → slice_get b.guests s ≡ Some v → v.lost ≡ Some o → v.pin ≡ Unpinning t → ((w : ℕ) → Elected (D s) t w → w ≡ u) → o.0 ≢ u → ¬ LossesAreSeen b D
 
 -- an answer that names another owner, or a sender that took no page, or more than the log spells
-pub record AnswersRefuse {E : Type 0} (b : Ring E) (s : ℕ) (c : Core E) (deeds : List Deed) : Type 0 where
+pub record AnswersRefuse {E : Type 0} (b : Ring E) (s : ℕ) (c : Core E) (actions : List Action) : Type 0 where
   -- Lost to an owner with which it saw no election of this tenure end
-  pub lost_unseen : (t : ℕ) (o : SenderNo) → ¬ Elected deeds t o.0 → ¬ GuestTells b s c deeds (turn.Lost t o)
+  pub lost_unseen : (t : ℕ) (o : SenderNo) → ¬ Elected actions t o.0 → ¬ GuestTells b s c actions (turn.Lost t o)
   -- Lost to itself
-  pub lost_to_itself : (t : ℕ) (o : SenderNo) → o.0 ≡ s → ¬ GuestTells b s c deeds (turn.Lost t o)
+  pub lost_to_itself : (t : ℕ) (o : SenderNo) → o.0 ≡ s → ¬ GuestTells b s c actions (turn.Lost t o)
   -- Own of a tenure whose page it did not take
-  pub own_untaken : (t : ℕ) → ((place : ℕ) → ¬ Took deeds t place) → ¬ GuestTells b s c deeds (turn.Own t)
+  pub own_untaken : (t : ℕ) → ((place : ℕ) → ¬ Took actions t place) → ¬ GuestTells b s c actions (turn.Own t)
   -- Delivered with an empty log
-  pub delivered_nothing : (t first last : ℕ) → log_of b ≡ [] → ¬ GuestTells b s c deeds (turn.Delivered t first last)
+  pub delivered_nothing : (t first last : ℕ) → log_of b ≡ [] → ¬ GuestTells b s c actions (turn.Delivered t first last)
   -- Full where there is room
-  pub full_with_room : length (log_of b) + frame_len c ≤ b.layout.capacity → ¬ GuestTells b s c deeds turn.Full
+  pub full_with_room : length (log_of b) + frame_len c ≤ b.layout.capacity → ¬ GuestTells b s c actions turn.Full

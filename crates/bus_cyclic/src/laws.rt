@@ -4,13 +4,13 @@
 ghost use Rattle.std.specs.Prelude.{◌≡◌, ℕ, List};
 ghost use Rattle.bus_tenure.specs.Core.{Core};
 ghost use Rattle.bus_tenure.specs.Elections.{Elector, election_of};
-ghost use Rattle.bus_world.specs.Headline.{Deed};
+ghost use Rattle.bus_world.specs.Headline.{Action};
 ghost use Rattle.bus_world.specs.Rings.{Ring};
 ghost use Rattle.bus_world.specs.World.{Event};
 ghost use Rattle.bus_world.specs.declared.events.Answer.{Answer};
 ghost use Rattle.bus_cyclic.specs.Cyclic.{CyclicBus};
 ghost use Rattle.bus_cyclic.specs.Following.{FollowsRefuse};
-ghost use Rattle.bus_cyclic.specs.Staying.{deeds_in, SaysNoMore, SaysMore};
+ghost use Rattle.bus_cyclic.specs.Staying.{actions_in, SaysNoMore, SaysMore};
 ghost use Rattle.bus_cyclic.specs.Stopping.{StopsAreForGood, StopRefuses};
 ghost use Rattle.bus_cyclic.specs.Truth.{LossesRefuse, AnswersRefuse};
 
@@ -26,18 +26,18 @@ pub fn losses_refuse<Q: Ratifier>()
 /// Own of a tenure whose page it did not take; Delivered where the log is empty; Full where the
 /// frame fits.
 pub fn answers_refuse<Q: Ratifier>()
-    ensures { (ring : Ring (Elector Q)) (sender : ℕ) (core : Core (Elector Q)) (deeds : List Deed)
-        → AnswersRefuse ring sender core deeds }
+    ensures { (ring : Ring (Elector Q)) (sender : ℕ) (core : Core (Elector Q))
+        (actions : List Action) → AnswersRefuse ring sender core actions }
 {}
 
-/// A sender whose deeds in a tenure are the same as before has announced itself there, has seen its
-/// election end with an owner, and has taken its page, only where it had done so before. So what
-/// was elected in a tenure stays as it is, once its row has gone on. Deeds with which a sender has
-/// seen the election end since, or has taken the page, are not the same.
-pub fn same_deeds_say_no_more()
-    ensures same { (t : ℕ) (before after : List Deed) → deeds_in t after ≡ deeds_in t before
+/// A sender whose actions in a tenure are the same as before has announced itself there, has seen
+/// its election end with an owner, and has taken its page, only where it had done so before. So
+/// what was elected in a tenure stays as it is, once its row has gone on. Actions with which a
+/// sender has seen the election end since, or has taken the page, are not the same.
+pub fn same_actions_say_no_more()
+    ensures same { (t : ℕ) (before after : List Action) → actions_in t after ≡ actions_in t before
         → SaysNoMore t before after }
-    ensures more { (t : ℕ) (before after : List Deed) → SaysMore t before after }
+    ensures more { (t : ℕ) (before after : List Action) → SaysMore t before after }
 {}
 
 /// No bus follows another by an event with which the stage falls.
@@ -50,10 +50,10 @@ pub fn follows_refuse<Q: Ratifier>()
 /// A stop that is answered changes who has stopped, and nothing else: what is no event of that
 /// sender does what it did before, and is answered and refused alike. Whoever has stopped does
 /// nothing any more, whatever happens next: no event of it is answered, it holds what it held, and
-/// it has no deed more and no step of a visit or of a sweep; whatever else is wrong with an event
-/// of it, it is refused as Stopped. A stop that does nothing is none. Nothing is refused as Stopped
-/// of one that goes on, or that there is not, or of a receiver. One that goes on may stop, and
-/// nobody stops but by a stop of its own.
+/// it has no action more and no step of a pin or of a reclamation; whatever else is wrong with an
+/// event of it, it is refused as Stopped. A stop that does nothing is none. Nothing is refused as
+/// Stopped of one that goes on, or that there is not, or of a receiver. One that goes on may stop,
+/// and nobody stops but by a stop of its own.
 pub fn stops_are_for_good<Q: Ratifier>()
     ensures stops { StopsAreForGood (election_of Q.Ratifier) Q.protocol }
     ensures refuses { StopRefuses (election_of Q.Ratifier) }

@@ -46,11 +46,11 @@ use std::marker::Model;
 /// A bus whose rows of words are used again, which one caller moves by events: its words, its page,
 /// its senders and its receivers. Tenure t uses row t mod rows, and there are up to 2^40 tenures.
 ///
-/// A sender shows in a word of its own, its presence, which tenure it visits. Who holds the page
-/// clears the row of the next tenure before it gives the page back, once it has asked each presence
-/// and found that it does not name the tenure that used the row before; where one does, its turns
-/// answer Behind, until that has changed. So a sender that stops while its presence names a tenure
-/// may make a holder wait for good.
+/// A sender shows in a word of its own, its presence, which tenure it pins. Who holds the page
+/// clears the row of the next tenure before it gives the page back, once it has scanned each
+/// presence and found that it does not name the tenure that used the row before; where one does,
+/// its turns answer Behind, until that has changed. So a sender that stops while its presence names
+/// a tenure may make a holder wait for good.
 #[derive(Drop)]
 pub struct CyclicWorld<Q: Ratifier> {
     shape: Shape,
@@ -217,7 +217,7 @@ impl<Q: Ratifier + Drop> CyclicWorld<Q> {
         Ok(())
     }
 
-    /// A message is put into the batch of a sender, and gets this number. While the sender visits a
+    /// A message is put into the batch of a sender, and gets this number. While the sender pins a
     /// tenure this is refused as Busy. Takes no memory.
     pub fn put(&mut self, sender: SenderNo, bytes: &[u8]) -> Result<u64, StepFault>
         ensures happens { let X = election_of Q.Ratifier in
@@ -236,7 +236,7 @@ impl<Q: Ratifier + Drop> CyclicWorld<Q> {
     }
 
     /// A sender is to close the order: an end mark waits at it from then on. While the sender
-    /// visits a tenure this is refused as Busy. Takes no memory.
+    /// pins a tenure this is refused as Busy. Takes no memory.
     pub fn close(&mut self, sender: SenderNo) -> Result<(), StepFault>
         ensures happens { let X = election_of Q.Ratifier in
             Happens X self.old.ring (Close sender.0) self.new.ring }
@@ -302,11 +302,11 @@ impl<Q: Ratifier + Drop> CyclicWorld<Q> {
 
     /// What happens next, and its answer. A refused event changes nothing. Takes no memory.
     ///
-    /// By the deeds of all trails that lead here, with this turn: a sender that answers Lost saw
+    /// By the actions of all trails that lead here, with this turn: a sender that answers Lost saw
     /// the election of that tenure end with the owner that it names, which is another sender; one
     /// that answers Own is elected and took the page; what is Delivered is the last frame of the
     /// order; and Full is answered only where the frame does not fit behind the log. No turn is a
-    /// deed in a tenure whose row had gone on before: what was elected there stays as it is.
+    /// action in a tenure whose row had gone on before: what was elected there stays as it is.
     pub fn step(&mut self, event: &Event) -> Result<Answer, StepFault>
         ensures is { IsEvent (event_told event.now) }
         ensures happens { let X = election_of Q.Ratifier in
@@ -357,7 +357,7 @@ impl<Q: Ratifier + Drop> CyclicWorld<Q> {
         ensures state { map (λ s. s.0) result.now ≡ self.now.owners }
         ensures took { let X = election_of Q.Ratifier in
             (trails : RingTrails) → LeadTo X self.now trails
-            → AreLastTakers self.now.ring.rows (map (λ s. s.0) result.now) trails.deeds }
+            → AreLastTakers self.now.ring.rows (map (λ s. s.0) result.now) trails.actions }
     {
         self.owners.as_slice()
     }
@@ -469,7 +469,7 @@ impl<Q: Ratifier + Drop> CyclicWorld<Q> {
             → IsKeptRing X self.now.ring trails }
         ensures losses { let X = election_of Q.Ratifier in
             (trails : RingTrails) → LeadTo X self.now trails
-            → LossesAreSeen self.now.ring trails.deeds }
+            → LossesAreSeen self.now.ring trails.actions }
     {
         election_is_lawful::<Q>();
         let _ = &self.shape;

@@ -8,11 +8,11 @@ use Rattle.bus_register.specs.declared.registers.Op.{Op}
 use Rattle.bus_register.specs.declared.registers.SenderNo.{SenderNo}
 use Rattle.bus_register.specs.Protocol.{Protocol}
 use Rattle.bus_adoptcommit.specs.declared.verdicts.Verdict.{Verdict}
-use Rattle.bus_presence.specs.Hall.{presence_at}
-use Rattle.bus_presence.specs.Sweeps.{Sweeping, sweep_op}
-use Rattle.bus_presence.specs.Visits.{step_at}
-use Rattle.bus_presence.specs.declared.visits.Visit.{Visit}
-use Rattle.bus_presence.specs.declared.visits.Visit.TheVariants.{Away, Entering, Looking, Inside, Parting, Barred}
+use Rattle.bus_presence.specs.Reclamation.{presence_at}
+use Rattle.bus_presence.specs.Reclaimers.{Reclaiming, reclaim_op}
+use Rattle.bus_presence.specs.Pins.{step_at}
+use Rattle.bus_presence.specs.declared.pins.Pin.{Pin}
+use Rattle.bus_presence.specs.declared.pins.Pin.TheVariants.{Away, Announcing, Validating, Pinned, Unpinning, Invalidated}
 use Rattle.bus_tenure.specs.Causes.{HasCause as HasCauseApart, IsCaused as IsCausedApart, LeavesPage, HasHandedOn}
 use Rattle.bus_tenure.specs.Core.{Core, Election, stage_at, frame_len, has_room}
 use Rattle.bus_tenure.specs.Elections.{Elector, election_with}
@@ -23,51 +23,51 @@ use Rattle.bus_tenure.specs.declared.phases.Reason.TheVariants.{Sent, FoundEnd, 
 use Rattle.bus_tenure.specs.declared.phases.Phase.{Phase}
 use Rattle.bus_tenure.specs.declared.phases.Phase.TheVariants.{Electing, Holding}
 use Rattle.bus_tenure.proofs.Situated.{tells}
-use Rattle.bus_guest.specs.Besides.{sweeps_by, due_by}
-use Rattle.bus_guest.specs.declared.besides.Beside.TheVariants.{Sweep}
+use Rattle.bus_guest.specs.Besides.{reclaims_by, due_by}
+use Rattle.bus_guest.specs.declared.besides.Beside.TheVariants.{Reclaimer}
 use Rattle.bus_guest.specs.Causes.{HasCause, LeavesTenure, AsLoser, AsHolder, AsLate, StandsInside, MakesRowReady, ReturnsPage}
-use Rattle.bus_guest.specs.Guests.{Sweeps, Goes, due_beside}
-use Rattle.bus_guest.specs.Keeping.{IsOutside, IsInside, VisitKeeps, IsHeldSweep, SweepKeeps, LostKeeps, GuestKeeps, held_of}
-use Rattle.bus_guest.specs.Turns.{Visitor, sizes_of, due, kind_due, kind_of_visit, kind_of_sweep}
-use Rattle.bus_guest.proofs.Keeps.{swept_beside}
-use Rattle.bus_guest.proofs.Tells.{ChoosesItself, WhyGiven, sweeps_beside, ready_of, handed_of, given_for}
+use Rattle.bus_guest.specs.Guests.{Reclaims, Goes, due_beside}
+use Rattle.bus_guest.specs.Keeping.{IsOutside, IsPinned, PinKeeps, IsHeldReclaimer, ReclaimerKeeps, LostKeeps, GuestKeeps, held_of}
+use Rattle.bus_guest.specs.Turns.{Visitor, sizes_of, due, kind_due, kind_of_pin, kind_of_reclaim}
+use Rattle.bus_guest.proofs.Keeps.{reclaimed_beside}
+use Rattle.bus_guest.proofs.Tells.{ChoosesItself, WhyGiven, reclaims_beside, ready_of, handed_of, given_for}
 
 -- ---- what is due
--- a step of a sweep is due only of who would give the page back
-record IsSweeping {E : Type 0} (v : Option Op) (s : Option Sweeping) (z : Situation E) (r : Sweeping) (o : Op) : Type 0 where
+-- a step of a reclamation is due only of who would give the page back
+record IsReclaiming {E : Type 0} (v : Option Op) (s : Option Reclaiming) (z : Situation E) (r : Reclaiming) (o : Op) : Type 0 where
   tenure : ℕ
   page : Page
   reason : Reason
   settled : v ≡ None
   is : z ≡ GivesBack tenure page reason
   same : s ≡ Some r
-  step : sweep_op r ≡ Some o
+  step : reclaim_op r ≡ Some o
 
-sweeping : {E : Type 0} (v : Option Op) (s : Option Sweeping) (z : Situation E) (r : Sweeping) (o : Op) → due_beside v s z ≡ Sweeps r o → IsSweeping v s z r o
-sweeping (Some p) s z r o e = absurd cc
-sweeping None s IsClosed r o e = absurd cc
-sweeping None s IsIdle r o e = absurd cc
-sweeping None s IsSpent r o e = absurd cc
-sweeping None s LooksAtStage r o e = absurd cc
-sweeping None s (Elects t f) r o e = absurd cc
-sweeping None s (TakesPage t) r o e = absurd cc
-sweeping None s (AwaitsPage t) r o e = absurd cc
-sweeping None s (StoresWord t page stored) r o e = absurd cc
-sweeping None s (StoresLength t page stored) r o e = absurd cc
-sweeping None s (GivesBack t page reason) r o e =
-    let f = sweeps_beside None s (GivesBack t page reason) r o e in
+reclaiming : {E : Type 0} (v : Option Op) (s : Option Reclaiming) (z : Situation E) (r : Reclaiming) (o : Op) → due_beside v s z ≡ Reclaims r o → IsReclaiming v s z r o
+reclaiming (Some p) s z r o e = absurd cc
+reclaiming None s IsClosed r o e = absurd cc
+reclaiming None s IsIdle r o e = absurd cc
+reclaiming None s IsSpent r o e = absurd cc
+reclaiming None s LooksAtStage r o e = absurd cc
+reclaiming None s (Elects t f) r o e = absurd cc
+reclaiming None s (TakesPage t) r o e = absurd cc
+reclaiming None s (AwaitsPage t) r o e = absurd cc
+reclaiming None s (StoresWord t page stored) r o e = absurd cc
+reclaiming None s (StoresLength t page stored) r o e = absurd cc
+reclaiming None s (GivesBack t page reason) r o e =
+    let f = reclaims_beside None s (GivesBack t page reason) r o e in
     record { tenure = t; page = page; reason = reason; settled = refl; is = refl; same = f.0; step = f.1 }
-sweeping None s (HasHanded t reason) r o e = absurd cc
+reclaiming None s (HasHanded t reason) r o e = absurd cc
 
-settled : {E : Type 0} (v : Option Op) (s : Option Sweeping) (z w : Situation E) → due_beside v s z ≡ Goes w → v ≡ None
+settled : {E : Type 0} (v : Option Op) (s : Option Reclaiming) (z w : Situation E) → due_beside v s z ≡ Goes w → v ≡ None
 settled (Some p) s z w e = absurd cc
 settled None s z w e = refl
 
 same_tenure : {E : Type 0} (t u : ℕ) (e f : E) → ◌≡◌ {A = Phase E} (Electing t e) (Electing u f) → t ≡ u
 same_tenure t u e f i = cc
 
--- ---- what a sweep has left
-word_left : (s : Sweeping) (a : Bool) → a ≡ false → (b : Bool) → nat_lt s.cleared s.width ≡ b → (o p r : Op) → cond a (Some o) (cond b (Some p) None) ≡ Some r → s.cleared < s.width
+-- ---- what a reclamation has left
+word_left : (s : Reclaiming) (a : Bool) → a ≡ false → (b : Bool) → nat_lt s.cleared s.width ≡ b → (o p r : Op) → cond a (Some o) (cond b (Some p) None) ≡ Some r → s.cleared < s.width
 word_left s true qa b qb o p r e = absurd cc
 word_left s false qa true qb o p r e = ltb-true _ _ qb
 word_left s false qa false qb o p r e = absurd cc
@@ -111,82 +111,82 @@ chooses_itself kind_of op fed P c caused t i =
 
 -- ---- a guest
 module _ {S : Type 0} (P : Protocol S Bool Verdict) (X : Election (Elector S)) (v : Visitor (Elector S)) (width : ℕ) (Belongs : ℕ → Elector S → Type 0) (k : GuestKeeps width Belongs v) where
-  -- ---- of its visit
-  leaves_as : (t : ℕ) → v.visit ≡ Parting t → (l : Option SenderNo) → v.lost ≡ l → LostKeeps v.core.phase v.visit l → LeavesTenure v
+  -- ---- of its pin
+  leaves_as : (t : ℕ) → v.pin ≡ Unpinning t → (l : Option SenderNo) → v.lost ≡ l → LostKeeps v.core.phase v.pin l → LeavesTenure v
   leaves_as t q None e kept = AsHolder t q (kept t q)
   leaves_as t q (Some o) e kept = AsLoser t o q e kept.rests
 
-  by_visit : (u : Visit) → v.visit ≡ u → VisitKeeps Belongs v.core u → IfSome (kind_of_visit u) (HasCause P v)
-  by_visit Away q h = tt
-  by_visit (Entering t) q h = record { tenure = t; visit = q; may = h }
-  by_visit (Looking t) q h = record { tenure = t; visit = q; may = h }
-  by_visit (Inside t) q h = tt
-  by_visit (Parting t) q h = leaves_as t q v.lost refl k.lost
-  by_visit (Barred t) q h = AsLate t q
+  by_pin : (u : Pin) → v.pin ≡ u → PinKeeps Belongs v.core u → IfSome (kind_of_pin u) (HasCause P v)
+  by_pin Away q h = tt
+  by_pin (Announcing t) q h = record { tenure = t; pin = q; may = h }
+  by_pin (Validating t) q h = record { tenure = t; pin = q; may = h }
+  by_pin (Pinned t) q h = tt
+  by_pin (Unpinning t) q h = leaves_as t q v.lost refl k.lost
+  by_pin (Invalidated t) q h = AsLate t q
 
-  pub visit_caused : (r : Option Kind) → r ≡ kind_of_visit v.visit → IfSome r (HasCause P v)
-  visit_caused r e = subst (λ x. IfSome x (HasCause P v)) (sym e) (by_visit v.visit refl k.visit)
+  pub pin_caused : (r : Option Kind) → r ≡ kind_of_pin v.pin → IfSome r (HasCause P v)
+  pin_caused r e = subst (λ x. IfSome x (HasCause P v)) (sym e) (by_pin v.pin refl k.pin)
 
-  -- ---- who takes another step stands in the tenure of its election, or visits none
-  abbrev IsCalm : Visit → Type 0
-  IsCalm u = ((u ≡ Away) × IsOutside v.core.phase) ⊎ ((t : ℕ) × (u ≡ Inside t) × IsInside Belongs v.core t)
+  -- ---- who takes another step stands in the tenure of its election, or pins none
+  abbrev IsCalm : Pin → Type 0
+  IsCalm u = ((u ≡ Away) × IsOutside v.core.phase) ⊎ ((t : ℕ) × (u ≡ Pinned t) × IsPinned Belongs v.core t)
 
-  calm_at : (u : Visit) → VisitKeeps Belongs v.core u → step_at u (presence_at (sizes_of v) v.core.me) stage_at ≡ None → IsCalm u
+  calm_at : (u : Pin) → PinKeeps Belongs v.core u → step_at u (presence_at (sizes_of v) v.core.me) stage_at ≡ None → IsCalm u
   calm_at Away h e = inl (refl, h)
-  calm_at (Entering t) h e = absurd cc
-  calm_at (Looking t) h e = absurd cc
-  calm_at (Inside t) h e = inr (t, refl, h)
-  calm_at (Parting t) h e = absurd cc
-  calm_at (Barred t) h e = absurd cc
+  calm_at (Announcing t) h e = absurd cc
+  calm_at (Validating t) h e = absurd cc
+  calm_at (Pinned t) h e = inr (t, refl, h)
+  calm_at (Unpinning t) h e = absurd cc
+  calm_at (Invalidated t) h e = absurd cc
 
-  calm : step_at v.visit (presence_at (sizes_of v) v.core.me) stage_at ≡ None → IsCalm v.visit
-  calm e = calm_at v.visit k.visit e
+  calm : step_at v.pin (presence_at (sizes_of v) v.core.me) stage_at ≡ None → IsCalm v.pin
+  calm e = calm_at v.pin k.pin e
 
-  -- a holder visits no tenure
-  held_away : (t : ℕ) → held_of v.core.phase ≡ Some t → step_at v.visit (presence_at (sizes_of v) v.core.me) stage_at ≡ None → v.visit ≡ Away
+  -- a holder pins no tenure
+  held_away : (t : ℕ) → held_of v.core.phase ≡ Some t → step_at v.pin (presence_at (sizes_of v) v.core.me) stage_at ≡ None → v.pin ≡ Away
   held_away t held e = elim (calm e) [ inl a ↦ a.0 | inr i ↦ absurd (let bad = sym (ap held_of i.2.is) ∙ held in cc) ]
 
-  -- ---- of its sweep
-  by_sweep : (s : Sweeping) (o : Op) (w : IsSweeping (step_at v.visit (presence_at (sizes_of v) v.core.me) stage_at) v.sweep (situation_of X v.core) s o) → IsHeldSweep (sizes_of v) v.core.phase s → (a : Bool) → nat_lt s.asked s.senders ≡ a
+  -- ---- of its reclamation
+  by_reclaimer : (s : Reclaiming) (o : Op) (w : IsReclaiming (step_at v.pin (presence_at (sizes_of v) v.core.me) stage_at) v.reclaimer (situation_of X v.core) s o) → IsHeldReclaimer (sizes_of v) v.core.phase s → (a : Bool) → nat_lt s.scanned s.senders ≡ a
       → HasCause P v (cond a kind.ReadPresence kind.ClearRow)
-  by_sweep s o w h a q = kind_cause a q
+  by_reclaimer s o w h a q = kind_cause a q
     where
       makes : MakesRowReady v s
-      makes = record { away = held_away h.tenure h.held w.settled; leaves = leaves X v.core w.tenure w.page w.reason w.is; sweeps = w.same; tenure = h.tenure; held = h.held; after = h.after }
+      makes = record { away = held_away h.tenure h.held w.settled; leaves = leaves X v.core w.tenure w.page w.reason w.is; reclaims = w.same; tenure = h.tenure; held = h.held; after = h.after }
 
-      kind_cause : (b : Bool) → nat_lt s.asked s.senders ≡ b → HasCause P v (cond b kind.ReadPresence kind.ClearRow)
-      kind_cause true q = record { sweep = s; makes = makes; sender_left = ltb-true _ _ q }
-      kind_cause false q = record { sweep = s; makes = makes; all_asked = ltb-false _ _ q; word_left = word_left s (nat_lt s.asked s.senders) q (nat_lt s.cleared s.width) refl _ _ o w.step }
+      kind_cause : (b : Bool) → nat_lt s.scanned s.senders ≡ b → HasCause P v (cond b kind.ReadPresence kind.ClearRow)
+      kind_cause true q = record { reclaimer = s; makes = makes; sender_left = ltb-true _ _ q }
+      kind_cause false q = record { reclaimer = s; makes = makes; all_scanned = ltb-false _ _ q; word_left = word_left s (nat_lt s.scanned s.senders) q (nat_lt s.cleared s.width) refl _ _ o w.step }
 
-  pub sweep_caused : (o : Op) → due X v ≡ due_by (Sweep o) v.sweep (situation_of X v.core) → IsSome v.sweep → (r : Kind) → ((s : Sweeping) → sweep_op s ≡ Some o → r ≡ kind_of_sweep s) → HasCause P v r
-  sweep_caused o d h r named = pick v.sweep refl h d where
-    pick : (l : Option Sweeping) → v.sweep ≡ l → IsSome l → due X v ≡ sweeps_by l o (situation_of X v.core) → HasCause P v r
+  pub reclaimer_caused : (o : Op) → due X v ≡ due_by (Reclaimer o) v.reclaimer (situation_of X v.core) → IsSome v.reclaimer → (r : Kind) → ((s : Reclaiming) → reclaim_op s ≡ Some o → r ≡ kind_of_reclaim s) → HasCause P v r
+  reclaimer_caused o d h r named = pick v.reclaimer refl h d where
+    pick : (l : Option Reclaiming) → v.reclaimer ≡ l → IsSome l → due X v ≡ reclaims_by l o (situation_of X v.core) → HasCause P v r
     pick None e h d = absurd (let q : false ≡ true = h in cc)
     pick (Some s) e h d =
-        let w = sweeping _ v.sweep (situation_of X v.core) s o d in
-        subst (HasCause P v) (sym (named s w.step)) (by_sweep s o w (subst (SweepKeeps (sizes_of v) v.core.phase) e k.sweep) (nat_lt s.asked s.senders) refl)
+        let w = reclaiming _ v.reclaimer (situation_of X v.core) s o d in
+        subst (HasCause P v) (sym (named s w.step)) (by_reclaimer s o w (subst (ReclaimerKeeps (sizes_of v) v.core.phase) e k.reclaimer) (nat_lt s.scanned s.senders) refl)
 
-  pub sweep_named : (o : Op) → due X v ≡ due_by (Sweep o) v.sweep (situation_of X v.core) → IsSome v.sweep → (r : Kind) → ((s : Sweeping) → sweep_op s ≡ Some o → r ≡ kind_of_sweep s) → Some r ≡ kind_due X v (due X v)
-  sweep_named o d h r named = pick v.sweep refl h d where
-    pick : (l : Option Sweeping) → v.sweep ≡ l → IsSome l → due X v ≡ sweeps_by l o (situation_of X v.core) → Some r ≡ kind_due X v (due X v)
+  pub reclaimer_named : (o : Op) → due X v ≡ due_by (Reclaimer o) v.reclaimer (situation_of X v.core) → IsSome v.reclaimer → (r : Kind) → ((s : Reclaiming) → reclaim_op s ≡ Some o → r ≡ kind_of_reclaim s) → Some r ≡ kind_due X v (due X v)
+  reclaimer_named o d h r named = pick v.reclaimer refl h d where
+    pick : (l : Option Reclaiming) → v.reclaimer ≡ l → IsSome l → due X v ≡ reclaims_by l o (situation_of X v.core) → Some r ≡ kind_due X v (due X v)
     pick None e h d = absurd (let q : false ≡ true = h in cc)
     pick (Some s) e h d =
-        let w = sweeping _ v.sweep (situation_of X v.core) s o d in
+        let w = reclaiming _ v.reclaimer (situation_of X v.core) s o d in
         ap Some (named s w.step) ∙ sym (ap (kind_due X v) d)
 
   -- ---- of its own
-  returned : v.visit ≡ Away → due X v ≡ Goes (situation_of X v.core) → LeavesPage v.core ⊎ HasHandedOn v.core → ReturnsPage v
+  returned : v.pin ≡ Away → due X v ≡ Goes (situation_of X v.core) → LeavesPage v.core ⊎ HasHandedOn v.core → ReturnsPage v
   returned away d (inl l) =
       let g = gives X v.core l.tenure l.page l.stored l.published l.holds l.why in
-      record { away = away; returns = inl l; tenure = l.tenure; held = ap held_of l.holds; ready = ready_of (sizes_of v) v.core.phase v.sweep l.tenure k.sweep (ap held_of l.holds) (swept_beside _ _ _ _ d l.tenure l.page g.0 g.1) }
+      record { away = away; returns = inl l; tenure = l.tenure; held = ap held_of l.holds; ready = ready_of (sizes_of v) v.core.phase v.reclaimer l.tenure k.reclaimer (ap held_of l.holds) (reclaimed_beside _ _ _ _ d l.tenure l.page g.0 g.1) }
   returned away d (inr h) =
-      record { away = away; returns = inr h; tenure = h.tenure; held = ap held_of h.gives; ready = ready_of (sizes_of v) v.core.phase v.sweep h.tenure k.sweep (ap held_of h.gives) (handed_of (sizes_of v) v.core.phase v.sweep h.tenure h.reason k.sweep h.gives) }
+      record { away = away; returns = inr h; tenure = h.tenure; held = ap held_of h.gives; ready = ready_of (sizes_of v) v.core.phase v.reclaimer h.tenure k.reclaimer (ap held_of h.gives) (handed_of (sizes_of v) v.core.phase v.reclaimer h.tenure h.reason k.reclaimer h.gives) }
 
-  -- no election runs of who visits no tenure
+  -- no election runs of who pins no tenure
   runs_not : {A : Type 0} → IsOutside v.core.phase → (t : ℕ) (e : Elector S) → v.core.phase ≡ Electing t e → A
   runs_not out t e i = absurd (let o : IsOutside (Electing t e) = subst IsOutside i out in cc)
 
-  away_cause : (away : v.visit ≡ Away) → IsOutside v.core.phase → due X v ≡ Goes (situation_of X v.core) → (r : Kind) → HasCauseApart P v.core r → HasCause P v r
+  away_cause : (away : v.pin ≡ Away) → IsOutside v.core.phase → due X v ≡ Goes (situation_of X v.core) → (r : Kind) → HasCauseApart P v.core r → HasCause P v r
   away_cause away out d kind.LoadStage c = (away, c)
   away_cause away out d kind.Announce c = runs_not out c.tenure _ c.starts
   away_cause away out d kind.WriteFirst c = runs_not out c.deciding.tenure c.deciding.election c.deciding.elects
@@ -212,11 +212,11 @@ module _ {S : Type 0} (P : Protocol S Bool Verdict) (X : Election (Elector S)) (
   away_cause away out d kind.ClearRow c = absurd c
 
   -- whose election runs holds no page and does not rest
-  inside_cause : (t : ℕ) → v.visit ≡ Inside t → IsInside Belongs v.core t → (r : Kind) → HasCauseApart P v.core r → HasCause P v r
-  inside_cause t at i r c = by r c
+  pinned_cause : (t : ℕ) → v.pin ≡ Pinned t → IsPinned Belongs v.core t → (r : Kind) → HasCauseApart P v.core r → HasCause P v r
+  pinned_cause t at i r c = by r c
     where
       stands : StandsInside v
-      stands = record { tenure = t; election = i.election; visit = at; elects = i.is }
+      stands = record { tenure = t; election = i.election; pin = at; elects = i.is }
 
       by : (r : Kind) → HasCauseApart P v.core r → HasCause P v r
       by kind.LoadStage c = absurd (let bad = sym i.is ∙ c.rests in cc)
@@ -244,9 +244,9 @@ module _ {S : Type 0} (P : Protocol S Bool Verdict) (X : Election (Elector S)) (
       by kind.ClearRow c = absurd c
 
   own_cause : due X v ≡ Goes (situation_of X v.core) → (r : Kind) → HasCauseApart P v.core r → HasCause P v r
-  own_cause d r c = elim (calm (settled _ v.sweep (situation_of X v.core) (situation_of X v.core) d)) [
+  own_cause d r c = elim (calm (settled _ v.reclaimer (situation_of X v.core) (situation_of X v.core) d)) [
     | inl a ↦ away_cause a.0 a.1 d r c
-    | inr i ↦ inside_cause i.0 i.1 i.2 r c
+    | inr i ↦ pinned_cause i.0 i.1 i.2 r c
   ]
 
   pub own_caused : due X v ≡ Goes (situation_of X v.core) → (r : Option Kind) → IfSome r (HasCauseApart P v.core) → IfSome r (HasCause P v)

@@ -6,9 +6,9 @@ use Rattle.bus_register.specs.declared.registers.Op.{Op}
 use Rattle.bus_register.specs.declared.registers.Op.TheVariants.{Load, Store}
 use Rattle.bus_register.specs.Words.{register}
 use Rattle.bus_ownerbits.proofs.ElectionSteps.{row_within}
-use Rattle.bus_presence.specs.Sweeps.{Sweeping, sweep_op, is_swept}
-use Rattle.bus_presence.specs.declared.visits.Visit.{Visit}
-use Rattle.bus_presence.specs.declared.visits.Visit.TheVariants.{Away, Entering, Looking, Inside, Parting, Barred}
+use Rattle.bus_presence.specs.Reclaimers.{Reclaiming, reclaim_op, is_reclaimed}
+use Rattle.bus_presence.specs.declared.pins.Pin.{Pin}
+use Rattle.bus_presence.specs.declared.pins.Pin.TheVariants.{Away, Announcing, Validating, Pinned, Unpinning, Invalidated}
 use Rattle.bus_tenure.specs.Core.{Core, Election, Layout, row_at, log_at, words_of}
 use Rattle.bus_tenure.specs.Situations.{Situation, IsClosed, IsIdle, IsSpent, LooksAtStage, Elects, TakesPage, AwaitsPage, StoresWord, StoresLength, GivesBack, HasHanded, situation_of, op_at}
 use Rattle.bus_tenure.specs.Keeping.{AreSizes}
@@ -16,65 +16,65 @@ use Rattle.bus_tenure.specs.declared.pages.Page.{Page}
 use Rattle.bus_tenure.specs.declared.phases.Reason.{Reason}
 use Rattle.bus_tenure.specs.declared.phases.Phase.TheVariants.{Electing}
 use Rattle.bus_tenure.proofs.Situated.{tells}
-use Rattle.bus_guest.specs.Guests.{log_from, place_for, Goes, due_beside, due_home, due_swept, sweep_due}
-use Rattle.bus_guest.specs.Places.{LiesGoing}
-use Rattle.bus_guest.specs.Keeping.{IsOutside, VisitKeeps, held_of, LiesApart}
+use Rattle.bus_guest.specs.Guests.{log_from, place_for, Goes, due_beside, due_home, due_reclaimed, reclaim_due}
+use Rattle.bus_guest.specs.StepWords.{LiesGoing}
+use Rattle.bus_guest.specs.Keeping.{IsOutside, PinKeeps, held_of, LiesApart}
 
 -- ---- what it does next
-goes_swept : {E : Type 0} (s : Sweeping) (o : Option Op) (z z' : Situation E) → due_swept s o z ≡ Goes z' → z ≡ z'
-goes_swept s None z z' e = cc
-goes_swept s (Some o) z z' e = absurd cc
+goes_reclaimed : {E : Type 0} (s : Reclaiming) (o : Option Op) (z z' : Situation E) → due_reclaimed s o z ≡ Goes z' → z ≡ z'
+goes_reclaimed s None z z' e = cc
+goes_reclaimed s (Some o) z z' e = absurd cc
 
-goes_home : {E : Type 0} (s : Option Sweeping) (z z' : Situation E) → due_home s z ≡ Goes z' → z ≡ z'
+goes_home : {E : Type 0} (s : Option Reclaiming) (z z' : Situation E) → due_home s z ≡ Goes z' → z ≡ z'
 goes_home None z z' e = cc
-goes_home (Some s) z z' e = goes_swept s (sweep_op s) z z' e
+goes_home (Some s) z z' e = goes_reclaimed s (reclaim_op s) z z' e
 
 -- it goes on in the situation of its sender
-pub goes_beside : {E : Type 0} (o : Option Op) (s : Option Sweeping) (z z' : Situation E) → due_beside o s z ≡ Goes z' → z ≡ z'
-goes_beside None s z z' e = goes_home (sweep_due z s) z z' e
+pub goes_beside : {E : Type 0} (o : Option Op) (s : Option Reclaiming) (z z' : Situation E) → due_beside o s z ≡ Goes z' → z ≡ z'
+goes_beside None s z z' e = goes_home (reclaim_due z s) z z' e
 goes_beside (Some o) s z z' e = absurd cc
 
--- where the page goes back, the sweep is done
-undue : {E : Type 0} (s : Sweeping) (o : Option Op) (z z' : Situation E) → due_swept s o z ≡ Goes z' → o ≡ None
+-- where the page goes back, the reclamation is done
+undue : {E : Type 0} (s : Reclaiming) (o : Option Op) (z z' : Situation E) → due_reclaimed s o z ≡ Goes z' → o ≡ None
 undue s None z z' e = refl
 undue s (Some o) z z' e = absurd cc
 
-swept : (s : Sweeping) (a b : Bool) → nat_lt s.asked s.senders ≡ a → nat_lt s.cleared s.width ≡ b
-    → cond a (Some (Load record { 0 = s.presences + s.asked })) (cond b (Some (Store record { 0 = s.row + s.cleared } 0)) None) ≡ None → is_swept s ≡ true
-swept s true b p q e = absurd cc
-swept s false true p q e = absurd cc
-swept s false false p q e = grind (arith, lt-ltb, p, q)
+reclaimed : (s : Reclaiming) (a b : Bool) → nat_lt s.scanned s.senders ≡ a → nat_lt s.cleared s.width ≡ b
+    → cond a (Some (Load record { 0 = s.presences + s.scanned })) (cond b (Some (Store record { 0 = s.row + s.cleared } 0)) None) ≡ None → is_reclaimed s ≡ true
+reclaimed s true b p q e = absurd cc
+reclaimed s false true p q e = absurd cc
+reclaimed s false false p q e = grind (arith, lt-ltb, p, q)
 
-swept_home : {E : Type 0} (s : Option Sweeping) (z z' : Situation E) → due_home s z ≡ Goes z' → IfSome s (λ y. is_swept y ≡ true)
-swept_home None z z' e = tt
-swept_home (Some s) z z' e = swept s (nat_lt s.asked s.senders) (nat_lt s.cleared s.width) refl refl (undue s (sweep_op s) z z' e)
+reclaimed_home : {E : Type 0} (s : Option Reclaiming) (z z' : Situation E) → due_home s z ≡ Goes z' → IfSome s (λ y. is_reclaimed y ≡ true)
+reclaimed_home None z z' e = tt
+reclaimed_home (Some s) z z' e = reclaimed s (nat_lt s.scanned s.senders) (nat_lt s.cleared s.width) refl refl (undue s (reclaim_op s) z z' e)
 
-pub swept_beside : {E : Type 0} (o : Option Op) (s : Option Sweeping) (z z' : Situation E) → due_beside o s z ≡ Goes z' → (t : ℕ) (page : Page) (reason : Reason) → z ≡ GivesBack t page reason → IfSome s (λ y. is_swept y ≡ true)
-swept_beside None s z z' e t page reason is = swept_home s z z' (subst (λ y. due_home y z ≡ Goes z') (ap (λ y. sweep_due y s) is) e)
-swept_beside (Some o) s z z' e t page reason is = absurd cc
+pub reclaimed_beside : {E : Type 0} (o : Option Op) (s : Option Reclaiming) (z z' : Situation E) → due_beside o s z ≡ Goes z' → (t : ℕ) (page : Page) (reason : Reason) → z ≡ GivesBack t page reason → IfSome s (λ y. is_reclaimed y ≡ true)
+reclaimed_beside None s z z' e t page reason is = reclaimed_home s z z' (subst (λ y. due_home y z ≡ Goes z') (ap (λ y. reclaim_due y s) is) e)
+reclaimed_beside (Some o) s z z' e t page reason is = absurd cc
 
 -- ---- where an election runs
 module _ {E : Type 0} (Belongs : ℕ → E → Type 0) where
-  pub runs_inside : (c : Core E) (v : Visit) (t : ℕ) (e : E) → VisitKeeps Belongs c v → c.phase ≡ Electing t e → (v ≡ Inside t) × Belongs (row_at c.layout t) e × (t < c.layout.rows)
-  runs_inside c Away t e k i = absurd (let o : IsOutside (Electing t e) = subst IsOutside i k in cc)
-  runs_inside c (Entering u) t e k i = absurd (let r = sym k.rests ∙ i in cc)
-  runs_inside c (Looking u) t e k i = absurd (let r = sym k.rests ∙ i in cc)
-  runs_inside c (Inside u) t e k i =
+  pub runs_pinned : (c : Core E) (v : Pin) (t : ℕ) (e : E) → PinKeeps Belongs c v → c.phase ≡ Electing t e → (v ≡ Pinned t) × Belongs (row_at c.layout t) e × (t < c.layout.rows)
+  runs_pinned c Away t e k i = absurd (let o : IsOutside (Electing t e) = subst IsOutside i k in cc)
+  runs_pinned c (Announcing u) t e k i = absurd (let r = sym k.rests ∙ i in cc)
+  runs_pinned c (Validating u) t e k i = absurd (let r = sym k.rests ∙ i in cc)
+  runs_pinned c (Pinned u) t e k i =
       let r : Electing u k.election ≡ Electing t e = sym k.is ∙ i in
       let same : u ≡ t = cc in
       let part : k.election ≡ e = cc in
-      (ap Inside same, subst (λ z. Belongs (row_at c.layout t) z) part (subst (λ z. Belongs (row_at c.layout z) k.election) same k.belongs), subst (λ z. z < c.layout.rows) same k.below)
-  runs_inside c (Parting u) t e k i = absurd (let o : IsOutside (Electing t e) = subst IsOutside i k in cc)
-  runs_inside c (Barred u) t e k i = absurd (let o : IsOutside (Electing t e) = subst IsOutside i k in cc)
+      (ap Pinned same, subst (λ z. Belongs (row_at c.layout t) z) part (subst (λ z. Belongs (row_at c.layout z) k.election) same k.belongs), subst (λ z. z < c.layout.rows) same k.below)
+  runs_pinned c (Unpinning u) t e k i = absurd (let o : IsOutside (Electing t e) = subst IsOutside i k in cc)
+  runs_pinned c (Invalidated u) t e k i = absurd (let o : IsOutside (Electing t e) = subst IsOutside i k in cc)
 
-  -- a holder visits no more
-  pub stays_outside : (c d : Core E) (v : Visit) (t : ℕ) → VisitKeeps Belongs c v → held_of c.phase ≡ Some t → IsOutside d.phase → VisitKeeps Belongs d v
+  -- a holder pins no more
+  pub stays_outside : (c d : Core E) (v : Pin) (t : ℕ) → PinKeeps Belongs c v → held_of c.phase ≡ Some t → IsOutside d.phase → PinKeeps Belongs d v
   stays_outside c d Away t k h o = o
-  stays_outside c d (Entering u) t k h o = absurd (let r = sym (ap held_of k.rests) ∙ h in cc)
-  stays_outside c d (Looking u) t k h o = absurd (let r = sym (ap held_of k.rests) ∙ h in cc)
-  stays_outside c d (Inside u) t k h o = absurd (let r = sym (ap held_of k.is) ∙ h in cc)
-  stays_outside c d (Parting u) t k h o = o
-  stays_outside c d (Barred u) t k h o = o
+  stays_outside c d (Announcing u) t k h o = absurd (let r = sym (ap held_of k.rests) ∙ h in cc)
+  stays_outside c d (Validating u) t k h o = absurd (let r = sym (ap held_of k.rests) ∙ h in cc)
+  stays_outside c d (Pinned u) t k h o = absurd (let r = sym (ap held_of k.is) ∙ h in cc)
+  stays_outside c d (Unpinning u) t k h o = o
+  stays_outside c d (Invalidated u) t k h o = o
 
 -- ---- where a sender's step lies that has a row for each tenure
 module _ {E : Type 0} (X : Election E) (W : Layout → ℕ) (B : Layout → ℕ → ℕ → E → Type 0) where
@@ -86,21 +86,21 @@ module _ {E : Type 0} (X : Election E) (W : Layout → ℕ) (B : Layout → ℕ 
     pub goes : (x : Layout) (me at : ℕ) (e : E) (got word : ℕ) (o : Op) → B x me at e → X.op e word ≡ Some o → B x me at (X.fed e got word)
 
   module _ (law : ElectionsKeep) where
-    pub lies : (c : Core E) (v : Visit) (word : ℕ) (o : Op) → AreSizes c.layout (W c.layout) → VisitKeeps (B c.layout c.me) c v → register o < words_of c.layout → (z : Situation E) → situation_of X c ≡ z → op_at X c z word ≡ Some o → LiesApart c.layout v z (register o)
+    pub lies : (c : Core E) (v : Pin) (word : ℕ) (o : Op) → AreSizes c.layout (W c.layout) → PinKeeps (B c.layout c.me) c v → register o < words_of c.layout → (z : Situation E) → situation_of X c ≡ z → op_at X c z word ≡ Some o → LiesApart c.layout v z (register o)
     lies c v word o sizes k b IsClosed i e = absurd cc
     lies c v word o sizes k b IsIdle i e = absurd cc
     lies c v word o sizes k b IsSpent i e = absurd cc
     lies c v word o sizes k b LooksAtStage i e = sym (ap register (same_Some _ _ e))
     lies c v word o sizes k b (Elects t p) i e =
         let t1 = tells X c (Elects t p) i in
-        let r = runs_inside (B c.layout c.me) c v t p k t1.0 in
+        let r = runs_pinned (B c.layout c.me) c v t p k t1.0 in
         record {
-          inside = r.0;
+          pinned = r.0;
           tenure = r.2;
           above = law.above c.layout c.me (row_at c.layout t) p word o r.1 e;
           below = subst (λ w. register o < row_at c.layout t + w) (sym sizes.width_is) (law.below c.layout c.me (row_at c.layout t) p word o r.1 e);
         }
-    lies c v word o sizes k b (TakesPage t) i e = let t1 = tells X c (TakesPage t) i in ((runs_inside (B c.layout c.me) c v t t1.0 k t1.1).0, sym (ap register (same_Some _ _ e)))
+    lies c v word o sizes k b (TakesPage t) i e = let t1 = tells X c (TakesPage t) i in ((runs_pinned (B c.layout c.me) c v t t1.0 k t1.1).0, sym (ap register (same_Some _ _ e)))
     lies c v word o sizes k b (AwaitsPage t) i e = absurd cc
     lies c v word o sizes k b (StoresWord t page stored) i e = let r : log_at c.layout + page.words + stored ≡ register o = ap register (same_Some _ _ e) in (omega arith, b)
     lies c v word o sizes k b (StoresLength t page stored) i e = sym (ap register (same_Some _ _ e))
@@ -108,7 +108,7 @@ module _ {E : Type 0} (X : Election E) (W : Layout → ℕ) (B : Layout → ℕ 
     lies c v word o sizes k b (HasHanded t reason) i e = sym (ap register (same_Some _ _ e))
 
 -- a word that a sender stores at or past the log is one of its frame
-module _ {E : Type 0} (x : Layout) (v : Visit) where
+module _ {E : Type 0} (x : Layout) (v : Pin) where
   pub stores_word : (z : Situation E) (r : ℕ) → LiesApart x v z r → log_at x ≤ r → (t : ℕ) × (page : Page) × (stored : ℕ) × (z ≡ StoresWord t page stored) × (r < words_of x)
   stores_word IsClosed r h l = absurd cc
   stores_word IsIdle r h l = absurd cc

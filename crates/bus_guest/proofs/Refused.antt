@@ -2,7 +2,7 @@
 use Rattle.std.proofs.Common.{◌≡◌, inl, inr, ℕ, ◌+◌, ◌/◌, ◌<◌, Bool, true, false, arith, sym, ◌∙◌, ap, subst}
 use Rattle.std.proofs.lemmas.Bool.{true≢false}
 use Rattle.std.proofs.lemmas.Option.{same_Some}
-use Rattle.bus_presence.specs.declared.visits.Visit.TheVariants.{Entering, Inside}
+use Rattle.bus_presence.specs.declared.pins.Pin.TheVariants.{Announcing, Pinned}
 use Rattle.bus_tenure.specs.Core.{Core, Election, frame_len}
 use Rattle.bus_tenure.specs.Situations.{LooksAtStage, situation_of}
 use Rattle.bus_tenure.specs.declared.pages.Page.{Page}
@@ -22,7 +22,7 @@ same_page t u p q a b c d e = (cc, (cc, cc))
 same_election : {E : Type 0} (t u : ℕ) (e f : E) → ◌≡◌ {A = Phase E} (Electing t e) (Electing u f) → e ≡ f
 same_election t u e f i = cc
 
-same_tenure : (t u : ℕ) → Entering t ≡ Entering u → t ≡ u
+same_tenure : (t u : ℕ) → Announcing t ≡ Announcing u → t ≡ u
 same_tenure t u e = cc
 
 -- ---- a page that is held
@@ -53,9 +53,9 @@ rests_before_the_end ph t HandsOnEnd e = cc
 
 module _ {E : Type 0} (X : Election E) (v : Visitor E) (got word : ℕ) where
   -- who stands in a tenure and goes through an election looks at no stage
-  looks_not : (t u : ℕ) (e : E) → v.visit ≡ Inside t → v.core.phase ≡ Electing u e → due X v ≡ Goes LooksAtStage → ⊥
+  looks_not : (t u : ℕ) (e : E) → v.pin ≡ Pinned t → v.core.phase ≡ Electing u e → due X v ≡ Goes LooksAtStage → ⊥
   looks_not t u e at runs d =
-      let looks = goes_beside _ v.sweep (situation_of X v.core) LooksAtStage d in
+      let looks = goes_beside _ v.reclaimer (situation_of X v.core) LooksAtStage d in
       let bad = sym (tells X v.core LooksAtStage looks) ∙ runs in cc
 
   pub refused : AnswersRefuse X v got word
@@ -84,8 +84,8 @@ module _ {E : Type 0} (X : Election E) (v : Visitor E) (got word : ℕ) where
     own_of_another = λ t u o e runs owned other w.
         let same = same_election u t e w.election (sym runs ∙ w.elects) in
         other (same_Some o v.core.me (sym owned ∙ ap X.owner same ∙ w.chosen));
-    own_away = λ t away w. let bad = sym away ∙ w.inside in cc;
-    waits_inside = λ t u e at runs w. elim w [
+    own_away = λ t away w. let bad = sym away ∙ w.pinned in cc;
+    waits_pinned = λ t u e at runs w. elim w [
       | inl l ↦ looks_not t u e at runs l.looks
       | inr b ↦ (let bad = sym at ∙ b.is in cc)
     ];
@@ -94,7 +94,7 @@ module _ {E : Type 0} (X : Election E) (v : Visitor E) (got word : ℕ) where
     behind_at_rest = λ t p rests w. let bad = sym (ap held_of rests) ∙ w.held in cc;
     loses_silently = λ t o loses w. w.loses t o loses;
     forgets_its_loss = λ t parts rests w. let bad = sym (ap held_of rests) ∙ w.holds t parts in cc;
-    barred_silently = λ t barred w. w.barred record { tenure = t; is = barred };
+    invalidated_silently = λ t invalidated w. w.invalidated record { tenure = t; is = invalidated };
     takes_silently = λ t takes w. w.takes t takes;
     gives_silently = λ t gives w. w.gives t gives;
     enters_elsewhere = λ t looks enters apart w. apart (same_tenure t (got / 2) (sym enters ∙ w.begins looks));

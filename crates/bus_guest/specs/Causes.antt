@@ -6,67 +6,67 @@ use Rattle.bus_register.specs.declared.kinds.Kind.TheVariants as kind
 use Rattle.bus_register.specs.declared.registers.SenderNo.{SenderNo}
 use Rattle.bus_register.specs.Protocol.{Protocol}
 use Rattle.bus_adoptcommit.specs.declared.verdicts.Verdict.{Verdict}
-use Rattle.bus_presence.specs.Sweeps.{Sweeping}
-use Rattle.bus_presence.specs.declared.visits.Visit.TheVariants.{Away, Entering, Looking, Inside, Parting, Barred}
+use Rattle.bus_presence.specs.Reclaimers.{Reclaiming}
+use Rattle.bus_presence.specs.declared.pins.Pin.TheVariants.{Away, Announcing, Validating, Pinned, Unpinning, Invalidated}
 use Rattle.bus_tenure.specs.Causes.{HasCause as HasCauseApart, LeavesPage, HasHandedOn}
 use Rattle.bus_tenure.specs.Core.{Election}
 use Rattle.bus_tenure.specs.Elections.{Elector}
 use Rattle.bus_tenure.specs.declared.phases.Phase.TheVariants.{Resting, Electing}
-use Rattle.bus_guest.specs.Keeping.{IsBound, IsSweepAfter, IsRowReady, held_of}
+use Rattle.bus_guest.specs.Keeping.{IsBound, IsReclaimerAfter, IsRowReady, held_of}
 use Rattle.bus_guest.specs.Turns.{Visitor, sizes_of, due, kind_due}
 
--- ---- its visit
+-- ---- its pin
 -- it may begin a tenure, which is not past for it, and which its presence does not name yet
 pub record EntersTenure {E : Type 0} (v : Visitor E) : Type 0 where
   pub tenure : ℕ
-  pub visit : v.visit ≡ Entering tenure
+  pub pin : v.pin ≡ Announcing tenure
   pub may : IsBound v.core tenure
 
 -- its presence names a tenure that it may begin, whose stage it has not seen since
 pub record LooksAgain {E : Type 0} (v : Visitor E) : Type 0 where
   pub tenure : ℕ
-  pub visit : v.visit ≡ Looking tenure
+  pub pin : v.pin ≡ Validating tenure
   pub may : IsBound v.core tenure
 
 -- its presence names a tenure that it remembers to have lost, or whose page it has taken, or that it may not stand in
 pub data LeavesTenure {E : Type 0} (v : Visitor E) : Type 0 where
-  AsLoser : (tenure : ℕ) (owner : SenderNo) → v.visit ≡ Parting tenure → v.lost ≡ Some owner → v.core.phase ≡ Resting → LeavesTenure v
-  AsHolder : (tenure : ℕ) → v.visit ≡ Parting tenure → held_of v.core.phase ≡ Some tenure → LeavesTenure v
-  AsLate : (tenure : ℕ) → v.visit ≡ Barred tenure → LeavesTenure v
+  AsLoser : (tenure : ℕ) (owner : SenderNo) → v.pin ≡ Unpinning tenure → v.lost ≡ Some owner → v.core.phase ≡ Resting → LeavesTenure v
+  AsHolder : (tenure : ℕ) → v.pin ≡ Unpinning tenure → held_of v.core.phase ≡ Some tenure → LeavesTenure v
+  AsLate : (tenure : ℕ) → v.pin ≡ Invalidated tenure → LeavesTenure v
 
--- it visits no tenure
+-- it pins no tenure
 abbrev pub IsAway : {E : Type 0} → Visitor E → Type 0
-IsAway v = v.visit ≡ Away
+IsAway v = v.pin ≡ Away
 
 -- it stands in the very tenure whose election it goes through
 pub record StandsInside {E : Type 0} (v : Visitor E) : Type 0 where
   pub tenure : ℕ
   pub election : E
-  pub visit : v.visit ≡ Inside tenure
+  pub pin : v.pin ≡ Pinned tenure
   pub elects : v.core.phase ≡ Electing tenure election
 
--- ---- its sweep
+-- ---- its reclamation
 -- it would give back the page of a tenure, and first makes the row of the next one ready
-pub record MakesRowReady {E : Type 0} (v : Visitor E) (s : Sweeping) : Type 0 where
+pub record MakesRowReady {E : Type 0} (v : Visitor E) (s : Reclaiming) : Type 0 where
   pub away : IsAway v
   pub leaves : LeavesPage v.core
-  pub sweeps : v.sweep ≡ Some s
+  pub reclaims : v.reclaimer ≡ Some s
   pub tenure : ℕ
   pub held : held_of v.core.phase ≡ Some tenure
-  pub after : IsSweepAfter (sizes_of v) tenure s
+  pub after : IsReclaimerAfter (sizes_of v) tenure s
 
 -- the presence of a sender has not passed yet
 pub record AsksSender {E : Type 0} (v : Visitor E) : Type 0 where
-  pub sweep : Sweeping
-  pub makes : MakesRowReady v sweep
-  pub sender_left : sweep.asked < sweep.senders
+  pub reclaimer : Reclaiming
+  pub makes : MakesRowReady v reclaimer
+  pub sender_left : reclaimer.scanned < reclaimer.senders
 
 -- each sender's presence has passed, and a word of the row is not cleared yet
 pub record ClearsWord {E : Type 0} (v : Visitor E) : Type 0 where
-  pub sweep : Sweeping
-  pub makes : MakesRowReady v sweep
-  pub all_asked : sweep.senders ≤ sweep.asked
-  pub word_left : sweep.cleared < sweep.width
+  pub reclaimer : Reclaiming
+  pub makes : MakesRowReady v reclaimer
+  pub all_scanned : reclaimer.senders ≤ reclaimer.scanned
+  pub word_left : reclaimer.cleared < reclaimer.width
 
 -- it would give the page of a tenure back, or has handed it on, and the row of the next one is ready
 pub record ReturnsPage {E : Type 0} (v : Visitor E) : Type 0 where
@@ -74,7 +74,7 @@ pub record ReturnsPage {E : Type 0} (v : Visitor E) : Type 0 where
   pub returns : LeavesPage v.core ⊎ HasHandedOn v.core
   pub tenure : ℕ
   pub held : held_of v.core.phase ≡ Some tenure
-  pub ready : IsRowReady (sizes_of v) tenure v.sweep
+  pub ready : IsRowReady (sizes_of v) tenure v.reclaimer
 
 -- The guest has a cause for a step of this kind. The kinds of the last lines are a receiver's.
 abbrev pub HasCause : {S : Type 0} → Protocol S Bool Verdict → Visitor (Elector S) → Kind → Type 0

@@ -1,25 +1,25 @@
 -- What an answer of a sender that has a row for each tenure tells the guest.
 use Rattle.std.specs.Prelude.{Option, Some, None}
 use Rattle.bus_register.specs.declared.registers.SenderNo.{SenderNo}
-use Rattle.bus_presence.specs.Sweeps.{Sweeping}
-use Rattle.bus_presence.specs.Hall.{Sizes, sweep_after}
-use Rattle.bus_presence.specs.declared.visits.Visit.{Visit}
-use Rattle.bus_presence.specs.declared.visits.Visit.TheVariants.{Parting}
+use Rattle.bus_presence.specs.Reclaimers.{Reclaiming}
+use Rattle.bus_presence.specs.Reclamation.{ReclamationSizes, reclaimer_after}
+use Rattle.bus_presence.specs.declared.pins.Pin.{Pin}
+use Rattle.bus_presence.specs.declared.pins.Pin.TheVariants.{Unpinning}
 use Rattle.bus_tenure.specs.declared.turns.Turn.{Turn}
 use Rattle.bus_tenure.specs.declared.turns.Turn.TheVariants.{Idle, Waiting, Going, Lost, Own, Delivered, Full, Closed, Spent, Behind}
 
 -- it parts from the tenure whose election is over
-abbrev pub visit_by : Turn → Visit → Visit
-visit_by Idle v = v
-visit_by Waiting v = v
-visit_by Going v = v
-visit_by (Lost t o) v = Parting t
-visit_by (Own t) v = Parting t
-visit_by (Delivered t first last) v = v
-visit_by Full v = v
-visit_by Closed v = v
-visit_by Spent v = v
-visit_by (Behind t p) v = v
+abbrev pub pin_by : Turn → Pin → Pin
+pin_by Idle v = v
+pin_by Waiting v = v
+pin_by Going v = v
+pin_by (Lost t o) v = Unpinning t
+pin_by (Own t) v = Unpinning t
+pin_by (Delivered t first last) v = v
+pin_by Full v = v
+pin_by Closed v = v
+pin_by Spent v = v
+pin_by (Behind t p) v = v
 
 -- it remembers who owns the tenure that it lost
 abbrev pub lost_by : Turn → Option SenderNo → Option SenderNo
@@ -34,18 +34,18 @@ lost_by Closed l = l
 lost_by Spent l = l
 lost_by (Behind t p) l = l
 
--- the sweep begins with the page that it takes, and is over with the page that it gives back
-abbrev pub sweep_by : Sizes → Turn → Option Sweeping → Option Sweeping
-sweep_by x Idle s = s
-sweep_by x Waiting s = s
-sweep_by x Going s = s
-sweep_by x (Lost t o) s = s
-sweep_by x (Own t) s = sweep_after x t
-sweep_by x (Delivered t first last) s = None
-sweep_by x Full s = None
-sweep_by x Closed s = None
-sweep_by x Spent s = s
-sweep_by x (Behind t p) s = s
+-- the reclamation begins with the page that it takes, and is over with the page that it gives back
+abbrev pub reclaimer_by : ReclamationSizes → Turn → Option Reclaiming → Option Reclaiming
+reclaimer_by x Idle s = s
+reclaimer_by x Waiting s = s
+reclaimer_by x Going s = s
+reclaimer_by x (Lost t o) s = s
+reclaimer_by x (Own t) s = reclaimer_after x t
+reclaimer_by x (Delivered t first last) s = None
+reclaimer_by x Full s = None
+reclaimer_by x Closed s = None
+reclaimer_by x Spent s = s
+reclaimer_by x (Behind t p) s = s
 
 -- and it answers
 abbrev pub told_by : Turn → Turn

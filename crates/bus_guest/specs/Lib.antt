@@ -1,7 +1,7 @@
 pub mod Guests
 pub mod Turns
 pub mod Keeping
-pub mod Places
+pub mod StepWords
 pub mod Besides
 pub mod Following
 pub mod Telling

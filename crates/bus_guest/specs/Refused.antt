@@ -3,8 +3,8 @@ use Rattle.std.specs.Prelude.{◌≡◌, ◌≢◌, ℕ, ◌+◌, ◌/◌, ◌<�
 use Rattle.bus_batch.specs.Batches.{next_of}
 use Rattle.bus_register.specs.declared.registers.Op.TheVariants.{Load}
 use Rattle.bus_register.specs.declared.registers.SenderNo.{SenderNo}
-use Rattle.bus_presence.specs.Hall.{presence_at}
-use Rattle.bus_presence.specs.declared.visits.Visit.TheVariants.{Away, Entering, Inside, Parting, Barred}
+use Rattle.bus_presence.specs.Reclamation.{presence_at}
+use Rattle.bus_presence.specs.declared.pins.Pin.TheVariants.{Away, Announcing, Pinned, Unpinning, Invalidated}
 use Rattle.bus_tenure.specs.Core.{Election, frame_len, is_closing}
 use Rattle.bus_tenure.specs.declared.pages.Page.{Page}
 use Rattle.bus_tenure.specs.declared.phases.Phase.TheVariants.{Resting, Electing, Holding}
@@ -37,23 +37,23 @@ pub record AnswersRefuse {E : Type 0} (X : Election E) (v : Visitor E) (got word
   pub closed_at_rest : v.core.phase ≡ Resting → ¬ FeedTells X v got word turn.Closed
   -- Spent while a tenure is left
   pub spent_too_soon : got / 2 < v.core.layout.rows → ¬ FeedTells X v got word turn.Spent
-  -- Lost where it remembers no owner, or while it visits no tenure
+  -- Lost where it remembers no owner, or while it pins no tenure
   pub lost_to_another : (t : ℕ) (o : SenderNo) → v.lost ≡ None → ¬ FeedTells X v got word (turn.Lost t o)
-  pub lost_away : (t : ℕ) (o : SenderNo) → v.visit ≡ Away → ¬ FeedTells X v got word (turn.Lost t o)
-  -- Own of a tenure whose election chose another, or while it visits none
+  pub lost_away : (t : ℕ) (o : SenderNo) → v.pin ≡ Away → ¬ FeedTells X v got word (turn.Lost t o)
+  -- Own of a tenure whose election chose another, or while it pins none
   pub own_of_another : (t u o : ℕ) (e : E) → v.core.phase ≡ Electing u e → X.owner e ≡ Some o → o ≢ v.core.me → ¬ FeedTells X v got word (turn.Own t)
-  pub own_away : (t : ℕ) → v.visit ≡ Away → ¬ FeedTells X v got word (turn.Own t)
+  pub own_away : (t : ℕ) → v.pin ≡ Away → ¬ FeedTells X v got word (turn.Own t)
   -- Waiting of a sender that stands in a tenure and goes through an election
-  pub waits_inside : (t u : ℕ) (e : E) → v.visit ≡ Inside t → v.core.phase ≡ Electing u e → ¬ FeedTells X v got word turn.Waiting
+  pub waits_pinned : (t u : ℕ) (e : E) → v.pin ≡ Pinned t → v.core.phase ≡ Electing u e → ¬ FeedTells X v got word turn.Waiting
   -- Behind where the step found another number than the presence of that tenure, was no load of that sender's presence, or held no page
   pub behind_unnamed : (t : ℕ) (p : SenderNo) → got ≢ 1 + t → ¬ FeedTells X v got word (turn.Behind t p)
   pub behind_without_a_load : (t : ℕ) (p : SenderNo) → op_next X v word ≢ Some (Load record { 0 = presence_at (sizes_of v) p.0 }) → ¬ FeedTells X v got word (turn.Behind t p)
   pub behind_at_rest : (t : ℕ) (p : SenderNo) → v.core.phase ≡ Resting → ¬ FeedTells X v got word (turn.Behind t p)
   -- Going where it lost a tenure, whether it remembers to whom or not, came too late, takes a page or gives one back
   pub loses_silently : (t : ℕ) (o : SenderNo) → Withdraws v t o → ¬ FeedTells X v got word turn.Going
-  pub forgets_its_loss : (t : ℕ) → v.visit ≡ Parting t → v.core.phase ≡ Resting → ¬ FeedTells X v got word turn.Going
-  pub barred_silently : (t : ℕ) → v.visit ≡ Barred t → ¬ FeedTells X v got word turn.Going
+  pub forgets_its_loss : (t : ℕ) → v.pin ≡ Unpinning t → v.core.phase ≡ Resting → ¬ FeedTells X v got word turn.Going
+  pub invalidated_silently : (t : ℕ) → v.pin ≡ Invalidated t → ¬ FeedTells X v got word turn.Going
   pub takes_silently : (t : ℕ) → IsChosen X v t → ¬ FeedTells X v got word turn.Going
   pub gives_silently : (t : ℕ) → GivesReady X v t → ¬ FeedTells X v got word turn.Going
   -- Going where it enters another tenure than the one whose stage it looked at
-  pub enters_elsewhere : (t : ℕ) → due X v ≡ Goes LooksAtStage → (visitor_after X v got word).visit ≡ Entering t → t ≢ got / 2 → ¬ FeedTells X v got word turn.Going
+  pub enters_elsewhere : (t : ℕ) → due X v ≡ Goes LooksAtStage → (visitor_after X v got word).pin ≡ Announcing t → t ≢ got / 2 → ¬ FeedTells X v got word turn.Going

@@ -3,9 +3,9 @@ use Rattle.std.specs.Prelude.{◌≡◌, ◌⊎◌, ℕ, ◌+◌, ◌-◌, ◌/�
 use Rattle.bus_register.specs.declared.registers.Op.TheVariants.{Load}
 use Rattle.bus_register.specs.declared.registers.SenderNo.{SenderNo}
 use Rattle.bus_batch.specs.Batches.{next_of}
-use Rattle.bus_presence.specs.Hall.{presence_at}
-use Rattle.bus_presence.specs.declared.visits.Visit.{Visit}
-use Rattle.bus_presence.specs.declared.visits.Visit.TheVariants.{Entering, Inside, Parting, Barred}
+use Rattle.bus_presence.specs.Reclamation.{presence_at}
+use Rattle.bus_presence.specs.declared.pins.Pin.{Pin}
+use Rattle.bus_presence.specs.declared.pins.Pin.TheVariants.{Announcing, Pinned, Unpinning, Invalidated}
 use Rattle.bus_tenure.specs.Core.{Core, Election, frame_len, is_closing}
 use Rattle.bus_tenure.specs.Situations.{Situation, LooksAtStage, GivesBack, HasHanded, situation_of, waits as stage_waits}
 use Rattle.bus_tenure.specs.declared.pages.Page.{Page}
@@ -31,18 +31,18 @@ pub record FindsNoneLeft {E : Type 0} (X : Election E) (v : Visitor E) (got : �
   pub past : v.core.layout.rows ≤ got / 2
 
 -- it looked again, and the stage was another tenure's
-pub record IsBarred (visit : Visit) : Type 0 where
+pub record IsInvalidated (pin : Pin) : Type 0 where
   pub tenure : ℕ
-  pub is : visit ≡ Barred tenure
+  pub is : pin ≡ Invalidated tenure
 
 -- it withdraws from this tenure, which it lost to this owner
 pub record Withdraws {E : Type 0} (v : Visitor E) (t : ℕ) (o : SenderNo) : Type 0 where
-  pub parts : v.visit ≡ Parting t
+  pub parts : v.pin ≡ Unpinning t
   pub lost : v.lost ≡ Some o
 
 -- it stood in this tenure, whose election had ended and chosen it
 pub record IsChosen {E : Type 0} (X : Election E) (v : Visitor E) (t : ℕ) : Type 0 where
-  pub inside : v.visit ≡ Inside t
+  pub pinned : v.pin ≡ Pinned t
   pub election : E
   pub elects : v.core.phase ≡ Electing t election
   pub chosen : X.owner election ≡ Some v.core.me
@@ -56,7 +56,7 @@ pub data Returns {E : Type 0} (t : ℕ) : Situation E → Type 0 where
 pub record GivesReady {E : Type 0} (X : Election E) (v : Visitor E) (t : ℕ) : Type 0 where
   pub due_is : due X v ≡ Goes (situation_of X v.core)
   pub returns : Returns t (situation_of X v.core)
-  pub ready : IsRowReady (sizes_of v) t v.sweep
+  pub ready : IsRowReady (sizes_of v) t v.reclaimer
 
 -- ---- what it held when it gave the page back: the page itself, or, where the page is handed on already, the reason for that
 -- its frame stands in the log: it has stored the length that takes it in
@@ -108,19 +108,19 @@ pub record IsBehind {E : Type 0} (X : Election E) (v : Visitor E) (got word t p 
 -- stage's tenure, and it does so next; and nobody is behind.
 pub record TellsNoMore {E : Type 0} (X : Election E) (v : Visitor E) (got word : ℕ) : Type 0 where
   pub loses : (t : ℕ) (o : SenderNo) → ¬ Withdraws v t o
-  pub holds : (t : ℕ) → v.visit ≡ Parting t → held_of v.core.phase ≡ Some t
-  pub barred : ¬ IsBarred v.visit
+  pub holds : (t : ℕ) → v.pin ≡ Unpinning t → held_of v.core.phase ≡ Some t
+  pub invalidated : ¬ IsInvalidated v.pin
   pub takes : (t : ℕ) → ¬ IsChosen X v t
   pub gives : (t : ℕ) → ¬ GivesReady X v t
   pub waits : ¬ LooksInVain X v got
   pub spent : ¬ FindsNoneLeft X v got
-  pub begins : due X v ≡ Goes LooksAtStage → (visitor_after X v got word).visit ≡ Entering (got / 2)
+  pub begins : due X v ≡ Goes LooksAtStage → (visitor_after X v got word).pin ≡ Announcing (got / 2)
   pub behind : (t p : ℕ) → ¬ IsBehind X v got word t p
 
 -- With a step that found this number, and this random word. No step is taken where nothing is pending.
 abbrev pub FeedTells : {E : Type 0} → Election E → Visitor E → ℕ → ℕ → Turn → Type 0
 FeedTells X v got word Idle = ⊥
-FeedTells X v got word Waiting = LooksInVain X v got ⊎ IsBarred v.visit
+FeedTells X v got word Waiting = LooksInVain X v got ⊎ IsInvalidated v.pin
 FeedTells X v got word Going = TellsNoMore X v got word
 FeedTells X v got word (Lost t o) = Withdraws v t o
 FeedTells X v got word (Own t) = IsChosen X v t

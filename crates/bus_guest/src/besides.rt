@@ -5,10 +5,10 @@ use bus_register::Op;
 /// The step that a guest takes beside those of a sender that has a row for each tenure.
 #[derive(Clone, Copy, Debug, PartialEq, Eq)]
 pub enum Beside {
-    /// It takes this step of its visit.
-    Visit(Op),
-    /// It takes this step of its sweep.
-    Sweep(Op),
+    /// It takes this step of its pin.
+    Pin(Op),
+    /// It takes this step of its reclamation.
+    Reclaimer(Op),
     /// It goes on as a sender.
     Nothing,
 }

@@ -8,41 +8,41 @@ ghost use Rattle.bus_batch.specs.Batches.{next_of, CanPut, IsPutFault, CanClose,
 ghost use Rattle.bus_batch.specs.Batches.{IsShut};
 ghost use Rattle.std.specs.Prelude.{false, true};
 ghost use Rattle.bus_batch.specs.declared.batches.Phase.TheVariants as queue_phase;
-ghost use Rattle.bus_presence.specs.Hall.{presence_at};
-ghost use Rattle.bus_presence.specs.declared.visits.Visit.TheVariants as visit;
+ghost use Rattle.bus_presence.specs.Reclamation.{presence_at};
+ghost use Rattle.bus_presence.specs.declared.pins.Pin.TheVariants as pin;
 ghost use Rattle.bus_tenure.specs.Core.{stage_at, words_of, is_closing, is_closed, page_after};
 ghost use Rattle.bus_tenure.specs.Elections.{election_of, elections, layout_with};
 ghost use Rattle.bus_tenure.specs.Seen.{turns_of, HasElection, AwaitsItsPage};
 ghost use Rattle.bus_tenure.specs.Situations.{situation_of, GivesBack};
 ghost use Rattle.bus_tenure.specs.declared.phases.Phase.TheVariants as phase;
 ghost use Rattle.std.specs.Prelude.{◌≢◌, ◌%◌};
-ghost use Rattle.bus_presence.specs.Hall.{sweep_after as hall_sweep_after};
-ghost use Rattle.bus_presence.specs.Visits.{visit_fed};
-ghost use Rattle.bus_presence.specs.Sweeps.{Sweeping, sweep_op, sweep_fed, behind_of};
+ghost use Rattle.bus_presence.specs.Reclamation.{reclaimer_after as spec_reclaimer_after};
+ghost use Rattle.bus_presence.specs.Pins.{pin_fed};
+ghost use Rattle.bus_presence.specs.Reclaimers.{Reclaiming, reclaim_op, reclaim_fed, behind_of};
 ghost use Rattle.bus_tenure.specs.Situations.{op_at, resting, LooksAtStage, answer_of_stage};
 ghost use Rattle.bus_tenure.specs.declared.phases.Reason.{Reason};
-ghost use Rattle.bus_guest.specs.Guests.{Goes, place_for, core_looked, core_seen, visit_seen};
-ghost use Rattle.bus_guest.specs.Turns.{op_placed, kind_of_visit, kind_of_sweep, answer_of_visit};
-ghost use Rattle.bus_guest.specs.Turns.{answer_of_sweep, visitor_due, answer_due};
+ghost use Rattle.bus_guest.specs.Guests.{Goes, place_for, core_looked, core_seen, pin_seen};
+ghost use Rattle.bus_guest.specs.Turns.{op_placed, kind_of_pin, kind_of_reclaim, answer_of_pin};
+ghost use Rattle.bus_guest.specs.Turns.{answer_of_reclaim, visitor_due, answer_due};
 ghost use Rattle.bus_guest.specs.Keeping.{IsBound, LiesApart};
-ghost use Rattle.bus_guest.specs.Following.{visit_by as spec_visit_by};
-ghost use Rattle.bus_guest.specs.Following.{sweep_by as spec_sweep_by};
+ghost use Rattle.bus_guest.specs.Following.{pin_by as spec_pin_by};
+ghost use Rattle.bus_guest.specs.Following.{reclaimer_by as spec_reclaimer_by};
 ghost use Rattle.bus_guest.specs.Following.{lost_by as spec_lost_by};
 ghost use Rattle.bus_guest.specs.Following.{told_by as spec_told_by};
 ghost use Rattle.bus_guest.specs.Turns.{due, op_next, kind_due, wants_due, rest_due};
 ghost use Rattle.bus_guest.specs.Turns.{tenure_begun_by, words_with, queue_seen};
-ghost use Rattle.bus_guest.specs.Places.{LiesGoing, LiesAt};
+ghost use Rattle.bus_guest.specs.StepWords.{LiesGoing, LiesAt};
 ghost use Rattle.bus_guest.specs.Causes.{HasCause, IsCaused};
 ghost use Rattle.bus_guest.specs.Telling.{FeedTells};
 ghost use Rattle.bus_guest.specs.Turns.{visitor_after, answer_after, GivesPageBack};
-ghost use Rattle.bus_guest.specs.Besides.{due_by, HasSweep, op_beside};
+ghost use Rattle.bus_guest.specs.Besides.{due_by, HasReclaimer, op_beside};
 
 use super::besides::Beside;
 use super::limits::{LEAST_ROWS_AGAIN, MOST_ROWS_AGAIN};
 use bus_adoptcommit::Ratifier;
 use bus_batch::{CloseFault, PutFault};
 use bus_ownerbits::Election;
-use bus_presence::{Behind, Presence, Sweep, Visit};
+use bus_presence::{Behind, Pin, Presence, Reclaimer};
 use bus_register::limits::{MOST_ROUNDS, MOST_SENDERS, NUMBERS, TENURES};
 use bus_register::{Kind, Op, Reg, SenderNo};
 use bus_tenure::{Page, SenderCore, Turn};
@@ -61,7 +61,7 @@ const STAGE: Reg = Reg(1);
 pub struct Guest<Q: Ratifier> {
     core: SenderCore<Q>,
     presence: Presence,
-    sweep: Option<Sweep>,
+    reclaimer: Option<Reclaimer>,
     /// Who owns the tenure that it has lost and parts from.
     lost: Option<SenderNo>,
     senders: u64,
@@ -72,7 +72,7 @@ pub struct Guest<Q: Ratifier> {
 
 impl<Q: Ratifier> Model for Guest<Q> {
     ghost use Rattle.std.specs.Prelude.{◌≡◌};
-    ghost use Rattle.bus_presence.specs.Hall.{presence_at};
+    ghost use Rattle.bus_presence.specs.Reclamation.{presence_at};
     ghost use Rattle.bus_tenure.specs.Core.{stage_at};
     ghost use Rattle.bus_tenure.specs.Elections.{Elector, elections};
     ghost use Rattle.bus_guest.specs.Guests.{sizes_with};
@@ -83,8 +83,8 @@ impl<Q: Ratifier> Model for Guest<Q> {
 
     ghost view = { λ c. record {
       core = c.core;
-      visit = c.presence.visit;
-      sweep = c.sweep;
+      pin = c.presence.pin;
+      reclaimer = c.reclaimer;
       lost = c.lost;
       rows = c.rows;
     } };
@@ -94,8 +94,8 @@ impl<Q: Ratifier> Model for Guest<Q> {
         ((elections Q.protocol c.core.layout.rounds).Belongs c.core.layout.senders c.core.me)
         (record {
           core = c.core;
-          visit = c.presence.visit;
-          sweep = c.sweep;
+          pin = c.presence.pin;
+          reclaimer = c.reclaimer;
           lost = c.lost;
           rows = c.rows;
         }) };
@@ -126,8 +126,8 @@ impl<Q: Ratifier + Drop> Guest<Q> {
             least = 0;
             phase = phase.Resting;
           };
-          visit = visit.Away;
-          sweep = None;
+          pin = pin.Away;
+          reclaimer = None;
           lost = None;
           rows = rows;
         } }
@@ -136,7 +136,7 @@ impl<Q: Ratifier + Drop> Guest<Q> {
         Guest {
             core: SenderCore::new(senders, me, rounds, TENURES, log_words),
             presence: Presence::new(Reg(2 + u64::from(me.0)), STAGE),
-            sweep: None,
+            reclaimer: None,
             lost: None,
             senders,
             width,
@@ -179,28 +179,28 @@ impl<Q: Ratifier + Drop> Guest<Q> {
         self.core.is_closed()
     }
 
-    /// How far its visit to a tenure has come.
-    pub fn visit(&self) -> Visit
-        ensures { result ≡ self.now.visit }
+    /// How far its pin of a tenure has come.
+    pub fn pin(&self) -> Pin
+        ensures { result ≡ self.now.pin }
     {
-        self.presence.visit()
+        self.presence.pin()
     }
 
     /// The tenure that it has begun, or whose page it has.
     pub fn tenure(&self) -> Option<u64>
-        ensures { result ≡ tenure_begun_by self.now.core self.now.visit }
+        ensures { result ≡ tenure_begun_by self.now.core self.now.pin }
     {
-        match self.presence.visit() {
-            Visit::Away => self.core.tenure(),
-            Visit::Entering { tenure }
-            | Visit::Looking { tenure }
-            | Visit::Inside { tenure }
-            | Visit::Parting { tenure }
-            | Visit::Barred { tenure } => Some(tenure),
+        match self.presence.pin() {
+            Pin::Away => self.core.tenure(),
+            Pin::Announcing { tenure }
+            | Pin::Validating { tenure }
+            | Pin::Pinned { tenure }
+            | Pin::Unpinning { tenure }
+            | Pin::Invalidated { tenure } => Some(tenure),
         }
     }
 
-    /// Appends a message to the batch and gives its number. While it visits a tenure the batch is
+    /// Appends a message to the batch and gives its number. While it pins a tenure the batch is
     /// on its way.
     pub fn put(&mut self, bytes: &[u8]) -> Result<u64, PutFault>
         requires { next_of self.old.core.queue < NUMBERS }
@@ -214,9 +214,9 @@ impl<Q: Ratifier + Drop> Guest<Q> {
               };
             }) }
         ensures could { OnOk result
-            (CanPut (queue_seen self.old.core.queue self.old.visit) (length bytes.now)) }
+            (CanPut (queue_seen self.old.core.queue self.old.pin) (length bytes.now)) }
         ensures fault { IfErr result
-            (IsPutFault (queue_seen self.old.core.queue self.old.visit) (length bytes.now)) }
+            (IsPutFault (queue_seen self.old.core.queue self.old.pin) (length bytes.now)) }
         ensures refused { OnErr result (self.new ≡ self.old) }
     {
         if self.is_away() {
@@ -228,7 +228,7 @@ impl<Q: Ratifier + Drop> Guest<Q> {
         Err(PutFault::Busy)
     }
 
-    /// Lets an end mark wait in place of messages. While it visits a tenure the batch is on its
+    /// Lets an end mark wait in place of messages. While it pins a tenure the batch is on its
     /// way.
     pub fn close(&mut self) -> Result<(), CloseFault>
         ensures taken { OnOk result
@@ -238,9 +238,9 @@ impl<Q: Ratifier + Drop> Guest<Q> {
               };
             }) }
         ensures could { OnOk result
-            (CanClose (queue_seen self.old.core.queue self.old.visit)) }
+            (CanClose (queue_seen self.old.core.queue self.old.pin)) }
         ensures fault { IfErr result
-            (IsCloseFault (queue_seen self.old.core.queue self.old.visit)) }
+            (IsCloseFault (queue_seen self.old.core.queue self.old.pin)) }
         ensures refused { OnErr result (self.new ≡ self.old) }
     {
         if self.is_away() {
@@ -252,11 +252,11 @@ impl<Q: Ratifier + Drop> Guest<Q> {
         Err(CloseFault::Busy)
     }
 
-    /// It visits no tenure.
+    /// It pins no tenure.
     fn is_away(&self) -> bool
-        ensures { IsTrue result ↔ (self.now.visit ≡ visit.Away) }
+        ensures { IsTrue result ↔ (self.now.pin ≡ pin.Away) }
     {
-        self.presence.visit() == Visit::Away
+        self.presence.pin() == Pin::Away
     }
 
     /// It has closed, or is closing.
@@ -266,22 +266,22 @@ impl<Q: Ratifier + Drop> Guest<Q> {
         self.core.is_closing() || self.core.is_closed()
     }
 
-    /// The step of its visit or of its sweep that is due.
+    /// The step of its pin or of its reclamation that is due.
     fn beside(&self) -> Beside
         ensures due { let X = election_of Q.Ratifier in
-            due X self.now ≡ due_by result self.now.sweep (situation_of X self.now.core) }
-        ensures sweeps { HasSweep result self.now.sweep }
+            due X self.now ≡ due_by result self.now.reclaimer (situation_of X self.now.core) }
+        ensures reclaims { HasReclaimer result self.now.reclaimer }
         ensures lies { let X = election_of Q.Ratifier in
             IfSome (op_beside result) (λ o. LiesAt self.now (due X self.now) (register o)) }
         ensures below { IfSome (op_beside result) (λ o. register o < words_with self.now) }
     {
         if let Some(op) = self.presence.next() {
-            return Beside::Visit(op);
+            return Beside::Pin(op);
         }
         if self.core.gives_back() {
-            if let Some(sweep) = &self.sweep {
-                if let Some(op) = sweep.next() {
-                    return Beside::Sweep(op);
+            if let Some(reclaimer) = &self.reclaimer {
+                if let Some(op) = reclaimer.next() {
+                    return Beside::Reclaimer(op);
                 }
             }
         }
@@ -291,12 +291,12 @@ impl<Q: Ratifier + Drop> Guest<Q> {
     /// Where the word lies on which a sender that has a row for each tenure takes its step here.
     fn place(&self, at: Reg) -> Reg
         requires { let X = election_of Q.Ratifier in
-            LiesApart self.now.core.layout self.now.visit (situation_of X self.now.core) at.0 }
+            LiesApart self.now.core.layout self.now.pin (situation_of X self.now.core) at.0 }
         ensures place { let X = election_of Q.Ratifier in
             result.0 ≡ place_for self.now.core.layout self.now.rows
             (situation_of X self.now.core) at.0 }
         ensures lies { let X = election_of Q.Ratifier in
-            LiesGoing self.now.core.layout self.now.rows self.now.visit
+            LiesGoing self.now.core.layout self.now.rows self.now.pin
             (situation_of X self.now.core) result.0 }
         ensures below { result.0 < words_with self.now }
     {
@@ -307,7 +307,7 @@ impl<Q: Ratifier + Drop> Guest<Q> {
         if at.0 >= log {
             return Reg(2 + self.senders + self.rows * self.width + (at.0 - log));
         }
-        let Visit::Inside { tenure } = self.presence.visit() else {
+        let Pin::Pinned { tenure } = self.presence.pin() else {
             return at;
         };
         let row = 2 + self.senders + tenure % self.rows * self.width;
@@ -321,7 +321,7 @@ impl<Q: Ratifier + Drop> Guest<Q> {
             (situation_of X self.now.core))
             (op_at X self.now.core (situation_of X self.now.core) word) }
         ensures lies { let X = election_of Q.Ratifier in
-            IfSome result (λ o. LiesGoing self.now.core.layout self.now.rows self.now.visit
+            IfSome result (λ o. LiesGoing self.now.core.layout self.now.rows self.now.pin
             (situation_of X self.now.core) (register o)) }
         ensures below { IfSome result (λ o. register o < words_with self.now) }
     {
@@ -342,7 +342,7 @@ impl<Q: Ratifier + Drop> Guest<Q> {
         ensures below { IfSome result (λ o. register o < words_with self.now) }
     {
         match self.beside() {
-            Beside::Visit(op) | Beside::Sweep(op) => Some(op),
+            Beside::Pin(op) | Beside::Reclaimer(op) => Some(op),
             Beside::Nothing => self.next_apart(word),
         }
     }
@@ -354,8 +354,8 @@ impl<Q: Ratifier + Drop> Guest<Q> {
         ensures cause { IfSome result (λ k. HasCause Q.protocol self.now k) }
     {
         match self.beside() {
-            Beside::Visit(_) => visit_kind(self.presence.visit()),
-            Beside::Sweep(op) => Some(sweep_kind(op)),
+            Beside::Pin(_) => pin_kind(self.presence.pin()),
+            Beside::Reclaimer(op) => Some(reclaim_kind(op)),
             Beside::Nothing => self.core.kind(),
         }
     }
@@ -373,7 +373,7 @@ impl<Q: Ratifier + Drop> Guest<Q> {
             result ≡ rest_due X self.now (due X self.now) }
     {
         match self.beside() {
-            Beside::Visit(_) | Beside::Sweep(_) => Turn::Going,
+            Beside::Pin(_) | Beside::Reclaimer(_) => Turn::Going,
             Beside::Nothing => self.core.rest(),
         }
     }
@@ -384,13 +384,13 @@ impl<Q: Ratifier + Drop> Guest<Q> {
             result ≡ wants_due X self.now (due X self.now) }
     {
         match self.beside() {
-            Beside::Visit(_) | Beside::Sweep(_) => false,
+            Beside::Pin(_) | Beside::Reclaimer(_) => false,
             Beside::Nothing => self.core.wants_word(),
         }
     }
 
     /// How many turns the election takes at most, with the one that takes the page; 0 where none is
-    /// begun. Those of its visit are not among them.
+    /// begun. Those of its pin are not among them.
     pub fn turns_left(&self) -> u64
         ensures turns { let X = election_of Q.Ratifier in result ≡ turns_of X self.now.core.phase }
         ensures running { HasElection self.now.core.phase → 1 ≤ result }
@@ -398,35 +398,35 @@ impl<Q: Ratifier + Drop> Guest<Q> {
         self.core.turns_left()
     }
 
-    /// Takes the next step of its visit.
-    fn visit_on(&mut self, got: u64) -> Turn
+    /// Takes the next step of its pin.
+    fn pin_on(&mut self, got: u64) -> Turn
         ensures state { let X = election_of Q.Ratifier in
             self.new ≡ record self.old {
-              core = core_looked X self.old.core self.old.visit got;
-              visit = visit_fed self.old.visit got;
+              core = core_looked X self.old.core self.old.pin got;
+              pin = pin_fed self.old.pin got;
               lost = None;
             } }
-        ensures answer { result ≡ answer_of_visit self.old.visit self.old.lost }
+        ensures answer { result ≡ answer_of_pin self.old.pin self.old.lost }
     {
-        let visit = self.presence.visit();
-        let turn = visit_turn(visit, self.lost);
-        look_again(&mut self.core, visit, got);
+        let pin = self.presence.pin();
+        let turn = pin_turn(pin, self.lost);
+        look_again(&mut self.core, pin, got);
         self.presence.feed(got);
         self.lost = None;
         turn
     }
 
-    /// Takes the next step of its sweep.
-    fn sweep_on(&mut self, got: u64) -> Turn
-        ensures state { (s : Sweeping) → self.old.sweep ≡ Some s
-            → self.new ≡ record self.old { sweep = Some (sweep_fed s got) } }
-        ensures answer { (s : Sweeping) → self.old.sweep ≡ Some s
-            → result ≡ answer_of_sweep (behind_of s got) }
+    /// Takes the next step of its reclamation.
+    fn reclaim_on(&mut self, got: u64) -> Turn
+        ensures state { (s : Reclaiming) → self.old.reclaimer ≡ Some s
+            → self.new ≡ record self.old { reclaimer = Some (reclaim_fed s got) } }
+        ensures answer { (s : Reclaiming) → self.old.reclaimer ≡ Some s
+            → result ≡ answer_of_reclaim (behind_of s got) }
     {
-        let Some(sweep) = &mut self.sweep else {
+        let Some(reclaimer) = &mut self.reclaimer else {
             return Turn::Going;
         };
-        match sweep.feed(got) {
+        match reclaimer.feed(got) {
             Some(Behind { tenure, sender }) => Turn::Behind {
                 tenure,
                 sender: SenderNo(sender as u8),
@@ -439,10 +439,10 @@ impl<Q: Ratifier + Drop> Guest<Q> {
     fn see_stage(&mut self, got: u64) -> Turn
         requires rests { self.old.core.phase ≡ phase.Resting }
         requires looks { resting self.old.core ≡ LooksAtStage }
-        requires away { self.old.visit ≡ visit.Away }
+        requires away { self.old.pin ≡ pin.Away }
         ensures state { self.new ≡ record self.old {
           core = core_seen self.old.core got;
-          visit = visit_seen self.old.core got;
+          pin = pin_seen self.old.core got;
         } }
         ensures answer { result ≡ answer_of_stage self.old.core got }
     {
@@ -469,8 +469,8 @@ impl<Q: Ratifier + Drop> Guest<Q> {
     {
         let turn = self.core.feed(got, word);
         part_after(&mut self.presence, turn);
-        let sweep = self.sweep.take();
-        self.sweep = sweep_by(turn, sweep, self.senders, self.rows, self.width);
+        let reclaimer = self.reclaimer.take();
+        self.reclaimer = reclaimer_by(turn, reclaimer, self.senders, self.rows, self.width);
         self.lost = lost_by(turn, self.lost);
         told_by(turn)
     }
@@ -485,8 +485,8 @@ impl<Q: Ratifier + Drop> Guest<Q> {
         ensures tells { let X = election_of Q.Ratifier in FeedTells X self.old got word result }
     {
         match self.beside() {
-            Beside::Visit(_) => self.visit_on(got),
-            Beside::Sweep(_) => self.sweep_on(got),
+            Beside::Pin(_) => self.pin_on(got),
+            Beside::Reclaimer(_) => self.reclaim_on(got),
             Beside::Nothing => match self.core.tenure() {
                 None => self.see_stage(got),
                 Some(_) => {
@@ -521,7 +521,7 @@ impl<Q: Ratifier + Drop> Guest<Q> {
             IsTrue result ↔ GivesPageBack (due X self.now) }
     {
         match self.beside() {
-            Beside::Visit(_) | Beside::Sweep(_) => false,
+            Beside::Pin(_) | Beside::Reclaimer(_) => false,
             Beside::Nothing => self.core.gives_back(),
         }
     }
@@ -544,48 +544,48 @@ impl<Q: Ratifier + Drop> Guest<Q> {
     }
 }
 
-/// What a step of a visit answers, of a sender that lost its tenure to this owner.
-fn visit_turn(visit: Visit, lost: Option<SenderNo>) -> Turn
-    ensures { result ≡ answer_of_visit visit lost }
+/// What a step of a pin answers, of a sender that lost its tenure to this owner.
+fn pin_turn(pin: Pin, lost: Option<SenderNo>) -> Turn
+    ensures { result ≡ answer_of_pin pin lost }
 {
-    match visit {
-        Visit::Parting { tenure } => match lost {
+    match pin {
+        Pin::Unpinning { tenure } => match lost {
             Some(owner) => Turn::Lost { tenure, owner },
             None => Turn::Going,
         },
-        Visit::Barred { .. } => Turn::Waiting,
+        Pin::Invalidated { .. } => Turn::Waiting,
         _ => Turn::Going,
     }
 }
 
 /// Begins the tenure, where it has looked at the stage again and that is the tenure's still.
-fn look_again<Q: Ratifier + Drop>(core: &mut SenderCore<Q>, seen: Visit, got: u64)
-    requires bound { (t : ℕ) → seen ≡ visit.Looking t → IsBound core.old t }
-    requires below { (t : ℕ) → seen ≡ visit.Looking t → t < TENURES }
+fn look_again<Q: Ratifier + Drop>(core: &mut SenderCore<Q>, seen: Pin, got: u64)
+    requires bound { (t : ℕ) → seen ≡ pin.Validating t → IsBound core.old t }
+    requires below { (t : ℕ) → seen ≡ pin.Validating t → t < TENURES }
     ensures { let X = election_of Q.Ratifier in core.new ≡ core_looked X core.old seen got }
 {
-    if let Visit::Looking { tenure } = seen {
+    if let Pin::Validating { tenure } = seen {
         if got / 2 == tenure {
             core.feed(2 * tenure, 0);
         }
     }
 }
 
-/// What the next step of a visit is for.
-fn visit_kind(visit: Visit) -> Option<Kind>
-    ensures { result ≡ kind_of_visit visit }
+/// What the next step of a pin is for.
+fn pin_kind(pin: Pin) -> Option<Kind>
+    ensures { result ≡ kind_of_pin pin }
 {
-    match visit {
-        Visit::Away | Visit::Inside { .. } => None,
-        Visit::Entering { .. } => Some(Kind::Enter),
-        Visit::Looking { .. } => Some(Kind::LoadStageAgain),
-        Visit::Parting { .. } | Visit::Barred { .. } => Some(Kind::Withdraw),
+    match pin {
+        Pin::Away | Pin::Pinned { .. } => None,
+        Pin::Announcing { .. } => Some(Kind::Enter),
+        Pin::Validating { .. } => Some(Kind::LoadStageAgain),
+        Pin::Unpinning { .. } | Pin::Invalidated { .. } => Some(Kind::Withdraw),
     }
 }
 
-/// What the next step of a sweep is for.
-fn sweep_kind(step: Op) -> Kind
-    ensures { (s : Sweeping) → sweep_op s ≡ Some step → result ≡ kind_of_sweep s }
+/// What the next step of a reclamation is for.
+fn reclaim_kind(step: Op) -> Kind
+    ensures { (s : Reclaiming) → reclaim_op s ≡ Some step → result ≡ kind_of_reclaim s }
 {
     match step {
         Op::Load(_) => Kind::ReadPresence,
@@ -593,14 +593,14 @@ fn sweep_kind(step: Op) -> Kind
     }
 }
 
-/// The sweep of a holder of this tenure: none where the row of the next one was never used.
-fn sweep_after(tenure: u64, senders: u64, rows: u64, width: u64) -> Option<Sweep>
+/// The reclaimer of a holder of this tenure: none where the row of the next one was never used.
+fn reclaimer_after(tenure: u64, senders: u64, rows: u64, width: u64) -> Option<Reclaimer>
     requires tenure { tenure < TENURES }
     requires senders { senders ≤ MOST_SENDERS }
     requires rows_some { LEAST_ROWS_AGAIN ≤ rows }
     requires rows_few { rows ≤ MOST_ROWS_AGAIN }
     requires width { width ≤ 2 ^ 23 }
-    ensures { result ≡ hall_sweep_after
+    ensures { result ≡ spec_reclaimer_after
         (record { at = 1; senders = senders; rows = rows; width = width }) tenure }
 {
     let next = tenure + 1;
@@ -608,16 +608,16 @@ fn sweep_after(tenure: u64, senders: u64, rows: u64, width: u64) -> Option<Sweep
         return None;
     }
     let row = Reg(2 + senders + next % rows * width);
-    Some(Sweep::new(next - rows, senders, Reg(2), row, width))
+    Some(Reclaimer::new(next - rows, senders, Reg(2), row, width))
 }
 
 /// Parts from the tenure whose election is over by this answer.
 fn part_after(presence: &mut Presence, turn: Turn)
     requires lost { (t : ℕ) (o : SenderNo) → turn ≡ Turn.Lost t o
-        → presence.old.visit ≡ visit.Inside t }
-    requires own { (t : ℕ) → turn ≡ Turn.Own t → presence.old.visit ≡ visit.Inside t }
+        → presence.old.pin ≡ pin.Pinned t }
+    requires own { (t : ℕ) → turn ≡ Turn.Own t → presence.old.pin ≡ pin.Pinned t }
     ensures { presence.new ≡ record presence.old {
-      visit = spec_visit_by turn presence.old.visit;
+      pin = spec_pin_by turn presence.old.pin;
     } }
 {
     match turn {
@@ -626,21 +626,27 @@ fn part_after(presence: &mut Presence, turn: Turn)
     }
 }
 
-/// The sweep after this answer: it begins with the page that is taken, and is over with the page
-/// that is given back.
-fn sweep_by(turn: Turn, sweep: Option<Sweep>, senders: u64, rows: u64, width: u64) -> Option<Sweep>
+/// The reclaimer after this answer: it begins with the page that is taken, and is over with the
+/// page that is given back.
+fn reclaimer_by(
+    turn: Turn,
+    reclaimer: Option<Reclaimer>,
+    senders: u64,
+    rows: u64,
+    width: u64,
+) -> Option<Reclaimer>
     requires tenure { (t : ℕ) → turn ≡ Turn.Own t → t < TENURES }
     requires senders { senders ≤ MOST_SENDERS }
     requires rows_some { LEAST_ROWS_AGAIN ≤ rows }
     requires rows_few { rows ≤ MOST_ROWS_AGAIN }
     requires width { width ≤ 2 ^ 23 }
-    ensures { result ≡ spec_sweep_by
-        (record { at = 1; senders = senders; rows = rows; width = width }) turn sweep }
+    ensures { result ≡ spec_reclaimer_by
+        (record { at = 1; senders = senders; rows = rows; width = width }) turn reclaimer }
 {
     match turn {
-        Turn::Own { tenure } => sweep_after(tenure, senders, rows, width),
+        Turn::Own { tenure } => reclaimer_after(tenure, senders, rows, width),
         Turn::Delivered { .. } | Turn::Full | Turn::Closed => None,
-        _ => sweep,
+        _ => reclaimer,
     }
 }
 

@@ -1,5 +1,5 @@
 //! A sender of a bus whose rows of words are used again: it shows in its presence which tenure it
-//! visits, and as a holder of the page it makes the row of the next tenure ready.
+//! pins, and as a holder of the page it makes the row of the next tenure ready.
 //!
 //! The only guest of a bus puts a message and finds tenure 0 open. It shows its presence and looks
 //! at the stage again, before it announces itself:

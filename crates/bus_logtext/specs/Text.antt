@@ -5,8 +5,8 @@ use Rattle.bus_batch.specs.declared.messages.Item.{Item}
 use Rattle.bus_batch.specs.declared.messages.Piece.{Piece}
 use Rattle.bus_batch.specs.declared.messages.Piece.TheVariants as piece
 use Rattle.bus_batch.specs.Frames.{Frame, log_pieces}
-use Rattle.bus_script.specs.Places.{refusal_line}
-use Rattle.bus_script.specs.declared.places.Place.TheVariants.{AtLine, AtEnd}
+use Rattle.bus_script.specs.LineNumbers.{refusal_line}
+use Rattle.bus_script.specs.declared.line_numbers.LineNumber.TheVariants.{AtLine, AtEnd}
 use Rattle.bus_deliverylog.specs.Text.{item_text}
 use Rattle.bus_replay.specs.Text.{behind}
 use Rattle.bus_logtext.specs.declared.faults.LineFault.{LineFault}

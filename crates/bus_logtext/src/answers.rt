@@ -8,7 +8,7 @@ use crate::text::{bad_word_text, log_text, refusal_text};
 use crate::words::words_of;
 use bus_deliverylog::LogFault;
 use bus_register::NoMemory;
-use bus_script::{Answer, Outcome, Place, refusal_line};
+use bus_script::{Answer, LineNumber, Outcome, refusal_line};
 use std::alloc::Global;
 
 /// What is written for words: what they spell to so many senders, or why they are no log.
@@ -27,7 +27,7 @@ fn log_answer(alloc: Global, words: &[u64], senders: u64) -> Result<Answer, NoMe
         }),
         Err(LogFault::Torn) => Ok(Answer {
             outcome: Outcome::Refused,
-            text: refusal_line(alloc, Place::AtEnd, "Torn")?,
+            text: refusal_line(alloc, LineNumber::AtEnd, "Torn")?,
         }),
         Err(LogFault::NoMemory) => Err(NoMemory),
     }

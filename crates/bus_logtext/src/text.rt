@@ -9,7 +9,7 @@ use crate::faults::{LineFault, Refusal};
 use bus_batch::{BadWord, FrameReader, Piece};
 use bus_deliverylog::LogFault;
 use bus_deliverylog::texts::ItemText;
-use bus_script::{Place, refusal_line};
+use bus_script::{LineNumber, refusal_line};
 use std::alloc::{AllocError, Global};
 
 /// Puts the line of what a word says at the end of a text.
@@ -77,7 +77,7 @@ pub fn refusal_text(alloc: Global, refusal: Refusal) -> Result<String, AllocErro
 {
     refusal_line(
         alloc,
-        Place::AtLine(refusal.line),
+        LineNumber::AtLine(refusal.line),
         fault_name(refusal.fault),
     )
 }

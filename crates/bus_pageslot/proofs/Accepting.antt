@@ -1,11 +1,11 @@
--- What a sender accepts between its steps: its deeds as its batch shows them.
+-- What a sender accepts between its steps: its actions as its batch shows them.
 use Rattle.std.proofs.Common.{◌≡◌, ℕ, zero, suc, ◌+◌, ◌≤◌, Bool, true, false, List, [], ◌∷◌, ◌++◌, length, drop, arith, refl, sym, ◌∙◌, ap}
 use Rattle.std.proofs.lemmas.List.{append-nil, length-append, length-drop, drop-append-le}
 use Rattle.bus_batch.specs.Batches.{Pending, next_of, CanPut, CanClose}
 use Rattle.bus_batch.specs.declared.batches.Phase.{Phase}
 use Rattle.bus_batch.specs.declared.batches.Phase.TheVariants.{Open, Closing}
 use Rattle.bus_tenure.specs.Core.{is_closing}
-use Rattle.bus_world.specs.Headline.{Deed, HasPut, HasClosed}
+use Rattle.bus_world.specs.Headline.{Action, HasPut, HasClosed}
 use Rattle.bus_pageslot.specs.Processes.{Process}
 use Rattle.bus_pageslot.specs.Lawful.{ProcessLaws}
 use Rattle.bus_pageslot.specs.Steps.{Accepts, puts_from, closes_since, accepted_since}
@@ -15,29 +15,29 @@ module _ {C : Type 0} (P : Process C) (L : ProcessLaws P) (c : C) where
   -- the rest of it stays
   pub record Stays (d : C) : Type 0 where
     pub me : P.me d ≡ P.me c
-    pub extent : P.extent d ≡ P.extent c
+    pub table_layout : P.table_layout d ≡ P.table_layout c
     pub first : (P.queue d).first ≡ (P.queue c).first
     pub longer : length (P.queue c).messages ≤ length (P.queue d).messages
 
-  pub stays : (d : C) (deeds : List Deed) → Accepts P c d deeds → Stays d
-  stays d deeds Nothing = record { me = refl; extent = refl; first = refl; longer = omega arith }
-  stays e all (Message d deeds bytes more can small) =
-      let h = stays d deeds more in
+  pub stays : (d : C) (actions : List Action) → Accepts P c d actions → Stays d
+  stays d actions Nothing = record { me = refl; table_layout = refl; first = refl; longer = omega arith }
+  stays e all (Message d actions bytes more can small) =
+      let h = stays d actions more in
       let k = L.message d bytes in
       let waits = L.message_waits d bytes in
       record {
         me = k.me ∙ h.me;
-        extent = k.extent ∙ h.extent;
+        table_layout = k.table_layout ∙ h.table_layout;
         first = ap (λ (q : Pending). q.first) waits ∙ h.first;
         longer = let a = h.longer in let b = length-append (P.queue d).messages (bytes ∷ []) in let size = ap (λ (q : Pending). length q.messages) waits in omega arith;
       }
-  stays e all (Close d deeds more can) =
-      let h = stays d deeds more in
+  stays e all (Close d actions more can) =
+      let h = stays d actions more in
       let k = L.close d in
       let waits = L.close_waits d in
       record {
         me = k.me ∙ h.me;
-        extent = k.extent ∙ h.extent;
+        table_layout = k.table_layout ∙ h.table_layout;
         first = ap (λ (q : Pending). q.first) waits ∙ h.first;
         longer = let a = h.longer in let size = ap (λ (q : Pending). length q.messages) waits in omega arith;
       }
@@ -82,15 +82,15 @@ since_close before now can was =
 
 module _ {C : Type 0} (P : Process C) (L : ProcessLaws P) (c : C) where
   -- a sender that accepts something was not closing before
-  pub was_open : (d : C) (deeds : List Deed) → Accepts P c d deeds → (P.queue d).phase ≡ Open → is_closing (P.queue c).phase ≡ false
-  was_open d deeds Nothing e = open_is (P.queue c).phase e
-  was_open f all (Message d deeds bytes more can small) e = was_open d deeds more can.is_open
-  was_open f all (Close d deeds more can) e = was_open d deeds more can.is_open
+  pub was_open : (d : C) (actions : List Action) → Accepts P c d actions → (P.queue d).phase ≡ Open → is_closing (P.queue c).phase ≡ false
+  was_open d actions Nothing e = open_is (P.queue c).phase e
+  was_open f all (Message d actions bytes more can small) e = was_open d actions more can.is_open
+  was_open f all (Close d actions more can) e = was_open d actions more can.is_open
 
-  pub since_is : (d : C) (deeds : List Deed) → Accepts P c d deeds → accepted_since (P.queue c) (P.queue d) ≡ deeds
-  since_is d deeds Nothing =
+  pub since_is : (d : C) (actions : List Action) → Accepts P c d actions → accepted_since (P.queue c) (P.queue d) ≡ actions
+  since_is d actions Nothing =
       ap (λ z. puts_from (next_of (P.queue c)) z ++ closes_since (is_closing (P.queue c).phase) (is_closing (P.queue c).phase)) (none_left (length (P.queue c).messages) (P.queue c).messages (omega arith)) ∙ closed_once (is_closing (P.queue c).phase)
-  since_is f all (Message d deeds bytes more can small) =
-      let h = stays P L c d deeds more in
-      ap (accepted_since (P.queue c)) (L.message_waits d bytes) ∙ since_message (P.queue c) (P.queue d) bytes h.first h.longer can ∙ ap (λ z. z ++ HasPut (next_of (P.queue d)) bytes ∷ []) (since_is d deeds more)
-  since_is f all (Close d deeds more can) = ap (accepted_since (P.queue c)) (L.close_waits d) ∙ since_close (P.queue c) (P.queue d) can (was_open d deeds more can.is_open) ∙ ap (λ z. z ++ HasClosed ∷ []) (since_is d deeds more)
+  since_is f all (Message d actions bytes more can small) =
+      let h = stays P L c d actions more in
+      ap (accepted_since (P.queue c)) (L.message_waits d bytes) ∙ since_message (P.queue c) (P.queue d) bytes h.first h.longer can ∙ ap (λ z. z ++ HasPut (next_of (P.queue d)) bytes ∷ []) (since_is d actions more)
+  since_is f all (Close d actions more can) = ap (accepted_since (P.queue c)) (L.close_waits d) ∙ since_close (P.queue c) (P.queue d) can (was_open d actions more can.is_open) ∙ ap (λ z. z ++ HasClosed ∷ []) (since_is d actions more)

@@ -24,11 +24,11 @@ use Rattle.bus_cyclic.proofs.LossLaws.{ring_seen}
 use Rattle.bus_cyclic.proofs.StartingLaws.{one_more_guest}
 use Rattle.bus_cyclic.specs.Starting.{AreNewGuests}
 use Rattle.bus_deliverylog.specs.Orders.{of_sender}
-use Rattle.bus_guest.specs.Guests.{Due, Visits, Sweeps, Goes, place_for, log_from, core_looked, answer_going}
+use Rattle.bus_guest.specs.Guests.{Due, Pins, Reclaims, Goes, place_for, log_from, core_looked, answer_going}
 use Rattle.bus_guest.specs.Turns.{Visitor, due, op_due, op_next, op_placed, visitor_due, answer_due, queue_seen}
-use Rattle.bus_presence.specs.Hall.{Entry, Trails, trails_with_entry}
-use Rattle.bus_presence.specs.declared.visits.Visit.{Visit}
-use Rattle.bus_presence.specs.declared.visits.Visit.TheVariants.{Away, Entering, Looking, Inside, Parting, Barred}
+use Rattle.bus_presence.specs.Reclamation.{Entry, Trails, trails_with_entry}
+use Rattle.bus_presence.specs.declared.pins.Pin.{Pin}
+use Rattle.bus_presence.specs.declared.pins.Pin.TheVariants.{Away, Announcing, Validating, Pinned, Unpinning, Invalidated}
 use Rattle.bus_tenure.specs.Core.{Core, Election, Layout, log_at, is_empty}
 use Rattle.bus_tenure.specs.Situations.{Situation, IsClosed, IsIdle, IsSpent, LooksAtStage, Elects, TakesPage, AwaitsPage, StoresWord, StoresLength, GivesBack, HasHanded, Stays, Comes, situation_of, line_of, op_at, kind_at, tenure_at, chosen_at, waits, core_begun}
 use Rattle.bus_tenure.specs.declared.pages.Page.{Page}
@@ -38,16 +38,16 @@ use Rattle.bus_tenure.specs.declared.phases.Phase.TheVariants as phase
 use Rattle.bus_register.specs.Tables.{of_some}
 use Rattle.bus_world.specs.Bus.{IsLayout, Fits, Part, Sending, least_of, standing_of, stands_at}
 use Rattle.bus_world.proofs.TenuresLaws as tenures
-use Rattle.bus_world.specs.Headline.{Deed, HasPut, HasClosed, IsPrefix, puts}
+use Rattle.bus_world.specs.Headline.{Action, HasPut, HasClosed, IsPrefix, puts}
 use Rattle.bus_world.specs.Log.{Knows, words_read_from}
-use Rattle.bus_world.specs.Rings.{Ring, IsKeptRing, RingTrails, RingReached, IsOnWord, yard_of, core_in, visit_in, guest_going, move_due, visitor_moved, with_guest, ring_after, ring_trails, ring_sweeps, ring_deeds, no_ring_trails}
+use Rattle.bus_world.specs.Rings.{Ring, IsKeptRing, RingTrails, RingReached, IsOnWord, yard_of, core_in, pin_in, guest_going, move_due, visitor_moved, with_guest, ring_after, ring_trails, ring_reclaims, ring_actions, no_ring_trails}
 use Rattle.bus_world.specs.Rings.RingReached.{NewRing, TurnTaken, PutTaken, CloseTaken, RecvTaken, StopTaken}
 use Rattle.bus_world.specs.Tenures.Stage.{Open, Held}
-use Rattle.bus_world.specs.Trails.{step_deed}
+use Rattle.bus_world.specs.Trails.{step_action}
 use Rattle.bus_world.specs.Turning.{words_after, number_found, after_step}
 use Rattle.bus_world.specs.Waiting.{waiting_at}
 use Rattle.bus_world.specs.World.{Turn, can_close, no_stops, is_set, new_page, is_open}
-use Rattle.bus_world.specs.Yards.{Yard, word_found, deeds_with, due_deeds}
+use Rattle.bus_world.specs.Yards.{Yard, word_found, actions_with, due_actions}
 use Rattle.bus_world.proofs.EventTrails as events
 use Rattle.bus_world.proofs.LogLaws.{length-read}
 use Rattle.bus_world.proofs.Waiting.{waiting_of}
@@ -55,16 +55,16 @@ use Rattle.bus_world.proofs.RingFits as fits
 use Rattle.bus_world.proofs.RingLaws.{IsRingLayout, IsLed, ring_led, ring_kept, same_register, due_goes}
 use Rattle.bus_world.proofs.Serving.{Serves}
 use Rattle.bus_world.proofs.YardLaws.{HasKept, led_kept, words_read, yard_promised}
-use Rattle.bus_cyclic.specs.Staying.{stage_of, HasGoneOn, deeds_in}
+use Rattle.bus_cyclic.specs.Staying.{stage_of, HasGoneOn, actions_in}
 use Rattle.bus_cyclic.proofs.Staying.{taken_rises, taken_apart}
 use Rattle.bus_pageslot.specs.declared.rule.View.{View}
 use Rattle.bus_pageslot.specs.Processes.{IsCounted, log_below}
 use Rattle.bus_pageslot.specs.Lawful.{AutomatonLaws, IsSender, AcceptsIn, StepsIn, HasLog, IsPromisedOf, Opens}
-use Rattle.bus_pageslot.specs.Rule.{IsShown}
+use Rattle.bus_pageslot.specs.Rule.{TableInvariant}
 use Rattle.bus_pageslot.specs.RowsApart.{is_holding, is_taken}
-use Rattle.bus_pageslot.specs.RowsAgain.{extent_again, started_again, adds_due, process_again, bus_again, RingHistory, IsRingHistory}
+use Rattle.bus_pageslot.specs.RowsAgain.{table_layout_again, started_again, adds_due, process_again, bus_again, RingHistory, IsRingHistory}
 use Rattle.bus_pageslot.specs.Steps.{EndsBy}
-use Rattle.bus_pageslot.specs.Tracks.{Track, with_track}
+use Rattle.bus_pageslot.specs.SenderTrails.{SenderTrail, with_sender_trail}
 use Rattle.bus_pageslot.proofs.AgainTurns.{seen_messages, seen_first}
 use Rattle.bus_pageslot.proofs.ApartTurns as apart
 use Rattle.bus_pageslot.proofs.ApartStates.{stage_tells, silent_page}
@@ -97,18 +97,18 @@ there_shown : {A : Type 0} (t : Bool) (o : Option A) (v : A) → cond t None o �
 there_shown true o v e = absurd (let bad : None ≡ Some v = e in let wrong : ⊥ = cc in wrong)
 there_shown false o v e = e
 
--- ---- deeds
+-- ---- actions
 own_grown : (p : ℕ) (e : Entry) (T : Trails) → trails_with_entry T p e p ≡ T p ++ e ∷ []
 own_grown p e T = ap (λ b. cond b (T p ++ e ∷ []) (T p)) (eq-eqb p p refl)
 
 other_grown : (p : ℕ) (e : Entry) (T : Trails) (q : ℕ) → q ≢ p → trails_with_entry T p e q ≡ T q
 other_grown p e T q ne = ap (λ b. cond b (T q ++ e ∷ []) (T q)) (ne_eqb q p ne)
 
-own_deeds : (s : ℕ) (ds : List Deed) (D : ℕ → List Deed) → deeds_with s ds D s ≡ D s ++ ds
-own_deeds s ds D = ap (λ b. D s ++ cond b ds []) (eq-eqb s s refl)
+own_actions : (s : ℕ) (ds : List Action) (D : ℕ → List Action) → actions_with s ds D s ≡ D s ++ ds
+own_actions s ds D = ap (λ b. D s ++ cond b ds []) (eq-eqb s s refl)
 
-other_deeds : (s : ℕ) (ds : List Deed) (D : ℕ → List Deed) (q : ℕ) → q ≢ s → deeds_with s ds D q ≡ D q
-other_deeds s ds D q ne = ap (λ b. D q ++ cond b ds []) (ne_eqb q s ne) ∙ append-nil (D q)
+other_actions : (s : ℕ) (ds : List Action) (D : ℕ → List Action) (q : ℕ) → q ≢ s → actions_with s ds D q ≡ D q
+other_actions s ds D q ne = ap (λ b. D q ++ cond b ds []) (ne_eqb q s ne) ∙ append-nil (D q)
 
 close_can : (q : Pending) → CanClose q → can_close q ≡ true
 close_can q can =
@@ -149,19 +149,19 @@ module _ {E : Type 0} (X : Election E) (P : Protocol E (Unit {0}) ℕ) (x : Layo
     led = ring_led X P serves.laws serves.owner_is serves.named serves.announces serves.apart b layout T reached
 
     abbrev yard : Yard E
-    yard = yard_of b led.leads.sweep led.leads.owners
+    yard = yard_of b led.leads.reclaimer led.leads.owners
 
-    k : HasKept X P serves.laws b.layout layout.ok layout.width layout.starts serves.owner_is serves.named serves.announces serves.apart b.rows layout.two T.heard yard T.visits T.deeds
-    k = led_kept X P serves.laws b.layout layout.ok layout.width layout.starts serves.owner_is serves.named serves.announces serves.apart b.rows layout.two T.heard yard T.visits T.deeds led.leads.led
+    k : HasKept X P serves.laws b.layout layout.ok layout.width layout.starts serves.owner_is serves.named serves.announces serves.apart b.rows layout.two T.heard yard T.pins T.actions
+    k = led_kept X P serves.laws b.layout layout.ok layout.width layout.starts serves.owner_is serves.named serves.announces serves.apart b.rows layout.two T.heard yard T.pins T.actions led.leads.led
 
     safe : IsKeptRing X b T
     safe = ring_kept X P serves.laws serves.owner_is serves.named serves.announces serves.apart b layout T reached
 
-    losses : LossesAreSeen b T.deeds
+    losses : LossesAreSeen b T.actions
     losses = ring_seen X P serves.laws serves.owner_is serves.named serves.announces serves.apart b layout T reached
 
-    sizes_are : extent_again b.layout b.rows ≡ extent_again x rows
-    sizes_are = λ i. extent_again (same i) (rows_are i)
+    sizes_are : table_layout_again b.layout b.rows ≡ table_layout_again x rows
+    sizes_are = λ i. table_layout_again (same i) (rows_are i)
 
     log_read : words_read_from (slice_index b.words) (log_from b.layout b.rows) (slice_index b.words 0) ≡ log_words k.frames
     log_read =
@@ -170,20 +170,20 @@ module _ {E : Type 0} (X : Election E) (P : Protocol E (Unit {0}) ℕ) (x : Layo
         ∙ words_read X P serves.laws b.layout layout.ok layout.width layout.starts serves.owner_is serves.named serves.announces serves.apart b.rows layout.two (k.V 0) (slice_index b.words) k.V (log_from b.layout b.rows) (log_at b.layout) (λ j l. k.kept.laid.log j (omega arith))
         ∙ k.kept.sending.log.words_are
 
-    log_here : log_words k.frames ≡ log_below (extent_again x rows) b.words
+    log_here : log_words k.frames ≡ log_below (table_layout_again x rows) b.words
     log_here = sym log_read ∙ ap (λ e. log_below e b.words) sizes_are
 
     frames_are : AreFrames x.senders k.frames
     frames_are = subst (λ (l : Layout). AreFrames l.senders k.frames) same k.kept.sending.log.lawful
 
-    wide : length b.words ≡ (extent_again x rows).words
+    wide : length b.words ≡ (table_layout_again x rows).words
     wide = led.is.words ∙ (λ i. (sizes_are i).words)
 
     short : slice_index b.words 0 ≤ x.capacity
     short = subst (λ (l : Layout). slice_index b.words 0 ≤ l.capacity) same (fits.log_below X P serves.laws serves.owner_is serves.named serves.announces serves.apart b layout T led)
 
     -- any frames of its log are those that it keeps
-    same_frames : (frames : List Frame) → AreFrames x.senders frames → log_words frames ≡ log_below (extent_again x rows) b.words → k.frames ≡ frames
+    same_frames : (frames : List Frame) → AreFrames x.senders frames → log_words frames ≡ log_below (table_layout_again x rows) b.words → k.frames ≡ frames
     same_frames frames lawful words = same_log x.senders 0 0 k.frames frames frames_are lawful (log_here ∙ sym words)
 
     -- where the stage is odd the page is out, and else at home
@@ -193,7 +193,7 @@ module _ {E : Type 0} (X : Election E) (P : Protocol E (Unit {0}) ℕ) (x : Layo
         subst (λ n. ((n % 2 ≡ 1) → is_some b.home ≡ false) × ((n % 2 ≢ 1) → is_some b.home ≡ true)) (sym k.kept.laid.stage) (stage_tells t.ended (k.V 1) (is_some b.home) led.leads.owners _ t.stage_is)
 
     -- the page is at home only while a tenure is open, and then it knows the frames
-    page_knows : (page : Page) (frames : List Frame) → b.home ≡ Some page → AreFrames x.senders frames → log_words frames ≡ log_below (extent_again x rows) b.words → (past : ℕ) × Knows page frames past (slice_index b.words 0)
+    page_knows : (page : Page) (frames : List Frame) → b.home ≡ Some page → AreFrames x.senders frames → log_words frames ≡ log_below (table_layout_again x rows) b.words → (past : ℕ) × Knows page frames past (slice_index b.words 0)
     page_knows page frames home lawful words =
         let sending = k.kept.sending in
         elim sending.tenures.stage_is [
@@ -216,19 +216,19 @@ module _ {E : Type 0} (X : Election E) (P : Protocol E (Unit {0}) ℕ) (x : Layo
           let short = k.kept.sending.log.fits in
           let capacity = ap (λ (z : Layout). z.capacity) part.layout in
           let most = layout.ok.capacity in
-          let seen = seen_first v.core.queue v.visit in
-          record { first = omega arith; few = (let few = part.queue.few in let same = ap length (seen_messages v.core.queue v.visit) in omega arith); capacity = omega arith }
+          let seen = seen_first v.core.queue v.pin in
+          record { first = omega arith; few = (let few = part.queue.few in let same = ap length (seen_messages v.core.queue v.pin) in omega arith); capacity = omega arith }
 
       is_sender : IsSender (process_again X) (bus_again X x rows) p v
       is_sender = record {
         me = part.me;
         below = subst (λ (l : Layout). p < l.senders) same part.below;
-        extent = λ i. extent_again ((part.layout ∙ same) i) ((led.is.rows p v at ∙ rows_are) i);
+        table_layout = λ i. table_layout_again ((part.layout ∙ same) i) ((led.is.rows p v at ∙ rows_are) i);
         counted = counted;
       }
 
       -- the log has of it what it put, but for what waits
-      sent : (frames : List Frame) → AreFrames x.senders frames → log_words frames ≡ log_below (extent_again x rows) b.words → map (λ (i : Item). i.message) (of_sender p (order_of frames)) ++ waiting_at v.core v.core.phase ≡ puts (T.deeds p)
+      sent : (frames : List Frame) → AreFrames x.senders frames → log_words frames ≡ log_below (table_layout_again x rows) b.words → map (λ (i : Item). i.message) (of_sender p (order_of frames)) ++ waiting_at v.core v.core.phase ≡ puts (T.actions p)
       sent frames lawful words =
           ap (λ fs. map (λ (i : Item). i.message) (of_sender p (order_of fs)) ++ waiting_at v.core v.core.phase) (sym (same_frames frames lawful words))
           ∙ ap (λ o. map (λ (i : Item). i.message) (of_sender p (order_of k.frames)) ++ waiting_of o) (sym old) ∙ sym (k.kept.notes.put p)
@@ -247,15 +247,15 @@ module _ {E : Type 0} (X : Election E) (P : Protocol E (Unit {0}) ℕ) (x : Layo
       plain_here : Plain v.core
       plain_here = (away_of, refl)
 
-      plain_looked : (u : Visit) → v.visit ≡ u → (got : ℕ) → Plain (core_looked X v.core u got)
+      plain_looked : (u : Pin) → v.pin ≡ u → (got : ℕ) → Plain (core_looked X v.core u got)
       plain_looked Away is got = plain_here
-      plain_looked (Entering t) is got = plain_here
-      plain_looked (Looking t) is got =
-          let rests = ((k.kept.guests p v.core old).entering t (inr (ap visit_in at ∙ is))).rests in
+      plain_looked (Announcing t) is got = plain_here
+      plain_looked (Validating t) is got =
+          let rests = ((k.kept.guests p v.core old).announcing t (inr (ap pin_in at ∙ is))).rests in
           plain_if (got / 2 == t) (core_begun X v.core t) v.core (refl, sym (ap is_holding rests)) plain_here
-      plain_looked (Inside t) is got = plain_here
-      plain_looked (Parting t) is got = plain_here
-      plain_looked (Barred t) is got = plain_here
+      plain_looked (Pinned t) is got = plain_here
+      plain_looked (Unpinning t) is got = plain_here
+      plain_looked (Invalidated t) is got = plain_here
 
       abbrev s_of : Due E → ℕ → ℕ → Visitor E
       s_of d got word = visitor_due X v d got word
@@ -285,9 +285,9 @@ module _ {E : Type 0} (X : Election E) (P : Protocol E (Unit {0}) ℕ) (x : Layo
       some_step f (Some q) u e = (q, refl)
 
       ends_due : (d : Due E) → due X v ≡ d → (word : ℕ) (o : Op) → op_due X v d word ≡ Some o → (home : Option Page) (got : ℕ) → EndsBy (process_again X) v (s_of d got word) (after_of d home got word) home (move_due X v d)
-      ends_due (Visits u) e word o op home got = let h = plain_looked v.visit refl got in (refl, h.0, h.1)
-      ends_due (Sweeps r u) e word o op home got = (refl, away_of, refl)
-      ends_due (Goes z) e word o op home got = let is = some_step _ _ o op in ends_going z (due_goes _ v.sweep (situation_of X v.core) z e) word is.0 is.1 home got
+      ends_due (Pins u) e word o op home got = let h = plain_looked v.pin refl got in (refl, h.0, h.1)
+      ends_due (Reclaims r u) e word o op home got = (refl, away_of, refl)
+      ends_due (Goes z) e word o op home got = let is = some_step _ _ o op in ends_going z (due_goes _ v.reclaimer (situation_of X v.core) z e) word is.0 is.1 home got
 
       -- what it adds to stays in range
       sum_fits : (word : ℕ) (o : Op) → op_next X v word ≡ Some o → SumFits o (slice_index b.words (register o))
@@ -295,12 +295,12 @@ module _ {E : Type 0} (X : Election E) (P : Protocol E (Unit {0}) ℕ) (x : Layo
 
       -- a page comes only to a sender that was elected, and finds it at home
       comes_home : (d : Due E) → due X v ≡ d → (word : ℕ) (o : Op) (t : ℕ) → op_due X v d word ≡ Some o → move_due X v d ≡ Comes t → is_some b.home ≡ true
-      comes_home (Visits u) e word o t op is = absurd (let bad : Stays ≡ Comes t = is in let wrong : ⊥ = cc in wrong)
-      comes_home (Sweeps r u) e word o t op is = absurd (let bad : Stays ≡ Comes t = is in let wrong : ⊥ = cc in wrong)
+      comes_home (Pins u) e word o t op is = absurd (let bad : Stays ≡ Comes t = is in let wrong : ⊥ = cc in wrong)
+      comes_home (Reclaims r u) e word o t op is = absurd (let bad : Stays ≡ Comes t = is in let wrong : ⊥ = cc in wrong)
       comes_home (Goes z) e word o t op is =
           let step = some_step _ _ o op in
           let takes = apart.takes_it X v.core z word step.0 t step.1 is in
-          finds_home X P b.layout serves k.V b.home yard.senders led.leads.owners k.frames k.kept.sending p v.core old t (due_goes _ v.sweep (situation_of X v.core) z e ∙ takes)
+          finds_home X P b.layout serves k.V b.home yard.senders led.leads.owners k.frames k.kept.sending p v.core old t (due_goes _ v.reclaimer (situation_of X v.core) z e ∙ takes)
 
       -- ---- a step
       module _ (running : b.stopped ≡ no_stops) (word : ℕ) (o : Op) (op : op_next X v word ≡ Some o) (low : register o < length b.words) where
@@ -320,7 +320,7 @@ module _ {E : Type 0} (X : Election E) (P : Protocol E (Unit {0}) ℕ) (x : Layo
         later = ring_after X b p v (due X v) word
 
         abbrev trails : RingTrails
-        trails = record T { visits = ring_trails b p (due X v) T.visits; sweeps = ring_sweeps b p (due X v) T.sweeps; deeds = ring_deeds X b p v (due X v) word told T.deeds }
+        trails = record T { pins = ring_trails b p (due X v) T.pins; reclaims = ring_reclaims b p (due X v) T.reclaims; actions = ring_actions X b p v (due X v) word told T.actions }
 
         found_is : number_found (slice_index b.words) (op_due X v (due X v) word) ≡ found
         found_is = ap (number_found (slice_index b.words)) op
@@ -328,7 +328,7 @@ module _ {E : Type 0} (X : Election E) (P : Protocol E (Unit {0}) ℕ) (x : Layo
         reaches : RingReached X later trails
         reaches = TurnTaken b T p v word told reached goes on_word (ap (λ n. answer_due X v (due X v) n word) (sym found_is))
 
-        -- its deeds are those of the number that its word had
+        -- its actions are those of the number that its word had
         found_at : (z : Situation E) (q : Option Op) → op_placed (place_for v.core.layout v.rows z) q ≡ Some o → word_found (place_for b.layout b.rows z) (slice_index b.words) q ≡ found
         found_at z None e = absurd (let wrong : ⊥ = cc in wrong)
         found_at z (Some q) e =
@@ -336,47 +336,47 @@ module _ {E : Type 0} (X : Election E) (P : Protocol E (Unit {0}) ℕ) (x : Layo
             let places : place_for b.layout b.rows z ≡ f = λ i. place_for (sym part.layout i) (sym (led.is.rows p v at) i) z in
             ap (λ g. slice_index b.words (g (register q))) places ∙ ap (slice_index b.words) (sym (same_register f q) ∙ ap register (same_Some _ _ e))
 
-        deeds_same : (z : Situation E) → op_due X v (Goes z) word ≡ Some o → (a : Answered) → a ≡ answer_going X v.core z found word → due_deeds X b.layout b.rows (yard_of b None []) v.core (Goes z) word a ≡ (adds_due X v (Goes z) found word).deeds
-        deeds_same z e a is =
+        actions_same : (z : Situation E) → op_due X v (Goes z) word ≡ Some o → (a : Answered) → a ≡ answer_going X v.core z found word → due_actions X b.layout b.rows (yard_of b None []) v.core (Goes z) word a ≡ (adds_due X v (Goes z) found word).actions
+        actions_same z e a is =
             let got = found_at z (op_at X v.core z word) e in
-            (λ i. step_deed (kind_at X v.core z) (tenure_at X v.core z) (got i) (chosen_at X v.core z (got i) word) (is i))
+            (λ i. step_action (kind_at X v.core z) (tenure_at X v.core z) (got i) (chosen_at X v.core z (got i) word) (is i))
 
-        adds_are : (d : Due E) → op_due X v d word ≡ Some o → (a : Answered) → a ≡ answer_due X v d found word → due_deeds X b.layout b.rows (yard_of b None []) v.core d word a ≡ (adds_due X v d found word).deeds
-        adds_are (Visits u) e a is = refl
-        adds_are (Sweeps r u) e a is = refl
-        adds_are (Goes z) e a is = deeds_same z e a is
+        adds_are : (d : Due E) → op_due X v d word ≡ Some o → (a : Answered) → a ≡ answer_due X v d found word → due_actions X b.layout b.rows (yard_of b None []) v.core d word a ≡ (adds_due X v d found word).actions
+        adds_are (Pins u) e a is = refl
+        adds_are (Reclaims r u) e a is = refl
+        adds_are (Goes z) e a is = actions_same z e a is
 
         -- the stage does not fall, and the step is in no tenure whose row has gone on
         rises : stage_of b ≤ stage_of later
         rises = taken_rises X P serves.laws serves.owner_is serves.named serves.announces serves.apart b layout T reached p v goes word on_word
 
-        leaves : (t : ℕ) → HasGoneOn b t → deeds_in t (adds_due X v (due X v) found word).deeds ≡ []
-        leaves t gone = ap (deeds_in t) (sym (adds_are (due X v) op told refl)) ∙ taken_apart X P serves.laws serves.owner_is serves.named serves.announces serves.apart b layout T reached p v goes word t gone told
+        leaves : (t : ℕ) → HasGoneOn b t → actions_in t (adds_due X v (due X v) found word).actions ≡ []
+        leaves t gone = ap (actions_in t) (sym (adds_are (due X v) op told refl)) ∙ taken_apart X P serves.laws serves.owner_is serves.named serves.announces serves.apart b layout T reached p v goes word t gone told
 
         -- what it did, with a step that is due
-        abbrev track_with : (d : Due E) → Answered → ℕ → Track
-        track_with d a q = record {
-          deeds = ring_deeds X b p v d word a T.deeds q;
-          visits = ring_trails b p d T.visits q;
-          sweeps = ring_sweeps b p d T.sweeps q;
+        abbrev sender_trail_with : (d : Due E) → Answered → ℕ → SenderTrail
+        sender_trail_with d a q = record {
+          actions = ring_actions X b p v d word a T.actions q;
+          pins = ring_trails b p d T.pins q;
+          reclaims = ring_reclaims b p d T.reclaims q;
         }
 
         -- of the step, with the number that its word had, and of nobody else
-        own_track : (d : Due E) → op_due X v d word ≡ Some o → (a : Answered) → a ≡ answer_due X v d found word → track_with d a p ≡ with_track (record { deeds = T.deeds p; visits = T.visits p; sweeps = T.sweeps p }) (adds_due X v d found word)
-        own_track (Visits u) e a is = λ i. record { deeds = own_deeds p [] T.deeds i; visits = (own_grown p (record { op = u; got = slice_index b.words (register u) }) T.visits ∙ ap (λ n. T.visits p ++ record { op = u; got = n } ∷ []) (ap (λ w. slice_index b.words (register w)) (same_Some _ _ e))) i; sweeps = sym (append-nil (T.sweeps p)) i }
-        own_track (Sweeps r u) e a is = λ i. record { deeds = own_deeds p [] T.deeds i; visits = sym (append-nil (T.visits p)) i; sweeps = (own_grown p (record { op = u; got = slice_index b.words (register u) }) T.sweeps ∙ ap (λ n. T.sweeps p ++ record { op = u; got = n } ∷ []) (ap (λ w. slice_index b.words (register w)) (same_Some _ _ e))) i }
-        own_track (Goes z) e a is = λ i. record { deeds = (own_deeds p (due_deeds X b.layout b.rows (yard_of b None []) v.core (Goes z) word a) T.deeds ∙ ap (λ l. T.deeds p ++ l) (deeds_same z e a is)) i; visits = sym (append-nil (T.visits p)) i; sweeps = sym (append-nil (T.sweeps p)) i }
+        own_sender_trail : (d : Due E) → op_due X v d word ≡ Some o → (a : Answered) → a ≡ answer_due X v d found word → sender_trail_with d a p ≡ with_sender_trail (record { actions = T.actions p; pins = T.pins p; reclaims = T.reclaims p }) (adds_due X v d found word)
+        own_sender_trail (Pins u) e a is = λ i. record { actions = own_actions p [] T.actions i; pins = (own_grown p (record { op = u; got = slice_index b.words (register u) }) T.pins ∙ ap (λ n. T.pins p ++ record { op = u; got = n } ∷ []) (ap (λ w. slice_index b.words (register w)) (same_Some _ _ e))) i; reclaims = sym (append-nil (T.reclaims p)) i }
+        own_sender_trail (Reclaims r u) e a is = λ i. record { actions = own_actions p [] T.actions i; pins = sym (append-nil (T.pins p)) i; reclaims = (own_grown p (record { op = u; got = slice_index b.words (register u) }) T.reclaims ∙ ap (λ n. T.reclaims p ++ record { op = u; got = n } ∷ []) (ap (λ w. slice_index b.words (register w)) (same_Some _ _ e))) i }
+        own_sender_trail (Goes z) e a is = λ i. record { actions = (own_actions p (due_actions X b.layout b.rows (yard_of b None []) v.core (Goes z) word a) T.actions ∙ ap (λ l. T.actions p ++ l) (actions_same z e a is)) i; pins = sym (append-nil (T.pins p)) i; reclaims = sym (append-nil (T.reclaims p)) i }
 
-        other_track : (d : Due E) (a : Answered) (q : ℕ) → q ≢ p → track_with d a q ≡ record { deeds = T.deeds q; visits = T.visits q; sweeps = T.sweeps q }
-        other_track (Visits u) a q ne = λ i. record { deeds = other_deeds p [] T.deeds q ne i; visits = other_grown p (record { op = u; got = slice_index b.words (register u) }) T.visits q ne i; sweeps = T.sweeps q }
-        other_track (Sweeps r u) a q ne = λ i. record { deeds = other_deeds p [] T.deeds q ne i; visits = T.visits q; sweeps = other_grown p (record { op = u; got = slice_index b.words (register u) }) T.sweeps q ne i }
-        other_track (Goes z) a q ne = λ i. record { deeds = other_deeds p (due_deeds X b.layout b.rows (yard_of b None []) v.core (Goes z) word a) T.deeds q ne i; visits = T.visits q; sweeps = T.sweeps q }
+        other_sender_trail : (d : Due E) (a : Answered) (q : ℕ) → q ≢ p → sender_trail_with d a q ≡ record { actions = T.actions q; pins = T.pins q; reclaims = T.reclaims q }
+        other_sender_trail (Pins u) a q ne = λ i. record { actions = other_actions p [] T.actions q ne i; pins = other_grown p (record { op = u; got = slice_index b.words (register u) }) T.pins q ne i; reclaims = T.reclaims q }
+        other_sender_trail (Reclaims r u) a q ne = λ i. record { actions = other_actions p [] T.actions q ne i; pins = T.pins q; reclaims = other_grown p (record { op = u; got = slice_index b.words (register u) }) T.reclaims q ne i }
+        other_sender_trail (Goes z) a q ne = λ i. record { actions = other_actions p (due_actions X b.layout b.rows (yard_of b None []) v.core (Goes z) word a) T.actions q ne i; pins = T.pins q; reclaims = T.reclaims q }
 
         here_now : slice_get later.guests p ≡ Some (after_of (due X v) b.home found word)
         here_now = get_set_same b.guests p _ (slice_get_within b.guests p v at) ∙ ap (λ n. Some (after_of (due X v) b.home n word)) found_is
 
         -- the log goes on
-        prefix : IsPrefix (log_below (extent_again x rows) b.words) (log_below (extent_again x rows) later.words)
+        prefix : IsPrefix (log_below (table_layout_again x rows) b.words) (log_below (table_layout_again x rows) later.words)
         prefix =
             let z : CyclicBus E = record { ring = b; owners = last_of b.rows led.leads.owners } in
             let l : LeadTo X z T = record { reached = reached; owners = record { all = led.leads.owners; takers = fits.takers_are X P serves.laws serves.owner_is serves.named serves.announces serves.apart b layout T led; last_are = refl } } in
@@ -389,15 +389,15 @@ module _ {E : Type 0} (X : Election E) (P : Protocol E (Unit {0}) ℕ) (x : Layo
         goes_here : guest_going b p ≡ Some v
         goes_here = all_go b running p ∙ at
 
-        with_batch : (w : Visitor E) (ds : List Deed) → RingReached X (with_guest b p w) (record T { deeds = deeds_with p ds T.deeds }) → AcceptsIn (bus_again X x rows) (record { ring = b; trails = T }) p w ds
+        with_batch : (w : Visitor E) (ds : List Action) → RingReached X (with_guest b p w) (record T { actions = actions_with p ds T.actions }) → AcceptsIn (bus_again X x rows) (record { ring = b; trails = T }) p w ds
         with_batch w ds r = record {
-          state = record { ring = with_guest b p w; trails = record T { deeds = deeds_with p ds T.deeds } };
+          state = record { ring = with_guest b p w; trails = record T { actions = actions_with p ds T.actions } };
           changes = record {
             reached = record { served = ok; rows_some = two; layout = same; rows_are = rows_are; reached = r; alone = alone; running = running };
             here = get_set_same b.guests p w (slice_get_within b.guests p v at);
             others = λ q ne. get_set_other b.guests p w q ne;
-            track = λ i. record { deeds = own_deeds p ds T.deeds i; visits = T.visits p; sweeps = T.sweeps p };
-            nothing_else = λ q ne. (λ i. record { deeds = other_deeds p ds T.deeds q ne i; visits = T.visits q; sweeps = T.sweeps q });
+            sender_trail = λ i. record { actions = own_actions p ds T.actions i; pins = T.pins p; reclaims = T.reclaims p };
+            nothing_else = λ q ne. (λ i. record { actions = other_actions p ds T.actions q ne i; pins = T.pins q; reclaims = T.reclaims q });
           };
           words = refl;
           home = refl;
@@ -409,15 +409,15 @@ module _ {E : Type 0} (X : Election E) (P : Protocol E (Unit {0}) ℕ) (x : Layo
         abbrev with_close : Visitor E
         with_close = record v { core = record v.core { queue = record v.core.queue { phase = Closing } } }
 
-        takes_message : (bytes : List ℕ) → CanPut (queue_seen v.core.queue v.visit) (length bytes) → All (λ byte. byte < 256) bytes → AcceptsIn (bus_again X x rows) (record { ring = b; trails = T }) p (with_message bytes) (HasPut (next_of (queue_seen v.core.queue v.visit)) bytes ∷ [])
-        takes_message bytes can small = with_batch (with_message bytes) (HasPut (next_of (queue_seen v.core.queue v.visit)) bytes ∷ [])
-            (subst (λ n. RingReached X (with_guest b p (with_message bytes)) (record T { deeds = deeds_with p (HasPut n bytes ∷ []) T.deeds })) (sym (next_seen v.core.queue v.visit))
-            (subst (λ t. RingReached X (with_guest b p (cond t (with_message bytes) v)) (record T { deeds = deeds_with p (cond t (HasPut (next_of v.core.queue) bytes ∷ []) []) T.deeds })) (events.put_taken (queue_seen v.core.queue v.visit) (length bytes) can)
+        takes_message : (bytes : List ℕ) → CanPut (queue_seen v.core.queue v.pin) (length bytes) → All (λ byte. byte < 256) bytes → AcceptsIn (bus_again X x rows) (record { ring = b; trails = T }) p (with_message bytes) (HasPut (next_of (queue_seen v.core.queue v.pin)) bytes ∷ [])
+        takes_message bytes can small = with_batch (with_message bytes) (HasPut (next_of (queue_seen v.core.queue v.pin)) bytes ∷ [])
+            (subst (λ n. RingReached X (with_guest b p (with_message bytes)) (record T { actions = actions_with p (HasPut n bytes ∷ []) T.actions })) (sym (next_seen v.core.queue v.pin))
+            (subst (λ t. RingReached X (with_guest b p (cond t (with_message bytes) v)) (record T { actions = actions_with p (cond t (HasPut (next_of v.core.queue) bytes ∷ []) []) T.actions })) (events.put_taken (queue_seen v.core.queue v.pin) (length bytes) can)
             (PutTaken b T p v bytes reached goes_here small)))
 
-        takes_close : CanClose (queue_seen v.core.queue v.visit) → AcceptsIn (bus_again X x rows) (record { ring = b; trails = T }) p with_close (HasClosed ∷ [])
+        takes_close : CanClose (queue_seen v.core.queue v.pin) → AcceptsIn (bus_again X x rows) (record { ring = b; trails = T }) p with_close (HasClosed ∷ [])
         takes_close can = with_batch with_close (HasClosed ∷ [])
-            (subst (λ t. RingReached X (with_guest b p (cond t with_close v)) (record T { deeds = deeds_with p (cond t (HasClosed ∷ []) []) T.deeds })) (close_can (queue_seen v.core.queue v.visit) can)
+            (subst (λ t. RingReached X (with_guest b p (cond t with_close v)) (record T { actions = actions_with p (cond t (HasClosed ∷ []) []) T.actions })) (close_can (queue_seen v.core.queue v.pin) can)
             (CloseTaken b T p v reached goes_here))
 
     has_log : HasLog (bus_again X x rows) (record { ring = b; trails = T })
@@ -425,11 +425,11 @@ module _ {E : Type 0} (X : Election E) (P : Protocol E (Unit {0}) ℕ) (x : Layo
 
     promised : IsPromisedOf (bus_again X x rows) (record { ring = b; trails = T })
     promised =
-        let q = yard_promised X P serves.laws b.layout layout.ok layout.width layout.starts serves.owner_is serves.named serves.announces serves.apart b.rows layout.two yard T.visits T.deeds T.heard led.leads.led in record {
+        let q = yard_promised X P serves.laws b.layout layout.ok layout.width layout.starts serves.owner_is serves.named serves.announces serves.apart b.rows layout.two yard T.pins T.actions T.heard led.leads.led in record {
           order = q.order;
           owners = q.owners;
           spelled = subst (λ (s : ℕ × List ℕ). Spells s.0 s.1 q.order q.owners) (λ i. ((same i).senders, log_below (sizes_are i) b.words)) q.by.spelled;
-          promises = silent_page T.deeds T.heard q.order q.owners q.by.promises;
+          promises = silent_page T.actions T.heard q.order q.owners q.by.promises;
         }
 
     -- who is none of its senders is not there
@@ -444,7 +444,7 @@ module _ {E : Type 0} (X : Election E) (P : Protocol E (Unit {0}) ℕ) (x : Layo
     abbrev T : RingTrails
     T = z.trails
 
-    module _ (p : ℕ) (v : Visitor E) (at : slice_get b.guests p ≡ Some v) (word : ℕ) (o : Op) (op : op_next X v word ≡ Some o) (low : register o < (extent_again x rows).words) where
+    module _ (p : ℕ) (v : Visitor E) (at : slice_get b.guests p ≡ Some v) (word : ℕ) (o : Op) (op : op_next X v word ≡ Some o) (low : register o < (table_layout_again x rows).words) where
       low_here : register o < length b.words
       low_here = let w = wide b T h.served h.rows_some h.layout h.rows_are h.reached in omega arith
 
@@ -469,8 +469,8 @@ module _ {E : Type 0} (X : Election E) (P : Protocol E (Unit {0}) ℕ) (x : Layo
               reached = record { served = h.served; rows_some = h.rows_some; layout = h.layout; rows_are = h.rows_are; reached = next_reached; alone = h.alone; running = h.running };
               here = here_now b T h.served h.rows_some h.layout h.rows_are h.reached p v at h.running word o op low_here;
               others = λ q ne. get_set_other b.guests p _ q ne;
-              track = own_track b T h.served h.rows_some h.layout h.rows_are h.reached p v at h.running word o op low_here (due X v) op _ refl;
-              nothing_else = λ q ne. other_track b T h.served h.rows_some h.layout h.rows_are h.reached p v at h.running word o op low_here (due X v) _ q ne;
+              sender_trail = own_sender_trail b T h.served h.rows_some h.layout h.rows_are h.reached p v at h.running word o op low_here (due X v) op _ refl;
+              nothing_else = λ q ne. other_sender_trail b T h.served h.rows_some h.layout h.rows_are h.reached p v at h.running word o op low_here (due X v) _ q ne;
             };
             words = ap (words_after b.words) op;
             home = refl;
@@ -480,22 +480,22 @@ module _ {E : Type 0} (X : Election E) (P : Protocol E (Unit {0}) ℕ) (x : Layo
       pub stage_rises : slice_index b.words 1 ≤ slice_index (words_after b.words (Some o)) 1
       stage_rises = subst (λ (q : Option Op). slice_index b.words 1 ≤ slice_index (words_after b.words q) 1) op (rises b T h.served h.rows_some h.layout h.rows_are h.reached p v at h.running word o op low_here)
 
-      pub leaves_past : (t : ℕ) → t + rows ≤ slice_index b.words 1 / 2 → deeds_in t (adds_due X v (due X v) (slice_index b.words (register o)) word).deeds ≡ []
+      pub leaves_past : (t : ℕ) → t + rows ≤ slice_index b.words 1 / 2 → actions_in t (adds_due X v (due X v) (slice_index b.words (register o)) word).actions ≡ []
       leaves_past t gone = leaves b T h.served h.rows_some h.layout h.rows_are h.reached p v at h.running word o op low_here t (subst (λ n. t + n ≤ slice_index b.words 1 / 2) (sym h.rows_are) gone)
 
   -- who is none of its senders does nothing
-  nobody_did : (b : Ring E) (T : RingTrails) → IsLayout x → 2 ≤ rows → b.layout ≡ x → b.rows ≡ rows → RingReached X b T → (q : ℕ) → x.senders ≤ q → T.deeds q ≡ []
+  nobody_did : (b : Ring E) (T : RingTrails) → IsLayout x → 2 ≤ rows → b.layout ≡ x → b.rows ≡ rows → RingReached X b T → (q : ℕ) → x.senders ≤ q → T.actions q ≡ []
   nobody_did b T ok two same rows_are (NewRing w new) q past = refl
-  nobody_did b T ok two same rows_are (TurnTaken w U s v word answer before there low _) q past = other_deeds s _ U.deeds q (λ e. no_guest w U ok two same rows_are before q past v (ap (slice_get w.guests) e ∙ there_shown _ _ v there)) ∙ nobody_did w U ok two same rows_are before q past
-  nobody_did b T ok two same rows_are (PutTaken w U s v bytes before goes small) q past = other_deeds s _ U.deeds q (λ e. no_guest w U ok two same rows_are before q past v (ap (slice_get w.guests) e ∙ there_shown _ _ v goes)) ∙ nobody_did w U ok two same rows_are before q past
-  nobody_did b T ok two same rows_are (CloseTaken w U s v before goes) q past = other_deeds s _ U.deeds q (λ e. no_guest w U ok two same rows_are before q past v (ap (slice_get w.guests) e ∙ there_shown _ _ v goes)) ∙ nobody_did w U ok two same rows_are before q past
+  nobody_did b T ok two same rows_are (TurnTaken w U s v word answer before there low _) q past = other_actions s _ U.actions q (λ e. no_guest w U ok two same rows_are before q past v (ap (slice_get w.guests) e ∙ there_shown _ _ v there)) ∙ nobody_did w U ok two same rows_are before q past
+  nobody_did b T ok two same rows_are (PutTaken w U s v bytes before goes small) q past = other_actions s _ U.actions q (λ e. no_guest w U ok two same rows_are before q past v (ap (slice_get w.guests) e ∙ there_shown _ _ v goes)) ∙ nobody_did w U ok two same rows_are before q past
+  nobody_did b T ok two same rows_are (CloseTaken w U s v before goes) q past = other_actions s _ U.actions q (λ e. no_guest w U ok two same rows_are before q past v (ap (slice_get w.guests) e ∙ there_shown _ _ v goes)) ∙ nobody_did w U ok two same rows_are before q past
   nobody_did b T ok two same rows_are (RecvTaken w U r v next answer before at does) q past = nobody_did w U ok two same rows_are before q past
   nobody_did b T ok two same rows_are (StopTaken w U s v before _) q past = nobody_did w U ok two same rows_are before q past
 
-  pub shown_is_safe : (s : State (Option Page) (View (Visitor E))) → (r : IsShown (process_again X) (bus_again X x rows) s) → IsKeptRing X r.state.ring r.state.trails
+  pub shown_is_safe : (s : State (Option Page) (View (Visitor E))) → (r : TableInvariant (process_again X) (bus_again X x rows) s) → IsKeptRing X r.state.ring r.state.trails
   shown_is_safe s r = safe r.state.ring r.state.trails r.reached.served r.reached.rows_some r.reached.layout r.reached.rows_are r.reached.reached
 
-  pub shown_losses_are_seen : (s : State (Option Page) (View (Visitor E))) → (r : IsShown (process_again X) (bus_again X x rows) s) → LossesAreSeen r.state.ring r.state.trails.deeds
+  pub shown_losses_are_seen : (s : State (Option Page) (View (Visitor E))) → (r : TableInvariant (process_again X) (bus_again X x rows) s) → LossesAreSeen r.state.ring r.state.trails.actions
   shown_losses_are_seen s r = losses r.state.ring r.state.trails r.reached.served r.reached.rows_some r.reached.layout r.reached.rows_are r.reached.reached
 
   pub automaton_laws : AutomatonLaws (process_again X) (bus_again X x rows)
@@ -503,7 +503,7 @@ module _ {E : Type 0} (X : Election E) (P : Protocol E (Unit {0}) ℕ) (x : Layo
     room = omega arith;
     behind = omega arith;
     started_me = λ p. refl;
-    started_extent = λ p. refl;
+    started_table_layout = λ p. refl;
     started_next = λ p. refl;
     started_away = λ p. refl;
     wide = λ z h. wide z.ring z.trails h.served h.rows_some h.layout h.rows_are h.reached;
@@ -544,7 +544,7 @@ none_here v e = absurd (let wrong : ⊥ = cc in wrong)
 
 pub opens_again : {E : Type 0} (X : Election E) (x : Layout) (rows : ℕ) → IsLayout x → 2 ≤ rows → Opens (process_again X) (bus_again X x rows)
 opens_again {E} X x rows ok two =
-    let ring : Ring E = record { layout = x; rows = rows; words = replicate (extent_again x rows).words 0; home = Some new_page; guests = guests x rows x.senders; receivers = []; stopped = no_stops } in
+    let ring : Ring E = record { layout = x; rows = rows; words = replicate (table_layout_again x rows).words 0; home = Some new_page; guests = guests x rows x.senders; receivers = []; stopped = no_stops } in
     record {
       state = record { ring = ring; trails = no_ring_trails };
       reached = record {
@@ -559,6 +559,6 @@ opens_again {E} X x rows ok two =
       words = refl;
       home = refl;
       senders = λ p below. guests_has {E = E} x rows x.senders p below;
-      track = λ p. refl;
+      sender_trail = λ p. refl;
       counted = λ p. let few = ok.capacity in record { first = omega arith; few = omega arith; capacity = few };
     }

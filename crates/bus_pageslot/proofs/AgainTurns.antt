@@ -9,13 +9,13 @@ use Rattle.bus_register.specs.Protocol.{Protocol, Laws}
 use Rattle.bus_batch.specs.Batches.{Pending}
 use Rattle.bus_batch.specs.declared.batches.Phase.TheVariants.{Closing}
 use Rattle.bus_ownerbits.specs.OneOwner.{OneOwner}
-use Rattle.bus_presence.specs.Sweeps.{Sweeping, sweep_op, sweep_fed, behind_of}
-use Rattle.bus_presence.specs.Visits.{step_at, visit_fed}
-use Rattle.bus_presence.specs.declared.sweeps.Behind.{Behind}
-use Rattle.bus_presence.specs.declared.visits.Visit.{Visit}
-use Rattle.bus_presence.specs.declared.visits.Visit.TheVariants.{Away, Entering, Looking, Inside, Parting, Barred}
-use Rattle.bus_guest.specs.Guests.{Due, Visits, Sweeps, Goes, sweep_due, due_swept, due_home, due_beside, core_looked, visit_elected, lost_elected}
-use Rattle.bus_guest.specs.Turns.{Visitor, due, op_placed, op_due, visitor_due, answer_due, kind_due, kind_of_visit, answer_of_visit, answer_of_sweep, rest_due, queue_seen}
+use Rattle.bus_presence.specs.Reclaimers.{Reclaiming, reclaim_op, reclaim_fed, behind_of}
+use Rattle.bus_presence.specs.Pins.{step_at, pin_fed}
+use Rattle.bus_presence.specs.declared.reclaimers.Behind.{Behind}
+use Rattle.bus_presence.specs.declared.pins.Pin.{Pin}
+use Rattle.bus_presence.specs.declared.pins.Pin.TheVariants.{Away, Announcing, Validating, Pinned, Unpinning, Invalidated}
+use Rattle.bus_guest.specs.Guests.{Due, Pins, Reclaims, Goes, reclaim_due, due_reclaimed, due_home, due_beside, core_looked, pin_elected, lost_elected}
+use Rattle.bus_guest.specs.Turns.{Visitor, due, op_placed, op_due, visitor_due, answer_due, kind_due, kind_of_pin, answer_of_pin, answer_of_reclaim, rest_due, queue_seen}
 use Rattle.bus_tenure.specs.Core.{Core, Election}
 use Rattle.bus_tenure.specs.Situations.{Situation, IsClosed, IsIdle, IsSpent, LooksAtStage, Elects, TakesPage, AwaitsPage, StoresWord, StoresLength, GivesBack, HasHanded, Stays, situation_of, op_at, kind_at, tenure_at, chosen_at, core_begun, core_elected, waits}
 use Rattle.bus_tenure.specs.declared.pages.Page.{Page}
@@ -27,44 +27,44 @@ use Rattle.bus_world.specs.Turning.{after_step, before_step}
 use Rattle.bus_world.proofs.RingLaws.{due_goes}
 use Rattle.bus_pageslot.specs.Lawful.{ProcessLaws, IsOneStep}
 use Rattle.bus_pageslot.specs.RowsApart.{is_holding}
-use Rattle.bus_pageslot.specs.RowsAgain.{extent_again, process_again, adds_due}
+use Rattle.bus_pageslot.specs.RowsAgain.{table_layout_again, process_again, adds_due}
 use Rattle.bus_pageslot.specs.Sendings.{is_refusal}
 use Rattle.bus_pageslot.specs.Steps.{page_given}
 use Rattle.bus_pageslot.specs.Turns.{is_last}
 use Rattle.bus_pageslot.proofs.ApartTurns as apart
 
 -- ---- its batch
-seen_message : (q : Pending) (u : Visit) (ms : List (List ℕ)) → queue_seen (record q { messages = ms }) u ≡ record (queue_seen q u) { messages = ms }
+seen_message : (q : Pending) (u : Pin) (ms : List (List ℕ)) → queue_seen (record q { messages = ms }) u ≡ record (queue_seen q u) { messages = ms }
 seen_message q Away ms = refl
-seen_message q (Entering t) ms = refl
-seen_message q (Looking t) ms = refl
-seen_message q (Inside t) ms = refl
-seen_message q (Parting t) ms = refl
-seen_message q (Barred t) ms = refl
+seen_message q (Announcing t) ms = refl
+seen_message q (Validating t) ms = refl
+seen_message q (Pinned t) ms = refl
+seen_message q (Unpinning t) ms = refl
+seen_message q (Invalidated t) ms = refl
 
-pub seen_messages : (q : Pending) (u : Visit) → (queue_seen q u).messages ≡ q.messages
+pub seen_messages : (q : Pending) (u : Pin) → (queue_seen q u).messages ≡ q.messages
 seen_messages q Away = refl
-seen_messages q (Entering t) = refl
-seen_messages q (Looking t) = refl
-seen_messages q (Inside t) = refl
-seen_messages q (Parting t) = refl
-seen_messages q (Barred t) = refl
+seen_messages q (Announcing t) = refl
+seen_messages q (Validating t) = refl
+seen_messages q (Pinned t) = refl
+seen_messages q (Unpinning t) = refl
+seen_messages q (Invalidated t) = refl
 
-pub seen_first : (q : Pending) (u : Visit) → (queue_seen q u).first ≡ q.first
+pub seen_first : (q : Pending) (u : Pin) → (queue_seen q u).first ≡ q.first
 seen_first q Away = refl
-seen_first q (Entering t) = refl
-seen_first q (Looking t) = refl
-seen_first q (Inside t) = refl
-seen_first q (Parting t) = refl
-seen_first q (Barred t) = refl
+seen_first q (Announcing t) = refl
+seen_first q (Validating t) = refl
+seen_first q (Pinned t) = refl
+seen_first q (Unpinning t) = refl
+seen_first q (Invalidated t) = refl
 
-seen_closing : (q : Pending) (u : Visit) → queue_seen (record q { phase = Closing }) u ≡ record (queue_seen q u) { phase = Closing }
+seen_closing : (q : Pending) (u : Pin) → queue_seen (record q { phase = Closing }) u ≡ record (queue_seen q u) { phase = Closing }
 seen_closing q Away = refl
-seen_closing q (Entering t) = refl
-seen_closing q (Looking t) = refl
-seen_closing q (Inside t) = refl
-seen_closing q (Parting t) = refl
-seen_closing q (Barred t) = refl
+seen_closing q (Announcing t) = refl
+seen_closing q (Validating t) = refl
+seen_closing q (Pinned t) = refl
+seen_closing q (Unpinning t) = refl
+seen_closing q (Invalidated t) = refl
 
 -- ---- a store does not look at what it found
 Stores : Op → ℕ → ℕ → Type 0
@@ -73,36 +73,36 @@ Stores o r n = o ≡ Store record { 0 = r } n
 load_stores : (at r n : ℕ) → Load record { 0 = at } ≡ Store record { 0 = r } n → ⊥
 load_stores at r n e = cc
 
-visit_blind : (v : Visit) (word stage r n : ℕ) → step_at v word stage ≡ Some (Store record { 0 = r } n) → (got got' : ℕ) → visit_fed v got ≡ visit_fed v got'
-visit_blind Away word stage r n e got got' = refl
-visit_blind (Entering t) word stage r n e got got' = refl
-visit_blind (Looking t) word stage r n e got got' = absurd (load_stores stage r n (same_Some _ _ e))
-visit_blind (Inside t) word stage r n e got got' = refl
-visit_blind (Parting t) word stage r n e got got' = refl
-visit_blind (Barred t) word stage r n e got got' = refl
+pin_blind : (v : Pin) (word stage r n : ℕ) → step_at v word stage ≡ Some (Store record { 0 = r } n) → (got got' : ℕ) → pin_fed v got ≡ pin_fed v got'
+pin_blind Away word stage r n e got got' = refl
+pin_blind (Announcing t) word stage r n e got got' = refl
+pin_blind (Validating t) word stage r n e got got' = absurd (load_stores stage r n (same_Some _ _ e))
+pin_blind (Pinned t) word stage r n e got got' = refl
+pin_blind (Unpinning t) word stage r n e got got' = refl
+pin_blind (Invalidated t) word stage r n e got got' = refl
 
-looked_blind : {E : Type 0} (X : Election E) (c : Core E) (v : Visit) (word stage r n : ℕ) → step_at v word stage ≡ Some (Store record { 0 = r } n) → (got got' : ℕ) → core_looked X c v got ≡ core_looked X c v got'
+looked_blind : {E : Type 0} (X : Election E) (c : Core E) (v : Pin) (word stage r n : ℕ) → step_at v word stage ≡ Some (Store record { 0 = r } n) → (got got' : ℕ) → core_looked X c v got ≡ core_looked X c v got'
 looked_blind X c Away word stage r n e got got' = refl
-looked_blind X c (Entering t) word stage r n e got got' = refl
-looked_blind X c (Looking t) word stage r n e got got' = absurd (load_stores stage r n (same_Some _ _ e))
-looked_blind X c (Inside t) word stage r n e got got' = refl
-looked_blind X c (Parting t) word stage r n e got got' = refl
-looked_blind X c (Barred t) word stage r n e got got' = refl
+looked_blind X c (Announcing t) word stage r n e got got' = refl
+looked_blind X c (Validating t) word stage r n e got got' = absurd (load_stores stage r n (same_Some _ _ e))
+looked_blind X c (Pinned t) word stage r n e got got' = refl
+looked_blind X c (Unpinning t) word stage r n e got got' = refl
+looked_blind X c (Invalidated t) word stage r n e got got' = refl
 
-sweep_blind : (s : Sweeping) (r n : ℕ) → sweep_op s ≡ Some (Store record { 0 = r } n) → (got got' : ℕ) → sweep_fed s got ≡ sweep_fed s got'
-sweep_blind s r n e got got' = by_tests (nat_lt s.asked s.senders) (nat_lt s.cleared s.width) e
+reclaimer_blind : (s : Reclaiming) (r n : ℕ) → reclaim_op s ≡ Some (Store record { 0 = r } n) → (got got' : ℕ) → reclaim_fed s got ≡ reclaim_fed s got'
+reclaimer_blind s r n e got got' = by_tests (nat_lt s.scanned s.senders) (nat_lt s.cleared s.width) e
   where
-    by_tests : (a c : Bool) → cond a (Some (Load record { 0 = s.presences + s.asked })) (cond c (Some (Store record { 0 = s.row + s.cleared } 0)) None) ≡ Some (Store record { 0 = r } n)
-        → cond a (cond (got == 1 + s.past) s (record s { asked = s.asked + 1 })) (cond c (record s { cleared = s.cleared + 1 }) s) ≡ cond a (cond (got' == 1 + s.past) s (record s { asked = s.asked + 1 })) (cond c (record s { cleared = s.cleared + 1 }) s)
-    by_tests true c e = absurd (load_stores (s.presences + s.asked) r n (same_Some _ _ e))
+    by_tests : (a c : Bool) → cond a (Some (Load record { 0 = s.presences + s.scanned })) (cond c (Some (Store record { 0 = s.row + s.cleared } 0)) None) ≡ Some (Store record { 0 = r } n)
+        → cond a (cond (got == 1 + s.past) s (record s { scanned = s.scanned + 1 })) (cond c (record s { cleared = s.cleared + 1 }) s) ≡ cond a (cond (got' == 1 + s.past) s (record s { scanned = s.scanned + 1 })) (cond c (record s { cleared = s.cleared + 1 }) s)
+    by_tests true c e = absurd (load_stores (s.presences + s.scanned) r n (same_Some _ _ e))
     by_tests false c e = refl
 
-sweep_mute : (s : Sweeping) (r n : ℕ) → sweep_op s ≡ Some (Store record { 0 = r } n) → (got got' : ℕ) → answer_of_sweep (behind_of s got) ≡ answer_of_sweep (behind_of s got')
-sweep_mute s r n e got got' = by_tests (nat_lt s.asked s.senders) (nat_lt s.cleared s.width) e
+reclaimer_mute : (s : Reclaiming) (r n : ℕ) → reclaim_op s ≡ Some (Store record { 0 = r } n) → (got got' : ℕ) → answer_of_reclaim (behind_of s got) ≡ answer_of_reclaim (behind_of s got')
+reclaimer_mute s r n e got got' = by_tests (nat_lt s.scanned s.senders) (nat_lt s.cleared s.width) e
   where
-    by_tests : (a c : Bool) → cond a (Some (Load record { 0 = s.presences + s.asked })) (cond c (Some (Store record { 0 = s.row + s.cleared } 0)) None) ≡ Some (Store record { 0 = r } n)
-        → answer_of_sweep (cond (a && (got == 1 + s.past)) (Some record { tenure = s.past; sender = s.asked }) None) ≡ answer_of_sweep (cond (a && (got' == 1 + s.past)) (Some record { tenure = s.past; sender = s.asked }) None)
-    by_tests true c e = absurd (load_stores (s.presences + s.asked) r n (same_Some _ _ e))
+    by_tests : (a c : Bool) → cond a (Some (Load record { 0 = s.presences + s.scanned })) (cond c (Some (Store record { 0 = s.row + s.cleared } 0)) None) ≡ Some (Store record { 0 = r } n)
+        → answer_of_reclaim (cond (a && (got == 1 + s.past)) (Some record { tenure = s.past; sender = s.scanned }) None) ≡ answer_of_reclaim (cond (a && (got' == 1 + s.past)) (Some record { tenure = s.past; sender = s.scanned }) None)
+    by_tests true c e = absurd (load_stores (s.presences + s.scanned) r n (same_Some _ _ e))
     by_tests false c e = refl
 
 -- a step that is a store where it lies is one where it would lie
@@ -118,31 +118,31 @@ placed_some f None u e = absurd (let wrong : ⊥ = cc in wrong)
 placed_some f (Some p) u e = (p, refl)
 
 -- ---- what is due
-due_visits : {E : Type 0} (d : Option Op) (s : Option Sweeping) (z : Situation E) (o : Op) → due_beside d s z ≡ Visits o → d ≡ Some o
-due_visits (Some p) s z o e = ap Some (let same : p ≡ o = cc in same)
-due_visits None s z o e = absurd (by_sweep (sweep_due z s) e)
+due_pins : {E : Type 0} (d : Option Op) (s : Option Reclaiming) (z : Situation E) (o : Op) → due_beside d s z ≡ Pins o → d ≡ Some o
+due_pins (Some p) s z o e = ap Some (let same : p ≡ o = cc in same)
+due_pins None s z o e = absurd (by_reclaimer (reclaim_due z s) e)
   where
-    by_step : {E : Type 0} (r : Sweeping) (d : Option Op) (z : Situation E) → due_swept r d z ≡ Visits o → ⊥
+    by_step : {E : Type 0} (r : Reclaiming) (d : Option Op) (z : Situation E) → due_reclaimed r d z ≡ Pins o → ⊥
     by_step r None z e = cc
     by_step r (Some p) z e = cc
 
-    by_sweep : (r : Option Sweeping) → due_home r z ≡ Visits o → ⊥
-    by_sweep None e = cc
-    by_sweep (Some r) e = by_step r (sweep_op r) z e
+    by_reclaimer : (r : Option Reclaiming) → due_home r z ≡ Pins o → ⊥
+    by_reclaimer None e = cc
+    by_reclaimer (Some r) e = by_step r (reclaim_op r) z e
 
-due_sweeps : {E : Type 0} (d : Option Op) (s : Option Sweeping) (z : Situation E) (r : Sweeping) (o : Op) → due_beside d s z ≡ Sweeps r o → sweep_op r ≡ Some o
-due_sweeps (Some p) s z r o e = absurd (let wrong : ⊥ = cc in wrong)
-due_sweeps None s z r o e = by_sweep (sweep_due z s) e
+due_reclaims : {E : Type 0} (d : Option Op) (s : Option Reclaiming) (z : Situation E) (r : Reclaiming) (o : Op) → due_beside d s z ≡ Reclaims r o → reclaim_op r ≡ Some o
+due_reclaims (Some p) s z r o e = absurd (let wrong : ⊥ = cc in wrong)
+due_reclaims None s z r o e = by_reclaimer (reclaim_due z s) e
   where
-    by_step : (w : Sweeping) (d : Option Op) → sweep_op w ≡ d → due_swept w d z ≡ Sweeps r o → sweep_op r ≡ Some o
+    by_step : (w : Reclaiming) (d : Option Op) → reclaim_op w ≡ d → due_reclaimed w d z ≡ Reclaims r o → reclaim_op r ≡ Some o
     by_step w None is e = absurd (let wrong : ⊥ = cc in wrong)
-    by_step w (Some p) is e = let same : w ≡ r = cc in let step : p ≡ o = cc in ap sweep_op (sym same) ∙ is ∙ ap Some step
+    by_step w (Some p) is e = let same : w ≡ r = cc in let step : p ≡ o = cc in ap reclaim_op (sym same) ∙ is ∙ ap Some step
 
-    by_sweep : (w : Option Sweeping) → due_home w z ≡ Sweeps r o → sweep_op r ≡ Some o
-    by_sweep None e = absurd (let wrong : ⊥ = cc in wrong)
-    by_sweep (Some w) e = by_step w (sweep_op w) refl e
+    by_reclaimer : (w : Option Reclaiming) → due_home w z ≡ Reclaims r o → reclaim_op r ≡ Some o
+    by_reclaimer None e = absurd (let wrong : ⊥ = cc in wrong)
+    by_reclaimer (Some w) e = by_step w (reclaim_op w) refl e
 
-goes_alone : {E : Type 0} (d : Option Op) (s : Option Sweeping) (z w : Situation E) → due_beside d s z ≡ Goes w → d ≡ None
+goes_alone : {E : Type 0} (d : Option Op) (s : Option Reclaiming) (z w : Situation E) → due_beside d s z ≡ Goes w → d ≡ None
 goes_alone (Some p) s z w e = absurd (let wrong : ⊥ = cc in wrong)
 goes_alone None s z w e = refl
 
@@ -161,8 +161,8 @@ module _ {E : Type 0} (X : Election E) (P : Protocol E (Unit {0}) ℕ) (laws : L
       with_election : E → Visitor E
       with_election u = record {
         core = core_elected v.core t u (X.owner u);
-        visit = visit_elected v.core t (X.owner u);
-        sweep = v.sweep;
+        pin = pin_elected v.core t (X.owner u);
+        reclaimer = v.reclaimer;
         lost = lost_elected v.core v.lost (X.owner u);
         rows = v.rows;
       }
@@ -187,16 +187,16 @@ module _ {E : Type 0} (X : Election E) (P : Protocol E (Unit {0}) ℕ) (laws : L
   goes_mute (HasHanded t reason) word q m e got got' = refl
 
   due_blind : (d : Due E) → due X v ≡ d → (word r n : ℕ) → op_due X v d word ≡ Some (Store record { 0 = r } n) → (got got' : ℕ) (home : Option Page) → after d home got word ≡ after d home got' word
-  due_blind (Visits o) e word r n op got got' home =
-      let step = due_visits _ v.sweep (situation_of X v.core) o e ∙ op in
-      λ i. record { core = looked_blind X v.core v.visit _ _ r n step got got' i; visit = visit_blind v.visit _ _ r n step got got' i; sweep = v.sweep; lost = None; rows = v.rows }
-  due_blind (Sweeps s o) e word r n op got got' home =
-      ap (λ w. record v { sweep = Some w }) (sweep_blind s r n (due_sweeps _ v.sweep (situation_of X v.core) s o e ∙ op) got got')
+  due_blind (Pins o) e word r n op got got' home =
+      let step = due_pins _ v.reclaimer (situation_of X v.core) o e ∙ op in
+      λ i. record { core = looked_blind X v.core v.pin _ _ r n step got got' i; pin = pin_blind v.pin _ _ r n step got got' i; reclaimer = v.reclaimer; lost = None; rows = v.rows }
+  due_blind (Reclaims s o) e word r n op got got' home =
+      ap (λ w. record v { reclaimer = Some w }) (reclaimer_blind s r n (due_reclaims _ v.reclaimer (situation_of X v.core) s o e ∙ op) got got')
   due_blind (Goes z) e word r n op got got' home = let is = placed_store _ _ r n op in goes_blind z word is.0 is.1 is.2 got got' home
 
   due_mute : (d : Due E) → due X v ≡ d → (word r n : ℕ) → op_due X v d word ≡ Some (Store record { 0 = r } n) → (got got' : ℕ) → answer_due X v d got word ≡ answer_due X v d got' word
-  due_mute (Visits o) e word r n op got got' = refl
-  due_mute (Sweeps s o) e word r n op got got' = sweep_mute s r n (due_sweeps _ v.sweep (situation_of X v.core) s o e ∙ op) got got'
+  due_mute (Pins o) e word r n op got got' = refl
+  due_mute (Reclaims s o) e word r n op got got' = reclaimer_mute s r n (due_reclaims _ v.reclaimer (situation_of X v.core) s o e ∙ op) got got'
   due_mute (Goes z) e word r n op got got' = let is = placed_store _ _ r n op in goes_mute z word is.0 is.1 is.2 got got'
 
 module _ {E : Type 0} (X : Election E) (v : Visitor E) where
@@ -211,13 +211,13 @@ module _ {E : Type 0} (X : Election E) (v : Visitor E) where
   wide_if true s u e f = e
   wide_if false s u e f = f
 
-  wide_looked : (u : Visit) (got : ℕ) → Wide (core_looked X v.core u got)
+  wide_looked : (u : Pin) (got : ℕ) → Wide (core_looked X v.core u got)
   wide_looked Away got = refl
-  wide_looked (Entering t) got = refl
-  wide_looked (Looking t) got = wide_if (got / 2 == t) (core_begun X v.core t) v.core refl refl
-  wide_looked (Inside t) got = refl
-  wide_looked (Parting t) got = refl
-  wide_looked (Barred t) got = refl
+  wide_looked (Announcing t) got = refl
+  wide_looked (Validating t) got = wide_if (got / 2 == t) (core_begun X v.core t) v.core refl refl
+  wide_looked (Pinned t) got = refl
+  wide_looked (Unpinning t) got = refl
+  wide_looked (Invalidated t) got = refl
 
   wide_going : (z : Situation E) (home : Option Page) (got word : ℕ) → Wide (now_after (Goes z) home got word).core
   wide_going IsClosed home got word = refl
@@ -233,13 +233,13 @@ module _ {E : Type 0} (X : Election E) (v : Visitor E) where
   wide_going (HasHanded t reason) home got word = refl
 
   wide_due : (d : Due E) (home : Option Page) (got word : ℕ) → Wide (now_after d home got word).core
-  wide_due (Visits o) home got word = wide_looked v.visit got
-  wide_due (Sweeps s o) home got word = refl
+  wide_due (Pins o) home got word = wide_looked v.pin got
+  wide_due (Reclaims s o) home got word = refl
   wide_due (Goes z) home got word = wide_going z home got word
 
   rows_due : (d : Due E) (home : Option Page) (got word : ℕ) → (now_after d home got word).rows ≡ v.rows
-  rows_due (Visits o) home got word = refl
-  rows_due (Sweeps s o) home got word = refl
+  rows_due (Pins o) home got word = refl
+  rows_due (Reclaims s o) home got word = refl
   rows_due (Goes z) home got word = refl
 
   -- ---- the messages that wait
@@ -253,13 +253,13 @@ module _ {E : Type 0} (X : Election E) (v : Visitor E) where
   same_if true s u e f = e
   same_if false s u e f = f
 
-  same_looked : (u : Visit) (got : ℕ) → Same (core_looked X v.core u got)
+  same_looked : (u : Pin) (got : ℕ) → Same (core_looked X v.core u got)
   same_looked Away got = refl
-  same_looked (Entering t) got = refl
-  same_looked (Looking t) got = same_if (got / 2 == t) (core_begun X v.core t) v.core refl refl
-  same_looked (Inside t) got = refl
-  same_looked (Parting t) got = refl
-  same_looked (Barred t) got = refl
+  same_looked (Announcing t) got = refl
+  same_looked (Validating t) got = same_if (got / 2 == t) (core_begun X v.core t) v.core refl refl
+  same_looked (Pinned t) got = refl
+  same_looked (Unpinning t) got = refl
+  same_looked (Invalidated t) got = refl
 
   left_going : (z : Situation E) (home : Option Page) (got word : ℕ) → Leaves (now_after (Goes z) home got word).core
   left_going IsClosed home got word = inl refl
@@ -275,30 +275,30 @@ module _ {E : Type 0} (X : Election E) (v : Visitor E) where
   left_going (HasHanded t reason) home got word = apart.left_after X v.core (HasHanded t reason) home got word
 
   left_due : (d : Due E) (home : Option Page) (got word : ℕ) → Leaves (now_after d home got word).core
-  left_due (Visits o) home got word = inl (same_looked v.visit got)
-  left_due (Sweeps s o) home got word = inl refl
+  left_due (Pins o) home got word = inl (same_looked v.pin got)
+  left_due (Reclaims s o) home got word = inl refl
   left_due (Goes z) home got word = left_going z home got word
 
-  leaves_seen : (w : Visitor E) → Leaves w.core → ((queue_seen w.core.queue w.visit).messages ≡ (queue_seen v.core.queue v.visit).messages) ⊎ ((queue_seen w.core.queue w.visit).messages ≡ [])
-  leaves_seen w (inl same) = inl (seen_messages w.core.queue w.visit ∙ same ∙ sym (seen_messages v.core.queue v.visit))
-  leaves_seen w (inr none) = inr (seen_messages w.core.queue w.visit ∙ none)
+  leaves_seen : (w : Visitor E) → Leaves w.core → ((queue_seen w.core.queue w.pin).messages ≡ (queue_seen v.core.queue v.pin).messages) ⊎ ((queue_seen w.core.queue w.pin).messages ≡ [])
+  leaves_seen w (inl same) = inl (seen_messages w.core.queue w.pin ∙ same ∙ sym (seen_messages v.core.queue v.pin))
+  leaves_seen w (inr none) = inr (seen_messages w.core.queue w.pin ∙ none)
 
   -- ---- a last answer after which messages wait
   not_last : (a : Turn) → is_last a ≡ false → (left : List (List ℕ)) → is_last a ≡ true → 0 < length left → is_refusal a ≡ true
   not_last a going left last some = absurd (let bad : true ≡ false = sym last ∙ going in let wrong : ⊥ = cc in wrong)
 
-  visit_going_on : (u : Visit) (l : Option SenderNo) → is_last (answer_of_visit u l) ≡ false
-  visit_going_on Away l = refl
-  visit_going_on (Entering t) l = refl
-  visit_going_on (Looking t) l = refl
-  visit_going_on (Inside t) l = refl
-  visit_going_on (Parting t) None = refl
-  visit_going_on (Parting t) (Some o) = refl
-  visit_going_on (Barred t) l = refl
+  pin_going_on : (u : Pin) (l : Option SenderNo) → is_last (answer_of_pin u l) ≡ false
+  pin_going_on Away l = refl
+  pin_going_on (Announcing t) l = refl
+  pin_going_on (Validating t) l = refl
+  pin_going_on (Pinned t) l = refl
+  pin_going_on (Unpinning t) None = refl
+  pin_going_on (Unpinning t) (Some o) = refl
+  pin_going_on (Invalidated t) l = refl
 
-  sweep_going_on : (b : Option Behind) → is_last (answer_of_sweep b) ≡ false
-  sweep_going_on None = refl
-  sweep_going_on (Some b) = refl
+  reclaimer_going_on : (b : Option Behind) → is_last (answer_of_reclaim b) ≡ false
+  reclaimer_going_on None = refl
+  reclaimer_going_on (Some b) = refl
 
   abbrev Refused : Turn → List (List ℕ) → Type 0
   Refused a left = is_last a ≡ true → 0 < length left → is_refusal a ≡ true
@@ -317,21 +317,21 @@ module _ {E : Type 0} (X : Election E) (v : Visitor E) where
   refused_going (HasHanded t reason) word o due home got = apart.refused_return X v.core t reason
 
   refused_due : (d : Due E) (word : ℕ) (o : Op) → op_due X v d word ≡ Some o → (home : Option Page) (got : ℕ) → Refused (answer_due X v d got word) (now_after d home got word).core.queue.messages
-  refused_due (Visits u) word o op home got = not_last (answer_of_visit v.visit v.lost) (visit_going_on v.visit v.lost) (now_after (Visits u) home got word).core.queue.messages
-  refused_due (Sweeps s u) word o op home got = not_last (answer_of_sweep (behind_of s got)) (sweep_going_on (behind_of s got)) (now_after (Sweeps s u) home got word).core.queue.messages
+  refused_due (Pins u) word o op home got = not_last (answer_of_pin v.pin v.lost) (pin_going_on v.pin v.lost) (now_after (Pins u) home got word).core.queue.messages
+  refused_due (Reclaims s u) word o op home got = not_last (answer_of_reclaim (behind_of s got)) (reclaimer_going_on (behind_of s got)) (now_after (Reclaims s u) home got word).core.queue.messages
   refused_due (Goes z) word o op home got = let is = placed_some _ _ o op in refused_going z word is.0 is.1 home got
 
-  refused_seen : (a : Turn) (w : Visitor E) → Refused a w.core.queue.messages → Refused a (queue_seen w.core.queue w.visit).messages
-  refused_seen a w h = subst (Refused a) (sym (seen_messages w.core.queue w.visit)) h
+  refused_seen : (a : Turn) (w : Visitor E) → Refused a w.core.queue.messages → Refused a (queue_seen w.core.queue w.pin).messages
+  refused_seen a w h = subst (Refused a) (sym (seen_messages w.core.queue w.pin)) h
 
   refused_rest : (d : Due E) → due X v ≡ d → Refused (rest_due X v d) v.core.queue.messages
-  refused_rest (Visits o) e = not_last turn.Going refl v.core.queue.messages
-  refused_rest (Sweeps s o) e = not_last turn.Going refl v.core.queue.messages
-  refused_rest (Goes z) e = apart.refused_rest X v.core z (due_goes _ v.sweep (situation_of X v.core) z e)
+  refused_rest (Pins o) e = not_last turn.Going refl v.core.queue.messages
+  refused_rest (Reclaims s o) e = not_last turn.Going refl v.core.queue.messages
+  refused_rest (Goes z) e = apart.refused_rest X v.core z (due_goes _ v.reclaimer (situation_of X v.core) z e)
 
-  one_due : (d : Due E) (got word : ℕ) → ((adds_due X v d got word).deeds ≡ []) ⊎ IsOneStep (kind_due X v d) got (answer_due X v d got word) (adds_due X v d got word).deeds
-  one_due (Visits o) got word = inl refl
-  one_due (Sweeps s o) got word = inl refl
+  one_due : (d : Due E) (got word : ℕ) → ((adds_due X v d got word).actions ≡ []) ⊎ IsOneStep (kind_due X v d) got (answer_due X v d got word) (adds_due X v d got word).actions
+  one_due (Pins o) got word = inl refl
+  one_due (Reclaims s o) got word = inl refl
   one_due (Goes z) got word = apart.step_is_one (kind_at X v.core z) (tenure_at X v.core z) got (chosen_at X v.core z got word) (answer_due X v (Goes z) got word)
 
   -- ---- with the page out of its hands
@@ -353,16 +353,16 @@ module _ {E : Type 0} (X : Election E) (v : Visitor E) where
   alike_given : (t : ℕ) (page : Page) (reason : Reason) → due X v ≡ Goes (GivesBack t page reason) → Alike (handed (Goes (GivesBack t page reason)))
   alike_given t page reason e =
       let w = handed (Goes (GivesBack t page reason)) in
-      let alone = goes_alone _ v.sweep (situation_of X v.core) (GivesBack t page reason) e in
-      let now : due X w ≡ Goes (HasHanded t reason) = ap (λ d. due_beside d v.sweep (HasHanded t reason)) alone in (
+      let alone = goes_alone _ v.reclaimer (situation_of X v.core) (GivesBack t page reason) e in
+      let now : due X w ≡ Goes (HasHanded t reason) = ap (λ d. due_beside d v.reclaimer (HasHanded t reason)) alone in (
         λ word. ap (λ d. op_due X w d word) now ∙ ap (λ d. op_due X v d word) (sym e),
         λ got word. ap (λ d. answer_due X w d got word) now ∙ ap (λ d. answer_due X v d got word) (sym e),
         λ got word. ap (λ d. visitor_due X w d got word) now ∙ ap (λ d. visitor_due X v d got word) (sym e),
       )
 
   alike : (d : Due E) → due X v ≡ d → Alike (handed d)
-  alike (Visits o) e = (λ word. refl, λ got word. refl, λ got word. refl)
-  alike (Sweeps s o) e = (λ word. refl, λ got word. refl, λ got word. refl)
+  alike (Pins o) e = (λ word. refl, λ got word. refl, λ got word. refl)
+  alike (Reclaims s o) e = (λ word. refl, λ got word. refl, λ got word. refl)
   alike (Goes IsClosed) e = (λ word. refl, λ got word. refl, λ got word. refl)
   alike (Goes IsIdle) e = (λ word. refl, λ got word. refl, λ got word. refl)
   alike (Goes IsSpent) e = (λ word. refl, λ got word. refl, λ got word. refl)
@@ -376,44 +376,44 @@ module _ {E : Type 0} (X : Election E) (v : Visitor E) where
   alike (Goes (HasHanded t reason)) e = (λ word. refl, λ got word. refl, λ got word. refl)
 
   gives_held : (d : Due E) → due X v ≡ d → (page : Page) → page_given (move_due X v d) ≡ Some page → is_holding v.core.phase ≡ true
-  gives_held (Visits o) e page is = absurd (apart.none_given page is)
-  gives_held (Sweeps s o) e page is = absurd (apart.none_given page is)
-  gives_held (Goes z) e page is = apart.gives_held X v.core z (due_goes _ v.sweep (situation_of X v.core) z e) page is
+  gives_held (Pins o) e page is = absurd (apart.none_given page is)
+  gives_held (Reclaims s o) e page is = absurd (apart.none_given page is)
+  gives_held (Goes z) e page is = apart.gives_held X v.core z (due_goes _ v.reclaimer (situation_of X v.core) z e) page is
 
 -- ---- a kind is named exactly where a step is due
-visit_named : (u : Visit) (word stage : ℕ) (o : Op) → step_at u word stage ≡ Some o → is_some (kind_of_visit u) ≡ true
-visit_named Away word stage o e = absurd (let bad : None ≡ Some o = e in let wrong : ⊥ = cc in wrong)
-visit_named (Entering t) word stage o e = refl
-visit_named (Looking t) word stage o e = refl
-visit_named (Inside t) word stage o e = absurd (let bad : None ≡ Some o = e in let wrong : ⊥ = cc in wrong)
-visit_named (Parting t) word stage o e = refl
-visit_named (Barred t) word stage o e = refl
+pin_named : (u : Pin) (word stage : ℕ) (o : Op) → step_at u word stage ≡ Some o → is_some (kind_of_pin u) ≡ true
+pin_named Away word stage o e = absurd (let bad : None ≡ Some o = e in let wrong : ⊥ = cc in wrong)
+pin_named (Announcing t) word stage o e = refl
+pin_named (Validating t) word stage o e = refl
+pin_named (Pinned t) word stage o e = absurd (let bad : None ≡ Some o = e in let wrong : ⊥ = cc in wrong)
+pin_named (Unpinning t) word stage o e = refl
+pin_named (Invalidated t) word stage o e = refl
 
 placed_is : (f : ℕ → ℕ) (o : Option Op) → is_some o ≡ is_some (op_placed f o)
 placed_is f None = refl
 placed_is f (Some o) = refl
 
 named_due : {E : Type 0} (X : Election E) → ((e : E) (word : ℕ) → is_some (X.kind_of e) ≡ is_some (X.op e word)) → (v : Visitor E) (d : Due E) → due X v ≡ d → (word : ℕ) → is_some (kind_due X v d) ≡ is_some (op_due X v d word)
-named_due X names v (Visits o) e word = visit_named v.visit _ _ o (due_visits _ v.sweep (situation_of X v.core) o e)
-named_due X names v (Sweeps s o) e word = refl
+named_due X names v (Pins o) e word = pin_named v.pin _ _ o (due_pins _ v.reclaimer (situation_of X v.core) o e)
+named_due X names v (Reclaims s o) e word = refl
 named_due X names v (Goes z) e word = apart.named_at X names v.core z word ∙ placed_is _ (op_at X v.core z word)
 
 pub process_laws : {E : Type 0} (X : Election E) (P : Protocol E (Unit {0}) ℕ) → Laws X.op X.fed P OneOwner → ((e : E) (word : ℕ) → is_some (X.kind_of e) ≡ is_some (X.op e word)) → ProcessLaws (process_again X)
 process_laws X P laws names = record {
   named = λ v word. named_due X names v (due X v) refl word;
   some_words = λ v. omega arith;
-  same_extent = λ v home got word. λ i. extent_again (wide_due X v (due X v) home got word i) (rows_due X v (due X v) home got word i);
+  same_table_layout = λ v home got word. λ i. table_layout_again (wide_due X v (due X v) home got word i) (rows_due X v (due X v) home got word i);
   blind = λ v word r n op got got' home. due_blind X P laws v (due X v) refl word r n op got got' home;
   mute = λ v word r n op got got'. due_mute X P laws v (due X v) refl word r n op got got';
   leaves = λ v home got word. leaves_seen X v (now_after X v (due X v) home got word) (left_due X v (due X v) home got word);
   refuses = λ v word o op home got. refused_seen X v _ (now_after X v (due X v) home got word) (refused_due X v (due X v) word o op home got);
   refuses_at_rest = λ v. refused_seen X v _ v (refused_rest X v (due X v) refl);
-  none_hidden = λ v none. apart.none_hidden v.core v.core.phase (sym (seen_messages v.core.queue v.visit) ∙ none);
-  one_deed = λ v got word. one_due X v (due X v) got word;
-  message = λ v bytes. record { me = refl; extent = refl; holds = refl };
-  message_waits = λ v bytes. seen_message v.core.queue v.visit (v.core.queue.messages ++ bytes ∷ []) ∙ ap (λ ms. record (queue_seen v.core.queue v.visit) { messages = ms ++ bytes ∷ [] }) (sym (seen_messages v.core.queue v.visit));
-  close = λ v. record { me = refl; extent = refl; holds = refl };
-  close_waits = λ v. seen_closing v.core.queue v.visit;
+  none_hidden = λ v none. apart.none_hidden v.core v.core.phase (sym (seen_messages v.core.queue v.pin) ∙ none);
+  one_action = λ v got word. one_due X v (due X v) got word;
+  message = λ v bytes. record { me = refl; table_layout = refl; holds = refl };
+  message_waits = λ v bytes. seen_message v.core.queue v.pin (v.core.queue.messages ++ bytes ∷ []) ∙ ap (λ ms. record (queue_seen v.core.queue v.pin) { messages = ms ++ bytes ∷ [] }) (sym (seen_messages v.core.queue v.pin));
+  close = λ v. record { me = refl; table_layout = refl; holds = refl };
+  close_waits = λ v. seen_closing v.core.queue v.pin;
   handed_op = λ v word. (alike X v (due X v) refl).0 word;
   handed_answer = λ v got word. (alike X v (due X v) refl).1 got word;
   handed_fed = λ v got word. (alike X v (due X v) refl).2 got word;

@@ -17,7 +17,7 @@ use Rattle.bus_tenure.specs.Core.{Core, Election, Layout, log_at, words_of}
 use Rattle.bus_tenure.specs.Situations.{Comes, situation_of, line_of, op_at}
 use Rattle.bus_tenure.specs.declared.pages.Page.{Page}
 use Rattle.bus_world.specs.Bus.{IsLayout}
-use Rattle.bus_world.specs.Headline.{Deed, HasPut, HasClosed, puts, Promises}
+use Rattle.bus_world.specs.Headline.{Action, HasPut, HasClosed, puts, Promises}
 use Rattle.bus_world.specs.Log.{Knows}
 use Rattle.bus_world.specs.Starting.{AreNewCores}
 use Rattle.bus_world.specs.Tenures.{Stage}
@@ -33,8 +33,8 @@ use Rattle.bus_world.proofs.LogLaws.{length-read}
 use Rattle.bus_world.proofs.Waiting.{waiting_of}
 use Rattle.bus_pageslot.specs.Processes.{IsCounted}
 use Rattle.bus_pageslot.specs.Lawful.{AutomatonLaws, IsSender, AcceptsIn, StepsIn, HasLog, IsPromisedOf, Opens, no_answers}
-use Rattle.bus_pageslot.specs.RowsApart.{process_apart, bus_apart, extent_of, History, IsHistory}
-use Rattle.bus_pageslot.specs.Tracks.{track_of_deeds}
+use Rattle.bus_pageslot.specs.RowsApart.{process_apart, bus_apart, table_layout_of, History, IsHistory}
+use Rattle.bus_pageslot.specs.SenderTrails.{sender_trail_of_actions}
 use Rattle.bus_pageslot.proofs.ApartTurns.{ends, takes_it}
 use Rattle.bus_pageslot.proofs.Counting.{first_below}
 use Rattle.bus_pageslot.proofs.Histories.{Kept, kept, nobody_did, log_is, log_in_bus, Reaches, takes_message, takes_close, steps, sum_fits, taken}
@@ -46,8 +46,8 @@ stage_tells ended stage at_home owners standing (Open is home many) = (λ odd. a
 stage_tells ended stage at_home owners standing (Held holder is home many stands) = (λ odd. home, λ even. absurd (even (omega arith)))
 
 -- the page of promises, of receivers that were answered nothing
-pub silent_page : (deeds : ℕ → List Deed) (heard : ℕ → List RecvTurn) (order : Order) (owners : List (ℕ × SenderNo)) → Promises deeds heard order owners → Promises deeds no_answers order owners
-silent_page deeds heard order owners q = record {
+pub silent_page : (actions : ℕ → List Action) (heard : ℕ → List RecvTurn) (order : Order) (owners : List (ℕ × SenderNo)) → Promises actions heard order owners → Promises actions no_answers order owners
+silent_page actions heard order owners q = record {
   one_owner = q.one_owner;
   announced = q.announced;
   took_own = q.took_own;
@@ -90,18 +90,18 @@ module _ {E : Type 0} (X : Election E) (P : Protocol E (Unit {0}) ℕ) (x : Layo
         record { first = omega arith; few = part.queue.few; capacity = omega arith }
 
     is_sender : IsSender (process_apart X) (bus_apart X x) p c
-    is_sender = let part = k.lawful.keeps.sending.parts p c old in record { me = part.me; below = part.below; extent = ap extent_of part.layout; counted = counted }
+    is_sender = let part = k.lawful.keeps.sending.parts p c old in record { me = part.me; below = part.below; table_layout = ap table_layout_of part.layout; counted = counted }
 
     -- it has accepted something
-    accepts_in : (d : Core E) (deeds : List Deed) → Reaches X P x y h.served b T p d deeds → AcceptsIn (bus_apart X x) z p d deeds
-    accepts_in d deeds m = record {
+    accepts_in : (d : Core E) (actions : List Action) → Reaches X P x y h.served b T p d actions → AcceptsIn (bus_apart X x) z p d actions
+    accepts_in d actions m = record {
       state = record { bus = record { side = record b.side { senders = slice_set b.side.senders p d }; receivers = b.receivers; stopped = b.stopped }; trails = m.trails };
       changes = record {
         reached = record { served = h.served; reached = m.reached; alone = h.alone; running = h.running };
         here = get_set_same b.side.senders p d (slice_get_within b.side.senders p c old);
         others = λ q ne. get_set_other b.side.senders p d q ne;
-        track = ap track_of_deeds m.longer.own;
-        nothing_else = λ q ne. ap track_of_deeds (m.longer.others q ne);
+        sender_trail = ap sender_trail_of_actions m.longer.own;
+        nothing_else = λ q ne. ap sender_trail_of_actions (m.longer.others q ne);
       };
       words = refl;
       home = refl;
@@ -116,8 +116,8 @@ module _ {E : Type 0} (X : Election E) (P : Protocol E (Unit {0}) ℕ) (x : Layo
             reached = record { served = h.served; reached = s.reached; alone = s.receivers ∙ h.alone; running = s.stopped ∙ h.running };
             here = ap (λ l. slice_get l p) s.senders ∙ get_set_same b.side.senders p _ (slice_get_within b.side.senders p c old);
             others = λ q ne. ap (λ l. slice_get l q) s.senders ∙ get_set_other b.side.senders p _ q ne;
-            track = ap track_of_deeds s.longer.own;
-            nothing_else = λ q ne. ap track_of_deeds (s.longer.others q ne);
+            sender_trail = ap sender_trail_of_actions s.longer.own;
+            nothing_else = λ q ne. ap sender_trail_of_actions (s.longer.others q ne);
           };
           words = s.words;
           home = s.home;
@@ -128,7 +128,7 @@ module _ {E : Type 0} (X : Election E) (P : Protocol E (Unit {0}) ℕ) (x : Layo
     finds_home word o t due is = ap is_some (taken X P x y h.served b T h.reached h.running p c old word o due t (takes_it X c (situation_of X c) word o t due is)).1
 
     -- the log has of it what it put, but for what waits
-    sent : (frames : List Frame) → AreFrames x.senders frames → log_words frames ≡ log_in_bus x b → map (λ (i : Item). i.message) (of_sender p (order_of frames)) ++ waiting_at c c.phase ≡ puts (T.deeds p)
+    sent : (frames : List Frame) → AreFrames x.senders frames → log_words frames ≡ log_in_bus x b → map (λ (i : Item). i.message) (of_sender p (order_of frames)) ++ waiting_at c c.phase ≡ puts (T.actions p)
     sent frames lawful words =
         ap (λ fs. map (λ (i : Item). i.message) (of_sender p (order_of fs)) ++ waiting_at c c.phase) (sym (same_frames frames lawful words)) ∙ ap (λ o. map (λ (i : Item). i.message) (of_sender p (order_of k.frames)) ++ waiting_of o) (sym old) ∙ sym (k.tied.puts p)
 
@@ -158,7 +158,7 @@ module _ {E : Type 0} (X : Election E) (P : Protocol E (Unit {0}) ℕ) (x : Layo
         order = p.order;
         owners = p.owners;
         spelled = p.by.spelled;
-        promises = silent_page T.deeds T.heard p.order p.owners p.by.promises;
+        promises = silent_page T.actions T.heard p.order p.owners p.by.promises;
       }
 
 pub automaton_laws : {E : Type 0} (X : Election E) (P : Protocol E (Unit {0}) ℕ) (x : Layout) → Serves X P x → AutomatonLaws (process_apart X) (bus_apart X x)
@@ -166,7 +166,7 @@ automaton_laws X P x y = record {
   room = omega arith;
   behind = omega arith;
   started_me = λ p. refl;
-  started_extent = λ p. refl;
+  started_table_layout = λ p. refl;
   started_next = λ p. refl;
   started_away = λ p. refl;
   wide = λ z h. (k X P x y z h).lawful.words;
@@ -221,6 +221,6 @@ opens_apart {E} X x ok = record {
   words = refl;
   home = refl;
   senders = λ p below. crowd_has {E = E} x x.senders p below;
-  track = λ p. refl;
+  sender_trail = λ p. refl;
   counted = λ p. let few = ok.capacity in record { first = omega arith; few = omega arith; capacity = few };
 }

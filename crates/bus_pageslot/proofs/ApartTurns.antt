@@ -17,10 +17,10 @@ use Rattle.bus_tenure.specs.declared.phases.Phase.TheVariants as phase
 use Rattle.bus_tenure.specs.declared.turns.Turn.{Turn}
 use Rattle.bus_tenure.specs.declared.turns.Turn.TheVariants as turn
 use Rattle.bus_world.specs.Waiting.{waiting_at}
-use Rattle.bus_world.specs.Trails.{step_deed}
+use Rattle.bus_world.specs.Trails.{step_action}
 use Rattle.bus_world.specs.Turning.{core_after, core_moved, core_with_page, before_step}
 use Rattle.bus_pageslot.specs.Lawful.{ProcessLaws, IsOneStep}
-use Rattle.bus_pageslot.specs.RowsApart.{is_holding, is_taken, extent_of, process_apart}
+use Rattle.bus_pageslot.specs.RowsApart.{is_holding, is_taken, table_layout_of, process_apart}
 use Rattle.bus_pageslot.specs.Sendings.{is_refusal}
 use Rattle.bus_pageslot.specs.Steps.{EndsBy, page_given}
 use Rattle.bus_pageslot.specs.Turns.{is_last}
@@ -326,8 +326,8 @@ module _ {E : Type 0} (X : Election E) (d : Core E) where
   takes_it (GivesBack u page reason) word o t due is = absurd (let bad : Returns u reason _ ≡ Comes t = is in let wrong : ⊥ = cc in wrong)
   takes_it (HasHanded u reason) word o t due is = absurd (let bad : Stays ≡ Comes t = is in let wrong : ⊥ = cc in wrong)
 
--- ---- a step is one deed at most
-pub step_is_one : (k : Option Kind) (t : Option ℕ) (found : ℕ) (chose : Option ℕ) (a : Turn) → (step_deed k t found chose a ≡ []) ⊎ IsOneStep k found a (step_deed k t found chose a)
+-- ---- a step is one action at most
+pub step_is_one : (k : Option Kind) (t : Option ℕ) (found : ℕ) (chose : Option ℕ) (a : Turn) → (step_action k t found chose a ≡ []) ⊎ IsOneStep k found a (step_action k t found chose a)
 step_is_one None t found chose a = inl refl
 step_is_one (Some k) t found chose a = inr (record { tenure = t; kind = k; chose = chose; is_for = refl; is = refl })
 
@@ -357,7 +357,7 @@ named_at X names c (HasHanded t reason) word = refl
 pub process_laws : {E : Type 0} (X : Election E) (P : Protocol E (Unit {0}) ℕ) → Laws X.op X.fed P OneOwner → ((e : E) (word : ℕ) → is_some (X.kind_of e) ≡ is_some (X.op e word)) → ProcessLaws (process_apart X)
 process_laws X P laws names = record {
   some_words = λ c. omega arith;
-  same_extent = λ c home got word. ap extent_of (layout_stays X c (situation_of X c) home got word);
+  same_table_layout = λ c home got word. ap table_layout_of (layout_stays X c (situation_of X c) home got word);
   named = λ c word. named_at X names c (situation_of X c) word;
   blind = λ c word r v due got got' home. store_blind X P laws word (Store record { 0 = r } v) r v refl c due got got' home;
   mute = λ c word r v due got got'. answer_blind X P laws word (Store record { 0 = r } v) r v refl c due got got';
@@ -365,10 +365,10 @@ process_laws X P laws names = record {
   refuses = λ c word o due home got. refused_after X c (situation_of X c) word o due home got;
   refuses_at_rest = λ c. refused_rest X c (situation_of X c) refl;
   none_hidden = λ c none. none_hidden c c.phase none;
-  one_deed = λ c got word. step_is_one (kind_at X c (situation_of X c)) (tenure_at X c (situation_of X c)) got (chosen_at X c (situation_of X c) got word) (answer_at X c (situation_of X c) got word);
-  message = λ c bytes. record { me = refl; extent = refl; holds = refl };
+  one_action = λ c got word. step_is_one (kind_at X c (situation_of X c)) (tenure_at X c (situation_of X c)) got (chosen_at X c (situation_of X c) got word) (answer_at X c (situation_of X c) got word);
+  message = λ c bytes. record { me = refl; table_layout = refl; holds = refl };
   message_waits = λ c bytes. refl;
-  close = λ c. record { me = refl; extent = refl; holds = refl };
+  close = λ c. record { me = refl; table_layout = refl; holds = refl };
   close_waits = λ c. refl;
   handed_op = λ c word. op_handed X c (situation_of X c) refl word;
   handed_answer = λ c got word. answer_handed X c (situation_of X c) refl got word;

@@ -13,16 +13,16 @@ use Rattle.bus_pageslot.specs.declared.seats.SendFault.TheVariants as fault
 use Rattle.bus_pageslot.specs.declared.seats.Unsent.{Unsent}
 use Rattle.bus_pageslot.specs.Processes.{Process}
 use Rattle.bus_pageslot.specs.Lawful.{ProcessLaws}
-use Rattle.bus_pageslot.specs.Seats.{Seated, Took, deeds_of}
+use Rattle.bus_pageslot.specs.Seats.{SenderSeat, Took, actions_of}
 use Rattle.bus_pageslot.specs.Turns.{Turned, TurnsOn, Here, More, Sends, is_last}
 use Rattle.bus_pageslot.specs.Sendings.{waiting_of, SendsOff, is_refusal, Keeps, KeepsFor, FillsBatches, SentBefore, Put, SentFull, HasSent, Refuses, StopsAt, Stops, can_come, WaitsOf, HasSentPart}
 use Rattle.bus_pageslot.proofs.Sending.{sending_puts, fills_puts}
 
 module _ {C : Type 0} (P : Process C) (K : ProcessLaws P) where
-  abbrev Left : Seated C → Seated C → Type 0
+  abbrev Left : SenderSeat C → SenderSeat C → Type 0
   Left old new = (waiting_of P new ≡ waiting_of P old) ⊎ (waiting_of P new ≡ [])
 
-  turned_left : (old : Seated C) (word : ℕ) (a : Turn) (new : Seated C) → Turned P old word a new → Left old new
+  turned_left : (old : SenderSeat C) (word : ℕ) (a : Turn) (new : SenderSeat C) → Turned P old word a new → Left old new
   turned_left old word a new h = by_step (P.op old.core word) refl
     where
       by_step : (o : Option Op) → P.op old.core word ≡ o → Left old new
@@ -31,32 +31,32 @@ module _ {C : Type 0} (P : Process C) (K : ProcessLaws P) where
           let took : Took P old word a new = h.steps op e in
           subst (λ s. ((P.queue s).messages ≡ waiting_of P old) ⊎ ((P.queue s).messages ≡ [])) (sym took.core) (K.leaves old.core took.home took.got word)
 
-  turned_refused : (old : Seated C) (word : ℕ) (a : Turn) (new : Seated C) → Turned P old word a new → is_last a ≡ true → 0 < length (waiting_of P new) → is_refusal a ≡ true
+  turned_refused : (old : SenderSeat C) (word : ℕ) (a : Turn) (new : SenderSeat C) → Turned P old word a new → is_last a ≡ true → 0 < length (waiting_of P new) → is_refusal a ≡ true
   turned_refused old word a new h = by_step (P.op old.core word) refl
     where
       by_step : (o : Option Op) → P.op old.core word ≡ o → is_last a ≡ true → 0 < length (waiting_of P new) → is_refusal a ≡ true
       by_step None e =
           let rested = h.rests e in
-          subst (λ (y : Turn × Seated C). is_last y.0 ≡ true → 0 < length (waiting_of P y.1) → is_refusal y.0 ≡ true) (λ i. (sym rested.1 i, sym rested.0 i)) (K.refuses_at_rest old.core)
+          subst (λ (y : Turn × SenderSeat C). is_last y.0 ≡ true → 0 < length (waiting_of P y.1) → is_refusal y.0 ≡ true) (λ i. (sym rested.1 i, sym rested.0 i)) (K.refuses_at_rest old.core)
       by_step (Some op) e =
           let took : Took P old word a new = h.steps op e in
           subst (λ (y : Turn × C). is_last y.0 ≡ true → 0 < length (P.queue y.1).messages → is_refusal y.0 ≡ true) (λ i. (sym took.answer i, sym took.core i)) (K.refuses old.core word op e took.home took.got)
 
-  then_left : (first old new : Seated C) → Left first old → Left old new → Left first new
+  then_left : (first old new : SenderSeat C) → Left first old → Left old new → Left first new
   then_left first old new (inl before) (inl now) = inl (now ∙ before)
   then_left first old new (inr none) (inl now) = inr (now ∙ none)
   then_left first old new before (inr none) = inr none
 
-  turns_left : (first new : Seated C) → TurnsOn P first new → Left first new
+  turns_left : (first new : SenderSeat C) → TurnsOn P first new → Left first new
   turns_left first _ Here = inl refl
   turns_left first _ (More old word answer new before turned last) = then_left first old new (turns_left first old before) (turned_left old word answer new turned)
 
   -- ---- one batch
-  kept_one : (old new : Seated C) → Left old new → 0 < length (waiting_of P new) → waiting_of P new ≡ waiting_of P old
+  kept_one : (old new : SenderSeat C) → Left old new → 0 < length (waiting_of P new) → waiting_of P new ≡ waiting_of P old
   kept_one old new (inl same) some = same
   kept_one old new (inr none) some = absurd (let size = ap length none in omega (arith, some))
 
-  pub keeps : (old : Seated C) (answer : Turn) (new : Seated C) → Sends P old answer new → 0 < length (waiting_of P new) → Keeps P old answer new
+  pub keeps : (old : SenderSeat C) (answer : Turn) (new : SenderSeat C) → Sends P old answer new → 0 < length (waiting_of P new) → Keeps P old answer new
   keeps old answer new h some = record {
     sends = h;
     refused = turned_refused h.old h.word answer new h.turned h.last some;
@@ -65,13 +65,13 @@ module _ {C : Type 0} (P : Process C) (K : ProcessLaws P) where
   }
 
   -- ---- batches
-  pub fills_few : (first : Seated C) (messages : List (List ℕ)) (new : Seated C) → FillsBatches P first messages new → length (waiting_of P new) ≤ 16
+  pub fills_few : (first : SenderSeat C) (messages : List (List ℕ)) (new : SenderSeat C) → FillsBatches P first messages new → length (waiting_of P new) ≤ 16
   fills_few first _ _ (SentBefore new off) = let size = ap length off.none in omega arith
   fills_few first _ _ (Put messages old bytes new before takes) =
       let size = ap (λ (s : C). length (P.queue s).messages) takes.core in let joins = ap (λ (q : Pending). length q.messages) (K.message_waits old.core bytes) in let more = length-append (waiting_of P old) (bytes ∷ []) in let room = takes.could.room in omega arith
   fills_few first _ _ (SentFull messages old new before full off) = let size = ap length off.none in omega arith
 
-  pub fills_waits : (first : Seated C) (messages : List (List ℕ)) (new : Seated C) → FillsBatches P first messages new → WaitsOf P first messages new
+  pub fills_waits : (first : SenderSeat C) (messages : List (List ℕ)) (new : SenderSeat C) → FillsBatches P first messages new → WaitsOf P first messages new
   fills_waits first _ _ (SentBefore new off) = record { gone = waiting_of P first; waits = ap (λ l. waiting_of P first ++ l) (sym off.none) }
   fills_waits first _ _ (Put messages old bytes new before takes) =
       let h : WaitsOf P first messages old = fills_waits first messages old before in
@@ -82,46 +82,46 @@ module _ {C : Type 0} (P : Process C) (K : ProcessLaws P) where
       }
   fills_waits first _ _ (SentFull messages old new before full off) = record { gone = waiting_of P first ++ messages; waits = sym (append-nil (waiting_of P first ++ messages)) ∙ ap (λ l. (waiting_of P first ++ messages) ++ l) (sym off.none) }
 
-  keeps_waits : (first : Seated C) (messages : List (List ℕ)) (old : Seated C) (answer : Turn) (new : Seated C) → WaitsOf P first messages old → Keeps P old answer new → WaitsOf P first messages new
+  keeps_waits : (first : SenderSeat C) (messages : List (List ℕ)) (old : SenderSeat C) (answer : Turn) (new : SenderSeat C) → WaitsOf P first messages old → Keeps P old answer new → WaitsOf P first messages new
   keeps_waits first messages old answer new h k = record { gone = h.gone; waits = h.waits ∙ ap (λ l. h.gone ++ l) (sym k.same) }
 
-  pub has_sent : (first : Seated C) (messages : List (List ℕ)) (old new : Seated C) → FillsBatches P first messages old → SendsOff P old new → HasSent P first messages new
+  pub has_sent : (first : SenderSeat C) (messages : List (List ℕ)) (old new : SenderSeat C) → FillsBatches P first messages old → SendsOff P old new → HasSent P first messages new
   has_sent first messages old new h off = record { old = old; fills = h; rest = off; puts_are = sending_puts P K old off.answer new off.sends ∙ fills_puts P K first messages old h }
 
   -- a full batch that is sent off goes on
-  pub room_made : (old new : Seated C) (result : Result (Unit {0}) SendFault) → 16 ≤ length (waiting_of P old) → OnOk result (SendsOff P old new) → OnOk result ((first : Seated C) (messages : List (List ℕ)) → FillsBatches P first messages old → FillsBatches P first messages new)
+  pub room_made : (old new : SenderSeat C) (result : Result (Unit {0}) SendFault) → 16 ≤ length (waiting_of P old) → OnOk result (SendsOff P old new) → OnOk result ((first : SenderSeat C) (messages : List (List ℕ)) → FillsBatches P first messages old → FillsBatches P first messages new)
   room_made old new (Ok u) full off = λ first messages before. SentFull messages old new before (let few = fills_few first messages old before in omega arith) off
   room_made old new (Err e) full off = tt
 
   -- ---- where it stops
   -- the batch that is to be sent off is full
-  pub stops_full : (first : Seated C) (messages : List (List ℕ)) (bytes : List ℕ) (why : SendFault) (old new : Seated C) → FillsBatches P first messages old → 16 ≤ length (waiting_of P old) → KeepsFor P old why new → StopsAt P first messages (Some bytes) why new
+  pub stops_full : (first : SenderSeat C) (messages : List (List ℕ)) (bytes : List ℕ) (why : SendFault) (old new : SenderSeat C) → FillsBatches P first messages old → 16 ≤ length (waiting_of P old) → KeepsFor P old why new → StopsAt P first messages (Some bytes) why new
   stops_full first messages bytes (fault.Put why) old new h full keeps = absurd keeps
   stops_full first messages bytes (fault.Turn answer) old new h full keeps = (old, h, (let few = fills_few first messages old h in omega arith), keeps)
 
   -- or no message comes next
-  pub stops_last : (first : Seated C) (messages : List (List ℕ)) (why : SendFault) (old new : Seated C) → FillsBatches P first messages old → KeepsFor P old why new → StopsAt P first messages None why new
+  pub stops_last : (first : SenderSeat C) (messages : List (List ℕ)) (why : SendFault) (old new : SenderSeat C) → FillsBatches P first messages old → KeepsFor P old why new → StopsAt P first messages None why new
   stops_last first messages (fault.Put why) old new h keeps = absurd keeps
   stops_last first messages (fault.Turn answer) old new h keeps = (old, h, tt, keeps)
 
-  can_refuse : (new : Seated C) (next : Option (List ℕ)) (why : PutFault) → Refuses P new next why → can_come (fault.Put why) ≡ true
+  can_refuse : (new : SenderSeat C) (next : Option (List ℕ)) (why : PutFault) → Refuses P new next why → can_come (fault.Put why) ≡ true
   can_refuse new next put.Closed h = refl
   can_refuse new next put.Busy h = refl
   can_refuse new next put.TooLong h = absurd (let short = h.short in let long = h.cause.2 in omega arith)
   can_refuse new next put.BatchFull h = absurd (let room = h.room in let full = h.cause.3 in omega arith)
 
-  module _ (first : Seated C) (messages : List (List ℕ)) (new : Seated C) where
+  module _ (first : SenderSeat C) (messages : List (List ℕ)) (new : SenderSeat C) where
     -- what holds wherever it stops
     record Ends (count : ℕ) (why : SendFault) : Type 0 where
       can : can_come why ≡ true
-      puts_are : puts (deeds_of P new) ≡ puts (deeds_of P first) ++ take count messages
+      puts_are : puts (actions_of P new) ≡ puts (actions_of P first) ++ take count messages
       waits : WaitsOf P first (take count messages) new
 
     ends_before : (count : ℕ) (why : SendFault) → (count ≡ 0) × KeepsFor P first why new → Ends count why
     ends_before count (fault.Put why) h = absurd h.1
     ends_before count (fault.Turn answer) h = subst (λ k. Ends k (fault.Turn answer)) (sym h.0) (record {
       can = h.1.refused;
-      puts_are = sending_puts P K first answer new h.1.sends ∙ sym (append-nil (puts (deeds_of P first)));
+      puts_are = sending_puts P K first answer new h.1.sends ∙ sym (append-nil (puts (actions_of P first)));
       waits = record { gone = []; waits = append-nil (waiting_of P first) ∙ sym h.1.same };
     })
 

@@ -5,12 +5,12 @@ use Rattle.bus_register.specs.declared.registers.Op.{Op}
 use Rattle.bus_register.specs.declared.registers.Op.TheVariants.{Load, Store, Add, Cas}
 use Rattle.bus_register.specs.declared.registers.SenderNo.{SenderNo}
 use Rattle.bus_register.specs.Words.{register}
-use Rattle.bus_presence.specs.Hall.{Entry, presence_at}
-use Rattle.bus_presence.specs.Sweeps.{Sweeping, sweep_op}
-use Rattle.bus_presence.specs.Visits.{step_at}
-use Rattle.bus_presence.specs.declared.visits.Visit.{Visit}
-use Rattle.bus_presence.specs.declared.visits.Visit.TheVariants.{Away, Entering, Looking, Inside, Parting, Barred}
-use Rattle.bus_guest.specs.Guests.{Due, Visits, Sweeps, Goes, place_for, due_beside, due_home, due_swept, sweep_due}
+use Rattle.bus_presence.specs.Reclamation.{Entry, presence_at}
+use Rattle.bus_presence.specs.Reclaimers.{Reclaiming, reclaim_op}
+use Rattle.bus_presence.specs.Pins.{step_at}
+use Rattle.bus_presence.specs.declared.pins.Pin.{Pin}
+use Rattle.bus_presence.specs.declared.pins.Pin.TheVariants.{Away, Announcing, Validating, Pinned, Unpinning, Invalidated}
+use Rattle.bus_guest.specs.Guests.{Due, Pins, Reclaims, Goes, place_for, due_beside, due_home, due_reclaimed, reclaim_due}
 use Rattle.bus_guest.specs.Keeping.{held_of}
 use Rattle.bus_guest.specs.Telling.{FeedTells, IsBehind}
 use Rattle.bus_guest.specs.Turns.{Visitor, sizes_of, due, op_due, op_next, op_placed}
@@ -25,9 +25,9 @@ use Rattle.bus_world.proofs.RingLaws.{due_goes}
 use Rattle.std.specs.Prelude.{nat_lt}
 use Rattle.bus_pageslot.specs.Processes.{Process}
 use Rattle.bus_pageslot.specs.RowsAgain.{process_again, adds_due}
-use Rattle.bus_pageslot.specs.Seats.{Seated, TookAndTold, track_of}
+use Rattle.bus_pageslot.specs.Seats.{SenderSeat, TookAndTold, sender_trail_of}
 use Rattle.bus_pageslot.specs.Steps.{Told}
-use Rattle.bus_pageslot.specs.Tracks.{Track, with_track}
+use Rattle.bus_pageslot.specs.SenderTrails.{SenderTrail, with_sender_trail}
 
 -- ---- a holder's own steps are stores
 abbrev NoLoad : Option Op → Type 0
@@ -60,42 +60,42 @@ no_placed_load place (Some (Store at x)) r n e = let bad = same_Some _ _ e in cc
 no_placed_load place (Some (Add at x)) r n e = let bad = same_Some _ _ e in cc
 no_placed_load place (Some (Cas at x y)) r n e = let bad = same_Some _ _ e in cc
 
--- ---- a step of a visit loads no presence
-no_visit_asks : (visit : Visit) (w r : ℕ) (o : Op) → step_at visit w stage_at ≡ Some o → o ≡ Load record { 0 = 2 + r } → ⊥
-no_visit_asks Away w r o e is = let bad : None ≡ Some o = e in cc
-no_visit_asks (Entering t) w r o e is = let bad = same_Some _ _ e ∙ is in cc
-no_visit_asks (Looking t) w r o e is = let same : 1 ≡ 2 + r = ap register (same_Some _ _ e ∙ is) in omega arith
-no_visit_asks (Inside t) w r o e is = let bad : None ≡ Some o = e in cc
-no_visit_asks (Parting t) w r o e is = let bad = same_Some _ _ e ∙ is in cc
-no_visit_asks (Barred t) w r o e is = let bad = same_Some _ _ e ∙ is in cc
+-- ---- a step of a pin loads no presence
+no_pin_scans : (pin : Pin) (w r : ℕ) (o : Op) → step_at pin w stage_at ≡ Some o → o ≡ Load record { 0 = 2 + r } → ⊥
+no_pin_scans Away w r o e is = let bad : None ≡ Some o = e in cc
+no_pin_scans (Announcing t) w r o e is = let bad = same_Some _ _ e ∙ is in cc
+no_pin_scans (Validating t) w r o e is = let same : 1 ≡ 2 + r = ap register (same_Some _ _ e ∙ is) in omega arith
+no_pin_scans (Pinned t) w r o e is = let bad : None ≡ Some o = e in cc
+no_pin_scans (Unpinning t) w r o e is = let bad = same_Some _ _ e ∙ is in cc
+no_pin_scans (Invalidated t) w r o e is = let bad = same_Some _ _ e ∙ is in cc
 
-no_swept_visit : {E : Type 0} (s : Sweeping) (u : Option Op) (z : Situation E) (o : Op) → due_swept s u z ≡ Visits o → ⊥
-no_swept_visit s None z o e = cc
-no_swept_visit s (Some u) z o e = cc
+no_reclaimed_pin : {E : Type 0} (s : Reclaiming) (u : Option Op) (z : Situation E) (o : Op) → due_reclaimed s u z ≡ Pins o → ⊥
+no_reclaimed_pin s None z o e = cc
+no_reclaimed_pin s (Some u) z o e = cc
 
-no_home_visit : {E : Type 0} (s : Option Sweeping) (z : Situation E) (o : Op) → due_home s z ≡ Visits o → ⊥
-no_home_visit None z o e = cc
-no_home_visit (Some s) z o e = no_swept_visit s (sweep_op s) z o e
+no_home_pin : {E : Type 0} (s : Option Reclaiming) (z : Situation E) (o : Op) → due_home s z ≡ Pins o → ⊥
+no_home_pin None z o e = cc
+no_home_pin (Some s) z o e = no_reclaimed_pin s (reclaim_op s) z o e
 
-same_visit : {E : Type 0} (o p : Op) → ◌≡◌ {A = Due E} (Visits o) (Visits p) → o ≡ p
-same_visit o p e = cc
+same_pin : {E : Type 0} (o p : Op) → ◌≡◌ {A = Due E} (Pins o) (Pins p) → o ≡ p
+same_pin o p e = cc
 
-visit_is : {E : Type 0} (u : Option Op) (s : Option Sweeping) (z : Situation E) (o : Op) → due_beside u s z ≡ Visits o → u ≡ Some o
-visit_is (Some u) s z o e = ap Some (same_visit u o e)
-visit_is None s z o e = absurd (no_home_visit (sweep_due z s) z o e)
+pin_is : {E : Type 0} (u : Option Op) (s : Option Reclaiming) (z : Situation E) (o : Op) → due_beside u s z ≡ Pins o → u ≡ Some o
+pin_is (Some u) s z o e = ap Some (same_pin u o e)
+pin_is None s z o e = absurd (no_home_pin (reclaim_due z s) z o e)
 
 module _ {E : Type 0} (X : Election E) where
   by_due : (v : Visitor E) (word found t p : ℕ) (h : IsBehind X v found word t p) (d : Due E) → due X v ≡ d → op_due X v d word ≡ Some (Load record { 0 = presence_at (sizes_of v) p })
-      → (adds_due X v d found word).sweeps ≡ record { op = Load record { 0 = presence_at (sizes_of v) p }; got = 1 + t } ∷ []
-  by_due v word found t p h (Visits o) e op = absurd (no_visit_asks v.visit _ p o (visit_is _ v.sweep (situation_of X v.core) o e) (same_Some _ _ op))
-  by_due v word found t p h (Sweeps s o) e op = λ i. record { op = same_Some _ _ op i; got = h.found i } ∷ []
+      → (adds_due X v d found word).reclaims ≡ record { op = Load record { 0 = presence_at (sizes_of v) p }; got = 1 + t } ∷ []
+  by_due v word found t p h (Pins o) e op = absurd (no_pin_scans v.pin _ p o (pin_is _ v.reclaimer (situation_of X v.core) o e) (same_Some _ _ op))
+  by_due v word found t p h (Reclaims s o) e op = λ i. record { op = same_Some _ _ op i; got = h.found i } ∷ []
   by_due v word found t p h (Goes z) e op =
       absurd (no_placed_load (place_for v.core.layout v.rows z) (op_at X v.core z word) (presence_at (sizes_of v) p)
-      (subst (λ y. NoLoad (op_at X v.core y word)) (due_goes _ v.sweep (situation_of X v.core) z e) (holder_stores X v.core word v.core.phase h.tenure h.held)) op)
+      (subst (λ y. NoLoad (op_at X v.core y word)) (due_goes _ v.reclaimer (situation_of X v.core) z e) (holder_stores X v.core word v.core.phase h.tenure h.held)) op)
 
-  pub behind_shown : (old new : Seated (Visitor E)) (word t : ℕ) (p : SenderNo) → TookAndTold (process_again X) (FeedTells X) old word (turn.Behind t p) new
-      → (track_of (process_again X) new).sweeps ≡ (track_of (process_again X) old).sweeps ++ record { op = Load record { 0 = presence_at (sizes_of old.core) p.0 }; got = 1 + t } ∷ []
+  pub behind_shown : (old new : SenderSeat (Visitor E)) (word t : ℕ) (p : SenderNo) → TookAndTold (process_again X) (FeedTells X) old word (turn.Behind t p) new
+      → (sender_trail_of (process_again X) new).reclaims ≡ (sender_trail_of (process_again X) old).reclaims ++ record { op = Load record { 0 = presence_at (sizes_of old.core) p.0 }; got = 1 + t } ∷ []
   behind_shown old new word t p h =
       let told : h.took.got ≡ h.took.found = h.took.told _ h.tells.loads in
-      ap (λ (k : Track). k.sweeps) h.took.track
-      ∙ ap (λ l. (track_of (process_again X) old).sweeps ++ l) (by_due old.core word h.took.found t p.0 (subst (λ n. IsBehind X old.core n word t p.0) told h.tells) (due X old.core) refl h.tells.loads)
+      ap (λ (k : SenderTrail). k.reclaims) h.took.sender_trail
+      ∙ ap (λ l. (sender_trail_of (process_again X) old).reclaims ++ l) (by_due old.core word h.took.found t p.0 (subst (λ n. IsBehind X old.core n word t p.0) told h.tells) (due X old.core) refl h.tells.loads)

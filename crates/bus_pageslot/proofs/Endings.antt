@@ -11,12 +11,12 @@ use Rattle.bus_world.specs.Headline.{IsPrefix}
 use Rattle.bus_world.specs.Log.{words_read_from}
 use Rattle.bus_world.proofs.LogLaws.{length-read}
 use Rattle.bus_world.proofs.ViewingLaws.{frames_spell}
-use Rattle.bus_pageslot.specs.Ears.{Ear}
+use Rattle.bus_pageslot.specs.ReceiverViews.{ReceiverView}
 use Rattle.bus_pageslot.specs.declared.rule.View.{View}
 use Rattle.bus_pageslot.specs.declared.rule.View.TheVariants.{Tap}
-use Rattle.bus_pageslot.specs.Processes.{Extent, Process, Automaton, log_below, log_in}
+use Rattle.bus_pageslot.specs.Processes.{TableLayout, Process, Automaton, log_below, log_in}
 use Rattle.bus_pageslot.specs.Lawful.{AutomatonLaws}
-use Rattle.bus_pageslot.specs.Rule.{slot_of, known_in, KnowsLog, IsShown}
+use Rattle.bus_pageslot.specs.Rule.{slot_of, known_in, KnowsLog, TableInvariant}
 use Rattle.bus_pageslot.specs.Endings.{IsLeft}
 use Rattle.bus_pageslot.specs.Outcomes.{IsOutcome}
 use Rattle.bus_pageslot.proofs.Promising.{seats_promised}
@@ -46,49 +46,49 @@ slot_is (Some other) page e = some-injective (Some other) (Some page) e
 
 module _ {C : Type 0} (P : Process C) (A : Automaton C) (L : AutomatonLaws P A) where
   -- the page at home knows the frames
-  pub outcome_of : (v : View C) (log : List ℕ) (page : Page) → IsLeft P A v log (Some page) → IsOutcome record { senders = A.extent.senders; log = log; page = page }
+  pub outcome_of : (v : View C) (log : List ℕ) (page : Page) → IsLeft P A v log (Some page) → IsOutcome record { senders = A.table_layout.senders; log = log; page = page }
   outcome_of v log page h =
       let z = h.shown.state in
       let has = L.log z h.shown.reached in
-      let log_is : log_in A z ≡ log = ap (λ (ws : List ℕ). log_below A.extent ws) (sym h.shown.words) ∙ h.log_is in
+      let log_is : log_in A z ≡ log = ap (λ (ws : List ℕ). log_below A.table_layout ws) (sym h.shown.words) ∙ h.log_is in
       let same : slot_of (A.home z) ∷ [] ≡ slot_of (Some page) ∷ [] = sym h.shown.slot ∙ h.home_is in
       let home : A.home z ≡ Some page = slot_is (A.home z) page (some-injective _ _ (ap (λ (hs : List (maybe.Option (Option Page))). get_elem? hs 0) same)) in
       let knows = (L.page_knows z page has.frames h.shown.reached home has.lawful has.words_are).1 in
       record {
         order = order_of has.frames;
         owners = map tenure_and_owner has.frames;
-        spells = frames_spell A.extent.senders has.frames log has.lawful (sym log_is ∙ sym has.words_are);
+        spells = frames_spell A.table_layout.senders has.frames log has.lawful (sym log_is ∙ sym has.words_are);
         counts = knows.next;
         ended = knows.ended;
-        words = knows.words ∙ sym (length-read (slice_index (A.words z)) A.extent.log (slice_index (A.words z) 0)) ∙ ap length log_is;
+        words = knows.words ∙ sym (length-read (slice_index (A.words z)) A.table_layout.log (slice_index (A.words z) 0)) ∙ ap length log_is;
       }
 
-  module _ (id : ℕ) (v : View C) (x : Extent) (e : Ear) (is : v ≡ Tap x e) (ws : List ℕ) (xs : List (Option Page)) (f : Final (Seen (IsShown P A) id v) ws xs) where
-    shown : IsShown P A f.0
+  module _ (id : ℕ) (v : View C) (x : TableLayout) (e : ReceiverView) (is : v ≡ Tap x e) (ws : List ℕ) (xs : List (Option Page)) (f : Final (Seen (TableInvariant P A) id v) ws xs) where
+    shown : TableInvariant P A f.0
     shown = f.1.0
 
     words_are : A.words shown.state ≡ ws
     words_are = sym shown.words ∙ f.2
 
-    pub wide : length ws ≡ A.extent.words
+    pub wide : length ws ≡ A.table_layout.words
     wide = ap length (sym words_are) ∙ L.wide shown.state shown.reached
 
-    pub fits : slice_index ws 0 ≤ A.extent.capacity
-    fits = subst (λ l. slice_index l 0 ≤ A.extent.capacity) words_are (L.log shown.state shown.reached).fits
+    pub fits : slice_index ws 0 ≤ A.table_layout.capacity
+    fits = subst (λ l. slice_index l 0 ≤ A.table_layout.capacity) words_are (L.log shown.state shown.reached).fits
 
     stage_is : (stage : ℕ) → slice_index ws 1 ≡ stage → slice_index (A.words shown.state) 1 ≡ stage
     stage_is stage at = ap (λ l. slice_index l 1) words_are ∙ at
 
     -- what is left, with what is home
-    left : (home : Option Page) → A.home shown.state ≡ home → (log : List ℕ) → log ≡ words_read_from (slice_index ws) A.extent.log (slice_index ws 0) → IsLeft P A v log home
+    left : (home : Option Page) → A.home shown.state ≡ home → (log : List ℕ) → log ≡ words_read_from (slice_index ws) A.table_layout.log (slice_index ws 0) → IsLeft P A v log home
     left home at log log_is =
         let k : KnowsLog A shown.state x e = shown.views id (Tap x e) (f.1.1 ∙ ap (λ (u : View C). some u) is) in
-        let same : log_in A shown.state ≡ log = ap (λ l. words_read_from (slice_index l) A.extent.log (slice_index l 0)) words_are ∙ sym log_is in
+        let same : log_in A shown.state ≡ log = ap (λ l. words_read_from (slice_index l) A.table_layout.log (slice_index l 0)) words_are ∙ sym log_is in
         record {
           table = f.0;
           shown = shown;
           here = (id, f.1.1);
-          log_is = ap (λ (ws : List ℕ). log_below A.extent ws) f.2 ∙ sym log_is;
+          log_is = ap (λ (ws : List ℕ). log_below A.table_layout ws) f.2 ∙ sym log_is;
           home_is = shown.slot ∙ ap (λ (u : Option Page). slot_of u ∷ []) at;
           promised = seats_promised P A L f.0 shown;
           front = subst (λ (u : View C). IsPrefix (known_in u) log) (sym is) (subst (IsPrefix e.known) same k.front);
@@ -97,9 +97,9 @@ module _ {C : Type 0} (P : Process C) (A : Automaton C) (L : AutomatonLaws P A) 
     pub left_out : (stage : ℕ) → slice_index ws 1 ≡ stage → stage % 2 ≡ 1 → (log : List ℕ) × IsLeft P A v log None
     left_out stage at odd =
         let away = L.odd_away shown.state shown.reached (ap (λ n. n % 2) (stage_is stage at) ∙ odd) in
-        (_, left None (none_of (A.home shown.state) away) (words_read_from (slice_index ws) A.extent.log (slice_index ws 0)) refl)
+        (_, left None (none_of (A.home shown.state) away) (words_read_from (slice_index ws) A.table_layout.log (slice_index ws 0)) refl)
 
-    pub left_home : (stage : ℕ) → slice_index ws 1 ≡ stage → stage % 2 ≢ 1 → (slot : Option Page) → get_elem? xs 0 ≡ some slot → (log : List ℕ) → log ≡ words_read_from (slice_index ws) A.extent.log (slice_index ws 0) → (page : Page) × (slot ≡ Some page) × IsLeft P A v log (Some page)
+    pub left_home : (stage : ℕ) → slice_index ws 1 ≡ stage → stage % 2 ≢ 1 → (slot : Option Page) → get_elem? xs 0 ≡ some slot → (log : List ℕ) → log ≡ words_read_from (slice_index ws) A.table_layout.log (slice_index ws 0) → (page : Page) × (slot ≡ Some page) × IsLeft P A v log (Some page)
     left_home stage at even slot in_slot log log_is =
         let there = L.even_at_home shown.state shown.reached (λ odd. even (ap (λ n. n % 2) (sym (stage_is stage at)) ∙ odd)) in
         let h = some_of (A.home shown.state) there in

@@ -20,7 +20,7 @@ use Rattle.bus_world.specs.Headline.{IsPrefix, item_heard, end_heard, head_heard
 use Rattle.bus_world.proofs.HearTrails.{more_order}
 use Rattle.bus_world.proofs.Places.{got_split}
 use Rattle.bus_world.proofs.ReceivingLaws.{length-log_pieces, given_is_prefix}
-use Rattle.bus_pageslot.specs.Ears.{Ear, new_ear, ear_after_load, ear_knowing, heard_length, heard_word, length_turn, IsSilent, HasHeard, Begins, Agree}
+use Rattle.bus_pageslot.specs.ReceiverViews.{ReceiverView, new_receiver_view, receiver_view_after_load, receiver_view_knowing, heard_length, heard_word, length_turn, IsSilent, HasHeard, Begins, Agree}
 
 -- ---- what one answer adds
 order_so : (items items' : List Item) (a b : Bool) → items ≡ items' → a ≡ b → ◌≡◌ {A = Order} (record { items = items; ended = a }) (record { items = items'; ended = b })
@@ -82,14 +82,14 @@ silent_more trail answer goes j k a at l here = elim (got_split trail (answer �
 
 -- ---- one receiver
 module _ (frames : List Frame) where
-  pub heard_new : HasHeard frames new_ear
+  pub heard_new : HasHeard frames new_receiver_view
   heard_new = record { given_is = refl; heads_are = refl; ended_is = refl; silent = λ j k a at l here. absurd (let bad : None ≡ Some turn.End = at in let wrong : ⊥ = cc in wrong) }
 
-  module _ (e : Ear) (h : HasHeard frames e) where
-    pub heard_loaded : HasHeard frames (ear_after_load e)
+  module _ (e : ReceiverView) (h : HasHeard frames e) where
+    pub heard_loaded : HasHeard frames (receiver_view_after_load e)
     heard_loaded = record { given_is = h.given_is; heads_are = h.heads_are; ended_is = h.ended_is; silent = h.silent }
 
-    pub heard_learnt : (known : List ℕ) → HasHeard frames (ear_knowing e known)
+    pub heard_learnt : (known : List ℕ) → HasHeard frames (receiver_view_knowing e known)
     heard_learnt known = record { given_is = h.given_is; heads_are = h.heads_are; ended_is = h.ended_is; silent = h.silent }
 
     -- an answer that tells nothing
@@ -141,10 +141,10 @@ past p q xs le none = let size = length-drop p xs in let nothing = ap length non
 
 -- ---- a receiver and the whole order
 module _ (n : ℕ) (frames : List Frame) (lawful : AreFrames n frames) where
-  pub begins_order : (e : Ear) → HasHeard frames e → IsPrefixOfOrder (order_given e.answers) (order_of frames)
+  pub begins_order : (e : ReceiverView) → HasHeard frames e → IsPrefixOfOrder (order_given e.answers) (order_of frames)
   begins_order e h = subst (λ o. IsPrefixOfOrder o (order_of frames)) (sym h.given_is) (given_is_prefix n frames e.place lawful)
 
-  pub begins_owners : (e : Ear) → HasHeard frames e → IsPrefix (heads e.answers) (map tenure_and_owner frames)
+  pub begins_owners : (e : ReceiverView) → HasHeard frames e → IsPrefix (heads e.answers) (map tenure_and_owner frames)
   begins_owners e h =
       let all = log_pieces frames in
       record {
@@ -153,7 +153,7 @@ module _ (n : ℕ) (frames : List Frame) (lawful : AreFrames n frames) where
       }
 
   -- ---- two receivers
-  begins : (e f : Ear) → HasHeard frames e → HasHeard frames f → e.place ≤ f.place → Begins e f
+  begins : (e f : ReceiverView) → HasHeard frames e → HasHeard frames f → e.place ≤ f.place → Begins e f
   begins e f h k le =
       let all = log_pieces frames in
       let p = e.place in
@@ -176,5 +176,5 @@ module _ (n : ℕ) (frames : List Frame) (lawful : AreFrames n frames) where
         };
       }
 
-  pub agree : (e f : Ear) → HasHeard frames e → HasHeard frames f → Agree e f
+  pub agree : (e f : ReceiverView) → HasHeard frames e → HasHeard frames f → Agree e f
   agree e f h k = record { behind = begins e f h k; ahead = begins f e k h }

@@ -16,10 +16,10 @@ use Rattle.bus_tenure.specs.Situations.{Situation, IsClosed, IsIdle, IsSpent, Lo
 use Rattle.bus_tenure.specs.declared.pages.Page.{Page}
 use Rattle.bus_tenure.specs.declared.phases.Phase.TheVariants as phase
 use Rattle.bus_world.specs.Bus.{IsLayout, least_of, standing_of, stands_at}
-use Rattle.bus_world.specs.Headline.{Deed, HasPut, HasClosed}
+use Rattle.bus_world.specs.Headline.{Action, HasPut, HasClosed}
 use Rattle.bus_world.specs.Playing.{log_of, Answers, PutGives, CloseGives, TurnAnswers}
 use Rattle.bus_world.specs.Tenures.Standing.{Runs}
-use Rattle.bus_world.specs.Trails.{Trails, Reached, trails_grown, turn_deeds, put_deeds, close_deeds, turning_deeds, deeds_of}
+use Rattle.bus_world.specs.Trails.{Trails, Reached, trails_grown, turn_actions, put_actions, close_actions, turning_actions, actions_of}
 use Rattle.bus_world.specs.Trails.Reached.{New, Then}
 use Rattle.bus_world.specs.Turning.{number_found, words_after, home_after, core_after, side_after}
 use Rattle.bus_world.specs.World.{Bus, Event, Put, Close, Turn, Recv, Stop, going, no_stops, Happens, SenderDoes, with_sender, put_in, close_in, LawfulBus}
@@ -41,8 +41,8 @@ abbrev pub log_in_bus : {E : Type 0} → Layout → Bus E → List ℕ
 log_in_bus x b = log_of (record { layout = x; bus = b })
 
 -- what a step adds to the trail of a sender d, where its word had this number
-abbrev pub deeds_at : {E : Type 0} → Election E → Core E → ℕ → ℕ → List Deed
-deeds_at X d found word = turn_deeds X d (situation_of X d) found word (answer.Turn (answer_at X d (situation_of X d) found word))
+abbrev pub actions_at : {E : Type 0} → Election E → Core E → ℕ → ℕ → List Action
+actions_at X d found word = turn_actions X d (situation_of X d) found word (answer.Turn (answer_at X d (situation_of X d) found word))
 
 -- the frames of a log, and those of the log that it has become
 pub record LogGoesOn {E : Type 0} (x : Layout) (b b' : Bus E) : Type 0 where
@@ -71,27 +71,27 @@ module _ {E : Type 0} (X : Election E) (P : Protocol E (Unit {0}) ℕ) (x : Layo
   ]
 
   -- .. does nothing in an event ..
-  adds_none : (b b' : Bus E) (e : Event) (a : Answer) → Answers X b e a b' → (q : ℕ) → slice_get b.side.senders q ≡ None → deeds_of X b e a q ≡ []
+  adds_none : (b b' : Bus E) (e : Event) (a : Answer) → Answers X b e a b' → (q : ℕ) → slice_get b.side.senders q ≡ None → actions_of X b e a q ≡ []
   adds_none b b' (Put s bytes) a told q none = elim (cases_eq q s) [
     | inl e ↦ absurd (subst (λ o. PutGives o (length bytes) told.0) (nobody_goes b s (ap (slice_get b.side.senders) (sym e) ∙ none)) told.1)
-    | inr n ↦ ap (λ z. cond z (put_deeds bytes a) []) (ne_eqb q s n)
+    | inr n ↦ ap (λ z. cond z (put_actions bytes a) []) (ne_eqb q s n)
   ]
   adds_none b b' (Close s) a told q none = elim (cases_eq q s) [
     | inl e ↦ absurd (subst (λ o. CloseGives o) (nobody_goes b s (ap (slice_get b.side.senders) (sym e) ∙ none)) told.0)
-    | inr n ↦ ap (λ z. cond z (close_deeds a) []) (ne_eqb q s n)
+    | inr n ↦ ap (λ z. cond z (close_actions a) []) (ne_eqb q s n)
   ]
   adds_none b b' (Turn s word) a told q none = elim (cases_eq q s) [
     | inl e ↦ absurd (subst (λ o. TurnAnswers X b.side.words o word a) (nobody_goes b s (ap (slice_get b.side.senders) (sym e) ∙ none)) told)
-    | inr n ↦ ap (λ z. cond z (turning_deeds X b.side.words (going b s) word a) []) (ne_eqb q s n)
+    | inr n ↦ ap (λ z. cond z (turning_actions X b.side.words (going b s) word a) []) (ne_eqb q s n)
   ]
   adds_none b b' (Recv r) a told q none = refl
   adds_none b b' (Stop s) a told q none = refl
 
   -- .. and has done nothing
-  pub nobody_did : (b : Bus E) (T : Trails) → Reached X x b T → (q : ℕ) → x.senders ≤ q → T.deeds q ≡ []
+  pub nobody_did : (b : Bus E) (T : Trails) → Reached X x b T → (q : ℕ) → x.senders ≤ q → T.actions q ≡ []
   nobody_did b T (New start new) q past = refl
   nobody_did b T (Then old new before e a r is does told) q past =
-      ap (λ ds. ds ++ deeds_of X old e a q) (nobody_did old before r q past) ∙ adds_none old new e a told q (no_sender old before r q past)
+      ap (λ ds. ds ++ actions_of X old e a q) (nobody_did old before r q past) ∙ adds_none old new e a told q (no_sender old before r q past)
 
   -- the words of its log
   pub log_is : (b : Bus E) (T : Trails) (k : Kept b T) → log_in_bus x b ≡ log_words k.frames
@@ -101,11 +101,11 @@ module _ {E : Type 0} (X : Election E) (P : Protocol E (Unit {0}) ℕ) (x : Layo
   abbrev with_core : Bus E → ℕ → Core E → Bus E
   with_core b p d = record { side = with_sender b.side p d; receivers = b.receivers; stopped = b.stopped }
 
-  -- events lead to the bus with this sender in the place of p, which has these deeds more
-  pub record Reaches (b : Bus E) (T : Trails) (p : ℕ) (d : Core E) (deeds : List Deed) : Type 0 where
+  -- events lead to the bus with this sender in the place of p, which has these actions more
+  pub record Reaches (b : Bus E) (T : Trails) (p : ℕ) (d : Core E) (actions : List Action) : Type 0 where
     pub trails : Trails
     pub reached : Reached X x (with_core b p d) trails
-    pub longer : Longer p deeds T.deeds trails.deeds
+    pub longer : Longer p actions T.actions trails.actions
 
   module _ (b : Bus E) (T : Trails) (r : Reached X x b T) (running : b.stopped ≡ no_stops) (p : ℕ) (c : Core E) (old : slice_get b.side.senders p ≡ Some c) where
     goes : going b p ≡ Some c
@@ -121,7 +121,7 @@ module _ {E : Type 0} (X : Election E) (P : Protocol E (Unit {0}) ℕ) (x : Layo
         let gives : PutGives (going b p) (length bytes) (next_of c.queue) = subst (λ o. PutGives o (length bytes) (next_of c.queue)) (sym goes) (can, refl) in record {
           trails = trails_grown X b e a T;
           reached = Then b (with_core b p (with_message c bytes)) T e a r small (does (with_message c bytes) (λ c. put_in c bytes) (put_taken c bytes can), refl, refl) (next_of c.queue, gives, refl);
-          longer = longer_by p (HasPut (next_of c.queue) bytes ∷ []) T.deeds;
+          longer = longer_by p (HasPut (next_of c.queue) bytes ∷ []) T.actions;
         }
 
     pub takes_close : CanClose c.queue → Reaches b T p (with_close c) (HasClosed ∷ [])
@@ -129,7 +129,7 @@ module _ {E : Type 0} (X : Election E) (P : Protocol E (Unit {0}) ℕ) (x : Layo
         let gives : CloseGives (going b p) = subst (λ o. CloseGives o) (sym goes) can in record {
           trails = trails_grown X b (Close p) answer.Closing T;
           reached = Then b (with_core b p (with_close c)) T (Close p) answer.Closing r tt (does (with_close c) (λ c. close_in c) (close_taken c can), refl, refl) (gives, refl);
-          longer = longer_by p (HasClosed ∷ []) T.deeds;
+          longer = longer_by p (HasClosed ∷ []) T.actions;
         }
 
   -- ---- a step
@@ -143,7 +143,7 @@ module _ {E : Type 0} (X : Election E) (P : Protocol E (Unit {0}) ℕ) (x : Layo
     pub senders : bus.side.senders ≡ slice_set b.side.senders p (core_after X d (situation_of X d) b.side.home (slice_index b.side.words (register o)) word)
     pub receivers : bus.receivers ≡ b.receivers
     pub stopped : bus.stopped ≡ b.stopped
-    pub longer : Longer p (deeds_at X d (slice_index b.side.words (register o)) word) T.deeds trails.deeds
+    pub longer : Longer p (actions_at X d (slice_index b.side.words (register o)) word) T.actions trails.actions
     pub grows : LogGoesOn x b bus
 
   module _ (b : Bus E) (T : Trails) (r : Reached X x b T) (running : b.stopped ≡ no_stops) (p : ℕ) (d : Core E) (old : slice_get b.side.senders p ≡ Some d) (word : ℕ) (o : Op) (due : op_at X d (situation_of X d) word ≡ Some o) where
@@ -168,8 +168,8 @@ module _ {E : Type 0} (X : Election E) (P : Protocol E (Unit {0}) ℕ) (x : Layo
     answers : TurnAnswers X b.side.words (going b p) word told
     answers = subst (λ c. TurnAnswers X b.side.words c word told) (sym goes_here) refl
 
-    deeds_are : turning_deeds X b.side.words (going b p) word told ≡ deeds_at X d (slice_index b.side.words (register o)) word
-    deeds_are = ap (λ c. turning_deeds X b.side.words c word told) goes_here ∙ ap (λ w. deeds_at X d (number_found (slice_index b.side.words) w) word) due
+    actions_are : turning_actions X b.side.words (going b p) word told ≡ actions_at X d (slice_index b.side.words (register o)) word
+    actions_are = ap (λ c. turning_actions X b.side.words c word told) goes_here ∙ ap (λ w. actions_at X d (number_found (slice_index b.side.words) w) word) due
 
     grows : LogGoesOn x b bus'
     grows =
@@ -194,7 +194,7 @@ module _ {E : Type 0} (X : Election E) (P : Protocol E (Unit {0}) ℕ) (x : Layo
       senders = ap (λ w. slice_set b.side.senders p (core_after X d z b.side.home (number_found (slice_index b.side.words) w) word)) due;
       receivers = refl;
       stopped = refl;
-      longer = subst (λ ds. Longer p ds T.deeds (trails_grown X b (Turn p word) told T).deeds) deeds_are (longer_by p (turning_deeds X b.side.words (going b p) word told) T.deeds);
+      longer = subst (λ ds. Longer p ds T.actions (trails_grown X b (Turn p word) told T).actions) actions_are (longer_by p (turning_actions X b.side.words (going b p) word told) T.actions);
       grows = grows;
     }
 

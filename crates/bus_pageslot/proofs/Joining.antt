@@ -13,16 +13,16 @@ use Rattle.bus_batch.proofs.FrameLaws.{same_log}
 use Rattle.bus_deliverylog.specs.Orders.{of_sender}
 use Rattle.bus_deliverylog.specs.Receiving.{Receiving}
 use Rattle.bus_tenure.specs.declared.pages.Page.{Page}
-use Rattle.bus_world.specs.Headline.{Deed, puts, IsPrefix}
-use Rattle.bus_pageslot.specs.Ears.{Ear, ear_knowing, HasHeard, Agree}
+use Rattle.bus_world.specs.Headline.{Action, puts, IsPrefix}
+use Rattle.bus_pageslot.specs.ReceiverViews.{ReceiverView, receiver_view_knowing, HasHeard, Agree}
 use Rattle.bus_pageslot.specs.declared.rule.View.{View}
 use Rattle.bus_pageslot.specs.declared.rule.View.TheVariants.{Maker, Sender, Tap, Meeting, Telling, Spent}
-use Rattle.bus_pageslot.specs.Processes.{Extent, Process, Automaton, log_below, log_in}
+use Rattle.bus_pageslot.specs.Processes.{TableLayout, Process, Automaton, log_below, log_in}
 use Rattle.bus_pageslot.specs.Lawful.{AutomatonLaws}
-use Rattle.bus_pageslot.specs.Rule.{Sat, Seats, IsSeated, KnowsLog, IsTrueOf, IsShown, views_joined, first_of, second_of, all_knowing, ear_in, with_ear, known_in, capacity_in, IsFirst}
+use Rattle.bus_pageslot.specs.Rule.{Sat, Seats, IsSeated, KnowsLog, IsTrueOf, TableInvariant, views_joined, first_of, second_of, all_knowing, receiver_view_in, with_receiver_view, known_in, capacity_in, IsFirst}
 use Rattle.bus_pageslot.specs.Steps.{Accepts, Meets, Met, Learns, KnowsSent}
-use Rattle.bus_pageslot.specs.Seats.{Spot, spot_of, IsTap}
-use Rattle.bus_pageslot.specs.Tracks.{Track}
+use Rattle.bus_pageslot.specs.Seats.{ReceiverSeat, receiver_seat_of, IsTap}
+use Rattle.bus_pageslot.specs.SenderTrails.{SenderTrail}
 use Rattle.bus_pageslot.proofs.AllSeats.{still_seen, seen_longer}
 use Rattle.bus_pageslot.proofs.Hearing.{agree}
 use Rattle.bus_pageslot.proofs.ReaderLaws.{fits_learnt}
@@ -32,16 +32,16 @@ use Rattle.bus_pageslot.proofs.Reaching.{accepted}
 -- two seats that were joined
 abbrev pub IsPair : {C : Type 0} → View C → Type 0
 IsPair (Maker c) = ⊥
-IsPair (Sender c track stored) = ⊥
+IsPair (Sender c sender_trail stored) = ⊥
 IsPair (Tap x e) = ⊥
 IsPair (Meeting x e y f) = Unit {0}
-IsPair (Telling c track stored x e) = Unit {0}
+IsPair (Telling c sender_trail stored x e) = Unit {0}
 IsPair Spent = ⊥
 
 module _ {C : Type 0} (P : Process C) (A : Automaton C) where
   -- one view replaced
-  abbrev reviewed : (s : State (Option Page) (View C)) (r : IsShown P A s) (id : ℕ) (v w : View C) → get_elem? s.views id ≡ some v → ((p : ℕ) → Seats P p v → Seats P p w) → IsTrueOf P A r.state r.seat id w
-      → IsShown P A record { words = s.words; homes = s.homes; views = set s.views id w }
+  abbrev reviewed : (s : State (Option Page) (View C)) (r : TableInvariant P A s) (id : ℕ) (v w : View C) → get_elem? s.views id ≡ some v → ((p : ℕ) → Seats P p v → Seats P p w) → IsTrueOf P A r.state r.seat id w
+      → TableInvariant P A record { words = s.words; homes = s.homes; views = set s.views id w }
   reviewed s r id v w at still fits = record {
     state = r.state;
     reached = r.reached;
@@ -56,7 +56,7 @@ module _ {C : Type 0} (P : Process C) (A : Automaton C) where
   }
 
   -- a receiver's seat goes into another
-  pub joins_allowed : (v : View C) → IsFirst v → (y : Extent) (l : Ear) (id other : ℕ) → Joins (IsShown P A) id v other (Tap y l) (views_joined v (Tap y l)) Spent
+  pub joins_allowed : (v : View C) → IsFirst v → (y : TableLayout) (l : ReceiverView) (id other : ℕ) → Joins (TableInvariant P A) id v other (Tap y l) (views_joined v (Tap y l)) Spent
   joins_allowed (Maker c) is y l id other = absurd is
   joins_allowed (Sender c t stored) is y l id other = λ s r at apart there.
       let w : View C = Telling c t stored y l in
@@ -73,8 +73,8 @@ module _ {C : Type 0} (P : Process C) (A : Automaton C) where
   joins_allowed Spent is y l id other = absurd is
 
   -- one view replaced, and a receiver's added
-  parted : (s : State (Option Page) (View C)) (r : IsShown P A s) (id : ℕ) (v w : View C) → get_elem? s.views id ≡ some v → ((p : ℕ) → Seats P p v → Seats P p w) → IsTrueOf P A r.state r.seat id w → (y : Extent) (l : Ear) → KnowsLog A r.state y l
-      → IsShown P A record { words = s.words; homes = s.homes; views = set s.views id w ++ Tap y l ∷ [] }
+  parted : (s : State (Option Page) (View C)) (r : TableInvariant P A s) (id : ℕ) (v w : View C) → get_elem? s.views id ≡ some v → ((p : ℕ) → Seats P p v → Seats P p w) → IsTrueOf P A r.state r.seat id w → (y : TableLayout) (l : ReceiverView) → KnowsLog A r.state y l
+      → TableInvariant P A record { words = s.words; homes = s.homes; views = set s.views id w ++ Tap y l ∷ [] }
   parted s r id v w at still fits y l log =
       let one = reviewed s r id v w at still fits in
       record {
@@ -91,7 +91,7 @@ module _ {C : Type 0} (P : Process C) (A : Automaton C) where
       }
 
   -- joined seats are cut apart
-  pub parts_allowed : (v : View C) → IsPair v → (id : ℕ) → Splits (IsShown P A) id v (first_of v) (second_of v)
+  pub parts_allowed : (v : View C) → IsPair v → (id : ℕ) → Splits (TableInvariant P A) id v (first_of v) (second_of v)
   parts_allowed (Maker c) is id = absurd is
   parts_allowed (Sender c t stored) is id = absurd is
   parts_allowed (Tap x k) is id = absurd is
@@ -99,7 +99,7 @@ module _ {C : Type 0} (P : Process C) (A : Automaton C) where
   parts_allowed (Telling c t stored y l) is id = λ s r at. let h = r.views id (Telling c t stored y l) at in parted s r id (Telling c t stored y l) (Sender c t stored) at (λ p is. is) h.0 y l h.1
   parts_allowed Spent is id = absurd is
 
-  pub pairs : (v : View C) → IsFirst v → (y : Extent) (l : Ear) → IsPair (views_joined v (Tap y l))
+  pub pairs : (v : View C) → IsFirst v → (y : TableLayout) (l : ReceiverView) → IsPair (views_joined v (Tap y l))
   pairs (Maker c) is y l = absurd is
   pairs (Sender c t stored) is y l = tt
   pairs (Tap x k) is y l = tt
@@ -116,78 +116,78 @@ module _ {C : Type 0} (P : Process C) (A : Automaton C) where
   still_pair Spent known is = absurd is
 
 -- two receivers of one bus agree
-both_agree : {C : Type 0} (A : Automaton C) (z : A.State) (x y : Extent) (e f : Ear) → KnowsLog A z x e → KnowsLog A z y f → Agree e f
+both_agree : {C : Type 0} (A : Automaton C) (z : A.State) (x y : TableLayout) (e f : ReceiverView) → KnowsLog A z x e → KnowsLog A z y f → Agree e f
 both_agree A z x y e f h k =
-    let same : k.frames ≡ h.frames = same_log A.extent.senders 0 0 k.frames h.frames k.lawful h.lawful (k.words_are ∙ sym h.words_are) in
-    agree A.extent.senders h.frames h.lawful e f h.heard (subst (λ fs. HasHeard fs f) same k.heard)
+    let same : k.frames ≡ h.frames = same_log A.table_layout.senders 0 0 k.frames h.frames k.lawful h.lawful (k.words_are ∙ sym h.words_are) in
+    agree A.table_layout.senders h.frames h.lawful e f h.heard (subst (λ fs. HasHeard fs f) same k.heard)
 
 module _ {C : Type 0} (P : Process C) (A : Automaton C) (L : AutomatonLaws P A) where
   -- what the log holds of a sender, with all that it has accepted
-  knows_sent : (s : State (Option Page) (View C)) (r : IsShown P A s) (id : ℕ) (c : C) (track : Track) (stored : ℕ) → IsSeated P A r.state r.seat id c track stored
-      → (e : C) (deeds : List Deed) → Accepts P c e deeds → KnowsSent P e (track.deeds ++ deeds) stored (log_in A r.state)
-  knows_sent s r id c track stored h e deeds more =
-      let m = accepted P A L r.state r.reached c h.core e deeds more in
+  knows_sent : (s : State (Option Page) (View C)) (r : TableInvariant P A s) (id : ℕ) (c : C) (sender_trail : SenderTrail) (stored : ℕ) → IsSeated P A r.state r.seat id c sender_trail stored
+      → (e : C) (actions : List Action) → Accepts P c e actions → KnowsSent P e (sender_trail.actions ++ actions) stored (log_in A r.state)
+  knows_sent s r id c sender_trail stored h e actions more =
+      let m = accepted P A L r.state r.reached c h.core e actions more in
       let z = m.state in
       let log = L.log z m.changes.reached in
       let is = L.senders z (P.me c) e m.changes.reached m.changes.here in
-      let same : log_in A z ≡ log_in A r.state = ap (log_below A.extent) m.words in
+      let same : log_in A z ≡ log_in A r.state = ap (log_below A.table_layout) m.words in
       let order = order_of log.frames in
       record {
         order = order;
         owners = map tenure_and_owner log.frames;
         spelled = record {
           frames = log.frames;
-          lawful = subst (λ (x : Extent). AreFrames x.senders log.frames) (sym is.extent) log.lawful;
+          lawful = subst (λ (x : TableLayout). AreFrames x.senders log.frames) (sym is.table_layout) log.lawful;
           words_are = log.words_are ∙ same;
           order_is = refl;
           owners_are = refl;
         };
-        sent = ap (λ q. map (λ (i : Item). i.message) (of_sender q order) ++ P.waiting e) is.me ∙ L.sent z (P.me c) e log.frames m.changes.reached m.changes.here log.lawful log.words_are ∙ ap puts (ap (λ t. t.deeds) m.changes.track ∙ ap (λ t. t.deeds ++ deeds) h.track_is);
+        sent = ap (λ q. map (λ (i : Item). i.message) (of_sender q order) ++ P.waiting e) is.me ∙ L.sent z (P.me c) e log.frames m.changes.reached m.changes.here log.lawful log.words_are ∙ ap puts (ap (λ t. t.actions) m.changes.sender_trail ∙ ap (λ t. t.actions ++ actions) h.sender_trail_is);
         long = let l = size P A s r in let w = ap (λ w. slice_index w 0) r.words in let a = h.reached in omega arith;
       }
 
   -- joined seats load the length
-  pub meets_allowed : (v : View C) (carried : List (ℕ × Option Page)) → IsPair v → (slots id : ℕ) → Allows (IsShown P A) slots id (v, carried) 0 (λ n. n) (λ n. Meets P (v, carried) n)
+  pub meets_allowed : (v : View C) (carried : List (ℕ × Option Page)) → IsPair v → (slots id : ℕ) → Allows (TableInvariant P A) slots id (v, carried) 0 (λ n. n) (λ n. Meets P (v, carried) n)
   meets_allowed (Maker c) carried is slots id = absurd is
   meets_allowed (Sender c t stored) carried is slots id = absurd is
   meets_allowed (Tap x k) carried is slots id = absurd is
   meets_allowed (Meeting x k y l) carried is slots id = λ s r count at range.
       let h = r.views id (Meeting x k y l) at in
       let all : List ℕ = log_in A r.state in (
-        Meeting x (ear_knowing k all) y (ear_knowing l all),
+        Meeting x (receiver_view_knowing k all) y (receiver_view_knowing l all),
         keeps,
         tt,
-        reloaded P A s r 0 id (Meeting x k y l) (Meeting x (ear_knowing k all) y (ear_knowing l all)) at (λ p is. is) (whole A r.state x k h.0, whole A r.state y l h.1),
-        record { known = all; now = refl; length_is = size P A s r; grows = (h.0.front, h.1.front, fits P A L s r x h.0.extent, fits P A L s r y h.1.extent, both_agree A r.state x y k l h.0 h.1) },
+        reloaded P A s r 0 id (Meeting x k y l) (Meeting x (receiver_view_knowing k all) y (receiver_view_knowing l all)) at (λ p is. is) (whole A r.state x k h.0, whole A r.state y l h.1),
+        record { known = all; now = refl; length_is = size P A s r; grows = (h.0.front, h.1.front, fits P A L s r x h.0.table_layout, fits P A L s r y h.1.table_layout, both_agree A r.state x y k l h.0 h.1) },
       )
   meets_allowed (Telling c t stored y l) carried is slots id = λ s r count at range.
       let h = r.views id (Telling c t stored y l) at in
       let all : List ℕ = log_in A r.state in (
-        Telling c t stored y (ear_knowing l all),
+        Telling c t stored y (receiver_view_knowing l all),
         keeps,
         tt,
-        reloaded P A s r 0 id (Telling c t stored y l) (Telling c t stored y (ear_knowing l all)) at (λ p is. is) (h.0, whole A r.state y l h.1),
-        record { known = all; now = refl; length_is = size P A s r; grows = (h.1.front, fits P A L s r y h.1.extent, knows_sent s r id c t stored h.0) },
+        reloaded P A s r 0 id (Telling c t stored y l) (Telling c t stored y (receiver_view_knowing l all)) at (λ p is. is) (h.0, whole A r.state y l h.1),
+        record { known = all; now = refl; length_is = size P A s r; grows = (h.1.front, fits P A L s r y h.1.table_layout, knows_sent s r id c t stored h.0) },
       )
   meets_allowed Spent carried is slots id = absurd is
 
 -- what a receiver is told, and what two that meet learn
 module _ {C : Type 0} (P : Process C) where
-  told_at : (c : C) (t : Track) (stored : ℕ) (carried : List (ℕ × Option Page)) (y : Extent) (l : Ear) (got : ℕ) (m' n' : Sat C) → Met P (Sender c t stored, carried) (Tap y l, []) got m' n'
-      → (m' ≡ (Sender c t stored, carried)) × Learns (Tap y l, []) got n' × ((e : C) (deeds : List Deed) → Accepts P c e deeds → KnowsSent P e (t.deeds ++ deeds) stored (known_in n'.0))
+  told_at : (c : C) (t : SenderTrail) (stored : ℕ) (carried : List (ℕ × Option Page)) (y : TableLayout) (l : ReceiverView) (got : ℕ) (m' n' : Sat C) → Met P (Sender c t stored, carried) (Tap y l, []) got m' n'
+      → (m' ≡ (Sender c t stored, carried)) × Learns (Tap y l, []) got n' × ((e : C) (actions : List Action) → Accepts P c e actions → KnowsSent P e (t.actions ++ actions) stored (known_in n'.0))
   told_at c t stored carried y l got m' n' h = (
     h.first,
     record { known = h.known; now = h.second; grows = h.grows.0; length_is = h.length_is; within = h.grows.1 },
-    subst (λ (y : Sat C). (e : C) (deeds : List Deed) → Accepts P c e deeds → KnowsSent P e (t.deeds ++ deeds) stored (known_in y.0)) (sym h.second) h.grows.2,
+    subst (λ (y : Sat C). (e : C) (actions : List Action) → Accepts P c e actions → KnowsSent P e (t.actions ++ actions) stored (known_in y.0)) (sym h.second) h.grows.2,
   )
 
-  pub told_of : (c : C) (t : Track) (stored : ℕ) (carried : List (ℕ × Option Page)) (y : Extent) (l : Ear) (m n : Sat C) (got : ℕ) (m' n' : Sat C) → m ≡ (Sender c t stored, carried) → n ≡ (Tap y l, []) → Met P m n got m' n'
-      → (m' ≡ m) × Learns n got n' × ((e : C) (deeds : List Deed) → Accepts P c e deeds → KnowsSent P e (t.deeds ++ deeds) stored (known_in n'.0))
+  pub told_of : (c : C) (t : SenderTrail) (stored : ℕ) (carried : List (ℕ × Option Page)) (y : TableLayout) (l : ReceiverView) (m n : Sat C) (got : ℕ) (m' n' : Sat C) → m ≡ (Sender c t stored, carried) → n ≡ (Tap y l, []) → Met P m n got m' n'
+      → (m' ≡ m) × Learns n got n' × ((e : C) (actions : List Action) → Accepts P c e actions → KnowsSent P e (t.actions ++ actions) stored (known_in n'.0))
   told_of c t stored carried y l m n got m' n' em en h =
-      subst (λ (y : Sat C × Sat C). (m' ≡ y.0) × Learns y.1 got n' × ((e : C) (deeds : List Deed) → Accepts P c e deeds → KnowsSent P e (t.deeds ++ deeds) stored (known_in n'.0))) (λ i. (sym em i, sym en i))
+      subst (λ (y : Sat C × Sat C). (m' ≡ y.0) × Learns y.1 got n' × ((e : C) (actions : List Action) → Accepts P c e actions → KnowsSent P e (t.actions ++ actions) stored (known_in n'.0))) (λ i. (sym em i, sym en i))
       (told_at c t stored carried y l got m' n' (subst (λ (y : Sat C × Sat C). Met P y.0 y.1 got m' n') (λ i. (em i, en i)) h))
 
-  met_at : (x : Extent) (k : Ear) (y : Extent) (l : Ear) (got : ℕ) (m' n' : Sat C) → Met P (Tap x k, []) (Tap y l, []) got m' n' → Learns (Tap x k, []) got m' × Learns (Tap y l, []) got n' × (known_in n'.0 ≡ known_in m'.0) × Agree k l
+  met_at : (x : TableLayout) (k : ReceiverView) (y : TableLayout) (l : ReceiverView) (got : ℕ) (m' n' : Sat C) → Met P (Tap x k, []) (Tap y l, []) got m' n' → Learns (Tap x k, []) got m' × Learns (Tap y l, []) got n' × (known_in n'.0 ≡ known_in m'.0) × Agree k l
   met_at x k y l got m' n' h = (
     record { known = h.known; now = h.first; grows = h.grows.0; length_is = h.length_is; within = h.grows.2 },
     record { known = h.known; now = h.second; grows = h.grows.1; length_is = h.length_is; within = h.grows.3 },
@@ -195,29 +195,29 @@ module _ {C : Type 0} (P : Process C) where
     h.grows.4,
   )
 
-  pub met_of : (x : Extent) (k : Ear) (y : Extent) (l : Ear) (m n : Sat C) (got : ℕ) (m' n' : Sat C) → m ≡ (Tap x k, []) → n ≡ (Tap y l, []) → Met P m n got m' n' → Learns m got m' × Learns n got n' × (known_in n'.0 ≡ known_in m'.0) × Agree (ear_in m.0) (ear_in n.0)
+  pub met_of : (x : TableLayout) (k : ReceiverView) (y : TableLayout) (l : ReceiverView) (m n : Sat C) (got : ℕ) (m' n' : Sat C) → m ≡ (Tap x k, []) → n ≡ (Tap y l, []) → Met P m n got m' n' → Learns m got m' × Learns n got n' × (known_in n'.0 ≡ known_in m'.0) × Agree (receiver_view_in m.0) (receiver_view_in n.0)
   met_of x k y l m n got m' n' em en h =
-      subst (λ (y : Sat C × Sat C). Learns y.0 got m' × Learns y.1 got n' × (known_in n'.0 ≡ known_in m'.0) × Agree (ear_in y.0.0) (ear_in y.1.0)) (λ i. (sym em i, sym en i))
+      subst (λ (y : Sat C × Sat C). Learns y.0 got m' × Learns y.1 got n' × (known_in n'.0 ≡ known_in m'.0) × Agree (receiver_view_in y.0.0) (receiver_view_in y.1.0)) (λ i. (sym em i, sym en i))
       (met_at x k y l got m' n' (subst (λ (y : Sat C × Sat C). Met P y.0 y.1 got m' n') (λ i. (em i, en i)) h))
 
   -- a receiver after it has learnt
-  pub learned : (s : Spot C) (log known got : ℕ) (r : Receiving) (m' : Sat C) (table : TableId) → IsTap s log known r → Learns s.me got m' → table.words ≡ s.table_id.words → IsTap (record { table_id = table; me = m' }) log got r
+  pub learned : (s : ReceiverSeat C) (log known got : ℕ) (r : Receiving) (m' : Sat C) (table : TableId) → IsTap s log known r → Learns s.me got m' → table.words ≡ s.table_id.words → IsTap (record { table_id = table; me = m' }) log got r
   learned s log known got r m' table h l wide =
       let t = h.sits in
-      let now : m' ≡ (Tap t.extent (ear_knowing t.ear l.known), []) = l.now ∙ (λ i. (with_ear (t.me i).0 (ear_knowing (ear_in (t.me i).0) l.known), (t.me i).1)) in
-      let grows : IsPrefix t.ear.known l.known = subst (λ (y : Sat C). IsPrefix (known_in y.0) l.known) t.me l.grows in
-      let within : length l.known ≤ t.extent.capacity = subst (λ (y : Sat C). length l.known ≤ capacity_in y.0) t.me l.within in
+      let now : m' ≡ (Tap t.table_layout (receiver_view_knowing t.receiver_view l.known), []) = l.now ∙ (λ i. (with_receiver_view (t.me i).0 (receiver_view_knowing (receiver_view_in (t.me i).0) l.known), (t.me i).1)) in
+      let grows : IsPrefix t.receiver_view.known l.known = subst (λ (y : Sat C). IsPrefix (known_in y.0) l.known) t.me l.grows in
+      let within : length l.known ≤ t.table_layout.capacity = subst (λ (y : Sat C). length l.known ≤ capacity_in y.0) t.me l.within in
       record {
-        sits = record { extent = t.extent; ear = ear_knowing t.ear l.known; me = now; log_is = t.log_is; within = within; room = t.room; few = t.few; behind = t.behind; wide = wide ∙ t.wide; fit = fits_learnt t.extent.senders t.ear (ear_knowing t.ear l.known) r t.fit refl refl grows };
+        sits = record { table_layout = t.table_layout; receiver_view = receiver_view_knowing t.receiver_view l.known; me = now; log_is = t.log_is; within = within; room = t.room; few = t.few; behind = t.behind; wide = wide ∙ t.wide; fit = fits_learnt t.table_layout.senders t.receiver_view (receiver_view_knowing t.receiver_view l.known) r t.fit refl refl grows };
         known_is = sym l.length_is ∙ ap (λ (y : Sat C). length (known_in y.0)) (sym now);
       }
 
-  pub is_here : (s : Option (Seat (Option Page) (View C))) (log known : ℕ) (r : Receiving) → IsTap (spot_of s) log known r → IsSome s
+  pub is_here : (s : Option (Seat (Option Page) (View C))) (log known : ℕ) (r : Receiving) → IsTap (receiver_seat_of s) log known r → IsSome s
   is_here (Some s) log known r h = refl
-  is_here None log known r h = absurd (let bad : Spent ≡ Tap h.sits.extent h.sits.ear = ap (λ (y : Sat C). y.0) h.sits.me in let wrong : ⊥ = cc in wrong)
+  is_here None log known r h = absurd (let bad : Spent ≡ Tap h.sits.table_layout h.sits.receiver_view = ap (λ (y : Sat C). y.0) h.sits.me in let wrong : ⊥ = cc in wrong)
 
-  pub first_of_tap : (m : Sat C) (x : Extent) (k : Ear) → m ≡ (Tap x k, []) → IsFirst m.0
+  pub first_of_tap : (m : Sat C) (x : TableLayout) (k : ReceiverView) → m ≡ (Tap x k, []) → IsFirst m.0
   first_of_tap m x k e = subst (λ (y : Sat C). IsFirst y.0) (sym e) tt
 
-  pub first_of_sender : (m : Sat C) (c : C) (t : Track) (stored : ℕ) (carried : List (ℕ × Option Page)) → m ≡ (Sender c t stored, carried) → IsFirst m.0
+  pub first_of_sender : (m : Sat C) (c : C) (t : SenderTrail) (stored : ℕ) (carried : List (ℕ × Option Page)) → m ≡ (Sender c t stored, carried) → IsFirst m.0
   first_of_sender m c t stored carried e = subst (λ (y : Sat C). IsFirst y.0) (sym e) tt

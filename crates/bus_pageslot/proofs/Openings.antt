@@ -14,17 +14,17 @@ use Rattle.bus_register.specs.Proved.TableLaws.{push_here, push_beside}
 use Rattle.bus_batch.specs.Frames.{Frame, AreFrames, log_words}
 use Rattle.bus_tenure.specs.declared.pages.Page.{Page}
 use Rattle.bus_world.specs.World.{new_page}
-use Rattle.bus_pageslot.specs.Ears.{new_ear}
+use Rattle.bus_pageslot.specs.ReceiverViews.{new_receiver_view}
 use Rattle.bus_pageslot.specs.declared.rule.View.{View}
 use Rattle.bus_pageslot.specs.declared.rule.View.TheVariants.{Maker, Sender, Tap, Meeting, Telling, Spent}
-use Rattle.bus_pageslot.specs.Processes.{Extent, Process, Automaton, IsCounted, log_in}
+use Rattle.bus_pageslot.specs.Processes.{TableLayout, Process, Automaton, IsCounted, log_in}
 use Rattle.bus_pageslot.specs.Lawful.{AutomatonLaws, Opens}
-use Rattle.bus_pageslot.specs.Rule.{slot_of, tap_left, tap_right, track_in, stored_in, cut_left, cut_right, KnowsLog, IsTrueOf, IsShown}
+use Rattle.bus_pageslot.specs.Rule.{slot_of, tap_left, tap_right, sender_trail_in, stored_in, cut_left, cut_right, KnowsLog, IsTrueOf, TableInvariant}
 use Rattle.bus_pageslot.specs.Steps.{carried_of}
 use Rattle.bus_pageslot.specs.Steps.Accepts.{Nothing}
-use Rattle.bus_pageslot.specs.Seats.{Seated, Spot, Shows, table_of}
+use Rattle.bus_pageslot.specs.Seats.{SenderSeat, ReceiverSeat, Shows, table_of}
 use Rattle.bus_pageslot.specs.Buses.{IsNewSeat, AreNewSeats, IsNewTap, AreNewTaps}
-use Rattle.bus_pageslot.specs.Tracks.{no_track}
+use Rattle.bus_pageslot.specs.SenderTrails.{no_sender_trail}
 use Rattle.bus_pageslot.proofs.AllSeats.{still_seen, seen_longer}
 use Rattle.bus_pageslot.proofs.Hearing.{heard_new}
 use Rattle.atomic_table.specs.Seated.{TableId}
@@ -48,8 +48,8 @@ at_end (x ∷ xs) a b zero e = inl e
 at_end (x ∷ xs) a b (suc j) e = ⊎_elim (λ h. inl h) (λ t. inr (ap suc t.0, t.1)) (at_end xs a b j e)
 
 -- a receiver that knows nothing, of a log with these frames
-knows_new : {C : Type 0} (A : Automaton C) (z : A.State) (x : Extent) → x ≡ A.extent → (frames : List Frame) → AreFrames A.extent.senders frames → log_words frames ≡ log_in A z → KnowsLog A z x new_ear
-knows_new A z x extent frames lawful words = record { extent = extent; front = record { rest = log_in A z; together = refl }; below = omega arith; frames = frames; lawful = lawful; words_are = words; heard = heard_new frames }
+knows_new : {C : Type 0} (A : Automaton C) (z : A.State) (x : TableLayout) → x ≡ A.table_layout → (frames : List Frame) → AreFrames A.table_layout.senders frames → log_words frames ≡ log_in A z → KnowsLog A z x new_receiver_view
+knows_new A z x table_layout frames lawful words = record { table_layout = table_layout; front = record { rest = log_in A z; together = refl }; below = omega arith; frames = frames; lawful = lawful; words_are = words; heard = heard_new frames }
 
 module _ {C : Type 0} (P : Process C) (A : Automaton C) (L : AutomatonLaws P A) where
   abbrev first : View C
@@ -57,10 +57,10 @@ module _ {C : Type 0} (P : Process C) (A : Automaton C) (L : AutomatonLaws P A) 
 
   module _ (o : Opens P A) where
     only : (j : ℕ) (v : View C) → get_elem? (first ∷ []) j ≡ some v → IsTrueOf P A o.state (λ p. 0) j v
-    only zero v e = subst (IsTrueOf P A o.state (λ p. 0) 0) (some-injective first v e) (ap A.started (sym (L.started_me 0)), λ p low high. record { here = refl; core = o.senders p high; track_is = o.track p })
+    only zero v e = subst (IsTrueOf P A o.state (λ p. 0) 0) (some-injective first v e) (ap A.started (sym (L.started_me 0)), λ p low high. record { here = refl; core = o.senders p high; sender_trail_is = o.sender_trail p })
     only (suc j) v e = absurd (some-ne-none v (sym e))
 
-    pub opens : (ws : List ℕ) → ws ≡ replicate A.extent.words 0 → IsShown P A (opening ws (Some new_page ∷ []) first)
+    pub opens : (ws : List ℕ) → ws ≡ replicate A.table_layout.words 0 → TableInvariant P A (opening ws (Some new_page ∷ []) first)
     opens ws zeros = record {
       state = o.state;
       reached = o.reached;
@@ -76,26 +76,26 @@ module _ {C : Type 0} (P : Process C) (A : Automaton C) (L : AutomatonLaws P A) 
     seats_still q at = sit_else seat k count q (λ e. other (sym at ∙ ap seat e ∙ mine)) ∙ at
 
     cut_others : (v : View C) → IsTrueOf P A z seat j v → IsTrueOf P A z (sit seat k count) j v
-    cut_others (Maker c) h = (h.0, λ q low high. let u = h.1 q low high in record { here = seats_still q u.here; core = u.core; track_is = u.track_is })
-    cut_others (Sender c t stored) h = record { here = seats_still (P.me c) h.here; core = h.core; track_is = h.track_is; reached = h.reached }
+    cut_others (Maker c) h = (h.0, λ q low high. let u = h.1 q low high in record { here = seats_still q u.here; core = u.core; sender_trail_is = u.sender_trail_is })
+    cut_others (Sender c t stored) h = record { here = seats_still (P.me c) h.here; core = h.core; sender_trail_is = h.sender_trail_is; reached = h.reached }
     cut_others (Tap x e) h = h
     cut_others (Meeting x e y f) h = h
-    cut_others (Telling c t stored x e) h = (record { here = seats_still (P.me c) h.0.here; core = h.0.core; track_is = h.0.track_is; reached = h.0.reached }, h.1)
+    cut_others (Telling c t stored x e) h = (record { here = seats_still (P.me c) h.0.here; core = h.0.core; sender_trail_is = h.0.sender_trail_is; reached = h.0.reached }, h.1)
     cut_others Spent h = tt
 
   -- a seat for one more sender
-  pub cut_allowed : (id : ℕ) (c : C) → P.me c < (P.extent c).senders → Splits (IsShown P A) id (Maker c) (cut_left P (Maker c)) (cut_right (Maker c))
+  pub cut_allowed : (id : ℕ) (c : C) → P.me c < (P.table_layout c).senders → Splits (TableInvariant P A) id (Maker c) (cut_left P (Maker c)) (cut_right (Maker c))
   cut_allowed id c below s r at =
       let old = r.views id (Maker c) at in
-      let extent : P.extent c ≡ A.extent = ap P.extent old.0 ∙ L.started_extent (P.me c) in
-      let within : P.me c < A.extent.senders = subst (λ (z : Extent). P.me c < z.senders) extent below in
+      let table_layout : P.table_layout c ≡ A.table_layout = ap P.table_layout old.0 ∙ L.started_table_layout (P.me c) in
+      let within : P.me c < A.table_layout.senders = subst (λ (z : TableLayout). P.me c < z.senders) table_layout below in
       let mine = old.1 (P.me c) (omega arith) within in
       let count : ℕ = length s.views in
       let seat : ℕ → ℕ = sit r.seat (P.me c) count in
       let next : P.successor c ≡ A.started (P.me c + 1) = ap P.successor old.0 ∙ L.started_next (P.me c) in
       let next_me : P.me (P.successor c) ≡ P.me c + 1 = ap P.me next ∙ L.started_me (P.me c + 1) in
       let left : View C = Maker (P.successor c) in
-      let right : View C = Sender c no_track 0 in
+      let right : View C = Sender c no_sender_trail 0 in
       record {
         state = r.state;
         reached = r.reached;
@@ -109,20 +109,20 @@ module _ {C : Type 0} (P : Process C) (A : Automaton C) (L : AutomatonLaws P A) 
         views = λ j v e. elim (at_end (set s.views id left) right v j e) [
           | inl u ↦ ⊎_elim
               (λ (y : (j ≡ id) × (left ≡ v)). subst (λ (z : ℕ × View C). IsTrueOf P A r.state seat z.0 z.1) (λ i. (sym y.0 i, y.1 i))
-              (next ∙ ap A.started (sym next_me), λ q low high. let w = old.1 q (let m = next_me in omega arith) high in record { here = sit_else r.seat (P.me c) count q (λ y. let m = next_me in omega (arith, y)) ∙ w.here; core = w.core; track_is = w.track_is }))
+              (next ∙ ap A.started (sym next_me), λ q low high. let w = old.1 q (let m = next_me in omega arith) high in record { here = sit_else r.seat (P.me c) count q (λ y. let m = next_me in omega (arith, y)) ∙ w.here; core = w.core; sender_trail_is = w.sender_trail_is }))
               (λ (y : (j ≢ id) × (get_elem? s.views j ≡ some v)). cut_others r.state r.seat (P.me c) id count mine.here j y.0 v (r.views j v y.1))
               (at_set s.views id j left v u)
           | inr u ↦ subst (λ (z : ℕ × View C). IsTrueOf P A r.state seat z.0 z.1) (λ i. (sym (u.0 ∙ length-set s.views id left) i, u.1 i))
-              (record { here = sit_here r.seat (P.me c) count; core = mine.core ∙ ap Some (sym old.0); track_is = mine.track_is; reached = omega arith })
+              (record { here = sit_here r.seat (P.me c) count; core = mine.core ∙ ap Some (sym old.0); sender_trail_is = mine.sender_trail_is; reached = omega arith })
         ];
       }
 
   -- a seat for one more receiver
-  pub tap_allowed : (id : ℕ) (c : C) → Splits (IsShown P A) id (Maker c) (tap_left (Maker c)) (tap_right P (Maker c))
+  pub tap_allowed : (id : ℕ) (c : C) → Splits (TableInvariant P A) id (Maker c) (tap_left (Maker c)) (tap_right P (Maker c))
   tap_allowed id c s r at =
       let log = L.log r.state r.reached in
       let old = r.views id (Maker c) at in
-      let tap : View C = Tap (P.extent c) new_ear in
+      let tap : View C = Tap (P.table_layout c) new_receiver_view in
       record {
         state = r.state;
         reached = r.reached;
@@ -135,26 +135,26 @@ module _ {C : Type 0} (P : Process C) (A : Automaton C) (L : AutomatonLaws P A) 
               (λ (y : (j ≡ id) × (Maker c ≡ v)). subst (λ (z : ℕ × View C). IsTrueOf P A r.state r.seat z.0 z.1) (λ i. (sym y.0 i, y.1 i)) old)
               (λ (y : (j ≢ id) × (get_elem? s.views j ≡ some v)). r.views j v y.1)
               (at_set s.views id j (Maker c) v u)
-          | inr u ↦ subst (IsTrueOf P A r.state r.seat j) u.1 (knows_new A r.state (P.extent c) (ap P.extent old.0 ∙ L.started_extent (P.me c)) log.frames log.lawful log.words_are)
+          | inr u ↦ subst (IsTrueOf P A r.state r.seat j) u.1 (knows_new A r.state (P.table_layout c) (ap P.table_layout old.0 ∙ L.started_table_layout (P.me c)) log.frames log.lawful log.words_are)
         ];
       }
 
 -- a sender shows the seat that was made for it
-pub shows_new : {C : Type 0} (P : Process C) (A : Automaton C) → AutomatonLaws P A → Opens P A → (k : ℕ) (c : C) (v : View C) (s : Seat (Option Page) (View C)) → c ≡ A.started k → v ≡ Maker (A.started k) → s.me ≡ (cut_right v, []) → s.table_id.words ≡ A.extent.words → s.table_id.slots ≡ 1 → Shows P c s
+pub shows_new : {C : Type 0} (P : Process C) (A : Automaton C) → AutomatonLaws P A → Opens P A → (k : ℕ) (c : C) (v : View C) (s : Seat (Option Page) (View C)) → c ≡ A.started k → v ≡ Maker (A.started k) → s.me ≡ (cut_right v, []) → s.table_id.words ≡ A.table_layout.words → s.table_id.slots ≡ 1 → Shows P c s
 shows_new {C} P A L o k c v s is maker me words slots =
-    let now : s.me ≡ (Sender c no_track 0, []) = me ∙ ap (λ (y : View C). (cut_right y, [])) maker ∙ ap (λ (y : C). (Sender y no_track 0, [])) (sym is) in
+    let now : s.me ≡ (Sender c no_sender_trail 0, []) = me ∙ ap (λ (y : View C). (cut_right y, [])) maker ∙ ap (λ (y : C). (Sender y no_sender_trail 0, [])) (sym is) in
     let away : P.holds c ≡ false = ap P.holds is ∙ L.started_away k in
     record {
       shown = c;
-      deeds = [];
+      actions = [];
       accepts = Nothing;
       counted = subst (IsCounted P) (sym is) (o.counted k);
-      me = now ∙ (λ i. (Sender c (track_in (sym now i).0) (stored_in (sym now i).0), carried_of (sym away i)));
-      words = words ∙ ap (λ (x : Extent). x.words) (sym (ap P.extent is ∙ L.started_extent k));
+      me = now ∙ (λ i. (Sender c (sender_trail_in (sym now i).0) (stored_in (sym now i).0), carried_of (sym away i)));
+      words = words ∙ ap (λ (x : TableLayout). x.words) (sym (ap P.table_layout is ∙ L.started_table_layout k));
       slots = slots;
     }
 
-pub one_more : {C : Type 0} (P : Process C) (A : Automaton C) (table : TableId) (many : ℕ) (senders : List (Seated C)) (s : Seated C) → AreNewSeats P A table many senders → IsNewSeat P A table many s → AreNewSeats P A table (many + 1) (senders ++ s ∷ [])
+pub one_more : {C : Type 0} (P : Process C) (A : Automaton C) (table : TableId) (many : ℕ) (senders : List (SenderSeat C)) (s : SenderSeat C) → AreNewSeats P A table many senders → IsNewSeat P A table many s → AreNewSeats P A table (many + 1) (senders ++ s ∷ [])
 one_more P A table many senders s h new = record {
   many_are = length-append senders (s ∷ []) ∙ (let z = h.many_are in omega arith);
   each = λ p y e.
@@ -168,7 +168,7 @@ one_more P A table many senders s h new = record {
       ];
 }
 
-pub one_more_tap : {C : Type 0} (x : Extent) (table : TableId) (many : ℕ) (taps : List (Spot C)) (t : Spot C) → AreNewTaps x table many taps → IsNewTap x table t → AreNewTaps x table (many + 1) (taps ++ t ∷ [])
+pub one_more_tap : {C : Type 0} (x : TableLayout) (table : TableId) (many : ℕ) (taps : List (ReceiverSeat C)) (t : ReceiverSeat C) → AreNewTaps x table many taps → IsNewTap x table t → AreNewTaps x table (many + 1) (taps ++ t ∷ [])
 one_more_tap x table many taps t h new = record {
   many_are = length-append taps (t ∷ []) ∙ (let z = h.many_are in omega arith);
   each = λ r y e.
@@ -186,8 +186,8 @@ by_each : {A : Type 0} (P : A → Type 0) (xs : List A) → ((p : ℕ) (x : A) �
 by_each P [] each = All-nil P
 by_each P (x ∷ xs) each = All-cons P x xs (each 0 x refl) (by_each P xs (λ p. each (suc p)))
 
-pub all_here : {C : Type 0} (P : Process C) (A : Automaton C) (table : TableId) (many : ℕ) (senders : List (Seated C)) → AreNewSeats P A table many senders → All (λ s. table_of s ≡ table) senders
+pub all_here : {C : Type 0} (P : Process C) (A : Automaton C) (table : TableId) (many : ℕ) (senders : List (SenderSeat C)) → AreNewSeats P A table many senders → All (λ s. table_of s ≡ table) senders
 all_here P A table many senders h = by_each (λ s. table_of s ≡ table) senders (λ p s e. (h.each p s e).table_is)
 
-pub all_taps_here : {C : Type 0} (x : Extent) (table : TableId) (many : ℕ) (taps : List (Spot C)) → AreNewTaps x table many taps → All (λ t. t.table_id ≡ table) taps
+pub all_taps_here : {C : Type 0} (x : TableLayout) (table : TableId) (many : ℕ) (taps : List (ReceiverSeat C)) → AreNewTaps x table many taps → All (λ t. t.table_id ≡ table) taps
 all_taps_here x table many taps h = by_each (λ t. t.table_id ≡ table) taps (λ r t e. (h.each r t e).table_is)

@@ -1,4 +1,4 @@
--- A sender that has accepted a message or a close still shows its seat, which no step has changed; and its deeds have that one more.
+-- A sender that has accepted a message or a close still shows its seat, which no step has changed; and its actions have that one more.
 use Rattle.std.proofs.Common.{◌≡◌, ℕ, ◌<◌, ◌≤◌, Option, List, [], ◌∷◌, ◌++◌, length, arith, sym, ◌∙◌, ap, subst, append_assoc}
 use Rattle.std.specs.Prelude.{All, Result, Ok, Err, IfOk, OnOk, OnErr}
 use Rattle.std.proofs.lemmas.List.{length-append}
@@ -7,63 +7,63 @@ use Rattle.bus_batch.specs.Batches.{Pending, next_of, CanPut, CanClose}
 use Rattle.bus_batch.specs.declared.batches.PutFault.{PutFault}
 use Rattle.bus_batch.specs.declared.batches.CloseFault.{CloseFault}
 use Rattle.bus_tenure.specs.declared.pages.Page.{Page}
-use Rattle.bus_world.specs.Headline.{Deed, HasPut, HasClosed}
+use Rattle.bus_world.specs.Headline.{Action, HasPut, HasClosed}
 use Rattle.bus_pageslot.specs.declared.rule.View.{View}
 use Rattle.bus_pageslot.specs.declared.rule.View.TheVariants.{Sender}
-use Rattle.bus_pageslot.specs.Processes.{Extent, Process}
+use Rattle.bus_pageslot.specs.Processes.{TableLayout, Process}
 use Rattle.bus_pageslot.specs.Lawful.{ProcessLaws, Keeps}
-use Rattle.bus_pageslot.specs.Rule.{Sat, track_in, stored_in}
+use Rattle.bus_pageslot.specs.Rule.{Sat, sender_trail_in, stored_in}
 use Rattle.bus_pageslot.specs.Steps.{Accepts, carried_of, since_in, all_in}
 use Rattle.bus_pageslot.specs.Steps.Accepts.{Message, Close}
 use Rattle.bus_pageslot.specs.Seats.{Shows}
 use Rattle.bus_pageslot.proofs.Accepting.{since_is}
 
--- the deeds of a sender d with this view
-abbrev pub deeds_in : {C : Type 0} → Process C → View C → C → List Deed
-deeds_in P v d = (all_in P v d).deeds
+-- the actions of a sender d with this view
+abbrev pub actions_in : {C : Type 0} → Process C → View C → C → List Action
+actions_in P v d = (all_in P v d).actions
 
 module _ {C : Type 0} (P : Process C) (L : ProcessLaws P) (d : C) (s : Seat (Option Page) (View C)) (h : Shows P d s) where
   -- all that it did, by what it has accepted
-  pub deeds_are : (d' : C) (deeds : List Deed) → Accepts P h.shown d' deeds → deeds_in P s.me.0 d' ≡ (track_in s.me.0).deeds ++ deeds
-  deeds_are d' deeds more = ap (λ l. (track_in s.me.0).deeds ++ l) (ap (λ (y : Sat C). since_in P y.0 d') h.me ∙ since_is P L h.shown d' deeds more)
+  pub actions_are : (d' : C) (actions : List Action) → Accepts P h.shown d' actions → actions_in P s.me.0 d' ≡ (sender_trail_in s.me.0).actions ++ actions
+  actions_are d' actions more = ap (λ l. (sender_trail_in s.me.0).actions ++ l) (ap (λ (y : Sat C). since_in P y.0 d') h.me ∙ since_is P L h.shown d' actions more)
 
-  more_deeds : (d' : C) (deed : Deed) → Accepts P h.shown d' (h.deeds ++ deed ∷ []) → deeds_in P s.me.0 d' ≡ deeds_in P s.me.0 d ++ deed ∷ []
-  more_deeds d' deed more = deeds_are d' (h.deeds ++ deed ∷ []) more ∙ sym (append_assoc (track_in s.me.0).deeds h.deeds (deed ∷ [])) ∙ ap (λ l. l ++ deed ∷ []) (sym (deeds_are d h.deeds h.accepts))
+  more_actions : (d' : C) (action : Action) → Accepts P h.shown d' (h.actions ++ action ∷ []) → actions_in P s.me.0 d' ≡ actions_in P s.me.0 d ++ action ∷ []
+  more_actions d' action more = actions_are d' (h.actions ++ action ∷ []) more ∙ sym (append_assoc (sender_trail_in s.me.0).actions h.actions (action ∷ [])) ∙ ap (λ l. l ++ action ∷ []) (sym (actions_are d h.actions h.accepts))
 
   -- it shows its seat still, with a batch of as few messages
-  still : (d' : C) (deeds : List Deed) → Accepts P h.shown d' deeds → Keeps P d d' → (P.queue d').first ≡ (P.queue d).first → length (P.queue d').messages ≤ 16 → Shows P d' s
-  still d' deeds more keeps first few = record {
+  still : (d' : C) (actions : List Action) → Accepts P h.shown d' actions → Keeps P d d' → (P.queue d').first ≡ (P.queue d).first → length (P.queue d').messages ≤ 16 → Shows P d' s
+  still d' actions more keeps first few = record {
     shown = h.shown;
-    deeds = deeds;
+    actions = actions;
     accepts = more;
     counted = record {
-      first = (let a = h.counted.first in let x = ap (λ (z : Extent). z.capacity) keeps.extent in omega arith);
+      first = (let a = h.counted.first in let x = ap (λ (z : TableLayout). z.capacity) keeps.table_layout in omega arith);
       few = few;
-      capacity = (let a = h.counted.capacity in let x = ap (λ (z : Extent). z.capacity) keeps.extent in omega arith);
+      capacity = (let a = h.counted.capacity in let x = ap (λ (z : TableLayout). z.capacity) keeps.table_layout in omega arith);
     };
-    me = h.me ∙ ap (λ b. (Sender h.shown (track_in s.me.0) (stored_in s.me.0), carried_of b)) (sym keeps.holds);
-    words = h.words ∙ ap (λ (z : Extent). z.words) (sym keeps.extent);
+    me = h.me ∙ ap (λ b. (Sender h.shown (sender_trail_in s.me.0) (stored_in s.me.0), carried_of b)) (sym keeps.holds);
+    words = h.words ∙ ap (λ (z : TableLayout). z.words) (sym keeps.table_layout);
     slots = h.slots;
   }
 
   module _ (bytes : List ℕ) (small : All (λ byte. byte < 256) bytes) (can : CanPut (P.queue d) (length bytes)) where
-    one_message : Accepts P h.shown (P.with_message d bytes) (h.deeds ++ HasPut (next_of (P.queue d)) bytes ∷ [])
-    one_message = Message d h.deeds bytes h.accepts can small
+    one_message : Accepts P h.shown (P.with_message d bytes) (h.actions ++ HasPut (next_of (P.queue d)) bytes ∷ [])
+    one_message = Message d h.actions bytes h.accepts can small
 
     shows_message : Shows P (P.with_message d bytes) s
     shows_message =
         let waits = L.message_waits d bytes in
-        still (P.with_message d bytes) (h.deeds ++ HasPut (next_of (P.queue d)) bytes ∷ []) one_message (L.message d bytes) (ap (λ (q : Pending). q.first) waits)
+        still (P.with_message d bytes) (h.actions ++ HasPut (next_of (P.queue d)) bytes ∷ []) one_message (L.message d bytes) (ap (λ (q : Pending). q.first) waits)
         (let room = can.room in let more = length-append (P.queue d).messages (bytes ∷ []) in let size = ap (λ (q : Pending). length q.messages) waits in omega arith)
 
   module _ (can : CanClose (P.queue d)) where
-    one_close : Accepts P h.shown (P.with_close d) (h.deeds ++ HasClosed ∷ [])
-    one_close = Close d h.deeds h.accepts can
+    one_close : Accepts P h.shown (P.with_close d) (h.actions ++ HasClosed ∷ [])
+    one_close = Close d h.actions h.accepts can
 
     shows_closed : Shows P (P.with_close d) s
     shows_closed =
         let waits = L.close_waits d in
-        still (P.with_close d) (h.deeds ++ HasClosed ∷ []) one_close (L.close d) (ap (λ (q : Pending). q.first) waits) (let few = h.counted.few in let size = ap (λ (q : Pending). length q.messages) waits in omega arith)
+        still (P.with_close d) (h.actions ++ HasClosed ∷ []) one_close (L.close d) (ap (λ (q : Pending). q.first) waits) (let few = h.counted.few in let size = ap (λ (q : Pending). length q.messages) waits in omega arith)
 
   -- the number that a message gets is in its range
   pub number_fits : next_of (P.queue d) < 281474976710656
@@ -74,15 +74,15 @@ module _ {C : Type 0} (P : Process C) (L : ProcessLaws P) (d : C) (s : Seat (Opt
   shows_put d' bytes (Err e) small taken could same = subst (λ z. Shows P z s) (sym same) h
 
   pub put_done : (d' : C) (bytes : List ℕ) (r : Result ℕ PutFault) → All (λ byte. byte < 256) bytes → IfOk r (λ number. number ≡ next_of (P.queue d)) → OnOk r (d' ≡ P.with_message d bytes) → OnOk r (CanPut (P.queue d) (length bytes))
-      → IfOk r (λ number. deeds_in P s.me.0 d' ≡ deeds_in P s.me.0 d ++ HasPut number bytes ∷ [])
-  put_done d' bytes (Ok n) small number taken could = subst (λ k. deeds_in P s.me.0 d' ≡ deeds_in P s.me.0 d ++ HasPut k bytes ∷ []) (sym number)
-      (ap (deeds_in P s.me.0) taken ∙ more_deeds (P.with_message d bytes) (HasPut (next_of (P.queue d)) bytes) (one_message bytes small could))
+      → IfOk r (λ number. actions_in P s.me.0 d' ≡ actions_in P s.me.0 d ++ HasPut number bytes ∷ [])
+  put_done d' bytes (Ok n) small number taken could = subst (λ k. actions_in P s.me.0 d' ≡ actions_in P s.me.0 d ++ HasPut k bytes ∷ []) (sym number)
+      (ap (actions_in P s.me.0) taken ∙ more_actions (P.with_message d bytes) (HasPut (next_of (P.queue d)) bytes) (one_message bytes small could))
   put_done d' bytes (Err e) small number taken could = tt
 
   pub shows_close : (d' : C) (r : Result (Unit {0}) CloseFault) → OnOk r (d' ≡ P.with_close d) → OnOk r (CanClose (P.queue d)) → OnErr r (d' ≡ d) → Shows P d' s
   shows_close d' (Ok n) taken could same = subst (λ z. Shows P z s) (sym taken) (shows_closed could)
   shows_close d' (Err e) taken could same = subst (λ z. Shows P z s) (sym same) h
 
-  pub close_done : (d' : C) (r : Result (Unit {0}) CloseFault) → OnOk r (d' ≡ P.with_close d) → OnOk r (CanClose (P.queue d)) → OnOk r (deeds_in P s.me.0 d' ≡ deeds_in P s.me.0 d ++ HasClosed ∷ [])
-  close_done d' (Ok n) taken could = ap (deeds_in P s.me.0) taken ∙ more_deeds (P.with_close d) HasClosed (one_close could)
+  pub close_done : (d' : C) (r : Result (Unit {0}) CloseFault) → OnOk r (d' ≡ P.with_close d) → OnOk r (CanClose (P.queue d)) → OnOk r (actions_in P s.me.0 d' ≡ actions_in P s.me.0 d ++ HasClosed ∷ [])
+  close_done d' (Ok n) taken could = ap (actions_in P s.me.0) taken ∙ more_actions (P.with_close d) HasClosed (one_close could)
   close_done d' (Err e) taken could = tt

@@ -11,21 +11,21 @@ use Rattle.bus_deliverylog.specs.declared.receiving.RecvTurn.{RecvTurn}
 use Rattle.bus_deliverylog.specs.declared.receiving.RecvTurn.TheVariants as turn
 use Rattle.bus_deliverylog.specs.Receiving.{Receiving, HasReceived, TakesLength, TakesWord, TakesGood, turn_of}
 use Rattle.bus_world.specs.Headline.{IsPrefix}
-use Rattle.bus_pageslot.specs.Ears.{Ear, heard_length, heard_word, length_turn}
+use Rattle.bus_pageslot.specs.ReceiverViews.{ReceiverView, heard_length, heard_word, length_turn}
 use Rattle.bus_pageslot.specs.declared.rule.View.TheVariants.{Tap}
-use Rattle.bus_pageslot.specs.Processes.{Extent}
-use Rattle.bus_pageslot.specs.Rule.{Sat, ear_in, known_in}
-use Rattle.bus_pageslot.specs.Seats.{knows, IsFit, IsEar}
+use Rattle.bus_pageslot.specs.Processes.{TableLayout}
+use Rattle.bus_pageslot.specs.Rule.{Sat, receiver_view_in, known_in}
+use Rattle.bus_pageslot.specs.Seats.{knows, IsFit, IsReceiverView}
 use Rattle.bus_pageslot.specs.Listening.{FindsLength, FindsWord, HearsLength, HearsWord, Hears}
 
--- ---- a reader beside an ear that knows more
+-- ---- a reader beside a receiver's view that knows more
 not_longer : (known more : List ℕ) → IsPrefix known more → length known ≤ length more
 not_longer known more h = let a = length-append known h.rest in let b = ap length h.together in omega arith
 
 front_of : (known more : List ℕ) (p : ℕ) → IsPrefix known more → p ≤ length known → take p more ≡ take p known
 front_of known more p h l = ap (take p) (sym h.together) ∙ take-append-le p known h.rest l
 
-pub fits_learnt : (senders : ℕ) (e e' : Ear) (r : Receiving) → IsFit senders e r → e'.place ≡ e.place → e'.ended ≡ e.ended → IsPrefix e.known e'.known → IsFit senders e' r
+pub fits_learnt : (senders : ℕ) (e e' : ReceiverView) (r : Receiving) → IsFit senders e r → e'.place ≡ e.place → e'.ended ≡ e.ended → IsPrefix e.known e'.known → IsFit senders e' r
 fits_learnt senders e e' r h place ended grows =
     let read : r.place ≤ length e.known = (let a = h.within in let b = h.below in omega arith) in
     record {
@@ -40,7 +40,7 @@ fits_learnt senders e e' r h place ended grows =
     }
 
 -- a reader that knows another length
-pub fits_knowing : (senders k : ℕ) (e : Ear) (r : Receiving) → IsFit senders e r → r.place ≤ k → k ≤ length e.known → IsFit senders e (knows k r)
+pub fits_knowing : (senders k : ℕ) (e : ReceiverView) (r : Receiving) → IsFit senders e r → r.place ≤ k → k ≤ length e.known → IsFit senders e (knows k r)
 fits_knowing senders k e r h a b = record {
   place = h.place;
   ended = h.ended;
@@ -53,7 +53,7 @@ fits_knowing senders k e r h a b = record {
 }
 
 -- at the length that its reader knows it knows all that its seat knows
-pub caught_up : (senders : ℕ) (e : Ear) (old new : Receiving) → IsFit senders e old → (old.place ≡ old.known → new ≡ knows (length e.known) old) → (old.place ≢ old.known → new ≡ old) → IsFit senders e new
+pub caught_up : (senders : ℕ) (e : ReceiverView) (old new : Receiving) → IsFit senders e old → (old.place ≡ old.known → new ≡ knows (length e.known) old) → (old.place ≢ old.known → new ≡ old) → IsFit senders e new
 caught_up senders e old new h here there = elim (cases_lt old.place old.known) [
   | inl l ↦ subst (IsFit senders e) (sym (there (λ i. absurd (omega arith)))) h
   | inr l ↦ (let w = h.within in let b = h.below in subst (IsFit senders e) (sym (here (omega arith))) (fits_knowing senders (length e.known) e old h (omega arith) (omega arith)))
@@ -78,7 +78,7 @@ at_length place known got answer at same other = elim (eqb_tells got place) [
   | inr n ↦ other (λ e. n.1 (e ∙ sym at)) ∙ ap (λ b. cond b turn.Empty turn.Going) (sym n.0)
 ]
 
-module _ (x : Extent) (e : Ear) (r r' : Receiving) (got : ℕ) (answer : RecvTurn) (fit : IsFit x.senders e r) (known : r.known ≡ length e.known) (at : r.place ≡ r.known) (small : got < 2 ^ 64) (takes : TakesLength r got answer r') where
+module _ (x : TableLayout) (e : ReceiverView) (r r' : Receiving) (got : ℕ) (answer : RecvTurn) (fit : IsFit x.senders e r) (known : r.known ≡ length e.known) (at : r.place ≡ r.known) (small : got < 2 ^ 64) (takes : TakesLength r got answer r') where
   more_known : (ws : List ℕ) → IsPrefix e.known ws → length ws ≡ got → r.known ≤ got
   more_known ws grows long = let l = not_longer e.known ws grows in omega arith
 
@@ -93,7 +93,7 @@ module _ (x : Extent) (e : Ear) (r r' : Receiving) (got : ℕ) (answer : RecvTur
       → (m' ≡ (Tap x (heard_length e f.known answer), [])) × IsFit x.senders (heard_length e f.known answer) r' × HearsLength (Tap x e, []) answer m' × (r'.known ≡ length f.known) × (length f.known ≤ x.capacity)
   length_heard_at m' f =
       let t = taken (more_known f.known f.grows f.length_is) in
-      let e' : Ear = heard_length e f.known answer in
+      let e' : ReceiverView = heard_length e f.known answer in
       let now : m' ≡ (Tap x e', []) = f.now ∙ ap (λ a. (Tap x (heard_length e f.known a), [])) (sym t.1) in
       let reads : r'.known ≡ length f.known = ap (λ (z : Receiving). z.known) t.0 ∙ sym f.length_is in
       let kept = fits_learnt x.senders e e' r fit refl refl f.grows in
@@ -109,15 +109,15 @@ module _ (x : Extent) (e : Ear) (r r' : Receiving) (got : ℕ) (answer : RecvTur
 
 -- the same of a seat
 module _ {C : Type 0} (m m' : Sat C) (words words' : ℕ) (r r' : Receiving) (got : ℕ) (answer : RecvTurn) (f : FindsLength m got m') (same : words' ≡ words) (known : r.known ≡ length (known_in m.0)) (at : r.place ≡ r.known) (small : got < 2 ^ 64) (takes : TakesLength r got answer r') where
-  module _ (log : ℕ) (h : IsEar m words log r) where
-    found : FindsLength (Tap h.extent h.ear, []) got m'
+  module _ (log : ℕ) (h : IsReceiverView m words log r) where
+    found : FindsLength (Tap h.table_layout h.receiver_view, []) got m'
     found = subst (λ (y : Sat C). FindsLength y got m') h.me f
 
-    heard : (m' ≡ (Tap h.extent (heard_length h.ear found.known answer), [])) × IsFit h.extent.senders (heard_length h.ear found.known answer) r' × HearsLength (Tap h.extent h.ear, []) answer m' × (r'.known ≡ length found.known) × (length found.known ≤ h.extent.capacity)
-    heard = length_heard_at h.extent h.ear r r' got answer h.fit (known ∙ ap (λ (y : Sat C). length (known_in y.0)) h.me) at small takes m' found
+    heard : (m' ≡ (Tap h.table_layout (heard_length h.receiver_view found.known answer), [])) × IsFit h.table_layout.senders (heard_length h.receiver_view found.known answer) r' × HearsLength (Tap h.table_layout h.receiver_view, []) answer m' × (r'.known ≡ length found.known) × (length found.known ≤ h.table_layout.capacity)
+    heard = length_heard_at h.table_layout h.receiver_view r r' got answer h.fit (known ∙ ap (λ (y : Sat C). length (known_in y.0)) h.me) at small takes m' found
 
-    pub length_ear : IsEar m' words' log r'
-    length_ear = record { extent = h.extent; ear = heard_length h.ear found.known answer; me = heard.0; log_is = h.log_is; within = heard.4; room = h.room; few = h.few; behind = h.behind; wide = same ∙ h.wide; fit = heard.1 }
+    pub length_receiver_view : IsReceiverView m' words' log r'
+    length_receiver_view = record { table_layout = h.table_layout; receiver_view = heard_length h.receiver_view found.known answer; me = heard.0; log_is = h.log_is; within = heard.4; room = h.room; few = h.few; behind = h.behind; wide = same ∙ h.wide; fit = heard.1 }
 
     pub length_known : r'.known ≡ length (known_in m'.0)
     length_known = heard.3 ∙ ap (λ (y : Sat C). length (known_in y.0)) (sym heard.0)
@@ -126,7 +126,7 @@ module _ {C : Type 0} (m m' : Sat C) (words words' : ℕ) (r r' : Receiving) (go
     length_is_heard = subst (λ (y : Sat C). HearsLength y answer m') (sym h.me) heard.2
 
 -- ---- a load of the word at its place, by a turn
-module _ {C : Type 0} (x : Extent) (e : Ear) (r r' : Receiving) (got : ℕ) (answer : RecvTurn) (m' : Sat C) (fit : IsFit x.senders e r) (unread : r.place ≢ r.known) (senders : r'.frames.senders ≡ r.frames.senders) (takes : TakesWord (take r.place e.known) fit.pieces r got answer r')
+module _ {C : Type 0} (x : TableLayout) (e : ReceiverView) (r r' : Receiving) (got : ℕ) (answer : RecvTurn) (m' : Sat C) (fit : IsFit x.senders e r) (unread : r.place ≢ r.known) (senders : r'.frames.senders ≡ r.frames.senders) (takes : TakesWord (take r.place e.known) fit.pieces r got answer r')
     (f : FindsWord (Tap x e, []) got m') where
   below : r.place < length e.known
   below = let a = fit.within in let b = fit.below in omega arith
@@ -186,41 +186,41 @@ module _ {C : Type 0} (x : Extent) (e : Ear) (r r' : Receiving) (got : ℕ) (ans
   }
 
 -- the same of a seat
-module _ {C : Type 0} (m m' : Sat C) (words words' log : ℕ) (r r' : Receiving) (got : ℕ) (answer : RecvTurn) (h : IsEar m words log r) (f : FindsWord m got m') (same_words : words' ≡ words) (unread : r.place ≢ r.known) (senders : r'.frames.senders ≡ r.frames.senders)
+module _ {C : Type 0} (m m' : Sat C) (words words' log : ℕ) (r r' : Receiving) (got : ℕ) (answer : RecvTurn) (h : IsReceiverView m words log r) (f : FindsWord m got m') (same_words : words' ≡ words) (unread : r.place ≢ r.known) (senders : r'.frames.senders ≡ r.frames.senders)
     (takes : (ws : List ℕ) (pieces : List (Option Piece)) → HasReceived ws pieces r → TakesWord ws pieces r got answer r') where
-  there : FindsWord (Tap h.extent h.ear, []) got m'
+  there : FindsWord (Tap h.table_layout h.receiver_view, []) got m'
   there = subst (λ (y : Sat C). FindsWord y got m') h.me f
 
-  takes_it : TakesWord (take r.place h.ear.known) h.fit.pieces r got answer r'
-  takes_it = takes (take r.place h.ear.known) h.fit.pieces h.fit.received
+  takes_it : TakesWord (take r.place h.receiver_view.known) h.fit.pieces r got answer r'
+  takes_it = takes (take r.place h.receiver_view.known) h.fit.pieces h.fit.received
 
-  pub word_ear : IsEar m' words' log r'
-  word_ear = record {
-    extent = h.extent;
-    ear = heard_word h.ear _ answer;
-    me = word_now h.extent h.ear r r' got answer m' h.fit unread senders takes_it there;
+  pub word_receiver_view : IsReceiverView m' words' log r'
+  word_receiver_view = record {
+    table_layout = h.table_layout;
+    receiver_view = heard_word h.receiver_view _ answer;
+    me = word_now h.table_layout h.receiver_view r r' got answer m' h.fit unread senders takes_it there;
     log_is = h.log_is;
     within = h.within;
     room = h.room;
     few = h.few;
     behind = h.behind;
     wide = same_words ∙ h.wide;
-    fit = word_fits h.extent h.ear r r' got answer m' h.fit unread senders takes_it there;
+    fit = word_fits h.table_layout h.receiver_view r r' got answer m' h.fit unread senders takes_it there;
   }
 
   pub word_known : known_in m'.0 ≡ known_in m.0
-  word_known = ap (λ (y : Sat C). known_in y.0) (word_now h.extent h.ear r r' got answer m' h.fit unread senders takes_it there) ∙ ap (λ (y : Sat C). known_in y.0) (sym h.me)
+  word_known = ap (λ (y : Sat C). known_in y.0) (word_now h.table_layout h.receiver_view r r' got answer m' h.fit unread senders takes_it there) ∙ ap (λ (y : Sat C). known_in y.0) (sym h.me)
 
   pub word_heard : HearsWord m answer m'
-  word_heard = subst (λ (y : Sat C). HearsWord y answer m') (sym h.me) (word_is_heard h.extent h.ear r r' got answer m' h.fit unread senders takes_it there)
+  word_heard = subst (λ (y : Sat C). HearsWord y answer m') (sym h.me) (word_is_heard h.table_layout h.receiver_view r r' got answer m' h.fit unread senders takes_it there)
 
 -- ---- a turn, once its reader has caught up
-pub caught_ear : {C : Type 0} (m : Sat C) (words log k : ℕ) (old new : Receiving) → IsEar m words log old → k ≡ length (known_in m.0) → (old.place ≡ old.known → new ≡ knows k old) → (old.place ≢ old.known → new ≡ old) → IsEar m words log new
-caught_ear {C} m words log k old new h known here there =
-    let k_is : k ≡ length h.ear.known = known ∙ ap (λ (y : Sat C). length (known_in y.0)) h.me in
+pub caught_receiver_view : {C : Type 0} (m : Sat C) (words log k : ℕ) (old new : Receiving) → IsReceiverView m words log old → k ≡ length (known_in m.0) → (old.place ≡ old.known → new ≡ knows k old) → (old.place ≢ old.known → new ≡ old) → IsReceiverView m words log new
+caught_receiver_view {C} m words log k old new h known here there =
+    let k_is : k ≡ length h.receiver_view.known = known ∙ ap (λ (y : Sat C). length (known_in y.0)) h.me in
     record {
-      extent = h.extent;
-      ear = h.ear;
+      table_layout = h.table_layout;
+      receiver_view = h.receiver_view;
       me = h.me;
       log_is = h.log_is;
       within = h.within;
@@ -228,24 +228,24 @@ caught_ear {C} m words log k old new h known here there =
       few = h.few;
       behind = h.behind;
       wide = h.wide;
-      fit = caught_up h.extent.senders h.ear old new h.fit (λ e. here e ∙ ap (λ n. knows n old) k_is) there;
+      fit = caught_up h.table_layout.senders h.receiver_view old new h.fit (λ e. here e ∙ ap (λ n. knows n old) k_is) there;
     }
 
-pub hears_length : {C : Type 0} (m m' : Sat C) (words log : ℕ) (r : Receiving) (answer : RecvTurn) → IsEar m words log r → r.ended ≡ false → r.place ≡ length (known_in m.0) → HearsLength m answer m' → Hears m answer m'
+pub hears_length : {C : Type 0} (m m' : Sat C) (words log : ℕ) (r : Receiving) (answer : RecvTurn) → IsReceiverView m words log r → r.ended ≡ false → r.place ≡ length (known_in m.0) → HearsLength m answer m' → Hears m answer m'
 hears_length {C} m m' words log r answer h going at heard =
-    let on : (ear_in m.0).ended ≡ false = ap (λ (y : Sat C). (ear_in y.0).ended) h.me ∙ sym h.fit.ended ∙ going in
-    let place : (ear_in m.0).place ≡ r.place = ap (λ (y : Sat C). (ear_in y.0).place) h.me ∙ sym h.fit.place in
+    let on : (receiver_view_in m.0).ended ≡ false = ap (λ (y : Sat C). (receiver_view_in y.0).ended) h.me ∙ sym h.fit.ended ∙ going in
+    let place : (receiver_view_in m.0).place ≡ r.place = ap (λ (y : Sat C). (receiver_view_in y.0).place) h.me ∙ sym h.fit.place in
     record {
       ended = λ e. absurd (let bad : true ≡ false = sym e ∙ on in cc);
       at_length = λ goes here. heard;
       at_word = λ goes l. absurd (omega arith);
     }
 
-pub hears_word : {C : Type 0} (m m' : Sat C) (words log : ℕ) (r : Receiving) (answer : RecvTurn) → IsEar m words log r → r.ended ≡ false → r.place ≢ r.known → HearsWord m answer m' → Hears m answer m'
+pub hears_word : {C : Type 0} (m m' : Sat C) (words log : ℕ) (r : Receiving) (answer : RecvTurn) → IsReceiverView m words log r → r.ended ≡ false → r.place ≢ r.known → HearsWord m answer m' → Hears m answer m'
 hears_word {C} m m' words log r answer h going unread heard =
-    let on : (ear_in m.0).ended ≡ false = ap (λ (y : Sat C). (ear_in y.0).ended) h.me ∙ sym h.fit.ended ∙ going in
-    let place : (ear_in m.0).place ≡ r.place = ap (λ (y : Sat C). (ear_in y.0).place) h.me ∙ sym h.fit.place in
-    let size : length (known_in m.0) ≡ length h.ear.known = ap (λ (y : Sat C). length (known_in y.0)) h.me in
+    let on : (receiver_view_in m.0).ended ≡ false = ap (λ (y : Sat C). (receiver_view_in y.0).ended) h.me ∙ sym h.fit.ended ∙ going in
+    let place : (receiver_view_in m.0).place ≡ r.place = ap (λ (y : Sat C). (receiver_view_in y.0).place) h.me ∙ sym h.fit.place in
+    let size : length (known_in m.0) ≡ length h.receiver_view.known = ap (λ (y : Sat C). length (known_in y.0)) h.me in
     let a = h.fit.within in
     let b = h.fit.below in
     record {
@@ -254,9 +254,9 @@ hears_word {C} m m' words log r answer h going unread heard =
       at_word = λ goes l. heard;
     }
 
-pub hears_end : {C : Type 0} (m : Sat C) (words log : ℕ) (r : Receiving) → IsEar m words log r → r.ended ≡ true → Hears m turn.End m
+pub hears_end : {C : Type 0} (m : Sat C) (words log : ℕ) (r : Receiving) → IsReceiverView m words log r → r.ended ≡ true → Hears m turn.End m
 hears_end {C} m words log r h over =
-    let off : (ear_in m.0).ended ≡ true = ap (λ (y : Sat C). (ear_in y.0).ended) h.me ∙ sym h.fit.ended ∙ over in
+    let off : (receiver_view_in m.0).ended ≡ true = ap (λ (y : Sat C). (receiver_view_in y.0).ended) h.me ∙ sym h.fit.ended ∙ over in
     record {
       ended = λ e. (refl, refl);
       at_length = λ goes here. absurd (let bad : true ≡ false = sym off ∙ goes in cc);
@@ -264,8 +264,8 @@ hears_end {C} m words log r h over =
     }
 
 -- a turn that takes no step is none, but after the end
-pub no_still_turn : {C : Type 0} (x : Extent) (e : Ear) (answer : RecvTurn) → e.ended ≡ false → e.place ≤ length e.known → Hears {C = C} (Tap x e, []) answer (Tap x e, []) → ⊥
+pub no_still_turn : {C : Type 0} (x : TableLayout) (e : ReceiverView) (answer : RecvTurn) → e.ended ≡ false → e.place ≤ length e.known → Hears {C = C} (Tap x e, []) answer (Tap x e, []) → ⊥
 no_still_turn {C} x e answer going within h = elim (cases_lt e.place (length e.known)) [
-  | inl l ↦ (let more : e.loads ≡ e.loads + 1 = ap (λ (y : Sat C). (ear_in y.0).loads) (h.at_word going l).finds.now in omega arith)
-  | inr l ↦ (let more : e.loads ≡ e.loads + 1 = ap (λ (y : Sat C). (ear_in y.0).loads) (h.at_length going (omega arith)).finds.now in omega arith)
+  | inl l ↦ (let more : e.loads ≡ e.loads + 1 = ap (λ (y : Sat C). (receiver_view_in y.0).loads) (h.at_word going l).finds.now in omega arith)
+  | inr l ↦ (let more : e.loads ≡ e.loads + 1 = ap (λ (y : Sat C). (receiver_view_in y.0).loads) (h.at_length going (omega arith)).finds.now in omega arith)
 ]

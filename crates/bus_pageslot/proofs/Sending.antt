@@ -10,45 +10,45 @@ use Rattle.bus_register.specs.declared.registers.Op.{Op}
 use Rattle.bus_tenure.specs.declared.turns.Turn.{Turn}
 use Rattle.bus_tenure.specs.declared.turns.Turn.TheVariants as turn
 use Rattle.bus_batch.specs.Batches.{next_of}
-use Rattle.bus_world.specs.Headline.{Deed, HasPut, put_of, puts}
+use Rattle.bus_world.specs.Headline.{Action, HasPut, put_of, puts}
 use Rattle.bus_pageslot.specs.Processes.{Process}
 use Rattle.bus_pageslot.specs.Lawful.{ProcessLaws, IsOneStep}
-use Rattle.bus_pageslot.specs.Seats.{Seated, Took, deeds_of}
+use Rattle.bus_pageslot.specs.Seats.{SenderSeat, Took, actions_of}
 use Rattle.bus_pageslot.specs.Turns.{Turned, TurnsOn, Here, More, Sends, is_last, is_waiting, AsksOn, Begins as Unasked, Goes, Asks, SendsAsking}
 use Rattle.bus_pageslot.specs.Sendings.{FillsBatches, SentBefore, Put, SentFull}
 
-one_puts_nothing : (due : Option Kind) (got : ℕ) (a : Turn) (ds : List Deed) → (ds ≡ []) ⊎ IsOneStep due got a ds → puts ds ≡ []
+one_puts_nothing : (due : Option Kind) (got : ℕ) (a : Turn) (ds : List Action) → (ds ≡ []) ⊎ IsOneStep due got a ds → puts ds ≡ []
 one_puts_nothing due got a ds (inl none) = ap puts none
 one_puts_nothing due got a ds (inr one) = ap puts one.is
 
-took_puts : {C : Type 0} (P : Process C) → ProcessLaws P → (old : Seated C) (word : ℕ) (a : Turn) (new : Seated C) → Took P old word a new → puts (deeds_of P new) ≡ puts (deeds_of P old)
+took_puts : {C : Type 0} (P : Process C) → ProcessLaws P → (old : SenderSeat C) (word : ℕ) (a : Turn) (new : SenderSeat C) → Took P old word a new → puts (actions_of P new) ≡ puts (actions_of P old)
 took_puts P K old word a new h =
-    ap (λ t. puts t.deeds) h.track ∙ flat_map-append put_of (deeds_of P old) (P.adds old.core h.found word).deeds
-    ∙ ap (λ ms. puts (deeds_of P old) ++ ms) (one_puts_nothing (P.kind old.core) h.found (P.answer old.core h.found word) (P.adds old.core h.found word).deeds (K.one_deed old.core h.found word)) ∙ append-nil (puts (deeds_of P old))
+    ap (λ t. puts t.actions) h.sender_trail ∙ flat_map-append put_of (actions_of P old) (P.adds old.core h.found word).actions
+    ∙ ap (λ ms. puts (actions_of P old) ++ ms) (one_puts_nothing (P.kind old.core) h.found (P.answer old.core h.found word) (P.adds old.core h.found word).actions (K.one_action old.core h.found word)) ∙ append-nil (puts (actions_of P old))
 
-pub turned_puts : {C : Type 0} (P : Process C) → ProcessLaws P → (old : Seated C) (word : ℕ) (a : Turn) (new : Seated C) → Turned P old word a new → puts (deeds_of P new) ≡ puts (deeds_of P old)
+pub turned_puts : {C : Type 0} (P : Process C) → ProcessLaws P → (old : SenderSeat C) (word : ℕ) (a : Turn) (new : SenderSeat C) → Turned P old word a new → puts (actions_of P new) ≡ puts (actions_of P old)
 turned_puts P K old word a new h = by_step (P.op old.core word) refl
   where
-    by_step : (o : Option Op) → P.op old.core word ≡ o → puts (deeds_of P new) ≡ puts (deeds_of P old)
-    by_step None e = ap (λ s. puts (deeds_of P s)) (h.rests e).0
+    by_step : (o : Option Op) → P.op old.core word ≡ o → puts (actions_of P new) ≡ puts (actions_of P old)
+    by_step None e = ap (λ s. puts (actions_of P s)) (h.rests e).0
     by_step (Some op) e = took_puts P K old word a new (h.steps op e)
 
-turns_puts : {C : Type 0} (P : Process C) → ProcessLaws P → (first new : Seated C) → TurnsOn P first new → puts (deeds_of P new) ≡ puts (deeds_of P first)
+turns_puts : {C : Type 0} (P : Process C) → ProcessLaws P → (first new : SenderSeat C) → TurnsOn P first new → puts (actions_of P new) ≡ puts (actions_of P first)
 turns_puts P K first _ Here = refl
 turns_puts P K first _ (More old word answer new before turned last) = turned_puts P K old word answer new turned ∙ turns_puts P K first old before
 
-pub sending_puts : {C : Type 0} (P : Process C) → ProcessLaws P → (first : Seated C) (answer : Turn) (new : Seated C) → Sends P first answer new → puts (deeds_of P new) ≡ puts (deeds_of P first)
+pub sending_puts : {C : Type 0} (P : Process C) → ProcessLaws P → (first : SenderSeat C) (answer : Turn) (new : SenderSeat C) → Sends P first answer new → puts (actions_of P new) ≡ puts (actions_of P first)
 sending_puts P K first answer new h = turned_puts P K h.old h.word answer new h.turned ∙ turns_puts P K first h.old h.before
 
 -- puts and sendings put just the messages
-pub fills_puts : {C : Type 0} (P : Process C) → ProcessLaws P → (first : Seated C) (messages : List (List ℕ)) (new : Seated C) → FillsBatches P first messages new → puts (deeds_of P new) ≡ puts (deeds_of P first) ++ messages
-fills_puts P K first _ _ (SentBefore new off) = sending_puts P K first off.answer new off.sends ∙ sym (append-nil (puts (deeds_of P first)))
+pub fills_puts : {C : Type 0} (P : Process C) → ProcessLaws P → (first : SenderSeat C) (messages : List (List ℕ)) (new : SenderSeat C) → FillsBatches P first messages new → puts (actions_of P new) ≡ puts (actions_of P first) ++ messages
+fills_puts P K first _ _ (SentBefore new off) = sending_puts P K first off.answer new off.sends ∙ sym (append-nil (puts (actions_of P first)))
 fills_puts P K first _ _ (Put messages old bytes new before takes) =
-    ap puts takes.deed ∙ flat_map-append put_of (deeds_of P old) (HasPut (next_of (P.queue old.core)) bytes ∷ [])
-    ∙ ap (λ l. l ++ bytes ∷ []) (fills_puts P K first messages old before) ∙ append_assoc (puts (deeds_of P first)) messages (bytes ∷ [])
+    ap puts takes.action ∙ flat_map-append put_of (actions_of P old) (HasPut (next_of (P.queue old.core)) bytes ∷ [])
+    ∙ ap (λ l. l ++ bytes ∷ []) (fills_puts P K first messages old before) ∙ append_assoc (puts (actions_of P first)) messages (bytes ∷ [])
 fills_puts P K first _ _ (SentFull messages old new before full off) = sending_puts P K old off.answer new off.sends ∙ fills_puts P K first messages old before
 
-pub same_sender : {C : Type 0} (old new : Seated C) → new.core ≡ old.core → new.seat ≡ old.seat → new ≡ old
+pub same_sender : {C : Type 0} (old new : SenderSeat C) → new.core ≡ old.core → new.seat ≡ old.seat → new ≡ old
 same_sender old new core seat = ap (λ c. record { core = c; seat = new.seat }) core ∙ ap (λ s. record { core = old.core; seat = s }) seat
 
 -- turns between which a function is asked are turns
@@ -64,14 +64,14 @@ waiting_goes turn.Closed e = absurd (true≢false (sym e))
 waiting_goes turn.Spent e = absurd (true≢false (sym e))
 waiting_goes (turn.Behind t sender) e = refl
 
-goes_on : {C F : Type 0} (P : Process C) (Tells : F → Bool → F → Type 0) (first : Seated C) (given : F) (new : Seated C) (f : F) → AsksOn P Tells first given new f → TurnsOn P first new
+goes_on : {C F : Type 0} (P : Process C) (Tells : F → Bool → F → Type 0) (first : SenderSeat C) (given : F) (new : SenderSeat C) (f : F) → AsksOn P Tells first given new f → TurnsOn P first new
 goes_on P Tells first given _ _ Unasked = Here
 goes_on P Tells first given _ _ (Goes old f word answer new before turned last other) = More old word answer new (goes_on P Tells first given old f before) turned last
 goes_on P Tells first given _ _ (Asks old f word answer new f' before turned waits told) = More old word answer new (goes_on P Tells first given old f before) turned (waiting_goes answer waits)
 
-sends_asking : {C F : Type 0} (P : Process C) (Tells : F → Bool → F → Type 0) (first : Seated C) (given : F) (answer : Turn) (new : Seated C) → SendsAsking P Tells first given answer new → Sends P first answer new
+sends_asking : {C F : Type 0} (P : Process C) (Tells : F → Bool → F → Type 0) (first : SenderSeat C) (given : F) (answer : Turn) (new : SenderSeat C) → SendsAsking P Tells first given answer new → Sends P first answer new
 sends_asking P Tells first given answer new h = record { old = h.old; word = h.word; before = goes_on P Tells first given h.old h.asked h.before; turned = h.turned; last = h.last }
 
-pub sends_if : {C F : Type 0} (P : Process C) (Tells : F → Bool → F → Type 0) (first : Seated C) (given : F) (new : Seated C) (result : Option Turn) → IfSome result (λ answer. SendsAsking P Tells first given answer new) → (answer : Turn) → result ≡ Some answer → Sends P first answer new
+pub sends_if : {C F : Type 0} (P : Process C) (Tells : F → Bool → F → Type 0) (first : SenderSeat C) (given : F) (new : SenderSeat C) (result : Option Turn) → IfSome result (λ answer. SendsAsking P Tells first given answer new) → (answer : Turn) → result ≡ Some answer → Sends P first answer new
 sends_if P Tells first given new None h answer is = absurd (let bad : None ≡ Some answer = is in let wrong : ⊥ = cc in wrong)
 sends_if P Tells first given new (Some a) h answer is = subst (λ z. Sends P first z new) (same_Some _ _ is) (sends_asking P Tells first given a new h)

@@ -25,7 +25,7 @@ use Rattle.bus_world.proofs.Serving.{Serves}
 use Rattle.bus_world.proofs.TenuresLaws as tenures
 use Rattle.bus_pageslot.specs.declared.rule.View.{View}
 use Rattle.bus_pageslot.specs.declared.rule.View.TheVariants.{Sender}
-use Rattle.bus_pageslot.specs.Rule.{Sat, track_in, stored_in, IsSeated, IsShown}
+use Rattle.bus_pageslot.specs.Rule.{Sat, sender_trail_in, stored_in, IsSeated, TableInvariant}
 use Rattle.bus_pageslot.specs.Stages.{TakesPageOf}
 use Rattle.bus_pageslot.specs.Steps.{IsDue}
 use Rattle.bus_pageslot.specs.RowsApart.{process_apart, bus_apart}
@@ -124,13 +124,13 @@ leaves_stage X P x y words home senders owners frames h p d old word t is_open o
 leaves_stage X P x y words home senders owners frames h p d old word t is_open o leaves (phase.Giving u reason) e due = absurd (subst (Fits (slice_index words) frames d) e (h.parts p d old).fits)
 
 -- ---- of a table of which the rule holds
-pub owners_leave : {E : Type 0} (X : Election E) (P : Protocol E (Unit {0}) ℕ) (x : Layout) (y : Serves X P x) (s : State (Option Page) (View (Core E))) (r : IsShown (process_apart X) (bus_apart X x) s) (id : ℕ) (m : Sat (Core E)) (at : get_elem? s.views id ≡ some m.0) (d : Core E) (word many t : ℕ) (o : Op) (due : IsDue (process_apart X) d word m many o)
+pub owners_leave : {E : Type 0} (X : Election E) (P : Protocol E (Unit {0}) ℕ) (x : Layout) (y : Serves X P x) (s : State (Option Page) (View (Core E))) (r : TableInvariant (process_apart X) (bus_apart X x) s) (id : ℕ) (m : Sat (Core E)) (at : get_elem? s.views id ≡ some m.0) (d : Core E) (word many t : ℕ) (o : Op) (due : IsDue (process_apart X) d word m many o)
     → slice_index s.words 1 ≡ 2 * t → (slice_index (words_after s.words (Some o)) 1 ≡ 2 * t → ⊥) → TakesPageOf X d t o
 owners_leave {E} X P x y s r id m at d word many t o due is_open leaves =
     let A = bus_apart X x in
     let c = due.shown in
-    let seated : IsSeated (process_apart X) A r.state r.seat id c (track_in m.0) (stored_in m.0) = r.views id (Sender c (track_in m.0) (stored_in m.0)) (at ∙ ap (λ (z : Sat (Core E)). some z.0) due.me) in
-    let grown = accepted (process_apart X) A (automaton_laws X P x y) r.state r.reached c seated.core d due.deeds due.accepts in
+    let seated : IsSeated (process_apart X) A r.state r.seat id c (sender_trail_in m.0) (stored_in m.0) = r.views id (Sender c (sender_trail_in m.0) (stored_in m.0)) (at ∙ ap (λ (z : Sat (Core E)). some z.0) due.me) in
+    let grown = accepted (process_apart X) A (automaton_laws X P x y) r.state r.reached c seated.core d due.actions due.accepts in
     let b : Bus E = grown.state.bus in
     let h = grown.changes.reached in
     let k = kept X P x y h.served b grown.state.trails h.reached in

@@ -21,14 +21,14 @@ use Rattle.bus_world.specs.Headline.{IsPrefix}
 use Rattle.bus_world.specs.Turning.{words_after, home_moved}
 use Rattle.bus_world.proofs.Growing.{prefix_after}
 use Rattle.bus_world.proofs.LogLaws.{length-read}
-use Rattle.bus_pageslot.specs.Ears.{Ear, HasHeard}
+use Rattle.bus_pageslot.specs.ReceiverViews.{ReceiverView, HasHeard}
 use Rattle.bus_pageslot.specs.declared.rule.View.{View}
 use Rattle.bus_pageslot.specs.declared.rule.View.TheVariants.{Maker, Sender, Tap, Meeting, Telling, Spent}
-use Rattle.bus_pageslot.specs.Processes.{Extent, Process, Automaton, log_below, log_in}
+use Rattle.bus_pageslot.specs.Processes.{TableLayout, Process, Automaton, log_below, log_in}
 use Rattle.bus_pageslot.specs.Lawful.{ProcessLaws, AutomatonLaws, ChangesTo, AcceptsIn, StepsIn, LogGrows, IsSender}
-use Rattle.bus_pageslot.specs.Rule.{slot_of, Sat, track_in, stored_in, IsSeated, IsUnseated, KnowsLog, IsTrueOf, IsShown}
+use Rattle.bus_pageslot.specs.Rule.{slot_of, Sat, sender_trail_in, stored_in, IsSeated, IsUnseated, KnowsLog, IsTrueOf, TableInvariant}
 use Rattle.bus_pageslot.specs.Steps.{all_in, since_in, stored_by, Told, Gone, IsDue}
-use Rattle.bus_pageslot.specs.Tracks.{Track, with_deeds, with_track}
+use Rattle.bus_pageslot.specs.SenderTrails.{SenderTrail, with_actions, with_sender_trail}
 use Rattle.bus_pageslot.proofs.Accepting.{since_is}
 use Rattle.bus_pageslot.proofs.AllSeats.{still_seen}
 use Rattle.bus_pageslot.proofs.Hearing.{heard_later}
@@ -46,31 +46,31 @@ module _ {C : Type 0} (A : Automaton C) (z z' : A.State) (g : LogGrows A z z') w
   pub longer : slice_index (A.words z) 0 ≤ slice_index (A.words z') 0
   longer =
       let l = no_shorter (log_in A z) (log_in A z') front in
-      let u = length-read (slice_index (A.words z)) A.extent.log (slice_index (A.words z) 0) in let v = length-read (slice_index (A.words z')) A.extent.log (slice_index (A.words z') 0) in
+      let u = length-read (slice_index (A.words z)) A.table_layout.log (slice_index (A.words z) 0) in let v = length-read (slice_index (A.words z')) A.table_layout.log (slice_index (A.words z') 0) in
       omega arith
 
 -- the views of the others stay true where the sender p, whose seat is id, is replaced
-module _ {C : Type 0} (P : Process C) (A : Automaton C) (z z' : A.State) (seat : ℕ → ℕ) (p id : ℕ) (d : C) (all : Track) (on : ChangesTo A z p d all z') (g : LogGrows A z z') (mine : seat p ≡ id) (j : ℕ) (other : j ≢ id) where
+module _ {C : Type 0} (P : Process C) (A : Automaton C) (z z' : A.State) (seat : ℕ → ℕ) (p id : ℕ) (d : C) (all : SenderTrail) (on : ChangesTo A z p d all z') (g : LogGrows A z z') (mine : seat p ≡ id) (j : ℕ) (other : j ≢ id) where
   apart : (q : ℕ) → seat q ≡ j → q ≢ p
   apart q at e = other (sym at ∙ ap seat e ∙ mine)
 
-  seated_still : (c : C) (t : Track) (stored : ℕ) → IsSeated P A z seat j c t stored → IsSeated P A z' seat j c t stored
+  seated_still : (c : C) (t : SenderTrail) (stored : ℕ) → IsSeated P A z seat j c t stored → IsSeated P A z' seat j c t stored
   seated_still c t stored h = record {
     here = h.here;
     core = on.others (P.me c) (apart (P.me c) h.here) ∙ h.core;
-    track_is = on.nothing_else (P.me c) (apart (P.me c) h.here) ∙ h.track_is;
+    sender_trail_is = on.nothing_else (P.me c) (apart (P.me c) h.here) ∙ h.sender_trail_is;
     reached = let a = h.reached in let l = longer A z z' g in omega arith;
   }
 
   unseated_still : (q : ℕ) → IsUnseated A z seat j q → IsUnseated A z' seat j q
-  unseated_still q h = record { here = h.here; core = on.others q (apart q h.here) ∙ h.core; track_is = on.nothing_else q (apart q h.here) ∙ h.track_is }
+  unseated_still q h = record { here = h.here; core = on.others q (apart q h.here) ∙ h.core; sender_trail_is = on.nothing_else q (apart q h.here) ∙ h.sender_trail_is }
 
-  log_still : (x : Extent) (e : Ear) → KnowsLog A z x e → KnowsLog A z' x e
+  log_still : (x : TableLayout) (e : ReceiverView) → KnowsLog A z x e → KnowsLog A z' x e
   log_still x e h =
-      let same : h.frames ≡ g.frames = same_log A.extent.senders 0 0 h.frames g.frames h.lawful g.lawful (h.words_are ∙ sym g.words_are) in
+      let same : h.frames ≡ g.frames = same_log A.table_layout.senders 0 0 h.frames g.frames h.lawful g.lawful (h.words_are ∙ sym g.words_are) in
       let read : e.place ≤ length (log_words g.frames) = (let a = h.below in let l = no_shorter e.known (log_in A z) h.front in let w = ap length g.words_are in omega arith) in
       record {
-        extent = h.extent;
+        table_layout = h.table_layout;
         front = prefix_after e.known (log_in A z) (log_in A z') h.front (front A z z' g);
         below = h.below;
         frames = g.frames ++ g.more;
@@ -88,10 +88,10 @@ module _ {C : Type 0} (P : Process C) (A : Automaton C) (z z' : A.State) (seat :
   others_know Spent h = tt
 
 -- The tie: where a state with the new words, page and sender goes on from the old one, the rule holds of the new table
-pub tie : {C : Type 0} (P : Process C) (A : Automaton C) (s : State (Option Page) (View C)) (r : IsShown P A s) (id : ℕ) (c d : C) (t t' : Track) (stored stored' : ℕ) (words : List ℕ) (homes : List (maybe.Option (Option Page))) (z' : A.State)
+pub tie : {C : Type 0} (P : Process C) (A : Automaton C) (s : State (Option Page) (View C)) (r : TableInvariant P A s) (id : ℕ) (c d : C) (t t' : SenderTrail) (stored stored' : ℕ) (words : List ℕ) (homes : List (maybe.Option (Option Page))) (z' : A.State)
     → ChangesTo A r.state (P.me c) d t' z' → LogGrows A r.state z' → stored' ≤ slice_index (A.words z') 0
     → get_elem? s.views id ≡ some (Sender c t stored) → P.me d ≡ P.me c → words ≡ A.words z' → homes ≡ slot_of (A.home z') ∷ []
-    → IsShown P A record { words = words; homes = homes; views = set s.views id (Sender d t' stored') }
+    → TableInvariant P A record { words = words; homes = homes; views = set s.views id (Sender d t' stored') }
 tie {C} P A s r id c d t t' stored stored' words homes z' on grows long at same words_are slot = let k = r.views id (Sender c t stored) at in record {
   state = z';
   reached = on.reached;
@@ -100,7 +100,7 @@ tie {C} P A s r id c d t t' stored stored' words homes z' on grows long at same 
   seat = r.seat;
   views = λ j v e. ⊎_elim
       (λ (u : (j ≡ id) × (Sender d t' stored' ≡ v)). subst (λ (y : ℕ × View C). IsTrueOf P A z' r.seat y.0 y.1) (λ i. (sym u.0 i, u.1 i))
-      (record { here = ap r.seat same ∙ k.here; core = ap (A.sender z') same ∙ on.here; track_is = ap (A.track z') same ∙ on.track; reached = long }))
+      (record { here = ap r.seat same ∙ k.here; core = ap (A.sender z') same ∙ on.here; sender_trail_is = ap (A.sender_trail z') same ∙ on.sender_trail; reached = long }))
       (λ (u : (j ≢ id) × (get_elem? s.views j ≡ some v)). others_know P A r.state z' r.seat (P.me c) id d t' on grows k.here j u.0 v (r.views j v u.1))
       (at_set s.views id j (Sender d t' stored') v e);
   all = λ p below. still_seen P s.views id (Sender c t stored) (Sender d t' stored') at p (λ is. same ∙ is) (r.all p below);
@@ -133,7 +133,7 @@ module _ {C : Type 0} (P : Process C) (A : Automaton C) (K : ProcessLaws P) (L :
   module _ (id : ℕ) (m : Sat C) (d : C) (word : ℕ) (o : Op) (many : ℕ) (due : IsDue P d word m many o)
       (f g : ℕ → ℕ) (writes : (n : ℕ) → SumFits o n → f n ≡ after o n) (says : (n : ℕ) → Told o n (g n))
       (blind : (n : ℕ) (home : Option Page) → P.after d home (g n) word ≡ P.after d home n word) (mute : (n : ℕ) → P.answer d (g n) word ≡ P.answer d n word)
-      (s : State (Option Page) (View C)) (r : IsShown P A s) (at : get_elem? s.views id ≡ some m.0) where
+      (s : State (Option Page) (View C)) (r : TableInvariant P A s) (at : get_elem? s.views id ≡ some m.0) where
     abbrev c : C
     c = due.shown
 
@@ -143,15 +143,15 @@ module _ {C : Type 0} (P : Process C) (A : Automaton C) (K : ProcessLaws P) (L :
     abbrev before : ℕ
     before = stored_in m.0
 
-    at_view : get_elem? s.views id ≡ some (Sender c (track_in m.0) before)
+    at_view : get_elem? s.views id ≡ some (Sender c (sender_trail_in m.0) before)
     at_view = at ∙ ap (λ (y : Sat C). some y.0) due.me
 
-    seated : IsSeated P A r.state r.seat id c (track_in m.0) before
-    seated = r.views id (Sender c (track_in m.0) before) at_view
+    seated : IsSeated P A r.state r.seat id c (sender_trail_in m.0) before
+    seated = r.views id (Sender c (sender_trail_in m.0) before) at_view
 
     -- with what it accepted
-    grown : AcceptsIn A r.state p d due.deeds
-    grown = accepted P A L r.state r.reached c seated.core d due.deeds due.accepts
+    grown : AcceptsIn A r.state p d due.actions
+    grown = accepted P A L r.state r.reached c seated.core d due.actions due.accepts
 
     abbrev z : A.State
     z = grown.state
@@ -159,8 +159,8 @@ module _ {C : Type 0} (P : Process C) (A : Automaton C) (K : ProcessLaws P) (L :
     same_words : s.words ≡ A.words z
     same_words = r.words ∙ sym grown.words
 
-    within : register o < A.extent.words
-    within = let is = L.senders z p d grown.changes.reached grown.changes.here in subst (λ (x : Extent). register o < x.words) is.extent due.below
+    within : register o < A.table_layout.words
+    within = let is = L.senders z p d grown.changes.reached grown.changes.here in subst (λ (x : TableLayout). register o < x.words) is.table_layout due.below
 
     -- with its step
     done : StepsIn P A z p d word o
@@ -190,23 +190,23 @@ module _ {C : Type 0} (P : Process C) (A : Automaton C) (K : ProcessLaws P) (L :
     is_now = L.senders done.state p d_now done.changes.reached placed
 
     -- all that it did by then
-    abbrev track : Track
-    track = with_track (all_in P m.0 d) (P.adds d n word)
+    abbrev sender_trail : SenderTrail
+    sender_trail = with_sender_trail (all_in P m.0 d) (P.adds d n word)
 
-    since : since_in P m.0 d ≡ due.deeds
-    since = ap (λ (y : Sat C). since_in P y.0 d) due.me ∙ since_is P K c d due.deeds due.accepts
+    since : since_in P m.0 d ≡ due.actions
+    since = ap (λ (y : Sat C). since_in P y.0 d) due.me ∙ since_is P K c d due.actions due.accepts
 
-    did : A.track done.state p ≡ track
+    did : A.sender_trail done.state p ≡ sender_trail
     did =
-        done.changes.track ∙ ap (λ t. with_track t (P.adds d (slice_index (A.words z) (register o)) word)) (grown.changes.track ∙ ap (λ t. with_deeds t due.deeds) seated.track_is ∙ ap (with_deeds (track_in m.0)) (sym since))
-        ∙ ap (λ k. with_track (all_in P m.0 d) (P.adds d k word)) (sym n_is)
+        done.changes.sender_trail ∙ ap (λ t. with_sender_trail t (P.adds d (slice_index (A.words z) (register o)) word)) (grown.changes.sender_trail ∙ ap (λ t. with_actions t due.actions) seated.sender_trail_is ∙ ap (with_actions (sender_trail_in m.0)) (sym since))
+        ∙ ap (λ k. with_sender_trail (all_in P m.0 d) (P.adds d k word)) (sym n_is)
 
-    changes : ChangesTo A r.state p d_now track done.state
+    changes : ChangesTo A r.state p d_now sender_trail done.state
     changes = record {
       reached = done.changes.reached;
       here = placed;
       others = λ q ne. done.changes.others q ne ∙ grown.changes.others q ne;
-      track = did;
+      sender_trail = did;
       nothing_else = λ q ne. done.changes.nothing_else q ne ∙ grown.changes.nothing_else q ne;
     }
 
@@ -216,7 +216,7 @@ module _ {C : Type 0} (P : Process C) (A : Automaton C) (K : ProcessLaws P) (L :
       more = h.more;
       lawful = h.lawful;
       lawful_now = h.lawful_now;
-      words_are = h.words_are ∙ ap (log_below A.extent) grown.words;
+      words_are = h.words_are ∙ ap (log_below A.table_layout) grown.words;
       words_now = h.words_now;
     }
 
@@ -237,12 +237,12 @@ module _ {C : Type 0} (P : Process C) (A : Automaton C) (K : ProcessLaws P) (L :
         subst (λ u. stored_by u before ≤ slice_index (A.words done.state) 0) (sym due.due)
         (stored_long o (A.words z) before (slice_index (A.words done.state) 0) (let w = within in omega arith) (ap (λ w. slice_index w 0) done.words) long)
 
-    allowed : (w : View C) × (a : Act (Option Page)) × Valid s.homes m.1 a × IsShown P A record { words = slice_set s.words (register o) (f n); homes = homes_after s.homes m.1 a; views = set s.views id w } × Gone P d word m (g n) (w, carried_after m.1 a)
+    allowed : (w : View C) × (a : Act (Option Page)) × Valid s.homes m.1 a × TableInvariant P A record { words = slice_set s.words (register o) (f n); homes = homes_after s.homes m.1 a; views = set s.views id w } × Gone P d word m (g n) (w, carried_after m.1 a)
     allowed = (
-      Sender d_now track stored,
+      Sender d_now sender_trail stored,
       moved.act,
       moved.valid,
-      tie P A s r id c d_now (track_in m.0) track before stored (slice_set s.words (register o) (f n)) (homes_after s.homes m.1 moved.act) done.state changes grows stored_now at_view is_now.me words_now
+      tie P A s r id c d_now (sender_trail_in m.0) sender_trail before stored (slice_set s.words (register o) (f n)) (homes_after s.homes m.1 moved.act) done.state changes grows stored_now at_view is_now.me words_now
           (moved.homes_now ∙ ap (λ (h : Option Page). slot_of h ∷ []) (ap (home_moved (P.move d)) (sym grown.home) ∙ sym done.home)),
       record {
         home = A.home r.state;
@@ -253,11 +253,11 @@ module _ {C : Type 0} (P : Process C) (A : Automaton C) (K : ProcessLaws P) (L :
         answer = mute n;
         counted = is_now.counted;
         ends = L.ends z p d word o grown.changes.reached grown.changes.here due.due (A.home r.state) (g n);
-        now = λ i. (Sender d_now track stored, moved.carried_now i);
+        now = λ i. (Sender d_now sender_trail stored, moved.carried_now i);
       },
     )
 
   pub goes_allowed : (slots id : ℕ) (m : Sat C) (d : C) (word : ℕ) (o : Op) (many : ℕ) → IsDue P d word m many o → (f g : ℕ → ℕ) → ((n : ℕ) → SumFits o n → f n ≡ after o n) → ((n : ℕ) → Told o n (g n))
       → ((n : ℕ) (home : Option Page) → P.after d home (g n) word ≡ P.after d home n word) → ((n : ℕ) → P.answer d (g n) word ≡ P.answer d n word)
-      → Allows (IsShown P A) slots id m (register o) f (λ n. Gone P d word m (g n))
+      → Allows (TableInvariant P A) slots id m (register o) f (λ n. Gone P d word m (g n))
   goes_allowed slots id m d word o many due f g writes says blind mute s r size at range = allowed id m d word o many due f g writes says blind mute s r at

@@ -9,12 +9,12 @@ use Rattle.bus_register.specs.Words.{register, after, SumFits}
 use Rattle.bus_tenure.specs.Situations.{PageMove, Stays, Comes, Returns}
 use Rattle.bus_tenure.specs.declared.pages.Page.{Page}
 use Rattle.bus_pageslot.specs.declared.rule.View.TheVariants.{Sender}
-use Rattle.bus_pageslot.specs.Processes.{Extent, Process, Automaton, IsCounted}
+use Rattle.bus_pageslot.specs.Processes.{TableLayout, Process, Automaton, IsCounted}
 use Rattle.bus_pageslot.specs.Lawful.{ProcessLaws, AutomatonLaws}
-use Rattle.bus_pageslot.specs.Rule.{Sat, track_in, stored_in, IsShown}
+use Rattle.bus_pageslot.specs.Rule.{Sat, sender_trail_in, stored_in, TableInvariant}
 use Rattle.bus_pageslot.specs.Steps.{EndsBy, laid_from, laid_at, carried_of, out_with, carried_by, slot_in, slots_emptied, since_in, all_in, stored_by, Told, Gone, GoesOn, Due}
 use Rattle.bus_pageslot.specs.Steps.Accepts.{Nothing}
-use Rattle.bus_pageslot.specs.Tracks.{with_deeds, with_track}
+use Rattle.bus_pageslot.specs.SenderTrails.{with_actions, with_sender_trail}
 use Rattle.bus_pageslot.proofs.Accepting.{since_is}
 use Rattle.bus_pageslot.proofs.Ties.{goes_allowed}
 
@@ -26,7 +26,7 @@ due_within P (Some d) word m words o h = let a = h.below in let b = h.wide in om
 pub picked_allowed : {C : Type 0} (P : Process C) (A : Automaton C) (K : ProcessLaws P) (L : AutomatonLaws P A) (slots id : ℕ) (m : Sat C) (k : Option C) (word : ℕ) (o : Op) (many : ℕ) → Due P k word m many o → (f g : ℕ → ℕ) → ((n : ℕ) → SumFits o n → f n ≡ after o n) → ((n : ℕ) → Told o n (g n))
     → ((d : C) → P.op d word ≡ Some o → (n : ℕ) (home : Option Page) → P.after d home (g n) word ≡ P.after d home n word)
     → ((d : C) → P.op d word ≡ Some o → (n : ℕ) → P.answer d (g n) word ≡ P.answer d n word)
-    → Allows (IsShown P A) slots id m (register o) f (λ n. GoesOn P k word m (g n))
+    → Allows (TableInvariant P A) slots id m (register o) f (λ n. GoesOn P k word m (g n))
 picked_allowed P A K L slots id m None word o many due f g writes says blind mute = absurd due
 picked_allowed P A K L slots id m (Some d) word o many due f g writes says blind mute = goes_allowed P A K L slots id m d word o many due f g writes says (blind d due.due) (mute d due.due)
 
@@ -78,30 +78,30 @@ module _ {C : Type 0} (P : Process C) (K : ProcessLaws P) (d : C) where
       pub core_is : d3 ≡ P.after d gone.home got word
       core_is = laid_is ∙ ended.core
 
-      track_now : track_in m3.0 ≡ with_track (all_in P m.0 d) (P.adds d gone.found word)
-      track_now = ap (λ (y : Sat C). track_in y.0) me_is ∙ ap (λ (y : Sat C). track_in y.0) gone.now ∙ ap (λ (y : Sat C). with_track (all_in P y.0 d) (P.adds d gone.found word)) put_me
+      sender_trail_now : sender_trail_in m3.0 ≡ with_sender_trail (all_in P m.0 d) (P.adds d gone.found word)
+      sender_trail_now = ap (λ (y : Sat C). sender_trail_in y.0) me_is ∙ ap (λ (y : Sat C). sender_trail_in y.0) gone.now ∙ ap (λ (y : Sat C). with_sender_trail (all_in P y.0 d) (P.adds d gone.found word)) put_me
 
       pub stored_now : stored_in m3.0 ≡ stored_by (P.op d word) (stored_in m.0)
       stored_now = ap (λ (y : Sat C). stored_in y.0) me_is ∙ ap (λ (y : Sat C). stored_in y.0) gone.now ∙ ap (λ (y : Sat C). stored_by (P.op d word) (stored_in y.0)) put_me
 
-      pub me_now : m3 ≡ (Sender d3 (track_in m3.0) (stored_in m3.0), carried_of (P.holds d3))
+      pub me_now : m3 ≡ (Sender d3 (sender_trail_in m3.0) (stored_in m3.0), carried_of (P.holds d3))
       me_now = me_is
           ∙ (λ i. ((gone.now i).0, ended.slot i))
-          ∙ (λ i. (Sender (sym core_is i) (with_track (all_in P m1.0 d) (P.adds d gone.found word)) (stored_by (P.op d word) (stored_in m1.0)), carried_of (P.holds (sym core_is i))))
+          ∙ (λ i. (Sender (sym core_is i) (with_sender_trail (all_in P m1.0 d) (P.adds d gone.found word)) (stored_by (P.op d word) (stored_in m1.0)), carried_of (P.holds (sym core_is i))))
           ∙ (λ i. (Sender d3 (same_trail i) (same_stored i), carried_of (P.holds d3)))
         where
-          same_trail : with_track (all_in P m1.0 d) (P.adds d gone.found word) ≡ track_in m3.0
-          same_trail = sym (ap (λ (y : Sat C). track_in y.0) gone.now) ∙ sym (ap (λ (y : Sat C). track_in y.0) me_is)
+          same_trail : with_sender_trail (all_in P m1.0 d) (P.adds d gone.found word) ≡ sender_trail_in m3.0
+          same_trail = sym (ap (λ (y : Sat C). sender_trail_in y.0) gone.now) ∙ sym (ap (λ (y : Sat C). sender_trail_in y.0) me_is)
 
           same_stored : stored_by (P.op d word) (stored_in m1.0) ≡ stored_in m3.0
           same_stored = sym (ap (λ (y : Sat C). stored_in y.0) gone.now) ∙ sym (ap (λ (y : Sat C). stored_in y.0) me_is)
 
       -- nothing was accepted since
-      pub all_now : all_in P m3.0 d3 ≡ with_track (all_in P m.0 d) (P.adds d gone.found word)
-      all_now = ap (with_deeds (track_in m3.0)) (ap (λ (y : Sat C). since_in P y.0 d3) me_now ∙ since_is P K d3 d3 [] Nothing) ∙ ap (λ l. record (track_in m3.0) { deeds = l }) (append-nil (track_in m3.0).deeds) ∙ track_now
+      pub all_now : all_in P m3.0 d3 ≡ with_sender_trail (all_in P m.0 d) (P.adds d gone.found word)
+      all_now = ap (with_actions (sender_trail_in m3.0)) (ap (λ (y : Sat C). since_in P y.0 d3) me_now ∙ since_is P K d3 d3 [] Nothing) ∙ ap (λ l. record (sender_trail_in m3.0) { actions = l }) (append-nil (sender_trail_in m3.0).actions) ∙ sender_trail_now
 
       pub counted_now : IsCounted P d3
       counted_now = subst (IsCounted P) (sym core_is) gone.counted
 
-      pub wide_now : (words : ℕ) → words ≡ (P.extent d).words → words ≡ (P.extent d3).words
-      wide_now words e = e ∙ ap (λ (x : Extent). x.words) (sym (ap P.extent core_is ∙ K.same_extent d gone.home got word))
+      pub wide_now : (words : ℕ) → words ≡ (P.table_layout d).words → words ≡ (P.table_layout d3).words
+      wide_now words e = e ∙ ap (λ (x : TableLayout). x.words) (sym (ap P.table_layout core_is ∙ K.same_table_layout d gone.home got word))

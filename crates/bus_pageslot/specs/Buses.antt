@@ -6,44 +6,44 @@ use Rattle.bus_tenure.specs.declared.pages.Page.{Page}
 use Rattle.bus_world.specs.declared.shapes.Shape.{Shape}
 use Rattle.bus_pageslot.specs.declared.rule.View.{View}
 use Rattle.bus_pageslot.specs.declared.rule.View.TheVariants.{Maker}
-use Rattle.bus_pageslot.specs.Seats.{Seated, Spot, table_of, track_of, stored_of}
-use Rattle.bus_pageslot.specs.Ears.{new_ear}
-use Rattle.bus_pageslot.specs.Processes.{Extent, Process, Automaton}
-use Rattle.bus_pageslot.specs.Rule.{ear_in, extent_in}
-use Rattle.bus_pageslot.specs.Tracks.{no_track}
+use Rattle.bus_pageslot.specs.Seats.{SenderSeat, ReceiverSeat, table_of, sender_trail_of, stored_of}
+use Rattle.bus_pageslot.specs.ReceiverViews.{new_receiver_view}
+use Rattle.bus_pageslot.specs.Processes.{TableLayout, Process, Automaton}
+use Rattle.bus_pageslot.specs.Rule.{receiver_view_in, table_layout_in}
+use Rattle.bus_pageslot.specs.SenderTrails.{no_sender_trail}
 
 -- a bus: its table, and the sizes that were asked for
-pub record Site : Type 0 where
+pub record BusId : Type 0 where
   pub table : TableId
   pub shape : Shape
 
 -- a table of these sizes, and the seat of its maker
-pub record IsBoard {C : Type 0} (A : Automaton C) (table : TableId) (maker : Seat (Option Page) (View C)) : Type 0 where
+pub record IsBusTable {C : Type 0} (A : Automaton C) (table : TableId) (maker : Seat (Option Page) (View C)) : Type 0 where
   pub table_is : maker.table_id ≡ table
-  pub room : A.extent.words ≤ 2 ^ 63
-  pub words : table.words ≡ A.extent.words
+  pub room : A.table_layout.words ≤ 2 ^ 63
+  pub words : table.words ≡ A.table_layout.words
   pub slots : table.slots ≡ 1
   pub me : maker.me ≡ (Maker (A.started 0), [])
 
 -- a sender of this table before its first turn
-pub record IsNewSeat {C : Type 0} (P : Process C) (A : Automaton C) (table : TableId) (p : ℕ) (s : Seated C) : Type 0 where
+pub record IsNewSeat {C : Type 0} (P : Process C) (A : Automaton C) (table : TableId) (p : ℕ) (s : SenderSeat C) : Type 0 where
   pub core : s.core ≡ A.started p
   pub table_is : table_of s ≡ table
-  pub track : track_of P s ≡ no_track
+  pub sender_trail : sender_trail_of P s ≡ no_sender_trail
   pub stored : stored_of s ≡ 0
 
 -- so many of them, in order
-pub record AreNewSeats {C : Type 0} (P : Process C) (A : Automaton C) (table : TableId) (many : ℕ) (senders : List (Seated C)) : Type 0 where
+pub record AreNewSeats {C : Type 0} (P : Process C) (A : Automaton C) (table : TableId) (many : ℕ) (senders : List (SenderSeat C)) : Type 0 where
   pub many_are : length senders ≡ many
-  pub each : (p : ℕ) (s : Seated C) → slice_get senders p ≡ Some s → IsNewSeat P A table p s
+  pub each : (p : ℕ) (s : SenderSeat C) → slice_get senders p ≡ Some s → IsNewSeat P A table p s
 
 -- a receiver of this table before its first turn
-pub record IsNewTap {C : Type 0} (x : Extent) (table : TableId) (t : Spot C) : Type 0 where
+pub record IsNewTap {C : Type 0} (x : TableLayout) (table : TableId) (t : ReceiverSeat C) : Type 0 where
   pub table_is : t.table_id ≡ table
-  pub ear : ear_in t.me.0 ≡ new_ear
-  pub extent : extent_in t.me.0 ≡ x
+  pub receiver_view : receiver_view_in t.me.0 ≡ new_receiver_view
+  pub table_layout : table_layout_in t.me.0 ≡ x
 
 -- so many of them, in order
-pub record AreNewTaps {C : Type 0} (x : Extent) (table : TableId) (many : ℕ) (taps : List (Spot C)) : Type 0 where
+pub record AreNewTaps {C : Type 0} (x : TableLayout) (table : TableId) (many : ℕ) (taps : List (ReceiverSeat C)) : Type 0 where
   pub many_are : length taps ≡ many
-  pub each : (r : ℕ) (t : Spot C) → slice_get taps r ≡ Some t → IsNewTap x table t
+  pub each : (r : ℕ) (t : ReceiverSeat C) → slice_get taps r ≡ Some t → IsNewTap x table t

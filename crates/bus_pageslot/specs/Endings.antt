@@ -6,7 +6,7 @@ use Rattle.atomic_table.specs.Table.{State}
 use Rattle.bus_tenure.specs.declared.pages.Page.{Page}
 use Rattle.bus_world.specs.Headline.{IsPrefix}
 use Rattle.bus_pageslot.specs.declared.rule.View.{View}
-use Rattle.bus_pageslot.specs.Rule.{slot_of, known_in, IsShown}
+use Rattle.bus_pageslot.specs.Rule.{slot_of, known_in, TableInvariant}
 use Rattle.bus_pageslot.specs.Processes.{Process, Automaton, log_below}
 use Rattle.bus_pageslot.specs.Promised.{IsPromised}
 
@@ -14,9 +14,9 @@ use Rattle.bus_pageslot.specs.Promised.{IsPromised}
 -- when the bus was ended. So the headline's page holds of what its seats show, and what that receiver knew begins the log.
 pub record IsLeft {C : Type 0} (P : Process C) (A : Automaton C) (seen : View C) (log : List ℕ) (home : Option Page) : Type 0 where
   pub table : State (Option Page) (View C)
-  pub shown : IsShown P A table
+  pub shown : TableInvariant P A table
   pub here : (seat : ℕ) × (get_elem? table.views seat ≡ some seen)
-  pub log_is : log_below A.extent table.words ≡ log
+  pub log_is : log_below A.table_layout table.words ≡ log
   pub home_is : table.homes ≡ slot_of home ∷ []
-  pub promised : IsPromised P A.extent table
+  pub promised : IsPromised P A.table_layout table
   pub front : IsPrefix (known_in seen) log

@@ -1,5 +1,5 @@
-pub mod Tracks
-pub mod Ears
+pub mod SenderTrails
+pub mod ReceiverViews
 pub mod Processes
 pub mod Lawful
 pub mod RowsApart

@@ -6,8 +6,8 @@ use Rattle.bus_deliverylog.specs.declared.receiving.RecvTurn.{RecvTurn}
 use Rattle.bus_deliverylog.specs.declared.receiving.RecvTurn.TheVariants as turn
 use Rattle.bus_deliverylog.specs.Receiving.{turn_of}
 use Rattle.bus_world.specs.Headline.{IsPrefix}
-use Rattle.bus_pageslot.specs.Ears.{heard_length, heard_word, length_turn}
-use Rattle.bus_pageslot.specs.Rule.{Sat, ear_in, known_in, with_ear, senders_in, capacity_in}
+use Rattle.bus_pageslot.specs.ReceiverViews.{heard_length, heard_word, length_turn}
+use Rattle.bus_pageslot.specs.Rule.{Sat, receiver_view_in, known_in, with_receiver_view, senders_in, capacity_in}
 
 -- ---- what the step tells
 -- of the length: what the receiver knows of the log grows, up to the length that was found
@@ -16,32 +16,32 @@ pub record FindsLength {C : Type 0} (m : Sat C) (got : ℕ) (m' : Sat C) : Type 
   pub grows : IsPrefix (known_in m.0) known
   pub length_is : length known ≡ got
   pub within : length known ≤ capacity_in m.0
-  pub now : m' ≡ (with_ear m.0 (heard_length (ear_in m.0) known (length_turn (ear_in m.0).place got)), m.1)
+  pub now : m' ≡ (with_receiver_view m.0 (heard_length (receiver_view_in m.0) known (length_turn (receiver_view_in m.0).place got)), m.1)
 
 -- of the word at the receiver's place: it is the one that it knows there, and gives what it gives in some log that goes on so
 pub record FindsWord {C : Type 0} (m : Sat C) (got : ℕ) (m' : Sat C) : Type 0 where
-  pub got_is : got ≡ slice_index (known_in m.0) (ear_in m.0).place
+  pub got_is : got ≡ slice_index (known_in m.0) (receiver_view_in m.0).place
   pub found : Option Piece
   pub frames : List Frame
   pub rest : List ℕ
   pub lawful : AreFrames (senders_in m.0) frames
   pub words_are : log_words frames ≡ known_in m.0 ++ rest
-  pub at : slice_get (log_pieces frames) (ear_in m.0).place ≡ Some found
-  pub now : m' ≡ (with_ear m.0 (heard_word (ear_in m.0) found (turn_of found)), m.1)
+  pub at : slice_get (log_pieces frames) (receiver_view_in m.0).place ≡ Some found
+  pub now : m' ≡ (with_receiver_view m.0 (heard_word (receiver_view_in m.0) found (turn_of found)), m.1)
 
 -- ---- what the turn tells
 -- The step found the length: the answer is Empty exactly where that is the receiver's place.
 pub record HearsLength {C : Type 0} (m : Sat C) (answer : RecvTurn) (m' : Sat C) : Type 0 where
   pub got : ℕ
   pub finds : FindsLength m got m'
-  pub answer_is : answer ≡ length_turn (ear_in m.0).place got
+  pub answer_is : answer ≡ length_turn (receiver_view_in m.0).place got
 
 -- The step found the word at the receiver's place: the answer is what it gives after the words that were read, in each log that goes
 -- on so.
 pub record HearsWord {C : Type 0} (m : Sat C) (answer : RecvTurn) (m' : Sat C) : Type 0 where
   pub got : ℕ
   pub finds : FindsWord m got m'
-  pub gives : GivesPiece (senders_in m.0) (take (ear_in m.0).place (known_in m.0)) got finds.found
+  pub gives : GivesPiece (senders_in m.0) (take (receiver_view_in m.0).place (known_in m.0)) got finds.found
   pub answer_is : answer ≡ turn_of finds.found
 
 -- what a turn answers that says whether it took a word that says nothing by itself, and else writes its answer
@@ -52,6 +52,6 @@ answer_of false written = written
 -- One turn of a receiver. After the end it answers so for good, and takes no step. Where it has read all that it knows it loads the
 -- length, and else the word at its place.
 pub record Hears {C : Type 0} (m : Sat C) (answer : RecvTurn) (m' : Sat C) : Type 0 where
-  pub ended : (ear_in m.0).ended ≡ true → (answer ≡ turn.End) × (m' ≡ m)
-  pub at_length : (ear_in m.0).ended ≡ false → (ear_in m.0).place ≡ length (known_in m.0) → HearsLength m answer m'
-  pub at_word : (ear_in m.0).ended ≡ false → (ear_in m.0).place < length (known_in m.0) → HearsWord m answer m'
+  pub ended : (receiver_view_in m.0).ended ≡ true → (answer ≡ turn.End) × (m' ≡ m)
+  pub at_length : (receiver_view_in m.0).ended ≡ false → (receiver_view_in m.0).place ≡ length (known_in m.0) → HearsLength m answer m'
+  pub at_word : (receiver_view_in m.0).ended ≡ false → (receiver_view_in m.0).place < length (known_in m.0) → HearsWord m answer m'

@@ -8,25 +8,25 @@ use Rattle.bus_batch.specs.Batches.{Pending}
 use Rattle.bus_tenure.specs.Situations.{PageMove}
 use Rattle.bus_tenure.specs.declared.pages.Page.{Page}
 use Rattle.bus_tenure.specs.declared.turns.Turn.{Turn}
-use Rattle.bus_world.specs.Headline.{Deed}
+use Rattle.bus_world.specs.Headline.{Action}
 use Rattle.bus_world.specs.Log.{words_read_from}
-use Rattle.bus_pageslot.specs.Tracks.{Track}
+use Rattle.bus_pageslot.specs.SenderTrails.{SenderTrail}
 
 -- how large a bus is: its senders, all its words, where the first word of its log stands, and how many words the log has
-pub record Extent : Type 0 where
+pub record TableLayout : Type 0 where
   pub senders : ℕ
   pub words : ℕ
   pub log : ℕ
   pub capacity : ℕ
 
-abbrev pub no_extent : Extent
-no_extent = record { senders = 0; words = 0; log = 0; capacity = 0 }
+abbrev pub no_table_layout : TableLayout
+no_table_layout = record { senders = 0; words = 0; log = 0; capacity = 0 }
 
 -- ---- a sender that holds C
 pub record Process (C : Type 0) : Type 0 where
   -- its number, and how large its bus is
   pub me : C → ℕ
-  pub extent : C → Extent
+  pub table_layout : C → TableLayout
   -- the sender of the next number, at its start
   pub successor : C → C
   -- its batch, as a put and a close find it; and it with this message more, or with an end mark that waits
@@ -49,8 +49,8 @@ pub record Process (C : Type 0) : Type 0 where
   -- what it holds after a step that found this number, with that random word, where this page was at home
   pub after : C → (home : Option Page) → (got word : ℕ) → C
   pub answer : C → (got word : ℕ) → Turn
-  -- what such a step adds to its track
-  pub adds : C → (got word : ℕ) → Track
+  -- what such a step adds to its trail
+  pub adds : C → (got word : ℕ) → SenderTrail
   -- ---- the same turn, part by part
   -- it holds the page between two turns
   pub holds : C → Bool
@@ -62,13 +62,13 @@ pub record Process (C : Type 0) : Type 0 where
 
 -- the numbers of a sender's messages stay far below 2^64: each item has a word of the log, and a batch has few messages
 pub record IsCounted {C : Type 0} (P : Process C) (c : C) : Type 0 where
-  pub first : (P.queue c).first ≤ (P.extent c).capacity
+  pub first : (P.queue c).first ≤ (P.table_layout c).capacity
   pub few : length (P.queue c).messages ≤ MOST_MESSAGES
-  pub capacity : (P.extent c).capacity < 2 ^ 40
+  pub capacity : (P.table_layout c).capacity < 2 ^ 40
 
 -- ---- a bus whose senders hold C
 pub record Automaton (C : Type 0) : Type 1 where
-  pub extent : Extent
+  pub table_layout : TableLayout
   -- a sender at its start
   pub started : ℕ → C
   pub State : Type 0
@@ -80,16 +80,16 @@ pub record Automaton (C : Type 0) : Type 1 where
   pub home : State → Option Page
   pub sender : State → ℕ → Option C
   -- all that a sender did
-  pub track : State → ℕ → Track
+  pub sender_trail : State → ℕ → SenderTrail
 
--- the deeds of a sender, in a state
-abbrev pub deeds_at : {C : Type 0} → (A : Automaton C) → A.State → ℕ → List Deed
-deeds_at A z p = (A.track z p).deeds
+-- the actions of a sender, in a state
+abbrev pub actions_at : {C : Type 0} → (A : Automaton C) → A.State → ℕ → List Action
+actions_at A z p = (A.sender_trail z p).actions
 
 -- the words below the length
-abbrev pub log_below : Extent → List ℕ → List ℕ
+abbrev pub log_below : TableLayout → List ℕ → List ℕ
 log_below x words = words_read_from (slice_index words) x.log (slice_index words 0)
 
 -- of a state
 abbrev pub log_in : {C : Type 0} → (A : Automaton C) → A.State → List ℕ
-log_in A z = log_below A.extent (A.words z)
+log_in A z = log_below A.table_layout (A.words z)

@@ -7,51 +7,51 @@ use Rattle.bus_register.specs.declared.registers.SenderNo.{SenderNo}
 use Rattle.bus_batch.specs.Frames.{Order, Spells}
 use Rattle.bus_deliverylog.specs.declared.receiving.RecvTurn.{RecvTurn}
 use Rattle.bus_tenure.specs.declared.pages.Page.{Page}
-use Rattle.bus_world.specs.Headline.{Deed, IsPrefix, Promises}
-use Rattle.bus_pageslot.specs.Processes.{Extent, Process, log_below}
+use Rattle.bus_world.specs.Headline.{Action, IsPrefix, Promises}
+use Rattle.bus_pageslot.specs.Processes.{TableLayout, Process, log_below}
 use Rattle.bus_pageslot.specs.declared.rule.View.{View}
 use Rattle.bus_pageslot.specs.declared.rule.View.TheVariants.{Maker, Sender, Tap, Meeting, Telling, Spent}
 
--- a view is true of these deeds of senders, and shows a beginning of this log of its receivers
-abbrev pub Fits : {C : Type 0} → Process C → (ℕ → List Deed) → List ℕ → View C → Type 0
-Fits P deeds log (Maker c) = (p : ℕ) → P.me c ≤ p → deeds p ≡ []
-Fits P deeds log (Sender c track stored) = deeds (P.me c) ≡ track.deeds
-Fits P deeds log (Tap x e) = IsPrefix e.known log
-Fits P deeds log (Meeting x e y f) = IsPrefix e.known log × IsPrefix f.known log
-Fits P deeds log (Telling c track stored x e) = (deeds (P.me c) ≡ track.deeds) × IsPrefix e.known log
-Fits P deeds log Spent = Unit {0}
+-- a view is true of these actions of senders, and shows a beginning of this log of its receivers
+abbrev pub Fits : {C : Type 0} → Process C → (ℕ → List Action) → List ℕ → View C → Type 0
+Fits P actions log (Maker c) = (p : ℕ) → P.me c ≤ p → actions p ≡ []
+Fits P actions log (Sender c sender_trail stored) = actions (P.me c) ≡ sender_trail.actions
+Fits P actions log (Tap x e) = IsPrefix e.known log
+Fits P actions log (Meeting x e y f) = IsPrefix e.known log × IsPrefix f.known log
+Fits P actions log (Telling c sender_trail stored x e) = (actions (P.me c) ≡ sender_trail.actions) × IsPrefix e.known log
+Fits P actions log Spent = Unit {0}
 
--- a view shows that the sender p did just these deeds: those of its track, or none while it has no seat of its own
-abbrev pub ShowsDeeds : {C : Type 0} → Process C → ℕ → List Deed → View C → Type 0
-ShowsDeeds P p deeds (Maker c) = (P.me c ≤ p) × (deeds ≡ [])
-ShowsDeeds P p deeds (Sender c track stored) = (P.me c ≡ p) × (deeds ≡ track.deeds)
-ShowsDeeds P p deeds (Tap x e) = ⊥
-ShowsDeeds P p deeds (Meeting x e y f) = ⊥
-ShowsDeeds P p deeds (Telling c track stored x e) = (P.me c ≡ p) × (deeds ≡ track.deeds)
-ShowsDeeds P p deeds Spent = ⊥
+-- a view shows that the sender p did just these actions: those of its trail, or none while it has no seat of its own
+abbrev pub ShowsActions : {C : Type 0} → Process C → ℕ → List Action → View C → Type 0
+ShowsActions P p actions (Maker c) = (P.me c ≤ p) × (actions ≡ [])
+ShowsActions P p actions (Sender c sender_trail stored) = (P.me c ≡ p) × (actions ≡ sender_trail.actions)
+ShowsActions P p actions (Tap x e) = ⊥
+ShowsActions P p actions (Meeting x e y f) = ⊥
+ShowsActions P p actions (Telling c sender_trail stored x e) = (P.me c ≡ p) × (actions ≡ sender_trail.actions)
+ShowsActions P p actions Spent = ⊥
 
 -- a view shows this trail of a receiver of its
 abbrev pub ShowsTrail : {C : Type 0} → List RecvTurn → View C → Type 0
 ShowsTrail trail (Maker c) = ⊥
-ShowsTrail trail (Sender c deeds stored) = ⊥
+ShowsTrail trail (Sender c actions stored) = ⊥
 ShowsTrail trail (Tap x e) = trail ≡ e.answers
 ShowsTrail trail (Meeting x e y f) = (trail ≡ e.answers) ⊎ (trail ≡ f.answers)
-ShowsTrail trail (Telling c deeds stored x e) = trail ≡ e.answers
+ShowsTrail trail (Telling c actions stored x e) = trail ≡ e.answers
 ShowsTrail trail Spent = ⊥
 
 -- what a receiver was answered: nothing, or what some seat shows
 abbrev pub IsShownTrail : {C : Type 0} → State (Option Page) (View C) → List RecvTurn → Type 0
 IsShownTrail {C} s trail = (trail ≡ []) ⊎ ((j : ℕ) × (v : View C) × (get_elem? s.views j ≡ some v) × ShowsTrail trail v)
 
--- The page of promises holds of the deeds that the seats show, and of what they show that receivers were answered, however these are
+-- The page of promises holds of the actions that the seats show, and of what they show that receivers were answered, however these are
 -- numbered, with the order and the owners that the words below the length spell; and what a receiver knows is a beginning of these
--- words. There are no other deeds than those that are shown: each sender shows all of its own up to its last step, and nobody else has any.
-pub record IsPromised {C : Type 0} (P : Process C) (x : Extent) (s : State (Option Page) (View C)) : Type 0 where
-  pub deeds : ℕ → List Deed
-  pub shown : (p : ℕ) → p < x.senders → (j : ℕ) × (v : View C) × (get_elem? s.views j ≡ some v) × ShowsDeeds P p (deeds p) v
-  pub nobody : (p : ℕ) → x.senders ≤ p → deeds p ≡ []
+-- words. There are no other actions than those that are shown: each sender shows all of its own up to its last step, and nobody else has any.
+pub record IsPromised {C : Type 0} (P : Process C) (x : TableLayout) (s : State (Option Page) (View C)) : Type 0 where
+  pub actions : ℕ → List Action
+  pub shown : (p : ℕ) → p < x.senders → (j : ℕ) × (v : View C) × (get_elem? s.views j ≡ some v) × ShowsActions P p (actions p) v
+  pub nobody : (p : ℕ) → x.senders ≤ p → actions p ≡ []
   pub order : Order
   pub owners : List (ℕ × SenderNo)
   pub spelled : Spells x.senders (log_below x s.words) order owners
-  pub promises : (heard : ℕ → List RecvTurn) → ((r : ℕ) → IsShownTrail s (heard r)) → Promises deeds heard order owners
-  pub views : (j : ℕ) (v : View C) → get_elem? s.views j ≡ some v → Fits P deeds (log_below x s.words) v
+  pub promises : (heard : ℕ → List RecvTurn) → ((r : ℕ) → IsShownTrail s (heard r)) → Promises actions heard order owners
+  pub views : (j : ℕ) (v : View C) → get_elem? s.views j ≡ some v → Fits P actions (log_below x s.words) v

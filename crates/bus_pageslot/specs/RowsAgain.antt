@@ -2,41 +2,41 @@
 use Rattle.std.specs.Prelude.{◌≡◌, ℕ, ◌+◌, ◌≤◌, Some, None, [], ◌∷◌, ◌++◌, slice_get}
 use Rattle.bus_batch.specs.declared.batches.Phase.TheVariants.{Closing}
 use Rattle.bus_guest.specs.declared.limits.TheConstants.{LEAST_ROWS_AGAIN}
-use Rattle.bus_guest.specs.Guests.{Due, Visits, Sweeps, Goes, log_from, answer_going}
+use Rattle.bus_guest.specs.Guests.{Due, Pins, Reclaims, Goes, log_from, answer_going}
 use Rattle.bus_guest.specs.Turns.{Visitor, due, op_next, kind_due, wants_due, rest_due, visitor_after, answer_after, queue_seen}
-use Rattle.bus_presence.specs.declared.visits.Visit.TheVariants.{Away}
+use Rattle.bus_presence.specs.declared.pins.Pin.TheVariants.{Away}
 use Rattle.bus_tenure.specs.Core.{Election, Layout}
 use Rattle.bus_tenure.specs.Seen.{turns_of}
 use Rattle.bus_tenure.specs.Situations.{kind_at, tenure_at, chosen_at}
 use Rattle.bus_world.specs.Bus.{IsLayout}
 use Rattle.bus_world.specs.Rings.{Ring, RingTrails, RingReached, move_due, visitor_moved}
-use Rattle.bus_world.specs.Trails.{step_deed}
+use Rattle.bus_world.specs.Trails.{step_action}
 use Rattle.bus_world.specs.Turning.{before_step, after_step, laying}
 use Rattle.bus_world.specs.Waiting.{waiting_at}
 use Rattle.bus_world.specs.World.{new_core, no_stops}
-use Rattle.bus_pageslot.specs.Processes.{Extent, Process, Automaton}
+use Rattle.bus_pageslot.specs.Processes.{TableLayout, Process, Automaton}
 use Rattle.bus_pageslot.specs.RowsApart.{is_holding, is_taken}
-use Rattle.bus_pageslot.specs.Tracks.{Track, track_of_deeds}
+use Rattle.bus_pageslot.specs.SenderTrails.{SenderTrail, sender_trail_of_actions}
 
 -- with so many rows in place of one for each tenure, and a presence for each sender before them
-abbrev pub extent_again : Layout → ℕ → Extent
-extent_again x rows = record { senders = x.senders; words = log_from x rows + x.capacity; log = log_from x rows; capacity = x.capacity }
+abbrev pub table_layout_again : Layout → ℕ → TableLayout
+table_layout_again x rows = record { senders = x.senders; words = log_from x rows + x.capacity; log = log_from x rows; capacity = x.capacity }
 
 abbrev pub started_again : {E : Type 0} → Layout → ℕ → ℕ → Visitor E
-started_again x rows p = record { core = new_core x p; visit = Away; sweep = None; lost = None; rows = rows }
+started_again x rows p = record { core = new_core x p; pin = Away; reclaimer = None; lost = None; rows = rows }
 
--- What a step adds to the track: steps of visits and of sweeps are no deeds.
-abbrev pub adds_due : {E : Type 0} → Election E → Visitor E → Due E → ℕ → ℕ → Track
-adds_due X v (Visits o) got word = record { deeds = []; visits = record { op = o; got = got } ∷ []; sweeps = [] }
-adds_due X v (Sweeps s o) got word = record { deeds = []; visits = []; sweeps = record { op = o; got = got } ∷ [] }
-adds_due X v (Goes z) got word = track_of_deeds (step_deed (kind_at X v.core z) (tenure_at X v.core z) got (chosen_at X v.core z got word) (answer_going X v.core z got word))
+-- What a step adds to the trail: steps of pins and of reclamations are no actions.
+abbrev pub adds_due : {E : Type 0} → Election E → Visitor E → Due E → ℕ → ℕ → SenderTrail
+adds_due X v (Pins o) got word = record { actions = []; pins = record { op = o; got = got } ∷ []; reclaims = [] }
+adds_due X v (Reclaims s o) got word = record { actions = []; pins = []; reclaims = record { op = o; got = got } ∷ [] }
+adds_due X v (Goes z) got word = sender_trail_of_actions (step_action (kind_at X v.core z) (tenure_at X v.core z) got (chosen_at X v.core z got word) (answer_going X v.core z got word))
 
 abbrev pub process_again : {E : Type 0} → Election E → Process (Visitor E)
 process_again X = record {
   me = λ v. v.core.me;
-  extent = λ v. extent_again v.core.layout v.rows;
+  table_layout = λ v. table_layout_again v.core.layout v.rows;
   successor = λ v. started_again v.core.layout v.rows (v.core.me + 1);
-  queue = λ v. queue_seen v.core.queue v.visit;
+  queue = λ v. queue_seen v.core.queue v.pin;
   with_message = λ v bytes. record v { core = record v.core { queue = record v.core.queue { messages = v.core.queue.messages ++ bytes ∷ [] } } };
   with_close = λ v. record v { core = record v.core { queue = record v.core.queue { phase = Closing } } };
   waiting = λ v. waiting_at v.core v.core.phase;
@@ -73,12 +73,12 @@ pub record IsRingHistory {E : Type 0} (X : Election E) (x : Layout) (rows : ℕ)
 
 abbrev pub bus_again : {E : Type 0} → Election E → Layout → ℕ → Automaton (Visitor E)
 bus_again {E} X x rows = record {
-  extent = extent_again x rows;
+  table_layout = table_layout_again x rows;
   started = started_again x rows;
   State = RingHistory E;
   IsReached = IsRingHistory X x rows;
   words = λ z. z.ring.words;
   home = λ z. z.ring.home;
   sender = λ z p. slice_get z.ring.guests p;
-  track = λ z p. record { deeds = z.trails.deeds p; visits = z.trails.visits p; sweeps = z.trails.sweeps p };
+  sender_trail = λ z p. record { actions = z.trails.actions p; pins = z.trails.pins p; reclaims = z.trails.reclaims p };
 }

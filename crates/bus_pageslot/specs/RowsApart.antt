@@ -7,16 +7,16 @@ use Rattle.bus_tenure.specs.Situations.{situation_of, line_of, op_at, kind_at, w
 use Rattle.bus_tenure.specs.declared.phases.Phase.{Phase}
 use Rattle.bus_tenure.specs.declared.phases.Phase.TheVariants as phase
 use Rattle.bus_world.specs.Bus.{IsLayout}
-use Rattle.bus_world.specs.Trails.{Trails, Reached, turn_deeds}
+use Rattle.bus_world.specs.Trails.{Trails, Reached, turn_actions}
 use Rattle.bus_world.specs.Turning.{core_after, core_moved, before_step, laying}
 use Rattle.bus_world.specs.Waiting.{waiting_at}
 use Rattle.bus_world.specs.World.{Bus, new_core, no_stops}
 use Rattle.bus_world.specs.declared.events.Answer.TheVariants as answer
-use Rattle.bus_pageslot.specs.Processes.{Extent, Process, Automaton}
-use Rattle.bus_pageslot.specs.Tracks.{track_of_deeds}
+use Rattle.bus_pageslot.specs.Processes.{TableLayout, Process, Automaton}
+use Rattle.bus_pageslot.specs.SenderTrails.{sender_trail_of_actions}
 
-abbrev pub extent_of : Layout → Extent
-extent_of x = record { senders = x.senders; words = words_of x; log = log_at x; capacity = x.capacity }
+abbrev pub table_layout_of : Layout → TableLayout
+table_layout_of x = record { senders = x.senders; words = words_of x; log = log_at x; capacity = x.capacity }
 
 -- a page stands before it
 abbrev pub is_holding : {E : Type 0} → Phase E → Bool
@@ -37,7 +37,7 @@ is_taken (phase.Giving t reason) = false
 abbrev pub process_apart : {E : Type 0} → Election E → Process (Core E)
 process_apart X = record {
   me = λ c. c.me;
-  extent = λ c. extent_of c.layout;
+  table_layout = λ c. table_layout_of c.layout;
   successor = λ c. new_core c.layout (c.me + 1);
   queue = λ c. c.queue;
   with_message = λ c bytes. record c { queue = record c.queue { messages = c.queue.messages ++ bytes ∷ [] } };
@@ -51,7 +51,7 @@ process_apart X = record {
   move = λ c. (line_of X c (situation_of X c)).move;
   after = λ c home got word. core_after X c (situation_of X c) home got word;
   answer = λ c got word. answer_at X c (situation_of X c) got word;
-  adds = λ c got word. track_of_deeds (turn_deeds X c (situation_of X c) got word (answer.Turn (answer_at X c (situation_of X c) got word)));
+  adds = λ c got word. sender_trail_of_actions (turn_actions X c (situation_of X c) got word (answer.Turn (answer_at X c (situation_of X c) got word)));
   holds = λ c. is_holding c.phase;
   handed = λ c. core_moved (before_step (line_of X c (situation_of X c)).move) None c;
   fed = λ c got word. fed_at X c (situation_of X c) got word;
@@ -73,12 +73,12 @@ pub record IsHistory {E : Type 0} (X : Election E) (x : Layout) (z : History E) 
 
 abbrev pub bus_apart : {E : Type 0} → Election E → Layout → Automaton (Core E)
 bus_apart {E} X x = record {
-  extent = extent_of x;
+  table_layout = table_layout_of x;
   started = new_core x;
   State = History E;
   IsReached = IsHistory X x;
   words = λ z. z.bus.side.words;
   home = λ z. z.bus.side.home;
   sender = λ z p. slice_get z.bus.side.senders p;
-  track = λ z p. track_of_deeds (z.trails.deeds p);
+  sender_trail = λ z p. sender_trail_of_actions (z.trails.actions p);
 }

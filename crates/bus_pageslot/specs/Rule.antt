@@ -8,9 +8,9 @@ use Rattle.atomic_table.specs.Table.{State, Me}
 use Rattle.bus_batch.specs.Frames.{Frame, AreFrames, log_words}
 use Rattle.bus_tenure.specs.declared.pages.Page.{Page}
 use Rattle.bus_world.specs.Headline.{IsPrefix}
-use Rattle.bus_pageslot.specs.Ears.{Ear, new_ear, ear_knowing, HasHeard}
-use Rattle.bus_pageslot.specs.Processes.{Extent, no_extent, Process, Automaton, log_in}
-use Rattle.bus_pageslot.specs.Tracks.{Track, no_track}
+use Rattle.bus_pageslot.specs.ReceiverViews.{ReceiverView, new_receiver_view, receiver_view_knowing, HasHeard}
+use Rattle.bus_pageslot.specs.Processes.{TableLayout, no_table_layout, Process, Automaton, log_in}
+use Rattle.bus_pageslot.specs.SenderTrails.{SenderTrail, no_sender_trail}
 use Rattle.bus_pageslot.specs.declared.rule.View.{View}
 use Rattle.bus_pageslot.specs.declared.rule.View.TheVariants.{Maker, Sender, Tap, Meeting, Telling, Spent}
 
@@ -22,38 +22,38 @@ slot_of None = none
 abbrev pub Sat : Type 0 → Type 0
 Sat C = Me (Option Page) (View C)
 
-abbrev pub track_in : {C : Type 0} → View C → Track
-track_in (Maker c) = no_track
-track_in (Sender c track stored) = track
-track_in (Tap x e) = no_track
-track_in (Meeting x e y f) = no_track
-track_in (Telling c track stored x e) = track
-track_in Spent = no_track
+abbrev pub sender_trail_in : {C : Type 0} → View C → SenderTrail
+sender_trail_in (Maker c) = no_sender_trail
+sender_trail_in (Sender c sender_trail stored) = sender_trail
+sender_trail_in (Tap x e) = no_sender_trail
+sender_trail_in (Meeting x e y f) = no_sender_trail
+sender_trail_in (Telling c sender_trail stored x e) = sender_trail
+sender_trail_in Spent = no_sender_trail
 
 -- the last length that its sender has stored; 0 before the first
 abbrev pub stored_in : {C : Type 0} → View C → ℕ
 stored_in (Maker c) = 0
-stored_in (Sender c track stored) = stored
+stored_in (Sender c sender_trail stored) = stored
 stored_in (Tap x e) = 0
 stored_in (Meeting x e y f) = 0
-stored_in (Telling c track stored x e) = stored
+stored_in (Telling c sender_trail stored x e) = stored
 stored_in Spent = 0
 
 -- the view of the maker of seats, before and after a seat is made
 abbrev pub cut_left : {C : Type 0} → Process C → View C → View C
 cut_left P (Maker c) = Maker (P.successor c)
-cut_left P (Sender c track stored) = Sender c track stored
+cut_left P (Sender c sender_trail stored) = Sender c sender_trail stored
 cut_left P (Tap x e) = Tap x e
 cut_left P (Meeting x e y f) = Meeting x e y f
-cut_left P (Telling c track stored x e) = Telling c track stored x e
+cut_left P (Telling c sender_trail stored x e) = Telling c sender_trail stored x e
 cut_left P Spent = Spent
 
 abbrev pub cut_right : {C : Type 0} → View C → View C
-cut_right (Maker c) = Sender c no_track 0
-cut_right (Sender c track stored) = Spent
+cut_right (Maker c) = Sender c no_sender_trail 0
+cut_right (Sender c sender_trail stored) = Spent
 cut_right (Tap x e) = Spent
 cut_right (Meeting x e y f) = Spent
-cut_right (Telling c track stored x e) = Spent
+cut_right (Telling c sender_trail stored x e) = Spent
 cut_right Spent = Spent
 
 -- the view of the maker of seats, before and after a receiver's seat is made
@@ -61,146 +61,146 @@ abbrev pub tap_left : {C : Type 0} → View C → View C
 tap_left v = v
 
 abbrev pub tap_right : {C : Type 0} → Process C → View C → View C
-tap_right P (Maker c) = Tap (P.extent c) new_ear
-tap_right P (Sender c track stored) = Spent
+tap_right P (Maker c) = Tap (P.table_layout c) new_receiver_view
+tap_right P (Sender c sender_trail stored) = Spent
 tap_right P (Tap x e) = Spent
 tap_right P (Meeting x e y f) = Spent
-tap_right P (Telling c track stored x e) = Spent
+tap_right P (Telling c sender_trail stored x e) = Spent
 tap_right P Spent = Spent
 
 -- what a receiver's seat knows, has read and was answered
-abbrev pub ear_in : {C : Type 0} → View C → Ear
-ear_in (Maker c) = new_ear
-ear_in (Sender c track stored) = new_ear
-ear_in (Tap x e) = e
-ear_in (Meeting x e y f) = e
-ear_in (Telling c track stored x e) = e
-ear_in Spent = new_ear
+abbrev pub receiver_view_in : {C : Type 0} → View C → ReceiverView
+receiver_view_in (Maker c) = new_receiver_view
+receiver_view_in (Sender c sender_trail stored) = new_receiver_view
+receiver_view_in (Tap x e) = e
+receiver_view_in (Meeting x e y f) = e
+receiver_view_in (Telling c sender_trail stored x e) = e
+receiver_view_in Spent = new_receiver_view
 
 abbrev pub known_in : {C : Type 0} → View C → List ℕ
-known_in v = (ear_in v).known
+known_in v = (receiver_view_in v).known
 
-abbrev pub with_ear : {C : Type 0} → View C → Ear → View C
-with_ear (Maker c) e = Maker c
-with_ear (Sender c track stored) e = Sender c track stored
-with_ear (Tap x old) e = Tap x e
-with_ear (Meeting x old y f) e = Meeting x e y f
-with_ear (Telling c track stored x old) e = Telling c track stored x e
-with_ear Spent e = Spent
+abbrev pub with_receiver_view : {C : Type 0} → View C → ReceiverView → View C
+with_receiver_view (Maker c) e = Maker c
+with_receiver_view (Sender c sender_trail stored) e = Sender c sender_trail stored
+with_receiver_view (Tap x old) e = Tap x e
+with_receiver_view (Meeting x old y f) e = Meeting x e y f
+with_receiver_view (Telling c sender_trail stored x old) e = Telling c sender_trail stored x e
+with_receiver_view Spent e = Spent
 
 -- how large a receiver's bus is
-abbrev pub extent_in : {C : Type 0} → View C → Extent
-extent_in (Maker c) = no_extent
-extent_in (Sender c track stored) = no_extent
-extent_in (Tap x e) = x
-extent_in (Meeting x e y f) = x
-extent_in (Telling c track stored x e) = x
-extent_in Spent = no_extent
+abbrev pub table_layout_in : {C : Type 0} → View C → TableLayout
+table_layout_in (Maker c) = no_table_layout
+table_layout_in (Sender c sender_trail stored) = no_table_layout
+table_layout_in (Tap x e) = x
+table_layout_in (Meeting x e y f) = x
+table_layout_in (Telling c sender_trail stored x e) = x
+table_layout_in Spent = no_table_layout
 
 abbrev pub senders_in : {C : Type 0} → View C → ℕ
-senders_in v = (extent_in v).senders
+senders_in v = (table_layout_in v).senders
 
 abbrev pub capacity_in : {C : Type 0} → View C → ℕ
-capacity_in v = (extent_in v).capacity
+capacity_in v = (table_layout_in v).capacity
 
 -- two seats joined: of two receivers, or of a sender and a receiver
 abbrev pub views_joined : {C : Type 0} → View C → View C → View C
 views_joined (Tap x e) (Tap y f) = Meeting x e y f
-views_joined (Sender c track stored) (Tap x e) = Telling c track stored x e
+views_joined (Sender c sender_trail stored) (Tap x e) = Telling c sender_trail stored x e
 views_joined (Maker c) w = Spent
-views_joined (Sender c track stored) (Maker d) = Spent
-views_joined (Sender c track stored) (Sender d other length) = Spent
-views_joined (Sender c track stored) (Meeting x e y f) = Spent
-views_joined (Sender c track stored) (Telling d other length x e) = Spent
-views_joined (Sender c track stored) Spent = Spent
+views_joined (Sender c sender_trail stored) (Maker d) = Spent
+views_joined (Sender c sender_trail stored) (Sender d other length) = Spent
+views_joined (Sender c sender_trail stored) (Meeting x e y f) = Spent
+views_joined (Sender c sender_trail stored) (Telling d other length x e) = Spent
+views_joined (Sender c sender_trail stored) Spent = Spent
 views_joined (Tap x e) (Maker d) = Spent
-views_joined (Tap x e) (Sender d track stored) = Spent
+views_joined (Tap x e) (Sender d sender_trail stored) = Spent
 views_joined (Tap x e) (Meeting y f z g) = Spent
-views_joined (Tap x e) (Telling d track length y f) = Spent
+views_joined (Tap x e) (Telling d sender_trail length y f) = Spent
 views_joined (Tap x e) Spent = Spent
 views_joined (Meeting x e y f) w = Spent
-views_joined (Telling c track stored x e) w = Spent
+views_joined (Telling c sender_trail stored x e) w = Spent
 views_joined Spent w = Spent
 
 -- a seat that another may go into
 abbrev pub IsFirst : {C : Type 0} → View C → Type 0
 IsFirst (Maker c) = ⊥
-IsFirst (Sender c track stored) = Unit {0}
+IsFirst (Sender c sender_trail stored) = Unit {0}
 IsFirst (Tap x e) = Unit {0}
 IsFirst (Meeting x e y f) = ⊥
-IsFirst (Telling c track stored x e) = ⊥
+IsFirst (Telling c sender_trail stored x e) = ⊥
 IsFirst Spent = ⊥
 
 -- and cut apart again
 abbrev pub first_of : {C : Type 0} → View C → View C
 first_of (Maker c) = Maker c
-first_of (Sender c track stored) = Sender c track stored
+first_of (Sender c sender_trail stored) = Sender c sender_trail stored
 first_of (Tap x e) = Tap x e
 first_of (Meeting x e y f) = Tap x e
-first_of (Telling c track stored x e) = Sender c track stored
+first_of (Telling c sender_trail stored x e) = Sender c sender_trail stored
 first_of Spent = Spent
 
 abbrev pub second_of : {C : Type 0} → View C → View C
 second_of (Maker c) = Spent
-second_of (Sender c track stored) = Spent
+second_of (Sender c sender_trail stored) = Spent
 second_of (Tap x e) = Spent
 second_of (Meeting x e y f) = Tap y f
-second_of (Telling c track stored x e) = Tap x e
+second_of (Telling c sender_trail stored x e) = Tap x e
 second_of Spent = Spent
 
 -- the receivers that are joined have loaded the length, and know this
 abbrev pub all_knowing : {C : Type 0} → View C → List ℕ → View C
 all_knowing (Maker c) known = Maker c
-all_knowing (Sender c track stored) known = Sender c track stored
-all_knowing (Tap x e) known = Tap x (ear_knowing e known)
-all_knowing (Meeting x e y f) known = Meeting x (ear_knowing e known) y (ear_knowing f known)
-all_knowing (Telling c track stored x e) known = Telling c track stored x (ear_knowing e known)
+all_knowing (Sender c sender_trail stored) known = Sender c sender_trail stored
+all_knowing (Tap x e) known = Tap x (receiver_view_knowing e known)
+all_knowing (Meeting x e y f) known = Meeting x (receiver_view_knowing e known) y (receiver_view_knowing f known)
+all_knowing (Telling c sender_trail stored x e) known = Telling c sender_trail stored x (receiver_view_knowing e known)
 all_knowing Spent known = Spent
 
 -- ---- what the views say of a bus
 -- the seat j is that of this sender, which has done just this, and has stored no length but those that the log has reached
-pub record IsSeated {C : Type 0} (P : Process C) (A : Automaton C) (z : A.State) (seat : ℕ → ℕ) (j : ℕ) (c : C) (track : Track) (stored : ℕ) : Type 0 where
+pub record IsSeated {C : Type 0} (P : Process C) (A : Automaton C) (z : A.State) (seat : ℕ → ℕ) (j : ℕ) (c : C) (sender_trail : SenderTrail) (stored : ℕ) : Type 0 where
   pub here : seat (P.me c) ≡ j
   pub core : A.sender z (P.me c) ≡ Some c
-  pub track_is : A.track z (P.me c) ≡ track
+  pub sender_trail_is : A.sender_trail z (P.me c) ≡ sender_trail
   pub reached : stored ≤ slice_index (A.words z) 0
 
 -- the sender p has no seat of its own yet, and has done nothing: the seat j is to make one for it
 pub record IsUnseated {C : Type 0} (A : Automaton C) (z : A.State) (seat : ℕ → ℕ) (j p : ℕ) : Type 0 where
   pub here : seat p ≡ j
   pub core : A.sender z p ≡ Some (A.started p)
-  pub track_is : A.track z p ≡ no_track
+  pub sender_trail_is : A.sender_trail z p ≡ no_sender_trail
 
 -- A receiver knows a beginning of the log, which has some frames; and its turns have answered just what these give, up to its place.
-pub record KnowsLog {C : Type 0} (A : Automaton C) (z : A.State) (x : Extent) (e : Ear) : Type 0 where
-  pub extent : x ≡ A.extent
+pub record KnowsLog {C : Type 0} (A : Automaton C) (z : A.State) (x : TableLayout) (e : ReceiverView) : Type 0 where
+  pub table_layout : x ≡ A.table_layout
   pub front : IsPrefix e.known (log_in A z)
   pub below : e.place ≤ length e.known
   pub frames : List Frame
-  pub lawful : AreFrames A.extent.senders frames
+  pub lawful : AreFrames A.table_layout.senders frames
   pub words_are : log_words frames ≡ log_in A z
   pub heard : HasHeard frames e
 
 abbrev pub IsTrueOf : {C : Type 0} → Process C → (A : Automaton C) → A.State → (ℕ → ℕ) → ℕ → View C → Type 0
-IsTrueOf P A z seat j (Maker c) = (c ≡ A.started (P.me c)) × ((p : ℕ) → P.me c ≤ p → p < A.extent.senders → IsUnseated A z seat j p)
-IsTrueOf P A z seat j (Sender c track stored) = IsSeated P A z seat j c track stored
+IsTrueOf P A z seat j (Maker c) = (c ≡ A.started (P.me c)) × ((p : ℕ) → P.me c ≤ p → p < A.table_layout.senders → IsUnseated A z seat j p)
+IsTrueOf P A z seat j (Sender c sender_trail stored) = IsSeated P A z seat j c sender_trail stored
 IsTrueOf P A z seat j (Tap x e) = KnowsLog A z x e
 IsTrueOf P A z seat j (Meeting x e y f) = KnowsLog A z x e × KnowsLog A z y f
-IsTrueOf P A z seat j (Telling c track stored x e) = IsSeated P A z seat j c track stored × KnowsLog A z x e
+IsTrueOf P A z seat j (Telling c sender_trail stored x e) = IsSeated P A z seat j c sender_trail stored × KnowsLog A z x e
 IsTrueOf P A z seat j Spent = Unit {0}
 
 -- the sender p shows in this view: in its own, or in that of the maker of seats while it has none of its own
 abbrev pub Seats : {C : Type 0} → Process C → ℕ → View C → Type 0
 Seats P p (Maker c) = P.me c ≤ p
-Seats P p (Sender c track stored) = P.me c ≡ p
+Seats P p (Sender c sender_trail stored) = P.me c ≡ p
 Seats P p (Tap x e) = ⊥
 Seats P p (Meeting x e y f) = ⊥
-Seats P p (Telling c track stored x e) = P.me c ≡ p
+Seats P p (Telling c sender_trail stored x e) = P.me c ≡ p
 Seats P p Spent = ⊥
 
 -- Executions of the bus lead to a state with these words, and with its page in the slot where that is at home; the views of the seats are
 -- true of it; and each of its senders shows in one of them.
-pub record IsShown {C : Type 0} (P : Process C) (A : Automaton C) (s : State (Option Page) (View C)) : Type 0 where
+pub record TableInvariant {C : Type 0} (P : Process C) (A : Automaton C) (s : State (Option Page) (View C)) : Type 0 where
   pub state : A.State
   pub reached : A.IsReached state
   pub words : s.words ≡ A.words state
@@ -208,4 +208,4 @@ pub record IsShown {C : Type 0} (P : Process C) (A : Automaton C) (s : State (Op
   -- of each sender the seat that shows it
   pub seat : ℕ → ℕ
   pub views : (j : ℕ) (v : View C) → get_elem? s.views j ≡ some v → IsTrueOf P A state seat j v
-  pub all : (p : ℕ) → p < A.extent.senders → (j : ℕ) × (v : View C) × (get_elem? s.views j ≡ some v) × Seats P p v
+  pub all : (p : ℕ) → p < A.table_layout.senders → (j : ℕ) × (v : View C) × (get_elem? s.views j ≡ some v) × Seats P p v

@@ -8,26 +8,26 @@ use Rattle.bus_tenure.specs.declared.turns.Turn.{Turn}
 use Rattle.bus_tenure.specs.declared.turns.Turn.TheVariants as turn
 use Rattle.bus_world.specs.Headline.{HasPut, puts}
 use Rattle.bus_pageslot.specs.Processes.{Process}
-use Rattle.bus_pageslot.specs.Seats.{Seated, deeds_of}
+use Rattle.bus_pageslot.specs.Seats.{SenderSeat, actions_of}
 use Rattle.bus_pageslot.specs.Turns.{Sends}
 use Rattle.bus_pageslot.specs.declared.seats.SendFault.{SendFault}
 use Rattle.bus_pageslot.specs.declared.seats.SendFault.TheVariants as fault
 use Rattle.bus_pageslot.specs.declared.seats.Unsent.{Unsent}
 
 -- the messages that wait in its batch
-abbrev pub waiting_of : {C : Type 0} → Process C → Seated C → List (List ℕ)
+abbrev pub waiting_of : {C : Type 0} → Process C → SenderSeat C → List (List ℕ)
 waiting_of P s = (P.queue s.core).messages
 
 -- a sender took these bytes into its batch, with no step
-pub record Takes {C : Type 0} (P : Process C) (old : Seated C) (bytes : List ℕ) (new : Seated C) : Type 0 where
+pub record Takes {C : Type 0} (P : Process C) (old : SenderSeat C) (bytes : List ℕ) (new : SenderSeat C) : Type 0 where
   pub could : CanPut (P.queue old.core) (length bytes)
   pub core : new.core ≡ P.with_message old.core bytes
   pub seat : new.seat ≡ old.seat
-  pub deed : deeds_of P new ≡ deeds_of P old ++ HasPut (next_of (P.queue old.core)) bytes ∷ []
+  pub action : actions_of P new ≡ actions_of P old ++ HasPut (next_of (P.queue old.core)) bytes ∷ []
 
 -- ---- one batch
 -- the batch was sent off: turns up to a last one, after which no message waits
-pub record SendsOff {C : Type 0} (P : Process C) (old new : Seated C) : Type 0 where
+pub record SendsOff {C : Type 0} (P : Process C) (old new : SenderSeat C) : Type 0 where
   pub answer : Turn
   pub sends : Sends P old answer new
   pub none : waiting_of P new ≡ []
@@ -46,40 +46,40 @@ is_refusal turn.Spent = true
 is_refusal (turn.Behind t sender) = false
 
 -- the batch was not sent off: turns up to a last one, after which the same messages wait as before, one at least
-pub record Keeps {C : Type 0} (P : Process C) (old : Seated C) (answer : Turn) (new : Seated C) : Type 0 where
+pub record Keeps {C : Type 0} (P : Process C) (old : SenderSeat C) (answer : Turn) (new : SenderSeat C) : Type 0 where
   pub sends : Sends P old answer new
   pub refused : is_refusal answer ≡ true
   pub waits : 0 < length (waiting_of P new)
   pub same : waiting_of P new ≡ waiting_of P old
 
 -- this is why the batch was not sent off
-abbrev pub KeepsFor : {C : Type 0} → Process C → Seated C → SendFault → Seated C → Type 0
+abbrev pub KeepsFor : {C : Type 0} → Process C → SenderSeat C → SendFault → SenderSeat C → Type 0
 KeepsFor P old (fault.Put why) new = ⊥
 KeepsFor P old (fault.Turn answer) new = Keeps P old answer new
 
 -- ---- batches, one after another
 -- Puts of just these messages, in this order, led from one sender to another. It had sent off first what waited before; and between
 -- the puts it sent off a batch where 16 messages waited, and nowhere else.
-pub data FillsBatches {C : Type 0} (P : Process C) (first : Seated C) : List (List ℕ) → Seated C → Type 0 where
-  SentBefore : (new : Seated C) → SendsOff P first new → FillsBatches P first [] new
-  Put : (messages : List (List ℕ)) (old : Seated C) (bytes : List ℕ) (new : Seated C) → FillsBatches P first messages old → Takes P old bytes new → FillsBatches P first (messages ++ bytes ∷ []) new
-  SentFull : (messages : List (List ℕ)) (old : Seated C) (new : Seated C) → FillsBatches P first messages old → length (waiting_of P old) ≡ MOST_MESSAGES → SendsOff P old new → FillsBatches P first messages new
+pub data FillsBatches {C : Type 0} (P : Process C) (first : SenderSeat C) : List (List ℕ) → SenderSeat C → Type 0 where
+  SentBefore : (new : SenderSeat C) → SendsOff P first new → FillsBatches P first [] new
+  Put : (messages : List (List ℕ)) (old : SenderSeat C) (bytes : List ℕ) (new : SenderSeat C) → FillsBatches P first messages old → Takes P old bytes new → FillsBatches P first (messages ++ bytes ∷ []) new
+  SentFull : (messages : List (List ℕ)) (old : SenderSeat C) (new : SenderSeat C) → FillsBatches P first messages old → length (waiting_of P old) ≡ MOST_MESSAGES → SendsOff P old new → FillsBatches P first messages new
 
 -- so it has put just these, behind what it had put before, and sent off what was left of them
-pub record HasSent {C : Type 0} (P : Process C) (first : Seated C) (messages : List (List ℕ)) (new : Seated C) : Type 0 where
-  pub old : Seated C
+pub record HasSent {C : Type 0} (P : Process C) (first : SenderSeat C) (messages : List (List ℕ)) (new : SenderSeat C) : Type 0 where
+  pub old : SenderSeat C
   pub fills : FillsBatches P first messages old
   pub rest : SendsOff P old new
-  pub puts_are : puts (deeds_of P new) ≡ puts (deeds_of P first) ++ messages
+  pub puts_are : puts (actions_of P new) ≡ puts (actions_of P first) ++ messages
 
 -- ---- where it stops
 -- a batch is to be sent off: it is full, or no message comes next
-abbrev pub IsDue : {C : Type 0} → Process C → Option (List ℕ) → Seated C → Type 0
+abbrev pub IsDue : {C : Type 0} → Process C → Option (List ℕ) → SenderSeat C → Type 0
 IsDue P (Some bytes) s = length (waiting_of P s) ≡ MOST_MESSAGES
 IsDue P None s = Unit {0}
 
 -- the message that comes next was refused, where the batch has room for it and it is not too long
-pub record Refuses {C : Type 0} (P : Process C) (s : Seated C) (next : Option (List ℕ)) (why : PutFault) : Type 0 where
+pub record Refuses {C : Type 0} (P : Process C) (s : SenderSeat C) (next : Option (List ℕ)) (why : PutFault) : Type 0 where
   pub bytes : List ℕ
   pub next_is : next ≡ Some bytes
   pub short : length bytes ≤ MOST_BYTES
@@ -87,12 +87,12 @@ pub record Refuses {C : Type 0} (P : Process C) (s : Seated C) (next : Option (L
   pub cause : IsPutFault (P.queue s.core) (length bytes) why
 
 -- once it has put these messages it does not go on to the one that comes next, or to the end, and this is why
-abbrev pub StopsAt : {C : Type 0} → Process C → Seated C → List (List ℕ) → Option (List ℕ) → SendFault → Seated C → Type 0
+abbrev pub StopsAt : {C : Type 0} → Process C → SenderSeat C → List (List ℕ) → Option (List ℕ) → SendFault → SenderSeat C → Type 0
 StopsAt P first messages next (fault.Put why) new = FillsBatches P first messages new × Refuses P new next why
-StopsAt {C} P first messages next (fault.Turn answer) new = (old : Seated C) × FillsBatches P first messages old × IsDue P next old × Keeps P old answer new
+StopsAt {C} P first messages next (fault.Turn answer) new = (old : SenderSeat C) × FillsBatches P first messages old × IsDue P next old × Keeps P old answer new
 
 -- it stopped where so many of the messages were put: what waited before was not sent off, or it does not go on
-abbrev pub Stops : {C : Type 0} → Process C → Seated C → List (List ℕ) → ℕ → SendFault → Seated C → Type 0
+abbrev pub Stops : {C : Type 0} → Process C → SenderSeat C → List (List ℕ) → ℕ → SendFault → SenderSeat C → Type 0
 Stops P first messages count fault new = ((count ≡ 0) × KeepsFor P first fault new) ⊎ StopsAt P first (take count messages) (slice_get messages count) fault new
 
 -- such a fault can be: a batch with room is full for no message, and no message is too long
@@ -104,15 +104,15 @@ can_come (fault.Put put.BatchFull) = false
 can_come (fault.Turn answer) = is_refusal answer
 
 -- of what waited before, and then these messages, the last ones wait, and those before them do not
-pub record WaitsOf {C : Type 0} (P : Process C) (first : Seated C) (messages : List (List ℕ)) (new : Seated C) : Type 0 where
+pub record WaitsOf {C : Type 0} (P : Process C) (first : SenderSeat C) (messages : List (List ℕ)) (new : SenderSeat C) : Type 0 where
   pub gone : List (List ℕ)
   pub waits : waiting_of P first ++ messages ≡ gone ++ waiting_of P new
 
 -- so it has put the first of these messages, and no other; and it stopped where and why it says
-pub record HasSentPart {C : Type 0} (P : Process C) (first : Seated C) (messages : List (List ℕ)) (unsent : Unsent) (new : Seated C) : Type 0 where
+pub record HasSentPart {C : Type 0} (P : Process C) (first : SenderSeat C) (messages : List (List ℕ)) (unsent : Unsent) (new : SenderSeat C) : Type 0 where
   pub few : unsent.put ≤ length messages
   pub stops : Stops P first messages unsent.put unsent.fault new
   pub can : can_come unsent.fault ≡ true
-  pub puts_are : puts (deeds_of P new) ≡ puts (deeds_of P first) ++ take unsent.put messages
+  pub puts_are : puts (actions_of P new) ≡ puts (actions_of P first) ++ take unsent.put messages
   pub waits : WaitsOf P first (take unsent.put messages) new
   pub sent_is : unsent.sent ≡ unsent.put - length (waiting_of P new)

@@ -12,45 +12,45 @@ use Rattle.bus_deliverylog.specs.Orders.{of_sender}
 use Rattle.bus_tenure.specs.Core.{length_at, is_closing}
 use Rattle.bus_tenure.specs.Situations.{PageMove, Stays, Comes, Returns}
 use Rattle.bus_tenure.specs.declared.pages.Page.{Page}
-use Rattle.bus_world.specs.Headline.{Deed, HasPut, HasClosed, puts, IsPrefix}
-use Rattle.bus_pageslot.specs.Ears.{ear_after_load, ear_knowing, Agree}
+use Rattle.bus_world.specs.Headline.{Action, HasPut, HasClosed, puts, IsPrefix}
+use Rattle.bus_pageslot.specs.ReceiverViews.{receiver_view_after_load, receiver_view_knowing, Agree}
 use Rattle.bus_pageslot.specs.declared.rule.View.{View}
 use Rattle.bus_pageslot.specs.declared.rule.View.TheVariants.{Maker, Sender, Tap, Meeting, Telling, Spent}
 use Rattle.bus_pageslot.specs.Processes.{Process, IsCounted}
-use Rattle.bus_pageslot.specs.Rule.{Sat, track_in, stored_in, ear_in, known_in, with_ear, views_joined, first_of, second_of, all_knowing, extent_in, capacity_in}
-use Rattle.bus_pageslot.specs.Tracks.{Track, with_deeds, with_track}
+use Rattle.bus_pageslot.specs.Rule.{Sat, sender_trail_in, stored_in, receiver_view_in, known_in, with_receiver_view, views_joined, first_of, second_of, all_knowing, table_layout_in, capacity_in}
+use Rattle.bus_pageslot.specs.SenderTrails.{SenderTrail, with_actions, with_sender_trail}
 
 -- ---- what a sender accepts between its steps
--- what a sender has accepted makes this sender of c, and adds these deeds
-pub data Accepts {C : Type 0} (P : Process C) (c : C) : C → List Deed → Type 0 where
+-- what a sender has accepted makes this sender of c, and adds these actions
+pub data Accepts {C : Type 0} (P : Process C) (c : C) : C → List Action → Type 0 where
   Nothing : Accepts P c c []
-  Message : (d : C) (deeds : List Deed) (bytes : List ℕ) → Accepts P c d deeds → CanPut (P.queue d) (length bytes) → All (λ byte. byte < 256) bytes → Accepts P c (P.with_message d bytes) (deeds ++ HasPut (next_of (P.queue d)) bytes ∷ [])
-  Close : (d : C) (deeds : List Deed) → Accepts P c d deeds → CanClose (P.queue d) → Accepts P c (P.with_close d) (deeds ++ HasClosed ∷ [])
+  Message : (d : C) (actions : List Action) (bytes : List ℕ) → Accepts P c d actions → CanPut (P.queue d) (length bytes) → All (λ byte. byte < 256) bytes → Accepts P c (P.with_message d bytes) (actions ++ HasPut (next_of (P.queue d)) bytes ∷ [])
+  Close : (d : C) (actions : List Action) → Accepts P c d actions → CanClose (P.queue d) → Accepts P c (P.with_close d) (actions ++ HasClosed ∷ [])
 
--- the same deeds, as the batches show them: the messages of the one that the other does not have yet, and the close
-abbrev pub puts_from : ℕ → List (List ℕ) → List Deed
+-- the same actions, as the batches show them: the messages of the one that the other does not have yet, and the close
+abbrev pub puts_from : ℕ → List (List ℕ) → List Action
 puts_from first [] = []
 puts_from first (bytes ∷ more) = HasPut first bytes ∷ puts_from (first + 1) more
 
-abbrev pub closes_since : Bool → Bool → List Deed
+abbrev pub closes_since : Bool → Bool → List Action
 closes_since before true = if before then [] else HasClosed ∷ []
 closes_since before false = []
 
-abbrev pub accepted_since : Pending → Pending → List Deed
+abbrev pub accepted_since : Pending → Pending → List Action
 accepted_since before now = puts_from (next_of before) (drop (length before.messages) now.messages) ++ closes_since (is_closing before.phase) (is_closing now.phase)
 
 -- since the last step of a seat with this view its sender, which is now d, has accepted this
-abbrev pub since_in : {C : Type 0} → Process C → View C → C → List Deed
+abbrev pub since_in : {C : Type 0} → Process C → View C → C → List Action
 since_in P (Maker c) d = []
-since_in P (Sender c track stored) d = accepted_since (P.queue c) (P.queue d)
+since_in P (Sender c sender_trail stored) d = accepted_since (P.queue c) (P.queue d)
 since_in P (Tap x e) d = []
 since_in P (Meeting x e y f) d = []
-since_in P (Telling c track stored x e) d = []
+since_in P (Telling c sender_trail stored x e) d = []
 since_in P Spent d = []
 
 -- all that a sender d with this view did
-abbrev pub all_in : {C : Type 0} → Process C → View C → C → Track
-all_in P v d = with_deeds (track_in v) (since_in P v d)
+abbrev pub all_in : {C : Type 0} → Process C → View C → C → SenderTrail
+all_in P v d = with_actions (sender_trail_in v) (since_in P v d)
 
 -- ---- the page in the slot
 -- what is out with the seat of a sender between two turns: the slot, where it holds the page
@@ -116,7 +116,7 @@ Told (Store at value) found got = Unit {0}
 Told (Add at value) found got = got ≡ found
 Told (Cas at expected value) found got = got ≡ found
 
--- a seat after the step of a sender d, whatever it showed before: d with its turn, and its track with what it accepted and with this step
+-- a seat after the step of a sender d, whatever it showed before: d with its turn, and its trail with what it accepted and with this step
 pub record Gone {C : Type 0} (P : Process C) (d : C) (word : ℕ) (m : Sat C) (got : ℕ) (m' : Sat C) : Type 0 where
   -- what was at home, and what the word had, before the step
   pub home : Option Page
@@ -127,7 +127,7 @@ pub record Gone {C : Type 0} (P : Process C) (d : C) (word : ℕ) (m : Sat C) (g
   pub answer : P.answer d got word ≡ P.answer d found word
   pub counted : IsCounted P (P.after d home got word)
   pub ends : EndsBy P d (P.fed d got word) (P.after d home got word) home (P.move d)
-  pub now : m' ≡ (Sender (P.after d home got word) (with_track (all_in P m.0 d) (P.adds d found word)) (stored_by (P.op d word) (stored_in m.0)), carried_by (P.move d) home m.1)
+  pub now : m' ≡ (Sender (P.after d home got word) (with_sender_trail (all_in P m.0 d) (P.adds d found word)) (stored_by (P.op d word) (stored_in m.0)), carried_by (P.move d) home m.1)
 
 -- the same of the sender that a call picks
 abbrev pub GoesOn : {C : Type 0} → Process C → Option C → ℕ → Sat C → ℕ → Sat C → Type 0
@@ -137,12 +137,12 @@ GoesOn P (Some d) word m got m' = Gone P d word m got m'
 -- a step o is due of a sender d, whose seat shows it as it was after its last step
 pub record IsDue {C : Type 0} (P : Process C) (d : C) (word : ℕ) (m : Sat C) (words : ℕ) (o : Op) : Type 0 where
   pub shown : C
-  pub deeds : List Deed
-  pub accepts : Accepts P shown d deeds
-  pub me : m ≡ (Sender shown (track_in m.0) (stored_in m.0), out_with (P.move d) (carried_of (P.holds d)))
+  pub actions : List Action
+  pub accepts : Accepts P shown d actions
+  pub me : m ≡ (Sender shown (sender_trail_in m.0) (stored_in m.0), out_with (P.move d) (carried_of (P.holds d)))
   pub due : P.op d word ≡ Some o
-  pub below : register o < (P.extent d).words
-  pub wide : words ≡ (P.extent d).words
+  pub below : register o < (P.table_layout d).words
+  pub wide : words ≡ (P.table_layout d).words
 
 abbrev pub Due : {C : Type 0} → Process C → Option C → ℕ → Sat C → ℕ → Op → Type 0
 Due P None word m words o = ⊥
@@ -152,27 +152,27 @@ Due P (Some d) word m words o = IsDue P d word m words o
 -- of the length, out of turn: what it knows of the log grows, up to the length that it found
 pub record Learns {C : Type 0} (m : Sat C) (got : ℕ) (m' : Sat C) : Type 0 where
   pub known : List ℕ
-  pub now : m' ≡ (with_ear m.0 (ear_knowing (ear_in m.0) known), m.1)
+  pub now : m' ≡ (with_receiver_view m.0 (receiver_view_knowing (receiver_view_in m.0) known), m.1)
   pub grows : IsPrefix (known_in m.0) known
   pub length_is : length known ≡ got
   pub within : length known ≤ capacity_in m.0
 
--- What is known is a log that holds of a sender c, which has done these deeds, exactly what it has put and does not wait any more,
+-- What is known is a log that holds of a sender c, which has done these actions, exactly what it has put and does not wait any more,
 -- and that reaches to each length that it has stored.
-pub record KnowsSent {C : Type 0} (P : Process C) (c : C) (deeds : List Deed) (stored : ℕ) (known : List ℕ) : Type 0 where
+pub record KnowsSent {C : Type 0} (P : Process C) (c : C) (actions : List Action) (stored : ℕ) (known : List ℕ) : Type 0 where
   pub order : Order
   pub owners : List (ℕ × SenderNo)
-  pub spelled : Spells (P.extent c).senders known order owners
-  pub sent : map (λ (i : Item). i.message) (of_sender (P.me c) order) ++ P.waiting c ≡ puts deeds
+  pub spelled : Spells (P.table_layout c).senders known order owners
+  pub sent : map (λ (i : Item). i.message) (of_sender (P.me c) order) ++ P.waiting c ≡ puts actions
   pub long : stored ≤ length known
 
 -- what the joined seats know of the log grows to this; a sender may have accepted more since its last step; and two receivers agree
 abbrev pub GrowsTo : {C : Type 0} → Process C → View C → List ℕ → Type 0
 GrowsTo P (Maker c) known = Unit {0}
-GrowsTo P (Sender c track stored) known = Unit {0}
+GrowsTo P (Sender c sender_trail stored) known = Unit {0}
 GrowsTo P (Tap x e) known = Unit {0}
 GrowsTo P (Meeting x e y f) known = IsPrefix e.known known × IsPrefix f.known known × (length known ≤ x.capacity) × (length known ≤ y.capacity) × Agree e f
-GrowsTo {C} P (Telling c track stored x e) known = IsPrefix e.known known × (length known ≤ x.capacity) × ((a : C) (deeds : List Deed) → Accepts P c a deeds → KnowsSent P a (track.deeds ++ deeds) stored known)
+GrowsTo {C} P (Telling c sender_trail stored x e) known = IsPrefix e.known known × (length known ≤ x.capacity) × ((a : C) (actions : List Action) → Accepts P c a actions → KnowsSent P a (sender_trail.actions ++ actions) stored known)
 GrowsTo P Spent known = Unit {0}
 
 -- of the length, by two joined seats
@@ -192,5 +192,5 @@ pub record Met {C : Type 0} (P : Process C) (m n : Sat C) (got : ℕ) (m' n' : S
 
 -- of a word of the log below the length that it knows, out of turn
 pub record Reads {C : Type 0} (m : Sat C) (word got : ℕ) (m' : Sat C) : Type 0 where
-  pub now : m' ≡ (with_ear m.0 (ear_after_load (ear_in m.0)), m.1)
-  pub got_is : got ≡ slice_index (known_in m.0) (word - (extent_in m.0).log)
+  pub now : m' ≡ (with_receiver_view m.0 (receiver_view_after_load (receiver_view_in m.0)), m.1)
+  pub got_is : got ≡ slice_index (known_in m.0) (word - (table_layout_in m.0).log)

@@ -18,8 +18,8 @@ use bus_world::{MakeFault, Shape};
 /// shape is how many there are.
 ///
 /// Who holds the page makes the row of the next tenure ready before it gives the page back. It asks
-/// each sender once which tenure it visits, and where that is the one that used the row before, it
-/// answers Behind until that has changed. So a sender that stops while it visits a tenure may make
+/// each sender once which tenure it pins, and where that is the one that used the row before, it
+/// answers Behind until that has changed. So a sender that stops while it pins a tenure may make
 /// a holder wait for good.
 pub type CyclicBus<Q> = BusOf<Guest<Q>>;
 

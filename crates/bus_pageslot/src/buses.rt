@@ -8,9 +8,9 @@ ghost use Rattle.bus_pageslot.specs.Seats.{table_of};
 ghost use Rattle.bus_pageslot.specs.Endings.{IsLeft};
 
 use crate::outcomes::{EndFault, Ended, leave};
-use crate::rule::Board;
+use crate::rule::BusTable;
 use crate::seatables::Seatable;
-use crate::seating::{board, seat_all, tap_all};
+use crate::seating::{bus_table, seat_all, tap_all};
 use crate::seats::SenderOf;
 use crate::taps::TapOf;
 use bus_register::NoMemory;
@@ -22,7 +22,7 @@ use std::marker::Model;
 /// atomic step on one word of its table.
 #[derive(Drop)]
 pub struct BusOf<S: Seatable> {
-    pub(crate) table: Board<S>,
+    pub(crate) table: BusTable<S>,
     senders: u64,
     /// The place of the log's first word.
     log: u64,
@@ -33,16 +33,16 @@ pub struct BusOf<S: Seatable> {
 impl<S: Seatable> Model for BusOf<S> {
     ghost use Rattle.std.specs.Prelude.{◌≡◌, ◌≤◌, []};
     ghost use Rattle.std.specs.Vec.{vec_len, vec_capacity};
-    ghost use Rattle.bus_pageslot.specs.Buses.{Site};
+    ghost use Rattle.bus_pageslot.specs.Buses.{BusId};
 
-    ghost Value = { Site };
+    ghost Value = { BusId };
 
     ghost view = { λ b. record { table = b.table.shared.table_id; shape = b.table.shared.key } };
 
     ghost invariant = { λ b. (b.senders ≡ b.table.shared.key.senders)
-        × (b.senders ≡ (S.automaton b.table.shared.key).extent.senders)
-        × (b.log ≡ (S.automaton b.table.shared.key).extent.log)
-        × (b.log_words ≡ (S.automaton b.table.shared.key).extent.capacity)
+        × (b.senders ≡ (S.automaton b.table.shared.key).table_layout.senders)
+        × (b.log ≡ (S.automaton b.table.shared.key).table_layout.log)
+        × (b.log_words ≡ (S.automaton b.table.shared.key).table_layout.capacity)
         × (b.room.items ≡ []) × (vec_len b.room ≡ 0)
         × (b.log_words ≤ vec_capacity b.room) };
 }
@@ -59,7 +59,7 @@ impl<S: Seatable + Drop> BusOf<S> {
             (λ made. AreNewSeats S.process (S.automaton shape) made.0.table shape.senders
             made.1.items) }
         ensures taps { IfOk result
-            (λ made. AreNewTaps (S.automaton shape).extent made.0.table shape.receivers
+            (λ made. AreNewTaps (S.automaton shape).table_layout made.0.table shape.receivers
             made.2.items) }
         ensures table { IfOk result (λ made. All (λ s. table_of s ≡ made.0.table) made.1.items
             × All (λ t. t.table_id ≡ made.0.table) made.2.items) }
@@ -69,7 +69,7 @@ impl<S: Seatable + Drop> BusOf<S> {
         if let Some(fault) = S::fault(shape) {
             return Err(fault);
         }
-        let (table, maker) = board(alloc, shape)?;
+        let (table, maker) = bus_table(alloc, shape)?;
         let log = S::log_at(shape);
         let (senders, maker) = seat_all(alloc, shape, &table.shared, maker)?;
         let taps = tap_all(alloc, shape, &table.shared, maker, log)?;

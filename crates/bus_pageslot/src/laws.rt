@@ -14,7 +14,7 @@ ghost use Rattle.bus_deliverylog.specs.declared.receiving.RecvTurn.{RecvTurn};
 ghost use Rattle.bus_guest.specs.Guests.{sizes_with};
 ghost use Rattle.bus_guest.specs.Telling.{FeedTells};
 ghost use Rattle.bus_guest.specs.Turns.{Visitor, sizes_of};
-ghost use Rattle.bus_presence.specs.Hall.{presence_at};
+ghost use Rattle.bus_presence.specs.Reclamation.{presence_at};
 ghost use Rattle.bus_tenure.specs.Core.{Core};
 ghost use Rattle.bus_tenure.specs.Elections.{Elector, election_of};
 ghost use Rattle.bus_tenure.specs.declared.pages.Page.{Page};
@@ -24,42 +24,42 @@ ghost use Rattle.bus_world.specs.Playing.{layout_of};
 ghost use Rattle.bus_world.specs.Rings.{IsKeptRing};
 ghost use Rattle.bus_world.specs.Turning.{words_after};
 ghost use Rattle.bus_world.specs.declared.shapes.Shape.{Shape};
-ghost use Rattle.bus_pageslot.specs.Ears.{Ear};
+ghost use Rattle.bus_pageslot.specs.ReceiverViews.{ReceiverView};
 ghost use Rattle.bus_pageslot.specs.declared.rule.View.{View};
 ghost use Rattle.bus_pageslot.specs.declared.rule.View.TheVariants.{Sender, Tap};
 ghost use Rattle.bus_pageslot.specs.Listening.{Hears};
-ghost use Rattle.bus_pageslot.specs.Processes.{Extent, log_below};
+ghost use Rattle.bus_pageslot.specs.Processes.{TableLayout, log_below};
 ghost use Rattle.bus_pageslot.specs.RowsAgain.{process_again, bus_again};
 ghost use Rattle.bus_pageslot.specs.RowsApart.{process_apart, bus_apart};
-ghost use Rattle.bus_pageslot.specs.Rule.{Sat, IsShown};
+ghost use Rattle.bus_pageslot.specs.Rule.{Sat, TableInvariant};
 ghost use Rattle.bus_pageslot.specs.SafeSeats.{AreSafe, LeavesPast};
-ghost use Rattle.bus_pageslot.specs.Seats.{Seated, TookAndTold, track_of};
+ghost use Rattle.bus_pageslot.specs.Seats.{SenderSeat, TookAndTold, sender_trail_of};
 ghost use Rattle.bus_pageslot.specs.Promised.{IsPromised};
 ghost use Rattle.bus_pageslot.specs.Stages.{TakesPageOf};
 ghost use Rattle.bus_pageslot.specs.Steps.{IsDue};
-ghost use Rattle.bus_pageslot.specs.Tracks.{Track};
+ghost use Rattle.bus_pageslot.specs.SenderTrails.{SenderTrail};
 
 use crate::seatables::Seatable;
 use bus_adoptcommit::Ratifier;
 use bus_ownerbits::laws::election_is_lawful;
 
 /// Whenever the rule of the table holds, which is between any two steps of any threads, the page
-/// of promises holds of what the seats show: of the deeds of senders and of what receivers were
+/// of promises holds of what the seats show: of the actions of senders and of what receivers were
 /// answered, however these are numbered, with the order and the owners that the words below the
 /// length spell. What a receiver knows is a beginning of these words.
 pub fn seats_keep_promises<S: Seatable>()
     ensures { (shape : Shape) (s : State (Option Page) (View S))
-        → IsShown S.process (S.automaton shape) s
-        → IsPromised S.process (S.automaton shape).extent s }
+        → TableInvariant S.process (S.automaton shape) s
+        → IsPromised S.process (S.automaton shape).table_layout s }
 {
     S::is_lawful();
 }
 
-/// What the seats show is one page: of each sender its deeds, which its seat shows, and one order
+/// What the seats show is one page: of each sender its actions, which its seat shows, and one order
 /// and one list of owners, which the words below the length spell.
 pub fn seats_show_one_page<S: Seatable>()
-    ensures { (x : Extent) (s : State (Option Page) (View S))
-        → (h k : IsPromised S.process x s) → ((p : ℕ) → h.deeds p ≡ k.deeds p)
+    ensures { (x : TableLayout) (s : State (Option Page) (View S))
+        → (h k : IsPromised S.process x s) → ((p : ℕ) → h.actions p ≡ k.actions p)
         × (h.order ≡ k.order) × (h.owners ≡ k.owners) }
 {}
 
@@ -67,12 +67,13 @@ pub fn seats_show_one_page<S: Seatable>()
 /// bus, and no page holds of it.
 pub fn no_page_without_each_sender<S: Seatable>()
     ensures shown { (shape : Shape) (s : State (Option Page) (View S))
-        (c : S) (track : Track) (stored : ℕ) → 1 < (S.automaton shape).extent.senders
-        → S.process.me c ≡ 0 → s.views ≡ Sender c track stored ∷ []
-        → ¬ IsShown S.process (S.automaton shape) s }
-    ensures promised { (x : Extent) (s : State (Option Page) (View S))
-        (c : S) (track : Track) (stored : ℕ) → 1 < x.senders
-        → S.process.me c ≡ 0 → s.views ≡ Sender c track stored ∷ []
+        (c : S) (sender_trail : SenderTrail) (stored : ℕ) → 1
+        < (S.automaton shape).table_layout.senders
+        → S.process.me c ≡ 0 → s.views ≡ Sender c sender_trail stored ∷ []
+        → ¬ TableInvariant S.process (S.automaton shape) s }
+    ensures promised { (x : TableLayout) (s : State (Option Page) (View S))
+        (c : S) (sender_trail : SenderTrail) (stored : ℕ) → 1 < x.senders
+        → S.process.me c ≡ 0 → s.views ≡ Sender c sender_trail stored ∷ []
         → ¬ IsPromised S.process x s }
 {}
 
@@ -83,13 +84,13 @@ pub fn no_page_without_each_sender<S: Seatable>()
 pub fn steps_only_extend_the_log<S: Seatable>()
     ensures extends { (shape : Shape) (s : State (Option Page) (View S)) (seat : ℕ) (m : Sat S)
         (d : S) (word many : ℕ) (o : Op)
-        → IsShown S.process (S.automaton shape) s → get_elem? s.views seat ≡ some m.0
+        → TableInvariant S.process (S.automaton shape) s → get_elem? s.views seat ≡ some m.0
         → IsDue S.process d word m many o
-        → IsPrefix (log_below (S.automaton shape).extent s.words)
-        (log_below (S.automaton shape).extent (words_after s.words (Some o))) }
+        → IsPrefix (log_below (S.automaton shape).table_layout s.words)
+        (log_below (S.automaton shape).table_layout (words_after s.words (Some o))) }
     ensures refused { (shape : Shape) (s : State (Option Page) (View S)) (seat : ℕ) (m : Sat S)
         (d : S) (word many v : ℕ)
-        → IsShown S.process (S.automaton shape) s → get_elem? s.views seat ≡ some m.0
+        → TableInvariant S.process (S.automaton shape) s → get_elem? s.views seat ≡ some m.0
         → v < slice_index s.words 0
         → ¬ IsDue S.process d word m many (Store (record { 0 = 0 }) v) }
 {
@@ -103,7 +104,7 @@ pub fn only_owners_leave_the_stage<Q: Ratifier>()
     ensures { let X = election_of Q.Ratifier in (shape : Shape)
         (s : State (Option Page) (View (Core (Elector Q)))) (seat : ℕ) (m : Sat (Core (Elector Q)))
         (d : Core (Elector Q)) (word many t : ℕ) (o : Op)
-        → IsShown (process_apart X) (bus_apart X (layout_of Q.protocol shape)) s
+        → TableInvariant (process_apart X) (bus_apart X (layout_of Q.protocol shape)) s
         → get_elem? s.views seat ≡ some m.0
         → IsDue (process_apart X) d word m many o → slice_index s.words 1 ≡ 2 * t
         → (slice_index (words_after s.words (Some o)) 1 ≡ 2 * t → ⊥) → TakesPageOf X d t o }
@@ -116,38 +117,38 @@ pub fn only_owners_leave_the_stage<Q: Ratifier>()
 /// that tenure, each tenure has at most one owner, who announced for it, and the words below the
 /// length are a log of what was put. Whoever remembers to whom it lost its tenure has seen the
 /// election of that tenure end with this sender, and is not this sender. And the seats show it:
-/// by the steps of its visits that its seat shows, whose election runs stands in its tenure, whose
-/// row has not gone on; and once all presences have passed that a holder asks, nobody stands in a
+/// by the steps of its pins that its seat shows, whose election runs stands in its tenure, whose
+/// row has not gone on; and once all presences have passed that a holder scans, nobody stands in a
 /// tenure of the next row.
 pub fn rows_used_again_are_safe<Q: Ratifier>()
     ensures kept { let X = election_of Q.Ratifier in (shape : Shape)
         (s : State (Option Page) (View (Visitor (Elector Q))))
-        → (r : IsShown (process_again X)
+        → (r : TableInvariant (process_again X)
         (bus_again X (cyclic.layout_of Q.protocol shape) shape.rows) s)
         → IsKeptRing X r.state.ring r.state.trails }
     ensures losses { let X = election_of Q.Ratifier in (shape : Shape)
         (s : State (Option Page) (View (Visitor (Elector Q))))
-        → (r : IsShown (process_again X)
+        → (r : TableInvariant (process_again X)
         (bus_again X (cyclic.layout_of Q.protocol shape) shape.rows) s)
-        → LossesAreSeen r.state.ring r.state.trails.deeds }
+        → LossesAreSeen r.state.ring r.state.trails.actions }
     ensures seats { let X = election_of Q.Ratifier in
         let x = cyclic.layout_of Q.protocol in (shape : Shape)
         (s : State (Option Page) (View (Visitor (Elector Q))))
-        → IsShown (process_again X) (bus_again X (x shape) shape.rows) s
+        → TableInvariant (process_again X) (bus_again X (x shape) shape.rows) s
         → AreSafe (sizes_with (x shape) shape.rows) s }
 {
     election_is_lawful::<Q>();
 }
 
-/// Where rows of words are used again, no step of a sender lowers the stage, and none is a deed in
-/// a tenure whose row has gone on to a later one: so who announced itself there, whom its election
-/// chose and who took its page stays as it is. Receivers load.
+/// Where rows of words are used again, no step of a sender lowers the stage, and none is an action
+/// in a tenure whose row has gone on to a later one: so who announced itself there, whom its
+/// election chose and who took its page stays as it is. Receivers load.
 pub fn past_tenures_are_left<Q: Ratifier>()
     ensures { let X = election_of Q.Ratifier in let P = process_again X in
         let x = cyclic.layout_of Q.protocol in (shape : Shape)
         (s : State (Option Page) (View (Visitor (Elector Q)))) (seat : ℕ)
         (m : Sat (Visitor (Elector Q))) (d : Visitor (Elector Q)) (word many : ℕ) (o : Op)
-        → IsShown P (bus_again X (x shape) shape.rows) s → get_elem? s.views seat ≡ some m.0
+        → TableInvariant P (bus_again X (x shape) shape.rows) s → get_elem? s.views seat ≡ some m.0
         → IsDue P d word m many o → LeavesPast X shape.rows s.words d word o }
 {
     election_is_lawful::<Q>();
@@ -155,12 +156,12 @@ pub fn past_tenures_are_left<Q: Ratifier>()
 
 /// Where rows of words are used again, a sender that answers Behind has loaded the presence of the
 /// sender for which it waits, and has found in it the tenure that it names: its seat shows that
-/// load behind the steps of its sweeps before it.
+/// load behind the steps of its reclamations before it.
 pub fn behind_shows_its_load<Q: Ratifier>()
     ensures { let X = election_of Q.Ratifier in let P = process_again X in
-        (old new : Seated (Visitor (Elector Q))) (word t : ℕ) (p : SenderNo)
+        (old new : SenderSeat (Visitor (Elector Q))) (word t : ℕ) (p : SenderNo)
         → TookAndTold P (FeedTells X) old word (Behind t p) new
-        → (track_of P new).sweeps ≡ (track_of P old).sweeps ++ record {
+        → (sender_trail_of P new).reclaims ≡ (sender_trail_of P old).reclaims ++ record {
           op = Load (record { 0 = presence_at (sizes_of old.core) p.0 });
           got = 1 + t;
         } ∷ [] }
@@ -169,7 +170,7 @@ pub fn behind_shows_its_load<Q: Ratifier>()
 /// No turn of a receiver, but after the end, leaves its seat as it was: so none answers without a
 /// step on the table.
 pub fn no_turn_without_a_load<S: Seatable>()
-    ensures { (x : Extent) (e : Ear) (answer : RecvTurn) → e.ended ≡ false
+    ensures { (x : TableLayout) (e : ReceiverView) (answer : RecvTurn) → e.ended ≡ false
         → e.place ≤ length e.known
         → ¬ Hears {C = S} (Tap x e, []) answer (Tap x e, []) }
 {}

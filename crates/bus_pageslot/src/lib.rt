@@ -36,7 +36,7 @@ pub use again::{CyclicBus, CyclicSender, CyclicTap};
 pub use apart::{Bus, Sender, Tap};
 pub use buses::BusOf;
 pub use outcomes::{EndFault, Ended};
-pub use rule::{BusRule, Ear, Extent, OfBus, Told, Track, View};
+pub use rule::{BusRule, OfBus, ReceiverView, SenderTrail, TableLayout, Told, View};
 pub use seatables::Seatable;
 pub use seats::{SendFault, SenderOf, Unsent};
 pub use taps::TapOf;

@@ -3,11 +3,11 @@
 ghost use Rattle.std.specs.Prelude.{◌≡◌, ◌≢◌, ℕ, ◌-◌, ◌≤◌, ◌^◌, length};
 ghost use Rattle.std.specs.Prelude.{false};
 ghost use Rattle.bus_pageslot.specs.Rule.{known_in};
-ghost use Rattle.bus_pageslot.specs.Seats.{IsEar, knows};
+ghost use Rattle.bus_pageslot.specs.Seats.{IsReceiverView, knows};
 ghost use Rattle.bus_deliverylog.specs.Receiving.{HasReceived, TakesWord};
 ghost use Rattle.bus_pageslot.specs.Listening.{Hears, HearsLength, HearsWord, answer_of};
 
-use crate::rule::{LoadsLengthInTurn, LoadsWordInTurn, Place, Top};
+use crate::rule::{BusSeat, LoadsLengthInTurn, LoadsWordInTurn, SharedTable};
 use crate::seatables::Seatable;
 use bus_deliverylog::{Reader, RecvTurn};
 
@@ -29,24 +29,26 @@ fn catch_up(reader: &mut Reader, known: u64)
 /// The length is loaded, and the answer is written.
 #[inline(never)]
 fn hear_length<S: Seatable + Drop>(
-    top: &Top<S>,
-    seat: &mut Place<S>,
+    shared: &SharedTable<S>,
+    seat: &mut BusSeat<S>,
     reader: &mut Reader,
     answer: &mut RecvTurn,
 )
-    requires table { seat.old.table_id ≡ top.now.table_id }
-    requires ear { (log : ℕ) × IsEar seat.old.me seat.old.table_id.words log reader.old }
+    requires table { seat.old.table_id ≡ shared.now.table_id }
+    requires receiver_view { (log : ℕ)
+        × IsReceiverView seat.old.me seat.old.table_id.words log reader.old }
     requires going { reader.old.ended ≡ false }
     requires known { reader.old.known ≡ length (known_in seat.old.me.0) }
     requires at { reader.old.place ≡ reader.old.known }
     ensures table { seat.new.table_id ≡ seat.old.table_id }
-    ensures ear { (log : ℕ) → IsEar seat.old.me seat.old.table_id.words log reader.old
-        → IsEar seat.new.me seat.new.table_id.words log reader.new }
+    ensures receiver_view { (log : ℕ)
+        → IsReceiverView seat.old.me seat.old.table_id.words log reader.old
+        → IsReceiverView seat.new.me seat.new.table_id.words log reader.new }
     ensures known { reader.new.known ≡ length (known_in seat.new.me.0) }
     ensures hears { HearsLength seat.old.me answer.new seat.new.me }
 {
     S::is_lawful();
-    let length = top.load::<LoadsLengthInTurn<S>>(seat, 0);
+    let length = shared.load::<LoadsLengthInTurn<S>>(seat, 0);
     *answer = reader.feed(length);
 }
 
@@ -69,22 +71,22 @@ fn take_word(reader: &mut Reader, word: u64, answer: &mut RecvTurn)
 /// answer is written.
 #[inline(always)]
 fn hear_word<S: Seatable + Drop>(
-    top: &Top<S>,
-    seat: &mut Place<S>,
+    shared: &SharedTable<S>,
+    seat: &mut BusSeat<S>,
     log: u64,
     reader: &mut Reader,
     answer: &mut RecvTurn,
 ) -> bool
-    requires table { seat.old.table_id ≡ top.now.table_id }
-    requires ear { IsEar seat.old.me seat.old.table_id.words log reader.old }
+    requires table { seat.old.table_id ≡ shared.now.table_id }
+    requires receiver_view { IsReceiverView seat.old.me seat.old.table_id.words log reader.old }
     requires going { reader.old.ended ≡ false }
     requires below { reader.old.place ≢ reader.old.known }
     ensures table { seat.new.table_id ≡ seat.old.table_id }
-    ensures ear { IsEar seat.new.me seat.new.table_id.words log reader.new }
+    ensures receiver_view { IsReceiverView seat.new.me seat.new.table_id.words log reader.new }
     ensures known { known_in seat.new.me.0 ≡ known_in seat.old.me.0 }
     ensures hears { HearsWord seat.old.me (answer_of result answer.new) seat.new.me }
 {
-    let word = top.load::<LoadsWordInTurn<S>>(seat, (log + reader.place()) as usize);
+    let word = shared.load::<LoadsWordInTurn<S>>(seat, (log + reader.place()) as usize);
     if reader.take_plain(word) {
         return true;
     }
@@ -97,27 +99,27 @@ fn hear_word<S: Seatable + Drop>(
 /// nothing by itself; else the answer is written.
 #[inline(always)]
 pub(crate) fn hear<S: Seatable + Drop>(
-    top: &Top<S>,
-    seat: &mut Place<S>,
+    shared: &SharedTable<S>,
+    seat: &mut BusSeat<S>,
     log: u64,
     known: &mut u64,
     reader: &mut Reader,
     answer: &mut RecvTurn,
 ) -> bool
-    requires table { seat.old.table_id ≡ top.now.table_id }
-    requires ear { IsEar seat.old.me seat.old.table_id.words log reader.old }
+    requires table { seat.old.table_id ≡ shared.now.table_id }
+    requires receiver_view { IsReceiverView seat.old.me seat.old.table_id.words log reader.old }
     requires going { reader.old.ended ≡ false }
     requires known { known.old ≡ length (known_in seat.old.me.0) }
     ensures table { seat.new.table_id ≡ seat.old.table_id }
-    ensures ear { IsEar seat.new.me seat.new.table_id.words log reader.new }
+    ensures receiver_view { IsReceiverView seat.new.me seat.new.table_id.words log reader.new }
     ensures known { known.new ≡ length (known_in seat.new.me.0) }
     ensures hears { Hears seat.old.me (answer_of result answer.new) seat.new.me }
 {
     catch_up(reader, *known);
     if reader.place() == reader.known() {
-        hear_length(top, seat, reader, answer);
+        hear_length(shared, seat, reader, answer);
         *known = reader.known();
         return false;
     }
-    hear_word(top, seat, log, reader, answer)
+    hear_word(shared, seat, log, reader, answer)
 }

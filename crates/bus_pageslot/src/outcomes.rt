@@ -10,10 +10,10 @@ ghost use Rattle.bus_batch.specs.Frames.{Order, Spells};
 ghost use Rattle.bus_deliverylog.specs.Orders.{of_sender};
 ghost use Rattle.bus_world.specs.Log.{words_read_from};
 ghost use Rattle.bus_pageslot.specs.declared.rule.View.TheVariants.{Tap};
-ghost use Rattle.bus_pageslot.specs.Ears.{Ear};
+ghost use Rattle.bus_pageslot.specs.ReceiverViews.{ReceiverView};
 ghost use Rattle.bus_pageslot.specs.Endings.{IsLeft};
 
-use crate::rule::{Board, Place};
+use crate::rule::{BusSeat, BusTable};
 use crate::seatables::Seatable;
 use atomic_table::Closed;
 use bus_batch::laws::spells_one;
@@ -101,19 +101,19 @@ impl Ended {
 
 /// What this table, of which this is the seat of a receiver, leaves behind.
 pub(crate) fn leave<S: Seatable + Drop>(
-    table: Board<S>,
-    seat: Place<S>,
+    table: BusTable<S>,
+    seat: BusSeat<S>,
     senders: u64,
     log: u64,
     log_words: u64,
     room: Vec<u64>,
 ) -> Result<Ended, EndFault>
     requires table { seat.table_id ≡ table.shared.table_id }
-    requires tap { (d : _) × (e : Ear) × (seat.me ≡ (Tap d e, [])) }
+    requires tap { (d : _) × (e : ReceiverView) × (seat.me ≡ (Tap d e, [])) }
     requires empty { (room.items ≡ []) × (vec_len room ≡ 0) }
-    requires senders { senders ≡ (S.automaton table.shared.key).extent.senders }
-    requires log { log ≡ (S.automaton table.shared.key).extent.log }
-    requires log_words { log_words ≡ (S.automaton table.shared.key).extent.capacity }
+    requires senders { senders ≡ (S.automaton table.shared.key).table_layout.senders }
+    requires log { log ≡ (S.automaton table.shared.key).table_layout.log }
+    requires log_words { log_words ≡ (S.automaton table.shared.key).table_layout.capacity }
     requires roomy { log_words ≤ vec_capacity room }
     ensures ended { IfOk result
         (λ left. IsLeft S.process (S.automaton table.shared.key) seat.me.0

@@ -8,43 +8,43 @@ use std::alloc::Global;
 use std::marker::{Brand, Model, PhantomData};
 
 /// What a sender did. No value of it is made.
-pub struct Track {
+pub struct SenderTrail {
     of: PhantomData<()>,
 }
 
-impl Model for Track {
-    ghost use Rattle.bus_pageslot.specs.Tracks.{Track, no_track};
+impl Model for SenderTrail {
+    ghost use Rattle.bus_pageslot.specs.SenderTrails.{SenderTrail, no_sender_trail};
 
-    ghost Value = { Track };
+    ghost Value = { SenderTrail };
 
-    ghost view = { λ _. no_track };
+    ghost view = { λ _. no_sender_trail };
 }
 
 /// How large a bus is. No value of it is made.
-pub struct Extent {
+pub struct TableLayout {
     of: PhantomData<()>,
 }
 
-impl Model for Extent {
-    ghost use Rattle.bus_pageslot.specs.Processes.{Extent, no_extent};
+impl Model for TableLayout {
+    ghost use Rattle.bus_pageslot.specs.Processes.{TableLayout, no_table_layout};
 
-    ghost Value = { Extent };
+    ghost Value = { TableLayout };
 
-    ghost view = { λ _. no_extent };
+    ghost view = { λ _. no_table_layout };
 }
 
 /// What a receiver knows of the log, what it has read of that, and what it was answered. No value
 /// of it is made.
-pub struct Ear {
+pub struct ReceiverView {
     of: PhantomData<()>,
 }
 
-impl Model for Ear {
-    ghost use Rattle.bus_pageslot.specs.Ears.{Ear, new_ear};
+impl Model for ReceiverView {
+    ghost use Rattle.bus_pageslot.specs.ReceiverViews.{ReceiverView, new_receiver_view};
 
-    ghost Value = { Ear };
+    ghost Value = { ReceiverView };
 
-    ghost view = { λ _. new_ear };
+    ghost view = { λ _. new_receiver_view };
 }
 
 /// What a seat shows, of a bus whose senders are of type C. No value of it is made.
@@ -53,27 +53,27 @@ pub enum View<C> {
     Maker(C),
     /// A sender as it was after its last step, all that it did until then, and the last length
     /// that it has stored.
-    Sender(C, Track, u64),
+    Sender(C, SenderTrail, u64),
     /// A receiver as it was after its last load, on a bus that is so large.
-    Tap(Extent, Ear),
+    Tap(TableLayout, ReceiverView),
     /// Two receivers, joined while they meet.
-    Meeting(Extent, Ear, Extent, Ear),
+    Meeting(TableLayout, ReceiverView, TableLayout, ReceiverView),
     /// A sender and a receiver, joined while the one tells the other.
-    Telling(C, Track, u64, Extent, Ear),
+    Telling(C, SenderTrail, u64, TableLayout, ReceiverView),
     /// A seat that went into another.
     Spent,
 }
 
-/// The rule: executions lead to the bus that the table is, with the deeds that its seats show.
+/// The rule: executions lead to the bus that the table is, with the actions that its seats show.
 pub struct BusRule<S> {
     of: PhantomData<S>,
 }
 
 impl<S: Seatable> TableRule<Option<Page>, View<S>, Shape> for BusRule<S> {
     ghost use Rattle.bus_pageslot.specs.declared.rule.View.TheVariants.{Maker};
-    ghost use Rattle.bus_pageslot.specs.Rule.{IsShown};
+    ghost use Rattle.bus_pageslot.specs.Rule.{TableInvariant};
 
-    ghost holds = { λ key. IsShown S.process (S.automaton key) };
+    ghost holds = { λ key. TableInvariant S.process (S.automaton key) };
 
     ghost first = { λ key. Maker ((S.automaton key).started 0) };
 }
@@ -228,8 +228,8 @@ impl<S: Seatable> Play<Option<Page>, View<S>> for LoadsJoined<S> {
     ghost then = { λ _ m got m'. Meets S.process m got m' };
 }
 
-pub(crate) type Board<S> = Table<Option<Page>, View<S>, Shape, BusRule<S>, Global>;
+pub(crate) type BusTable<S> = Table<Option<Page>, View<S>, Shape, BusRule<S>, Global>;
 
-pub(crate) type Top<S> = Shared<Option<Page>, View<S>, Shape, BusRule<S>>;
+pub(crate) type SharedTable<S> = Shared<Option<Page>, View<S>, Shape, BusRule<S>>;
 
-pub(crate) type Place<S> = Seat<Option<Page>, View<S>>;
+pub(crate) type BusSeat<S> = Seat<Option<Page>, View<S>>;

@@ -52,17 +52,17 @@ pub trait Seatable {
     /// The place of the first word of the log, which comes last.
     fn log_at(shape: Shape) -> u64
         requires { Serves shape }
-        ensures log { result ≡ (automaton shape).extent.log }
-        ensures words { result + shape.log_words ≡ (automaton shape).extent.words }
-        ensures capacity { shape.log_words ≡ (automaton shape).extent.capacity }
-        ensures senders { shape.senders ≡ (automaton shape).extent.senders }
+        ensures log { result ≡ (automaton shape).table_layout.log }
+        ensures words { result + shape.log_words ≡ (automaton shape).table_layout.words }
+        ensures capacity { shape.log_words ≡ (automaton shape).table_layout.capacity }
+        ensures senders { shape.senders ≡ (automaton shape).table_layout.senders }
         ensures few { result + shape.log_words ≤ 2 ^ 63 };
 
     /// Sender `me` of a bus of this shape, at its start.
     fn start(shape: Shape, me: SenderNo) -> Self
         requires served { Serves shape }
         requires below { me.0 < shape.senders }
-        requires room { (automaton shape).extent.words ≤ 2 ^ 63 }
+        requires room { (automaton shape).table_layout.words ≤ 2 ^ 63 }
         ensures { result ≡ (automaton shape).started me.0 };
 
     /// The sender's number.
@@ -113,7 +113,7 @@ pub trait Seatable {
     /// The next step, with this random word; none where none is due.
     fn next(&self, word: u32) -> Option<Op>
         ensures step { result ≡ process.op self.now word }
-        ensures below { IfSome result (λ o. register o < (process.extent self.now).words) };
+        ensures below { IfSome result (λ o. register o < (process.table_layout self.now).words) };
 
     /// The answer where no step is due.
     fn rest(&self) -> Turn

@@ -3,9 +3,10 @@
 ghost use Rattle.std.specs.Prelude.{◌≡◌, ℕ, ◌+◌, ◌<◌, ◌≤◌, ◌^◌, List, []};
 ghost use Rattle.std.specs.Prelude.{IfOk};
 ghost use Rattle.bus_pageslot.specs.declared.rule.View.TheVariants.{Maker};
-ghost use Rattle.bus_pageslot.specs.Buses.{IsBoard, IsNewSeat, AreNewSeats, IsNewTap, AreNewTaps};
+ghost use Rattle.bus_pageslot.specs.Buses.{IsBusTable, IsNewSeat, AreNewSeats};
+ghost use Rattle.bus_pageslot.specs.Buses.{IsNewTap, AreNewTaps};
 
-use crate::rule::{Board, Cut, CutTap, Place, Top};
+use crate::rule::{BusSeat, BusTable, Cut, CutTap, SharedTable};
 use crate::seatables::Seatable;
 use crate::seats::SenderOf;
 use crate::taps::TapOf;
@@ -16,13 +17,13 @@ use bus_world::starts::NEW_PAGE;
 use std::alloc::Global;
 
 /// The table of a new bus, and the seat that the senders' seats are cut from.
-pub(crate) fn board<S: Seatable + Drop>(
+pub(crate) fn bus_table<S: Seatable + Drop>(
     alloc: Global,
     shape: Shape,
-) -> Result<(Board<S>, Place<S>), NoMemory>
+) -> Result<(BusTable<S>, BusSeat<S>), NoMemory>
     requires { S.Serves shape }
-    ensures board { IfOk result
-        (λ made. IsBoard (S.automaton shape) made.0.shared.table_id made.1) }
+    ensures bus_table { IfOk result
+        (λ made. IsBusTable (S.automaton shape) made.0.shared.table_id made.1) }
     ensures shape { IfOk result (λ made. made.0.shared.key ≡ shape) }
 {
     S::is_lawful();
@@ -37,25 +38,25 @@ pub(crate) fn board<S: Seatable + Drop>(
 
 /// The next sender, with its seat.
 fn seat_next<S: Seatable + Drop>(
-    top: &Top<S>,
-    maker: &mut Place<S>,
+    shared: &SharedTable<S>,
+    maker: &mut BusSeat<S>,
     shape: Shape,
     me: u64,
 ) -> SenderOf<S>
-    requires table { maker.old.table_id ≡ top.now.table_id }
+    requires table { maker.old.table_id ≡ shared.now.table_id }
     requires served { S.Serves shape }
-    requires room { (S.automaton shape).extent.words ≤ 2 ^ 63 }
-    requires wide { (maker.old.table_id.words ≡ (S.automaton shape).extent.words)
+    requires room { (S.automaton shape).table_layout.words ≤ 2 ^ 63 }
+    requires wide { (maker.old.table_id.words ≡ (S.automaton shape).table_layout.words)
         × (maker.old.table_id.slots ≡ 1) }
     requires below { me < shape.senders }
-    requires senders { shape.senders ≡ (S.automaton shape).extent.senders }
+    requires senders { shape.senders ≡ (S.automaton shape).table_layout.senders }
     requires maker { maker.old.me ≡ (Maker ((S.automaton shape).started me), []) }
     ensures table { maker.new.table_id ≡ maker.old.table_id }
     ensures maker { maker.new.me ≡ (Maker ((S.automaton shape).started (me + 1)), []) }
     ensures seat { IsNewSeat S.process (S.automaton shape) maker.old.table_id me result }
 {
     S::is_lawful();
-    let seat = top.split_seat::<Cut<S>>(maker);
+    let seat = shared.split_seat::<Cut<S>>(maker);
     let core = S::start(shape, SenderNo(me as u8));
     SenderOf::seated(core, seat)
 }
@@ -64,21 +65,21 @@ fn seat_next<S: Seatable + Drop>(
 pub(crate) fn seat_all<S: Seatable + Drop>(
     alloc: Global,
     shape: Shape,
-    top: &Top<S>,
-    mut maker: Place<S>,
-) -> Result<(Vec<SenderOf<S>>, Place<S>), NoMemory>
+    shared: &SharedTable<S>,
+    mut maker: BusSeat<S>,
+) -> Result<(Vec<SenderOf<S>>, BusSeat<S>), NoMemory>
     requires served { S.Serves shape }
-    requires board { IsBoard (S.automaton shape) top.now.table_id maker }
-    requires senders { shape.senders ≡ (S.automaton shape).extent.senders }
+    requires bus_table { IsBusTable (S.automaton shape) shared.now.table_id maker }
+    requires senders { shape.senders ≡ (S.automaton shape).table_layout.senders }
     ensures senders { IfOk result
-        (λ made. AreNewSeats S.process (S.automaton shape) top.now.table_id shape.senders
+        (λ made. AreNewSeats S.process (S.automaton shape) shared.now.table_id shape.senders
         made.0.items) }
-    ensures maker { IfOk result (λ made. (made.1.table_id ≡ top.now.table_id)
+    ensures maker { IfOk result (λ made. (made.1.table_id ≡ shared.now.table_id)
         × (made.1.me ≡ (Maker ((S.automaton shape).started shape.senders), []))) }
 {
     let mut senders = Vec::new(alloc);
     for me in 0..shape.senders {
-        let sender = seat_next(top, &mut maker, shape, me);
+        let sender = seat_next(shared, &mut maker, shape, me);
         senders.push(sender)?;
     }
     Ok((senders, maker))
@@ -86,25 +87,25 @@ pub(crate) fn seat_all<S: Seatable + Drop>(
 
 /// The next receiver, with its seat, of a maker that has made the seats of so many senders.
 fn tap_next<S: Seatable + Drop>(
-    top: &Top<S>,
-    maker: &mut Place<S>,
+    shared: &SharedTable<S>,
+    maker: &mut BusSeat<S>,
     shape: Shape,
     made: u64,
     log: u64,
 ) -> TapOf<S>
-    requires table { maker.old.table_id ≡ top.now.table_id }
-    requires room { (S.automaton shape).extent.words ≤ 2 ^ 63 }
-    requires wide { maker.old.table_id.words ≡ (S.automaton shape).extent.words }
-    requires log { log ≡ (S.automaton shape).extent.log }
-    requires senders { shape.senders ≡ (S.automaton shape).extent.senders }
+    requires table { maker.old.table_id ≡ shared.now.table_id }
+    requires room { (S.automaton shape).table_layout.words ≤ 2 ^ 63 }
+    requires wide { maker.old.table_id.words ≡ (S.automaton shape).table_layout.words }
+    requires log { log ≡ (S.automaton shape).table_layout.log }
+    requires senders { shape.senders ≡ (S.automaton shape).table_layout.senders }
     requires maker { maker.old.me ≡ (Maker ((S.automaton shape).started made), []) }
     ensures table { maker.new.table_id ≡ maker.old.table_id }
     ensures maker { maker.new.me ≡ maker.old.me }
-    ensures tap { IsNewTap (S.automaton shape).extent maker.old.table_id result }
+    ensures tap { IsNewTap (S.automaton shape).table_layout maker.old.table_id result }
 {
     let _ = made;
     S::is_lawful();
-    let seat = top.split_seat::<CutTap<S>>(maker);
+    let seat = shared.split_seat::<CutTap<S>>(maker);
     TapOf::seated(seat, log, shape.senders)
 }
 
@@ -112,24 +113,24 @@ fn tap_next<S: Seatable + Drop>(
 pub(crate) fn tap_all<S: Seatable + Drop>(
     alloc: Global,
     shape: Shape,
-    top: &Top<S>,
-    mut maker: Place<S>,
+    shared: &SharedTable<S>,
+    mut maker: BusSeat<S>,
     log: u64,
 ) -> Result<Vec<TapOf<S>>, NoMemory>
-    requires table { maker.table_id ≡ top.now.table_id }
-    requires room { (S.automaton shape).extent.words ≤ 2 ^ 63 }
-    requires wide { top.now.table_id.words ≡ (S.automaton shape).extent.words }
-    requires log { log ≡ (S.automaton shape).extent.log }
-    requires senders { shape.senders ≡ (S.automaton shape).extent.senders }
+    requires table { maker.table_id ≡ shared.now.table_id }
+    requires room { (S.automaton shape).table_layout.words ≤ 2 ^ 63 }
+    requires wide { shared.now.table_id.words ≡ (S.automaton shape).table_layout.words }
+    requires log { log ≡ (S.automaton shape).table_layout.log }
+    requires senders { shape.senders ≡ (S.automaton shape).table_layout.senders }
     requires maker { maker.me
         ≡ (Maker ((S.automaton shape).started shape.senders), []) }
     ensures { IfOk result
-        (λ taps. AreNewTaps (S.automaton shape).extent top.now.table_id shape.receivers
+        (λ taps. AreNewTaps (S.automaton shape).table_layout shared.now.table_id shape.receivers
         taps.items) }
 {
     let mut taps = Vec::new(alloc);
     for _ in 0..shape.receivers {
-        let tap = tap_next(top, &mut maker, shape, shape.senders, log);
+        let tap = tap_next(shared, &mut maker, shape, shape.senders, log);
         taps.push(tap)?;
     }
     Ok(taps)

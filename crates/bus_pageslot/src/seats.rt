@@ -8,10 +8,10 @@ ghost use Rattle.bus_tenure.specs.Core.{is_closed};
 ghost use Rattle.bus_register.specs.declared.registers.Op.{Op};
 ghost use Rattle.bus_world.specs.Headline.{HasPut, HasClosed, puts};
 ghost use Rattle.bus_pageslot.specs.declared.rule.View.TheVariants.{Tap};
-ghost use Rattle.bus_pageslot.specs.Ears.{Ear};
+ghost use Rattle.bus_pageslot.specs.ReceiverViews.{ReceiverView};
 ghost use Rattle.bus_pageslot.specs.Rule.{known_in, stored_in};
 ghost use Rattle.bus_pageslot.specs.Steps.{Learns, KnowsSent};
-ghost use Rattle.bus_pageslot.specs.Seats.{Shows, TookAndTold, table_of, deeds_of, stored_of};
+ghost use Rattle.bus_pageslot.specs.Seats.{Shows, TookAndTold, table_of, actions_of, stored_of};
 ghost use Rattle.bus_pageslot.specs.Turns.{Sends, is_last, is_waiting, SendsAsking, StopsWaiting};
 ghost use Rattle.bus_pageslot.specs.Sendings.{waiting_of, SendsOff, KeepsFor, FillsBatches};
 ghost use Rattle.bus_pageslot.specs.Sendings.{HasSent, StopsAt, HasSentPart};
@@ -19,7 +19,7 @@ ghost use Rattle.bus_pageslot.specs.SendFaults.{send_fault_text};
 
 use crate::buses::BusOf;
 use crate::meetings::meeting;
-use crate::rule::Place;
+use crate::rule::BusSeat;
 use crate::seatables::Seatable;
 use crate::steps::{length_after, walk};
 use bus_batch::{CloseFault, Message, PutFault};
@@ -82,16 +82,16 @@ impl fmt::Display for Unsent {
 #[derive(Drop)]
 pub struct SenderOf<S: Seatable> {
     core: S,
-    seat: Place<S>,
+    seat: BusSeat<S>,
     stored: u64,
 }
 
 impl<S: Seatable> Model for SenderOf<S> {
     ghost use Rattle.std.specs.Prelude.{◌≡◌};
     ghost use Rattle.bus_pageslot.specs.Rule.{stored_in};
-    ghost use Rattle.bus_pageslot.specs.Seats.{Seated, Shows};
+    ghost use Rattle.bus_pageslot.specs.Seats.{SenderSeat, Shows};
 
-    ghost Value = { Seated S };
+    ghost Value = { SenderSeat S };
 
     ghost view = { λ s. record { core = s.core; seat = s.seat } };
 
@@ -99,7 +99,7 @@ impl<S: Seatable> Model for SenderOf<S> {
 }
 
 impl<S: Seatable + Drop> SenderOf<S> {
-    pub(crate) fn seated(core: S, seat: Place<S>) -> SenderOf<S>
+    pub(crate) fn seated(core: S, seat: BusSeat<S>) -> SenderOf<S>
         requires shows { Shows S.process core seat }
         requires stored { stored_in seat.me.0 ≡ 0 }
         ensures { result ≡ record { core = core; seat = seat } }
@@ -176,9 +176,9 @@ impl<S: Seatable + Drop> SenderOf<S> {
         ensures number { IfOk result (λ number. number ≡ next_of (S.process.queue self.old.core)) }
         ensures taken { OnOk result
             (self.new.core ≡ S.process.with_message self.old.core bytes.now) }
-        ensures deed { IfOk result
-            (λ number. deeds_of S.process self.new
-            ≡ deeds_of S.process self.old ++ HasPut number bytes.now ∷ []) }
+        ensures action { IfOk result
+            (λ number. actions_of S.process self.new
+            ≡ actions_of S.process self.old ++ HasPut number bytes.now ∷ []) }
         ensures could { OnOk result (CanPut (S.process.queue self.old.core) (length bytes.now)) }
         ensures fault { IfErr result
             (IsPutFault (S.process.queue self.old.core) (length bytes.now)) }
@@ -194,8 +194,8 @@ impl<S: Seatable + Drop> SenderOf<S> {
     /// changes nothing.
     pub fn close(&mut self) -> Result<(), CloseFault>
         ensures taken { OnOk result (self.new.core ≡ S.process.with_close self.old.core) }
-        ensures deed { OnOk result
-            (deeds_of S.process self.new ≡ deeds_of S.process self.old ++ HasClosed ∷ []) }
+        ensures action { OnOk result
+            (actions_of S.process self.new ≡ actions_of S.process self.old ++ HasClosed ∷ []) }
         ensures could { OnOk result (CanClose (S.process.queue self.old.core)) }
         ensures fault { IfErr result (IsCloseFault (S.process.queue self.old.core)) }
         ensures refused { OnErr result (self.new.core ≡ self.old.core) }
@@ -215,12 +215,12 @@ impl<S: Seatable + Drop> SenderOf<S> {
         ensures steps { (op : Op) → S.process.op self.old.core word ≡ Some op
             → TookAndTold S.process S.AnswerTells self.old word result self.new }
     {
-        let top = &bus.table.shared;
+        let shared = &bus.table.shared;
         let Some(op) = self.core.next(word) else {
             return self.core.rest();
         };
         self.stored = length_after(op, self.stored);
-        walk::<S, Brand>(top, &mut self.seat, &mut self.core, op, word)
+        walk::<S, Brand>(shared, &mut self.seat, &mut self.core, op, word)
     }
 
     /// Turns, until there is nothing more to do, or nothing more that can be done: Idle, Delivered,
@@ -230,7 +230,7 @@ impl<S: Seatable + Drop> SenderOf<S> {
         requires { table_of self.old ≡ bus.now.table }
         ensures table { table_of self.new ≡ table_of self.old }
         ensures sends { Sends S.process self.old result self.new }
-        ensures puts { puts (deeds_of S.process self.new) ≡ puts (deeds_of S.process self.old) }
+        ensures puts { puts (actions_of S.process self.new) ≡ puts (actions_of S.process self.old) }
     {
         self.send_while(wait, bus, rng, || true).unwrap()
     }
@@ -252,7 +252,7 @@ impl<S: Seatable + Drop> SenderOf<S> {
         ensures sends { IfSome result
             (λ turn. SendsAsking S.process F.step self.old go_on turn self.new) }
         ensures stops { IfNone result (StopsWaiting S.process F.step self.old go_on self.new) }
-        ensures puts { puts (deeds_of S.process self.new) ≡ puts (deeds_of S.process self.old) }
+        ensures puts { puts (actions_of S.process self.new) ≡ puts (actions_of S.process self.old) }
     {
         S::is_lawful();
         let backoff = Backoff::new();
@@ -393,15 +393,15 @@ impl<S: Seatable + Drop> SenderOf<S> {
 
     /// A receiver's seat is joined to its own, which then loads the length; and the two are cut
     /// apart again.
-    pub(crate) fn tell(&mut self, bus: &BusOf<S>, tap: Place<S>) -> (u64, Place<S>)
+    pub(crate) fn tell(&mut self, bus: &BusOf<S>, tap: BusSeat<S>) -> (u64, BusSeat<S>)
         requires table { (table_of self.old ≡ bus.now.table) × (tap.table_id ≡ bus.now.table) }
-        requires tap { (d : _) × (e : Ear) × (tap.me ≡ (Tap d e, [])) }
+        requires tap { (d : _) × (e : ReceiverView) × (tap.me ≡ (Tap d e, [])) }
         ensures table { (table_of self.new ≡ table_of self.old)
             × (result.1.table_id ≡ tap.table_id) }
         ensures same { (self.new.core ≡ self.old.core)
             × (self.new.seat.me ≡ self.old.seat.me) }
         ensures learns { Learns tap.me result.0 result.1.me }
-        ensures sent { KnowsSent S.process self.old.core (deeds_of S.process self.old)
+        ensures sent { KnowsSent S.process self.old.core (actions_of S.process self.old)
             (stored_of self.old)
             (known_in result.1.me.0) }
     {

@@ -6,14 +6,14 @@ ghost use Rattle.bus_pageslot.specs.Steps.{laid_at, carried_of, out_with, stored
 ghost use Rattle.bus_pageslot.specs.Steps.{GoesOn, Due, slot_in, slots_emptied};
 ghost use Rattle.bus_pageslot.specs.Seats.{Shows, TookAndTold};
 
-use crate::rule::{Goes, Place, Told, Top};
+use crate::rule::{BusSeat, Goes, SharedTable, Told};
 use crate::seatables::Seatable;
 use bus_register::{Op, Reg};
 use bus_tenure::Turn;
 
 /// A sender that is to give the page back puts it into its slot.
-fn put_out<S: Seatable + Drop>(top: &Top<S>, seat: &mut Place<S>, core: &mut S)
-    requires table { seat.old.table_id ≡ top.now.table_id }
+fn put_out<S: Seatable + Drop>(shared: &SharedTable<S>, seat: &mut BusSeat<S>, core: &mut S)
+    requires table { seat.old.table_id ≡ shared.now.table_id }
     requires carried { seat.old.me.1 ≡ carried_of (S.process.holds core.old) }
     ensures core { core.new ≡ S.process.handed core.old }
     ensures table { (seat.new.table_id ≡ seat.old.table_id) × (seat.new.id ≡ seat.old.id) }
@@ -22,34 +22,38 @@ fn put_out<S: Seatable + Drop>(top: &Top<S>, seat: &mut Place<S>, core: &mut S)
 {
     S::is_lawful();
     if let Some(page) = core.put_out() {
-        let _none = top.exchange(seat, 0, Some(page));
+        let _none = shared.exchange(seat, 0, Some(page));
     }
 }
 
 /// The step itself. At a store it gives what was stored.
-fn step<S: Seatable + Drop, K: Told<S>>(top: &Top<S>, seat: &mut Place<S>, op: Op) -> u64
-    requires table { seat.old.table_id ≡ top.now.table_id }
+fn step<S: Seatable + Drop, K: Told<S>>(
+    shared: &SharedTable<S>,
+    seat: &mut BusSeat<S>,
+    op: Op,
+) -> u64
+    requires table { seat.old.table_id ≡ shared.now.table_id }
     requires due { Due S.process K.core K.word seat.old.me seat.old.table_id.words op }
     ensures table { (seat.new.table_id ≡ seat.old.table_id) × (seat.new.id ≡ seat.old.id) }
     ensures goes { GoesOn S.process K.core K.word seat.old.me result seat.new.me }
 {
     S::is_lawful();
     match op {
-        Op::Load(at) => top.load::<Goes<S, K>>(seat, at.0 as usize),
+        Op::Load(at) => shared.load::<Goes<S, K>>(seat, at.0 as usize),
         Op::Store(at, value) => {
-            top.store::<Goes<S, K>>(seat, at.0 as usize, value);
+            shared.store::<Goes<S, K>>(seat, at.0 as usize, value);
             value
         }
-        Op::Add(at, value) => top.fetch_add::<Goes<S, K>>(seat, at.0 as usize, value),
+        Op::Add(at, value) => shared.fetch_add::<Goes<S, K>>(seat, at.0 as usize, value),
         Op::Cas(at, expected, value) => {
-            top.compare_exchange::<Goes<S, K>>(seat, at.0 as usize, expected, value)
+            shared.compare_exchange::<Goes<S, K>>(seat, at.0 as usize, expected, value)
         }
     }
 }
 
 /// A sender that has taken the page takes it out of its slot.
-fn take_in<S: Seatable + Drop>(top: &Top<S>, seat: &mut Place<S>, core: &mut S)
-    requires table { seat.old.table_id ≡ top.now.table_id }
+fn take_in<S: Seatable + Drop>(shared: &SharedTable<S>, seat: &mut BusSeat<S>, core: &mut S)
+    requires table { seat.old.table_id ≡ shared.now.table_id }
     requires page { S.process.awaits core.old ≡ true → (page : _)
         × (seat.old.me.1 ≡ (0, Some page) ∷ []) }
     ensures core { core.new
@@ -59,24 +63,24 @@ fn take_in<S: Seatable + Drop>(top: &Top<S>, seat: &mut Place<S>, core: &mut S)
         ≡ (seat.old.me.0, slots_emptied (S.process.awaits core.old) seat.old.me.1) }
 {
     if core.awaits_page() {
-        let page = top.exchange(seat, 0, None).unwrap();
+        let page = shared.exchange(seat, 0, None).unwrap();
         core.lay(page);
     }
 }
 
 /// The turn of a sender of which a step is due.
 pub(crate) fn walk<S: Seatable + Drop, K: Told<S>>(
-    top: &Top<S>,
-    seat: &mut Place<S>,
+    shared: &SharedTable<S>,
+    seat: &mut BusSeat<S>,
     core: &mut S,
     op: Op,
     word: u32,
 ) -> Turn
-    requires table { seat.old.table_id ≡ top.now.table_id }
+    requires table { seat.old.table_id ≡ shared.now.table_id }
     requires told { (K.core ≡ Some core.old) × (K.word ≡ word) }
     requires shows { Shows S.process core.old seat.old }
     requires due { S.process.op core.old word ≡ Some op }
-    requires below { register op < (S.process.extent core.old).words }
+    requires below { register op < (S.process.table_layout core.old).words }
     ensures table { (seat.new.table_id ≡ seat.old.table_id) × (seat.new.id ≡ seat.old.id) }
     ensures shows { Shows S.process core.new seat.new }
     ensures took { TookAndTold S.process S.AnswerTells
@@ -86,10 +90,10 @@ pub(crate) fn walk<S: Seatable + Drop, K: Told<S>>(
         }) }
 {
     S::is_lawful();
-    put_out(top, seat, core);
-    let got = step::<S, K>(top, seat, op);
+    put_out(shared, seat, core);
+    let got = step::<S, K>(shared, seat, op);
     let turn = core.feed(got, word);
-    take_in(top, seat, core);
+    take_in(shared, seat, core);
     turn
 }
 

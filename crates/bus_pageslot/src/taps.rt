@@ -1,17 +1,17 @@
 //! A receiver's seat, and its loads.
 
 ghost use Rattle.std.specs.Prelude.{◌≡◌, ◌<◌, ◌≤◌, [], length, slice_index};
-ghost use Rattle.bus_pageslot.specs.Ears.{Ear, Agree, ear_after_load};
+ghost use Rattle.bus_pageslot.specs.ReceiverViews.{ReceiverView, Agree, receiver_view_after_load};
 ghost use Rattle.bus_pageslot.specs.declared.rule.View.TheVariants as View;
-ghost use Rattle.bus_pageslot.specs.Rule.{ear_in, known_in, with_ear};
+ghost use Rattle.bus_pageslot.specs.Rule.{receiver_view_in, known_in, with_receiver_view};
 ghost use Rattle.bus_pageslot.specs.Steps.{Learns, KnowsSent};
-ghost use Rattle.bus_pageslot.specs.Seats.{IsFresh, spot, table_of, deeds_of, stored_of};
+ghost use Rattle.bus_pageslot.specs.Seats.{IsFresh, receiver_seat, table_of, actions_of, stored_of};
 ghost use Rattle.bus_pageslot.specs.Listening.{Hears, answer_of};
 
 use crate::buses::BusOf;
 use crate::listening::hear;
 use crate::meetings::meeting;
-use crate::rule::{LoadsLength, LoadsWord, Place};
+use crate::rule::{BusSeat, LoadsLength, LoadsWord};
 use crate::seatables::Seatable;
 use crate::seats::SenderOf;
 use bus_deliverylog::{Reader, RecvTurn};
@@ -25,7 +25,7 @@ use std::marker::Model;
 /// step on the table adds to either.
 #[derive(Drop)]
 pub struct TapOf<S: Seatable> {
-    seat: Option<Place<S>>,
+    seat: Option<BusSeat<S>>,
     log: u64,
     known: u64,
     /// It may know a shorter length than the seat.
@@ -33,19 +33,19 @@ pub struct TapOf<S: Seatable> {
 }
 
 impl<S: Seatable> Model for TapOf<S> {
-    ghost use Rattle.bus_pageslot.specs.Seats.{Spot, spot_of, IsTap};
+    ghost use Rattle.bus_pageslot.specs.Seats.{ReceiverSeat, receiver_seat_of, IsTap};
 
-    ghost Value = { Spot S };
+    ghost Value = { ReceiverSeat S };
 
-    ghost view = { λ t. spot_of t.seat };
+    ghost view = { λ t. receiver_seat_of t.seat };
 
-    ghost invariant = { λ t. IsTap (spot_of t.seat) t.log t.known t.reader };
+    ghost invariant = { λ t. IsTap (receiver_seat_of t.seat) t.log t.known t.reader };
 }
 
 impl<S: Seatable + Drop> TapOf<S> {
-    pub(crate) fn seated(seat: Place<S>, log: u64, senders: u64) -> TapOf<S>
-        requires { IsFresh (spot seat) log senders }
-        ensures { result ≡ spot seat }
+    pub(crate) fn seated(seat: BusSeat<S>, log: u64, senders: u64) -> TapOf<S>
+        requires { IsFresh (receiver_seat seat) log senders }
+        ensures { result ≡ receiver_seat seat }
     {
         TapOf {
             seat: Some(seat),
@@ -56,9 +56,9 @@ impl<S: Seatable + Drop> TapOf<S> {
     }
 
     /// Its seat.
-    pub(crate) fn into_seat(self) -> Place<S>
-        ensures spot { spot result ≡ self }
-        ensures tap { (d : _) × (e : Ear) × (result.me ≡ (View.Tap d e, [])) }
+    pub(crate) fn into_seat(self) -> BusSeat<S>
+        ensures receiver_seat { receiver_seat result ≡ self }
+        ensures tap { (d : _) × (e : ReceiverView) × (result.me ≡ (View.Tap d e, [])) }
     {
         let TapOf { seat, .. } = self;
         seat.unwrap()
@@ -73,7 +73,7 @@ impl<S: Seatable + Drop> TapOf<S> {
 
     /// How many words of the log it has read.
     pub fn place(&self) -> u64
-        ensures place { result ≡ (ear_in self.now.me.0).place }
+        ensures place { result ≡ (receiver_view_in self.now.me.0).place }
         ensures within { result ≤ length (known_in self.now.me.0) }
     {
         self.reader.place()
@@ -81,7 +81,7 @@ impl<S: Seatable + Drop> TapOf<S> {
 
     /// The end was among what it was answered.
     pub fn has_ended(&self) -> bool
-        ensures { result ≡ (ear_in self.now.me.0).ended }
+        ensures { result ≡ (receiver_view_in self.now.me.0).ended }
     {
         self.reader.has_ended()
     }
@@ -113,10 +113,10 @@ impl<S: Seatable + Drop> TapOf<S> {
             *answer = RecvTurn::End;
             return false;
         }
-        let top = &bus.table.shared;
+        let shared = &bus.table.shared;
         let mut seat = self.seat.take().unwrap();
         let went = hear(
-            top,
+            shared,
             &mut seat,
             self.log,
             &mut self.known,
@@ -147,7 +147,11 @@ impl<S: Seatable + Drop> TapOf<S> {
         requires below { place < length (known_in self.old.me.0) }
         ensures table { self.new.table_id ≡ self.old.table_id }
         ensures loads { self.new.me
-            ≡ (with_ear self.old.me.0 (ear_after_load (ear_in self.old.me.0)), self.old.me.1) }
+            ≡ (
+              with_receiver_view self.old.me.0
+                  (receiver_view_after_load (receiver_view_in self.old.me.0)),
+              self.old.me.1,
+            ) }
         ensures word { result ≡ slice_index (known_in self.old.me.0) place }
     {
         let mut seat = self.seat.take().unwrap();
@@ -170,7 +174,7 @@ impl<S: Seatable + Drop> TapOf<S> {
         ensures learns { Learns self.old.me result self.new.me
             × Learns other.old.me result other.new.me }
         ensures same { known_in other.new.me.0 ≡ known_in self.new.me.0 }
-        ensures agree { Agree (ear_in self.old.me.0) (ear_in other.old.me.0) }
+        ensures agree { Agree (receiver_view_in self.old.me.0) (receiver_view_in other.old.me.0) }
     {
         let mut mine = self.seat.take().unwrap();
         let theirs = other.seat.take().unwrap();
@@ -194,7 +198,7 @@ impl<S: Seatable + Drop> TapOf<S> {
         ensures sender { (sender.new.core ≡ sender.old.core)
             × (sender.new.seat.me ≡ sender.old.seat.me) }
         ensures learns { Learns self.old.me result self.new.me }
-        ensures sent { KnowsSent S.process sender.old.core (deeds_of S.process sender.old)
+        ensures sent { KnowsSent S.process sender.old.core (actions_of S.process sender.old)
             (stored_of sender.old) (known_in self.new.me.0) }
     {
         let mine = self.seat.take().unwrap();

@@ -1,2 +1,2 @@
-pub mod HallLaws
+pub mod ReclamationLaws
 pub mod RowLaws

@@ -1,6 +1,6 @@
-pub mod Visits
-pub mod Sweeps
-pub mod Hall
+pub mod Pins
+pub mod Reclaims
+pub mod Reclamation
 pub mod Standing
 pub mod Rows
 pub mod Refused

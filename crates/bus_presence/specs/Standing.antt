@@ -2,14 +2,14 @@
 use Rattle.std.specs.Prelude.{◌≡◌, ◌≢◌, ◌⊎◌, ℕ, ◌+◌, ◌*◌, ◌/◌, ◌%◌, ◌<◌, ◌≤◌, Some, List, slice_get}
 use Rattle.bus_register.specs.declared.registers.Op.{Op}
 use Rattle.bus_register.specs.declared.registers.Op.TheVariants.{Load, Store}
-use Rattle.bus_presence.specs.Visits.{number_shown}
-use Rattle.bus_presence.specs.Sweeps.{Sweeping, sweep_op, behind_of}
-use Rattle.bus_presence.specs.Hall.{Sizes, Hall, stage_at, presence_at, row_of, tenure_of, IsReady, Entry, Trails, number_of_step}
-use Rattle.bus_presence.specs.declared.sweeps.Behind.{Behind}
-use Rattle.bus_presence.specs.declared.visits.Visit.TheVariants.{Inside, Parting}
+use Rattle.bus_presence.specs.Pins.{number_shown}
+use Rattle.bus_presence.specs.Reclaimers.{Reclaiming, reclaim_op, behind_of}
+use Rattle.bus_presence.specs.Reclamation.{ReclamationSizes, Reclamation, stage_at, presence_at, row_of, tenure_of, IsReady, Entry, Trails, number_of_step}
+use Rattle.bus_presence.specs.declared.reclaimers.Behind.{Behind}
+use Rattle.bus_presence.specs.declared.pins.Pin.TheVariants.{Pinned, Unpinning}
 
 -- Sender p stored the presence of this tenure, afterwards loaded the stage of this tenure, and has not cleared its presence since.
-pub record Stands (x : Sizes) (p : ℕ) (trail : List Entry) (t : ℕ) : Type 0 where
+pub record Stands (x : ReclamationSizes) (p : ℕ) (trail : List Entry) (t : ℕ) : Type 0 where
   pub entered : ℕ
   pub before : ℕ
   pub enters : slice_get trail entered ≡ Some record { op = Store record { 0 = presence_at x p } (1 + t); got = before }
@@ -20,30 +20,30 @@ pub record Stands (x : Sizes) (p : ℕ) (trail : List Entry) (t : ℕ) : Type 0 
   pub of_tenure : stage / 2 ≡ t
   pub stays : (k got : ℕ) → entered < k → slice_get trail k ≢ Some record { op = Store record { 0 = presence_at x p } 0; got = got }
 
-pub record IsSafe (x : Sizes) (h : Hall) (T : Trails) : Type 0 where
-  -- each presence shows how far its sender's visit has come
-  pub shows : (p : ℕ) → p < x.senders → h.words (presence_at x p) ≡ number_shown (h.visits p)
+pub record IsSafe (x : ReclamationSizes) (h : Reclamation) (T : Trails) : Type 0 where
+  -- each presence shows how far its sender's pin has come
+  pub shows : (p : ℕ) → p < x.senders → h.words (presence_at x p) ≡ number_shown (h.pins p)
   -- who may store in the row of a tenure, or take its page, stands in it, ..
-  pub stands : (p t : ℕ) → h.visits p ≡ Inside t → Stands x p (T p) t
+  pub stands : (p t : ℕ) → h.pins p ≡ Pinned t → Stands x p (T p) t
   -- .. and who stands in one is a sender that may, or that clears its presence next
-  pub inside : (p t : ℕ) → Stands x p (T p) t → (p < x.senders) × ((h.visits p ≡ Inside t) ⊎ (h.visits p ≡ Parting t))
+  pub pinned : (p t : ℕ) → Stands x p (T p) t → (p < x.senders) × ((h.pins p ≡ Pinned t) ⊎ (h.pins p ≡ Unpinning t))
   -- who stands in a tenure, stands in one that was opened, ..
   pub opened : (p t : ℕ) → Stands x p (T p) t → t ≤ tenure_of x h
   -- .. and whose row has not gone on to a later one
   pub in_time : (p t : ℕ) → Stands x p (T p) t → tenure_of x h < t + x.rows
   -- all who stand in tenures of one row stand in one tenure
   pub alone : (p q t u : ℕ) → Stands x p (T p) t → Stands x q (T q) u → t % x.rows ≡ u % x.rows → t ≡ u
-  -- a row is swept while the page is out
-  pub held : (s : Sweeping) → h.sweep ≡ Some s → h.words (stage_at x) ≡ 2 * tenure_of x h + 1
+  -- a row is reclaimed while the page is out
+  pub held : (s : Reclaiming) → h.reclaimer ≡ Some s → h.words (stage_at x) ≡ 2 * tenure_of x h + 1
   -- a word that a holder clears is of the row of the next tenure, and all presences have passed before
-  pub clears : (s : Sweeping) (r number : ℕ) → h.sweep ≡ Some s → sweep_op s ≡ Some (Store record { 0 = r } number)
-      → (place : ℕ) × (r ≡ row_of x (tenure_of x h + 1) + place) × (place < x.width) × (number ≡ 0) × (x.senders ≤ s.asked)
+  pub clears : (s : Reclaiming) (r number : ℕ) → h.reclaimer ≡ Some s → reclaim_op s ≡ Some (Store record { 0 = r } number)
+      → (place : ℕ) × (r ≡ row_of x (tenure_of x h + 1) + place) × (place < x.width) × (number ≡ 0) × (x.senders ≤ s.scanned)
   -- once all presences have passed, nobody stands in a tenure of the row of the next one
-  pub swept : (s : Sweeping) → h.sweep ≡ Some s → x.senders ≤ s.asked → (p t : ℕ) → Stands x p (T p) t → t % x.rows ≢ (tenure_of x h + 1) % x.rows
+  pub reclaimed : (s : Reclaiming) → h.reclaimer ≡ Some s → x.senders ≤ s.scanned → (p t : ℕ) → Stands x p (T p) t → t % x.rows ≢ (tenure_of x h + 1) % x.rows
   -- the words that a holder has cleared are 0
-  pub wiped : (s : Sweeping) (place : ℕ) → h.sweep ≡ Some s → place < s.cleared → h.words (row_of x (tenure_of x h + 1) + place) ≡ 0
+  pub wiped : (s : Reclaiming) (place : ℕ) → h.reclaimer ≡ Some s → place < s.cleared → h.words (row_of x (tenure_of x h + 1) + place) ≡ 0
   -- a holder waits for a sender only where it finds in its presence the tenure that used the row of the next one before
-  pub awaited : (s : Sweeping) (o : Op) (b : Behind) → h.sweep ≡ Some s → sweep_op s ≡ Some o → behind_of s (number_of_step h o) ≡ Some b
+  pub awaited : (s : Reclaiming) (o : Op) (b : Behind) → h.reclaimer ≡ Some s → reclaim_op s ≡ Some o → behind_of s (number_of_step h o) ≡ Some b
       → (o ≡ Load record { 0 = presence_at x b.sender }) × (b.sender < x.senders) × (number_of_step h o ≡ 1 + b.tenure) × (b.tenure + x.rows ≡ tenure_of x h + 1)
   -- where the page may be given back, all words of the row of the next tenure are 0
-  pub clean : (t place : ℕ) → h.words (stage_at x) ≡ 2 * t + 1 → IsReady x t h.sweep → place < x.width → h.words (row_of x (t + 1) + place) ≡ 0
+  pub clean : (t place : ℕ) → h.words (stage_at x) ≡ 2 * t + 1 → IsReady x t h.reclaimer → place < x.width → h.words (row_of x (t + 1) + place) ≡ 0

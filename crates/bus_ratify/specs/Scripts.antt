@@ -2,7 +2,7 @@
 use Rattle.std.specs.Prelude.{◌≡◌, ℕ, Bool, true, false, ◌&&◌, List, [], ◌∷◌, ◌++◌, length, Option, Some, None, Result, Ok, Err, ⊤, codes, nat_lt, nat_le, if◌then◌else◌, option_and_then}
 use Rattle.std.specs.List.{list_all}
 use Rattle.std.specs.Str.{bytes_eq}
-use Rattle.bus_script.specs.declared.places.Place.TheVariants.{AtLine, AtEnd}
+use Rattle.bus_script.specs.declared.line_numbers.LineNumber.TheVariants.{AtLine, AtEnd}
 use Rattle.bus_ratify.specs.declared.limits.TheConstants.{MOST_INPUTS}
 use Rattle.bus_ratify.specs.declared.refusals.LineFault.{LineFault}
 use Rattle.bus_ratify.specs.declared.refusals.LineFault.TheVariants.{BadLine, NoSuchProcess}
@@ -39,7 +39,7 @@ steps_of line = option_and_then if_any (option_and_then (each_of number_of) (arg
 -- ---- all lines
 
 abbrev pub refused_at : ℕ → LineFault → Refusal
-refused_at number fault = record { place = AtLine number; fault = fault }
+refused_at number fault = record { line_number = AtLine number; fault = fault }
 
 -- The steps of a line, among so many processes. Its form comes before its meaning.
 abbrev pub steps_among : ℕ → ℕ → Option (List ℕ) → Result (List ℕ) Refusal
@@ -69,7 +69,7 @@ script_behind number (Some inputs) lines = with_schedule inputs (schedule_of (le
 
 -- what the lines of a script say: one line of inputs, and then lines of steps
 abbrev pub script_of : List (ℕ × List ℕ) → Result RatifyScript Refusal
-script_of [] = Err (record { place = AtEnd; fault = BadLine })
+script_of [] = Err (record { line_number = AtEnd; fault = BadLine })
 script_of (line ∷ lines) = script_behind line.0 (inputs_of line.1) lines
 
 -- what a script says

@@ -7,7 +7,7 @@ use Rattle.bus_register.specs.Digits.{digit}
 use Rattle.bus_ratify.specs.declared.refusals.LineFault.{LineFault}
 use Rattle.bus_ratify.specs.declared.refusals.LineFault.TheVariants.{BadLine, NoSuchProcess}
 use Rattle.bus_ratify.specs.declared.refusals.Refusal.{Refusal}
-use Rattle.bus_script.specs.Places.{refusal_line}
+use Rattle.bus_script.specs.LineNumbers.{refusal_line}
 
 -- what a process has got, where None says that it has not ended
 abbrev pub verdict_name : Option Verdict → List ℕ
@@ -29,4 +29,4 @@ fault_name NoSuchProcess = codes "NoSuchProcess"
 
 -- the one line of a refused script
 abbrev pub refusal_text : Refusal → List ℕ
-refusal_text refusal = refusal_line refusal.place (fault_name refusal.fault)
+refusal_text refusal = refusal_line refusal.line_number (fault_name refusal.fault)

@@ -3,7 +3,7 @@
 ghost use Rattle.std.specs.Prelude.{◌≡◌};
 ghost use Rattle.bus_ratify.specs.declared.refusals.ReadingFault.TheVariants.{NoMemory};
 
-use bus_script::Place;
+use bus_script::LineNumber;
 use std::alloc::{AllocError, AllocFailed};
 
 /// What is wrong with a line.
@@ -18,7 +18,7 @@ pub enum LineFault {
 /// The first fault of a script, from its top.
 #[derive(Clone, Copy, Debug, PartialEq, Eq)]
 pub struct Refusal {
-    pub place: Place,
+    pub line_number: LineNumber,
     pub fault: LineFault,
 }
 

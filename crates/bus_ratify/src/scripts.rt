@@ -8,7 +8,7 @@ ghost use Rattle.bus_ratify.specs.declared.refusals.LineFault.TheVariants.{BadLi
 
 use crate::limits::MOST_INPUTS;
 use crate::refusals::{LineFault, ReadingFault, Refusal};
-use bus_script::{Line, Lines, Place, Words, number_of, words_behind};
+use bus_script::{Line, LineNumber, Lines, Words, number_of, words_behind};
 use std::alloc::Global;
 
 /// What a script says.
@@ -32,7 +32,7 @@ fn fault_at(line: Line<'_>, fault: LineFault) -> ReadingFault
     ensures { result ≡ ReadingFault.Refused (refused_at line.entry.number fault) }
 {
     ReadingFault::Refused(Refusal {
-        place: Place::AtLine(line.number),
+        line_number: LineNumber::AtLine(line.number),
         fault,
     })
 }
@@ -127,7 +127,7 @@ pub fn read_script(alloc: Global, script: &[u8]) -> Result<Script, ReadingFault>
     let mut lines = Lines::new(script);
     let Some(first) = lines.next_line() else {
         return Err(ReadingFault::Refused(Refusal {
-            place: Place::AtEnd,
+            line_number: LineNumber::AtEnd,
             fault: LineFault::BadLine,
         }));
     };

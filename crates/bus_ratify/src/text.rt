@@ -55,5 +55,5 @@ fn fault_name(fault: LineFault) -> &'static str
 pub fn refusal_text(alloc: Global, refusal: Refusal) -> Result<String, AllocError>
     ensures { IfOk result (λ text. string_bytes text ≡ refusal_text refusal) }
 {
-    refusal_line(alloc, refusal.place, fault_name(refusal.fault))
+    refusal_line(alloc, refusal.line_number, fault_name(refusal.fault))
 }

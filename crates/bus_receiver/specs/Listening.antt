@@ -4,18 +4,18 @@ use Rattle.atomic_table.specs.Seated.{TableId}
 use Rattle.bus_batch.specs.declared.messages.Item.{Item}
 use Rattle.bus_deliverylog.specs.declared.receiving.RecvTurn.{RecvTurn}
 use Rattle.bus_deliverylog.specs.declared.receiving.RecvTurn.TheVariants as turn
-use Rattle.bus_world.specs.Headline.{Deed}
-use Rattle.bus_pageslot.specs.Ears.{Agree}
+use Rattle.bus_world.specs.Headline.{Action}
+use Rattle.bus_pageslot.specs.ReceiverViews.{Agree}
 use Rattle.bus_pageslot.specs.Listening.{Hears}
 use Rattle.bus_pageslot.specs.Processes.{Process}
-use Rattle.bus_pageslot.specs.Rule.{Sat, ear_in, known_in}
-use Rattle.bus_pageslot.specs.Seats.{Spot}
+use Rattle.bus_pageslot.specs.Rule.{Sat, receiver_view_in, known_in}
+use Rattle.bus_pageslot.specs.Seats.{ReceiverSeat}
 use Rattle.bus_pageslot.specs.Steps.{Learns, KnowsSent}
 use Rattle.bus_receiver.specs.declared.receivers.Next.{Next}
 use Rattle.bus_receiver.specs.declared.receivers.Next.TheVariants as next
 
 -- the bus that it is of
-abbrev pub bus_of : {C : Type 0} → Spot C → TableId
+abbrev pub bus_of : {C : Type 0} → ReceiverSeat C → TableId
 bus_of r = r.table_id
 
 -- ---- turns, one after another
@@ -87,11 +87,11 @@ item_or_end (Some item) = turn.Item item
 item_or_end None = turn.End
 
 -- ---- what it learns of others
--- it was told by this sender, which has done these deeds, and knows the log at least up to each length that the sender has stored
-pub record IsTold {C : Type 0} (P : Process C) (c : C) (deeds : List Deed) (stored : ℕ) (old new : Sat C) : Type 0 where
+-- it was told by this sender, which has done these actions, and knows the log at least up to each length that the sender has stored
+pub record IsTold {C : Type 0} (P : Process C) (c : C) (actions : List Action) (stored : ℕ) (old new : Sat C) : Type 0 where
   pub got : ℕ
   pub learns : Learns old got new
-  pub sent : KnowsSent P c deeds stored (known_in new.0)
+  pub sent : KnowsSent P c actions stored (known_in new.0)
 
 -- Two receivers know the same words, as many as were loaded. What the one behind was answered begins what the other was answered.
 pub record HaveMet {C : Type 0} (mine theirs mine' theirs' : Sat C) : Type 0 where
@@ -99,4 +99,4 @@ pub record HaveMet {C : Type 0} (mine theirs mine' theirs' : Sat C) : Type 0 whe
   pub first : Learns mine got mine'
   pub second : Learns theirs got theirs'
   pub same : known_in theirs'.0 ≡ known_in mine'.0
-  pub agree : Agree (ear_in mine.0) (ear_in theirs.0)
+  pub agree : Agree (receiver_view_in mine.0) (receiver_view_in theirs.0)

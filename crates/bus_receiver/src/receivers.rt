@@ -4,9 +4,9 @@ ghost use Rattle.std.specs.Prelude.{◌≡◌, ℕ, ◌≤◌, List, length, Som
 ghost use Rattle.std.specs.Prelude.{OnErr, true, false};
 ghost use Rattle.std.specs.Ordering.{nat_cmp};
 ghost use Rattle.bus_pageslot.specs.Endings.{IsLeft};
-ghost use Rattle.bus_pageslot.specs.Rule.{ear_in, known_in};
+ghost use Rattle.bus_pageslot.specs.Rule.{receiver_view_in, known_in};
 ghost use Rattle.bus_pageslot.specs.Listening.{Hears, answer_of};
-ghost use Rattle.bus_pageslot.specs.Seats.{table_of, deeds_of, stored_of};
+ghost use Rattle.bus_pageslot.specs.Seats.{table_of, actions_of, stored_of};
 ghost use Rattle.bus_receiver.specs.Listening.{bus_of, is_found, Takes, HaveMet, IsTold};
 ghost use Rattle.bus_receiver.specs.Listening.{PassesTo, PassesWhile, item_or_end};
 
@@ -40,9 +40,9 @@ pub struct ReceiverOf<S: Seatable> {
 }
 
 impl<S: Seatable> Model for ReceiverOf<S> {
-    ghost use Rattle.bus_pageslot.specs.Seats.{Spot};
+    ghost use Rattle.bus_pageslot.specs.Seats.{ReceiverSeat};
 
-    ghost Value = { Spot S };
+    ghost Value = { ReceiverSeat S };
 
     ghost view = { λ r. r.tap };
 }
@@ -63,7 +63,7 @@ impl<S: Seatable + Drop> ReceiverOf<S> {
 
     /// How many words it has read.
     pub fn place(&self) -> u64
-        ensures place { result ≡ (ear_in self.now.me.0).place }
+        ensures place { result ≡ (receiver_view_in self.now.me.0).place }
         ensures within { result ≤ length (known_in self.now.me.0) }
     {
         self.tap.place()
@@ -71,7 +71,7 @@ impl<S: Seatable + Drop> ReceiverOf<S> {
 
     /// The end was among what it was answered.
     pub fn has_ended(&self) -> bool
-        ensures { result ≡ (ear_in self.now.me.0).ended }
+        ensures { result ≡ (receiver_view_in self.now.me.0).ended }
     {
         self.tap.has_ended()
     }
@@ -181,7 +181,7 @@ impl<S: Seatable + Drop> ReceiverOf<S> {
             × (table_of sender.old ≡ bus.now.table) }
         ensures table { (bus_of self.new ≡ bus_of self.old)
             × (table_of sender.new ≡ table_of sender.old) }
-        ensures told { IsTold S.process sender.old.core (deeds_of S.process sender.old)
+        ensures told { IsTold S.process sender.old.core (actions_of S.process sender.old)
             (stored_of sender.old) self.old.me self.new.me }
         ensures sender { (sender.new.core ≡ sender.old.core)
             × (sender.new.seat.me ≡ sender.old.seat.me) }
@@ -197,7 +197,8 @@ impl<S: Seatable + Drop> ReceiverOf<S> {
         ensures table { (bus_of self.new ≡ bus_of self.old)
             × (bus_of other.new ≡ bus_of other.old) }
         ensures order { result
-            ≡ nat_cmp (ear_in self.old.me.0).place (ear_in other.old.me.0).place }
+            ≡ nat_cmp (receiver_view_in self.old.me.0).place
+            (receiver_view_in other.old.me.0).place }
         ensures met { HaveMet self.old.me other.old.me self.new.me other.new.me }
     {
         self.tap.meet(&mut other.tap, bus);

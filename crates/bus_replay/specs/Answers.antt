@@ -16,11 +16,11 @@ use Rattle.bus_world.specs.declared.events.StepFault.{StepFault}
 use Rattle.bus_world.specs.declared.shapes.MakeFault.{MakeFault}
 use Rattle.bus_world.specs.declared.shapes.MakeFault.TheVariants as make
 use Rattle.bus_cyclic.specs.Cyclic as cyclic
-use Rattle.bus_script.specs.declared.places.Place.TheVariants.{AtLine, AtEnd}
+use Rattle.bus_script.specs.declared.line_numbers.LineNumber.TheVariants.{AtLine, AtEnd}
 use Rattle.bus_script.specs.declared.answers.Outcome.{Outcome}
 use Rattle.bus_script.specs.declared.answers.Outcome.TheVariants.{Done, Refused}
 use Rattle.bus_script.specs.Grammar.{script_lines}
-use Rattle.bus_script.specs.Places.{refusal_line}
+use Rattle.bus_script.specs.LineNumbers.{refusal_line}
 use Rattle.bus_replay.specs.declared.machines.Playable.{Ghosts as Moves}
 use Rattle.bus_replay.specs.GoingOn.{goes_on}
 use Rattle.bus_replay.specs.declared.lines.FirstLine.{FirstLine}

@@ -2,7 +2,7 @@
 
 ghost use Rattle.std.specs.Prelude.{◌≡◌, ℕ, List, Some, IfOk, string_bytes};
 ghost use Rattle.bus_tenure.specs.Elections.{election_of};
-ghost use Rattle.bus_script.specs.Places.{refusal_line};
+ghost use Rattle.bus_script.specs.LineNumbers.{refusal_line};
 ghost use Rattle.bus_replay.specs.Answers.{End, Prints, Ends, Begins, IsReplay};
 
 use crate::closing::push_closing;
@@ -13,19 +13,19 @@ use crate::playing::play;
 use bus_adoptcommit::Ratifier;
 use bus_cyclic::CyclicWorld;
 use bus_register::NoMemory;
-use bus_script::{Answer, Lines, Outcome, Place, refusal_line};
+use bus_script::{Answer, LineNumber, Lines, Outcome, refusal_line};
 use bus_world::{MakeFault, Shape, World};
 use std::alloc::Global;
 
 /// The answer to a script that was refused before there was a bus.
-fn refused(alloc: Global, place: Place, name: &str) -> Result<Answer, NoMemory>
+fn refused(alloc: Global, line_number: LineNumber, name: &str) -> Result<Answer, NoMemory>
     ensures outcome { IfOk result (λ answer. answer.outcome ≡ Outcome.Refused) }
     ensures text { IfOk result
-        (λ answer. string_bytes answer.text ≡ refusal_line place name.now) }
+        (λ answer. string_bytes answer.text ≡ refusal_line line_number name.now) }
 {
     Ok(Answer {
         outcome: Outcome::Refused,
-        text: refusal_line(alloc, place, name)?,
+        text: refusal_line(alloc, line_number, name)?,
     })
 }
 
@@ -69,7 +69,7 @@ fn answer_of_shape<Q: Ratifier + Drop>(
     match World::<Q>::new(alloc, shape) {
         Ok(world) => answer_from(alloc, world, lines),
         Err(MakeFault::NoMemory) => Err(NoMemory),
-        Err(fault) => refused(alloc, Place::AtLine(number), make_fault_name(fault)),
+        Err(fault) => refused(alloc, LineNumber::AtLine(number), make_fault_name(fault)),
     }
 }
 
@@ -87,7 +87,7 @@ fn answer_of_cycle<Q: Ratifier + Drop>(
     match CyclicWorld::<Q>::new(alloc, shape) {
         Ok(world) => answer_from(alloc, world, lines),
         Err(MakeFault::NoMemory) => Err(NoMemory),
-        Err(fault) => refused(alloc, Place::AtLine(number), make_fault_name(fault)),
+        Err(fault) => refused(alloc, LineNumber::AtLine(number), make_fault_name(fault)),
     }
 }
 
@@ -100,11 +100,11 @@ pub fn answer_to<Q: Ratifier + Drop>(alloc: Global, input: &[u8]) -> Result<Answ
 {
     let mut lines = Lines::new(input);
     let Some(first) = lines.next_line() else {
-        return refused(alloc, Place::AtEnd, "BadLine");
+        return refused(alloc, LineNumber::AtEnd, "BadLine");
     };
     match first_of(first.bytes) {
         Some(FirstLine::Shape(shape)) => { answer_of_shape::<Q>(alloc, shape, first.number, lines) }
         Some(FirstLine::Cycle(shape)) => { answer_of_cycle::<Q>(alloc, shape, first.number, lines) }
-        None => refused(alloc, Place::AtLine(first.number), "BadLine"),
+        None => refused(alloc, LineNumber::AtLine(first.number), "BadLine"),
     }
 }

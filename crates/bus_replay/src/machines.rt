@@ -28,10 +28,10 @@ pub trait Playable {
     /// Why an event is refused.
     ghost refused: { Self → Happening → StepFault → Type 0 };
 
-    /// Which deeds and answers lead to a state.
+    /// Which actions and answers lead to a state.
     ghost reached: { Self → Trails → Type 0 };
 
-    /// Who took the pages that are told of, by such deeds, the oldest page first.
+    /// Who took the pages that are told of, by such actions, the oldest page first.
     ghost took: { Self → List ℕ → Trails → Type 0 };
 
     /// How many senders there are, and how many receivers.
@@ -70,7 +70,7 @@ pub trait Playable {
         ensures { IfOk result (λ order. (trails : Trails) → reached self.now trails
             → order_held order ≡ order_given (trails.heard receiver)) };
 
-    /// Some deeds and answers lead to it.
+    /// Some actions and answers lead to it.
     fn reached(&self)
         ensures { (trails : Trails) × reached self.now trails };
 

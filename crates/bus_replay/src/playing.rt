@@ -3,8 +3,8 @@
 ghost use Rattle.std.specs.Prelude.{◌≡◌, ◌++◌, ◌-◌, ℕ, ◌<◌, List, IfOk, IfErr};
 ghost use Rattle.std.specs.Prelude.{OnOk, string_bytes};
 ghost use Rattle.bus_world.specs.Playing.{event_told};
-ghost use Rattle.bus_script.specs.declared.places.Place.TheVariants.{AtLine};
-ghost use Rattle.bus_script.specs.Places.{refusal_line};
+ghost use Rattle.bus_script.specs.declared.line_numbers.LineNumber.TheVariants.{AtLine};
+ghost use Rattle.bus_script.specs.LineNumbers.{refusal_line};
 ghost use Rattle.bus_replay.specs.Answers.{Repeats};
 ghost use Rattle.bus_replay.specs.GoingOn.{turn_goes_on, recv_goes_on, goes_on};
 ghost use Rattle.bus_replay.specs.Told.{IsObeyed, ArePlayed};
@@ -15,7 +15,7 @@ use crate::names::step_fault_name;
 use crate::text::push_answer_line;
 use bus_deliverylog::RecvTurn;
 use bus_register::NoMemory;
-use bus_script::{Line, Lines, Outcome, Place, refusal_line};
+use bus_script::{Line, LineNumber, Lines, Outcome, refusal_line};
 use bus_tenure::Turn;
 use bus_world::{Answer, Event, StepFault};
 use std::alloc::{AllocError, Global};
@@ -72,7 +72,7 @@ pub fn push_refusal(
     ensures { OnOk result
         (string_bytes text.new ≡ string_bytes text.old ++ refusal_line (AtLine number) name.now) }
 {
-    let line = refusal_line(alloc, Place::AtLine(number), name)?;
+    let line = refusal_line(alloc, LineNumber::AtLine(number), name)?;
     text.push_str(&line)
 }
 

@@ -6,7 +6,7 @@ use Rattle.bus_world.specs.Headline.{IsPrefix}
 use Rattle.bus_world.specs.declared.shapes.Shape.{Shape}
 use Rattle.bus_pageslot.specs.declared.rule.View.TheVariants.{Maker, Sender, Tap, Meeting, Telling, Spent}
 use Rattle.bus_pageslot.specs.Outcomes.{Outcome}
-use Rattle.bus_pageslot.specs.Rule.{Sat, ear_in, known_in, with_ear}
+use Rattle.bus_pageslot.specs.Rule.{Sat, receiver_view_in, known_in, with_receiver_view}
 use Rattle.bus_pageslot.specs.Steps.{Learns}
 use Rattle.bus_run.specs.Audit.{IsSpelled, OfOrder}
 use Rattle.bus_run.specs.Left.{Held, Shown, IsLeftBy, IsLeftBehind, HasLearnt}
@@ -14,7 +14,7 @@ use Rattle.bus_run.specs.Stops.{LeavesNoPage, LeavesOrder, IsOpen}
 
 -- ---- what a seat has learnt
 
-same_view : (v : Shown) → v ≡ with_ear v (record (ear_in v) { known = known_in v; loads = (ear_in v).loads + 0 })
+same_view : (v : Shown) → v ≡ with_receiver_view v (record (receiver_view_in v) { known = known_in v; loads = (receiver_view_in v).loads + 0 })
 same_view (Maker c) = refl
 same_view (Sender c trail stored) = refl
 same_view (Tap c e) = ap (λ l. Tap c (record e { loads = l })) (sym (add-zero e.loads))
@@ -25,7 +25,7 @@ same_view Spent = refl
 one_later : (a n : ℕ) → a + n + 1 ≡ a + (n + 1)
 one_later a n = omega arith
 
-one_more : (v : Shown) (k k' : List ℕ) (n : ℕ) → (let w = with_ear v (record (ear_in v) { known = k; loads = (ear_in v).loads + n }) in with_ear w (record (ear_in w) { known = k'; loads = (ear_in w).loads + 1 })) ≡ with_ear v (record (ear_in v) { known = k'; loads = (ear_in v).loads + (n + 1) })
+one_more : (v : Shown) (k k' : List ℕ) (n : ℕ) → (let w = with_receiver_view v (record (receiver_view_in v) { known = k; loads = (receiver_view_in v).loads + n }) in with_receiver_view w (record (receiver_view_in w) { known = k'; loads = (receiver_view_in w).loads + 1 })) ≡ with_receiver_view v (record (receiver_view_in v) { known = k'; loads = (receiver_view_in v).loads + (n + 1) })
 one_more (Maker c) k k' n = refl
 one_more (Sender c trail stored) k k' n = refl
 one_more (Tap c e) k k' n = ap (λ l. Tap c (record e { known = k'; loads = l })) (one_later e.loads n)
@@ -36,7 +36,7 @@ one_more Spent k k' n = refl
 nothing_before : (k : List ℕ) → IsPrefix [] k
 nothing_before k = record { rest = k; together = refl }
 
-knows_more : (v : Shown) (k : List ℕ) (l : ℕ) → IsPrefix (known_in v) k → IsPrefix (known_in v) (known_in (with_ear v (record (ear_in v) { known = k; loads = l })))
+knows_more : (v : Shown) (k : List ℕ) (l : ℕ) → IsPrefix (known_in v) k → IsPrefix (known_in v) (known_in (with_receiver_view v (record (receiver_view_in v) { known = k; loads = l })))
 knows_more (Maker c) k l h = nothing_before []
 knows_more (Sender c trail stored) k l h = nothing_before []
 knows_more (Tap c e) k l h = h
@@ -49,7 +49,7 @@ longer a b c g h = record { rest = g.rest ++ h.rest; together = sym (append_asso
 
 -- what it knows has grown
 pub grown : (times : ℕ) (old new : Shown) → HasLearnt times old new → IsPrefix (known_in old) (known_in new)
-grown times old new h = subst (λ v. IsPrefix (known_in old) (known_in v)) (sym h.now) (knows_more old h.known ((ear_in old).loads + times) h.grows)
+grown times old new h = subst (λ v. IsPrefix (known_in old) (known_in v)) (sym h.now) (knows_more old h.known ((receiver_view_in old).loads + times) h.grows)
 
 pub none_learnt : (v : Shown) → HasLearnt 0 v v
 none_learnt v = record { known = known_in v; now = same_view v; grows = record { rest = []; together = append-nil (known_in v) } }
@@ -58,7 +58,7 @@ none_learnt v = record { known = known_in v; now = same_view v; grows = record {
 pub more_learnt : (times : ℕ) (a b c : Shown) → HasLearnt times a b → HasLearnt 1 b c → HasLearnt (times + 1) a c
 more_learnt times a b c g h = record {
   known = h.known;
-  now = h.now ∙ ap (λ v. with_ear v (record (ear_in v) { known = h.known; loads = (ear_in v).loads + 1 })) g.now ∙ one_more a g.known h.known times;
+  now = h.now ∙ ap (λ v. with_receiver_view v (record (receiver_view_in v) { known = h.known; loads = (receiver_view_in v).loads + 1 })) g.now ∙ one_more a g.known h.known times;
   grows = longer (known_in a) (known_in b) h.known (grown times a b g) h.grows;
 }
 

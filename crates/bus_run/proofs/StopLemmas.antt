@@ -1,4 +1,4 @@
--- Desks in order, and what the fault of a crew that has ended tells of the run.
+-- Workers of senders in order, and what the fault of workers that have ended tells of the run.
 use Rattle.std.proofs.Common.{◌≡◌, ℕ, zero, suc, ◌+◌, ◌<◌, ◌⊎◌, inl, inr, Bool, true, false, ◌||◌, None, is_some, refl, List, [], ◌∷◌, length, take, Option, Some, slice_index_or, sym, ap, subst, ◌∙◌, arith}
 use Rattle.std.specs.Prelude.{slice_get, All, Result, Ok, Err, IsErr, IsErrAnd, IfErr}
 use Rattle.std.proofs.lemmas.List.{take_more, length-take}
@@ -6,7 +6,7 @@ use Rattle.std.proofs.lemmas.Bool.{true≢false}
 use Rattle.std.proofs.lemmas.Option.{slice_get_within, same_Some, get_or_from_slice_get}
 use Rattle.bus_batch.specs.Frames.{Order}
 use Rattle.bus_pageslot.specs.Outcomes.{Outcome}
-use Rattle.bus_pageslot.specs.Seats.{Seated}
+use Rattle.bus_pageslot.specs.Seats.{SenderSeat}
 use Rattle.bus_receiver.specs.Hearing.{Hearing}
 use Rattle.bus_world.specs.declared.shapes.Shape.{Shape}
 use Rattle.bus_run.specs.Audit.{IsSpelled, IsFirstFault}
@@ -20,7 +20,7 @@ use Rattle.bus_run.specs.declared.faults.SenderFault.{SenderFault}
 use Rattle.bus_run.specs.declared.faults.SenderFault.TheVariants.{Gate, Stopped}
 use Rattle.bus_run.proofs.ToldLemmas.{at_last}
 
--- one more desk that stands at its place
+-- one more worker that stands at its place
 pub one_more_in_order : {D : Type 0} (number : D → ℕ) (xs : List D) (i : ℕ) (x : D) → i < length xs → x ≡ slice_index_or xs i x → AreInOrder number (take i xs) → number x ≡ i → AreInOrder number (take (i + 1) xs)
 one_more_in_order number xs i x within is before here k d at =
     let so_far : length (take i xs) ≡ i = omega (arith, length-take i xs) in
@@ -29,7 +29,7 @@ one_more_in_order number xs i x within is before here k d at =
       | inr r ↦ ap number (r.1 ∙ sym is) ∙ here ∙ sym (r.0 ∙ so_far)
     ]
 
--- ---- what a desk noted
+-- ---- what a sender's worker noted
 either : (a b : Bool) → a || b ≡ false → (a ≡ false) × (b ≡ false)
 either true b e = absurd (true≢false e)
 either false b e = (refl, e)
@@ -44,7 +44,7 @@ is_stop None e some = absurd (true≢false (sym some))
 is_stop (Some Gate) e some = absurd (true≢false e)
 is_stop (Some Stopped) e some = refl
 
--- a desk that noted something noted a stop, where none noted a gate
+-- a worker that noted something noted a stop, where none noted a gate
 pub stopped_at : {D : Type 0} (noted : D → Option SenderFault) (xs : List D) (i : ℕ) (x : D) → has_gate noted xs ≡ false → slice_get xs i ≡ Some x → is_some (noted x) ≡ true → noted x ≡ Some Stopped
 stopped_at noted xs i x none at some = is_stop (noted x) (no_gate noted xs i x none at) some
 
@@ -58,36 +58,36 @@ pub named : (order : Order) (heards : List Hearing) (why : AuditFault) → IsFir
 named order heards (Count r s) h = (slice_get_within heards r h.1 h.2, h.3)
 named order heards (NotEnded r) h = slice_get_within heards r h.1 h.2
 
-module _ {D E : Type 0} (number : D → ℕ) (noted : D → Option SenderFault) (sender : D → Seated Held) (shape : Shape) (messages room : ℕ) (desks : List D) (listeners : List E) (seats : List Shown) (heards : List Hearing) where
-  -- the crew's fault
-  abbrev pub CrewFault : RunFault → Type 0
-  CrewFault fault = ((fault ≡ run.Spawn) × (IsWhole number shape desks listeners → ⊥)) ⊎ (IsWhole number shape desks listeners × IsFirstStop noted desks fault) ⊎ (IsWhole number shape desks listeners × AreUnstopped noted desks × IsLate sender shape messages room desks seats heards fault)
+module _ {D E : Type 0} (number : D → ℕ) (noted : D → Option SenderFault) (sender : D → SenderSeat Held) (shape : Shape) (messages room : ℕ) (send_workers : List D) (receive_workers : List E) (seats : List Shown) (heards : List Hearing) where
+  -- the fault of the workers
+  abbrev pub WorkersFault : RunFault → Type 0
+  WorkersFault fault = ((fault ≡ run.Spawn) × (IsWhole number shape send_workers receive_workers → ⊥)) ⊎ (IsWhole number shape send_workers receive_workers × IsFirstStop noted send_workers fault) ⊎ (IsWhole number shape send_workers receive_workers × AreUnstopped noted send_workers × IsLate sender shape messages room send_workers seats heards fault)
 
-  pub crew_stop : (fault : RunFault) → length heards ≡ length listeners → CrewFault fault → IsStop shape.senders shape.receivers fault
-  crew_stop run.NoMemory many h = tt
-  crew_stop run.Spawn many h = tt
-  crew_stop run.Gate many h = tt
-  crew_stop (run.Stopped s) many (inl h) = absurd (let no = h.0 in cc)
-  crew_stop (run.Stopped s) many (inr (inl h)) = subst (λ n. s < n) h.0.all_send (slice_get_within desks s h.1.2 h.1.3)
-  crew_stop (run.Stopped s) many (inr (inr h)) = h.2.0
-  crew_stop (run.Audit why) many (inl h) = absurd (let no = h.0 in cc)
-  crew_stop (run.Audit why) many (inr (inl h)) = absurd h.1
-  crew_stop (run.Audit why) many (inr (inr h)) =
+  pub workers_stop : (fault : RunFault) → length heards ≡ length receive_workers → WorkersFault fault → IsStop shape.senders shape.receivers fault
+  workers_stop run.NoMemory many h = tt
+  workers_stop run.Spawn many h = tt
+  workers_stop run.Gate many h = tt
+  workers_stop (run.Stopped s) many (inl h) = absurd (let no = h.0 in cc)
+  workers_stop (run.Stopped s) many (inr (inl h)) = subst (λ n. s < n) h.0.all_send (slice_get_within send_workers s h.1.2 h.1.3)
+  workers_stop (run.Stopped s) many (inr (inr h)) = h.2.0
+  workers_stop (run.Audit why) many (inl h) = absurd (let no = h.0 in cc)
+  workers_stop (run.Audit why) many (inr (inl h)) = absurd h.1
+  workers_stop (run.Audit why) many (inr (inr h)) =
       let left = h.2.1 in
       let order = left.spelled.0 in
       subst (λ n. IsNamed n why) (many ∙ h.0.all_hear) (named order heards why (left.holds order left.spelled.1 left.spelled.2).2)
-  crew_stop run.Read many (inl h) = absurd (let no = h.0 in cc)
-  crew_stop run.Read many (inr (inl h)) = h.1
-  crew_stop run.Read many (inr (inr h)) = h.2
-  crew_stop run.Write many (inl h) = absurd (let no = h.0 in cc)
-  crew_stop run.Write many (inr (inl h)) = h.1
-  crew_stop run.Write many (inr (inr h)) = h.2
-  crew_stop run.TooMuch many (inl h) = absurd (let no = h.0 in cc)
-  crew_stop run.TooMuch many (inr (inl h)) = h.1
-  crew_stop run.TooMuch many (inr (inr h)) = h.2
-  crew_stop (run.Make why) many (inl h) = absurd (let no = h.0 in cc)
-  crew_stop (run.Make why) many (inr (inl h)) = h.1
-  crew_stop (run.Make why) many (inr (inr h)) = h.2
+  workers_stop run.Read many (inl h) = absurd (let no = h.0 in cc)
+  workers_stop run.Read many (inr (inl h)) = h.1
+  workers_stop run.Read many (inr (inr h)) = h.2
+  workers_stop run.Write many (inl h) = absurd (let no = h.0 in cc)
+  workers_stop run.Write many (inr (inl h)) = h.1
+  workers_stop run.Write many (inr (inr h)) = h.2
+  workers_stop run.TooMuch many (inl h) = absurd (let no = h.0 in cc)
+  workers_stop run.TooMuch many (inr (inl h)) = h.1
+  workers_stop run.TooMuch many (inr (inr h)) = h.2
+  workers_stop (run.Make why) many (inl h) = absurd (let no = h.0 in cc)
+  workers_stop (run.Make why) many (inr (inl h)) = h.1
+  workers_stop (run.Make why) many (inr (inr h)) = h.2
 
 -- why a text is not made can come of a run
 pub text_stop : (senders : ℕ) (left : Outcome) (heards : List Hearing) (fault : RunFault) → IsSpelled left → IsTextFault left heards fault → IsStop senders (length heards) fault
@@ -110,13 +110,13 @@ pub err_weaker : {T E : Type 0} (r : Result T E) (P Q : E → Type 0) → ((e : 
 err_weaker (Ok x) P Q weaker h = tt
 err_weaker (Err e) P Q weaker h = weaker e h
 
--- ---- a fact of each desk
+-- ---- a fact of each sender's worker
 get_at : {D : Type 0} (xs : List D) (i : ℕ) → i < length xs → (d : D) × (slice_get xs i ≡ Some d)
 get_at [] i l = absurd (omega arith)
 get_at (x ∷ xs) zero l = (x, refl)
 get_at (x ∷ xs) (suc i) l = get_at xs i (omega arith)
 
--- what holds of all desks holds of that of each sender
+-- what holds of all workers of senders holds of that of each sender
 pub of_each : {D : Type 0} (number : D → ℕ) (P : D → Type 0) (xs : List D) (s : ℕ) → AreInOrder number xs → All P xs → s < length xs → (d : D) × (number d ≡ s) × P d
 of_each number P xs s order all below =
     let there = get_at xs s below in

@@ -11,7 +11,7 @@ use Rattle.bus_batch.specs.declared.messages.Item.{Item}
 use Rattle.bus_batch.specs.Frames.{Frame, IsFrame, AreFramesFrom, Order, Spells, order_of, items_of, frame_words, log_words}
 use Rattle.bus_batch.proofs.FrameLaws.{same_frame}
 use Rattle.bus_deliverylog.specs.Orders.{of_sender}
-use Rattle.bus_world.specs.Headline.{Deed, IsPrefix, puts}
+use Rattle.bus_world.specs.Headline.{Action, IsPrefix, puts}
 use Rattle.bus_pageslot.specs.Processes.{Process}
 use Rattle.bus_pageslot.specs.Steps.{KnowsSent}
 use Rattle.bus_run.specs.Numbers.{numbers_below}
@@ -91,11 +91,11 @@ still_told s many words more h grown = record {
 }
 
 -- a sender of which nothing waits has told all that it put
-pub told_now : {C : Type 0} (P : Process C) (c : C) (deeds : List Deed) (stored : ℕ) (known : List ℕ) (s many : ℕ) → KnowsSent P c deeds stored known → P.me c ≡ s → P.waiting c ≡ [] → puts deeds ≡ numbers_below many → HasTold s many known
-told_now P c deeds stored known s many h me none put = record {
+pub told_now : {C : Type 0} (P : Process C) (c : C) (actions : List Action) (stored : ℕ) (known : List ℕ) (s many : ℕ) → KnowsSent P c actions stored known → P.me c ≡ s → P.waiting c ≡ [] → puts actions ≡ numbers_below many → HasTold s many known
+told_now P c actions stored known s many h me none put = record {
   front = known;
   begins = record { rest = []; together = append-nil known };
-  senders = (P.extent c).senders;
+  senders = (P.table_layout c).senders;
   order = h.order;
   owners = h.owners;
   spelled = h.spelled;

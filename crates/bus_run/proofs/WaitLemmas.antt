@@ -3,8 +3,8 @@ use Rattle.std.proofs.Common.{◌≡◌, [], length, true, false, refl, sym, ◌
 use Rattle.std.proofs.lemmas.List.{nil_from_length}
 use Rattle.bus_batch.specs.Batches.{Pending}
 use Rattle.bus_guest.specs.Turns.{queue_seen}
-use Rattle.bus_presence.specs.declared.visits.Visit.{Visit}
-use Rattle.bus_presence.specs.declared.visits.Visit.TheVariants.{Away, Entering, Looking, Inside, Parting, Barred}
+use Rattle.bus_presence.specs.declared.pins.Pin.{Pin}
+use Rattle.bus_presence.specs.declared.pins.Pin.TheVariants.{Away, Announcing, Validating, Pinned, Unpinning, Invalidated}
 use Rattle.bus_tenure.specs.Core.{Core}
 use Rattle.bus_tenure.specs.declared.phases.Phase.{Phase}
 use Rattle.bus_tenure.specs.declared.phases.Phase.TheVariants as phase
@@ -19,13 +19,13 @@ waits_not c (phase.Holding t page stored true) e = refl
 waits_not c (phase.Holding t page stored false) e = e
 waits_not c (phase.Giving t reason) e = refl
 
-seen_same : (q : Pending) (u : Visit) → (queue_seen q u).messages ≡ q.messages
+seen_same : (q : Pending) (u : Pin) → (queue_seen q u).messages ≡ q.messages
 seen_same q Away = refl
-seen_same q (Entering t) = refl
-seen_same q (Looking t) = refl
-seen_same q (Inside t) = refl
-seen_same q (Parting t) = refl
-seen_same q (Barred t) = refl
+seen_same q (Announcing t) = refl
+seen_same q (Validating t) = refl
+seen_same q (Pinned t) = refl
+seen_same q (Unpinning t) = refl
+seen_same q (Invalidated t) = refl
 
 pub none_waits : (v : Held) → length (run_process.queue v).messages ≡ 0 → run_process.waiting v ≡ []
-none_waits v none = waits_not v.core v.core.phase (sym (seen_same v.core.queue v.visit) ∙ nil_from_length (run_process.queue v).messages none)
+none_waits v none = waits_not v.core v.core.phase (sym (seen_same v.core.queue v.pin) ∙ nil_from_length (run_process.queue v).messages none)

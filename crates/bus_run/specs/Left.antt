@@ -15,8 +15,8 @@ use Rattle.bus_pageslot.specs.Endings.{IsLeft}
 use Rattle.bus_pageslot.specs.Outcomes.{Outcome}
 use Rattle.bus_pageslot.specs.Processes.{Process, Automaton}
 use Rattle.bus_pageslot.specs.RowsAgain.{process_again, bus_again}
-use Rattle.bus_pageslot.specs.Rule.{ear_in, known_in, with_ear}
-use Rattle.bus_pageslot.specs.Seats.{Seated}
+use Rattle.bus_pageslot.specs.Rule.{receiver_view_in, known_in, with_receiver_view}
+use Rattle.bus_pageslot.specs.Seats.{SenderSeat}
 use Rattle.bus_batch.specs.Batches.{Pending}
 use Rattle.bus_run.specs.Told.{HasTold}
 
@@ -45,10 +45,10 @@ abbrev pub RunRefuses : Shape → MakeFault → Type 0
 RunRefuses = MakeRefused
 
 -- ---- a sender with its seat, and what a seat shows
-abbrev pub number_of : Seated Held → ℕ
+abbrev pub number_of : SenderSeat Held → ℕ
 number_of s = run_process.me s.core
 
-abbrev pub batch_of : Seated Held → Pending
+abbrev pub batch_of : SenderSeat Held → Pending
 batch_of s = run_process.queue s.core
 
 abbrev pub Shown : Type 0
@@ -73,13 +73,13 @@ IsEndedBy shape Ends z = (behind : IsLeftBehind shape z) × Ends behind.seen
 -- the seat shows what it did, but for the words of the log that it knows, which are more, and for so many loads more
 pub record HasLearnt (times : ℕ) (old new : Shown) : Type 0 where
   pub known : List ℕ
-  pub now : new ≡ with_ear old (record (ear_in old) { known = known; loads = (ear_in old).loads + times })
+  pub now : new ≡ with_receiver_view old (record (receiver_view_in old) { known = known; loads = (receiver_view_in old).loads + times })
   pub grows : IsPrefix (known_in old) known
 
 -- it is the first receiver's after one load for each sender, and knows a log that has of each just the numbers below this one at its
 -- front
-pub record IsToldByAll {D : Type 0} (sender : D → Seated Held) (messages : ℕ) (desks : List D) (seats : List Shown) (seen : Shown) : Type 0 where
+pub record IsToldByAll {D : Type 0} (sender : D → SenderSeat Held) (messages : ℕ) (send_workers : List D) (seats : List Shown) (seen : Shown) : Type 0 where
   pub first : Shown
   pub first_is : slice_get seats 0 ≡ Some first
-  pub learnt : HasLearnt (length desks) first seen
-  pub told : All (λ d. HasTold (number_of (sender d)) messages (known_in seen)) desks
+  pub learnt : HasLearnt (length send_workers) first seen
+  pub told : All (λ d. HasTold (number_of (sender d)) messages (known_in seen)) send_workers

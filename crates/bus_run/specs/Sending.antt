@@ -1,18 +1,18 @@
--- What a desk's sender does where it sends, and where it closes.
+-- What a worker's sender does where it sends, and where it closes.
 use Rattle.std.specs.Prelude.{◌≡◌, [], ◌∷◌, ◌++◌}
 use Rattle.bus_tenure.specs.declared.turns.Turn.{Turn}
 use Rattle.bus_world.specs.Headline.{HasClosed}
-use Rattle.bus_pageslot.specs.Seats.{Seated, deeds_of}
+use Rattle.bus_pageslot.specs.Seats.{SenderSeat, actions_of}
 use Rattle.bus_pageslot.specs.Turns.{Sends}
 use Rattle.bus_run.specs.Left.{Held, run_process}
 
 -- its turns, up to the first last one, which answered so
-abbrev pub SendsOn : Seated Held → Turn → Seated Held → Type 0
+abbrev pub SendsOn : SenderSeat Held → Turn → SenderSeat Held → Type 0
 SendsOn first answer new = Sends run_process first answer new
 
 -- it let an end mark wait, and its turns then answered so
-pub record Closes (first : Seated Held) (answer : Turn) (new : Seated Held) : Type 0 where
-  pub asked : Seated Held
+pub record Closes (first : SenderSeat Held) (answer : Turn) (new : SenderSeat Held) : Type 0 where
+  pub asked : SenderSeat Held
   pub core : asked.core ≡ run_process.with_close first.core
-  pub deeds : deeds_of run_process asked ≡ deeds_of run_process first ++ HasClosed ∷ []
+  pub actions : actions_of run_process asked ≡ actions_of run_process first ++ HasClosed ∷ []
   pub sends : SendsOn asked answer new

@@ -4,7 +4,7 @@ use Rattle.std.specs.List.{list_any}
 use Rattle.bus_register.specs.declared.limits.TheConstants.{MOST_SENDERS}
 use Rattle.bus_batch.specs.Frames.{Order}
 use Rattle.bus_deliverylog.specs.Orders.{of_sender}
-use Rattle.bus_pageslot.specs.Seats.{Seated, deeds_of}
+use Rattle.bus_pageslot.specs.Seats.{SenderSeat, actions_of}
 use Rattle.bus_pageslot.specs.Outcomes.{Outcome}
 use Rattle.bus_receiver.specs.Hearing.{Hearing}
 use Rattle.bus_world.specs.Headline.{puts}
@@ -20,16 +20,16 @@ use Rattle.bus_run.specs.declared.faults.RunFault.TheVariants as run
 use Rattle.bus_run.specs.declared.faults.SenderFault.{SenderFault}
 use Rattle.bus_run.specs.declared.faults.SenderFault.TheVariants.{Gate, Stopped}
 
--- ---- a crew that has ended
+-- ---- workers that have ended
 -- each has the number of its place
 abbrev pub AreInOrder : {D : Type 0} → (D → ℕ) → List D → Type 0
-AreInOrder {D} number desks = (k : ℕ) (d : D) → slice_get desks k ≡ Some d → number d ≡ k
+AreInOrder {D} number send_workers = (k : ℕ) (d : D) → slice_get send_workers k ≡ Some d → number d ≡ k
 
 -- all senders have come back, in order, and all receivers, and there is one of each
-pub record IsWhole {D E : Type 0} (number : D → ℕ) (shape : Shape) (desks : List D) (listeners : List E) : Type 0 where
-  pub all_send : length desks ≡ shape.senders
-  pub in_order : AreInOrder number desks
-  pub all_hear : length listeners ≡ shape.receivers
+pub record IsWhole {D E : Type 0} (number : D → ℕ) (shape : Shape) (send_workers : List D) (receive_workers : List E) : Type 0 where
+  pub all_send : length send_workers ≡ shape.senders
+  pub in_order : AreInOrder number send_workers
+  pub all_hear : length receive_workers ≡ shape.receivers
   pub one_hears : 0 < shape.receivers
   pub one_sends : 0 < shape.senders
 
@@ -39,26 +39,26 @@ is_gate other = false
 
 -- some sender noted that a gate let it not through
 abbrev pub has_gate : {D : Type 0} → (D → Option SenderFault) → List D → Bool
-has_gate noted desks = list_any (λ d. is_gate (noted d)) desks
+has_gate noted send_workers = list_any (λ d. is_gate (noted d)) send_workers
 
 -- nothing stopped a sender
 abbrev pub AreUnstopped : {D : Type 0} → (D → Option SenderFault) → List D → Type 0
-AreUnstopped noted desks = All (λ d. noted d ≡ None) desks
+AreUnstopped noted send_workers = All (λ d. noted d ≡ None) send_workers
 
 -- what stopped the senders: a gate before all else, and then the lowest that noted a stop
 abbrev pub IsFirstStop : {D : Type 0} → (D → Option SenderFault) → List D → RunFault → Type 0
-IsFirstStop noted desks run.Gate = has_gate noted desks ≡ true
-IsFirstStop {D} noted desks (run.Stopped s) = (has_gate noted desks ≡ false) × AreUnstopped noted (take s desks) × (d : D) × (slice_get desks s ≡ Some d) × (noted d ≡ Some Stopped)
-IsFirstStop noted desks other = ⊥
+IsFirstStop noted send_workers run.Gate = has_gate noted send_workers ≡ true
+IsFirstStop {D} noted send_workers (run.Stopped s) = (has_gate noted send_workers ≡ false) × AreUnstopped noted (take s send_workers) × (d : D) × (slice_get send_workers s ≡ Some d) × (noted d ≡ Some Stopped)
+IsFirstStop noted send_workers other = ⊥
 
--- ---- a whole crew of which no sender was stopped
+-- ---- all the workers, of which no sender was stopped
 -- a sender has put just the numbers below this one, and none of them waits
-abbrev pub HasSent : ℕ → Seated Held → Type 0
-HasSent messages s = (length (batch_of s).messages ≡ 0) × (puts (deeds_of run_process s) ≡ numbers_below messages)
+abbrev pub HasSent : ℕ → SenderSeat Held → Type 0
+HasSent messages s = (length (batch_of s).messages ≡ 0) × (puts (actions_of run_process s) ≡ numbers_below messages)
 
 -- the lowest that has not sent all
 abbrev pub IsFirstUnsent : {D : Type 0} → (D → Type 0) → List D → ℕ → Type 0
-IsFirstUnsent {D} Sent desks s = All Sent (take s desks) × (d : D) × (slice_get desks s ≡ Some d) × (Sent d → ⊥)
+IsFirstUnsent {D} Sent send_workers s = All Sent (take s send_workers) × (d : D) × (slice_get send_workers s ≡ Some d) × (Sent d → ⊥)
 
 -- A bus of this shape was ended by a seat of which this is true, and its page was not at home.
 pub record LeavesNoPage (shape : Shape) (Ends : Shown → Type 0) : Type 0 where
@@ -88,23 +88,23 @@ IsFirstMiscount s messages order = IsClosed order × SendsEach s messages order 
 abbrev pub IsFirstUnfair : ℕ → ℕ → List Hearing → AuditFault → Order → Type 0
 IsFirstUnfair senders messages heards why order = IsClosed order × SendsEach senders messages order × IsFirstFault order heards why
 
--- Why a run with such a crew did not end well, the first cause that holds: a sender has not sent all; there was no room for what the
+-- Why a run with such workers did not end well, the first cause that holds: a sender has not sent all; there was no room for what the
 -- receivers noted; the bus that the first receiver ended had its page out, or an order that has not ended, which the first sender
 -- answers for; or what it left is not what was sent, or not what was noted.
-module _ {D : Type 0} (sender : D → Seated Held) (shape : Shape) (messages room : ℕ) (desks : List D) (seats : List Shown) (heards : List Hearing) where
+module _ {D : Type 0} (sender : D → SenderSeat Held) (shape : Shape) (messages room : ℕ) (send_workers : List D) (seats : List Shown) (heards : List Hearing) where
   abbrev pub Sent : D → Type 0
   Sent d = HasSent messages (sender d)
 
   abbrev pub Ends : Shown → Type 0
-  Ends seen = IsToldByAll sender messages desks seats seen
+  Ends seen = IsToldByAll sender messages send_workers seats seen
 
   -- all were sent, and the notes have room
   abbrev pub IsSentAndNoted : Type 0
-  IsSentAndNoted = All Sent desks × (length heards ≤ room)
+  IsSentAndNoted = All Sent send_workers × (length heards ≤ room)
 
   abbrev pub IsLate : RunFault → Type 0
-  IsLate run.NoMemory = All Sent desks × (room < length heards)
-  IsLate (run.Stopped s) = (s < shape.senders) × (IsFirstUnsent Sent desks s
+  IsLate run.NoMemory = All Sent send_workers × (room < length heards)
+  IsLate (run.Stopped s) = (s < shape.senders) × (IsFirstUnsent Sent send_workers s
       ⊎ (IsSentAndNoted × (s ≡ 0) × (LeavesNoPage shape Ends ⊎ LeavesOrder shape Ends IsOpen))
       ⊎ (IsSentAndNoted × LeavesOrder shape Ends (IsFirstMiscount s messages)))
   IsLate (run.Audit why) = IsSentAndNoted × LeavesOrder shape Ends (IsFirstUnfair shape.senders messages heards why)

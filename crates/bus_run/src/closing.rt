@@ -20,21 +20,21 @@ ghost use Rattle.bus_run.specs.declared.faults.RunFault.TheVariants.{Stopped as 
 
 use crate::audits::audit;
 use crate::buses::{Receiver, TheBus};
-use crate::crews::Crew;
 use crate::faults::{RunFault, SenderFault};
 use crate::reports::Report;
-use crate::workers::{Desk, Listener};
+use crate::spawning::Workers;
+use crate::workers::{ReceiveWorker, SendWorker};
 use bus_pageslot::{Ended, OfBus};
 use bus_receiver::Heard;
 use bus_register::SenderNo;
 use bus_register::limits::MOST_SENDERS;
 use bus_world::Shape;
 
-/// Ends the bus that the crew has closed, unless a worker failed, and holds what it left behind
+/// Ends the bus that the workers have closed, unless a worker failed, and holds what it left behind
 /// against what each sender was to send and each receiver noted. The room is for these notes.
 pub fn end_and_audit<B: OfBus>(
     the: TheBus<B>,
-    crew: Crew<Desk<B>, Listener<B>>,
+    workers: Workers<SendWorker<B>, ReceiveWorker<B>>,
     room: Vec<Heard>,
     shape: Shape,
     messages: u64,
@@ -42,60 +42,72 @@ pub fn end_and_audit<B: OfBus>(
     requires senders { shape.senders ≤ MOST_SENDERS }
     requires bus { the.bus.shape ≡ shape }
     ensures whole { OnOk result
-        (IsWhole (λ desk. number_of desk.sender) shape crew.desks.items crew.listeners.items) }
-    ensures unstopped { OnOk result (AreUnstopped (λ desk. desk.fault) crew.desks.items) }
+        (IsWhole (λ send_worker. number_of send_worker.sender) shape workers.send_workers.items
+        workers.receive_workers.items) }
+    ensures unstopped { OnOk result
+        (AreUnstopped (λ send_worker. send_worker.fault) workers.send_workers.items) }
     ensures report { IfOk result
         (λ report. IsRunReport shape messages report.ended report.heards.items) }
-    ensures by { let Ends = IsToldByAll (λ desk. desk.sender) messages crew.desks.items
-        (map (λ listener. listener.receiver.me.0) crew.listeners.items) in
+    ensures by { let Ends = IsToldByAll (λ send_worker. send_worker.sender) messages
+        workers.send_workers.items
+        (map (λ receive_worker. receive_worker.receiver.me.0) workers.receive_workers.items) in
         IfOk result (λ report. IsEndedBy shape Ends report.ended) }
     ensures notes { IfOk result
-        (λ report. report.heards.items ≡ map (λ listener. listener.heard) crew.listeners.items) }
+        (λ report. report.heards.items
+        ≡ map (λ receive_worker. receive_worker.heard) workers.receive_workers.items) }
 
     // Who is missing comes before what stopped a sender, and that before all else.
-    ensures fault { let Whole = IsWhole (λ desk. number_of desk.sender) shape
-        crew.desks.items crew.listeners.items in
+    ensures fault { let Whole = IsWhole (λ send_worker. number_of send_worker.sender) shape
+        workers.send_workers.items workers.receive_workers.items in
         IfErr result (λ fault. ((fault ≡ RunFault.Spawn) × (Whole → ⊥))
-        ⊎ (Whole × IsFirstStop (λ desk. desk.fault) crew.desks.items fault)
-        ⊎ (Whole × AreUnstopped (λ desk. desk.fault) crew.desks.items
-        × IsLate (λ desk. desk.sender) shape messages (vec_capacity room) crew.desks.items
-        (map (λ listener. listener.receiver.me.0) crew.listeners.items)
-        (map (λ listener. listener.heard) crew.listeners.items) fault)) }
+        ⊎ (Whole × IsFirstStop (λ send_worker. send_worker.fault) workers.send_workers.items fault)
+        ⊎ (Whole × AreUnstopped (λ send_worker. send_worker.fault) workers.send_workers.items
+        × IsLate (λ send_worker. send_worker.sender) shape messages (vec_capacity room)
+        workers.send_workers.items
+        (map (λ receive_worker. receive_worker.receiver.me.0) workers.receive_workers.items)
+        (map (λ receive_worker. receive_worker.heard) workers.receive_workers.items) fault)) }
 {
-    let Crew {
-        desks,
-        listeners,
+    let Workers {
+        send_workers,
+        receive_workers,
         ..
-    } = crew;
-    if !is_whole(desks.as_slice(), listeners.as_slice(), shape) {
+    } = workers;
+    if !is_whole(send_workers.as_slice(), receive_workers.as_slice(), shape) {
         return Err(RunFault::Spawn);
     }
-    if let Some(fault) = first_stop(desks.as_slice()) {
+    if let Some(fault) = first_stop(send_workers.as_slice()) {
         return Err(fault);
     }
-    end_whole(the, desks, listeners, room, shape, messages)
+    end_whole(the, send_workers, receive_workers, room, shape, messages)
 }
 
 /// All senders have come back, in order, and all receivers.
-fn is_whole<B: OfBus>(desks: &[Desk<B>], listeners: &[Listener<B>], shape: Shape) -> bool
+fn is_whole<B: OfBus>(
+    send_workers: &[SendWorker<B>],
+    receive_workers: &[ReceiveWorker<B>],
+    shape: Shape,
+) -> bool
     ensures whole { result ≡ true
-        → IsWhole (λ desk. number_of desk.sender) shape desks.now listeners.now }
+        → IsWhole (λ send_worker. number_of send_worker.sender) shape send_workers.now
+        receive_workers.now }
     ensures missing { result ≡ false
-        → IsWhole (λ desk. number_of desk.sender) shape desks.now listeners.now → ⊥ }
+        → IsWhole (λ send_worker. number_of send_worker.sender) shape send_workers.now
+        receive_workers.now → ⊥ }
 {
-    let all_send = desks.len() as u64 == shape.senders && !desks.is_empty();
-    let all_hear = listeners.len() as u64 == shape.receivers && !listeners.is_empty();
-    all_send && all_hear && are_in_order(desks)
+    let all_send = send_workers.len() as u64 == shape.senders && !send_workers.is_empty();
+    let all_hear = receive_workers.len() as u64 == shape.receivers && !receive_workers.is_empty();
+    all_send && all_hear && are_in_order(send_workers)
 }
 
-/// The desk at each place is that of the sender with the number of the place.
-fn are_in_order<B: OfBus>(desks: &[Desk<B>]) -> bool
-    ensures order { result ≡ true → AreInOrder (λ desk. number_of desk.sender) desks.now }
+/// The worker at each place is that of the sender with the number of the place.
+fn are_in_order<B: OfBus>(send_workers: &[SendWorker<B>]) -> bool
+    ensures order { result ≡ true
+        → AreInOrder (λ send_worker. number_of send_worker.sender) send_workers.now }
     ensures other { result ≡ false
-        → AreInOrder (λ desk. number_of desk.sender) desks.now → ⊥ }
+        → AreInOrder (λ send_worker. number_of send_worker.sender) send_workers.now → ⊥ }
 {
-    for (place, desk) in desks.iter().enumerate() {
-        if desk.number() != place as u64 {
+    for (place, send_worker) in send_workers.iter().enumerate() {
+        if send_worker.number() != place as u64 {
             return false;
         }
     }
@@ -103,15 +115,16 @@ fn are_in_order<B: OfBus>(desks: &[Desk<B>]) -> bool
 }
 
 /// What stopped a sender: a gate before all else, and then what stopped the lowest.
-fn first_stop<B: OfBus>(desks: &[Desk<B>]) -> Option<RunFault>
-    ensures stop { IfSome result (IsFirstStop (λ desk. desk.fault) desks.now) }
-    ensures none { result ≡ None → AreUnstopped (λ desk. desk.fault) desks.now }
+fn first_stop<B: OfBus>(send_workers: &[SendWorker<B>]) -> Option<RunFault>
+    ensures stop { IfSome result (IsFirstStop (λ send_worker. send_worker.fault) send_workers.now) }
+    ensures none { result ≡ None
+        → AreUnstopped (λ send_worker. send_worker.fault) send_workers.now }
 {
-    if gate_refused(desks) {
+    if gate_refused(send_workers) {
         return Some(RunFault::Gate);
     }
-    for (place, desk) in desks.iter().enumerate() {
-        if desk.fault.is_some() {
+    for (place, send_worker) in send_workers.iter().enumerate() {
+        if send_worker.fault.is_some() {
             return Some(RunFault::Stopped {
                 sender: place as u64,
             });
@@ -121,46 +134,50 @@ fn first_stop<B: OfBus>(desks: &[Desk<B>]) -> Option<RunFault>
 }
 
 /// A gate let a sender's worker not through.
-fn gate_refused<B: OfBus>(desks: &[Desk<B>]) -> bool
-    ensures { result ≡ has_gate (λ desk. desk.fault) desks.now }
+fn gate_refused<B: OfBus>(send_workers: &[SendWorker<B>]) -> bool
+    ensures { result ≡ has_gate (λ send_worker. send_worker.fault) send_workers.now }
 {
-    for desk in desks {
-        if matches!(desk.fault, Some(SenderFault::Gate)) {
+    for send_worker in send_workers {
+        if matches!(send_worker.fault, Some(SenderFault::Gate)) {
             return true;
         }
     }
     false
 }
 
-/// Ends the bus of a whole crew of which no sender was stopped.
+/// Ends the bus of all the workers, of which no sender was stopped.
 fn end_whole<B: OfBus>(
     the: TheBus<B>,
-    desks: Vec<Desk<B>>,
-    listeners: Vec<Listener<B>>,
+    send_workers: Vec<SendWorker<B>>,
+    receive_workers: Vec<ReceiveWorker<B>>,
     room: Vec<Heard>,
     shape: Shape,
     messages: u64,
 ) -> Result<Report, RunFault>
     requires senders { shape.senders ≤ MOST_SENDERS }
     requires bus { the.bus.shape ≡ shape }
-    requires whole { IsWhole (λ desk. number_of desk.sender) shape desks.items listeners.items }
+    requires whole { IsWhole (λ send_worker. number_of send_worker.sender) shape send_workers.items
+        receive_workers.items }
     ensures report { IfOk result
         (λ report. IsRunReport shape messages report.ended report.heards.items) }
-    ensures by { let Ends = IsToldByAll (λ desk. desk.sender) messages desks.items
-        (map (λ listener. listener.receiver.me.0) listeners.items) in
+    ensures by { let Ends = IsToldByAll (λ send_worker. send_worker.sender) messages
+        send_workers.items
+        (map (λ receive_worker. receive_worker.receiver.me.0) receive_workers.items) in
         IfOk result (λ report. IsEndedBy shape Ends report.ended) }
     ensures notes { IfOk result
-        (λ report. report.heards.items ≡ map (λ listener. listener.heard) listeners.items) }
+        (λ report. report.heards.items
+        ≡ map (λ receive_worker. receive_worker.heard) receive_workers.items) }
     ensures late { IfErr result
-        (IsLate (λ desk. desk.sender) shape messages (vec_capacity room) desks.items
-        (map (λ listener. listener.receiver.me.0) listeners.items)
-        (map (λ listener. listener.heard) listeners.items)) }
+        (IsLate (λ send_worker. send_worker.sender) shape messages (vec_capacity room)
+        send_workers.items
+        (map (λ receive_worker. receive_worker.receiver.me.0) receive_workers.items)
+        (map (λ receive_worker. receive_worker.heard) receive_workers.items)) }
 {
-    if let Some(sender) = first_unsent(desks.as_slice(), messages) {
+    if let Some(sender) = first_unsent(send_workers.as_slice(), messages) {
         return Err(RunFault::Stopped { sender });
     }
-    let (first, heards) = notes_of(listeners, room)?;
-    let told = tell_all(&the, desks, first, messages);
+    let (first, heards) = notes_of(receive_workers, room)?;
+    let told = tell_all(&the, send_workers, first, messages);
     let ended = end_closed(the, told)?;
     all_sent(&ended, shape.senders, messages)?;
     audit(&ended, heards.as_slice())?;
@@ -168,13 +185,14 @@ fn end_whole<B: OfBus>(
 }
 
 /// The lowest sender that has not put so many messages, or of which one waits.
-fn first_unsent<B: OfBus>(desks: &[Desk<B>], messages: u64) -> Option<u64>
+fn first_unsent<B: OfBus>(send_workers: &[SendWorker<B>], messages: u64) -> Option<u64>
     ensures unsent { IfSome result
-        (IsFirstUnsent (λ desk. HasSent messages desk.sender) desks.now) }
-    ensures none { result ≡ None → All (λ desk. HasSent messages desk.sender) desks.now }
+        (IsFirstUnsent (λ send_worker. HasSent messages send_worker.sender) send_workers.now) }
+    ensures none { result ≡ None
+        → All (λ send_worker. HasSent messages send_worker.sender) send_workers.now }
 {
-    for (place, desk) in desks.iter().enumerate() {
-        if !desk.has_put(messages) {
+    for (place, send_worker) in send_workers.iter().enumerate() {
+        if !send_worker.has_put(messages) {
             return Some(place as u64);
         }
     }
@@ -183,32 +201,35 @@ fn first_unsent<B: OfBus>(desks: &[Desk<B>], messages: u64) -> Option<u64>
 
 /// The first receiver, and what each noted.
 fn notes_of<B: OfBus>(
-    listeners: Vec<Listener<B>>,
+    receive_workers: Vec<ReceiveWorker<B>>,
     room: Vec<Heard>,
 ) -> Result<(Receiver, Vec<Heard>), RunFault>
-    requires { 0 < vec_len listeners }
+    requires { 0 < vec_len receive_workers }
     ensures table { IfOk result (λ noted. bus_of noted.0 ≡ B.table) }
     ensures notes { IfOk result
-        (λ noted. noted.1.items ≡ map (λ listener. listener.heard) listeners.items) }
+        (λ noted. noted.1.items ≡ map (λ receive_worker. receive_worker.heard)
+        receive_workers.items) }
     ensures summed { IfOk result (λ noted. All IsSummed noted.1.items) }
     ensures first { IfOk result (λ noted. slice_get
-        (map (λ listener. listener.receiver.me.0) listeners.items) 0 ≡ Some noted.0.me.0) }
-    ensures room { OnOk result (length listeners.items ≤ vec_capacity room) }
+        (map (λ receive_worker. receive_worker.receiver.me.0) receive_workers.items) 0
+        ≡ Some noted.0.me.0) }
+    ensures room { OnOk result (length receive_workers.items ≤ vec_capacity room) }
     ensures full { IfErr result
-        (λ fault. (fault ≡ RunFault.NoMemory) × (vec_capacity room < length listeners.items)) }
+        (λ fault. (fault ≡ RunFault.NoMemory)
+        × (vec_capacity room < length receive_workers.items)) }
 {
-    if room.capacity() < listeners.len() {
+    if room.capacity() < receive_workers.len() {
         return Err(RunFault::NoMemory);
     }
     let mut heards = room;
     heards.clear();
     let mut first = None;
-    for listener in listeners {
-        let Listener {
+    for receive_worker in receive_workers {
+        let ReceiveWorker {
             receiver,
             heard,
             ..
-        } = listener;
+        } = receive_worker;
         heards.push_reserved(heard);
         if first.is_none() {
             first = Some(receiver);
@@ -223,33 +244,39 @@ fn notes_of<B: OfBus>(
 /// Each sender tells a receiver of the log, which then knows all that each has put.
 fn tell_all<B: OfBus>(
     the: &TheBus<B>,
-    desks: Vec<Desk<B>>,
+    send_workers: Vec<SendWorker<B>>,
     first: Receiver,
     messages: u64,
 ) -> Receiver
     requires table { bus_of first ≡ B.table }
-    requires sent { All (λ desk. HasSent messages desk.sender) desks.items }
+    requires sent { All (λ send_worker. HasSent messages send_worker.sender) send_workers.items }
     ensures table { bus_of result ≡ B.table }
-    ensures learnt { HasLearnt (length desks.items) first.me.0 result.me.0 }
-    ensures told { All (λ desk. HasTold (number_of desk.sender) messages (known_in result.me.0))
-        desks.items }
+    ensures learnt { HasLearnt (length send_workers.items) first.me.0 result.me.0 }
+    ensures told { All (λ send_worker. HasTold (number_of send_worker.sender) messages
+        (known_in result.me.0))
+        send_workers.items }
 {
     let mut first = first;
-    for desk in desks {
-        tell(&mut first, desk, the, messages);
+    for send_worker in send_workers {
+        tell(&mut first, send_worker, the, messages);
     }
     first
 }
 
-/// A desk's sender tells a receiver of the log.
-fn tell<B: OfBus>(receiver: &mut Receiver, desk: Desk<B>, the: &TheBus<B>, messages: u64)
+/// A worker's sender tells a receiver of the log.
+fn tell<B: OfBus>(
+    receiver: &mut Receiver,
+    send_worker: SendWorker<B>,
+    the: &TheBus<B>,
+    messages: u64,
+)
     requires table { bus_of receiver.old ≡ B.table }
-    requires sent { HasSent messages desk.sender }
+    requires sent { HasSent messages send_worker.sender }
     ensures table { bus_of receiver.new ≡ B.table }
     ensures learnt { HasLearnt 1 receiver.old.me.0 receiver.new.me.0 }
-    ensures told { HasTold (number_of desk.sender) messages (known_in receiver.new.me.0) }
+    ensures told { HasTold (number_of send_worker.sender) messages (known_in receiver.new.me.0) }
 {
-    let Desk { mut sender, .. } = desk;
+    let SendWorker { mut sender, .. } = send_worker;
     receiver.told(&mut sender, &the.bus);
 }
 

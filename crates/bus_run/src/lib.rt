@@ -19,12 +19,12 @@
 pub mod audits;
 pub mod buses;
 pub mod closing;
-pub mod crews;
 pub mod faults;
 pub mod gates;
 pub mod limits;
 pub mod reports;
 pub mod runs;
+pub mod spawning;
 pub mod workers;
 
 pub use audits::{AuditFault, audit};

@@ -5,17 +5,19 @@ ghost use Rattle.bus_run.specs.Audit.{shape_of_run};
 ghost use Rattle.bus_run.specs.Left.{run_process, RunServes};
 ghost use Rattle.bus_run.specs.Reports.{IsRunReport};
 ghost use Rattle.bus_run.specs.Stops.{IsStop, IsRunFault};
-ghost use Rattle.bus_pageslot.specs.Seats.{table_of, deeds_of};
+ghost use Rattle.bus_pageslot.specs.Seats.{table_of, actions_of};
 ghost use Rattle.bus_world.specs.Headline.{puts};
 
 use crate::buses::{Bus, Sender, Tap, TheBus};
 use crate::closing::end_and_audit;
-use crate::crews::Crew;
 use crate::faults::RunFault;
 use crate::gates::Gate;
 use crate::limits::{MOST_MESSAGES_EACH, ROUNDS, ROWS};
 use crate::reports::Report;
-use crate::workers::{Desk, HearAll, Listener, Load, SendAll, desks_of, listeners_of};
+use crate::spawning::Workers;
+use crate::workers::{
+    HearAll, Load, ReceiveWorker, SendAll, SendWorker, receive_workers_of, send_workers_of,
+};
 use bus_pageslot::OfBus;
 use bus_register::limits::MOST_LOG_WORDS;
 use bus_world::Shape;
@@ -65,7 +67,7 @@ fn run_on<B: OfBus + Send + Sync, R: Threads + Wait + Sync, G: Gate + Sync>(
 ) -> Result<Report, RunFault>
     requires bus { (made.0.table ≡ B.table) × (made.0.shape ≡ shape) }
     requires senders { All (λ sender. table_of sender ≡ B.table) made.1.items }
-    requires put { All (λ sender. puts (deeds_of run_process sender) ≡ []) made.1.items }
+    requires put { All (λ sender. puts (actions_of run_process sender) ≡ []) made.1.items }
     requires taps { All (λ tap. tap.table_id ≡ B.table) made.2.items }
     requires served { RunServes shape }
     ensures report { IfOk result
@@ -74,25 +76,25 @@ fn run_on<B: OfBus + Send + Sync, R: Threads + Wait + Sync, G: Gate + Sync>(
 {
     let (bus, senders, taps) = made;
     let room = Vec::with_capacity(alloc, taps.len())?;
-    let crew = Crew::new(
+    let workers = Workers::new(
         alloc,
-        desks_of::<B>(alloc, senders, load.seed)?,
-        listeners_of::<B>(alloc, taps)?,
+        send_workers_of::<B>(alloc, senders, load.seed)?,
+        receive_workers_of::<B>(alloc, taps)?,
     )?;
     let the = TheBus::<B>::new(bus);
-    let crew = man(rt, &the, gate, load, crew);
-    end_and_audit(the, crew, room, shape, load.messages)
+    let workers = spawn_workers(rt, &the, gate, load, workers);
+    end_and_audit(the, workers, room, shape, load.messages)
 }
 
 /// Lets each sender and each receiver work in a thread of its own, until all have ended. Who could
-/// not be started is no longer in the crew.
-fn man<B: OfBus + Send + Sync, R: Threads + Wait + Sync, G: Gate + Sync>(
+/// not be started is no longer among the workers.
+fn spawn_workers<B: OfBus + Send + Sync, R: Threads + Wait + Sync, G: Gate + Sync>(
     rt: &R,
     the: &TheBus<B>,
     gate: &G,
     load: Load,
-    crew: Crew<Desk<B>, Listener<B>>,
-) -> Crew<Desk<B>, Listener<B>> {
+    workers: Workers<SendWorker<B>, ReceiveWorker<B>>,
+) -> Workers<SendWorker<B>, ReceiveWorker<B>> {
     let given_up = AtomicBool::new(false);
     let given_up = &given_up;
     let wait = rt;
@@ -109,26 +111,26 @@ fn man<B: OfBus + Send + Sync, R: Threads + Wait + Sync, G: Gate + Sync>(
     };
     let (sending, hearing) = (&sending, &hearing);
     thread::scope(thread::scope_env(), rt, move |scope| {
-        let mut crew = crew;
-        if crew.start_senders(scope, sending) {
-            crew.start_receivers(scope, hearing);
+        let mut workers = workers;
+        if workers.start_senders(scope, sending) {
+            workers.start_receivers(scope, hearing);
         }
-        crew.join_senders(rt);
-        let is_closed = close(rt, the, &mut crew.desks);
+        workers.join_senders(rt);
+        let is_closed = close(rt, the, &mut workers.send_workers);
         given_up.store(!is_closed, Ordering::SeqCst);
-        crew.join_receivers(rt);
-        crew
+        workers.join_receivers(rt);
+        workers
     })
 }
 
 /// The first sender closes the bus. Says whether it is closed.
-fn close<B: OfBus, W: Wait>(wait: &W, the: &TheBus<B>, desks: &mut [Desk<B>]) -> bool {
-    let Some(desk) = desks.first_mut() else {
+fn close<B: OfBus, W: Wait>(wait: &W, the: &TheBus<B>, send_workers: &mut [SendWorker<B>]) -> bool {
+    let Some(send_worker) = send_workers.first_mut() else {
         return false;
     };
-    let closed = desk.close(wait, the);
+    let closed = send_worker.close(wait, the);
     if !closed {
-        desk.stop();
+        send_worker.stop();
     }
     closed
 }

@@ -7,7 +7,7 @@ ghost use Rattle.std.specs.Int.{w64, to_be_bytes};
 ghost use Rattle.bus_batch.specs.Batches.{next_of, IsPutFault, IsCloseFault};
 ghost use Rattle.bus_batch.specs.declared.batches.CloseFault.{CloseFault};
 ghost use Rattle.bus_batch.specs.declared.batches.PutFault.{PutFault};
-ghost use Rattle.bus_pageslot.specs.Seats.{table_of, deeds_of};
+ghost use Rattle.bus_pageslot.specs.Seats.{table_of, actions_of};
 ghost use Rattle.bus_run.specs.Audit.{IsSummed};
 ghost use Rattle.bus_run.specs.Left.{run_process, number_of, batch_of};
 ghost use Rattle.bus_run.specs.Numbers.{numbers_below};
@@ -22,10 +22,10 @@ ghost use Rattle.bus_receiver.specs.Listening.{bus_of};
 ghost use Rattle.bus_run.specs.declared.faults.SenderFault.TheVariants.{Stopped as stopped};
 
 use crate::buses::{Receiver, Sender, Tap, TheBus};
-use crate::crews::Work;
 use crate::faults::SenderFault;
 use crate::gates::Gate;
 use crate::limits::MOST_MESSAGES_EACH;
+use crate::spawning::Work;
 use bus_deliverylog::RecvTurn;
 use bus_pageslot::OfBus;
 use bus_receiver::Heard;
@@ -49,19 +49,19 @@ pub struct Load {
 /// A sender of the bus B with its random words, and what stopped it. It has put the numbers below
 /// `put`, and nothing else.
 #[derive(Drop)]
-pub struct Desk<B: OfBus> {
+pub struct SendWorker<B: OfBus> {
     pub sender: Sender,
     pub rng: ChaCha8Rng,
     pub fault: Option<SenderFault>,
     put: u64,
     of: PhantomData<B>,
     ghost of_bus: { table_of sender ≡ B.table },
-    ghost has_put: { puts (deeds_of run_process sender) ≡ numbers_below put },
+    ghost has_put: { puts (actions_of run_process sender) ≡ numbers_below put },
 }
 
 /// A receiver of the bus B with what was noted of its answers.
 #[derive(Drop)]
-pub struct Listener<B: OfBus> {
+pub struct ReceiveWorker<B: OfBus> {
     pub receiver: Receiver,
     pub heard: Heard,
     of: PhantomData<B>,
@@ -69,14 +69,14 @@ pub struct Listener<B: OfBus> {
     ghost summed: { IsSummed heard },
 }
 
-impl<B: OfBus> Listener<B> {
-    /// The listener of the receiver with this seat, of whose answers nothing was noted.
-    pub fn new(tap: Tap) -> Listener<B>
+impl<B: OfBus> ReceiveWorker<B> {
+    /// The worker of the receiver with this seat, of whose answers nothing was noted.
+    pub fn new(tap: Tap) -> ReceiveWorker<B>
         requires { tap.table_id ≡ B.table }
         ensures receiver { result.receiver ≡ tap }
         ensures fresh { result.heard ≡ nothing }
     {
-        Listener {
+        ReceiveWorker {
             receiver: Receiver::new(tap),
             heard: Heard::new(),
             of: PhantomData,
@@ -96,17 +96,17 @@ impl<B: OfBus> Listener<B> {
     }
 }
 
-impl<B: OfBus> Desk<B> {
-    /// The desk of a sender that has not begun.
-    pub fn new(sender: Sender, seed: u64) -> Desk<B>
+impl<B: OfBus> SendWorker<B> {
+    /// The worker of a sender that has not begun.
+    pub fn new(sender: Sender, seed: u64) -> SendWorker<B>
         requires table { table_of sender ≡ B.table }
-        requires put { puts (deeds_of run_process sender) ≡ [] }
+        requires put { puts (actions_of run_process sender) ≡ [] }
         ensures sender { result.sender ≡ sender }
         ensures words { result.rng ≡ generator_of seed (number_of sender) }
         ensures fault { result.fault ≡ None }
     {
         let rng = generator(seed, u64::from(sender.number().0));
-        Desk {
+        SendWorker {
             sender,
             rng,
             fault: None,
@@ -183,40 +183,48 @@ impl<B: OfBus> Desk<B> {
     }
 }
 
-/// A desk for each sender, in order.
-pub fn desks_of<B: OfBus>(
+/// A worker for each sender, in order.
+pub fn send_workers_of<B: OfBus>(
     alloc: Global,
     senders: Vec<Sender>,
     seed: u64,
-) -> Result<Vec<Desk<B>>, AllocError>
+) -> Result<Vec<SendWorker<B>>, AllocError>
     requires table { All (λ sender. table_of sender ≡ B.table) senders.items }
-    requires put { All (λ sender. puts (deeds_of run_process sender) ≡ []) senders.items }
+    requires put { All (λ sender. puts (actions_of run_process sender) ≡ []) senders.items }
     ensures senders { IfOk result
-        (λ desks. map (λ desk. desk.sender) desks.items ≡ senders.items) }
-    ensures words { IfOk result (λ desks. All
-        (λ desk. desk.rng ≡ generator_of seed (number_of desk.sender)) desks.items) }
-    ensures unstopped { IfOk result (λ desks. All (λ desk. desk.fault ≡ None) desks.items) }
+        (λ send_workers. map (λ send_worker. send_worker.sender) send_workers.items
+        ≡ senders.items) }
+    ensures words { IfOk result (λ send_workers. All
+        (λ send_worker. send_worker.rng ≡ generator_of seed (number_of send_worker.sender))
+        send_workers.items) }
+    ensures unstopped { IfOk result
+        (λ send_workers. All (λ send_worker. send_worker.fault ≡ None) send_workers.items) }
 {
-    let mut desks = Vec::with_capacity(alloc, senders.len())?;
+    let mut send_workers = Vec::with_capacity(alloc, senders.len())?;
     for sender in senders {
-        desks.push(Desk::new(sender, seed))?;
+        send_workers.push(SendWorker::new(sender, seed))?;
     }
-    Ok(desks)
+    Ok(send_workers)
 }
 
-/// A listener for each receiver, in order.
-pub fn listeners_of<B: OfBus>(alloc: Global, taps: Vec<Tap>) -> Result<Vec<Listener<B>>, AllocError>
+/// A worker for each receiver, in order.
+pub fn receive_workers_of<B: OfBus>(
+    alloc: Global,
+    taps: Vec<Tap>,
+) -> Result<Vec<ReceiveWorker<B>>, AllocError>
     requires { All (λ tap. tap.table_id ≡ B.table) taps.items }
     ensures receivers { IfOk result
-        (λ listeners. map (λ listener. listener.receiver) listeners.items ≡ taps.items) }
+        (λ receive_workers. map (λ receive_worker. receive_worker.receiver) receive_workers.items
+        ≡ taps.items) }
     ensures fresh { IfOk result
-        (λ listeners. All (λ listener. listener.heard ≡ nothing) listeners.items) }
+        (λ receive_workers. All (λ receive_worker. receive_worker.heard ≡ nothing)
+        receive_workers.items) }
 {
-    let mut listeners = Vec::with_capacity(alloc, taps.len())?;
+    let mut receive_workers = Vec::with_capacity(alloc, taps.len())?;
     for tap in taps {
-        listeners.push(Listener::new(tap))?;
+        receive_workers.push(ReceiveWorker::new(tap))?;
     }
-    Ok(listeners)
+    Ok(receive_workers)
 }
 
 /// The random words of a sender: its own stream under the key of the seed.
@@ -239,30 +247,30 @@ pub struct SendAll<'a, B: OfBus, W, G> {
     pub load: Load,
 }
 
-impl<B: OfBus, W: Wait, G: Gate> Work<Desk<B>> for SendAll<'_, B, W, G> {
+impl<B: OfBus, W: Wait, G: Gate> Work<SendWorker<B>> for SendAll<'_, B, W, G> {
     /// Sends the numbers below `load.messages`, in batches.
-    fn work(&self, mut desk: Desk<B>) -> Desk<B> {
+    fn work(&self, mut send_worker: SendWorker<B>) -> SendWorker<B> {
         let messages = self.load.messages;
         for first in (0..messages).step_by(MOST_MESSAGES) {
-            if !self.gate.arrive(desk.number()) {
-                desk.fault = Some(SenderFault::Gate);
-                return desk;
+            if !self.gate.arrive(send_worker.number()) {
+                send_worker.fault = Some(SenderFault::Gate);
+                return send_worker;
             }
             let many = messages.saturating_sub(first).min(MOST_MESSAGES as u64);
-            if !desk.put_all(many) || !self.send_batch(&mut desk) {
-                desk.stop();
-                return desk;
+            if !send_worker.put_all(many) || !self.send_batch(&mut send_worker) {
+                send_worker.stop();
+                return send_worker;
             }
         }
-        desk
+        send_worker
     }
 }
 
 impl<B: OfBus, W: Wait, G> SendAll<'_, B, W, G> {
     /// Sends the messages that wait. Says whether the sender can go on.
-    fn send_batch(&self, desk: &mut Desk<B>) -> bool {
+    fn send_batch(&self, send_worker: &mut SendWorker<B>) -> bool {
         !matches!(
-            desk.send(self.wait, self.the),
+            send_worker.send(self.wait, self.the),
             Turn::Full | Turn::Closed | Turn::Spent
         )
     }
@@ -276,10 +284,10 @@ fn put_number(sender: &mut Sender, number: u64) -> bool
     ensures refused { result ≡ false → (MOST_MESSAGES_EACH ≤ next_of (batch_of sender.old))
         ⊎ ((why : PutFault) × IsPutFault (batch_of sender.old) 8 why) }
     ensures table { table_of sender.new ≡ table_of sender.old }
-    ensures put { result ≡ true → puts (deeds_of run_process sender.new)
-        ≡ puts (deeds_of run_process sender.old) ++ to_be_bytes w64 number ∷ [] }
+    ensures put { result ≡ true → puts (actions_of run_process sender.new)
+        ≡ puts (actions_of run_process sender.old) ++ to_be_bytes w64 number ∷ [] }
     ensures kept { result ≡ false
-        → puts (deeds_of run_process sender.new) ≡ puts (deeds_of run_process sender.old) }
+        → puts (actions_of run_process sender.new) ≡ puts (actions_of run_process sender.old) }
 {
     sender.next_number() < MOST_MESSAGES_EACH && sender.put(&number.to_be_bytes()).is_ok()
 }
@@ -292,17 +300,17 @@ pub struct HearAll<'a, B: OfBus, W> {
     pub given_up: &'a AtomicBool,
 }
 
-impl<B: OfBus, W: Wait> Work<Listener<B>> for HearAll<'_, B, W> {
+impl<B: OfBus, W: Wait> Work<ReceiveWorker<B>> for HearAll<'_, B, W> {
     /// Takes until the end and notes each answer, or until the bus was given up and has nothing
     /// more.
-    fn work(&self, mut listener: Listener<B>) -> Listener<B> {
+    fn work(&self, mut receive_worker: ReceiveWorker<B>) -> ReceiveWorker<B> {
         let backoff = Backoff::new();
         for _ in self.wait.forever() {
-            match listener.hear(self.the) {
-                RecvTurn::End => return listener,
+            match receive_worker.hear(self.the) {
+                RecvTurn::End => return receive_worker,
                 RecvTurn::Empty => {
                     if self.given_up.load(Ordering::SeqCst) {
-                        return listener;
+                        return receive_worker;
                     }
                     backoff.snooze();
                 }

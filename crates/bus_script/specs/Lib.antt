@@ -1,3 +1,3 @@
 pub mod Grammar
 pub mod Spelled
-pub mod Places
+pub mod LineNumbers

@@ -18,14 +18,14 @@
 
 pub mod answers;
 pub mod laws;
+pub mod line_numbers;
 pub mod lines;
 pub mod numbers;
 mod pieces;
-pub mod places;
 pub mod words;
 
 pub use answers::{Answer, Outcome};
+pub use line_numbers::{LineNumber, refusal_line};
 pub use lines::{Line, Lines};
 pub use numbers::number_of;
-pub use places::{Place, refusal_line};
 pub use words::{Words, words_behind};

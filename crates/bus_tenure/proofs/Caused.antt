@@ -34,7 +34,7 @@ use Rattle.bus_tenure.specs.Core.{Core, row_at, frame_len, has_room}
 use Rattle.bus_tenure.specs.Situations.{Situation, GivesBack, StoresWord, StoresLength, holding}
 use Rattle.bus_tenure.specs.Causes.{HasCause, IsDeciding, IsInRatifier, IsInConciliator, IsAtFallback, HasWordLeft, HasStoredAll, LeavesPage}
 use Rattle.bus_tenure.specs.Elections.{Elector, ElectorKeeps, elections}
-use Rattle.bus_tenure.specs.Keeping.{CoreKeeps, PhaseKeeps, IsElecting, IsHolding}
+use Rattle.bus_tenure.specs.Keeping.{SenderInvariant, PhaseKeeps, IsElecting, IsHolding}
 
 -- ---- a holder of the page
 module _ {E : Type 0} (t : ℕ) (page : Page) (stored : ℕ) where
@@ -72,7 +72,7 @@ module _ {E : Type 0} (c : Core E) (t : ℕ) (page : Page) (stored : ℕ) (publi
         word_left = ltb-true _ _ q.3;
       }
 
-  pub length_cause : (Belongs : ℕ → E → Type 0) (width : ℕ) → CoreKeeps width Belongs c → holding c t page stored published ≡ StoresLength t page stored → HasStoredAll c
+  pub length_cause : (Belongs : ℕ → E → Type 0) (width : ℕ) → SenderInvariant width Belongs c → holding c t page stored published ≡ StoresLength t page stored → HasStoredAll c
   length_cause Belongs width k h =
       let q = told_length {E = E} t page stored published page.ended (has_room c page) (nat_lt stored (frame_len c)) h in
       let i : IsHolding c t page.words stored published = subst (PhaseKeeps Belongs c) at k.phase in
@@ -125,7 +125,7 @@ module _ {S : Type 0} (P : Protocol S Bool Verdict) (kind : S → Option Kind) (
 
 -- ---- an election
 module _ {S : Type 0} (P : Protocol S Bool Verdict) (c : Core (Elector S)) (t : ℕ) (e : Elector S) (at : c.phase ≡ Electing t e)
-    (k : CoreKeeps ((elections P c.layout.rounds).width c.layout.senders) (ElectorKeeps P c.layout.rounds c.layout.senders c.me) c) where
+    (k : SenderInvariant ((elections P c.layout.rounds).width c.layout.senders) (ElectorKeeps P c.layout.rounds c.layout.senders c.me) c) where
   keeps : ElectorKeeps P c.layout.rounds c.layout.senders c.me (row_at c.layout t) e
   keeps = let h : IsElecting (ElectorKeeps P c.layout.rounds c.layout.senders c.me) c t e = subst (PhaseKeeps (ElectorKeeps P c.layout.rounds c.layout.senders c.me) c) at k.phase in h.belongs
 

@@ -20,7 +20,7 @@ use Rattle.bus_ownerbits.specs.Sizes.{decision_cost}
 use Rattle.bus_tenure.specs.declared.phases.Phase.TheVariants.{Electing}
 use Rattle.bus_tenure.specs.Core.{Core, row_at, words_of}
 use Rattle.bus_tenure.specs.Elections.{Elector, ElectorKeeps, elections}
-use Rattle.bus_tenure.specs.Keeping.{CoreKeeps, PhaseKeeps, IsElecting}
+use Rattle.bus_tenure.specs.Keeping.{SenderInvariant, PhaseKeeps, IsElecting}
 
 some_of : (x : Option Op) → IsSome x → (o : Op) × (x ≡ Some o)
 some_of None h = absurd (let q : false ≡ true = h in cc)
@@ -54,7 +54,7 @@ module _ {S : Type 0} (op : S → ℕ → Option Op) (fed : S → ℕ → ℕ �
       record { belongs = goes.belongs; unbegun = λ f. absurd (let g = sym goes.begun ∙ f in cc g); unlost = unlost }
 
   -- its words are words of the bus
-  pub place_below : (rounds n me : ℕ) (c s : Core (Elector S)) → c ≡ s → CoreKeeps ((elections P rounds).width n) (ElectorKeeps P rounds n me) c → (t : ℕ) (e : Elector S) → c.phase ≡ Electing t e → (word : ℕ) (x : Option Op) → x ≡ election_op (decide_op op conciliator_op) e word → IfSome x (λ o. register o < words_of s.layout)
+  pub place_below : (rounds n me : ℕ) (c s : Core (Elector S)) → c ≡ s → SenderInvariant ((elections P rounds).width n) (ElectorKeeps P rounds n me) c → (t : ℕ) (e : Elector S) → c.phase ≡ Electing t e → (word : ℕ) (x : Option Op) → x ≡ election_op (decide_op op conciliator_op) e word → IfSome x (λ o. register o < words_of s.layout)
   place_below rounds n me c s same k t e at word x told =
       let h : IsElecting (ElectorKeeps P rounds n me) c t e = subst (PhaseKeeps (ElectorKeeps P rounds n me) c) at k.phase in
       subst (λ z. IfSome x (λ o. register o < words_of z.layout)) same

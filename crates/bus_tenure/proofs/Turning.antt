@@ -8,7 +8,7 @@ use Rattle.bus_tenure.specs.declared.phases.Phase.TheVariants.{Resting, Electing
 use Rattle.bus_tenure.specs.declared.turns.Turn.TheVariants as turn
 use Rattle.bus_tenure.specs.Core.{Core, Election, row_at}
 use Rattle.bus_tenure.specs.Situations.{Elects, TakesPage, situation_of, situation_at, op_at, core_elected, fed_at, answer_at, answer_of_election}
-use Rattle.bus_tenure.specs.Keeping.{CoreKeeps, PhaseKeeps, IsElecting}
+use Rattle.bus_tenure.specs.Keeping.{SenderInvariant, PhaseKeeps, IsElecting}
 
 pub sender_some : (x : Option ℕ) (v : SenderNo) → sender x ≡ Some v → x ≡ Some v.0
 sender_some None v e = cc
@@ -54,7 +54,7 @@ module _ {E : Type 0} (X : Election E) (c s : Core E) (same : c ≡ s) (t : ℕ)
         ∙ ap (λ z. answer_at X z (situation_of X z) got word) same
 
 -- the election goes on
-pub keeps_electing : {E : Type 0} (width : ℕ) (Belongs : ℕ → E → Type 0) (c : Core E) (t : ℕ) (e e' f : E) → CoreKeeps width Belongs c → c.phase ≡ Electing t e → e' ≡ f → (Belongs (row_at c.layout t) e → Belongs (row_at c.layout t) f) → CoreKeeps width Belongs (record c { phase = Electing t e' })
+pub keeps_electing : {E : Type 0} (width : ℕ) (Belongs : ℕ → E → Type 0) (c : Core E) (t : ℕ) (e e' f : E) → SenderInvariant width Belongs c → c.phase ≡ Electing t e → e' ≡ f → (Belongs (row_at c.layout t) e → Belongs (row_at c.layout t) f) → SenderInvariant width Belongs (record c { phase = Electing t e' })
 keeps_electing width Belongs c t e e' f k at went goes =
     let h : IsElecting Belongs c t e = subst (λ z. PhaseKeeps Belongs c z) at k.phase in
     record {

@@ -48,7 +48,7 @@ PhaseKeeps Belongs c (Holding t page stored published) = IsHolding c t page.word
 PhaseKeeps Belongs c (Giving t reason) = IsInTenure c t
 
 -- the batch is the sender's own, and as the phase has it
-pub record CoreKeeps {E : Type 0} (width : ℕ) (Belongs : ℕ → E → Type 0) (c : Core E) : Type 0 where
+pub record SenderInvariant {E : Type 0} (width : ℕ) (Belongs : ℕ → E → Type 0) (c : Core E) : Type 0 where
   pub sizes : AreSizes c.layout width
   pub me_below : c.me < c.layout.senders
   pub sender_is : c.queue.sender.0 ≡ c.me

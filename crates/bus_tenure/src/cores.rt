@@ -44,7 +44,7 @@ const STAGE: Reg = Reg(1);
 
 /// The sizes of a bus, with how many words each row has.
 #[derive(Clone, Copy)]
-struct Sizes {
+struct CoreSizes {
     senders: u64,
     rounds: u64,
     rows: u64,
@@ -58,7 +58,7 @@ struct Sizes {
 /// The words are the length, the stage, a row for each tenure and the log, in this order.
 #[derive(Drop)]
 pub struct SenderCore<Q: Ratifier> {
-    sizes: Sizes,
+    sizes: CoreSizes,
     me: SenderNo,
     batch: Batch,
     least: u64,
@@ -68,7 +68,7 @@ pub struct SenderCore<Q: Ratifier> {
 impl<Q: Ratifier> Model for SenderCore<Q> {
     ghost use Rattle.bus_tenure.specs.Core.{Core};
     ghost use Rattle.bus_tenure.specs.Elections.{Elector, ElectorKeeps, elections};
-    ghost use Rattle.bus_tenure.specs.Keeping.{CoreKeeps};
+    ghost use Rattle.bus_tenure.specs.Keeping.{SenderInvariant};
 
     ghost Value = { Core (Elector Q) };
 
@@ -86,7 +86,7 @@ impl<Q: Ratifier> Model for SenderCore<Q> {
       phase = c.phase;
     } };
 
-    ghost invariant = { λ c. CoreKeeps
+    ghost invariant = { λ c. SenderInvariant
         ((elections Q.protocol c.sizes.rounds).width c.sizes.senders)
         (ElectorKeeps Q.protocol c.sizes.rounds c.sizes.senders c.me.0)
         (record {
@@ -130,7 +130,7 @@ impl<Q: Ratifier + Drop> SenderCore<Q> {
         } }
     {
         SenderCore {
-            sizes: Sizes {
+            sizes: CoreSizes {
                 senders,
                 rounds,
                 rows,

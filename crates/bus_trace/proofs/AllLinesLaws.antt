@@ -31,10 +31,10 @@ use Rattle.bus_world.specs.declared.shapes.Shape.{Shape}
 use Rattle.bus_world.specs.declared.shapes.MakeFault.{MakeFault}
 use Rattle.bus_world.specs.declared.shapes.MakeFault.TheVariants as make
 use Rattle.bus_script.specs.declared.answers.Outcome.{Outcome}
-use Rattle.bus_script.specs.declared.places.Place.{Place}
-use Rattle.bus_script.specs.declared.places.Place.TheVariants.{AtLine, AtEnd}
+use Rattle.bus_script.specs.declared.line_numbers.LineNumber.{LineNumber}
+use Rattle.bus_script.specs.declared.line_numbers.LineNumber.TheVariants.{AtLine, AtEnd}
 use Rattle.bus_script.specs.Grammar.{script_lines}
-use Rattle.bus_script.specs.Places.{place_text, refusal_line}
+use Rattle.bus_script.specs.LineNumbers.{line_number_text, refusal_line}
 use Rattle.bus_replay.specs.declared.machines.Playable.{Ghosts as Moves}
 use Rattle.bus_replay.specs.declared.lines.FirstLine.{FirstLine}
 use Rattle.bus_replay.specs.declared.lines.FirstLine.TheVariants.{Shape as Shaped, Cycle as Cycled}
@@ -52,15 +52,15 @@ use Rattle.bus_trace.specs.Traces.{Row, repeat_rows, asked_rows, printed_rows, n
 use Rattle.bus_trace.proofs.LineLaws.{AsksFew, line_read, ring_line_read}
 
 -- ---- refusals
-plain_place : (place : Place) → IsPlain (place_text place)
-plain_place (AtLine number) = plain_append (codes "line ") (decimal number) (plain_by (codes "line ") refl) (plain_decimal number)
-plain_place AtEnd = plain_by (codes "end") refl
+plain_line_number : (line_number : LineNumber) → IsPlain (line_number_text line_number)
+plain_line_number (AtLine number) = plain_append (codes "line ") (decimal number) (plain_by (codes "line ") refl) (plain_decimal number)
+plain_line_number AtEnd = plain_by (codes "end") refl
 
-names_refusal : (place : Place) (name : List ℕ) → IsPlain name → IsRefusal (refusal_line place name)
-names_refusal place name h = Names (place_text place ++ codes ": " ++ name) (plain_append (place_text place ++ codes ": ") name (plain_append (place_text place) (codes ": ") (plain_place place) (plain_by (codes ": ") refl)) h)
+names_refusal : (line_number : LineNumber) (name : List ℕ) → IsPlain name → IsRefusal (refusal_line line_number name)
+names_refusal line_number name h = Names (line_number_text line_number ++ codes ": " ++ name) (plain_append (line_number_text line_number ++ codes ": ") name (plain_append (line_number_text line_number) (codes ": ") (plain_line_number line_number) (plain_by (codes ": ") refl)) h)
 
-bad_line : (place : Place) → IsRefusal (refusal_line place (codes "BadLine"))
-bad_line place = names_refusal place (codes "BadLine") (plain_by (codes "BadLine") refl)
+bad_line : (line_number : LineNumber) → IsRefusal (refusal_line line_number (codes "BadLine"))
+bad_line line_number = names_refusal line_number (codes "BadLine") (plain_by (codes "BadLine") refl)
 
 plain_put : (why : PutFault) → IsPlain (put_fault_name why)
 plain_put put.Closed = plain_by (codes "Closed") refl

@@ -17,9 +17,9 @@ use Rattle.bus_tenure.specs.Core.{Election}
 use Rattle.bus_tenure.specs.Text.{turn_text}
 use Rattle.bus_tenure.specs.declared.turns.Turn.{Turn as Turned}
 use Rattle.bus_tenure.specs.declared.turns.Turn.TheVariants as turn
-use Rattle.bus_world.specs.Headline.{Deed, HasPut, HasClosed, Stepped}
+use Rattle.bus_world.specs.Headline.{Action, HasPut, HasClosed, Stepped}
 use Rattle.bus_world.specs.Rings.{guest_going}
-use Rattle.bus_world.specs.Trails.{deeds_of, put_deeds, close_deeds}
+use Rattle.bus_world.specs.Trails.{actions_of, put_actions, close_actions}
 use Rattle.bus_world.specs.World.{Event, Put, Close, Turn, Recv, Stop, going}
 use Rattle.bus_world.specs.Playing.{SizedBus}
 use Rattle.bus_world.specs.declared.events.Answer.{Answer}
@@ -32,8 +32,8 @@ use Rattle.bus_picture.specs.Families.{family_of, family_at}
 use Rattle.bus_picture.proofs.FamilyLaws.{has_family}
 use Rattle.bus_picture.proofs.PlainTexts.{IsPlain, plain_by, plain_append, plain_cons, plain_cond, plain_decimal}
 use Rattle.bus_picture.proofs.ReadingLaws.{IsMiddle, IsWho, IsReadable, readable, sender_known, receiver_known}
-use Rattle.bus_trace.specs.Words.{Sizes, ratifier_word, round_word, decision_word, row_word, word_name}
-use Rattle.bus_trace.specs.Rows.{tenure_text, no_step, step_text, deed_text, deeds_text, turning_op, due_text, receiving_text, deed_columns, row_text, visitor_text, ring_columns, ring_row_text}
+use Rattle.bus_trace.specs.Words.{TraceSizes, ratifier_word, round_word, decision_word, row_word, word_name}
+use Rattle.bus_trace.specs.Rows.{tenure_text, no_step, step_text, action_text, actions_text, turning_op, due_text, receiving_text, action_columns, row_text, visitor_text, ring_columns, ring_row_text}
 
 -- ---- texts
 plain_behind : (n : ℕ) → IsPlain (behind n)
@@ -75,30 +75,30 @@ numbered_word name n h = plain_append name (behind n) h (plain_behind n)
 and_more : (name : List ℕ) (n : ℕ) (more : List ℕ) → IsPlain name → IsPlain more → IsPlain (name ++ behind n ++ 32 ∷ more)
 and_more name n more h k = plain_append (name ++ behind n) (32 ∷ more) (numbered_word name n h) (plain_cons 32 more (omega arith) k)
 
-plain_ratifier : (p : Sizes) (k : ℕ) → IsPlain (ratifier_word p k)
+plain_ratifier : (p : TraceSizes) (k : ℕ) → IsPlain (ratifier_word p k)
 plain_ratifier p k = plain_cond (p.ratifier == 3) (cond (k == 0) (codes "input 0") (cond (k == 1) (codes "input 1") (codes "proposal"))) (codes "word" ++ behind k)
     (plain_cond (k == 0) (codes "input 0") (cond (k == 1) (codes "input 1") (codes "proposal")) (plain_by (codes "input 0") refl) (plain_cond (k == 1) (codes "input 1") (codes "proposal") (plain_by (codes "input 1") refl) (plain_by (codes "proposal") refl)))
     (numbered_word (codes "word") k (plain_by (codes "word") refl))
 
-plain_round : (p : Sizes) (k : ℕ) → IsPlain (round_word p k)
+plain_round : (p : TraceSizes) (k : ℕ) → IsPlain (round_word p k)
 plain_round p k = plain_cond (k == 0) (codes "mark 0") (cond (k == 1) (codes "mark 1") (cond (k == 2) (codes "counter") (ratifier_word p (k - 3)))) (plain_by (codes "mark 0") refl) (
     plain_cond (k == 1) (codes "mark 1") (cond (k == 2) (codes "counter") (ratifier_word p (k - 3))) (plain_by (codes "mark 1") refl) (
     plain_cond (k == 2) (codes "counter") (ratifier_word p (k - 3)) (plain_by (codes "counter") refl) (plain_ratifier p (k - 3))))
 
-plain_decision : (p : Sizes) (k : ℕ) → IsPlain (decision_word p k)
+plain_decision : (p : TraceSizes) (k : ℕ) → IsPlain (decision_word p k)
 plain_decision p k =
     let round : ℕ = (k + 3) / (3 + p.ratifier) in
     let word : List ℕ = round_word p ((k + 3) % (3 + p.ratifier)) in
     plain_cond (round == p.rounds) (codes "fallback") (codes "round" ++ behind (round + 1) ++ 32 ∷ word) (plain_by (codes "fallback") refl) (and_more (codes "round") (round + 1) word (plain_by (codes "round") refl) (plain_round p ((k + 3) % (3 + p.ratifier))))
 
-plain_row_word : (p : Sizes) (k : ℕ) → IsPlain (row_word p k)
+plain_row_word : (p : TraceSizes) (k : ℕ) → IsPlain (row_word p k)
 plain_row_word p k =
     let bit : ℕ = (k - p.senders) / p.decision in
     let word : List ℕ = decision_word p ((k - p.senders) % p.decision) in
     plain_cond (nat_lt k p.senders) (codes "announcement" ++ behind k) (codes "bit" ++ behind bit ++ 32 ∷ word) (numbered_word (codes "announcement") k (plain_by (codes "announcement") refl)) (
     and_more (codes "bit") bit word (plain_by (codes "bit") refl) (plain_decision p ((k - p.senders) % p.decision)))
 
-plain_word : (p : Sizes) (r : ℕ) → IsPlain (word_name p r)
+plain_word : (p : TraceSizes) (r : ℕ) → IsPlain (word_name p r)
 plain_word p r =
     let row : List ℕ = codes "row" ++ behind ((r - 2 - p.presences) / p.row) ++ 32 ∷ row_word p ((r - 2 - p.presences) % p.row) in
     let log : List ℕ = cond (nat_le p.log r) (codes "log" ++ behind (r - p.log)) row in
@@ -177,7 +177,7 @@ without_step name f known plain = record { tenure = codes "-"; kind = name; word
 nothing_done : IsMiddle (no_step (codes "-"))
 nothing_done = without_step (codes "-") family.Nothing refl dash
 
-with_step : (p : Sizes) (tenure : Option ℕ) (k : Kind) (found : ℕ) (o : Option Op) → IsMiddle (step_text p tenure k found o)
+with_step : (p : TraceSizes) (tenure : Option ℕ) (k : Kind) (found : ℕ) (o : Option Op) → IsMiddle (step_text p tenure k found o)
 with_step p tenure k found None = nothing_done
 with_step p tenure k found (Some o) = record {
   tenure = tenure_text tenure;
@@ -195,27 +195,27 @@ with_step p tenure k found (Some o) = record {
   is = refl;
 }
 
-of_deed : (p : Sizes) (o : Option Op) (d : Deed) → IsMiddle (deed_text p o d)
-of_deed p o (HasPut number bytes) = without_step (codes "put") family.Call refl (plain_by (codes "put") refl)
-of_deed p o HasClosed = without_step (codes "close") family.Call refl (plain_by (codes "close") refl)
-of_deed p o (Stepped tenure k found chose answer) = with_step p tenure k found o
+of_action : (p : TraceSizes) (o : Option Op) (d : Action) → IsMiddle (action_text p o d)
+of_action p o (HasPut number bytes) = without_step (codes "put") family.Call refl (plain_by (codes "put") refl)
+of_action p o HasClosed = without_step (codes "close") family.Call refl (plain_by (codes "close") refl)
+of_action p o (Stepped tenure k found chose answer) = with_step p tenure k found o
 
-of_deeds : (p : Sizes) (o : Option Op) (deeds : List Deed) → IsMiddle (deeds_text p o deeds)
-of_deeds p o [] = nothing_done
-of_deeds p o (d ∷ deeds) = of_deed p o d
+of_actions : (p : TraceSizes) (o : Option Op) (actions : List Action) → IsMiddle (actions_text p o actions)
+of_actions p o [] = nothing_done
+of_actions p o (d ∷ actions) = of_action p o d
 
-of_due : (p : Sizes) (words : ℕ → ℕ) (tenure : Option ℕ) (k : Option Kind) (o : Option Op) → IsMiddle (due_text p words tenure k o)
+of_due : (p : TraceSizes) (words : ℕ → ℕ) (tenure : Option ℕ) (k : Option Kind) (o : Option Op) → IsMiddle (due_text p words tenure k o)
 of_due p words tenure None o = nothing_done
 of_due p words tenure (Some k) None = nothing_done
 of_due p words tenure (Some k) (Some o) = with_step p tenure k (words (register o)) (Some o)
 
-of_receiving : (p : Sizes) (words : ℕ → ℕ) (v : Option Receiving) → IsMiddle (receiving_text p words v)
+of_receiving : (p : TraceSizes) (words : ℕ → ℕ) (v : Option Receiving) → IsMiddle (receiving_text p words v)
 of_receiving p words None = nothing_done
 of_receiving p words (Some v) = of_due p words None (receiving_kind v) (receiving_op v)
 
-of_visitor : {E : Type 0} (p : Sizes) (X : Election E) (words : ℕ → ℕ) (v : Option (Visitor E)) (word : ℕ) → IsMiddle (visitor_text p X words v word)
+of_visitor : {E : Type 0} (p : TraceSizes) (X : Election E) (words : ℕ → ℕ) (v : Option (Visitor E)) (word : ℕ) → IsMiddle (visitor_text p X words v word)
 of_visitor p X words None word = nothing_done
-of_visitor p X words (Some v) word = of_due p words (tenure_begun_by v.core v.visit) (kind_due X v (due X v)) (op_next X v word)
+of_visitor p X words (Some v) word = of_due p words (tenure_begun_by v.core v.pin) (kind_due X v (due X v)) (op_next X v word)
 
 a_stop : IsMiddle (no_step (codes "stop"))
 a_stop = without_step (codes "stop") family.Call refl (plain_by (codes "stop") refl)
@@ -235,16 +235,16 @@ a_receiver : (r : ℕ) → r < 8 → IsWho (codes "receiver" ++ behind r)
 a_receiver r few = record { process = Receiver r; known = receiver_known r few; plain = numbered_word (codes "receiver") r (plain_by (codes "receiver") refl) }
 
 -- ---- lines
-pub line_read : {E : Type 0} (p : Sizes) (X : Election E) (line : ℕ) (z : SizedBus E) (e : Event) (a : Answer) → AsksFew e → IsReadable (row_text p X line z e a)
-line_read p X line z (Put s bytes) a few = readable (decimal line) (codes "sender" ++ behind s) (deed_columns p X z.bus (Put s bytes) a) (answer_text a) (plain_decimal line) (a_sender s few) (of_deeds p None (deeds_of X z.bus (Put s bytes) a s)) (plain_answer a)
-line_read p X line z (Close s) a few = readable (decimal line) (codes "sender" ++ behind s) (deed_columns p X z.bus (Close s) a) (answer_text a) (plain_decimal line) (a_sender s few) (of_deeds p None (deeds_of X z.bus (Close s) a s)) (plain_answer a)
-line_read p X line z (Turn s word) a few = readable (decimal line) (codes "sender" ++ behind s) (deed_columns p X z.bus (Turn s word) a) (answer_text a) (plain_decimal line) (a_sender s few) (of_deeds p (turning_op X (going z.bus s) word) (deeds_of X z.bus (Turn s word) a s)) (plain_answer a)
-line_read p X line z (Recv r) a few = readable (decimal line) (codes "receiver" ++ behind r) (deed_columns p X z.bus (Recv r) a) (answer_text a) (plain_decimal line) (a_receiver r few) (of_receiving p (slice_index z.bus.side.words) (slice_get z.bus.receivers r)) (plain_answer a)
-line_read p X line z (Stop s) a few = readable (decimal line) (codes "sender" ++ behind s) (deed_columns p X z.bus (Stop s) a) (answer_text a) (plain_decimal line) (a_sender s few) a_stop (plain_answer a)
+pub line_read : {E : Type 0} (p : TraceSizes) (X : Election E) (line : ℕ) (z : SizedBus E) (e : Event) (a : Answer) → AsksFew e → IsReadable (row_text p X line z e a)
+line_read p X line z (Put s bytes) a few = readable (decimal line) (codes "sender" ++ behind s) (action_columns p X z.bus (Put s bytes) a) (answer_text a) (plain_decimal line) (a_sender s few) (of_actions p None (actions_of X z.bus (Put s bytes) a s)) (plain_answer a)
+line_read p X line z (Close s) a few = readable (decimal line) (codes "sender" ++ behind s) (action_columns p X z.bus (Close s) a) (answer_text a) (plain_decimal line) (a_sender s few) (of_actions p None (actions_of X z.bus (Close s) a s)) (plain_answer a)
+line_read p X line z (Turn s word) a few = readable (decimal line) (codes "sender" ++ behind s) (action_columns p X z.bus (Turn s word) a) (answer_text a) (plain_decimal line) (a_sender s few) (of_actions p (turning_op X (going z.bus s) word) (actions_of X z.bus (Turn s word) a s)) (plain_answer a)
+line_read p X line z (Recv r) a few = readable (decimal line) (codes "receiver" ++ behind r) (action_columns p X z.bus (Recv r) a) (answer_text a) (plain_decimal line) (a_receiver r few) (of_receiving p (slice_index z.bus.side.words) (slice_get z.bus.receivers r)) (plain_answer a)
+line_read p X line z (Stop s) a few = readable (decimal line) (codes "sender" ++ behind s) (action_columns p X z.bus (Stop s) a) (answer_text a) (plain_decimal line) (a_sender s few) a_stop (plain_answer a)
 
-pub ring_line_read : {E : Type 0} (p : Sizes) (X : Election E) (line : ℕ) (z : CyclicBus E) (e : Event) (a : Answer) → AsksFew e → IsReadable (ring_row_text p X line z e a)
-ring_line_read p X line z (Put s bytes) a few = readable (decimal line) (codes "sender" ++ behind s) (ring_columns p X z.ring (Put s bytes) a) (answer_text a) (plain_decimal line) (a_sender s few) (of_deeds p None (put_deeds bytes a)) (plain_answer a)
-ring_line_read p X line z (Close s) a few = readable (decimal line) (codes "sender" ++ behind s) (ring_columns p X z.ring (Close s) a) (answer_text a) (plain_decimal line) (a_sender s few) (of_deeds p None (close_deeds a)) (plain_answer a)
+pub ring_line_read : {E : Type 0} (p : TraceSizes) (X : Election E) (line : ℕ) (z : CyclicBus E) (e : Event) (a : Answer) → AsksFew e → IsReadable (ring_row_text p X line z e a)
+ring_line_read p X line z (Put s bytes) a few = readable (decimal line) (codes "sender" ++ behind s) (ring_columns p X z.ring (Put s bytes) a) (answer_text a) (plain_decimal line) (a_sender s few) (of_actions p None (put_actions bytes a)) (plain_answer a)
+ring_line_read p X line z (Close s) a few = readable (decimal line) (codes "sender" ++ behind s) (ring_columns p X z.ring (Close s) a) (answer_text a) (plain_decimal line) (a_sender s few) (of_actions p None (close_actions a)) (plain_answer a)
 ring_line_read p X line z (Turn s word) a few = readable (decimal line) (codes "sender" ++ behind s) (ring_columns p X z.ring (Turn s word) a) (answer_text a) (plain_decimal line) (a_sender s few) (of_visitor p X (slice_index z.ring.words) (guest_going z.ring s) word) (plain_answer a)
 ring_line_read p X line z (Recv r) a few = readable (decimal line) (codes "receiver" ++ behind r) (ring_columns p X z.ring (Recv r) a) (answer_text a) (plain_decimal line) (a_receiver r few) (of_receiving p (slice_index z.ring.words) (slice_get z.ring.receivers r)) (plain_answer a)
 ring_line_read p X line z (Stop s) a few = readable (decimal line) (codes "sender" ++ behind s) (ring_columns p X z.ring (Stop s) a) (answer_text a) (plain_decimal line) (a_sender s few) a_stop (plain_answer a)

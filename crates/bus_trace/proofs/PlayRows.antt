@@ -5,8 +5,8 @@ use Rattle.bus_world.specs.declared.events.StepFault.{StepFault}
 use Rattle.bus_world.specs.declared.shapes.MakeFault.{MakeFault}
 use Rattle.bus_script.specs.declared.answers.Outcome.{Outcome}
 use Rattle.bus_script.specs.declared.answers.Outcome.TheVariants as outcome
-use Rattle.bus_script.specs.declared.places.Place.TheVariants.{AtLine}
-use Rattle.bus_script.specs.Places.{refusal_line}
+use Rattle.bus_script.specs.declared.line_numbers.LineNumber.TheVariants.{AtLine}
+use Rattle.bus_script.specs.LineNumbers.{refusal_line}
 use Rattle.bus_replay.specs.declared.machines.Playable.{Ghosts as Moves}
 use Rattle.bus_replay.specs.Lines.{Command, command_of}
 use Rattle.bus_replay.specs.Text.{answer_line, step_fault_name}

@@ -9,8 +9,8 @@ use Rattle.bus_deliverylog.specs.Receiving.{Receiving, receiving_kind, receiving
 use Rattle.bus_tenure.specs.Core.{Core, Election}
 use Rattle.bus_tenure.specs.Situations.{situation_of, tenure_at, kind_at, op_at, chosen_at}
 use Rattle.bus_tenure.specs.declared.turns.Turn.{Turn as Answered}
-use Rattle.bus_world.specs.Headline.{Deed}
-use Rattle.bus_world.specs.Trails.{turning_deeds, put_deeds, close_deeds, step_deed}
+use Rattle.bus_world.specs.Headline.{Action}
+use Rattle.bus_world.specs.Trails.{turning_actions, put_actions, close_actions, step_action}
 use Rattle.bus_world.specs.Turning.{number_found}
 use Rattle.bus_trace.proofs.WatchLemmas.{turner_there}
 use Rattle.bus_world.specs.World.{Bus, Event, Put, Close, Turn, Recv, Stop, going}
@@ -19,55 +19,55 @@ use Rattle.bus_world.specs.declared.events.Answer.{Answer}
 use Rattle.bus_replay.specs.Text.{answer_text}
 use Rattle.bus_register.specs.Words.{register}
 use Rattle.bus_trace.specs.declared.seen.Seen.{Seen}
-use Rattle.bus_trace.specs.Words.{Sizes, word_name}
+use Rattle.bus_trace.specs.Words.{TraceSizes, word_name}
 use Rattle.bus_register.specs.Names.{kind_name}
-use Rattle.bus_trace.specs.Rows.{column, tenure_text, no_step, deeds_text, due_text, receiving_text, turning_op, who_text, deed_columns, row_text}
+use Rattle.bus_trace.specs.Rows.{column, tenure_text, no_step, actions_text, due_text, receiving_text, turning_op, who_text, action_columns, row_text}
 use Rattle.bus_trace.specs.Watching.{step_of, sender_due, receiver_due, due_by, seen_in}
 use Rattle.bus_trace.specs.Told.{name_told, seen_columns, seen_told, row_told, numbered_row}
 use Rattle.bus_trace.specs.Traces.{numbered_rows}
 use Rattle.bus_trace.specs.Obeying.{Grows}
 
-own : (s : ℕ) (deeds : List Deed) → cond (s == s) deeds [] ≡ deeds
-own s deeds = ap (λ b. cond b deeds []) (eq-eqb s s refl)
+own : (s : ℕ) (actions : List Action) → cond (s == s) actions [] ≡ actions
+own s actions = ap (λ b. cond b actions []) (eq-eqb s s refl)
 
 -- of a turn of a sender
-step_told : (p : Sizes) (words : ℕ → ℕ) (s word : ℕ) (tenure : Option ℕ) (k : Option Kind) (o : Option Op) (chose : Option ℕ) (t : Answered) → deeds_text p o (step_deed k tenure (number_found words o) chose t) ≡ seen_told p (Turn s word) (seen_in words (step_of tenure k o))
+step_told : (p : TraceSizes) (words : ℕ → ℕ) (s word : ℕ) (tenure : Option ℕ) (k : Option Kind) (o : Option Op) (chose : Option ℕ) (t : Answered) → actions_text p o (step_action k tenure (number_found words o) chose t) ≡ seen_told p (Turn s word) (seen_in words (step_of tenure k o))
 step_told p words s word tenure None o chose t = refl
 step_told p words s word tenure (Some k) None chose t = refl
 step_told p words s word tenure (Some k) (Some o) chose t = refl
 
-sender_told : {E : Type 0} (p : Sizes) (X : Election E) (words : List ℕ) (s word : ℕ) (o : Option (Core E)) (a : Answer) → TurnAnswers X words o word a
-    → deeds_text p (turning_op X o word) (turning_deeds X words o word a) ≡ seen_told p (Turn s word) (seen_in (slice_index words) (sender_due X o word))
+sender_told : {E : Type 0} (p : TraceSizes) (X : Election E) (words : List ℕ) (s word : ℕ) (o : Option (Core E)) (a : Answer) → TurnAnswers X words o word a
+    → actions_text p (turning_op X o word) (turning_actions X words o word a) ≡ seen_told p (Turn s word) (seen_in (slice_index words) (sender_due X o word))
 sender_told p X words s word None a h = absurd h
 sender_told {E} p X words s word (Some c) a h =
     let z = situation_of X c in
     let found = number_found (slice_index words) (op_at X c z word) in
-    ap (λ (b : Answer). deeds_text p (op_at X c z word) (turning_deeds X words (Some c) word b)) h
+    ap (λ (b : Answer). actions_text p (op_at X c z word) (turning_actions X words (Some c) word b)) h
     ∙ step_told p (slice_index words) s word (tenure_at X c z) (kind_at X c z) (op_at X c z word) (chosen_at X c z found word) _
 
 -- of a step that is due, of an event whose kind stands nowhere but in its step
-pub due_told : (p : Sizes) (words : ℕ → ℕ) (e : Event) → name_told e ≡ codes "-" → (tenure : Option ℕ) (k : Option Kind) (o : Option Op) → due_text p words tenure k o ≡ seen_told p e (seen_in words (step_of tenure k o))
+pub due_told : (p : TraceSizes) (words : ℕ → ℕ) (e : Event) → name_told e ≡ codes "-" → (tenure : Option ℕ) (k : Option Kind) (o : Option Op) → due_text p words tenure k o ≡ seen_told p e (seen_in words (step_of tenure k o))
 due_told p words e plain tenure None o = ap no_step (sym plain)
 due_told p words e plain tenure (Some k) None = ap no_step (sym plain)
 due_told p words e plain tenure (Some k) (Some o) = refl
 
 -- of a load of a receiver
-pub receiver_told : (p : Sizes) (words : ℕ → ℕ) (r : ℕ) (o : Option Receiving) → receiving_text p words o ≡ seen_told p (Recv r) (seen_in words (receiver_due o))
+pub receiver_told : (p : TraceSizes) (words : ℕ → ℕ) (r : ℕ) (o : Option Receiving) → receiving_text p words o ≡ seen_told p (Recv r) (seen_in words (receiver_due o))
 receiver_told p words r None = refl
 receiver_told p words r (Some v) = due_told p words (Recv r) refl None (receiving_kind v) (receiving_op v)
 
-columns_told : {E : Type 0} (p : Sizes) (X : Election E) (b b' : Bus E) (e : Event) (a : Answer) → Answers X b e a b' → deed_columns p X b e a ≡ seen_told p e (seen_in (slice_index b.side.words) (due_by X b e))
-columns_told p X b b' (Put s bytes) a h = ap (deeds_text p None) (own s (put_deeds bytes a) ∙ ap (put_deeds bytes) h.2)
-columns_told p X b b' (Close s) a h = ap (deeds_text p None) (own s (close_deeds a) ∙ ap close_deeds h.1)
+columns_told : {E : Type 0} (p : TraceSizes) (X : Election E) (b b' : Bus E) (e : Event) (a : Answer) → Answers X b e a b' → action_columns p X b e a ≡ seen_told p e (seen_in (slice_index b.side.words) (due_by X b e))
+columns_told p X b b' (Put s bytes) a h = ap (actions_text p None) (own s (put_actions bytes a) ∙ ap (put_actions bytes) h.2)
+columns_told p X b b' (Close s) a h = ap (actions_text p None) (own s (close_actions a) ∙ ap close_actions h.1)
 columns_told p X b b' (Turn s word) a h =
     let c = going b s in
-    ap (deeds_text p (turning_op X c word)) (own s (turning_deeds X b.side.words c word a)) ∙ sender_told p X b.side.words s word c a h
+    ap (actions_text p (turning_op X c word)) (own s (turning_actions X b.side.words c word a)) ∙ sender_told p X b.side.words s word c a h
     ∙ ap (λ o. seen_told p (Turn s word) (seen_in (slice_index b.side.words) (sender_due X o word))) (turner_there X b s word c refl a h)
 columns_told p X b b' (Recv r) a h = receiver_told p (slice_index b.side.words) r (slice_get b.receivers r)
 columns_told p X b b' (Stop s) a h = refl
 
 -- the whole line
-pub row_is : {E : Type 0} (p : Sizes) (X : Election E) (line : ℕ) (z z' : SizedBus E) (e : Event) (a : Answer) → Answers X z.bus e a z'.bus → (seen : Option Seen) → seen ≡ seen_in (slice_index z.bus.side.words) (due_by X z.bus e) → row_told p line e seen a ≡ row_text p X line z e a
+pub row_is : {E : Type 0} (p : TraceSizes) (X : Election E) (line : ℕ) (z z' : SizedBus E) (e : Event) (a : Answer) → Answers X z.bus e a z'.bus → (seen : Option Seen) → seen ≡ seen_in (slice_index z.bus.side.words) (due_by X z.bus e) → row_told p line e seen a ≡ row_text p X line z e a
 row_is p X line z z' e a h seen is = ap (λ k. row_told p line e k a) is ∙ ap (λ (l : List ℕ). column (decimal line) ++ who_text e ++ l ++ answer_text a) (sym (columns_told p X z.bus z'.bus e a h))
 
 -- ---- lines one after another
@@ -101,7 +101,7 @@ six_together t a k w n f l =
     ap (λ (z : List ℕ). (z ++ f) ++ l) (append_assoc ((t ++ a) ++ k) w n ∙ ap (λ (z : List ℕ). z ++ (w ++ n)) (append_assoc t a k) ∙ append_assoc t (a ++ k) (w ++ n))
     ∙ ap (λ (z : List ℕ). z ++ l) (append_assoc t ((a ++ k) ++ (w ++ n)) f) ∙ append_assoc t (((a ++ k) ++ (w ++ n)) ++ f) l
 
-pub seen_put : (p : Sizes) (s : Seen) (t0 t1 t2 t3 t4 t5 t6 name : List ℕ) (r : ℕ) → t1 ≡ t0 ++ column (tenure_text s.step.tenure) → name ≡ kind_name s.step.kind → t2 ≡ t1 ++ column name → r ≡ register s.step.op → t3 ≡ t2 ++ word_name p r → t4 ≡ t3 ++ 9 ∷ []
+pub seen_put : (p : TraceSizes) (s : Seen) (t0 t1 t2 t3 t4 t5 t6 name : List ℕ) (r : ℕ) → t1 ≡ t0 ++ column (tenure_text s.step.tenure) → name ≡ kind_name s.step.kind → t2 ≡ t1 ++ column name → r ≡ register s.step.op → t3 ≡ t2 ++ word_name p r → t4 ≡ t3 ++ 9 ∷ []
     → t5 ≡ t4 ++ column (decimal s.found) → t6 ≡ t5 ++ column (decimal s.left) → t6 ≡ t0 ++ seen_columns p s
 seen_put p s t0 t1 t2 t3 t4 t5 t6 name r e1 n e2 g e3 e4 e5 e6 =
     let tenure = column (tenure_text s.step.tenure) in let kind = column (kind_name s.step.kind) in let word = word_name p (register s.step.op) in let found = column (decimal s.found) in let left = column (decimal s.left) in

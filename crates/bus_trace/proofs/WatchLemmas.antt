@@ -26,7 +26,7 @@ use Rattle.std.proofs.lemmas.Grind.{common_steps}
 use Rattle.bus_world.specs.Turning.{Side, side_after, words_after}
 use Rattle.bus_world.specs.World.{Bus, Event, Put, Close, Turn, Recv, Stop, going, IsEvent, Happens, SenderDoes, RecvDoes, RecvStep, recv_found, IsReceiver, IsNew}
 use Rattle.bus_world.specs.Playing.{SizedBus, Answers, RecvAnswers, TurnAnswers}
-use Rattle.bus_world.specs.Trails.{IsServedBus, no_trails}
+use Rattle.bus_world.specs.Trails.{MachineInvariant, no_trails}
 use Rattle.bus_world.specs.Trails.Reached.{New}
 use Rattle.bus_world.specs.declared.events.Answer.{Answer}
 use Rattle.bus_world.proofs.Stopping.{is_there}
@@ -35,9 +35,9 @@ use Rattle.bus_world.proofs.PlayingLaws.{set_same, sitting_after, sums_fit, word
 use Rattle.bus_world.proofs.LogLaws.{length-read}
 use Rattle.bus_world.proofs.ReceivingLaws.{goes_on}
 use Rattle.bus_world.proofs.WorldLaws.{new_is_lawful, received}
-use Rattle.bus_trace.specs.declared.seen.Spot.{Spot}
+use Rattle.bus_trace.specs.declared.seen.Cursor.{Cursor}
 use Rattle.bus_trace.specs.declared.seen.Step.{Step}
-use Rattle.bus_trace.specs.Watching.{step_of, sender_due, receiver_due, due_by, CanStep, spot_of, new_spot, spot_due, spot_after, spot_heard, answer_heard, spots_heard, AreShort, IsWatched}
+use Rattle.bus_trace.specs.Watching.{step_of, sender_due, receiver_due, due_by, CanStep, cursor_of, new_cursor, cursor_due, cursor_after, cursor_heard, answer_heard, cursors_heard, AreShort, IsWatched}
 
 -- ---- words of the log
 index-read : (words : ℕ → ℕ) (at k i : ℕ) → i < k → slice_index (words_read_from words at k) i ≡ words (at + i)
@@ -57,16 +57,16 @@ pub none_due : {E : Type 0} (X : Election E) (o : Option (Core E)) (word : ℕ) 
 none_due X None word e = refl
 none_due X (Some c) word e = absurd cc
 
-spot_is : (log : ℕ) (v : Receiving) → v.log_at ≡ log → v.length_at ≡ 0 → (a b : Bool)
+cursor_is : (log : ℕ) (v : Receiving) → v.log_at ≡ log → v.length_at ≡ 0 → (a b : Bool)
     → cond a None (cond b (Some (record { tenure = None; kind = kind.LoadLength; op = Load (record { 0 = 0 }) })) (Some (record { tenure = None; kind = kind.LoadLogWord; op = Load (record { 0 = log + v.place }) })))
     ≡ step_of None (cond a None (cond b (Some kind.LoadLength) (Some kind.LoadLogWord))) (cond a None (cond b (Some (Load (record { 0 = v.length_at }))) (Some (Load (record { 0 = v.log_at + v.place })))))
-spot_is log v l z true b = refl
-spot_is log v l z false true = ap (λ n. Some record { tenure = None; kind = kind.LoadLength; op = Load (record { 0 = n }) }) (sym z)
-spot_is log v l z false false = ap (λ n. Some record { tenure = None; kind = kind.LoadLogWord; op = Load (record { 0 = n + v.place }) }) (sym l)
+cursor_is log v l z true b = refl
+cursor_is log v l z false true = ap (λ n. Some record { tenure = None; kind = kind.LoadLength; op = Load (record { 0 = n }) }) (sym z)
+cursor_is log v l z false false = ap (λ n. Some record { tenure = None; kind = kind.LoadLogWord; op = Load (record { 0 = n + v.place }) }) (sym l)
 
-pub receiver_due_is : (log : ℕ) (o : Option Receiving) → IfSome o (λ v. (v.log_at ≡ log) × (v.length_at ≡ 0)) → spot_due log (option_map spot_of o) ≡ receiver_due o
+pub receiver_due_is : (log : ℕ) (o : Option Receiving) → IfSome o (λ v. (v.log_at ≡ log) × (v.length_at ≡ 0)) → cursor_due log (option_map cursor_of o) ≡ receiver_due o
 receiver_due_is log None h = refl
-receiver_due_is log (Some v) h = spot_is log v h.0 h.1 v.ended (v.place == v.known)
+receiver_due_is log (Some v) h = cursor_is log v h.0 h.1 v.ended (v.place == v.known)
 
 -- ---- how far a receiver is
 end_told : (found : Option (Piece)) → is_end found ≡ end_heard (turn_of found)
@@ -75,20 +75,20 @@ end_told (Some (piece.Head tenure owner)) = refl
 end_told (Some (piece.Item item)) = refl
 end_told (Some piece.End) = refl
 
-heard_spot : (x : Layout) (frames : List Frame) (words : ℕ → ℕ) (log : Logged x.senders x.capacity (log_at x) words (words 0) frames) (v : Receiving) (h : IsReceiver x frames (words 0) v) (turn : RecvTurn) (next : Receiving) → RecvDoes words v turn next → v.ended ≡ false
-    → spot_of next ≡ spot_after (spot_of v) (recv_found words v) turn
-heard_spot x frames words log v h turn next does going = by_place (v.place == v.known) (eqb_tells v.place v.known) (does.going going)
+heard_cursor : (x : Layout) (frames : List Frame) (words : ℕ → ℕ) (log : Logged x.senders x.capacity (log_at x) words (words 0) frames) (v : Receiving) (h : IsReceiver x frames (words 0) v) (turn : RecvTurn) (next : Receiving) → RecvDoes words v turn next → v.ended ≡ false
+    → cursor_of next ≡ cursor_after (cursor_of v) (recv_found words v) turn
+heard_cursor x frames words log v h turn next does going = by_place (v.place == v.known) (eqb_tells v.place v.known) (does.going going)
   where
     by_place : (q : Bool) → ((q ≡ true) × (v.place ≡ v.known)) ⊎ ((q ≡ false) × (v.place ≢ v.known)) → RecvStep v (cond q (words v.length_at) (words (v.log_at + v.place))) turn next
-        → spot_of next ≡ cond {A = Spot} q (record { known = cond q (words v.length_at) (words (v.log_at + v.place)); place = v.place; ended = v.ended }) (record { known = v.known; place = v.place + 1; ended = end_heard turn })
+        → cursor_of next ≡ cond {A = Cursor} q (record { known = cond q (words v.length_at) (words (v.log_at + v.place)); place = v.place; ended = v.ended }) (record { known = v.known; place = v.place + 1; ended = end_heard turn })
     by_place true (inr how) step = absurd (true≢false how.0)
     by_place true (inl how) step =
         let found : words v.length_at ≡ words 0 = ap words h.len_at in
         elim (cases_lt v.known (words v.length_at)) [
-          | inl l ↦ ap spot_of ((step.at_length how.1).more l (let a = log.fits in let b = h.log_words in omega arith)).1
+          | inl l ↦ ap cursor_of ((step.at_length how.1).more l (let a = log.fits in let b = h.log_words in omega arith)).1
           | inr l ↦
               let same : words v.length_at ≡ v.known = let a = h.receives.known_below in omega arith in
-              ap spot_of ((step.at_length how.1).same same).1 ∙ ap (λ n. record { known = n; place = v.place; ended = v.ended }) (sym same)
+              ap cursor_of ((step.at_length how.1).same same).1 ∙ ap (λ n. record { known = n; place = v.place; ended = v.ended }) (sym same)
         ]
     by_place false (inl how) step = absurd (true≢false (sym how.0))
     by_place false (inr how) step =
@@ -99,7 +99,7 @@ heard_spot x frames words log v h turn next does going = by_place (v.place == v.
         elim (step.at_word how.1 (take v.place (log_words frames)) (take v.place (log_pieces frames)) (received x frames words log v h)) [
           | inl bad ↦ absurd (subst (λ z. IsBadWord z (take v.place (log_words frames)) (words (v.log_at + v.place))) h.senders bad.0
               (goes_on x.senders frames (words 0) v.place v.known v.frames h.receives log.lawful size more (words (v.log_at + v.place)) word_is))
-          | inr good ↦ ap spot_of good.new_is ∙ ap (λ z. record { known = v.known; place = v.place + 1; ended = z }) (end_told good.found ∙ ap end_heard (sym good.answer_is))
+          | inr good ↦ ap cursor_of good.new_is ∙ ap (λ z. record { known = v.known; place = v.place + 1; ended = z }) (end_told good.found ∙ ap end_heard (sym good.answer_is))
         ]
 
 -- a receiver without a load has read the end
@@ -163,7 +163,7 @@ turner_there X b p word (Some c) is a h = sym (is_there b p c is)
 
 -- ---- a bus that is watched
 module _ {E : Type 0} (X : Election E) (P : Protocol E (Unit {0}) ℕ) (x : Layout) (s : Serves X P x) where
-  module _ (b : Bus E) (h : IsServedBus X P record { layout = x; bus = b }) where
+  module _ (b : Bus E) (h : MachineInvariant X P record { layout = x; bus = b }) where
     reader : (r : ℕ) (v : Receiving) → slice_get b.receivers r ≡ Some v → IsReceiver x h.frames (slice_index b.side.words 0) v
     reader r v e = h.lawful.keeps.receiving r v e
 
@@ -189,64 +189,64 @@ module _ {E : Type 0} (X : Election E) (P : Protocol E (Unit {0}) ℕ) (x : Layo
         let over = ended_then v v.ended (v.place == v.known) none in
         w.3 ∙ ap (slice_set b.receivers r) (w.2.ended over).1 ∙ set_same b.receivers r v is
 
-    pub spots_stay : (b' : Bus E) (e : Event) (a : Answer) → due_by X b e ≡ None → Happens X b e b' → Answers X b e a b' → map spot_of b.receivers ≡ map spot_of b'.receivers
-    spots_stay b' (Put p bytes) a none d w = ap (map spot_of) (sym d.1)
-    spots_stay b' (Close p) a none d w = ap (map spot_of) (sym d.1)
-    spots_stay b' (Turn p word) a none d w = ap (map spot_of) (sym d.1)
-    spots_stay b' (Stop p) a none d w = ap (map spot_of) (sym d.1)
-    spots_stay b' (Recv r) a none d w = ap (map spot_of) (sym (recv_stays r (slice_get b.receivers r) a b'.receivers refl w none))
+    pub cursors_stay : (b' : Bus E) (e : Event) (a : Answer) → due_by X b e ≡ None → Happens X b e b' → Answers X b e a b' → map cursor_of b.receivers ≡ map cursor_of b'.receivers
+    cursors_stay b' (Put p bytes) a none d w = ap (map cursor_of) (sym d.1)
+    cursors_stay b' (Close p) a none d w = ap (map cursor_of) (sym d.1)
+    cursors_stay b' (Turn p word) a none d w = ap (map cursor_of) (sym d.1)
+    cursors_stay b' (Stop p) a none d w = ap (map cursor_of) (sym d.1)
+    cursors_stay b' (Recv r) a none d w = ap (map cursor_of) (sym (recv_stays r (slice_get b.receivers r) a b'.receivers refl w none))
 
     recv_moves : (r : ℕ) (o : Option Receiving) (a : Answer) (new : List Receiving) (step : Step) → slice_get b.receivers r ≡ o → RecvAnswers b.side.words b.receivers r o a new → receiver_due o ≡ Some step
-        → answer_heard (map spot_of b.receivers) r (slice_index b.side.words (register step.op)) a ≡ map spot_of new
+        → answer_heard (map cursor_of b.receivers) r (slice_index b.side.words (register step.op)) a ≡ map cursor_of new
     recv_moves r None a new step is w due = absurd w
     recv_moves r (Some v) a new step is w due =
         let words = slice_index b.side.words in
         let t = loads_then words v step v.ended (v.place == v.known) due in
         let found = words (register step.op) in
-        let spots : List Spot = map spot_of b.receivers in
-        ap (answer_heard spots r found) w.4
-        ∙ ap (λ (o : Option Spot). spot_heard spots r o found w.1) (slice_get-map spot_of b.receivers r ∙ ap (option_map spot_of) is)
-        ∙ ap (λ n. slice_set spots r (spot_after (spot_of v) n w.1)) t.1
-        ∙ ap (slice_set spots r) (sym (heard_spot x h.frames words h.lawful.keeps.sending.log v (reader r v is) w.1 w.0 w.2 t.0))
-        ∙ sym (map-set spot_of b.receivers r w.0) ∙ ap (map spot_of) (sym w.3)
+        let cursors : List Cursor = map cursor_of b.receivers in
+        ap (answer_heard cursors r found) w.4
+        ∙ ap (λ (o : Option Cursor). cursor_heard cursors r o found w.1) (slice_get-map cursor_of b.receivers r ∙ ap (option_map cursor_of) is)
+        ∙ ap (λ n. slice_set cursors r (cursor_after (cursor_of v) n w.1)) t.1
+        ∙ ap (slice_set cursors r) (sym (heard_cursor x h.frames words h.lawful.keeps.sending.log v (reader r v is) w.1 w.0 w.2 t.0))
+        ∙ sym (map-set cursor_of b.receivers r w.0) ∙ ap (map cursor_of) (sym w.3)
 
-    pub spots_move : (b' : Bus E) (e : Event) (a : Answer) (step : Step) → due_by X b e ≡ Some step → Happens X b e b' → Answers X b e a b' → spots_heard (map spot_of b.receivers) e (slice_index b.side.words (register step.op)) a ≡ map spot_of b'.receivers
-    spots_move b' (Put p bytes) a step due d w = ap (map spot_of) (sym d.1)
-    spots_move b' (Close p) a step due d w = ap (map spot_of) (sym d.1)
-    spots_move b' (Turn p word) a step due d w = ap (map spot_of) (sym d.1)
-    spots_move b' (Stop p) a step due d w = ap (map spot_of) (sym d.1)
-    spots_move b' (Recv r) a step due d w = recv_moves r (slice_get b.receivers r) a b'.receivers step refl w due
+    pub cursors_move : (b' : Bus E) (e : Event) (a : Answer) (step : Step) → due_by X b e ≡ Some step → Happens X b e b' → Answers X b e a b' → cursors_heard (map cursor_of b.receivers) e (slice_index b.side.words (register step.op)) a ≡ map cursor_of b'.receivers
+    cursors_move b' (Put p bytes) a step due d w = ap (map cursor_of) (sym d.1)
+    cursors_move b' (Close p) a step due d w = ap (map cursor_of) (sym d.1)
+    cursors_move b' (Turn p word) a step due d w = ap (map cursor_of) (sym d.1)
+    cursors_move b' (Stop p) a step due d w = ap (map cursor_of) (sym d.1)
+    cursors_move b' (Recv r) a step due d w = recv_moves r (slice_get b.receivers r) a b'.receivers step refl w due
 
     -- no place passes the log's words
-    short_at : (r : ℕ) (o : Option Receiving) → slice_get b.receivers r ≡ o → (t : Spot) → option_map spot_of o ≡ Some t → t.place ≤ x.capacity
+    short_at : (r : ℕ) (o : Option Receiving) → slice_get b.receivers r ≡ o → (t : Cursor) → option_map cursor_of o ≡ Some t → t.place ≤ x.capacity
     short_at r None is t e = absurd cc
     short_at r (Some v) is t e =
         let i = reader r v is in
-        let same : v.place ≡ t.place = ap (λ (z : Spot). z.place) (same_Some _ _ e) in
+        let same : v.place ≡ t.place = ap (λ (z : Cursor). z.place) (same_Some _ _ e) in
         let a = i.receives.place_below in let k = i.receives.known_below in let f = h.lawful.keeps.sending.log.fits in
         omega arith
 
-    pub place_few : (r : ℕ) (t : Spot) → slice_get (map spot_of b.receivers) r ≡ Some t → t.place ≤ 65536
+    pub place_few : (r : ℕ) (t : Cursor) → slice_get (map cursor_of b.receivers) r ≡ Some t → t.place ≤ 65536
     place_few r t e =
-        let below = short_at r (slice_get b.receivers r) refl t (sym (slice_get-map spot_of b.receivers r) ∙ e) in let few = h.capacity_few in
+        let below = short_at r (slice_get b.receivers r) refl t (sym (slice_get-map cursor_of b.receivers r) ∙ e) in let few = h.capacity_few in
         omega arith
 
-    fits_by : (log : ℕ) (o : Option Spot) → ((t : Spot) → o ≡ Some t → t.place ≤ 65536) → log ≤ 2 ^ 32 → IfSome o (λ t. log + t.place < 2 ^ 64)
+    fits_by : (log : ℕ) (o : Option Cursor) → ((t : Cursor) → o ≡ Some t → t.place ≤ 65536) → log ≤ 2 ^ 32 → IfSome o (λ t. log + t.place < 2 ^ 64)
     fits_by log None few l = tt
     fits_by log (Some t) few l = let f = few t refl in omega arith
 
-    pub place_fits : (log r : ℕ) (spots : List Spot) → spots ≡ map spot_of b.receivers → log ≤ 2 ^ 32 → IfSome (slice_get spots r) (λ t. log + t.place < 2 ^ 64)
-    place_fits log r spots is l = fits_by log (slice_get spots r) (λ t e. place_few r t (ap (λ z. slice_get z r) (sym is) ∙ e)) l
+    pub place_fits : (log r : ℕ) (cursors : List Cursor) → cursors ≡ map cursor_of b.receivers → log ≤ 2 ^ 32 → IfSome (slice_get cursors r) (λ t. log + t.place < 2 ^ 64)
+    place_fits log r cursors is l = fits_by log (slice_get cursors r) (λ t e. place_few r t (ap (λ z. slice_get z r) (sym is) ∙ e)) l
 
-    pub are_short : (spots : List Spot) → spots ≡ map spot_of b.receivers → AreShort spots
-    are_short spots is r t e unread = let f = place_few r t (ap (λ z. slice_get z r) (sym is) ∙ e) in omega arith
+    pub are_short : (cursors : List Cursor) → cursors ≡ map cursor_of b.receivers → AreShort cursors
+    are_short cursors is r t e unread = let f = place_few r t (ap (λ z. slice_get z r) (sym is) ∙ e) in omega arith
 
     reads_here : (r : ℕ) (o : Option Receiving) → slice_get b.receivers r ≡ o → IfSome o (λ v. (v.log_at ≡ log_at x) × (v.length_at ≡ 0))
     reads_here r None is = tt
     reads_here r (Some v) is = let i = reader r v is in (i.log, i.len_at)
 
-    pub receiver_is : (r : ℕ) → spot_due (log_at x) (slice_get (map spot_of b.receivers) r) ≡ receiver_due (slice_get b.receivers r)
-    receiver_is r = ap (spot_due (log_at x)) (slice_get-map spot_of b.receivers r) ∙ receiver_due_is (log_at x) (slice_get b.receivers r) (reads_here r (slice_get b.receivers r) refl)
+    pub receiver_is : (r : ℕ) → cursor_due (log_at x) (slice_get (map cursor_of b.receivers) r) ≡ receiver_due (slice_get b.receivers r)
+    receiver_is r = ap (cursor_due (log_at x)) (slice_get-map cursor_of b.receivers r) ∙ receiver_due_is (log_at x) (slice_get b.receivers r) (reads_here r (slice_get b.receivers r) refl)
 
     -- ---- what is due can be done
     sender_can : (p word : ℕ) (o : Option (Core E)) (step : Step) → slice_get b.side.senders p ≡ o → sender_due X o word ≡ Some step → ((c : Core E) → o ≡ Some c → register step.op < words_of c.layout) → CanStep b.side.words step.op
@@ -275,26 +275,26 @@ module _ {E : Type 0} (X : Election E) (P : Protocol E (Unit {0}) ℕ) (x : Layo
     no_sender_due p word many = none_due X (slice_get b.side.senders p) word (sym (slice_get_past b.side.senders p (let a = h.senders in let few = h.senders_few in omega arith)))
 
   -- ---- after an event
-  pub watched_after : (z z' : SizedBus E) (e : Event) (a : Answer) (words words' : List ℕ) (spots spots' : List Spot) → IsWatched X P x z words spots → z'.layout ≡ z.layout → IsEvent e → Happens X z.bus e z'.bus → Answers X z.bus e a z'.bus
-      → words' ≡ words_stepped words (due_by X z.bus e) → (map spot_of z.bus.receivers ≡ spots → spots' ≡ map spot_of z'.bus.receivers) → IsWatched X P x z' words' spots'
-  watched_after z z' e a words words' spots spots' w same is d answers words_are spots_are = record {
+  pub watched_after : (z z' : SizedBus E) (e : Event) (a : Answer) (words words' : List ℕ) (cursors cursors' : List Cursor) → IsWatched X P x z words cursors → z'.layout ≡ z.layout → IsEvent e → Happens X z.bus e z'.bus → Answers X z.bus e a z'.bus
+      → words' ≡ words_stepped words (due_by X z.bus e) → (map cursor_of z.bus.receivers ≡ cursors → cursors' ≡ map cursor_of z'.bus.receivers) → IsWatched X P x z' words' cursors'
+  watched_after z z' e a words words' cursors cursors' w same is d answers words_are cursors_are = record {
     layout = same ∙ w.layout;
     served = sitting_after X P x s.laws s.width s.starts s.owner_is z.bus z'.bus e a w.served is d answers;
     words_are = words_are ∙ ap (λ l. words_stepped l (due_by X z.bus e)) w.words_are ∙ sym (words_move z.bus w.served z'.bus e a d answers);
-    spots_are = spots_are (sym w.spots_are);
+    cursors_are = cursors_are (sym w.cursors_are);
   }
 
   -- ---- a new bus
-  all_new : (xs : List Receiving) → ((r : ℕ) (v : Receiving) → slice_get xs r ≡ Some v → spot_of v ≡ new_spot) → replicate (length xs) new_spot ≡ map spot_of xs
+  all_new : (xs : List Receiving) → ((r : ℕ) (v : Receiving) → slice_get xs r ≡ Some v → cursor_of v ≡ new_cursor) → replicate (length xs) new_cursor ≡ map cursor_of xs
   all_new [] each = refl
-  all_new (v ∷ xs) each = ap (λ t. t ∷ replicate (length xs) new_spot) (sym (each 0 v refl)) ∙ ap (λ l. spot_of v ∷ l) (all_new xs (λ r. each (suc r)))
+  all_new (v ∷ xs) each = ap (λ t. t ∷ replicate (length xs) new_cursor) (sym (each 0 v refl)) ∙ ap (λ l. cursor_of v ∷ l) (all_new xs (λ r. each (suc r)))
 
-  start : (v : Receiving) → v.known ≡ 0 → v.place ≡ 0 → v.ended ≡ false → spot_of v ≡ new_spot
+  start : (v : Receiving) → v.known ≡ 0 → v.place ≡ 0 → v.ended ≡ false → cursor_of v ≡ new_cursor
   start v k p e = ap (λ n. record { known = n; place = v.place; ended = v.ended }) k ∙ ap (λ n. record { known = 0; place = n; ended = v.ended }) p ∙ ap (λ n. record { known = 0; place = 0; ended = n }) e
 
-  pub watched_new : (z : SizedBus E) (words : List ℕ) (spots : List Spot) (many : ℕ) → x.senders ≤ MOST_SENDERS → x.rows ≤ MOST_ROWS → x.capacity ≤ MOST_LOG_WORDS → length z.bus.side.senders ≡ x.senders → length z.bus.receivers ≡ many → z.layout ≡ x → IsNew x z.bus
-      → words ≡ replicate (words_of x) 0 → spots ≡ replicate many new_spot → IsWatched X P x z words spots
-  watched_new z words spots many senders_few rows_few capacity_few senders receivers layout new words_are spots_are = record {
+  pub watched_new : (z : SizedBus E) (words : List ℕ) (cursors : List Cursor) (many : ℕ) → x.senders ≤ MOST_SENDERS → x.rows ≤ MOST_ROWS → x.capacity ≤ MOST_LOG_WORDS → length z.bus.side.senders ≡ x.senders → length z.bus.receivers ≡ many → z.layout ≡ x → IsNew x z.bus
+      → words ≡ replicate (words_of x) 0 → cursors ≡ replicate many new_cursor → IsWatched X P x z words cursors
+  watched_new z words cursors many senders_few rows_few capacity_few senders receivers layout new words_are cursors_are = record {
     layout = layout;
     served = record {
       senders_few = senders_few;
@@ -307,5 +307,5 @@ module _ {E : Type 0} (X : Election E) (P : Protocol E (Unit {0}) ℕ) (x : Layo
       reached = New z.bus new;
     };
     words_are = words_are ∙ sym new.words;
-    spots_are = spots_are ∙ ap (λ n. replicate n new_spot) (sym receivers) ∙ all_new z.bus.receivers (λ r v e. let n = new.receivers r v e in start v n.4 n.5 n.6);
+    cursors_are = cursors_are ∙ ap (λ n. replicate n new_cursor) (sym receivers) ∙ all_new z.bus.receivers (λ r v e. let n = new.receivers r v e in start v n.4 n.5 n.6);
   }

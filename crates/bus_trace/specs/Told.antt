@@ -4,7 +4,7 @@ use Rattle.bus_register.specs.Words.{register}
 use Rattle.bus_world.specs.World.{Event, Put, Close, Turn, Recv, Stop}
 use Rattle.bus_world.specs.declared.events.Answer.{Answer}
 use Rattle.bus_replay.specs.Text.{answer_text}
-use Rattle.bus_trace.specs.Words.{Sizes, word_name}
+use Rattle.bus_trace.specs.Words.{TraceSizes, word_name}
 use Rattle.bus_register.specs.Names.{kind_name}
 use Rattle.bus_trace.specs.Rows.{column, tenure_text, no_step, who_text}
 use Rattle.bus_trace.specs.declared.seen.Seen.{Seen}
@@ -17,15 +17,15 @@ name_told (Turn s word) = codes "-"
 name_told (Recv r) = codes "-"
 name_told (Stop s) = codes "stop"
 
-abbrev pub seen_columns : Sizes → Seen → List ℕ
+abbrev pub seen_columns : TraceSizes → Seen → List ℕ
 seen_columns p s = column (tenure_text s.step.tenure) ++ column (kind_name s.step.kind) ++ column (word_name p (register s.step.op)) ++ column (decimal s.found) ++ column (decimal s.left)
 
-abbrev pub seen_told : Sizes → Event → Option Seen → List ℕ
+abbrev pub seen_told : TraceSizes → Event → Option Seen → List ℕ
 seen_told p e None = no_step (name_told e)
 seen_told p e (Some s) = seen_columns p s
 
 -- all columns but the number
-abbrev pub row_told : Sizes → ℕ → Event → Option Seen → Answer → List ℕ
+abbrev pub row_told : TraceSizes → ℕ → Event → Option Seen → Answer → List ℕ
 row_told p line e seen a = column (decimal line) ++ who_text e ++ seen_told p e seen ++ answer_text a
 
 -- with the number

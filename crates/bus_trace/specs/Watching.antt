@@ -17,9 +17,9 @@ use Rattle.bus_world.specs.World.{Bus, Event, Put, Close, Turn, Recv, Stop}
 use Rattle.bus_world.specs.Playing.{SizedBus}
 use Rattle.bus_world.specs.declared.events.Answer.{Answer}
 use Rattle.bus_world.specs.declared.events.Answer.TheVariants as answer
-use Rattle.bus_world.specs.Trails.{IsServedBus}
+use Rattle.bus_world.specs.Trails.{MachineInvariant}
 use Rattle.bus_trace.specs.declared.seen.Seen.{Seen}
-use Rattle.bus_trace.specs.declared.seen.Spot.{Spot}
+use Rattle.bus_trace.specs.declared.seen.Cursor.{Cursor}
 use Rattle.bus_trace.specs.declared.seen.Step.{Step}
 
 -- ---- the step that is due
@@ -47,7 +47,7 @@ due_by X b (Stop s) = None
 -- and on a bus whose rows are used again
 abbrev pub guest_due : {E : Type 0} → Election E → Option (Visitor E) → ℕ → Option Step
 guest_due X None word = None
-guest_due X (Some v) word = step_of (tenure_begun_by v.core v.visit) (kind_due X v (due X v)) (op_next X v word)
+guest_due X (Some v) word = step_of (tenure_begun_by v.core v.pin) (kind_due X v (due X v)) (op_next X v word)
 
 abbrev pub ring_due_by : {E : Type 0} → Election E → Ring E → Event → Option Step
 ring_due_by X b (Put s bytes) = None
@@ -67,50 +67,50 @@ pub record CanStep (words : List ℕ) (o : Op) : Type 0 where
   pub sums : SumFits o (slice_index words (register o))
 
 -- ---- how far a receiver is
-abbrev pub spot_of : Receiving → Spot
-spot_of v = record { known = v.known; place = v.place; ended = v.ended }
+abbrev pub cursor_of : Receiving → Cursor
+cursor_of v = record { known = v.known; place = v.place; ended = v.ended }
 
 -- one that has read nothing
-abbrev pub new_spot : Spot
-new_spot = record { known = 0; place = 0; ended = false }
+abbrev pub new_cursor : Cursor
+new_cursor = record { known = 0; place = 0; ended = false }
 
-abbrev pub spot_due : ℕ → Option Spot → Option Step
-spot_due log None = None
-spot_due log (Some s) =
+abbrev pub cursor_due : ℕ → Option Cursor → Option Step
+cursor_due log None = None
+cursor_due log (Some s) =
     if s.ended then None else
     (if s.place == s.known then Some (record { tenure = None; kind = LoadLength; op = Load (record { 0 = 0 }) }) else
     Some (record { tenure = None; kind = LoadLogWord; op = Load (record { 0 = log + s.place }) }))
 
 -- after a load that found this number and was answered so
-abbrev pub spot_after : Spot → ℕ → RecvTurn → Spot
-spot_after s found turn = if s.place == s.known then record s { known = found } else record s { place = s.place + 1; ended = end_heard turn }
+abbrev pub cursor_after : Cursor → ℕ → RecvTurn → Cursor
+cursor_after s found turn = if s.place == s.known then record s { known = found } else record s { place = s.place + 1; ended = end_heard turn }
 
-abbrev pub spot_heard : List Spot → ℕ → Option Spot → ℕ → RecvTurn → List Spot
-spot_heard spots r None found turn = spots
-spot_heard spots r (Some s) found turn = slice_set spots r (spot_after s found turn)
+abbrev pub cursor_heard : List Cursor → ℕ → Option Cursor → ℕ → RecvTurn → List Cursor
+cursor_heard cursors r None found turn = cursors
+cursor_heard cursors r (Some s) found turn = slice_set cursors r (cursor_after s found turn)
 
-abbrev pub answer_heard : List Spot → ℕ → ℕ → Answer → List Spot
-answer_heard spots r found (answer.Number n) = spots
-answer_heard spots r found answer.Closing = spots
-answer_heard spots r found (answer.Turn t) = spots
-answer_heard spots r found answer.Stopped = spots
-answer_heard spots r found (answer.Recv t) = spot_heard spots r (slice_get spots r) found t
+abbrev pub answer_heard : List Cursor → ℕ → ℕ → Answer → List Cursor
+answer_heard cursors r found (answer.Number n) = cursors
+answer_heard cursors r found answer.Closing = cursors
+answer_heard cursors r found (answer.Turn t) = cursors
+answer_heard cursors r found answer.Stopped = cursors
+answer_heard cursors r found (answer.Recv t) = cursor_heard cursors r (slice_get cursors r) found t
 
 -- after an event whose step found this number
-abbrev pub spots_heard : List Spot → Event → ℕ → Answer → List Spot
-spots_heard spots (Put s bytes) found a = spots
-spots_heard spots (Close s) found a = spots
-spots_heard spots (Turn s word) found a = spots
-spots_heard spots (Recv r) found a = answer_heard spots r found a
-spots_heard spots (Stop s) found a = spots
+abbrev pub cursors_heard : List Cursor → Event → ℕ → Answer → List Cursor
+cursors_heard cursors (Put s bytes) found a = cursors
+cursors_heard cursors (Close s) found a = cursors
+cursors_heard cursors (Turn s word) found a = cursors
+cursors_heard cursors (Recv r) found a = answer_heard cursors r found a
+cursors_heard cursors (Stop s) found a = cursors
 
 -- one more word can be counted
-abbrev pub AreShort : List Spot → Type 0
-AreShort spots = (r : ℕ) (s : Spot) → slice_get spots r ≡ Some s → s.place ≢ s.known → s.place + 1 < 2 ^ 64
+abbrev pub AreShort : List Cursor → Type 0
+AreShort cursors = (r : ℕ) (s : Cursor) → slice_get cursors r ≡ Some s → s.place ≢ s.known → s.place + 1 < 2 ^ 64
 
--- the words are those of the bus, and the spots those of its receivers
-pub record IsWatched {E : Type 0} (X : Election E) (P : Protocol E (Unit {0}) ℕ) (x : Layout) (z : SizedBus E) (words : List ℕ) (spots : List Spot) : Type 0 where
+-- the words are those of the bus, and the cursors those of its receivers
+pub record IsWatched {E : Type 0} (X : Election E) (P : Protocol E (Unit {0}) ℕ) (x : Layout) (z : SizedBus E) (words : List ℕ) (cursors : List Cursor) : Type 0 where
   pub layout : z.layout ≡ x
-  pub served : IsServedBus X P record { layout = x; bus = z.bus }
+  pub served : MachineInvariant X P record { layout = x; bus = z.bus }
   pub words_are : words ≡ z.bus.side.words
-  pub spots_are : spots ≡ map spot_of z.bus.receivers
+  pub cursors_are : cursors ≡ map cursor_of z.bus.receivers

@@ -9,10 +9,10 @@ use Rattle.bus_tenure.specs.Core.{log_at}
 use Rattle.bus_world.specs.Playing.{layout_of}
 use Rattle.bus_world.specs.declared.shapes.Shape.{Shape}
 use Rattle.bus_replay.specs.Text.{behind}
-use Rattle.bus_trace.specs.declared.places.Places.{Places}
+use Rattle.bus_trace.specs.declared.memory_maps.MemoryMap.{MemoryMap}
 
 -- the sizes by which words are named
-pub record Sizes : Type 0 where
+pub record TraceSizes : Type 0 where
   pub senders : ℕ
   -- how many presences: none where each tenure has a row of its own, else one for each sender
   pub presences : ℕ
@@ -26,11 +26,11 @@ pub record Sizes : Type 0 where
   pub log : ℕ
 
 -- as a program holds them
-abbrev pub sizes_told : Places → Sizes
+abbrev pub sizes_told : MemoryMap → TraceSizes
 sizes_told p = record { senders = p.senders; presences = p.presences; rounds = p.rounds; ratifier = p.ratifier; decision = p.decision; row = p.row; log = p.log }
 
 -- the sizes of a bus of this shape that has a row for each tenure, over such ratifiers
-abbrev pub sizes_of : {S : Type 0} → Protocol S Bool Verdict → Shape → Sizes
+abbrev pub sizes_of : {S : Type 0} → Protocol S Bool Verdict → Shape → TraceSizes
 sizes_of P shape = record {
   senders = shape.senders;
   presences = 0;
@@ -42,7 +42,7 @@ sizes_of P shape = record {
 }
 
 -- and of one whose rows are used again: it has a presence for each sender
-abbrev pub ring_sizes_of : {S : Type 0} → Protocol S Bool Verdict → Shape → Sizes
+abbrev pub ring_sizes_of : {S : Type 0} → Protocol S Bool Verdict → Shape → TraceSizes
 ring_sizes_of P shape = record {
   senders = shape.senders;
   presences = shape.senders;
@@ -54,32 +54,32 @@ ring_sizes_of P shape = record {
 }
 
 -- a ratifier of three words has two inputs and a proposal; the words of another one are numbered
-abbrev pub ratifier_word : Sizes → ℕ → List ℕ
+abbrev pub ratifier_word : TraceSizes → ℕ → List ℕ
 ratifier_word p k =
     if p.ratifier == 3 then (if k == 0 then codes "input 0" else (if k == 1 then codes "input 1" else codes "proposal")) else
     (codes "word" ++ behind k)
 
 -- of a round: the words of its conciliator, and then those of its ratifier
-abbrev pub round_word : Sizes → ℕ → List ℕ
+abbrev pub round_word : TraceSizes → ℕ → List ℕ
 round_word p k =
     if k == 0 then codes "mark 0" else
     (if k == 1 then codes "mark 1" else
     (if k == 2 then codes "counter" else ratifier_word p (k - 3)))
 
 -- Of a binary decision: its rounds, and then the fallback word. The first round has no conciliator, so three words less.
-abbrev pub decision_word : Sizes → ℕ → List ℕ
+abbrev pub decision_word : TraceSizes → ℕ → List ℕ
 decision_word p k =
     if (k + 3) / (3 + p.ratifier) == p.rounds then codes "fallback" else
     (codes "round" ++ behind ((k + 3) / (3 + p.ratifier) + 1) ++ 32 ∷ round_word p ((k + 3) % (3 + p.ratifier)))
 
 -- of a row: the announcements, and then the decision of each bit, from the lowest
-abbrev pub row_word : Sizes → ℕ → List ℕ
+abbrev pub row_word : TraceSizes → ℕ → List ℕ
 row_word p k =
     if nat_lt k p.senders then codes "announcement" ++ behind k else
     (codes "bit" ++ behind ((k - p.senders) / p.decision) ++ 32 ∷ decision_word p ((k - p.senders) % p.decision))
 
 -- the length, the stage, the presences, the rows, and the log
-abbrev pub word_name : Sizes → ℕ → List ℕ
+abbrev pub word_name : TraceSizes → ℕ → List ℕ
 word_name p r =
     if r == 0 then codes "length" else
     (if r == 1 then codes "stage" else

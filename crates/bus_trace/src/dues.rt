@@ -6,10 +6,10 @@ ghost use Rattle.bus_register.specs.Words.{register};
 ghost use Rattle.bus_tenure.specs.Core.{Core, words_of};
 ghost use Rattle.bus_tenure.specs.Elections.{Elector, election_of};
 ghost use Rattle.bus_world.specs.Playing.{event_told};
-ghost use Rattle.bus_trace.specs.Watching.{sender_due, new_spot, spot_due, spot_after};
-ghost use Rattle.bus_trace.specs.Watching.{AreShort, spots_heard};
+ghost use Rattle.bus_trace.specs.Watching.{sender_due, new_cursor, cursor_due, cursor_after};
+ghost use Rattle.bus_trace.specs.Watching.{AreShort, cursors_heard};
 
-use crate::seen::{Spot, Step};
+use crate::seen::{Cursor, Step};
 use bus_adoptcommit::Ratifier;
 use bus_deliverylog::RecvTurn;
 use bus_register::{Kind, NoMemory, Op, Reg, SenderNo};
@@ -17,18 +17,18 @@ use bus_world::{Answer, Event, World};
 use std::alloc::Global;
 
 /// So many receivers that have read nothing.
-pub fn new_spots(alloc: Global, receivers: u64) -> Result<Vec<Spot>, NoMemory>
-    ensures { IfOk result (λ spots. spots.items ≡ replicate receivers new_spot) }
+pub fn new_cursors(alloc: Global, receivers: u64) -> Result<Vec<Cursor>, NoMemory>
+    ensures { IfOk result (λ cursors. cursors.items ≡ replicate receivers new_cursor) }
 {
-    let mut spots = Vec::new(alloc);
+    let mut cursors = Vec::new(alloc);
     for _ in 0..receivers {
-        spots.push(Spot {
+        cursors.push(Cursor {
             known: 0,
             place: 0,
             ended: false,
         })?;
     }
-    Ok(spots)
+    Ok(cursors)
 }
 
 /// The step that a sender is to take with this random word, if it takes one.
@@ -57,16 +57,16 @@ pub fn due_of_sender<Q: Ratifier + Drop>(world: &World<Q>, sender: u8, word: u32
 
 /// The load that a receiver is to make, if it makes one. `log` is the place of the log's first
 /// word.
-pub fn due_of_receiver(spots: &[Spot], log: u64, receiver: u64) -> Option<Step>
-    requires { IfSome (slice_get spots.now receiver) (λ spot. log + spot.place < 2 ^ 64) }
-    ensures { result ≡ spot_due log (slice_get spots.now receiver) }
+pub fn due_of_receiver(cursors: &[Cursor], log: u64, receiver: u64) -> Option<Step>
+    requires { IfSome (slice_get cursors.now receiver) (λ cursor. log + cursor.place < 2 ^ 64) }
+    ensures { result ≡ cursor_due log (slice_get cursors.now receiver) }
 {
-    let Some(spot) = spots.get(receiver as usize) else {
+    let Some(cursor) = cursors.get(receiver as usize) else {
         return None;
     };
-    if spot.ended {
+    if cursor.ended {
         None
-    } else if spot.place == spot.known {
+    } else if cursor.place == cursor.known {
         Some(Step {
             tenure: None,
             kind: Kind::LoadLength,
@@ -76,36 +76,36 @@ pub fn due_of_receiver(spots: &[Spot], log: u64, receiver: u64) -> Option<Step>
         Some(Step {
             tenure: None,
             kind: Kind::LoadLogWord,
-            op: Op::Load(Reg(log + spot.place)),
+            op: Op::Load(Reg(log + cursor.place)),
         })
     }
 }
 
 /// How far a receiver is after a load that found this number and was answered so.
-fn spot_after(spot: Spot, found: u64, turn: &RecvTurn) -> Spot
-    requires { spot.place ≢ spot.known → spot.place + 1 < 2 ^ 64 }
-    ensures { result ≡ spot_after spot found turn.now }
+fn cursor_after(cursor: Cursor, found: u64, turn: &RecvTurn) -> Cursor
+    requires { cursor.place ≢ cursor.known → cursor.place + 1 < 2 ^ 64 }
+    ensures { result ≡ cursor_after cursor found turn.now }
 {
-    if spot.place == spot.known {
-        Spot {
+    if cursor.place == cursor.known {
+        Cursor {
             known: found,
-            place: spot.place,
-            ended: spot.ended,
+            place: cursor.place,
+            ended: cursor.ended,
         }
     } else {
-        Spot {
-            known: spot.known,
-            place: spot.place + 1,
+        Cursor {
+            known: cursor.known,
+            place: cursor.place + 1,
             ended: matches!(turn, RecvTurn::End),
         }
     }
 }
 
 /// How far receivers are after an event whose step found this number.
-pub fn hear(spots: &mut Vec<Spot>, event: &Event, found: u64, answer: &Answer)
-    requires { AreShort spots.old.items }
-    ensures { spots.new.items
-        ≡ spots_heard spots.old.items (event_told event.now) found answer.now }
+pub fn hear(cursors: &mut Vec<Cursor>, event: &Event, found: u64, answer: &Answer)
+    requires { AreShort cursors.old.items }
+    ensures { cursors.new.items
+        ≡ cursors_heard cursors.old.items (event_told event.now) found answer.now }
 {
     let Event::Recv(receiver) = event else {
         return;
@@ -114,7 +114,7 @@ pub fn hear(spots: &mut Vec<Spot>, event: &Event, found: u64, answer: &Answer)
         return;
     };
     let place = *receiver as usize;
-    if place < spots.len() {
-        spots[place] = spot_after(spots[place], found, turn);
+    if place < cursors.len() {
+        cursors[place] = cursor_after(cursors[place], found, turn);
     }
 }

@@ -19,7 +19,7 @@ pub mod cycles;
 pub mod dues;
 pub mod laws;
 pub mod machines;
-pub mod places;
+pub mod memory_maps;
 pub mod playing;
 pub mod rows;
 pub mod seen;

@@ -8,7 +8,7 @@ ghost use Rattle.bus_world.specs.World.{Event as Happening};
 ghost use Rattle.bus_world.specs.declared.events.Answer.{Answer};
 ghost use Rattle.bus_world.specs.declared.events.StepFault.{StepFault};
 ghost use Rattle.bus_trace.specs.Told.{row_told};
-ghost use Rattle.bus_trace.specs.Words.{Sizes};
+ghost use Rattle.bus_trace.specs.Words.{TraceSizes};
 
 use crate::seen::Seen;
 use bus_world::{Answer, Event, StepFault};
@@ -20,14 +20,14 @@ pub trait Traceable {
 
     /// The line of an event: by these sizes, of a line of the script, of the state before it, of
     /// the event and of its answer.
-    ghost shows: { Sizes → ℕ → Self → Happening → Answer → List ℕ };
+    ghost shows: { TraceSizes → ℕ → Self → Happening → Answer → List ℕ };
 
     /// What happens next, the step that it took on a word, if it took one, and its answer.
     fn step(&mut self, event: &Event) -> Result<(Option<Seen>, Answer), StepFault>
         ensures happens { moves.happens self.old (event_told event.now) self.new }
         ensures answer { IfOk result
             (λ told. moves.answers self.old (event_told event.now) told.1 self.new) }
-        ensures shown { IfOk result (λ told. (sizes : Sizes) (line : ℕ)
+        ensures shown { IfOk result (λ told. (sizes : TraceSizes) (line : ℕ)
             → row_told sizes line (event_told event.now) told.0 told.1
             ≡ shows sizes line self.old (event_told event.now) told.1) }
         ensures fault { IfErr result (moves.refused self.old (event_told event.now)) };

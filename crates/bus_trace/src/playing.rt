@@ -6,7 +6,7 @@ ghost use Rattle.bus_trace.specs.Words.{sizes_told};
 ghost use Rattle.bus_trace.specs.Obeying.{IsCounted, IsRepeated, IsObeyed, ArePlayed};
 
 use crate::machines::Traceable;
-use crate::places::Places;
+use crate::memory_maps::MemoryMap;
 use crate::rows::push_row;
 use crate::sheets::Sheet;
 use bus_register::NoMemory;
@@ -21,14 +21,15 @@ use std::alloc::{AllocError, Global};
 fn repeat<W: Traceable>(
     bus: &mut W,
     sheet: &mut Sheet,
-    places: Places,
+    memory_map: MemoryMap,
     line: u64,
     event: &Event,
     times: u64,
 ) -> Result<Option<StepFault>, AllocError>
     requires some { 0 < times }
     requires counted { IsCounted (string_bytes sheet.old.text) sheet.old.lines }
-    ensures repeated { IfOk result (λ fault. IsRepeated W.moves (W.shows (sizes_told places)) line
+    ensures repeated { IfOk result
+        (λ fault. IsRepeated W.moves (W.shows (sizes_told memory_map)) line
         bus.old (event_told event.now) (times - 1) (string_bytes sheet.old.text) sheet.old.lines
         (string_bytes sheet.new.text) sheet.new.lines fault bus.new) }
     ensures counts { IfOk result (λ fault. fault ≡ None
@@ -38,14 +39,14 @@ fn repeat<W: Traceable>(
         Ok(told) => told,
         Err(fault) => return Ok(Some(fault)),
     };
-    push_row(sheet, places, line, event, seen, &last)?;
+    push_row(sheet, memory_map, line, event, seen, &last)?;
     let mut more = times - 1;
     while more > 0 && goes_on(&last) {
         let (seen, next) = match bus.step(event) {
             Ok(told) => told,
             Err(fault) => return Ok(Some(fault)),
         };
-        push_row(sheet, places, line, event, seen, &next)?;
+        push_row(sheet, memory_map, line, event, seen, &next)?;
         last = next;
         more -= 1;
     }
@@ -57,11 +58,12 @@ fn obey<W: Traceable>(
     alloc: Global,
     bus: &mut W,
     sheet: &mut Sheet,
-    places: Places,
+    memory_map: MemoryMap,
     line: Line<'_>,
 ) -> Result<Outcome, NoMemory>
     requires { IsCounted (string_bytes sheet.old.text) sheet.old.lines }
-    ensures obeyed { IfOk result (λ outcome. IsObeyed W.moves (W.shows (sizes_told places)) bus.old
+    ensures obeyed { IfOk result
+        (λ outcome. IsObeyed W.moves (W.shows (sizes_told memory_map)) bus.old
         (line.entry.number, line.entry.bytes.now) (string_bytes sheet.old.text) sheet.old.lines
         (string_bytes sheet.new.text) sheet.new.lines outcome bus.new) }
     ensures counts { IfOk result (λ outcome. outcome ≡ Outcome.Done
@@ -74,7 +76,7 @@ fn obey<W: Traceable>(
     match repeat(
         bus,
         sheet,
-        places,
+        memory_map,
         line.number,
         &command.event,
         command.times,
@@ -93,16 +95,16 @@ pub fn play<W: Traceable>(
     alloc: Global,
     bus: &mut W,
     sheet: &mut Sheet,
-    places: Places,
+    memory_map: MemoryMap,
     mut lines: Lines<'_>,
 ) -> Result<Outcome, NoMemory>
     requires { IsCounted (string_bytes sheet.old.text) sheet.old.lines }
-    ensures { IfOk result (λ outcome. ArePlayed W.moves (W.shows (sizes_told places)) bus.old
+    ensures { IfOk result (λ outcome. ArePlayed W.moves (W.shows (sizes_told memory_map)) bus.old
         lines.entry (string_bytes sheet.old.text) sheet.old.lines (string_bytes sheet.new.text)
         outcome bus.new) }
 {
     while let Some(line) = lines.next_line() {
-        match obey(alloc, bus, sheet, places, line)? {
+        match obey(alloc, bus, sheet, memory_map, line)? {
             Outcome::Done => {}
             Outcome::Refused => return Ok(Outcome::Refused),
         }

@@ -8,7 +8,7 @@ ghost use Rattle.bus_trace.specs.Obeying.{IsCounted};
 ghost use Rattle.bus_trace.specs.Told.{name_told, seen_columns, row_told, numbered_row};
 
 use crate::answers::push_answer;
-use crate::places::Places;
+use crate::memory_maps::MemoryMap;
 use crate::seen::{Seen, register_of};
 use crate::sheets::Sheet;
 use crate::words::push_word;
@@ -66,13 +66,14 @@ fn push_tenure(text: &mut String, tenure: Option<u64>) -> Result<(), AllocError>
 }
 
 /// Puts the columns of a step at the end of a text.
-fn push_seen(text: &mut String, places: Places, seen: Seen) -> Result<(), AllocError>
+fn push_seen(text: &mut String, memory_map: MemoryMap, seen: Seen) -> Result<(), AllocError>
     ensures { OnOk result
-        (string_bytes text.new ≡ string_bytes text.old ++ seen_columns (sizes_told places) seen) }
+        (string_bytes text.new ≡ string_bytes text.old
+        ++ seen_columns (sizes_told memory_map) seen) }
 {
     push_tenure(text, seen.step.tenure)?;
     push_column(text, seen.step.kind.name())?;
-    push_word(text, places, register_of(seen.step.op).0)?;
+    push_word(text, memory_map, register_of(seen.step.op).0)?;
     text.push_str("\t")?;
     push_number(text, seen.found)?;
     push_number(text, seen.left)
@@ -95,7 +96,7 @@ fn push_no_step(text: &mut String, event: &Event) -> Result<(), AllocError>
 /// Puts all columns but the number at the end of a text.
 fn push_columns(
     text: &mut String,
-    places: Places,
+    memory_map: MemoryMap,
     line: u64,
     event: &Event,
     seen: Option<Seen>,
@@ -103,12 +104,12 @@ fn push_columns(
 ) -> Result<(), AllocError>
     ensures { OnOk result
         (string_bytes text.new ≡ string_bytes text.old
-        ++ row_told (sizes_told places) line (event_told event.now) seen answer.now) }
+        ++ row_told (sizes_told memory_map) line (event_told event.now) seen answer.now) }
 {
     write!(text, "{line}\t")?;
     push_who(text, event)?;
     match seen {
-        Some(seen) => push_seen(text, places, seen)?,
+        Some(seen) => push_seen(text, memory_map, seen)?,
         None => push_no_step(text, event)?,
     }
     push_answer(text, answer)
@@ -117,7 +118,7 @@ fn push_columns(
 /// Puts the next line on a sheet.
 pub fn push_row(
     sheet: &mut Sheet,
-    places: Places,
+    memory_map: MemoryMap,
     line: u64,
     event: &Event,
     seen: Option<Seen>,
@@ -127,13 +128,13 @@ pub fn push_row(
     ensures text { OnOk result
         (string_bytes sheet.new.text ≡ string_bytes sheet.old.text
         ++ numbered_row (sheet.old.lines + 1)
-        (row_told (sizes_told places) line (event_told event.now) seen answer.now)) }
+        (row_told (sizes_told memory_map) line (event_told event.now) seen answer.now)) }
     ensures lines { OnOk result (sheet.new.lines ≡ sheet.old.lines + 1) }
     ensures counted { OnOk result (IsCounted (string_bytes sheet.new.text) sheet.new.lines) }
 {
     let number = sheet.lines + 1;
     write!(sheet.text, "{number}\t")?;
-    push_columns(&mut sheet.text, places, line, event, seen, answer)?;
+    push_columns(&mut sheet.text, memory_map, line, event, seen, answer)?;
     sheet.text.push_str("\n")?;
     sheet.lines = number;
     Ok(())

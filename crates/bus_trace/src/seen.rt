@@ -26,9 +26,9 @@ pub struct Seen {
     pub left: u64,
 }
 
-/// How far a receiver is.
+/// How far a receiver has read the log.
 #[derive(Clone, Copy, Debug, PartialEq, Eq)]
-pub struct Spot {
+pub struct Cursor {
     /// The length that it knows.
     pub known: u64,
     /// How many words it has read.

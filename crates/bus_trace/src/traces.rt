@@ -2,35 +2,35 @@
 
 ghost use Rattle.std.specs.Prelude.{◌≡◌, ◌++◌, Some, IfOk, string_bytes};
 ghost use Rattle.bus_tenure.specs.Elections.{election_of};
-ghost use Rattle.bus_script.specs.Places.{refusal_line};
+ghost use Rattle.bus_script.specs.LineNumbers.{refusal_line};
 ghost use Rattle.bus_script.specs.declared.answers.Outcome.TheVariants.{Refused};
 ghost use Rattle.bus_trace.specs.Rows.{header};
 ghost use Rattle.bus_trace.specs.Words.{sizes_told};
 ghost use Rattle.bus_trace.specs.Traces.{ArePrinted, Begins, IsTrace};
 
 use crate::machines::Traceable;
-use crate::places::Places;
+use crate::memory_maps::MemoryMap;
 use crate::playing::play;
 use crate::rows::new_sheet;
 use crate::watching::Watch;
-use crate::words::{places_of, ring_places_of};
+use crate::words::{memory_map_of, ring_memory_map_of};
 use bus_adoptcommit::Ratifier;
 use bus_cyclic::CyclicWorld;
 use bus_register::NoMemory;
 use bus_replay::lines::{FirstLine, first_of};
 use bus_replay::names::make_fault_name;
-use bus_script::{Answer, Lines, Outcome, Place, refusal_line};
+use bus_script::{Answer, LineNumber, Lines, Outcome, refusal_line};
 use bus_world::{MakeFault, Shape};
 use std::alloc::Global;
 
 /// The answer to a script that was refused before there was a bus.
-fn refused(alloc: Global, place: Place, name: &str) -> Result<Answer, NoMemory>
+fn refused(alloc: Global, line_number: LineNumber, name: &str) -> Result<Answer, NoMemory>
     ensures outcome { IfOk result (λ answer. answer.outcome ≡ Refused) }
     ensures text { IfOk result
-        (λ answer. string_bytes answer.text ≡ header ++ refusal_line place name.now) }
+        (λ answer. string_bytes answer.text ≡ header ++ refusal_line line_number name.now) }
 {
     let mut sheet = new_sheet(alloc)?;
-    let line = refusal_line(alloc, place, name)?;
+    let line = refusal_line(alloc, line_number, name)?;
     sheet.text.push_str(&line)?;
     Ok(Answer {
         outcome: Outcome::Refused,
@@ -42,14 +42,14 @@ fn refused(alloc: Global, place: Place, name: &str) -> Result<Answer, NoMemory>
 fn trace_from<W: Traceable + Drop>(
     alloc: Global,
     mut bus: W,
-    places: Places,
+    memory_map: MemoryMap,
     lines: Lines<'_>,
 ) -> Result<Answer, NoMemory>
-    ensures { IfOk result (λ answer. ArePrinted W.moves (W.shows (sizes_told places)) bus
+    ensures { IfOk result (λ answer. ArePrinted W.moves (W.shows (sizes_told memory_map)) bus
         lines.entry answer.outcome (string_bytes answer.text)) }
 {
     let mut sheet = new_sheet(alloc)?;
-    let outcome = play(alloc, &mut bus, &mut sheet, places, lines)?;
+    let outcome = play(alloc, &mut bus, &mut sheet, memory_map, lines)?;
     Ok(Answer {
         outcome,
         text: sheet.text,
@@ -68,9 +68,9 @@ fn trace_of_shape<Q: Ratifier + Drop>(
         lines.entry answer.outcome (string_bytes answer.text)) }
 {
     match Watch::<Q>::new(alloc, shape) {
-        Ok(watch) => trace_from(alloc, watch, places_of::<Q>(shape), lines),
+        Ok(watch) => trace_from(alloc, watch, memory_map_of::<Q>(shape), lines),
         Err(MakeFault::NoMemory) => Err(NoMemory),
-        Err(fault) => refused(alloc, Place::AtLine(number), make_fault_name(fault)),
+        Err(fault) => refused(alloc, LineNumber::AtLine(number), make_fault_name(fault)),
     }
 }
 
@@ -86,9 +86,9 @@ fn trace_of_cycle<Q: Ratifier + Drop>(
         lines.entry answer.outcome (string_bytes answer.text)) }
 {
     match CyclicWorld::<Q>::new(alloc, shape) {
-        Ok(world) => trace_from(alloc, world, ring_places_of::<Q>(shape), lines),
+        Ok(world) => trace_from(alloc, world, ring_memory_map_of::<Q>(shape), lines),
         Err(MakeFault::NoMemory) => Err(NoMemory),
-        Err(fault) => refused(alloc, Place::AtLine(number), make_fault_name(fault)),
+        Err(fault) => refused(alloc, LineNumber::AtLine(number), make_fault_name(fault)),
     }
 }
 
@@ -102,11 +102,11 @@ pub fn trace_of<Q: Ratifier + Drop>(alloc: Global, input: &[u8]) -> Result<Answe
 {
     let mut lines = Lines::new(input);
     let Some(first) = lines.next_line() else {
-        return refused(alloc, Place::AtEnd, "BadLine");
+        return refused(alloc, LineNumber::AtEnd, "BadLine");
     };
     match first_of(first.bytes) {
         Some(FirstLine::Shape(shape)) => trace_of_shape::<Q>(alloc, shape, first.number, lines),
         Some(FirstLine::Cycle(shape)) => trace_of_cycle::<Q>(alloc, shape, first.number, lines),
-        None => refused(alloc, Place::AtLine(first.number), "BadLine"),
+        None => refused(alloc, LineNumber::AtLine(first.number), "BadLine"),
     }
 }

@@ -7,8 +7,8 @@ ghost use Rattle.bus_world.specs.Playing.{event_told, layout_of, Answers, Refuse
 ghost use Rattle.bus_world.specs.Playing.{MakeRefused};
 ghost use Rattle.bus_trace.specs.Watching.{due_by, seen_in, CanStep};
 
-use crate::dues::{due_of_receiver, due_of_sender, hear, new_spots};
-use crate::seen::{Seen, Spot, Step, register_of};
+use crate::dues::{due_of_receiver, due_of_sender, hear, new_cursors};
+use crate::seen::{Cursor, Seen, Step, register_of};
 use bus_adoptcommit::Ratifier;
 use bus_ownerbits::Election;
 use bus_ownerbits::laws::election_is_lawful;
@@ -26,7 +26,7 @@ pub struct Watch<Q: Ratifier> {
     /// Where the log begins.
     log: u64,
     cells: Cells,
-    spots: Vec<Spot>,
+    cursors: Vec<Cursor>,
 }
 
 impl<Q: Ratifier> Model for Watch<Q> {
@@ -43,7 +43,7 @@ impl<Q: Ratifier> Model for Watch<Q> {
     ghost invariant = { λ w. (w.log ≡ log_at (layout_of Q.protocol w.shape))
         × (w.log ≤ 2 ^ 32) × IsWatched (election_with Q.kind_of Q.op Q.fed Q.protocol)
         (elections Q.protocol w.shape.rounds) (layout_of Q.protocol w.shape) w.world w.cells
-        w.spots.items };
+        w.cursors.items };
 }
 
 impl<Q: Ratifier + Drop> Watch<Q> {
@@ -56,13 +56,13 @@ impl<Q: Ratifier + Drop> Watch<Q> {
         let world = World::new(alloc, shape)?;
         let log = 2 + shape.rows * Election::<Q>::width(shape.senders, shape.rounds);
         let cells = Cells::new(alloc, log + shape.log_words)?;
-        let spots = new_spots(alloc, shape.receivers)?;
+        let cursors = new_cursors(alloc, shape.receivers)?;
         Ok(Watch {
             shape,
             world,
             log,
             cells,
-            spots,
+            cursors,
         })
     }
 
@@ -82,7 +82,7 @@ impl<Q: Ratifier + Drop> Watch<Q> {
                     due_of_sender(&self.world, *sender as u8, *word)
                 }
             }
-            Event::Recv(receiver) => due_of_receiver(&self.spots, self.log, *receiver),
+            Event::Recv(receiver) => due_of_receiver(&self.cursors, self.log, *receiver),
         }
     }
 
@@ -109,7 +109,7 @@ impl<Q: Ratifier + Drop> Watch<Q> {
         };
         let found = self.cells.apply(step.op);
         let left = self.cells.get(register_of(step.op));
-        hear(&mut self.spots, event, found, &answer);
+        hear(&mut self.cursors, event, found, &answer);
         Ok((Some(Seen { step, found, left }), answer))
     }
 }

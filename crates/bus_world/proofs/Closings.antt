@@ -15,17 +15,17 @@ use Rattle.bus_tenure.specs.declared.pages.Page.{Page}
 use Rattle.bus_tenure.specs.declared.phases.Reason.{Reason}
 use Rattle.bus_tenure.specs.declared.phases.Reason.TheVariants.{Sent, FoundEnd, NoRoom}
 use Rattle.bus_tenure.specs.declared.phases.Phase.TheVariants as phase
-use Rattle.bus_world.specs.Headline.{Deed, HasClosed, Closed}
+use Rattle.bus_world.specs.Headline.{Action, HasClosed, Closed}
 use Rattle.bus_world.specs.Turning.{core_after, core_with_page}
 use Rattle.bus_world.proofs.Waiting.{frames_after}
 use Rattle.bus_world.proofs.Places.{got_before, got_after, got_split}
 
-pub record Closings {E : Type 0} (senders : ℕ → Option (Core E)) (frames : List Frame) (deeds : ℕ → List Deed) : Type 0 where
-  pub closing : (s : ℕ) (c : Core E) → senders s ≡ Some c → c.queue.phase ≡ Closing → Closed (deeds s)
-  pub ended : (i : ℕ) (f : Frame) → slice_get frames i ≡ Some f → f.body ≡ EndMark → Closed (deeds f.owner.0)
+pub record Closings {E : Type 0} (senders : ℕ → Option (Core E)) (frames : List Frame) (actions : ℕ → List Action) : Type 0 where
+  pub closing : (s : ℕ) (c : Core E) → senders s ≡ Some c → c.queue.phase ≡ Closing → Closed (actions s)
+  pub ended : (i : ℕ) (f : Frame) → slice_get frames i ≡ Some f → f.body ≡ EndMark → Closed (actions f.owner.0)
 
 -- it stays so in a longer trail
-pub still_closed : (xs ys : List Deed) → Closed xs → Closed (xs ++ ys)
+pub still_closed : (xs ys : List Action) → Closed xs → Closed (xs ++ ys)
 still_closed xs ys h = (h.0, got_before xs ys h.0 HasClosed h.1)
 
 -- ---- a turn makes no batch a closing one
@@ -94,8 +94,8 @@ turn_frames X c (StoresLength t page stored) frames D old new = λ i f at ends. 
 turn_frames X c z frames D old new = old
 
 -- ---- the trails of all, of which that of one may have more
-module _ {E : Type 0} (senders : ℕ → Option (Core E)) (frames : List Frame) (D : ℕ → List Deed) (h : Closings senders frames D) (p : ℕ) (c : Core E) (old : senders p ≡ Some c) (ds : List Deed) where
-  abbrev now : ℕ → List Deed
+module _ {E : Type 0} (senders : ℕ → Option (Core E)) (frames : List Frame) (D : ℕ → List Action) (h : Closings senders frames D) (p : ℕ) (c : Core E) (old : senders p ≡ Some c) (ds : List Action) where
+  abbrev now : ℕ → List Action
   now = λ q. D q ++ cond (q == p) ds []
 
   later : (q : ℕ) → Closed (D q) → Closed (now q)
@@ -107,7 +107,7 @@ module _ {E : Type 0} (senders : ℕ → Option (Core E)) (frames : List Frame) 
     | inr n ↦ absurd (n.1 refl)
   ]
 
-  -- the sender goes on with another batch and maybe a frame more; where its batch is closing it was so before, or its deed is a close
+  -- the sender goes on with another batch and maybe a frame more; where its batch is closing it was so before, or its action is a close
   pub closings_on : (senders' : ℕ → Option (Core E)) → Beside p senders senders' → (c' : Core E) → senders' p ≡ Some c' → (frames' : List Frame) → (c'.queue.phase ≡ Closing → Closed (now p))
       → ((i : ℕ) (f : Frame) → slice_get frames' i ≡ Some f → f.body ≡ EndMark → Closed (now f.owner.0)) → Closings senders' frames' now
   closings_on senders' beside c' new frames' own ends = record {
@@ -130,7 +130,7 @@ module _ {E : Type 0} (senders : ℕ → Option (Core E)) (frames : List Frame) 
   own_closes = own_later
 
 -- on lists
-pub closings_after : {E : Type 0} (senders : List (Core E)) (frames : List Frame) (D : ℕ → List Deed) → Closings (slice_get senders) frames D → (p : ℕ) (c : Core E) → slice_get senders p ≡ Some c → (ds : List Deed) → (c' : Core E) (frames' : List Frame)
+pub closings_after : {E : Type 0} (senders : List (Core E)) (frames : List Frame) (D : ℕ → List Action) → Closings (slice_get senders) frames D → (p : ℕ) (c : Core E) → slice_get senders p ≡ Some c → (ds : List Action) → (c' : Core E) (frames' : List Frame)
     → (c'.queue.phase ≡ Closing → Closed (D p ++ cond (p == p) ds [])) → ((i : ℕ) (f : Frame) → slice_get frames' i ≡ Some f → f.body ≡ EndMark → Closed (D f.owner.0 ++ cond (f.owner.0 == p) ds [])) → Closings (slice_get (slice_set senders p c')) frames' (λ q. D q ++ cond (q == p) ds [])
 closings_after senders frames D h p c old ds c' frames' own ends =
     closings_on (slice_get senders) frames D h p c old ds (slice_get (slice_set senders p c')) (get_set_other senders p c') c' (get_set_same senders p c' (slice_get_within senders p c old)) frames' own ends

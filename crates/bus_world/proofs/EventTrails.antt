@@ -40,7 +40,7 @@ use Rattle.bus_world.specs.Bus.{IsLayout, Fits}
 use Rattle.bus_world.proofs.FrameOwners.{counted_from, owner_took, rise}
 use Rattle.bus_world.proofs.Beginning.{zeros}
 use Rattle.bus_world.proofs.BusLaws as bus
-use Rattle.bus_world.specs.Headline.{Deed, HasPut, HasClosed, Stepped, puts, Took, Closed, item_heard, end_heard, order_given, IsPrefix, Promises}
+use Rattle.bus_world.specs.Headline.{Action, HasPut, HasClosed, Stepped, puts, Took, Closed, item_heard, end_heard, order_given, IsPrefix, Promises}
 use Rattle.bus_world.specs.Log.{sent_count}
 use Rattle.bus_world.proofs.LogLaws.{length-read}
 use Rattle.bus_world.specs.Turning.{Side, side_after, core_after, number_found}
@@ -50,7 +50,7 @@ use Rattle.bus_world.proofs.WorldLaws.{event_left, event_puts, new_is_lawful}
 use Rattle.bus_world.specs.Playing.{AllAnswered, Answers, PutGives, CloseGives, TurnAnswers, RecvAnswers, log_of}
 use Rattle.bus_world.specs.declared.events.Answer.{Answer}
 use Rattle.bus_world.specs.declared.events.Answer.TheVariants as answer
-use Rattle.bus_world.specs.Trails.{Trails, no_trails, trails_grown, trails_after, deeds_of, put_deeds, close_deeds, turning_deeds, step_deed, heard_of, answer_heard, IsPromisedBy, IsPromised, StaysPromised, Follows, Played, Reached}
+use Rattle.bus_world.specs.Trails.{Trails, no_trails, trails_grown, trails_after, actions_of, put_actions, close_actions, turning_actions, step_action, heard_of, answer_heard, IsPromisedBy, IsPromised, StaysPromised, Follows, Played, Reached}
 use Rattle.bus_world.specs.Trails.Reached.{New, Then}
 use Rattle.bus_world.proofs.Stopping.{is_there}
 use Rattle.bus_world.proofs.Waiting.{frames_after, put_by, waiting_of, waiting_at, accepted, accepted_by, event_frames, frames_by}
@@ -88,9 +88,9 @@ none_some v e = cc
 none_in : {A : Type 0} (i : ℕ) (x : A) → slice_get [] i ≡ Some x → ⊥
 none_in i x e = cc
 
-pub only_deed : (d : Deed) (i : ℕ) (x : Deed) → slice_get (d ∷ []) i ≡ Some x → (i ≡ 0) × (d ≡ x)
-only_deed d zero x e = (refl, same_Some _ _ e)
-only_deed d (suc i) x e = absurd (none_in i x e)
+pub only_action : (d : Action) (i : ℕ) (x : Action) → slice_get (d ∷ []) i ≡ Some x → (i ≡ 0) × (d ≡ x)
+only_action d zero x e = (refl, same_Some _ _ e)
+only_action d (suc i) x e = absurd (none_in i x e)
 
 pub same_number : (n m : ℕ) (xs ys : List ℕ) → HasPut n xs ≡ HasPut m ys → n ≡ m
 same_number n m xs ys e = cc
@@ -101,14 +101,14 @@ closed_apart n bytes e = cc
 pub stepped_apart : (tn : Option ℕ) (k : Kind) (got : ℕ) (ch : Option ℕ) (t : Answered) (n : ℕ) (bytes : List ℕ) → Stepped tn k got ch t ≡ HasPut n bytes → ⊥
 stepped_apart tn k got ch t n bytes e = cc
 
-pub numbered_more : (xs ds : List Deed) → AreNumbered xs → ((j n : ℕ) (bytes : List ℕ) → slice_get ds j ≡ Some (HasPut n bytes) → (j ≡ 0) × (n ≡ length (puts xs))) → AreNumbered (xs ++ ds)
+pub numbered_more : (xs ds : List Action) → AreNumbered xs → ((j n : ℕ) (bytes : List ℕ) → slice_get ds j ≡ Some (HasPut n bytes) → (j ≡ 0) × (n ≡ length (puts xs))) → AreNumbered (xs ++ ds)
 numbered_more xs ds h more place number bytes e = elim (got_split xs ds place (HasPut number bytes) e) [
   | inl l ↦ h place number bytes l ∙ ap (λ z. length (puts z)) (sym (take-append-le place xs ds (let w = slice_get_within xs place _ l in omega arith)))
   | inr r ↦ (let m = more r.0 number bytes r.2 in m.1 ∙ ap (λ z. length (puts z)) (sym (take_at xs ds place (let a = r.1 in let d = m.0 in omega arith))))
 ]
 
 -- ---- what an event puts
-pub step_puts : (k : Option Kind) (tn : Option ℕ) (got : ℕ) (ch : Option ℕ) (a : Answered) → puts (step_deed k tn got ch a) ≡ []
+pub step_puts : (k : Option Kind) (tn : Option ℕ) (got : ℕ) (ch : Option ℕ) (a : Answered) → puts (step_action k tn got ch a) ≡ []
 step_puts None tn got ch a = refl
 step_puts (Some k) tn got ch a = refl
 
@@ -137,23 +137,23 @@ module _ {E : Type 0} (X : Election E) where
   close_puts_at true = refl
   close_puts_at false = refl
 
-  turn_puts_at : (t : Bool) (words : List ℕ) (o : Option (Core E)) (word : ℕ) (a : Answer) → TurnAnswers X words o word a → puts (cond t (turning_deeds X words o word a) []) ≡ []
+  turn_puts_at : (t : Bool) (words : List ℕ) (o : Option (Core E)) (word : ℕ) (a : Answer) → TurnAnswers X words o word a → puts (cond t (turning_actions X words o word a) []) ≡ []
   turn_puts_at t words None word a told = absurd told
   turn_puts_at false words (Some c) word a told = refl
-  turn_puts_at true words (Some c) word a told = ap (λ z. puts (turning_deeds X words (Some c) word z)) told ∙ step_puts (kind_at X c (situation_of X c)) _ _ _ _
+  turn_puts_at true words (Some c) word a told = ap (λ z. puts (turning_actions X words (Some c) word z)) told ∙ step_puts (kind_at X c (situation_of X c)) _ _ _ _
 
-  deeds_put : (b : Bus E) (e : Event) (a : Answer) (b' : Bus E) (q : ℕ) → Answers X b e a b' → puts (deeds_of X b e a q) ≡ accepted b e q
-  deeds_put b (Put s bytes) a b' q w = ap (λ z. puts (cond (q == s) (put_deeds bytes z) [])) w.2 ∙ put_puts_at (q == s) (going b s) bytes w.0 w.1
-  deeds_put b (Close s) a b' q w = ap (λ z. puts (cond (q == s) (close_deeds z) [])) w.1 ∙ close_puts_at (q == s)
-  deeds_put b (Turn s word) a b' q w = turn_puts_at (q == s) b.side.words (going b s) word a w
-  deeds_put b (Recv r) a b' q w = refl
-  deeds_put b (Stop s) a b' q w = refl
+  actions_put : (b : Bus E) (e : Event) (a : Answer) (b' : Bus E) (q : ℕ) → Answers X b e a b' → puts (actions_of X b e a q) ≡ accepted b e q
+  actions_put b (Put s bytes) a b' q w = ap (λ z. puts (cond (q == s) (put_actions bytes z) [])) w.2 ∙ put_puts_at (q == s) (going b s) bytes w.0 w.1
+  actions_put b (Close s) a b' q w = ap (λ z. puts (cond (q == s) (close_actions z) [])) w.1 ∙ close_puts_at (q == s)
+  actions_put b (Turn s word) a b' q w = turn_puts_at (q == s) b.side.words (going b s) word a w
+  actions_put b (Recv r) a b' q w = refl
+  actions_put b (Stop s) a b' q w = refl
 
 module _ {E : Type 0} (X : Election E) (P : Protocol E (Unit {0}) ℕ) (laws : Laws X.op X.fed P OneOwner) (x : Layout) (ok : IsLayout x) (width : x.width ≡ P.width x.senders)
     (starts : (n me at : ℕ) → X.started n me x.rounds at ≡ P.started n me tt at) (owner_is : (e : E) → X.owner e ≡ P.output e)
     (named : (e : E) (word : ℕ) → is_some (X.kind_of e) ≡ is_some (X.op e word)) (announces : (e : E) → P.has_begun e ≡ false → X.kind_of e ≡ Some kind.Announce) (apart : (e : E) → X.kind_of e ≡ Some kind.TakePage → ⊥) where
   -- ---- the senders' side
-  module _ (b b' : Bus E) (frames : List Frame) (h : LawfulBus P x b frames) (D : ℕ → List Deed) (T : Ties P x b.side D) where
+  module _ (b b' : Bus E) (frames : List Frame) (h : LawfulBus P x b frames) (D : ℕ → List Action) (T : Ties P x b.side D) where
     put_ties : (s : ℕ) (bytes : List ℕ) (o : Option (Core E)) → going b s ≡ o → SenderDoes b.side o (λ c. with_sender b.side s (put_in c bytes)) b'.side → (n : ℕ) → PutGives o (length bytes) n → Ties P x b'.side (λ q. D q ++ cond (q == s) (HasPut n bytes ∷ []) [])
     put_ties s bytes None i d n gives = absurd gives
     put_ties s bytes (Some c) i d n gives = subst (λ z. Ties P x z (λ q. D q ++ cond (q == s) (HasPut n bytes ∷ []) [])) (sym d) (by_test (can_put c.queue (length bytes)))
@@ -170,22 +170,22 @@ module _ {E : Type 0} (X : Election E) (P : Protocol E (Unit {0}) ℕ) (laws : L
         by_test true = batch_ties X P laws x ok width starts owner_is named announces apart b.side frames (side_of h) s c (is_there b s c i) 0 D T (record c { queue = record c.queue { phase = Closing } }) (HasClosed ∷ []) refl refl plain_close
         by_test false = batch_ties X P laws x ok width starts owner_is named announces apart b.side frames (side_of h) s c (is_there b s c i) 0 D T c (HasClosed ∷ []) refl refl plain_close
 
-    turning_ties : (s word : ℕ) (o : Option (Core E)) → going b s ≡ o → SenderDoes b.side o (λ c. side_after X b.side s c (situation_of X c) word) b'.side → (a : Answer) → TurnAnswers X b.side.words o word a → Ties P x b'.side (λ q. D q ++ cond (q == s) (turning_deeds X b.side.words o word a) [])
+    turning_ties : (s word : ℕ) (o : Option (Core E)) → going b s ≡ o → SenderDoes b.side o (λ c. side_after X b.side s c (situation_of X c) word) b'.side → (a : Answer) → TurnAnswers X b.side.words o word a → Ties P x b'.side (λ q. D q ++ cond (q == s) (turning_actions X b.side.words o word a) [])
     turning_ties s word None i d a told = absurd told
-    turning_ties s word (Some c) i d a told = subst (λ t. Ties P x b'.side (λ q. D q ++ cond (q == s) (turning_deeds X b.side.words (Some c) word t) [])) (sym told)
-        (subst (λ z. Ties P x z (λ q. D q ++ cond (q == s) (turning_deeds X b.side.words (Some c) word (answer.Turn (answer_at X c (situation_of X c) (number_found (slice_index b.side.words) (op_at X c (situation_of X c) word)) word))) [])) (sym d) (turn_ties X P laws x ok width starts owner_is named announces apart b.side frames (side_of h) s c (is_there b s c i) word D T))
+    turning_ties s word (Some c) i d a told = subst (λ t. Ties P x b'.side (λ q. D q ++ cond (q == s) (turning_actions X b.side.words (Some c) word t) [])) (sym told)
+        (subst (λ z. Ties P x z (λ q. D q ++ cond (q == s) (turning_actions X b.side.words (Some c) word (answer.Turn (answer_at X c (situation_of X c) (number_found (slice_index b.side.words) (op_at X c (situation_of X c) word)) word))) [])) (sym d) (turn_ties X P laws x ok width starts owner_is named announces apart b.side frames (side_of h) s c (is_there b s c i) word D T))
 
-    event_ties : (e : Event) (a : Answer) → Happens X b e b' → Answers X b e a b' → Ties P x b'.side (λ q. D q ++ deeds_of X b e a q)
-    event_ties (Put s bytes) a d w = subst (λ t. Ties P x b'.side (λ q. D q ++ cond (q == s) (put_deeds bytes t) [])) (sym w.2) (put_ties s bytes (going b s) refl d.0 w.0 w.1)
-    event_ties (Close s) a d w = subst (λ t. Ties P x b'.side (λ q. D q ++ cond (q == s) (close_deeds t) [])) (sym w.1) (close_ties s (going b s) refl d.0 w.0)
+    event_ties : (e : Event) (a : Answer) → Happens X b e b' → Answers X b e a b' → Ties P x b'.side (λ q. D q ++ actions_of X b e a q)
+    event_ties (Put s bytes) a d w = subst (λ t. Ties P x b'.side (λ q. D q ++ cond (q == s) (put_actions bytes t) [])) (sym w.2) (put_ties s bytes (going b s) refl d.0 w.0 w.1)
+    event_ties (Close s) a d w = subst (λ t. Ties P x b'.side (λ q. D q ++ cond (q == s) (close_actions t) [])) (sym w.1) (close_ties s (going b s) refl d.0 w.0)
     event_ties (Turn s word) a d w = turning_ties s word (going b s) refl d.0 a w
     event_ties (Recv r) a d w = subst (λ z. Ties P x z (λ q. D q ++ [])) (sym d.0) (subst (Ties P x b.side) (sym (fun_ext (λ q. append-nil (D q)))) T)
     event_ties (Stop s) a d w = subst (λ z. Ties P x z (λ q. D q ++ [])) (sym d.0) (subst (Ties P x b.side) (sym (fun_ext (λ q. append-nil (D q)))) T)
 
   -- ---- who closed
-  module _ (b b' : Bus E) (frames : List Frame) (h : LawfulBus P x b frames) (D : ℕ → List Deed) (C : Closings (slice_get b.side.senders) frames D) where
+  module _ (b b' : Bus E) (frames : List Frame) (h : LawfulBus P x b frames) (D : ℕ → List Action) (C : Closings (slice_get b.side.senders) frames D) where
     -- a sender goes on with another batch, and the frames stay
-    goes_on_closing : (s : ℕ) (c c' : Core E) (i : slice_get b.side.senders s ≡ Some c) (ds : List Deed) → (c'.queue.phase ≡ Closing → Closed (D s ++ cond (s == s) ds [])) → b'.side.senders ≡ slice_set b.side.senders s c' → Closings (slice_get b'.side.senders) frames (λ q. D q ++ cond (q == s) ds [])
+    goes_on_closing : (s : ℕ) (c c' : Core E) (i : slice_get b.side.senders s ≡ Some c) (ds : List Action) → (c'.queue.phase ≡ Closing → Closed (D s ++ cond (s == s) ds [])) → b'.side.senders ≡ slice_set b.side.senders s c' → Closings (slice_get b'.side.senders) frames (λ q. D q ++ cond (q == s) ds [])
     goes_on_closing s c c' i ds own same = subst (λ z. Closings (slice_get z) frames (λ q. D q ++ cond (q == s) ds [])) (sym same)
         (closings_after b.side.senders frames D C s c i ds c' frames own (frames_later (slice_get b.side.senders) frames D C s c i ds))
 
@@ -201,7 +201,7 @@ module _ {E : Type 0} (X : Election E) (P : Protocol E (Unit {0}) ℕ) (laws : L
     close_closings s None i d gives = absurd gives
     close_closings s (Some c) i d gives = goes_on_closing s c (close_in c) (is_there b s c i) (HasClosed ∷ []) (λ e. own_closes (slice_get b.side.senders) frames D C s c (is_there b s c i) (HasClosed ∷ []) (0, refl)) (ap (λ (z : Side E). z.senders) d)
 
-    turn_closings : (s word : ℕ) (o : Option (Core E)) → going b s ≡ o → SenderDoes b.side o (λ c. side_after X b.side s c (situation_of X c) word) b'.side → (ds : List Deed) → Closings (slice_get b'.side.senders) (frames_by X o frames) (λ q. D q ++ cond (q == s) ds [])
+    turn_closings : (s word : ℕ) (o : Option (Core E)) → going b s ≡ o → SenderDoes b.side o (λ c. side_after X b.side s c (situation_of X c) word) b'.side → (ds : List Action) → Closings (slice_get b'.side.senders) (frames_by X o frames) (λ q. D q ++ cond (q == s) ds [])
     turn_closings s word None i d ds = record {
       closing = λ q c at shut. still_closed (D q) (cond (q == s) ds []) (C.closing q c (ap (λ (z : Side E). slice_get z.senders q) (sym d) ∙ at) shut);
       ended = λ j f at ends. still_closed (D f.owner.0) (cond (f.owner.0 == s) ds []) (C.ended j f at ends);
@@ -215,10 +215,10 @@ module _ {E : Type 0} (X : Election E) (P : Protocol E (Unit {0}) ℕ) (laws : L
         (turn_frames X c z frames (λ f. Closed (D f.owner.0 ++ cond (f.owner.0 == s) ds [])) (frames_later (slice_get b.side.senders) frames D C s c (is_there b s c i) ds)
         (λ t e. subst (λ q. Closed (D q ++ cond (q == s) ds [])) (sym part.sender) (own_closed (slice_get b.side.senders) frames D C s c (is_there b s c i) ds e))))
 
-    event_closings : (e : Event) (a : Answer) → Happens X b e b' → Answers X b e a b' → Closings (slice_get b'.side.senders) (event_frames X b e frames) (λ q. D q ++ deeds_of X b e a q)
-    event_closings (Put s bytes) a d w = subst (λ t. Closings (slice_get b'.side.senders) frames (λ q. D q ++ cond (q == s) (put_deeds bytes t) [])) (sym w.2) (put_closings s bytes (going b s) refl d.0 w.0 w.1)
-    event_closings (Close s) a d w = subst (λ t. Closings (slice_get b'.side.senders) frames (λ q. D q ++ cond (q == s) (close_deeds t) [])) (sym w.1) (close_closings s (going b s) refl d.0 w.0)
-    event_closings (Turn s word) a d w = turn_closings s word (going b s) refl d.0 (turning_deeds X b.side.words (going b s) word a)
+    event_closings : (e : Event) (a : Answer) → Happens X b e b' → Answers X b e a b' → Closings (slice_get b'.side.senders) (event_frames X b e frames) (λ q. D q ++ actions_of X b e a q)
+    event_closings (Put s bytes) a d w = subst (λ t. Closings (slice_get b'.side.senders) frames (λ q. D q ++ cond (q == s) (put_actions bytes t) [])) (sym w.2) (put_closings s bytes (going b s) refl d.0 w.0 w.1)
+    event_closings (Close s) a d w = subst (λ t. Closings (slice_get b'.side.senders) frames (λ q. D q ++ cond (q == s) (close_actions t) [])) (sym w.1) (close_closings s (going b s) refl d.0 w.0)
+    event_closings (Turn s word) a d w = turn_closings s word (going b s) refl d.0 (turning_actions X b.side.words (going b s) word a)
     event_closings (Recv r) a d w = subst (λ z. Closings (slice_get z.senders) frames (λ q. D q ++ [])) (sym d.0) (subst (Closings (slice_get b.side.senders) frames) (sym (fun_ext (λ q. append-nil (D q)))) C)
     event_closings (Stop s) a d w = subst (λ z. Closings (slice_get z.senders) frames (λ q. D q ++ [])) (sym d.0) (subst (Closings (slice_get b.side.senders) frames) (sym (fun_ext (λ q. append-nil (D q)))) C)
 
@@ -303,28 +303,28 @@ module _ {E : Type 0} (X : Election E) (P : Protocol E (Unit {0}) ℕ) (laws : L
     put_number s None i len n gives = absurd gives
     put_number s (Some c) i len n gives = gives.1 ∙ number_at s c (is_there b s c i) c.phase refl (h.keeps.sending.parts s c (is_there b s c i)).fits (ap (λ z. cond z false true) gives.0.idle)
 
-    numbers : (b' : Bus E) (e : Event) (a : Answer) → Answers X b e a b' → (q j n : ℕ) (bytes : List ℕ) → slice_get (deeds_of X b e a q) j ≡ Some (HasPut n bytes) → (j ≡ 0) × (n ≡ length (put_by b frames q))
+    numbers : (b' : Bus E) (e : Event) (a : Answer) → Answers X b e a b' → (q j n : ℕ) (bytes : List ℕ) → slice_get (actions_of X b e a q) j ≡ Some (HasPut n bytes) → (j ≡ 0) × (n ≡ length (put_by b frames q))
     numbers b' (Put s bytes') a w q j n bytes e = elim (eqb_tells q s) [
       | inl y ↦
-          let one = only_deed (HasPut w.0 bytes') j _ (ap (λ t. slice_get (put_deeds bytes' t) j) (sym w.2) ∙ ap (λ t. slice_get (cond t (put_deeds bytes' a) []) j) (sym y.0) ∙ e) in
+          let one = only_action (HasPut w.0 bytes') j _ (ap (λ t. slice_get (put_actions bytes' t) j) (sym w.2) ∙ ap (λ t. slice_get (cond t (put_actions bytes' a) []) j) (sym y.0) ∙ e) in
           (one.0, sym (same_number _ _ _ _ one.1) ∙ subst (λ z. w.0 ≡ length (put_by b frames z)) (sym y.1) (put_number s (going b s) refl (length bytes') w.0 w.1))
-      | inr y ↦ absurd (none_in j _ (ap (λ t. slice_get (cond t (put_deeds bytes' a) []) j) (sym y.0) ∙ e))
+      | inr y ↦ absurd (none_in j _ (ap (λ t. slice_get (cond t (put_actions bytes' a) []) j) (sym y.0) ∙ e))
     ]
-    numbers b' (Close s) a w q j n bytes e = absurd (by_test (q == s) (ap (λ t. slice_get (cond (q == s) (close_deeds t) []) j) (sym w.1) ∙ e))
+    numbers b' (Close s) a w q j n bytes e = absurd (by_test (q == s) (ap (λ t. slice_get (cond (q == s) (close_actions t) []) j) (sym w.1) ∙ e))
       where
         by_test : (t : Bool) → slice_get (cond t (HasClosed ∷ []) []) j ≡ Some (HasPut n bytes) → ⊥
-        by_test true f = closed_apart n bytes (only_deed HasClosed j _ f).1
+        by_test true f = closed_apart n bytes (only_action HasClosed j _ f).1
         by_test false f = none_in j _ f
     numbers b' (Turn s word) a w q j n bytes e = absurd (turning (q == s) (going b s) w e)
       where
-        by_kind : (k : Option Kind) (tn : Option ℕ) (got : ℕ) (ch : Option ℕ) (t : Answered) → slice_get (step_deed k tn got ch t) j ≡ Some (HasPut n bytes) → ⊥
+        by_kind : (k : Option Kind) (tn : Option ℕ) (got : ℕ) (ch : Option ℕ) (t : Answered) → slice_get (step_action k tn got ch t) j ≡ Some (HasPut n bytes) → ⊥
         by_kind None tn got ch t f = none_in j _ f
-        by_kind (Some k) tn got ch t f = stepped_apart tn k got ch t n bytes (only_deed (Stepped tn k got ch t) j _ f).1
+        by_kind (Some k) tn got ch t f = stepped_apart tn k got ch t n bytes (only_action (Stepped tn k got ch t) j _ f).1
 
-        turning : (t : Bool) (o : Option (Core E)) → TurnAnswers X b.side.words o word a → slice_get (cond t (turning_deeds X b.side.words o word a) []) j ≡ Some (HasPut n bytes) → ⊥
+        turning : (t : Bool) (o : Option (Core E)) → TurnAnswers X b.side.words o word a → slice_get (cond t (turning_actions X b.side.words o word a) []) j ≡ Some (HasPut n bytes) → ⊥
         turning t None told f = absurd told
         turning false (Some c) told f = none_in j _ f
-        turning true (Some c) told f = by_kind (kind_at X c (situation_of X c)) _ _ _ _ (ap (λ z. slice_get (turning_deeds X b.side.words (Some c) word z) j) (sym told) ∙ f)
+        turning true (Some c) told f = by_kind (kind_at X c (situation_of X c)) _ _ _ _ (ap (λ z. slice_get (turning_actions X b.side.words (Some c) word z) j) (sym told) ∙ f)
     numbers b' (Recv r) a w q j n bytes e = absurd (none_in j _ e)
     numbers b' (Stop s) a w q j n bytes e = absurd (none_in j _ e)
 
@@ -346,7 +346,7 @@ module _ {E : Type 0} (X : Election E) (P : Protocol E (Unit {0}) ℕ) (laws : L
       let more = after.left.continues.more in
       let frames_are : k.frames ++ more ≡ event_frames X b e k.frames = after.left.continues.together ∙ after.now_is in
       let lawful = subst (LawfulBus P x b') (sym after.left.continues.together) after.left.lawful in
-      let t = event_ties b b' k.frames k.lawful T.deeds record { tables = k.tied.tables; takers = k.tied.takers } e a d w in
+      let t = event_ties b b' k.frames k.lawful T.actions record { tables = k.tied.tables; takers = k.tied.takers } e a d w in
       let heard = event_heard b b' k.frames more k.lawful T.heard record { each = k.tied.heard; silent = k.tied.silent } lawful e a d w in
       record {
         more = more;
@@ -354,12 +354,12 @@ module _ {E : Type 0} (X : Election E) (P : Protocol E (Unit {0}) ℕ) (laws : L
         tied = record {
           tables = t.tables;
           takers = t.takers;
-          puts = λ s. flat_map-append _ (T.deeds s) (deeds_of X b e a s) ∙ ap (λ z. z ++ puts (deeds_of X b e a s)) (k.tied.puts s) ∙ ap (λ z. put_by b k.frames s ++ z) (deeds_put X b e a b' s w)
+          puts = λ s. flat_map-append _ (T.actions s) (actions_of X b e a s) ∙ ap (λ z. z ++ puts (actions_of X b e a s)) (k.tied.puts s) ∙ ap (λ z. put_by b k.frames s ++ z) (actions_put X b e a b' s w)
               ∙ sym (event_puts X P laws x ok width starts owner_is b k.frames k.lawful b' e d s) ∙ ap (λ z. put_by b' z s) (sym frames_are);
-          counted = λ s. numbered_more (T.deeds s) (deeds_of X b e a s) (k.tied.counted s) (λ j n bytes i. let z = numbers b k.frames k.lawful b' e a w s j n bytes i in (z.0, z.1 ∙ ap length (sym (k.tied.puts s))));
+          counted = λ s. numbered_more (T.actions s) (actions_of X b e a s) (k.tied.counted s) (λ j n bytes i. let z = numbers b k.frames k.lawful b' e a w s j n bytes i in (z.0, z.1 ∙ ap length (sym (k.tied.puts s))));
           heard = heard.each;
           silent = heard.silent;
-          closings = subst (λ z. Closings (slice_get b'.side.senders) z (λ q. T.deeds q ++ deeds_of X b e a q)) (sym frames_are) (event_closings b b' k.frames k.lawful T.deeds k.tied.closings e a d w);
+          closings = subst (λ z. Closings (slice_get b'.side.senders) z (λ q. T.actions q ++ actions_of X b e a q)) (sym frames_are) (event_closings b b' k.frames k.lawful T.actions k.tied.closings e a d w);
         };
       }
 
@@ -436,14 +436,14 @@ module _ {E : Type 0} (X : Election E) (P : Protocol E (Unit {0}) ℕ) (laws : L
     told_by : (r : ℕ) → IsTold frames (slice_get b.receivers r) (T.heard r)
     told_by r = told_of r (slice_get b.receivers r) refl
 
-    pub page : Promises T.deeds T.heard (order_of frames) (map tenure_and_owner frames)
+    pub page : Promises T.actions T.heard (order_of frames) (map tenure_and_owner frames)
     page = record {
       one_owner = λ t s s' o o' e f. let a = k.tied.tables.only_elected t s o e in let d = k.tied.tables.only_elected t s' o' f in (one t a.0).equal s s' o o' a.1 d.1;
       announced = λ t s o e. let a = k.tied.tables.only_elected t s o e in k.tied.tables.announced t o ((one t a.0).announcer s o a.1);
       took_own = λ t s i a. k.tied.takers.elected t s (k.tied.takers.only t s i a);
       took_once = λ t s s' i i' a d.
           let same : s ≡ s' = same_Some _ _ (sym (k.tied.takers.only t s i a) ∙ k.tied.takers.only t s' i' d) in
-          (same, k.tied.takers.once t s i i' a (subst (λ z. Took (T.deeds z) t i') (sym same) d));
+          (same, k.tied.takers.once t s i i' a (subst (λ z. Took (T.actions z) t i') (sym same) d));
       owned = λ j t o e. k.tied.takers.took t o.0 (owner_took b.side.owners frames k.lawful.keeps.sending.owned j t o e);
       rising = λ i j t u o p e g l. rise x.senders 0 frames k.lawful.keeps.sending.log.lawful i j t u o p e g l;
       delivered = λ r. delivered_to x.senders frames k.lawful.keeps.sending.log.lawful (slice_get b.receivers r) (T.heard r) (told_by r);

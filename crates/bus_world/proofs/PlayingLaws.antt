@@ -39,7 +39,7 @@ use Rattle.bus_world.specs.World.{Bus, Event, Put, Close, Turn, Recv, Stop, has_
 use Rattle.bus_tenure.proofs.Situated.{tells}
 use Rattle.bus_world.proofs.Accepting.{open_is, not_busy, empty_is}
 use Rattle.bus_world.proofs.WorldLaws.{event_left, numbers_fit}
-use Rattle.bus_world.specs.Trails.{IsServedBus, trails_grown}
+use Rattle.bus_world.specs.Trails.{MachineInvariant, trails_grown}
 use Rattle.bus_world.specs.Trails.Reached.{Then}
 use Rattle.bus_world.specs.Playing.{SizedBus, Answers, PutGives, PutRefused, CloseGives, CloseRefused, TurnAnswers, TurnRefused, RecvAnswers, RecvRefused, StopGives, UnlessStopped, Refused}
 use Rattle.bus_world.specs.declared.events.StepFault.{StepFault}
@@ -65,11 +65,11 @@ event_length X b b' (Stop s) d = ap (λ (z : Side _). length z.senders) d.0
 
 module _ {E : Type 0} (X : Election E) (P : Protocol E (Unit {0}) ℕ) (x : Layout) (laws : Laws X.op X.fed P OneOwner) (width : x.width ≡ P.width x.senders)
     (starts : (n me at : ℕ) → X.started n me x.rounds at ≡ P.started n me tt at) (owner_is : (e : E) → X.owner e ≡ P.output e) where
-  pub layout_served : (b : Bus E) → IsServedBus X P record { layout = x; bus = b } → IsLayout x
+  pub layout_served : (b : Bus E) → MachineInvariant X P record { layout = x; bus = b } → IsLayout x
   layout_served b h = record { senders = h.senders_few; rows = (let z = h.rows_few in omega arith); capacity = (let z = h.capacity_few in omega arith) }
 
   -- whatever happens to it
-  pub sitting_after : (b b' : Bus E) (e : Event) (a : Answer) → IsServedBus X P record { layout = x; bus = b } → IsEvent e → Happens X b e b' → Answers X b e a b' → IsServedBus X P record { layout = x; bus = b' }
+  pub sitting_after : (b b' : Bus E) (e : Event) (a : Answer) → MachineInvariant X P record { layout = x; bus = b } → IsEvent e → Happens X b e b' → Answers X b e a b' → MachineInvariant X P record { layout = x; bus = b' }
   sitting_after b b' e a h is d w =
       let l = event_left X P laws x (layout_served b h) width starts owner_is b h.frames h.lawful b' e is d in
       record {
@@ -169,7 +169,7 @@ one_there (x ∷ xs) zero l = (x, refl)
 one_there (x ∷ xs) (suc r) l = one_there xs r (omega arith)
 
 -- a sender that has stopped is refused as such
-pub stop_unknown : {E : Type 0} {X : Election E} {P : Protocol E (Unit {0}) ℕ} (z : SizedBus E) → IsServedBus X P z → (now : SizedBus E) → z ≡ now → (s : ℕ) → s < length z.bus.side.senders → get_or z.bus.stopped s false ≡ true → Refused now.bus (Stop s) fault.Stopped
+pub stop_unknown : {E : Type 0} {X : Election E} {P : Protocol E (Unit {0}) ℕ} (z : SizedBus E) → MachineInvariant X P z → (now : SizedBus E) → z ≡ now → (s : ℕ) → s < length z.bus.side.senders → get_or z.bus.stopped s false ≡ true → Refused now.bus (Stop s) fault.Stopped
 stop_unknown z h now is s l e = subst (λ y. Refused y.bus (Stop s) fault.Stopped) is (has_stopped_is z.bus s (one_there z.bus.side.senders s l) e)
 
 -- the bytes of a program are bytes
@@ -178,7 +178,7 @@ small_bytes bytes f k d l = subst (λ z. z < 256) (same_Some _ _ (sym (slice_get
 
 module _ {E : Type 0} (X : Election E) (P : Protocol E (Unit {0}) ℕ) (x : Layout) (laws : Laws X.op X.fed P OneOwner) (width : x.width ≡ P.width x.senders)
     (starts : (n me at : ℕ) → X.started n me x.rounds at ≡ P.started n me tt at) (owner_is : (e : E) → X.owner e ≡ P.output e)
-    (b : Bus E) (h : IsServedBus X P record { layout = x; bus = b }) (now : SizedBus E) (is : record { layout = x; bus = b } ≡ now) where
+    (b : Bus E) (h : MachineInvariant X P record { layout = x; bus = b }) (now : SizedBus E) (is : record { layout = x; bus = b } ≡ now) where
   served : IsLayout x
   served = layout_served X P x laws width starts owner_is b h
 
@@ -295,10 +295,10 @@ module _ {E : Type 0} (X : Election E) (P : Protocol E (Unit {0}) ℕ) (x : Layo
       pub put_happens : Happens X now.bus (Put s bytes) (with_core s c')
       put_happens = subst (λ z. Happens X z.bus (Put s bytes) (with_core s c')) is put_does
 
-      pub put_sits : All (λ byte. byte < 256) bytes → IsServedBus X P record { layout = x; bus = with_core s c' }
+      pub put_sits : All (λ byte. byte < 256) bytes → MachineInvariant X P record { layout = x; bus = with_core s c' }
       put_sits small = by_test (can_put c.queue (length bytes)) refl
         where
-          by_test : (t : Bool) → can_put c.queue (length bytes) ≡ t → IsServedBus X P record { layout = x; bus = with_core s c' }
+          by_test : (t : Bool) → can_put c.queue (length bytes) ≡ t → MachineInvariant X P record { layout = x; bus = with_core s c' }
           by_test true e =
               let opened = and_parts (is_open c.queue.phase) (cond c.queue.busy false true && (nat_le (length bytes) 56 && nat_lt (length c.queue.messages) 16)) e in
               let idled = and_parts (cond c.queue.busy false true) (nat_le (length bytes) 56 && nat_lt (length c.queue.messages) 16) opened.1 in
@@ -308,7 +308,7 @@ module _ {E : Type 0} (X : Election E) (P : Protocol E (Unit {0}) ℕ) (x : Layo
               (next_of c.queue, subst (λ o. PutGives o (length bytes) (next_of c.queue)) (sym goes) (can, refl), refl)
           by_test false e =
               let same : c' ≡ c = put_is ∙ ap (λ t. cond t (record c { queue = record c.queue { messages = c.queue.messages ++ bytes ∷ [] } }) c) e in
-              subst (λ z. IsServedBus X P record { layout = x; bus = z }) (sym (ap (with_core s) same ∙ same_core)) h
+              subst (λ z. MachineInvariant X P record { layout = x; bus = z }) (sym (ap (with_core s) same ∙ same_core)) h
 
       pub put_keeps : (r : Result ℕ StepFault) → IfErr r (PutRefused (Some c) (length bytes)) → OnErr r (record { layout = x; bus = with_core s c' } ≡ now)
       put_keeps r w = refuses r (PutRefused (Some c) (length bytes)) _ w (λ why q.
@@ -329,10 +329,10 @@ module _ {E : Type 0} (X : Election E) (P : Protocol E (Unit {0}) ℕ) (x : Layo
       pub close_happens : Happens X now.bus (Close s) (with_core s c')
       close_happens = subst (λ z. Happens X z.bus (Close s) (with_core s c')) is close_does
 
-      pub close_sits : IsServedBus X P record { layout = x; bus = with_core s c' }
+      pub close_sits : MachineInvariant X P record { layout = x; bus = with_core s c' }
       close_sits = by_test (can_close c.queue) refl
         where
-          by_test : (t : Bool) → can_close c.queue ≡ t → IsServedBus X P record { layout = x; bus = with_core s c' }
+          by_test : (t : Bool) → can_close c.queue ≡ t → MachineInvariant X P record { layout = x; bus = with_core s c' }
           by_test true e =
               let opened = and_parts (is_open c.queue.phase) (cond c.queue.busy false true && is_empty c.queue.messages) e in
               let idled = and_parts (cond c.queue.busy false true) (is_empty c.queue.messages) opened.1 in
@@ -340,7 +340,7 @@ module _ {E : Type 0} (X : Election E) (P : Protocol E (Unit {0}) ℕ) (x : Layo
               sitting_after X P x laws width starts owner_is b (with_core s c') (Close s) answer.Closing h tt close_does (subst CloseGives (sym goes) can, refl)
           by_test false e =
               let same : c' ≡ c = close_is ∙ ap (λ t. cond t (record c { queue = record c.queue { phase = Closing } }) c) e in
-              subst (λ z. IsServedBus X P record { layout = x; bus = z }) (sym (ap (with_core s) same ∙ same_core)) h
+              subst (λ z. MachineInvariant X P record { layout = x; bus = z }) (sym (ap (with_core s) same ∙ same_core)) h
 
       pub close_keeps : (r : Result (Unit {0}) StepFault) → IfErr r (CloseRefused (Some c)) → OnErr r (record { layout = x; bus = with_core s c' } ≡ now)
       close_keeps r w = refuses r (CloseRefused (Some c)) _ w (λ why q.
@@ -364,7 +364,7 @@ module _ {E : Type 0} (X : Election E) (P : Protocol E (Unit {0}) ℕ) (x : Layo
       pub stop_happens : Happens X now.bus (Stop s) with_stop
       stop_happens = subst (λ z. Happens X z.bus (Stop s) with_stop) is stop_does
 
-      pub stop_sits : IsServedBus X P record { layout = x; bus = with_stop }
+      pub stop_sits : MachineInvariant X P record { layout = x; bus = with_stop }
       stop_sits = sitting_after X P x laws width starts owner_is b with_stop (Stop s) answer.Stopped h tt stop_does (subst StopGives (sym goes) tt, refl)
 
     pub stop_gives : StopGives (going now.bus s)
@@ -408,7 +408,7 @@ module _ {E : Type 0} (X : Election E) (P : Protocol E (Unit {0}) ℕ) (x : Layo
         pub turn_happens : Happens X now.bus (Turn s word) with_turn
         turn_happens = subst (λ z. Happens X z.bus (Turn s word) with_turn) is turn_does
 
-        pub turn_sits : IsServedBus X P record { layout = x; bus = with_turn }
+        pub turn_sits : MachineInvariant X P record { layout = x; bus = with_turn }
         turn_sits = sitting_after X P x laws width starts owner_is b with_turn (Turn s word) (answer.Turn answered) h tt turn_does (subst (λ o. TurnAnswers X b.side.words o word (answer.Turn answered)) (sym goes) refl)
 
       pub turn_answers : (t : Answered) → t ≡ answered → TurnAnswers X now.bus.side.words (going now.bus s) word (answer.Turn t)
@@ -445,7 +445,7 @@ module _ {E : Type 0} (X : Election E) (P : Protocol E (Unit {0}) ℕ) (x : Layo
         pub recv_happens : Happens X now.bus (Recv r) (with_reader words)
         recv_happens = subst (λ z. Happens X z.bus (Recv r) (with_reader words)) is recv_does
 
-        pub recv_sits : IsServedBus X P record { layout = x; bus = with_reader words }
+        pub recv_sits : MachineInvariant X P record { layout = x; bus = with_reader words }
         recv_sits = sitting_after X P x laws width starts owner_is b (with_reader words) (Recv r) (answer.Recv turn) h tt recv_does (subst (λ o. RecvAnswers b.side.words b.receivers r o (answer.Recv turn) (slice_set b.receivers r next)) (sym old) (next, turn, does, refl, refl))
 
       pub recv_answers : RecvAnswers now.bus.side.words now.bus.receivers r (slice_get now.bus.receivers r) (answer.Recv turn) (slice_set b.receivers r next)

@@ -6,7 +6,7 @@ use Rattle.bus_batch.specs.declared.messages.Item.{Item}
 use Rattle.bus_batch.specs.Frames.{Order}
 use Rattle.bus_deliverylog.specs.Orders.{of_sender, IsPrefixOfOrder}
 use Rattle.bus_tenure.specs.declared.turns.Turn.TheVariants as turn
-use Rattle.bus_world.specs.Headline.{Deed, HasClosed, Stepped, Elected, Took, IsPrefix, AreFramed, Nothing, TheEnd, Batch}
+use Rattle.bus_world.specs.Headline.{Action, HasClosed, Stepped, Elected, Took, IsPrefix, AreFramed, Nothing, TheEnd, Batch}
 use Rattle.bus_world.specs.Refusals.{each_of, elects, announces, takes, owns, item, sender, PromiseRefuses}
 use Rattle.bus_deliverylog.specs.declared.receiving.RecvTurn.TheVariants as recv
 
@@ -16,10 +16,10 @@ no_some v e = cc
 none_at : {A : Type 0} (i : ℕ) (x : A) → slice_get [] i ≡ Some x → ⊥
 none_at i x e = cc
 
-elected_second : (s : ℕ) (d : ℕ → List Deed) (o : ℕ) → slice_get (d s) 1 ≡ Some (elects o) → Elected (d s) 0 o
+elected_second : (s : ℕ) (d : ℕ → List Action) (o : ℕ) → slice_get (d s) 1 ≡ Some (elects o) → Elected (d s) 0 o
 elected_second s d o e = record { place = 1; step = kind.Fallback; found = 0; answer = turn.Going; at = e }
 
-took_at : (s place : ℕ) (d : ℕ → List Deed) → slice_get (d s) place ≡ Some takes → Took (d s) 0 place
+took_at : (s place : ℕ) (d : ℕ → List Action) → slice_get (d s) place ≡ Some takes → Took (d s) 0 place
 took_at s place d e = record { found = 0; chose = None; answer = turn.Own 0; at = e }
 
 -- a page that was taken and no election that ended
@@ -111,19 +111,19 @@ refuses = record {
       let a = p.took_own 0 0 0 (took_at 0 0 (each_of (takes ∷ []) []) refl) in
       not_elected a.place a.step a.found 0 a.answer a.at;
   wrong_number = λ heard order owners p. let e : 1 ≡ 0 = p.numbered 0 0 1 [] refl in omega arith;
-  two_orders = λ deeds order owners p.
+  two_orders = λ actions order owners p.
       let a = p.delivered 0 in
       let b = p.delivered 1 in
       zero_one (ap (λ (z : Item). z.sender.0) (first_of (item 0 0) (item 1 0) a.later b.later (sym a.items ∙ b.items)));
-  two_heads = λ deeds order owners p.
+  two_heads = λ actions order owners p.
       let a = p.told 0 in
       let b = p.told 1 in
       zero_one (ap (λ (z : ℕ × SenderNo). z.1.0) (first_pair (0, sender 0) (0, sender 1) a.rest b.rest (a.together ∙ sym b.together)));
-  repeated = λ deeds order owners p. let a = p.delivered 0 in zero_one (next_number order 0 0 a.later p.faithful.numbered a.items);
-  skipped = λ deeds order owners p. let a = p.delivered 0 in let e : 1 ≡ 0 = head_number order 1 a.later p.faithful.numbered a.items in omega arith;
-  reversed = λ deeds order owners p. let a = p.delivered 0 in let e : 1 ≡ 0 = head_number order 1 (item 0 0 ∷ a.later) p.faithful.numbered a.items in omega arith;
-  after_the_end = λ deeds order owners p. item_end (p.silent 0 0 1 (recv.Item (item 0 0)) refl (omega arith) refl);
-  short_of_the_end = λ deeds order owners p.
+  repeated = λ actions order owners p. let a = p.delivered 0 in zero_one (next_number order 0 0 a.later p.faithful.numbered a.items);
+  skipped = λ actions order owners p. let a = p.delivered 0 in let e : 1 ≡ 0 = head_number order 1 a.later p.faithful.numbered a.items in omega arith;
+  reversed = λ actions order owners p. let a = p.delivered 0 in let e : 1 ≡ 0 = head_number order 1 (item 0 0 ∷ a.later) p.faithful.numbered a.items in omega arith;
+  after_the_end = λ actions order owners p. item_end (p.silent 0 0 1 (recv.Item (item 0 0)) refl (omega arith) refl);
+  short_of_the_end = λ actions order owners p.
       let a = p.delivered 0 in
       let b = p.delivered 1 in
       not_one (item 0 0) b.later (sym b.items ∙ ap (λ (z : Order). z.items) (sym (a.ended refl)));
@@ -139,6 +139,6 @@ refuses = record {
       let a = p.delivered 0 in
       let c = p.closed (ap (λ (z : Order). z.ended) (sym (a.ended refl))) in
       never_closed c.owner.0 c.closed.0 c.closed.1;
-  foreign_item = λ deeds heard p. foreign _ _ _ p.framed refl refl refl;
-  one_tenure_twice = λ order deeds heard p. let l = p.rising 0 1 0 0 (sender 0) (sender 0) refl refl (omega arith) in omega arith;
+  foreign_item = λ actions heard p. foreign _ _ _ p.framed refl refl refl;
+  one_tenure_twice = λ order actions heard p. let l = p.rising 0 1 0 0 (sender 0) (sender 0) refl refl (omega arith) in omega arith;
 }

@@ -16,19 +16,19 @@ use Rattle.bus_batch.specs.Frames.{Frame, AreFrames, log_words}
 use Rattle.bus_batch.proofs.FrameLaws.{same_log}
 use Rattle.bus_deliverylog.specs.Receiving.{Receiving, receiving_op}
 use Rattle.bus_ownerbits.specs.OneOwner.{OneOwner}
-use Rattle.bus_presence.specs.Hall.{Sizes, presence_at}
-use Rattle.bus_presence.specs.Sweeps.{Sweeping, sweep_op}
-use Rattle.bus_presence.specs.Visits.{step_at}
-use Rattle.bus_presence.specs.declared.visits.Visit.{Visit}
-use Rattle.bus_presence.specs.declared.visits.Visit.TheVariants.{Away, Entering, Looking, Inside, Parting, Barred}
-use Rattle.bus_presence.proofs.HallLaws.{keeps}
-use Rattle.bus_presence.proofs.RowLaws.{IsLive, alive_inside}
+use Rattle.bus_presence.specs.Reclamation.{ReclamationSizes, presence_at}
+use Rattle.bus_presence.specs.Reclaimers.{Reclaiming, reclaim_op}
+use Rattle.bus_presence.specs.Pins.{step_at}
+use Rattle.bus_presence.specs.declared.pins.Pin.{Pin}
+use Rattle.bus_presence.specs.declared.pins.Pin.TheVariants.{Away, Announcing, Validating, Pinned, Unpinning, Invalidated}
+use Rattle.bus_presence.proofs.ReclamationLaws.{keeps}
+use Rattle.bus_presence.proofs.RowLaws.{IsLive, alive_pinned}
 use Rattle.bus_tenure.specs.Core.{Election, row_at, log_at, stage_at}
 use Rattle.bus_tenure.specs.Situations.{Situation, IsClosed, IsIdle, IsSpent, LooksAtStage, Elects, TakesPage, AwaitsPage, StoresWord, StoresLength, GivesBack, HasHanded, situation_of}
 use Rattle.bus_tenure.specs.declared.phases.Reason.{Reason}
 use Rattle.bus_tenure.specs.declared.phases.Phase.TheVariants as phase
 use Rattle.bus_tenure.proofs.Situated.{tells}
-use Rattle.bus_guest.specs.Guests.{Goes, sizes_with, log_from, place_for, sweep_due, due_swept, due_home, due_beside}
+use Rattle.bus_guest.specs.Guests.{Goes, sizes_with, log_from, place_for, reclaim_due, due_reclaimed, due_home, due_beside}
 use Rattle.bus_guest.specs.Turns.{Visitor, due, op_due, on_place, op_placed}
 use Rattle.bus_world.specs.Bus.{Part, Fits, standing_of, stands_at, least_of}
 use Rattle.bus_world.specs.Headline.{order_given}
@@ -46,18 +46,18 @@ use Rattle.bus_world.proofs.YardHears.{HearsYard}
 use Rattle.bus_world.proofs.YardLaws.{HasKept, led_kept, words_read, yard_promised}
 
 -- ---- steps that add nothing
-visit_fits : (v : Visit) (word stage n : ℕ) (o : Op) → step_at v word stage ≡ Some o → SumFits o n
-visit_fits Away word stage n o e = absurd cc
-visit_fits (Entering t) word stage n o e = subst (λ q. SumFits q n) (same_Some _ _ e) tt
-visit_fits (Looking t) word stage n o e = subst (λ q. SumFits q n) (same_Some _ _ e) tt
-visit_fits (Inside t) word stage n o e = absurd cc
-visit_fits (Parting t) word stage n o e = subst (λ q. SumFits q n) (same_Some _ _ e) tt
-visit_fits (Barred t) word stage n o e = subst (λ q. SumFits q n) (same_Some _ _ e) tt
+pin_fits : (v : Pin) (word stage n : ℕ) (o : Op) → step_at v word stage ≡ Some o → SumFits o n
+pin_fits Away word stage n o e = absurd cc
+pin_fits (Announcing t) word stage n o e = subst (λ q. SumFits q n) (same_Some _ _ e) tt
+pin_fits (Validating t) word stage n o e = subst (λ q. SumFits q n) (same_Some _ _ e) tt
+pin_fits (Pinned t) word stage n o e = absurd cc
+pin_fits (Unpinning t) word stage n o e = subst (λ q. SumFits q n) (same_Some _ _ e) tt
+pin_fits (Invalidated t) word stage n o e = subst (λ q. SumFits q n) (same_Some _ _ e) tt
 
-sweep_fits : (s : Sweeping) (n : ℕ) (o : Op) → sweep_op s ≡ Some o → SumFits o n
-sweep_fits s n o = by_tests (nat_lt s.asked s.senders) (nat_lt s.cleared s.width)
+reclaimer_fits : (s : Reclaiming) (n : ℕ) (o : Op) → reclaim_op s ≡ Some o → SumFits o n
+reclaimer_fits s n o = by_tests (nat_lt s.scanned s.senders) (nat_lt s.cleared s.width)
   where
-    by_tests : (a c : Bool) → cond a (Some (Load record { 0 = s.presences + s.asked })) (cond c (Some (Store record { 0 = s.row + s.cleared } 0)) None) ≡ Some o → SumFits o n
+    by_tests : (a c : Bool) → cond a (Some (Load record { 0 = s.presences + s.scanned })) (cond c (Some (Store record { 0 = s.row + s.cleared } 0)) None) ≡ Some o → SumFits o n
     by_tests true c e = subst (λ q. SumFits q n) (same_Some _ _ e) tt
     by_tests false true e = subst (λ q. SumFits q n) (same_Some _ _ e) tt
     by_tests false false e = absurd cc
@@ -73,16 +73,16 @@ module _ {E : Type 0} (X : Election E) (P : Protocol E (Unit {0}) ℕ) (laws : L
     (named : (e : E) (word : ℕ) → is_some (X.kind_of e) ≡ is_some (X.op e word)) (announces : (e : E) → P.has_begun e ≡ false → X.kind_of e ≡ Some kind.Announce) (apart : (e : E) → X.kind_of e ≡ Some kind.TakePage → ⊥)
     (b : Ring E) (x : IsRingLayout X P laws owner_is named announces apart b.layout b.rows) (T : RingTrails) (h : IsLed X P laws owner_is named announces apart b T) where
   abbrev y : Yard E
-  y = yard_of b h.leads.sweep h.leads.owners
+  y = yard_of b h.leads.reclaimer h.leads.owners
 
-  abbrev z : Sizes
+  abbrev z : ReclamationSizes
   z = sizes_with b.layout b.rows
 
-  k : HasKept X P laws b.layout x.ok x.width x.starts owner_is named announces apart b.rows x.two T.heard y T.visits T.deeds
-  k = led_kept X P laws b.layout x.ok x.width x.starts owner_is named announces apart b.rows x.two T.heard y T.visits T.deeds h.leads.led
+  k : HasKept X P laws b.layout x.ok x.width x.starts owner_is named announces apart b.rows x.two T.heard y T.pins T.actions
+  k = led_kept X P laws b.layout x.ok x.width x.starts owner_is named announces apart b.rows x.two T.heard y T.pins T.actions h.leads.led
 
-  promised : IsKeptYard X b.layout b.rows y T.visits T.deeds T.heard
-  promised = yard_promised X P laws b.layout x.ok x.width x.starts owner_is named announces apart b.rows x.two y T.visits T.deeds T.heard h.leads.led
+  promised : IsKeptYard X b.layout b.rows y T.pins T.actions T.heard
+  promised = yard_promised X P laws b.layout x.ok x.width x.starts owner_is named announces apart b.rows x.two y T.pins T.actions T.heard h.leads.led
 
   -- ---- the words
   pub words_are : length b.words ≡ log_from b.layout b.rows + b.layout.capacity
@@ -101,7 +101,7 @@ module _ {E : Type 0} (X : Election E) (P : Protocol E (Unit {0}) ℕ) (laws : L
   pub frames_there : (frames : List Frame) × AreFrames b.layout.senders frames × (words_read_from (slice_index b.words) (log_from b.layout b.rows) (slice_index b.words 0) ≡ log_words frames)
   frames_there = (k.frames, k.kept.sending.log.lawful, log_read)
 
-  pub takers_are : Takers h.leads.owners T.deeds
+  pub takers_are : Takers h.leads.owners T.actions
   takers_are = promised.by.takers
 
   -- ---- a sender
@@ -140,8 +140,8 @@ module _ {E : Type 0} (X : Election E) (P : Protocol E (Unit {0}) ℕ) (laws : L
       runs : of_some standing_of (y.senders s) ≡ Some (Runs t e)
       runs = ap (of_some standing_of) old ∙ ap (λ w. Some (stands_at w)) elects
 
-      live : IsLive z y.hall t
-      live = alive_inside z x.two y.hall T.visits (keeps z x.two y.hall T.visits k.kept.reached) s t ((k.kept.guests s v.core old).electing t e elects)
+      live : IsLive z y.reclamation t
+      live = alive_pinned z x.two y.reclamation T.pins (keeps z x.two y.reclamation T.pins k.kept.reached) s t ((k.kept.guests s v.core old).electing t e elects)
 
       -- it finds what it would find with a row for each tenure
       found_there : slice_index b.words (place_for b.layout b.rows (Elects t e) (register o)) ≡ k.V (register o)
@@ -188,20 +188,20 @@ module _ {E : Type 0} (X : Election E) (P : Protocol E (Unit {0}) ℕ) (laws : L
       abbrev now : Situation E
       now = situation_of X v.core
 
-      by_step : (r : Sweeping) (d : Option Op) → sweep_op r ≡ d → op_due X v (due_swept r d now) word ≡ Some o → FitsHere o
+      by_step : (r : Reclaiming) (d : Option Op) → reclaim_op r ≡ d → op_due X v (due_reclaimed r d now) word ≡ Some o → FitsHere o
       by_step r None is e = goes_fits now refl e
-      by_step r (Some q) is e = sweep_fits r (slice_index b.words (register o)) o (is ∙ e)
+      by_step r (Some q) is e = reclaimer_fits r (slice_index b.words (register o)) o (is ∙ e)
 
-      by_sweep : (r : Option Sweeping) → op_due X v (due_home r now) word ≡ Some o → FitsHere o
-      by_sweep None e = goes_fits now refl e
-      by_sweep (Some r) e = by_step r (sweep_op r) refl e
+      by_reclaimer : (r : Option Reclaiming) → op_due X v (due_home r now) word ≡ Some o → FitsHere o
+      by_reclaimer None e = goes_fits now refl e
+      by_reclaimer (Some r) e = by_step r (reclaim_op r) refl e
 
-      by_visit : (d : Option Op) → step_at v.visit (presence_at (sizes_with v.core.layout v.rows) v.core.me) stage_at ≡ d → op_due X v (due_beside d v.sweep now) word ≡ Some o → FitsHere o
-      by_visit (Some q) is e = visit_fits v.visit (presence_at (sizes_with v.core.layout v.rows) v.core.me) stage_at (slice_index b.words (register o)) o (is ∙ e)
-      by_visit None is e = by_sweep (sweep_due now v.sweep) e
+      by_pin : (d : Option Op) → step_at v.pin (presence_at (sizes_with v.core.layout v.rows) v.core.me) stage_at ≡ d → op_due X v (due_beside d v.reclaimer now) word ≡ Some o → FitsHere o
+      by_pin (Some q) is e = pin_fits v.pin (presence_at (sizes_with v.core.layout v.rows) v.core.me) stage_at (slice_index b.words (register o)) o (is ∙ e)
+      by_pin None is e = by_reclaimer (reclaim_due now v.reclaimer) e
 
       pub sums_fit : op_due X v (due X v) word ≡ Some o → SumFits o (slice_index b.words (register o))
-      sums_fit e = by_visit (step_at v.visit (presence_at (sizes_with v.core.layout v.rows) v.core.me) stage_at) refl e
+      sums_fit e = by_pin (step_at v.pin (presence_at (sizes_with v.core.layout v.rows) v.core.me) stage_at) refl e
 
   -- ---- a receiver
   module _ (r : ℕ) (v : Receiving) (at : slice_get b.receivers r ≡ Some v) where

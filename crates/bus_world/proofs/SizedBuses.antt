@@ -10,14 +10,14 @@ use Rattle.bus_world.specs.Headline.{order_given}
 use Rattle.bus_world.specs.Playing.{SizedBus, AllAnswered, Answers, log_of}
 use Rattle.bus_world.proofs.PlayingLaws.{layout_served, one_there}
 use Rattle.bus_world.specs.Telling.{Tells}
-use Rattle.bus_world.specs.Trails.{Trails, Reached, IsPromised, Takers, Follows, Played, IsServedBus}
+use Rattle.bus_world.specs.Trails.{Trails, Reached, IsPromised, Takers, Follows, Played, MachineInvariant}
 use Rattle.bus_world.specs.World.{Bus, Event, IsEvent, Happens, given_at}
 use Rattle.bus_world.specs.declared.events.Answer.{Answer}
 use Rattle.bus_world.proofs.EventTrails as trails
 use Rattle.bus_world.proofs.Serving.{Serves}
 use Rattle.bus_world.proofs.Tellings.{event_tells}
 
-module _ {E : Type 0} (X : Election E) (P : Protocol E (Unit {0}) ℕ) (x : Layout) (s : Serves X P x) (b : Bus E) (h : IsServedBus X P record { layout = x; bus = b }) (now : SizedBus E) (is : record { layout = x; bus = b } ≡ now) where
+module _ {E : Type 0} (X : Election E) (P : Protocol E (Unit {0}) ℕ) (x : Layout) (s : Serves X P x) (b : Bus E) (h : MachineInvariant X P record { layout = x; bus = b }) (now : SizedBus E) (is : record { layout = x; bus = b } ≡ now) where
   served : IsLayout x
   served = layout_served X P x s.laws s.width s.starts s.owner_is b h
 
@@ -36,7 +36,7 @@ module _ {E : Type 0} (X : Election E) (P : Protocol E (Unit {0}) ℕ) (x : Layo
   pub promised : (T : Trails) → Reached X now.layout now.bus T → IsPromised now.layout now.bus T
   promised = subst (λ z. (T : Trails) → Reached X z.layout z.bus T → IsPromised z.layout z.bus T) is (trails.promised X P s.laws x served s.width s.starts s.owner_is s.named s.announces s.apart b)
 
-  pub took : (T : Trails) → Reached X now.layout now.bus T → Takers now.bus.side.owners T.deeds
+  pub took : (T : Trails) → Reached X now.layout now.bus T → Takers now.bus.side.owners T.actions
   took T r = (promised T r).by.takers
 
   pub below : (T : Trails) → Reached X now.layout now.bus T → (frames : List Frame) → AreFrames now.layout.senders frames → log_of now ≡ log_words frames → (r : ℕ) (v : Receiving) → slice_get now.bus.receivers r ≡ Some v → order_given (T.heard r) ≡ given_at frames v

@@ -12,10 +12,10 @@ use Rattle.bus_deliverylog.specs.Receiving.{Receiving}
 use Rattle.bus_tenure.specs.Core.{Core, Election, Layout}
 use Rattle.bus_tenure.specs.Situations.{situation_of}
 use Rattle.bus_world.specs.Bus.{IsLayout}
-use Rattle.bus_world.specs.Headline.{Deed}
+use Rattle.bus_world.specs.Headline.{Action}
 use Rattle.bus_world.specs.Playing.{AllAnswered, Answers, PutGives, CloseGives, TurnAnswers, RecvAnswers, StopGives, Refused, PutRefused, CloseRefused, TurnRefused, RecvRefused, StopRefused, UnlessStopped}
 use Rattle.bus_world.specs.Stopping.{IsOfOther, JustStopped, StaysStopped, StopsAreForGood, StopRefuses}
-use Rattle.bus_world.specs.Trails.{Trails, Reached, trails_grown, trails_after, deeds_of, put_deeds, close_deeds, turning_deeds}
+use Rattle.bus_world.specs.Trails.{Trails, Reached, trails_grown, trails_after, actions_of, put_actions, close_actions, turning_actions}
 use Rattle.bus_world.specs.Trails.Reached.{New, Then}
 use Rattle.bus_world.specs.Turning.{Side, side_after}
 use Rattle.bus_world.specs.World.{Bus, Event, Put, Close, Turn, Recv, Stop, is_set, has_stopped, going, Happens, SenderDoes, ReceiverDoes, StopDoes, with_sender, put_in, close_in}
@@ -59,7 +59,7 @@ module _ {E : Type 0} (X : Election E) where
   record Left (b : Bus E) (e : Event) (a : Answer) (s : ℕ) (b' : Bus E) : Type 0 where
     stopped : has_stopped b' s ≡ true
     state : slice_get b'.side.senders s ≡ slice_get b.side.senders s
-    deeds : deeds_of X b e a s ≡ []
+    actions : actions_of X b e a s ≡ []
 
   event_leaves : (b b' : Bus E) (e : Event) (a : Answer) (s : ℕ) → has_stopped b s ≡ true → Happens X b e b' → Answers X b e a b' → Left b e a s b'
   event_leaves b b' (Put q bytes) a s stop d w = elim (cases_eq s q) [
@@ -67,7 +67,7 @@ module _ {E : Type 0} (X : Election E) where
     | inr ne ↦ record {
       stopped = ap (λ l. is_set (slice_get l s)) d.2 ∙ stop;
       state = apart b.side b'.side (going b q) (λ c. with_sender b.side q (put_in c bytes)) s (λ c. get_set_other b.side.senders q (put_in c bytes) s ne) d.0;
-      deeds = ap (λ z. cond z (put_deeds bytes a) []) (ne_eqb s q ne);
+      actions = ap (λ z. cond z (put_actions bytes a) []) (ne_eqb s q ne);
     }
   ]
   event_leaves b b' (Close q) a s stop d w = elim (cases_eq s q) [
@@ -75,7 +75,7 @@ module _ {E : Type 0} (X : Election E) where
     | inr ne ↦ record {
       stopped = ap (λ l. is_set (slice_get l s)) d.2 ∙ stop;
       state = apart b.side b'.side (going b q) (λ c. with_sender b.side q (close_in c)) s (λ c. get_set_other b.side.senders q (close_in c) s ne) d.0;
-      deeds = ap (λ z. cond z (close_deeds a) []) (ne_eqb s q ne);
+      actions = ap (λ z. cond z (close_actions a) []) (ne_eqb s q ne);
     }
   ]
   event_leaves b b' (Turn q word) a s stop d w = elim (cases_eq s q) [
@@ -83,22 +83,22 @@ module _ {E : Type 0} (X : Election E) where
     | inr ne ↦ record {
       stopped = ap (λ l. is_set (slice_get l s)) d.2 ∙ stop;
       state = apart b.side b'.side (going b q) (λ c. side_after X b.side q c (situation_of X c) word) s (λ c. get_set_other b.side.senders q _ s ne) d.0;
-      deeds = ap (λ z. cond z (turning_deeds X b.side.words (going b q) word a) []) (ne_eqb s q ne);
+      actions = ap (λ z. cond z (turning_actions X b.side.words (going b q) word a) []) (ne_eqb s q ne);
     }
   ]
-  event_leaves b b' (Recv r) a s stop d w = record { stopped = ap (λ l. is_set (slice_get l s)) d.2 ∙ stop; state = ap (λ (z : Side E). slice_get z.senders s) d.0; deeds = refl }
+  event_leaves b b' (Recv r) a s stop d w = record { stopped = ap (λ l. is_set (slice_get l s)) d.2 ∙ stop; state = ap (λ (z : Side E). slice_get z.senders s) d.0; actions = refl }
   event_leaves b b' (Stop q) a s stop d w = elim (cases_eq s q) [
     | inl e ↦ absurd (subst (λ o. StopGives o) (gone b q s stop e) w.0)
-    | inr ne ↦ record { stopped = stop_apart b.stopped b'.stopped q s (going b q) ne d.2 ∙ stop; state = ap (λ (z : Side E). slice_get z.senders s) d.0; deeds = refl }
+    | inr ne ↦ record { stopped = stop_apart b.stopped b'.stopped q s (going b q) ne d.2 ∙ stop; state = ap (λ (z : Side E). slice_get z.senders s) d.0; actions = refl }
   ]
 
   -- and so do all
   stays : (events : List Event) (old new : Bus E) (run : AllAnswered X old events new) (T : Trails) (s : ℕ) → has_stopped old s ≡ true → StaysStopped old T s new (trails_after X old events new run T)
-  stays [] old new run T s stop = record { stopped = ap (λ (z : Bus E). has_stopped z s) run ∙ stop; state = ap (λ (z : Bus E). slice_get z.side.senders s) run; deeds = refl }
+  stays [] old new run T s stop = record { stopped = ap (λ (z : Bus E). has_stopped z s) run ∙ stop; state = ap (λ (z : Bus E). slice_get z.side.senders s) run; actions = refl }
   stays (e ∷ events) old new run T s stop =
       let one = event_leaves old run.0 e run.1 s stop run.3 run.4 in
       let rest = stays events run.0 new run.5 (trails_grown X old e run.1 T) s one.stopped in
-      record { stopped = rest.stopped; state = rest.state ∙ one.state; deeds = rest.deeds ∙ ap (λ ds. T.deeds s ++ ds) one.deeds ∙ append-nil (T.deeds s) }
+      record { stopped = rest.stopped; state = rest.state ∙ one.state; actions = rest.actions ∙ ap (λ ds. T.actions s ++ ds) one.actions ∙ append-nil (T.actions s) }
 
   -- ---- a stop
   set_now : (old new : List Bool) (s : ℕ) (o : Option (Core E)) → StopGives o → s < length old → StopDoes old s o new → is_set (slice_get new s) ≡ true
@@ -197,8 +197,8 @@ module _ {E : Type 0} (X : Election E) where
   trails_too s b b' like (Put q bytes) a T ne = refl
   trails_too s b b' like (Close q) a T ne = refl
   trails_too s b b' like (Turn q word) a T ne =
-      let grown : List Deed → Trails = λ more. record { deeds = λ p. T.deeds p ++ (if p == q then more else []); heard = λ r. T.heard r ++ [] } in
-      ap (λ (z : Side E). grown (turning_deeds X z.words (going b' q) word a)) like.side ∙ ap (λ o. grown (turning_deeds X b.side.words o word a)) (alike_goes s b b' like q ne)
+      let grown : List Action → Trails = λ more. record { actions = λ p. T.actions p ++ (if p == q then more else []); heard = λ r. T.heard r ++ [] } in
+      ap (λ (z : Side E). grown (turning_actions X z.words (going b' q) word a)) like.side ∙ ap (λ o. grown (turning_actions X b.side.words o word a)) (alike_goes s b b' like q ne)
   trails_too s b b' like (Recv r) a T ne = refl
   trails_too s b b' like (Stop q) a T ne = refl
 
@@ -244,7 +244,7 @@ module _ {E : Type 0} (X : Election E) (P : Protocol E (Unit {0}) ℕ) (laws : L
         others = like.others;
         side = like.side;
         receivers = like.receivers;
-        deeds = λ D q. append-nil (D.deeds q);
+        actions = λ D q. append-nil (D.actions q);
         heard = λ D q. append-nil (D.heard q);
         trails_alike = λ e g D other. trails_too X s old new like e g D other;
         happens_alike = λ e next other h. happens_too X s true old new like now e next other h;

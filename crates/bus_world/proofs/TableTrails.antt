@@ -13,7 +13,7 @@ use Rattle.bus_tenure.specs.declared.turns.Turn.{Turn as Answered}
 use Rattle.bus_ownerbits.specs.OneOwner.{OneOwner}
 use Rattle.bus_ownerbits.proofs.ElectionSteps.{row_within}
 use Rattle.bus_world.proofs.Places.{got_before, got_after, got_split}
-use Rattle.bus_world.specs.Headline.{Deed, HasPut, HasClosed, Stepped, Announced, Elected, Took}
+use Rattle.bus_world.specs.Headline.{Action, HasPut, HasClosed, Stepped, Announced, Elected, Took}
 use Rattle.bus_world.proofs.Tying.{next_tenure, Tables, PageTies}
 
 -- ---- lists
@@ -28,29 +28,29 @@ pub none_in : {A : Type 0} (i : ℕ) (x : A) → slice_get [] i ≡ Some x → �
 none_in i x e = cc
 
 -- ---- trails
-pub Announced-before : (xs ys : List Deed) (t : ℕ) → Announced xs t → Announced (xs ++ ys) t
+pub Announced-before : (xs ys : List Action) (t : ℕ) → Announced xs t → Announced (xs ++ ys) t
 Announced-before xs ys t a = record { place = a.place; found = a.found; chose = a.chose; answer = a.answer; at = got_before xs ys a.place _ a.at }
 
-pub Elected-before : (xs ys : List Deed) (t o : ℕ) → Elected xs t o → Elected (xs ++ ys) t o
+pub Elected-before : (xs ys : List Action) (t o : ℕ) → Elected xs t o → Elected (xs ++ ys) t o
 Elected-before xs ys t o a = record { place = a.place; step = a.step; found = a.found; answer = a.answer; at = got_before xs ys a.place _ a.at }
 
-pub Took-before : (xs ys : List Deed) (t i : ℕ) → Took xs t i → Took (xs ++ ys) t i
+pub Took-before : (xs ys : List Action) (t i : ℕ) → Took xs t i → Took (xs ++ ys) t i
 Took-before xs ys t i a = record { found = a.found; chose = a.chose; answer = a.answer; at = got_before xs ys i _ a.at }
 
-pub Elected-split : (xs ys : List Deed) (t o : ℕ) → Elected (xs ++ ys) t o → Elected xs t o ⊎ Elected ys t o
+pub Elected-split : (xs ys : List Action) (t o : ℕ) → Elected (xs ++ ys) t o → Elected xs t o ⊎ Elected ys t o
 Elected-split xs ys t o a = elim (got_split xs ys a.place _ a.at) [
   | inl l ↦ inl (record { place = a.place; step = a.step; found = a.found; answer = a.answer; at = l })
   | inr r ↦ inr (record { place = r.0; step = a.step; found = a.found; answer = a.answer; at = r.2 })
 ]
 
-pub Took-split : (xs ys : List Deed) (t i : ℕ) → Took (xs ++ ys) t i → Took xs t i ⊎ ((j : ℕ) × (i ≡ length xs + j) × Took ys t j)
+pub Took-split : (xs ys : List Action) (t i : ℕ) → Took (xs ++ ys) t i → Took xs t i ⊎ ((j : ℕ) × (i ≡ length xs + j) × Took ys t j)
 Took-split xs ys t i a = elim (got_split xs ys i _ a.at) [
   | inl l ↦ inl (record { found = a.found; chose = a.chose; answer = a.answer; at = l })
   | inr r ↦ inr (r.0, r.1, record { found = a.found; chose = a.chose; answer = a.answer; at = r.2 })
 ]
 
--- deeds that end no election, and that take no page
-pub record IsPlain (ds : List Deed) : Type 0 where
+-- actions that end no election, and that take no page
+pub record IsPlain (ds : List Action) : Type 0 where
   pub none_elected : (t o : ℕ) → Elected ds t o → ⊥
   pub none_took : (t i : ℕ) → Took ds t i → ⊥
 
@@ -88,11 +88,11 @@ plain_step tn k f a other = record {
 }
 
 -- ---- the trails of all, of which that of one has more
-pub record Longer (p : ℕ) (ds : List Deed) (old new : ℕ → List Deed) : Type 0 where
+pub record Longer (p : ℕ) (ds : List Action) (old new : ℕ → List Action) : Type 0 where
   pub own : new p ≡ old p ++ ds
   pub others : Beside p old new
 
-module _ (p : ℕ) (ds : List Deed) (old new : ℕ → List Deed) (g : Longer p ds old new) where
+module _ (p : ℕ) (ds : List Action) (old new : ℕ → List Action) (g : Longer p ds old new) where
   pub announced_still : (q t : ℕ) → Announced (old q) t → Announced (new q) t
   announced_still q t a = elim (cases_eq q p) [
     | inl i ↦ subst (λ z. Announced (new z) t) (sym i) (subst (λ z. Announced z t) (sym g.own) (Announced-before (old p) ds t (subst (λ z. Announced (old z) t) i a)))
@@ -184,7 +184,7 @@ pub record GoesOn {E : Type 0} (p : ℕ) (c c' : Core E) (old new : ℕ → Opti
   pub others : Beside p old new
   pub rises : next_tenure c ≤ next_tenure c'
 
-module _ {E : Type 0} (X : Election E) (P : Protocol E (Unit {0}) ℕ) (laws : Laws X.op X.fed P OneOwner) (x : Layout) (words words' : ℕ → ℕ) (old new : ℕ → List Deed) (p : ℕ) (ds : List Deed) (g : Longer p ds old new)
+module _ {E : Type 0} (X : Election E) (P : Protocol E (Unit {0}) ℕ) (laws : Laws X.op X.fed P OneOwner) (x : Layout) (words words' : ℕ → ℕ) (old new : ℕ → List Action) (p : ℕ) (ds : List Action) (g : Longer p ds old new)
     (senders senders' : ℕ → Option (Core E)) (c c' : Core E) (f : GoesOn p c c' senders senders') (h : Tables P x words senders old) where
   ahead_still : (q : ℕ) (d : Core E) (t : ℕ) → senders' q ≡ Some d → next_tenure d ≤ t → h.elections t q ≡ None
   ahead_still q d t e l = elim (cases_eq q p) [

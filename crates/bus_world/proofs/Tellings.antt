@@ -23,14 +23,14 @@ use Rattle.bus_tenure.specs.declared.turns.Turn.TheVariants as turn
 use Rattle.bus_world.specs.declared.events.Answer.{Answer}
 use Rattle.bus_world.specs.declared.events.Answer.TheVariants as answer
 use Rattle.bus_world.specs.Bus.{IsLayout, Part, Fits}
-use Rattle.bus_world.specs.Headline.{Deed, Stepped, Elected, Took, AreFramed}
+use Rattle.bus_world.specs.Headline.{Action, Stepped, Elected, Took, AreFramed}
 use Rattle.bus_world.specs.Log.{words_read_from}
 use Rattle.bus_world.proofs.Stopping.{is_there}
 use Rattle.bus_world.proofs.LogLaws.{length-read, items-append}
 use Rattle.bus_world.specs.Playing.{Answers, TurnAnswers, log_of}
 use Rattle.bus_world.proofs.FrameOfBatch.{counted_frame, length-items}
 use Rattle.bus_world.specs.Telling.{TurnTells, SenderTells, EventTells}
-use Rattle.bus_world.specs.Trails.{Trails, Reached, trails_grown, turn_deeds, turning_deeds, step_deed}
+use Rattle.bus_world.specs.Trails.{Trails, Reached, trails_grown, turn_actions, turning_actions, step_action}
 use Rattle.bus_world.specs.Turning.{Side, number_found}
 use Rattle.bus_world.proofs.TurningLaws.{IsSide, side_of}
 use Rattle.bus_world.specs.World.{Bus, Event, Put, Close, Turn, Recv, Stop, going, Happens}
@@ -44,7 +44,7 @@ some_messages ph n (inr closing) e = absurd (true≢false (sym (ap is_closing cl
 
 module _ {E : Type 0} (X : Election E) (P : Protocol E (Unit {0}) ℕ) (laws : Laws X.op X.fed P OneOwner) (x : Layout) (owner_is : (e : E) → X.owner e ≡ P.output e)
     (named : (e : E) (word : ℕ) → is_some (X.kind_of e) ≡ is_some (X.op e word))
-    (side : Side E) (frames : List Frame) (h : IsSide P x side frames) (p : ℕ) (c : Core E) (old : slice_get side.senders p ≡ Some c) (word : ℕ) (before : List Deed) where
+    (side : Side E) (frames : List Frame) (h : IsSide P x side frames) (p : ℕ) (c : Core E) (old : slice_get side.senders p ≡ Some c) (word : ℕ) (before : List Action) where
   abbrev W : ℕ → ℕ
   W = slice_index side.words
 
@@ -57,11 +57,11 @@ module _ {E : Type 0} (X : Election E) (P : Protocol E (Unit {0}) ℕ) (laws : L
   abbrev told : Situation E → Answered
   told z = answer_at X c z (number_found (slice_index side.words) (op_at X c z word)) word
 
-  abbrev deeds : Situation E → List Deed
-  deeds z = before ++ turn_deeds X c z (number_found (slice_index side.words) (op_at X c z word)) word (answer.Turn (told z))
+  abbrev actions : Situation E → List Action
+  actions z = before ++ turn_actions X c z (number_found (slice_index side.words) (op_at X c z word)) word (answer.Turn (told z))
 
   abbrev True : Situation E → Type 0
-  True z = ((t place : ℕ) → Took (deeds z) t place → Elected (deeds z) t p) → TurnTells x log p c (deeds z) (told z)
+  True z = ((t place : ℕ) → Took (actions z) t place → Elected (actions z) t p) → TurnTells x log p c (actions z) (told z)
 
   pick : (b : Bool) (s u : Situation E) → (b ≡ true → True s) → (b ≡ false → True u) → True (cond b s u)
   pick true s u f g = f refl
@@ -69,9 +69,9 @@ module _ {E : Type 0} (X : Election E) (P : Protocol E (Unit {0}) ℕ) (laws : L
 
   -- ---- at rest
   looks : True LooksAtStage
-  looks own = by_tests (waits c (number_found (slice_index side.words) (op_at X c LooksAtStage word))) (nat_le c.layout.rows (number_found (slice_index side.words) (op_at X c LooksAtStage word) / 2)) (deeds LooksAtStage)
+  looks own = by_tests (waits c (number_found (slice_index side.words) (op_at X c LooksAtStage word))) (nat_le c.layout.rows (number_found (slice_index side.words) (op_at X c LooksAtStage word) / 2)) (actions LooksAtStage)
     where
-      by_tests : (a b : Bool) (ds : List Deed) → TurnTells x log p c ds (cond a turn.Waiting (cond b turn.Spent turn.Going))
+      by_tests : (a b : Bool) (ds : List Action) → TurnTells x log p c ds (cond a turn.Waiting (cond b turn.Spent turn.Going))
       by_tests true b ds = tt
       by_tests false true ds = tt
       by_tests false false ds = tt
@@ -83,10 +83,10 @@ module _ {E : Type 0} (X : Election E) (P : Protocol E (Unit {0}) ℕ) (laws : L
   module _ (t : ℕ) (e : E) where
     takes : True (TakesPage t)
     takes own =
-        let taken : Took (deeds (TakesPage t)) t (length before + 0) = record { found = number_found (slice_index side.words) (op_at X c (TakesPage t) word); chose = None; answer = turn.Own t; at = got_after before _ 0 _ refl (length before + 0) refl } in
+        let taken : Took (actions (TakesPage t)) t (length before + 0) = record { found = number_found (slice_index side.words) (op_at X c (TakesPage t) word); chose = None; answer = turn.Own t; at = got_after before _ 0 _ refl (length before + 0) refl } in
         (own t (length before + 0) taken, (length before + 0, taken))
 
-    lost_or : (got : ℕ) (k : Kind) (owner : Option ℕ) → TurnTells x log p c (before ++ step_deed (Some k) (Some t) got owner (answer_of_election c t owner)) (answer_of_election c t owner)
+    lost_or : (got : ℕ) (k : Kind) (owner : Option ℕ) → TurnTells x log p c (before ++ step_action (Some k) (Some t) got owner (answer_of_election c t owner)) (answer_of_election c t owner)
     lost_or got k None = tt
     lost_or got k (Some u) = by_test (u == c.me) (eqb_tells u c.me)
       where
@@ -109,7 +109,7 @@ module _ {E : Type 0} (X : Election E) (P : Protocol E (Unit {0}) ℕ) (laws : L
         let k = has_kind none in
         let got = number_found (slice_index side.words) (X.op e word) in
         let owner = X.owner (X.fed e got word) in
-        subst (λ z. TurnTells x log p c (before ++ step_deed z (Some t) got owner (answer_of_election c t owner)) (answer_of_election c t owner)) (sym k.1) (lost_or got k.0 owner)
+        subst (λ z. TurnTells x log p c (before ++ step_action z (Some t) got owner (answer_of_election c t owner)) (answer_of_election c t owner)) (sym k.1) (lost_or got k.0 owner)
 
     elect_true : True (electing X t e)
     elect_true = pick (is_some (X.owner e)) (TakesPage t) (Elects t e) (λ _. takes) elects_on
@@ -122,7 +122,7 @@ module _ {E : Type 0} (X : Election E) (P : Protocol E (Unit {0}) ℕ) (laws : L
         by_closing (is_closing c.queue.phase) refl fits.1.front fits.1.frames_are (some_messages c.queue.phase (length c.queue.messages) fits.0.something)
       where
         by_closing : (b : Bool) → is_closing c.queue.phase ≡ b → (front : List Frame) → frames ≡ front ++ frame_of c.queue t ∷ [] → (is_closing c.queue.phase ≡ false → 0 < length c.queue.messages)
-            → TurnTells x log p c (before ++ turn_deeds X c (GivesBack t page Sent) (number_found (slice_index side.words) (op_at X c (GivesBack t page Sent) word)) word (answer.Turn (told (GivesBack t page Sent)))) (cond b turn.Closed (turn.Delivered t c.queue.first (next_of c.queue - 1)))
+            → TurnTells x log p c (before ++ turn_actions X c (GivesBack t page Sent) (number_found (slice_index side.words) (op_at X c (GivesBack t page Sent) word)) word (answer.Turn (told (GivesBack t page Sent)))) (cond b turn.Closed (turn.Delivered t c.queue.first (next_of c.queue - 1)))
         by_closing true i front e some = tt
         by_closing false i front e some = (
           order_of frames,
@@ -178,23 +178,23 @@ module _ {E : Type 0} (X : Election E) (P : Protocol E (Unit {0}) ℕ) (laws : L
     (named : (e : E) (word : ℕ) → is_some (X.kind_of e) ≡ is_some (X.op e word)) (announces : (e : E) → P.has_begun e ≡ false → X.kind_of e ≡ Some kind.Announce) (apart : (e : E) → X.kind_of e ≡ Some kind.TakePage → ⊥)
     (old new : Bus E) (T : Trails) (r : Reached X x old T) where
   sender_tells : (s word : ℕ) (o : Option (Core E)) → going old s ≡ o → (t : Answered) → TurnAnswers X old.side.words o word (answer.Turn t)
-      → ((u place : ℕ) → Took (T.deeds s ++ turning_deeds X old.side.words o word (answer.Turn t)) u place → Elected (T.deeds s ++ turning_deeds X old.side.words o word (answer.Turn t)) u s)
-      → SenderTells x (log_of record { layout = x; bus = old }) s o (T.deeds s ++ turning_deeds X old.side.words o word (answer.Turn t)) t
+      → ((u place : ℕ) → Took (T.actions s ++ turning_actions X old.side.words o word (answer.Turn t)) u place → Elected (T.actions s ++ turning_actions X old.side.words o word (answer.Turn t)) u s)
+      → SenderTells x (log_of record { layout = x; bus = old }) s o (T.actions s ++ turning_actions X old.side.words o word (answer.Turn t)) t
   sender_tells s word None i t told own = absurd told
   sender_tells s word (Some c) i t told own =
       let k = reached_kept X P laws x ok width starts owner_is named announces apart old T r in
       let is = same_turn t _ told in
-      subst (λ z. ((u place : ℕ) → Took (T.deeds s ++ turning_deeds X old.side.words (Some c) word (answer.Turn z)) u place → Elected (T.deeds s ++ turning_deeds X old.side.words (Some c) word (answer.Turn z)) u s)
-      → TurnTells x (log_of record { layout = x; bus = old }) s c (T.deeds s ++ turning_deeds X old.side.words (Some c) word (answer.Turn z)) z) (sym is)
-      (turn_true X P laws x owner_is named old.side k.frames (side_of k.lawful) s c (is_there old s c i) word (T.deeds s)) own
+      subst (λ z. ((u place : ℕ) → Took (T.actions s ++ turning_actions X old.side.words (Some c) word (answer.Turn z)) u place → Elected (T.actions s ++ turning_actions X old.side.words (Some c) word (answer.Turn z)) u s)
+      → TurnTells x (log_of record { layout = x; bus = old }) s c (T.actions s ++ turning_actions X old.side.words (Some c) word (answer.Turn z)) z) (sym is)
+      (turn_true X P laws x owner_is named old.side k.frames (side_of k.lawful) s c (is_there old s c i) word (T.actions s)) own
 
   turn_tells : (s word : ℕ) (t : Answered) → Happens X old (Turn s word) new → Answers X old (Turn s word) (answer.Turn t) new → EventTells x old (Turn s word) (answer.Turn t) (trails_grown X old (Turn s word) (answer.Turn t) T)
   turn_tells s word t d w =
       let f = (follows X P laws x ok width starts owner_is named announces apart old new (Turn s word) (answer.Turn t) tt d w).promised T r in
       by_same (s == s) (eqb_tells s s) (λ u place. f.after.by.promises.took_own u s place)
     where
-      by_same : (b : Bool) → ((b ≡ true) × (s ≡ s)) ⊎ ((b ≡ false) × (s ≡ s → ⊥)) → ((u place : ℕ) → Took (T.deeds s ++ cond b (turning_deeds X old.side.words (going old s) word (answer.Turn t)) []) u place → Elected (T.deeds s ++ cond b (turning_deeds X old.side.words (going old s) word (answer.Turn t)) []) u s)
-          → SenderTells x (log_of record { layout = x; bus = old }) s (going old s) (T.deeds s ++ cond b (turning_deeds X old.side.words (going old s) word (answer.Turn t)) []) t
+      by_same : (b : Bool) → ((b ≡ true) × (s ≡ s)) ⊎ ((b ≡ false) × (s ≡ s → ⊥)) → ((u place : ℕ) → Took (T.actions s ++ cond b (turning_actions X old.side.words (going old s) word (answer.Turn t)) []) u place → Elected (T.actions s ++ cond b (turning_actions X old.side.words (going old s) word (answer.Turn t)) []) u s)
+          → SenderTells x (log_of record { layout = x; bus = old }) s (going old s) (T.actions s ++ cond b (turning_actions X old.side.words (going old s) word (answer.Turn t)) []) t
       by_same true y own = sender_tells s word (going old s) refl t w own
       by_same false (inl y) own = absurd (true≢false (sym y.0))
       by_same false (inr y) own = absurd (y.1 refl)

@@ -31,22 +31,22 @@ use Rattle.bus_world.specs.Turning.{Side, words_after, number_found, core_with_p
 use Rattle.bus_world.proofs.BusLaws as bus
 use Rattle.bus_world.proofs.TurningLaws.{IsSide, Steps, stepped-steps, turn_within, open_stage}
 use Rattle.bus_world.specs.declared.events.Answer.TheVariants as answer
-use Rattle.bus_world.specs.Headline.{Deed, Stepped, Announced, Elected}
-use Rattle.bus_world.specs.Trails.{step_deed, turn_deeds}
+use Rattle.bus_world.specs.Headline.{Action, Stepped, Announced, Elected}
+use Rattle.bus_world.specs.Trails.{step_action, turn_actions}
 use Rattle.bus_world.proofs.Tying.{next_at, next_tenure, Tables, PageTies}
 use Rattle.bus_world.proofs.Places.{got_after}
 use Rattle.bus_world.proofs.TableTrails.{IsPlain, plain_none, plain_step, one_elected, one_took, Longer, announced_still, takers_stay, takers_more, GoesOn, tables_stay, tables_step}
 
 -- what words, senders and owners keep with trails
-pub record TiesOf {E : Type 0} (P : Protocol E (Unit {0}) ℕ) (x : Layout) (words : ℕ → ℕ) (senders : ℕ → Option (Core E)) (owners : List ℕ) (deeds : ℕ → List Deed) : Type 0 where
-  pub tables : Tables P x words senders deeds
-  pub takers : PageTies owners deeds
+pub record TiesOf {E : Type 0} (P : Protocol E (Unit {0}) ℕ) (x : Layout) (words : ℕ → ℕ) (senders : ℕ → Option (Core E)) (owners : List ℕ) (actions : ℕ → List Action) : Type 0 where
+  pub tables : Tables P x words senders actions
+  pub takers : PageTies owners actions
 
 -- what the senders' side of a machine keeps with them
-abbrev pub Ties : {E : Type 0} → Protocol E (Unit {0}) ℕ → Layout → Side E → (ℕ → List Deed) → Type 0
-Ties P x side deeds = TiesOf P x (slice_index side.words) (slice_get side.senders) side.owners deeds
+abbrev pub Ties : {E : Type 0} → Protocol E (Unit {0}) ℕ → Layout → Side E → (ℕ → List Action) → Type 0
+Ties P x side actions = TiesOf P x (slice_index side.words) (slice_get side.senders) side.owners actions
 
-pub longer_by : (p : ℕ) (ds : List Deed) (D : ℕ → List Deed) → Longer p ds D (λ q. D q ++ cond (q == p) ds [])
+pub longer_by : (p : ℕ) (ds : List Action) (D : ℕ → List Action) → Longer p ds D (λ q. D q ++ cond (q == p) ds [])
 longer_by p ds D = record {
   own = elim (eqb_tells p p) [ inl y ↦ ap (λ t. D p ++ cond t ds []) y.0 | inr n ↦ absurd (n.1 refl) ];
   others = λ q ne. elim (eqb_tells q p) [ inl y ↦ absurd (ne y.1) | inr n ↦ ap (λ t. D q ++ cond t ds []) n.0 ∙ append-nil (D q) ];
@@ -88,23 +88,23 @@ module _ {E : Type 0} (X : Election E) (P : Protocol E (Unit {0}) ℕ) (laws : L
     (starts : (n me at : ℕ) → X.started n me x.rounds at ≡ P.started n me tt at) (owner_is : (e : E) → X.owner e ≡ P.output e)
     (named : (e : E) (word : ℕ) → is_some (X.kind_of e) ≡ is_some (X.op e word)) (announces : (e : E) → P.has_begun e ≡ false → X.kind_of e ≡ Some kind.Announce) (apart : (e : E) → X.kind_of e ≡ Some kind.TakePage → ⊥)
     (words : ℕ → ℕ) (home : Option Page) (senders : ℕ → Option (Core E)) (owners : List ℕ) (frames : List Frame) (h : Sending P x words home senders owners frames)
-    (p : ℕ) (c : Core E) (old : senders p ≡ Some c) (D : ℕ → List Deed) (T : TiesOf P x words senders owners D)
+    (p : ℕ) (c : Core E) (old : senders p ≡ Some c) (D : ℕ → List Action) (T : TiesOf P x words senders owners D)
     (words' : ℕ → ℕ) (senders' : ℕ → Option (Core E)) (beside : Beside p senders senders') where
   part : Part x words frames p c
   part = h.parts p c old
 
-  abbrev with_deeds : List Deed → ℕ → List Deed
-  with_deeds ds q = D q ++ cond (q == p) ds []
+  abbrev with_actions : List Action → ℕ → List Action
+  with_actions ds q = D q ++ cond (q == p) ds []
 
   follows : (c' : Core E) → senders' p ≡ Some c' → next_tenure c ≤ next_tenure c' → GoesOn p c c' senders senders'
   follows c' new l = record { before = old; now = new; others = beside; rises = l }
 
   -- nothing is elected and no page taken
-  pub calm : (c' : Core E) → senders' p ≡ Some c' → (ds : List Deed) → Agree 2 (x.rows * P.width x.senders) words words' → next_tenure c ≤ next_tenure c' → ((t : ℕ) (e : E) → c'.phase ≡ phase.Electing t e → c.phase ≡ phase.Electing t e) → IsPlain ds
-      → TiesOf P x words' senders' owners (with_deeds ds)
+  pub calm : (c' : Core E) → senders' p ≡ Some c' → (ds : List Action) → Agree 2 (x.rows * P.width x.senders) words words' → next_tenure c ≤ next_tenure c' → ((t : ℕ) (e : E) → c'.phase ≡ phase.Electing t e → c.phase ≡ phase.Electing t e) → IsPlain ds
+      → TiesOf P x words' senders' owners (with_actions ds)
   calm c' new ds agree rises same plain = record {
-    tables = tables_stay X P laws x words words' D (with_deeds ds) p ds (longer_by p ds D) senders senders' c c' (follows c' new rises) T.tables agree same plain.none_elected;
-    takers = takers_stay p ds D (with_deeds ds) (longer_by p ds D) owners plain.none_took T.takers;
+    tables = tables_stay X P laws x words words' D (with_actions ds) p ds (longer_by p ds D) senders senders' c c' (follows c' new rises) T.tables agree same plain.none_elected;
+    takers = takers_stay p ds D (with_actions ds) (longer_by p ds D) owners plain.none_took T.takers;
   }
 
   -- a step on a word outside of all rows
@@ -143,7 +143,7 @@ module _ {E : Type 0} (X : Election E) (P : Protocol E (Unit {0}) ℕ) (laws : L
     absent : T.tables.elections t p ≡ None
     absent = T.tables.ahead p c t old (let a = next_was_least in omega arith)
 
-    pub begins : Agree 2 (x.rows * P.width x.senders) words words' → senders' p ≡ Some (core_begun X c t) → (ds : List Deed) → IsPlain ds → TiesOf P x words' senders' owners (with_deeds ds)
+    pub begins : Agree 2 (x.rows * P.width x.senders) words words' → senders' p ≡ Some (core_begun X c t) → (ds : List Action) → IsPlain ds → TiesOf P x words' senders' owners (with_actions ds)
     begins agree new ds plain =
         let in_row : (u : ℕ) → u < x.rows → Agree (2 + u * P.width x.senders) (P.width x.senders) words words' = λ u l r a b. let z = row_within u x.rows (P.width x.senders) l in agree r (omega arith) (omega arith) in
         let row_now : ℕ → Option E = put p (Some start) (T.tables.elections t) in
@@ -151,10 +151,10 @@ module _ {E : Type 0} (X : Election E) (P : Protocol E (Unit {0}) ℕ) (laws : L
         (laws.enters x.senders (2 + t * P.width x.senders) words (T.tables.elections t) row_now p tt (T.tables.kept t room) part.below few absent (put_here p (Some start) (T.tables.elections t)) (put_beside p (Some start) (T.tables.elections t)))
         (in_row t room) (λ q. refl) in
         record {
-          tables = tables_step X P laws x words words' D (with_deeds ds) p ds (longer_by p ds D) senders senders' c (core_begun X c t) (follows (core_begun X c t) new (let a = next_was_least in omega arith)) T.tables
+          tables = tables_step X P laws x words words' D (with_actions ds) p ds (longer_by p ds D) senders senders' c (core_begun X c t) (follows (core_begun X c t) new (let a = next_was_least in omega arith)) T.tables
               t room start kept_now (λ u l ne. in_row u l) (omega arith) (λ u f i. let s = same_phase t u (X.started c.layout.senders c.me c.layout.rounds (row_at c.layout t)) f i in (s.0, start_is ∙ s.1))
               (λ o i. none_some o (ap (of_some P.output) (sym absent) ∙ i)) (λ i. absurd (not_begun (P.has_begun start) fresh.fresh i)) (λ o i. absurd (none_some o (sym unstarted ∙ i))) (λ u o a. absurd (plain.none_elected u o a));
-          takers = takers_stay p ds D (with_deeds ds) (longer_by p ds D) owners plain.none_took T.takers;
+          takers = takers_stay p ds D (with_actions ds) (longer_by p ds D) owners plain.none_took T.takers;
         }
 
   -- ---- a turn in a situation, with this random word, whatever it answers
@@ -162,14 +162,14 @@ module _ {E : Type 0} (X : Election E) (P : Protocol E (Unit {0}) ℕ) (laws : L
     abbrev found_by : Option Op → ℕ
     found_by o = number_found words o
 
-    abbrev its_deeds : Situation E → List Deed
-    its_deeds z = step_deed (kind_at X c z) (tenure_at X c z) (found_by (op_at X c z word)) (chosen_at X c z (found_by (op_at X c z word)) word) answer
+    abbrev its_actions : Situation E → List Action
+    its_actions z = step_action (kind_at X c z) (tenure_at X c z) (found_by (op_at X c z word)) (chosen_at X c z (found_by (op_at X c z word)) word) answer
 
     abbrev pub KeptTies : Situation E → Type 0
-    KeptTies z = Steps (op_at X c z word) words words' → senders' p ≡ Some (core_after X c z home (found_by (op_at X c z word)) word) → TiesOf P x words' senders' (owners_after X c z p owners) (with_deeds (its_deeds z))
+    KeptTies z = Steps (op_at X c z word) words words' → senders' p ≡ Some (core_after X c z home (found_by (op_at X c z word)) word) → TiesOf P x words' senders' (owners_after X c z p owners) (with_actions (its_actions z))
 
     -- no step
-    idle : Steps None words words' → senders' p ≡ Some c → TiesOf P x words' senders' owners (with_deeds [])
+    idle : Steps None words words' → senders' p ≡ Some c → TiesOf P x words' senders' owners (with_actions [])
     idle same new = calm c new [] (λ q a b. same q) (omega arith) (λ t e i. i) plain_none
 
     choose : (b : Bool) (s u : Situation E) → KeptTies s → KeptTies u → KeptTies (cond b s u)
@@ -180,7 +180,7 @@ module _ {E : Type 0} (X : Election E) (P : Protocol E (Unit {0}) ℕ) (laws : L
     abbrev got : ℕ
     got = words 1
 
-    abbrev looked : List Deed
+    abbrev looked : List Action
     looked = Stepped None kind.LoadStage got None answer ∷ []
 
     looked_plain : IsPlain looked
@@ -196,11 +196,11 @@ module _ {E : Type 0} (X : Election E) (P : Protocol E (Unit {0}) ℕ) (laws : L
           agrees : Agree 2 (x.rows * P.width x.senders) words words'
           agrees = outside (Load record { 0 = 1 }) step (inl (omega arith))
 
-          by_room : (b : Bool) → nat_le c.layout.rows (got / 2) ≡ b → waits c got ≡ false → senders' p ≡ Some (cond b (record c { least = got / 2 }) (core_begun X c (got / 2))) → TiesOf P x words' senders' owners (with_deeds looked)
+          by_room : (b : Bool) → nat_le c.layout.rows (got / 2) ≡ b → waits c got ≡ false → senders' p ≡ Some (cond b (record c { least = got / 2 }) (core_begun X c (got / 2))) → TiesOf P x words' senders' owners (with_actions looked)
           by_room true d e new = calm (record c { least = got / 2 }) new looked agrees (let a = next_is in let b : next_tenure (record c { least = got / 2 }) ≡ got / 2 = ap (next_at (record c { least = got / 2 })) rests in let g = (open_stage c got e).1 in omega arith) (λ t f i. i) looked_plain
           by_room false d e new = begins (got / 2) rests (open_stage c got e).1 (let a = leb-false c.layout.rows (got / 2) d in let b = ap (λ (z : Layout). z.rows) part.layout in omega arith) agrees new looked looked_plain
 
-          by_waits : (b : Bool) → waits c got ≡ b → senders' p ≡ Some (cond b c (cond (nat_le c.layout.rows (got / 2)) (record c { least = got / 2 }) (core_begun X c (got / 2)))) → TiesOf P x words' senders' owners (with_deeds looked)
+          by_waits : (b : Bool) → waits c got ≡ b → senders' p ≡ Some (cond b c (cond (nat_le c.layout.rows (got / 2)) (record c { least = got / 2 }) (core_begun X c (got / 2)))) → TiesOf P x words' senders' owners (with_actions looked)
           by_waits true e new = calm c new looked agrees (omega arith) (λ t f i. i) looked_plain
           by_waits false e new = by_room (nat_le c.layout.rows (got / 2)) refl e new
 
@@ -218,15 +218,15 @@ module _ {E : Type 0} (X : Election E) (P : Protocol E (Unit {0}) ℕ) (laws : L
       runs : of_some (λ d. Some (stands_at d.phase)) (senders p) ≡ Some (Runs t e)
       runs = ap (of_some (λ d. Some (stands_at d.phase))) old ∙ ap (λ z. Some (stands_at z)) elects
 
-      abbrev taking : List Deed
+      abbrev taking : List Action
       taking = Stepped (Some t) kind.TakePage got None answer ∷ []
 
       -- it takes the page
       take_kept : (o : ℕ) → X.owner e ≡ Some o → KeptTies (TakesPage t)
       take_kept o own step new = record {
-        tables = tables_stay X P laws x words words' D (with_deeds taking) p taking (longer_by p taking D) senders senders' c (core_with_page c t home) (follows (core_with_page c t home) (new ∙ ap Some (with_page home)) (let a = next_was in let b = laid_next home in omega arith)) T.tables
+        tables = tables_stay X P laws x words words' D (with_actions taking) p taking (longer_by p taking D) senders senders' c (core_with_page c t home) (follows (core_with_page c t home) (new ∙ ap Some (with_page home)) (let a = next_was in let b = laid_next home in omega arith)) T.tables
             (outside (Store record { 0 = 1 } (2 * t + 1)) step (inl (omega arith))) (λ u f i. absurd (laid_apart home u f i)) (λ u v a. none_some v (one_elected (Some t) kind.TakePage got None answer u v a).1);
-        takers = takers_more p taking D (with_deeds taking) (longer_by p taking D) owners t got None answer refl many (T.tables.elected t p p (ap (of_some P.output) local ∙ out ∙ ap Some mine)) T.takers;
+        takers = takers_more p taking D (with_actions taking) (longer_by p taking D) owners t got None answer refl many (T.tables.elected t p p (ap (of_some P.output) local ∙ out ∙ ap Some mine)) T.takers;
       } where
         out : P.output e ≡ Some o
         out = sym (owner_is e) ∙ own
@@ -257,11 +257,11 @@ module _ {E : Type 0} (X : Election E) (P : Protocol E (Unit {0}) ℕ) (laws : L
         abbrev later : E
         later = X.fed e found_now word
 
-        abbrev deed : Deed
-        deed = Stepped (Some t) k found_now (X.owner later) answer
+        abbrev action : Action
+        action = Stepped (Some t) k found_now (X.owner later) answer
 
-        abbrev ds : List Deed
-        ds = deed ∷ []
+        abbrev ds : List Action
+        ds = action ∷ []
 
         row : (t < x.rows) × (2 + t * P.width x.senders ≤ register o) × (register o < 2 + t * P.width x.senders + P.width x.senders)
         row = tenures.within_its_row X.op X.fed P laws x.senders x.rows 2 words (words 1) (is_some home) (λ q. of_some (λ d. Some (stands_at d.phase)) (senders q)) (λ q. least_of (senders q)) owners h.tenures p t e word o runs next
@@ -276,30 +276,30 @@ module _ {E : Type 0} (X : Election E) (P : Protocol E (Unit {0}) ℕ) (laws : L
           | inr y ↦ (let z = row_within t u (P.width x.senders) (omega arith) in let w = row.2 in omega arith)
         ])
 
-        deed_at : slice_get (with_deeds ds p) (length (D p) + 0) ≡ Some deed
-        deed_at = ap (λ z. slice_get z (length (D p) + 0)) (longer_by p ds D).own ∙ got_after (D p) ds 0 deed refl (length (D p) + 0) refl
+        action_at : slice_get (with_actions ds p) (length (D p) + 0) ≡ Some action
+        action_at = ap (λ z. slice_get z (length (D p) + 0)) (longer_by p ds D).own ∙ got_after (D p) ds 0 action refl (length (D p) + 0) refl
 
-        announced_now : counted_input P later ≡ Some tt → Announced (with_deeds ds p) t
+        announced_now : counted_input P later ≡ Some tt → Announced (with_actions ds p) t
         announced_now i = by_begun (P.has_begun e) refl
           where
-            by_begun : (b : Bool) → P.has_begun e ≡ b → Announced (with_deeds ds p) t
-            by_begun true j = announced_still p ds D (with_deeds ds) (longer_by p ds D) p t (T.tables.announced t p (ap (of_some (counted_input P)) local ∙ ap (λ b. cond b (Some (P.input e)) None) j))
+            by_begun : (b : Bool) → P.has_begun e ≡ b → Announced (with_actions ds p) t
+            by_begun true j = announced_still p ds D (with_actions ds) (longer_by p ds D) p t (T.tables.announced t p (ap (of_some (counted_input P)) local ∙ ap (λ b. cond b (Some (P.input e)) None) j))
             by_begun false j =
                 let is : k ≡ kind.Announce = same_Some _ _ (sym kind_is ∙ announces e j) in
-                record { place = length (D p) + 0; found = found_now; chose = X.owner later; answer = answer; at = deed_at ∙ ap (λ z. Some (Stepped (Some t) z found_now (X.owner later) answer)) is }
+                record { place = length (D p) + 0; found = found_now; chose = X.owner later; answer = answer; at = action_at ∙ ap (λ z. Some (Stepped (Some t) z found_now (X.owner later) answer)) is }
 
-        elected_now : (v : ℕ) → P.output later ≡ Some v → Elected (with_deeds ds p) t v
-        elected_now v i = record { place = length (D p) + 0; step = k; found = found_now; answer = answer; at = deed_at ∙ ap (λ z. Some (Stepped (Some t) k found_now z answer)) (owner_is later ∙ i) }
+        elected_now : (v : ℕ) → P.output later ≡ Some v → Elected (with_actions ds p) t v
+        elected_now v i = record { place = length (D p) + 0; step = k; found = found_now; answer = answer; at = action_at ∙ ap (λ z. Some (Stepped (Some t) k found_now z answer)) (owner_is later ∙ i) }
 
         abbrev c' : Core E
         c' = core_elected c t later (X.owner later)
 
-        step_kept : senders' p ≡ Some c' → TiesOf P x words' senders' owners (with_deeds ds)
+        step_kept : senders' p ≡ Some c' → TiesOf P x words' senders' owners (with_actions ds)
         step_kept new = record {
-          tables = tables_step X P laws x words words' D (with_deeds ds) p ds (longer_by p ds D) senders senders' c c' (follows c' new (let a = next_was in let b = elected_next c t later (X.owner later) in omega arith)) T.tables
+          tables = tables_step X P laws x words words' D (with_actions ds) p ds (longer_by p ds D) senders senders' c c' (follows c' new (let a = next_was in let b = elected_next c t later (X.owner later) in omega arith)) T.tables
               t row.0 later kept_then other_row (let b = elected_next c t later (X.owner later) in omega arith) (elected_phase c t later (X.owner later)) (λ v i. none_some v (sym (laws.unended e word o next) ∙ ap (of_some P.output) (sym local) ∙ i))
               announced_now elected_now (λ u v a. let one = one_elected (Some t) k found_now (X.owner later) answer u v a in (same_Some _ _ one.0, sym (owner_is later) ∙ one.1));
-          takers = takers_stay p ds D (with_deeds ds) (longer_by p ds D) owners (λ u i a. apart e (kind_is ∙ ap Some (one_took (Some t) k found_now (X.owner later) answer u i a).2)) T.takers;
+          takers = takers_stay p ds D (with_actions ds) (longer_by p ds D) owners (λ u i a. apart e (kind_is ∙ ap Some (one_took (Some t) k found_now (X.owner later) answer u i a).2)) T.takers;
         }
 
       elect_kept : KeptTies (electing X t e)
@@ -325,9 +325,9 @@ module _ {E : Type 0} (X : Election E) (P : Protocol E (Unit {0}) ℕ) (laws : L
               by_step o next =
                   let k = has_kind o next in
                   subst (λ z. Steps z words words' → senders' p ≡ Some (core_elected c t (X.fed e (number_found words z) word) (X.owner (X.fed e (number_found words z) word)))
-                  → TiesOf P x words' senders' owners (with_deeds (step_deed (X.kind_of e) (Some t) (number_found words z) (X.owner (X.fed e (number_found words z) word)) answer))) (sym next)
+                  → TiesOf P x words' senders' owners (with_actions (step_action (X.kind_of e) (Some t) (number_found words z) (X.owner (X.fed e (number_found words z) word)) answer))) (sym next)
                   (subst (λ z. bus.Changes o words words' → senders' p ≡ Some (core_elected c t (X.fed e (words (register o)) word) (X.owner (X.fed e (words (register o)) word)))
-                  → TiesOf P x words' senders' owners (with_deeds (step_deed z (Some t) (words (register o)) (X.owner (X.fed e (words (register o)) word)) answer))) (sym k.1)
+                  → TiesOf P x words' senders' owners (with_actions (step_action z (Some t) (words (register o)) (X.owner (X.fed e (words (register o)) word)) answer))) (sym k.1)
                   (step_kept o next k.0 k.1))
 
     -- ---- a holder of the page
@@ -361,7 +361,7 @@ module _ {E : Type 0} (X : Election E) (P : Protocol E (Unit {0}) ℕ) (laws : L
     turn_tied = turn_at c.phase refl
 
   -- a put or a close: the sender rests on, and the batch alone is another
-  pub batch_tied : (c' : Core E) → senders' p ≡ Some c' → (ds : List Deed) → c'.phase ≡ c.phase → c'.least ≡ c.least → IsPlain ds → ((q : ℕ) → words' q ≡ words q) → TiesOf P x words' senders' owners (with_deeds ds)
+  pub batch_tied : (c' : Core E) → senders' p ≡ Some c' → (ds : List Action) → c'.phase ≡ c.phase → c'.least ≡ c.least → IsPlain ds → ((q : ℕ) → words' q ≡ words q) → TiesOf P x words' senders' owners (with_actions ds)
   batch_tied c' new ds same least plain words_same = calm c' new ds (λ q a b. words_same q) (let a = by_phase c.phase in let b = ap (next_at c') same in omega arith) (λ t e i. sym same ∙ i) plain
     where
       by_phase : (ph : Phase E) → next_at c' ph ≡ next_at c ph
@@ -375,7 +375,7 @@ module _ {E : Type 0} (X : Election E) (P : Protocol E (Unit {0}) ℕ) (laws : L
 module _ {E : Type 0} (X : Election E) (P : Protocol E (Unit {0}) ℕ) (laws : Laws X.op X.fed P OneOwner) (x : Layout) (ok : IsLayout x) (width : x.width ≡ P.width x.senders)
     (starts : (n me at : ℕ) → X.started n me x.rounds at ≡ P.started n me tt at) (owner_is : (e : E) → X.owner e ≡ P.output e)
     (named : (e : E) (word : ℕ) → is_some (X.kind_of e) ≡ is_some (X.op e word)) (announces : (e : E) → P.has_begun e ≡ false → X.kind_of e ≡ Some kind.Announce) (apart : (e : E) → X.kind_of e ≡ Some kind.TakePage → ⊥)
-    (side : Side E) (frames : List Frame) (h : IsSide P x side frames) (p : ℕ) (c : Core E) (old : slice_get side.senders p ≡ Some c) (word : ℕ) (D : ℕ → List Deed) (T : Ties P x side D) where
+    (side : Side E) (frames : List Frame) (h : IsSide P x side frames) (p : ℕ) (c : Core E) (old : slice_get side.senders p ≡ Some c) (word : ℕ) (D : ℕ → List Action) (T : Ties P x side D) where
   abbrev W : ℕ → ℕ
   W = slice_index side.words
 
@@ -385,7 +385,7 @@ module _ {E : Type 0} (X : Election E) (P : Protocol E (Unit {0}) ℕ) (laws : L
   abbrev core_now : Core E
   core_now = core_after X c (situation_of X c) side.home (number_found W taken_step) word
 
-  pub turn_ties : Ties P x (side_after X side p c (situation_of X c) word) (λ q. D q ++ cond (q == p) (turn_deeds X c (situation_of X c) (number_found (slice_index side.words) (op_at X c (situation_of X c) word)) word (answer.Turn (answer_at X c (situation_of X c) (number_found (slice_index side.words) (op_at X c (situation_of X c) word)) word))) [])
+  pub turn_ties : Ties P x (side_after X side p c (situation_of X c) word) (λ q. D q ++ cond (q == p) (turn_actions X c (situation_of X c) (number_found (slice_index side.words) (op_at X c (situation_of X c) word)) word (answer.Turn (answer_at X c (situation_of X c) (number_found (slice_index side.words) (op_at X c (situation_of X c) word)) word))) [])
   turn_ties =
       let senders' = slice_get (slice_set side.senders p core_now) in
       let within = turn_within X P laws x ok width starts owner_is W side.home (slice_get side.senders) side.owners frames h.sending p c old word (slice_index (words_after side.words taken_step)) senders' (get_set_other side.senders p core_now) in
@@ -394,7 +394,7 @@ module _ {E : Type 0} (X : Election E) (P : Protocol E (Unit {0}) ℕ) (laws : L
       (stepped-steps side.words taken_step (λ o due. let a = within o due in let b = h.words in omega arith)) (get_set_same side.senders p core_now (slice_get_within side.senders p c old))
 
   -- a put or a close
-  pub batch_ties : (c' : Core E) (ds : List Deed) → c'.phase ≡ c.phase → c'.least ≡ c.least → IsPlain ds → Ties P x record { words = side.words; home = side.home; senders = slice_set side.senders p c'; owners = side.owners } (λ q. D q ++ cond (q == p) ds [])
+  pub batch_ties : (c' : Core E) (ds : List Action) → c'.phase ≡ c.phase → c'.least ≡ c.least → IsPlain ds → Ties P x record { words = side.words; home = side.home; senders = slice_set side.senders p c'; owners = side.owners } (λ q. D q ++ cond (q == p) ds [])
   batch_ties c' ds same least plain =
       batch_tied X P laws x ok width starts owner_is named announces apart W side.home (slice_get side.senders) side.owners frames h.sending p c old D T W (slice_get (slice_set side.senders p c')) (get_set_other side.senders p c')
       c' (get_set_same side.senders p c' (slice_get_within side.senders p c old)) ds same least plain (λ q. refl)

@@ -14,7 +14,7 @@ use Rattle.bus_world.specs.Log.{words_read_from}
 use Rattle.bus_world.proofs.LogLaws.{length-read}
 use Rattle.bus_world.specs.World.{IsNew, new_page, no_stops}
 use Rattle.bus_world.specs.Playing.{SizedBus, log_of}
-use Rattle.bus_world.specs.Trails.{IsServedBus}
+use Rattle.bus_world.specs.Trails.{MachineInvariant}
 use Rattle.bus_world.specs.Starting.{AreNewCores, AreNewReaders}
 
 -- words of a list, from a place on
@@ -24,7 +24,7 @@ read-list words at (suc k) l =
     let size = length-drop at words in
     ap (λ z. z ++ slice_index words (at + k) ∷ []) (read-list words at k (omega arith)) ∙ ap (λ z. take k (drop at words) ++ z ∷ []) (sym (get_or-drop at words k 0)) ∙ sym (take_more (drop at words) k 0 (omega arith)) ∙ ap (λ j. take j (drop at words)) (let one : k + 1 ≡ suc k = omega arith in one)
 
-module _ {E : Type 0} {X : Election E} (P : Protocol E (Unit {0}) ℕ) (z : SizedBus E) (h : IsServedBus X P z) where
+module _ {E : Type 0} {X : Election E} (P : Protocol E (Unit {0}) ℕ) (z : SizedBus E) (h : MachineInvariant X P z) where
   -- as many words of the log as the length says
   pub length-log : length (log_of z) ≡ slice_index z.bus.side.words 0
   length-log = length-read (slice_index z.bus.side.words) (log_at z.layout) (slice_index z.bus.side.words 0)

@@ -8,12 +8,12 @@ use Rattle.bus_register.specs.declared.registers.Op.{Op}
 use Rattle.bus_register.specs.Words.{after}
 use Rattle.bus_register.specs.Tables.{Beside, put}
 use Rattle.bus_register.specs.Proved.TableLaws.{put_here, put_beside}
-use Rattle.bus_presence.specs.declared.visits.Visit.{Visit}
-use Rattle.bus_presence.specs.Visits.{step_at}
-use Rattle.bus_presence.specs.Sweeps.{Sweeping, sweep_op, sweep_fed}
-use Rattle.bus_presence.specs.Hall.{Sizes, Hall, Trails, presence_at, row_of, tenure_of, number_of_step, words_after, sweep_after}
-use Rattle.bus_presence.proofs.HallLaws.{IsSweep, Keeps, one_of_row, rows_apart, sweep_does, Asks}
-use Rattle.bus_presence.proofs.RowLaws.{IsLive, live_apart, alive_same, visit_place, load_same}
+use Rattle.bus_presence.specs.declared.pins.Pin.{Pin}
+use Rattle.bus_presence.specs.Pins.{step_at}
+use Rattle.bus_presence.specs.Reclaimers.{Reclaiming, reclaim_op, reclaim_fed}
+use Rattle.bus_presence.specs.Reclamation.{ReclamationSizes, Reclamation, Trails, presence_at, row_of, tenure_of, number_of_step, words_after, reclaimer_after}
+use Rattle.bus_presence.proofs.ReclamationLaws.{IsReclaimer, Keeps, one_of_row, rows_apart, reclaim_does, Scans}
+use Rattle.bus_presence.proofs.RowLaws.{IsLive, live_apart, alive_same, pin_place, load_same}
 use Rattle.bus_tenure.specs.Core.{Layout, row_at, log_at}
 use Rattle.bus_guest.specs.Guests.{sizes_with, log_from}
 
@@ -32,11 +32,11 @@ far_rows width t u j k ne low high same = elim (cases_lt t u) [
 ]
 
 module _ (x : Layout) (rows : ℕ) where
-  abbrev z : Sizes
+  abbrev z : ReclamationSizes
   z = sizes_with x rows
 
-  -- the words that stand in the hall are these, of a layout with a row for each tenure, as far as rows are their tenures'
-  pub record Laid (h : Hall) (V : ℕ → ℕ) : Type 0 where
+  -- the words that stand in the reclamation are these, of a layout with a row for each tenure, as far as rows are their tenures'
+  pub record Laid (h : Reclamation) (V : ℕ → ℕ) : Type 0 where
     pub length : h.words 0 ≡ V 0
     pub stage : h.words 1 ≡ V 1
     pub log : (k : ℕ) → k < x.capacity → h.words (log_from x rows + k) ≡ V (log_at x + k)
@@ -44,15 +44,15 @@ module _ (x : Layout) (rows : ℕ) where
     -- nothing is stored in the row of a tenure that was not opened
     pub late : (t k : ℕ) → tenure_of z h < t → t < x.rows → k < x.width → V (row_at x t + k) ≡ 0
 
-  -- a hall after another, with the same words but for those that are no tenure's
-  pub record IsQuiet (h h' : Hall) : Type 0 where
+  -- a reclamation after another, with the same words but for those that are no tenure's
+  pub record IsQuiet (h h' : Reclamation) : Type 0 where
     pub length : h'.words 0 ≡ h.words 0
     pub stage : h'.words 1 ≡ h.words 1
     pub log : (k : ℕ) → k < x.capacity → h'.words (log_from x rows + k) ≡ h.words (log_from x rows + k)
     pub alive : (t : ℕ) → IsLive z h' t → IsLive z h t
     pub row : (t k : ℕ) → k < x.width → IsLive z h' t → h'.words (row_of z t + k) ≡ h.words (row_of z t + k)
 
-  pub laid_quiet : (h h' : Hall) (V : ℕ → ℕ) → IsQuiet h h' → Laid h V → Laid h' V
+  pub laid_quiet : (h h' : Reclamation) (V : ℕ → ℕ) → IsQuiet h h' → Laid h V → Laid h' V
   laid_quiet h h' V q l = record {
     length = q.length ∙ l.length;
     stage = q.stage ∙ l.stage;
@@ -61,7 +61,7 @@ module _ (x : Layout) (rows : ℕ) where
     late = λ t k late room low. l.late t k (let e = ap (λ w. w / 2) q.stage in omega arith) room low;
   }
 
-  pub quiet_same : (h h' : Hall) → h'.words ≡ h.words → h'.sweep ≡ h.sweep → IsQuiet h h'
+  pub quiet_same : (h h' : Reclamation) → h'.words ≡ h.words → h'.reclaimer ≡ h.reclaimer → IsQuiet h h'
   quiet_same h h' e f = record {
     length = ap (λ w. w 0) e;
     stage = ap (λ w. w 1) e;
@@ -70,71 +70,71 @@ module _ (x : Layout) (rows : ℕ) where
     row = λ t k low live. ap (λ w. w (row_of z t + k)) e;
   }
 
-  quiet_presence : (h : Hall) (visits : ℕ → Visit) (p n : ℕ) → p < x.senders → IsQuiet h (record { words = put (presence_at z p) n h.words; visits = visits; sweep = h.sweep })
-  quiet_presence h visits p n below = let beside = put_beside (presence_at z p) n h.words in record {
+  quiet_presence : (h : Reclamation) (pins : ℕ → Pin) (p n : ℕ) → p < x.senders → IsQuiet h (record { words = put (presence_at z p) n h.words; pins = pins; reclaimer = h.reclaimer })
+  quiet_presence h pins p n below = let beside = put_beside (presence_at z p) n h.words in record {
     length = beside 0 (λ e. omega arith);
     stage = beside 1 (λ e. omega arith);
     log = λ k low. beside (log_from x rows + k) (λ e. omega arith);
-    alive = λ t live. alive_same z h (record { words = put (presence_at z p) n h.words; visits = visits; sweep = h.sweep }) t (beside 1 (λ e. omega arith)) refl live;
+    alive = λ t live. alive_same z h (record { words = put (presence_at z p) n h.words; pins = pins; reclaimer = h.reclaimer }) t (beside 1 (λ e. omega arith)) refl live;
     row = λ t k low live. beside (row_of z t + k) (λ e. omega arith);
   }
 
-  -- a step of a visit
-  pub quiet_visit : (h : Hall) (visits : ℕ → Visit) (p : ℕ) (v : Visit) (o : Op) → p < x.senders → step_at v (presence_at z p) 1 ≡ Some o → IsQuiet h (record { words = words_after h o; visits = visits; sweep = h.sweep })
-  quiet_visit h visits p v o below due = elim (visit_place z v p o due) [
-    | inl e ↦ subst (λ r. IsQuiet h (record { words = put r (after o (number_of_step h o)) h.words; visits = visits; sweep = h.sweep })) (sym e) (quiet_presence h visits p (after o (number_of_step h o)) below)
-    | inr load ↦ quiet_same h (record { words = words_after h o; visits = visits; sweep = h.sweep }) (load_same h o load) refl
+  -- a step of a pin
+  pub quiet_pin : (h : Reclamation) (pins : ℕ → Pin) (p : ℕ) (v : Pin) (o : Op) → p < x.senders → step_at v (presence_at z p) 1 ≡ Some o → IsQuiet h (record { words = words_after h o; pins = pins; reclaimer = h.reclaimer })
+  quiet_pin h pins p v o below due = elim (pin_place z v p o due) [
+    | inl e ↦ subst (λ r. IsQuiet h (record { words = put r (after o (number_of_step h o)) h.words; pins = pins; reclaimer = h.reclaimer })) (sym e) (quiet_presence h pins p (after o (number_of_step h o)) below)
+    | inr load ↦ quiet_same h (record { words = words_after h o; pins = pins; reclaimer = h.reclaimer }) (load_same h o load) refl
   ]
 
-  -- a step of a sweep
-  module _ (two : 2 ≤ rows) (h : Hall) (T : Trails) (keeps : Keeps z h T) (s : Sweeping) (is : h.sweep ≡ Some s) where
-    w : IsSweep z h s
-    w = keeps.sweeps s is
+  -- a step of a reclamation
+  module _ (two : 2 ≤ rows) (h : Reclamation) (T : Trails) (keeps : Keeps z h T) (s : Reclaiming) (is : h.reclaimer ≡ Some s) where
+    w : IsReclaimer z h s
+    w = keeps.reclaims s is
 
-    quiet_asks : (o : Op) → Asks s o → IsQuiet h (record h { words = words_after h o; sweep = Some (sweep_fed s (number_of_step h o)) })
-    quiet_asks o a = let same = load_same h o (s.presences + s.asked, a.loads) in record {
+    quiet_scans : (o : Op) → Scans s o → IsQuiet h (record h { words = words_after h o; reclaimer = Some (reclaim_fed s (number_of_step h o)) })
+    quiet_scans o a = let same = load_same h o (s.presences + s.scanned, a.loads) in record {
       length = ap (λ y. y 0) same;
       stage = ap (λ y. y 1) same;
       log = λ k low. ap (λ y. y (log_from x rows + k)) same;
       alive = λ u live. let e = ap (λ y. y 1) same in let b = live.opened in let c = live.stays in record {
         opened = omega arith;
         stays = omega arith;
-        unswept = λ y at all. absurd (let one = ap (λ (d : Sweeping). d.asked) (same_Some _ _ (sym is ∙ at)) in let n = w.senders in let few = a.few in omega arith);
+        unreclaimed = λ y at all. absurd (let one = ap (λ (d : Reclaiming). d.scanned) (same_Some _ _ (sym is ∙ at)) in let n = w.senders in let few = a.few in omega arith);
       };
       row = λ t k low live. ap (λ y. y (row_of z t + k)) same;
     }
 
-    quiet_wipes : s.senders ≤ s.asked → s.cleared < s.width → IsQuiet h (record h { words = put (s.row + s.cleared) 0 h.words; sweep = Some record s { cleared = s.cleared + 1 } })
+    quiet_wipes : s.senders ≤ s.scanned → s.cleared < s.width → IsQuiet h (record h { words = put (s.row + s.cleared) 0 h.words; reclaimer = Some record s { cleared = s.cleared + 1 } })
     quiet_wipes all less =
-        let wiped : Hall = record h { words = put (s.row + s.cleared) 0 h.words; sweep = Some record s { cleared = s.cleared + 1 } } in
+        let wiped : Reclamation = record h { words = put (s.row + s.cleared) 0 h.words; reclaimer = Some record s { cleared = s.cleared + 1 } } in
         let beside = put_beside (s.row + s.cleared) 0 h.words in
         let at = w.row in let width = w.width in
         let in_rows = row_fits ((w.tenure + 1) % rows) x.width rows x.width (mod_below (w.tenure + 1) rows (omega arith)) (omega arith) in
         let stage = beside 1 (λ e. omega arith) in
         let same = ap (λ y. y / 2) stage in
-        let later : (u : ℕ) → IsLive z wiped u → tenure_of z h + 1 < u + rows = λ u live. let n = w.senders in let l = live.unswept (record s { cleared = s.cleared + 1 }) refl (omega arith) in omega arith in
+        let later : (u : ℕ) → IsLive z wiped u → tenure_of z h + 1 < u + rows = λ u live. let n = w.senders in let l = live.unreclaimed (record s { cleared = s.cleared + 1 }) refl (omega arith) in omega arith in
         record {
           length = beside 0 (λ e. omega arith);
           stage = stage;
           log = λ k low. beside (log_from x rows + k) (λ e. omega arith);
-          alive = λ u live. let b = live.opened in let d = live.stays in record { opened = omega arith; stays = omega arith; unswept = λ y is some. later u live };
+          alive = λ u live. let b = live.opened in let d = live.stays in record { opened = omega arith; stays = omega arith; unreclaimed = λ y is some. later u live };
           row = λ u k low live. beside (row_of z u + k) (λ e.
               let l = later u live in let held = w.held in let b = live.opened in
               rows_apart z u (w.tenure + 1) k s.cleared (λ one. let eq = one_of_row rows u (w.tenure + 1) (omega arith) (omega arith) one in omega arith) low (omega arith) (e ∙ ap (λ y. y + s.cleared) at));
         }
 
-    pub quiet_sweep : (o : Op) → sweep_op s ≡ Some o → IsQuiet h (record h { words = words_after h o; sweep = Some (sweep_fed s (number_of_step h o)) })
-    quiet_sweep o due = elim (sweep_does s o due) [
-      | inl a ↦ quiet_asks o a
-      | inr c ↦ subst (λ y. IsQuiet h (record h { words = words_after h y; sweep = Some (sweep_fed s (number_of_step h y)) })) (sym c.stores)
-          (subst (λ y. IsQuiet h (record h { words = put (s.row + s.cleared) 0 h.words; sweep = Some y })) (sym (c.fed (h.words (s.row + s.cleared)))) (quiet_wipes c.all c.less))
+    pub quiet_reclaimer : (o : Op) → reclaim_op s ≡ Some o → IsQuiet h (record h { words = words_after h o; reclaimer = Some (reclaim_fed s (number_of_step h o)) })
+    quiet_reclaimer o due = elim (reclaim_does s o due) [
+      | inl a ↦ quiet_scans o a
+      | inr c ↦ subst (λ y. IsQuiet h (record h { words = words_after h y; reclaimer = Some (reclaim_fed s (number_of_step h y)) })) (sym c.stores)
+          (subst (λ y. IsQuiet h (record h { words = put (s.row + s.cleared) 0 h.words; reclaimer = Some y })) (sym (c.fed (h.words (s.row + s.cleared)))) (quiet_wipes c.all c.less))
     ]
 
   -- ---- the same number stored in both
   -- in the row of a tenure
-  module _ (h : Hall) (visits : ℕ → Visit) (V : ℕ → ℕ) (l : Laid h V) (t k n : ℕ) (room : t < x.rows) (low : k < x.width) (live : IsLive z h t) where
-    abbrev worked : Hall
-    worked = record { words = put (row_of z t + k) n h.words; visits = visits; sweep = h.sweep }
+  module _ (h : Reclamation) (pins : ℕ → Pin) (V : ℕ → ℕ) (l : Laid h V) (t k n : ℕ) (room : t < x.rows) (low : k < x.width) (live : IsLive z h t) where
+    abbrev worked : Reclamation
+    worked = record { words = put (row_of z t + k) n h.words; pins = pins; reclaimer = h.reclaimer }
 
     beside_here : Beside (row_of z t + k) h.words worked.words
     beside_here = put_beside (row_of z t + k) n h.words
@@ -171,8 +171,8 @@ module _ (x : Layout) (rows : ℕ) where
     }
 
   -- a word of the log, or the length
-  module _ (h : Hall) (visits : ℕ → Visit) (V : ℕ → ℕ) (l : Laid h V) (k n : ℕ) where
-    pub laid_logged : 2 ≤ rows → k < x.capacity → Laid (record { words = put (log_from x rows + k) n h.words; visits = visits; sweep = h.sweep }) (put (log_at x + k) n V)
+  module _ (h : Reclamation) (pins : ℕ → Pin) (V : ℕ → ℕ) (l : Laid h V) (k n : ℕ) where
+    pub laid_logged : 2 ≤ rows → k < x.capacity → Laid (record { words = put (log_from x rows + k) n h.words; pins = pins; reclaimer = h.reclaimer }) (put (log_at x + k) n V)
     laid_logged two low =
         let here = put_beside (log_from x rows + k) n h.words in let there = put_beside (log_at x + k) n V in
         let stage = here 1 (λ e. omega arith) in record {
@@ -184,26 +184,26 @@ module _ (x : Layout) (rows : ℕ) where
           ];
           row = λ u j room less live.
               let a = row_fits (u % rows) x.width rows x.width (mod_below u rows (omega arith)) (omega arith) in let b = row_fits u x.width x.rows x.width room (omega arith) in
-              here (row_of z u + j) (λ e. omega arith) ∙ l.row u j room less (alive_same z h (record { words = put (log_from x rows + k) n h.words; visits = visits; sweep = h.sweep }) u stage refl live) ∙ sym (there (row_at x u + j) (λ e. omega arith));
+              here (row_of z u + j) (λ e. omega arith) ∙ l.row u j room less (alive_same z h (record { words = put (log_from x rows + k) n h.words; pins = pins; reclaimer = h.reclaimer }) u stage refl live) ∙ sym (there (row_at x u + j) (λ e. omega arith));
           late = λ u j late room less. let b = row_fits u x.width x.rows x.width room (omega arith) in let same = ap (λ y. y / 2) stage in there (row_at x u + j) (λ e. omega arith) ∙ l.late u j (omega arith) room less;
         }
 
-    pub laid_told : Laid (record { words = put 0 n h.words; visits = visits; sweep = h.sweep }) (put 0 n V)
+    pub laid_told : Laid (record { words = put 0 n h.words; pins = pins; reclaimer = h.reclaimer }) (put 0 n V)
     laid_told =
         let here = put_beside 0 n h.words in let there = put_beside 0 n V in
         let stage = here 1 (λ e. omega arith) in record {
           length = put_here 0 n h.words ∙ sym (put_here 0 n V);
           stage = stage ∙ l.stage ∙ sym (there 1 (λ e. omega arith));
           log = λ j less. here (log_from x rows + j) (λ e. omega arith) ∙ l.log j less ∙ sym (there (log_at x + j) (λ e. omega arith));
-          row = λ u j room less live. here (row_of z u + j) (λ e. omega arith) ∙ l.row u j room less (alive_same z h (record { words = put 0 n h.words; visits = visits; sweep = h.sweep }) u stage refl live) ∙ sym (there (row_at x u + j) (λ e. omega arith));
+          row = λ u j room less live. here (row_of z u + j) (λ e. omega arith) ∙ l.row u j room less (alive_same z h (record { words = put 0 n h.words; pins = pins; reclaimer = h.reclaimer }) u stage refl live) ∙ sym (there (row_at x u + j) (λ e. omega arith));
           late = λ u j late room less. let same = ap (λ y. y / 2) stage in there (row_at x u + j) (λ e. omega arith) ∙ l.late u j (omega arith) room less;
         }
 
-  -- the stage, where the page is taken: the sweep of the next row begins, and has passed nobody
-  module _ (h : Hall) (T : Trails) (keeps : Keeps z h T) (visits : ℕ → Visit) (V : ℕ → ℕ) (l : Laid h V) (t : ℕ) where
-    pub laid_taken : h.words 1 ≡ 2 * t → Laid (record { words = put 1 (2 * t + 1) h.words; visits = visits; sweep = sweep_after z t }) (put 1 (2 * t + 1) V)
+  -- the stage, where the page is taken: the reclaimer of the next row begins, and has passed nobody
+  module _ (h : Reclamation) (T : Trails) (keeps : Keeps z h T) (pins : ℕ → Pin) (V : ℕ → ℕ) (l : Laid h V) (t : ℕ) where
+    pub laid_taken : h.words 1 ≡ 2 * t → Laid (record { words = put 1 (2 * t + 1) h.words; pins = pins; reclaimer = reclaimer_after z t }) (put 1 (2 * t + 1) V)
     laid_taken home =
-        let h' : Hall = record { words = put 1 (2 * t + 1) h.words; visits = visits; sweep = sweep_after z t } in
+        let h' : Reclamation = record { words = put 1 (2 * t + 1) h.words; pins = pins; reclaimer = reclaimer_after z t } in
         let here = put_beside 1 (2 * t + 1) h.words in let there = put_beside 1 (2 * t + 1) V in
         let stage = put_here 1 (2 * t + 1) h.words in record {
           length = here 0 (λ e. omega arith) ∙ l.length ∙ sym (there 0 (λ e. omega arith));
@@ -213,13 +213,13 @@ module _ (x : Layout) (rows : ℕ) where
               here (row_of z u + j) (λ e. omega arith) ∙ l.row u j room less record {
                 opened = omega arith;
                 stays = omega arith;
-                unswept = λ s is all. absurd (let w = keeps.sweeps s is in let held = w.held in omega arith);
+                unreclaimed = λ s is all. absurd (let w = keeps.reclaims s is in let held = w.held in omega arith);
               } ∙ sym (there (row_at x u + j) (λ e. omega arith));
           late = λ u j late room less. there (row_at x u + j) (λ e. omega arith) ∙ l.late u j (omega arith) room less;
         }
 
     -- and where it is given back: the next tenure opens over words of zero
-    pub laid_given : h.words 1 ≡ 2 * t + 1 → ((k : ℕ) → k < x.width → h.words (row_of z (t + 1) + k) ≡ 0) → Laid (record { words = put 1 (2 * t + 2) h.words; visits = visits; sweep = None }) (put 1 (2 * t + 2) V)
+    pub laid_given : h.words 1 ≡ 2 * t + 1 → ((k : ℕ) → k < x.width → h.words (row_of z (t + 1) + k) ≡ 0) → Laid (record { words = put 1 (2 * t + 2) h.words; pins = pins; reclaimer = None }) (put 1 (2 * t + 2) V)
     laid_given held clean =
         let here = put_beside 1 (2 * t + 2) h.words in let there = put_beside 1 (2 * t + 2) V in
         let stage = put_here 1 (2 * t + 2) h.words in record {
@@ -229,7 +229,7 @@ module _ (x : Layout) (rows : ℕ) where
           row = λ u j room less live. let a = live.opened in let b = live.stays in
               here (row_of z u + j) (λ e. omega arith) ∙ elim (cases_eq u (t + 1)) [
                 | inl e ↦ ap (λ y. h.words (row_of z y + j)) e ∙ clean j less ∙ sym (l.late u j (omega arith) room less)
-                | inr ne ↦ l.row u j room less record { opened = omega arith; stays = omega arith; unswept = λ s is all. omega arith }
+                | inr ne ↦ l.row u j room less record { opened = omega arith; stays = omega arith; unreclaimed = λ s is all. omega arith }
               ] ∙ sym (there (row_at x u + j) (λ e. omega arith));
           late = λ u j late room less. there (row_at x u + j) (λ e. omega arith) ∙ l.late u j (omega arith) room less;
         }

@@ -13,27 +13,27 @@ use Rattle.bus_deliverylog.specs.declared.receiving.RecvTurn.{RecvTurn}
 use Rattle.bus_deliverylog.specs.declared.receiving.RecvTurn.TheVariants as recv
 use Rattle.bus_tenure.specs.declared.turns.Turn.{Turn}
 
--- ---- what a sender did: a list of deeds, the first first
-pub data Deed : Type 0 where
+-- ---- what a sender did: a list of actions, the first first
+pub data Action : Type 0 where
   -- a put of these bytes was accepted, and this number was its answer
-  HasPut : (number : ℕ) → (bytes : List ℕ) → Deed
+  HasPut : (number : ℕ) → (bytes : List ℕ) → Action
   -- a close was accepted
-  HasClosed : Deed
+  HasClosed : Action
   -- A turn took a step on a word: in this tenure, if one was begun; what the step was for; the number that it found; the owner
-  -- with which it ended the election of its tenure, if it did; and what the turn answered. A turn without a step is no deed.
-  Stepped : (tenure : Option ℕ) → Kind → (found : ℕ) → (chose : Option ℕ) → (answer : Turn) → Deed
+  -- with which it ended the election of its tenure, if it did; and what the turn answered. A turn without a step is no action.
+  Stepped : (tenure : Option ℕ) → Kind → (found : ℕ) → (chose : Option ℕ) → (answer : Turn) → Action
 
-abbrev pub put_of : Deed → List (List ℕ)
+abbrev pub put_of : Action → List (List ℕ)
 put_of (HasPut number bytes) = bytes ∷ []
 put_of HasClosed = []
 put_of (Stepped tenure k found chose answer) = []
 
 -- the messages that it put, in its order
-abbrev pub puts : List Deed → List (List ℕ)
+abbrev pub puts : List Action → List (List ℕ)
 puts trail = flat_map put_of trail
 
 -- it announced itself in tenure t
-pub record Announced (trail : List Deed) (t : ℕ) : Type 0 where
+pub record Announced (trail : List Action) (t : ℕ) : Type 0 where
   pub place : ℕ
   pub found : ℕ
   pub chose : Option ℕ
@@ -41,7 +41,7 @@ pub record Announced (trail : List Deed) (t : ℕ) : Type 0 where
   pub at : slice_get trail place ≡ Some (Stepped (Some t) kind.Announce found chose answer)
 
 -- a step of it ended the election of tenure t with owner o
-pub record Elected (trail : List Deed) (t o : ℕ) : Type 0 where
+pub record Elected (trail : List Action) (t o : ℕ) : Type 0 where
   pub place : ℕ
   pub step : Kind
   pub found : ℕ
@@ -49,14 +49,14 @@ pub record Elected (trail : List Deed) (t o : ℕ) : Type 0 where
   pub at : slice_get trail place ≡ Some (Stepped (Some t) step found (Some o) answer)
 
 -- by the step at this place of its trail it took the page of tenure t
-pub record Took (trail : List Deed) (t place : ℕ) : Type 0 where
+pub record Took (trail : List Action) (t place : ℕ) : Type 0 where
   pub found : ℕ
   pub chose : Option ℕ
   pub answer : Turn
   pub at : slice_get trail place ≡ Some (Stepped (Some t) kind.TakePage found chose answer)
 
 -- it closed
-abbrev pub Closed : List Deed → Type 0
+abbrev pub Closed : List Action → Type 0
 Closed trail = (place : ℕ) × (slice_get trail place ≡ Some HasClosed)
 
 -- ---- what a receiver was answered: a list of answers, the first first
@@ -110,35 +110,35 @@ pub data AreFramed : List (ℕ × SenderNo) → List Item → Bool → Type 0 wh
       → AreFramed ((t, o) ∷ owners) (own ++ items) ended
 
 -- the sender whose frame is the last closed
-pub record IsClosedByLast (deeds : ℕ → List Deed) (owners : List (ℕ × SenderNo)) : Type 0 where
+pub record IsClosedByLast (actions : ℕ → List Action) (owners : List (ℕ × SenderNo)) : Type 0 where
   pub front : List (ℕ × SenderNo)
   pub tenure : ℕ
   pub owner : SenderNo
   pub last : owners ≡ front ++ (tenure, owner) ∷ []
-  pub closed : Closed (deeds owner.0)
+  pub closed : Closed (actions owner.0)
 
--- ---- the promise, of the deeds of each sender and the answers of each receiver, by number
-pub record Promises (deeds : ℕ → List Deed) (heard : ℕ → List RecvTurn) (order : Order) (owners : List (ℕ × SenderNo)) : Type 0 where
+-- ---- the promise, of the actions of each sender and the answers of each receiver, by number
+pub record Promises (actions : ℕ → List Action) (heard : ℕ → List RecvTurn) (order : Order) (owners : List (ℕ × SenderNo)) : Type 0 where
   -- 1. Each tenure has at most one owner: all who saw its election end, saw it end with the same sender, ..
-  pub one_owner : (t s s' o o' : ℕ) → Elected (deeds s) t o → Elected (deeds s') t o' → o ≡ o'
+  pub one_owner : (t s s' o o' : ℕ) → Elected (actions s) t o → Elected (actions s') t o' → o ≡ o'
   -- .. which had announced itself in that tenure.
-  pub announced : (t s o : ℕ) → Elected (deeds s) t o → Announced (deeds o) t
+  pub announced : (t s o : ℕ) → Elected (actions s) t o → Announced (actions o) t
   -- Whoever took the page of a tenure saw itself elected in it, and nobody else took it, nor it twice.
-  pub took_own : (t s place : ℕ) → Took (deeds s) t place → Elected (deeds s) t s
-  pub took_once : (t s s' place place' : ℕ) → Took (deeds s) t place → Took (deeds s') t place' → (s ≡ s') × (place ≡ place')
+  pub took_own : (t s place : ℕ) → Took (actions s) t place → Elected (actions s) t s
+  pub took_once : (t s s' place place' : ℕ) → Took (actions s) t place → Took (actions s') t place' → (s ≡ s') × (place ≡ place')
   -- 2. The listed owners took the pages of their tenures, and the tenures rise along the list.
-  pub owned : (k t : ℕ) (o : SenderNo) → slice_get owners k ≡ Some (t, o) → (place : ℕ) × Took (deeds o.0) t place
+  pub owned : (k t : ℕ) (o : SenderNo) → slice_get owners k ≡ Some (t, o) → (place : ℕ) × Took (actions o.0) t place
   pub rising : (j k t u : ℕ) (o p : SenderNo) → slice_get owners j ≡ Some (t, o) → slice_get owners k ≡ Some (u, p) → j < k → t < u
   -- 3. What each receiver was given is a prefix of the one order, and the heads that it was told are a prefix of the one list.
   pub delivered : (r : ℕ) → IsPrefixOfOrder (order_given (heard r)) order
   pub told : (r : ℕ) → IsPrefix (heads (heard r)) owners
   -- 4. Each sender's messages in the order are the first that it put, in its order, none skipped and none repeated.
-  pub faithful : Faithful order (λ s. puts (deeds s))
+  pub faithful : Faithful order (λ s. puts (actions s))
   -- The number that an accepted message was answered is how many its sender had put before it.
-  pub numbered : (s place number : ℕ) (bytes : List ℕ) → slice_get (deeds s) place ≡ Some (HasPut number bytes) → number ≡ length (puts (take place (deeds s)))
+  pub numbered : (s place number : ℕ) (bytes : List ℕ) → slice_get (actions s) place ≡ Some (HasPut number bytes) → number ≡ length (puts (take place (actions s)))
   -- 5. Nothing follows the end: an order is its items and whether it has ended, after the end a receiver is answered the end alone, ..
   pub silent : (r j k : ℕ) (answer : RecvTurn) → slice_get (heard r) j ≡ Some recv.End → j < k → slice_get (heard r) k ≡ Some answer → answer ≡ recv.End
   -- .. and an order that has ended was closed by the owner of its last frame.
-  pub closed : order.ended ≡ true → IsClosedByLast deeds owners
+  pub closed : order.ended ≡ true → IsClosedByLast actions owners
   -- 6. The order's items are those of the owners' frames, each frame's items its owner's.
   pub framed : AreFramed owners order.items order.ended

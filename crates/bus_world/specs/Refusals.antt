@@ -7,7 +7,7 @@ use Rattle.bus_batch.specs.Frames.{Order}
 use Rattle.bus_deliverylog.specs.declared.receiving.RecvTurn.{RecvTurn}
 use Rattle.bus_deliverylog.specs.declared.receiving.RecvTurn.TheVariants as heard
 use Rattle.bus_tenure.specs.declared.turns.Turn.TheVariants as turn
-use Rattle.bus_world.specs.Headline.{Deed, HasPut, Stepped, Promises}
+use Rattle.bus_world.specs.Headline.{Action, HasPut, Stepped, Promises}
 
 -- two lists, of number 0 and of all others
 abbrev pub each_of : {A : Type 0} → List A → List A → ℕ → List A
@@ -15,20 +15,20 @@ each_of a b zero = a
 each_of a b (suc n) = b
 
 -- a step that ended the election of tenure 0 with this owner
-abbrev pub elects : ℕ → Deed
+abbrev pub elects : ℕ → Action
 elects o = Stepped (Some 0) kind.Fallback 0 (Some o) turn.Going
 
-abbrev pub announces : Deed
+abbrev pub announces : Action
 announces = Stepped (Some 0) kind.Announce 0 None turn.Going
 
-abbrev pub takes : Deed
+abbrev pub takes : Action
 takes = Stepped (Some 0) kind.TakePage 0 None (turn.Own 0)
 
 -- a sender 0 that is the owner of tenure 0, and has put nothing; and one that has put a message of one byte before
-abbrev pub owns : List Deed
+abbrev pub owns : List Action
 owns = announces ∷ elects 0 ∷ takes ∷ []
 
-abbrev pub puts_and_owns : List Deed
+abbrev pub puts_and_owns : List Action
 puts_and_owns = HasPut 0 (1 ∷ []) ∷ announces ∷ elects 0 ∷ takes ∷ []
 
 abbrev pub sender : ℕ → SenderNo
@@ -38,35 +38,35 @@ sender n = record { 0 = n }
 abbrev pub item : ℕ → ℕ → Item
 item s n = record { sender = sender s; number = n; message = [] }
 
--- the promise is false of these deeds and answers, for any order and owners
-abbrev pub No : (ℕ → List Deed) → (ℕ → List RecvTurn) → Type 0
-No deeds heard = (order : Order) (owners : List (ℕ × SenderNo)) → ¬ Promises deeds heard order owners
+-- the promise is false of these actions and answers, for any order and owners
+abbrev pub No : (ℕ → List Action) → (ℕ → List RecvTurn) → Type 0
+No actions heard = (order : Order) (owners : List (ℕ × SenderNo)) → ¬ Promises actions heard order owners
 
 -- whatever receivers were answered
-abbrev pub NoDeeds : (ℕ → List Deed) → Type 0
-NoDeeds deeds = (heard : ℕ → List RecvTurn) → No deeds heard
+abbrev pub NoActions : (ℕ → List Action) → Type 0
+NoActions actions = (heard : ℕ → List RecvTurn) → No actions heard
 
 -- whatever senders did
 abbrev pub NoAnswers : (ℕ → List RecvTurn) → Type 0
-NoAnswers heard = (deeds : ℕ → List Deed) → No deeds heard
+NoAnswers heard = (actions : ℕ → List Action) → No actions heard
 
 -- whatever happened, with this order and these owners
 abbrev pub NoOrder : Order → List (ℕ × SenderNo) → Type 0
-NoOrder order owners = (deeds : ℕ → List Deed) (heard : ℕ → List RecvTurn) → ¬ Promises deeds heard order owners
+NoOrder order owners = (actions : ℕ → List Action) (heard : ℕ → List RecvTurn) → ¬ Promises actions heard order owners
 
 pub record PromiseRefuses : Type 0 where
   -- two senders that both announced saw one election end with two owners
-  pub two_owners : NoDeeds (each_of (announces ∷ elects 0 ∷ []) (announces ∷ elects 1 ∷ []))
+  pub two_owners : NoActions (each_of (announces ∷ elects 0 ∷ []) (announces ∷ elects 1 ∷ []))
   -- the owner never announced itself
-  pub unannounced : NoDeeds (each_of (announces ∷ elects 1 ∷ []) [])
+  pub unannounced : NoActions (each_of (announces ∷ elects 1 ∷ []) [])
   -- one page was taken by two senders, each of which saw itself elected
-  pub two_takers : NoDeeds (each_of (announces ∷ elects 0 ∷ takes ∷ []) (announces ∷ elects 1 ∷ takes ∷ []))
+  pub two_takers : NoActions (each_of (announces ∷ elects 0 ∷ takes ∷ []) (announces ∷ elects 1 ∷ takes ∷ []))
   -- or twice by its owner
-  pub taken_twice : NoDeeds (each_of (announces ∷ elects 0 ∷ takes ∷ takes ∷ []) [])
+  pub taken_twice : NoActions (each_of (announces ∷ elects 0 ∷ takes ∷ takes ∷ []) [])
   -- a page was taken by a sender that was not elected
-  pub unelected : NoDeeds (each_of (takes ∷ []) [])
+  pub unelected : NoActions (each_of (takes ∷ []) [])
   -- a first put was answered the number 1
-  pub wrong_number : NoDeeds (each_of (HasPut 1 [] ∷ []) [])
+  pub wrong_number : NoActions (each_of (HasPut 1 [] ∷ []) [])
   -- two receivers were given the first items of two senders first
   pub two_orders : NoAnswers (each_of (heard.Item (item 0 0) ∷ []) (heard.Item (item 1 0) ∷ []))
   -- two receivers were told other owners first

@@ -1,5 +1,5 @@
 -- The bus whose rows are used again as a machine that plays events, with its words, its page, its senders and its receivers in lists; and
--- which trails, deeds and answers lead to it.
+-- which trails, actions and answers lead to it.
 use Rattle.std.specs.Prelude.{◌≡◌, ℕ, ◌+◌, ◌<◌, Bool, true, Option, Some, None, List, [], ◌∷◌, ◌++◌, All, length, slice_get, slice_index, slice_set, replicate, if◌then◌else◌}
 use Rattle.bus_register.specs.declared.registers.Op.{Op}
 use Rattle.bus_register.specs.Words.{register}
@@ -7,21 +7,21 @@ use Rattle.bus_batch.specs.Batches.{next_of}
 use Rattle.bus_batch.specs.declared.batches.Phase.TheVariants.{Closing}
 use Rattle.bus_deliverylog.specs.Receiving.{Receiving}
 use Rattle.bus_deliverylog.specs.declared.receiving.RecvTurn.{RecvTurn}
-use Rattle.bus_presence.specs.Hall.{Trails, no_trails, trails_with_entry}
-use Rattle.bus_presence.specs.Sweeps.{Sweeping}
-use Rattle.bus_presence.specs.declared.visits.Visit.{Visit}
-use Rattle.bus_presence.specs.declared.visits.Visit.TheVariants.{Away}
-use Rattle.bus_guest.specs.Guests.{Due, Visits, Sweeps, Goes, log_from}
+use Rattle.bus_presence.specs.Reclamation.{Trails, no_trails, trails_with_entry}
+use Rattle.bus_presence.specs.Reclaimers.{Reclaiming}
+use Rattle.bus_presence.specs.declared.pins.Pin.{Pin}
+use Rattle.bus_presence.specs.declared.pins.Pin.TheVariants.{Away}
+use Rattle.bus_guest.specs.Guests.{Due, Pins, Reclaims, Goes, log_from}
 use Rattle.bus_guest.specs.Keeping.{held_of}
 use Rattle.bus_guest.specs.Turns.{Visitor, due, op_due, visitor_due, answer_due, queue_seen}
 use Rattle.bus_tenure.specs.Core.{Core, Election, Layout}
 use Rattle.bus_tenure.specs.Situations.{PageMove, Stays, line_of}
 use Rattle.bus_tenure.specs.declared.pages.Page.{Page}
 use Rattle.bus_tenure.specs.declared.turns.Turn.{Turn as Answered}
-use Rattle.bus_world.specs.Headline.{Deed, HasPut, HasClosed}
+use Rattle.bus_world.specs.Headline.{Action, HasPut, HasClosed}
 use Rattle.bus_world.specs.Turning.{words_after, number_found, home_moved, core_moved, after_step}
 use Rattle.bus_world.specs.World.{is_set, can_put, can_close, no_stops, new_page, new_core, IsNewReceiver, RecvDoes}
-use Rattle.bus_world.specs.Yards.{Yard, Led, IsKeptYard, no_deeds, no_answers, trails_with, due_deeds, deeds_with, answers_with}
+use Rattle.bus_world.specs.Yards.{Yard, Led, IsKeptYard, no_actions, no_answers, trails_with, due_actions, actions_with, answers_with}
 
 -- its sizes, how many rows there are, and of each sender whether it has stopped
 pub record Ring (E : Type 0) : Type 0 where
@@ -34,36 +34,36 @@ pub record Ring (E : Type 0) : Type 0 where
   pub stopped : List Bool
 
 -- ---- as a yard
-abbrev pub visit_in : {E : Type 0} → Option (Visitor E) → Visit
-visit_in None = Away
-visit_in (Some v) = v.visit
+abbrev pub pin_in : {E : Type 0} → Option (Visitor E) → Pin
+pin_in None = Away
+pin_in (Some v) = v.pin
 
 abbrev pub core_in : {E : Type 0} → Option (Visitor E) → Option (Core E)
 core_in None = None
 core_in (Some v) = Some v.core
 
--- with the sweep of who holds the page, and who took the pages
-abbrev pub yard_of : {E : Type 0} → Ring E → Option Sweeping → List ℕ → Yard E
-yard_of b sweep owners = record {
-  hall = record { words = slice_index b.words; visits = λ p. visit_in (slice_get b.guests p); sweep = sweep };
+-- with the reclaimer of who holds the page, and who took the pages
+abbrev pub yard_of : {E : Type 0} → Ring E → Option Reclaiming → List ℕ → Yard E
+yard_of b reclaimer owners = record {
+  reclamation = record { words = slice_index b.words; pins = λ p. pin_in (slice_get b.guests p); reclaimer = reclaimer };
   home = b.home;
   senders = λ p. core_in (slice_get b.guests p);
   receivers = slice_get b.receivers;
   owners = owners;
 }
 
--- These trails, deeds and answers lead to it: to its yard, with some list of owners and with the sweep of who holds the page.
-pub record Leads {E : Type 0} (X : Election E) (b : Ring E) (T : Trails) (D : ℕ → List Deed) (H : ℕ → List RecvTurn) : Type 0 where
+-- These trails, actions and answers lead to it: to its yard, with some list of owners and with the reclaimer of who holds the page.
+pub record Leads {E : Type 0} (X : Election E) (b : Ring E) (T : Trails) (D : ℕ → List Action) (H : ℕ → List RecvTurn) : Type 0 where
   pub owners : List ℕ
-  pub sweep : Option Sweeping
-  pub holder : (p : ℕ) (v : Visitor E) (t : ℕ) → slice_get b.guests p ≡ Some v → held_of v.core.phase ≡ Some t → v.sweep ≡ sweep
-  pub led : Led X b.layout b.rows (yard_of b sweep owners) T D H
+  pub reclaimer : Option Reclaiming
+  pub holder : (p : ℕ) (v : Visitor E) (t : ℕ) → slice_get b.guests p ≡ Some v → held_of v.core.phase ≡ Some t → v.reclaimer ≡ reclaimer
+  pub led : Led X b.layout b.rows (yard_of b reclaimer owners) T D H
 
 -- ---- a turn of sender s, which held v, with this random word
 -- how the page moves
 abbrev pub move_due : {E : Type 0} → Election E → Visitor E → Due E → PageMove
-move_due X v (Visits o) = Stays
-move_due X v (Sweeps s o) = Stays
+move_due X v (Pins o) = Stays
+move_due X v (Reclaims s o) = Stays
 move_due X v (Goes z) = (line_of X v.core z).move
 
 -- a guest, with the page laid before it where it has taken it
@@ -79,29 +79,29 @@ ring_after X b s v d word =
       guests = slice_set b.guests s (visitor_moved (after_step (move_due X v d)) b.home (visitor_due X v d got word));
     }
 
--- what it adds to the trails of visits and of sweeps, and to the deeds
+-- what it adds to the trails of pins and of reclamations, and to the actions
 abbrev pub ring_trails : {E : Type 0} → Ring E → ℕ → Due E → Trails → Trails
 ring_trails b s d = trails_with (yard_of b None []) s d
 
-abbrev pub ring_sweeps : {E : Type 0} → Ring E → ℕ → Due E → Trails → Trails
-ring_sweeps b s (Visits o) T = T
-ring_sweeps b s (Sweeps r o) T = trails_with_entry T s record { op = o; got = slice_index b.words (register o) }
-ring_sweeps b s (Goes z) T = T
+abbrev pub ring_reclaims : {E : Type 0} → Ring E → ℕ → Due E → Trails → Trails
+ring_reclaims b s (Pins o) T = T
+ring_reclaims b s (Reclaims r o) T = trails_with_entry T s record { op = o; got = slice_index b.words (register o) }
+ring_reclaims b s (Goes z) T = T
 
-abbrev pub ring_deeds : {E : Type 0} → Election E → Ring E → ℕ → Visitor E → Due E → ℕ → Answered → (ℕ → List Deed) → ℕ → List Deed
-ring_deeds X b s v d word answer = deeds_with s (due_deeds X b.layout b.rows (yard_of b None []) v.core d word answer)
+abbrev pub ring_actions : {E : Type 0} → Election E → Ring E → ℕ → Visitor E → Due E → ℕ → Answered → (ℕ → List Action) → ℕ → List Action
+ring_actions X b s v d word answer = actions_with s (due_actions X b.layout b.rows (yard_of b None []) v.core d word answer)
 
 -- ---- what may happen next
 -- the sender s, if there is one and it has not stopped
 abbrev pub guest_going : {E : Type 0} → Ring E → ℕ → Option (Visitor E)
 guest_going b s = if is_set (slice_get b.stopped s) then None else slice_get b.guests s
 
--- While a sender visits a tenure its batch is on its way: it takes no message, and no close.
+-- While a sender pins a tenure its batch is on its way: it takes no message, and no close.
 abbrev pub visitor_put : {E : Type 0} → Visitor E → List ℕ → Visitor E
-visitor_put v bytes = if can_put (queue_seen v.core.queue v.visit) (length bytes) then record v { core = record v.core { queue = record v.core.queue { messages = v.core.queue.messages ++ bytes ∷ [] } } } else v
+visitor_put v bytes = if can_put (queue_seen v.core.queue v.pin) (length bytes) then record v { core = record v.core { queue = record v.core.queue { messages = v.core.queue.messages ++ bytes ∷ [] } } } else v
 
 abbrev pub visitor_closed : {E : Type 0} → Visitor E → Visitor E
-visitor_closed v = if can_close (queue_seen v.core.queue v.visit) then record v { core = record v.core { queue = record v.core.queue { phase = Closing } } } else v
+visitor_closed v = if can_close (queue_seen v.core.queue v.pin) then record v { core = record v.core { queue = record v.core.queue { phase = Closing } } } else v
 
 abbrev pub with_guest : {E : Type 0} → Ring E → ℕ → Visitor E → Ring E
 with_guest b s v = record b { guests = slice_set b.guests s v }
@@ -111,21 +111,21 @@ abbrev pub IsOnWord : {E : Type 0} → Ring E → Option Op → Type 0
 IsOnWord b None = Unit {0}
 IsOnWord b (Some o) = register o < length b.words
 
--- ---- what happened: the steps of visits and of sweeps, the deeds of senders, the answers of receivers
+-- ---- what happened: the steps of pins and of reclamations, the actions of senders, the answers of receivers
 pub record RingTrails : Type 0 where
-  pub visits : Trails
-  pub sweeps : Trails
-  pub deeds : ℕ → List Deed
+  pub pins : Trails
+  pub reclaims : Trails
+  pub actions : ℕ → List Action
   pub heard : ℕ → List RecvTurn
 
 abbrev pub no_ring_trails : RingTrails
-no_ring_trails = record { visits = no_trails; sweeps = no_trails; deeds = no_deeds; heard = no_answers }
+no_ring_trails = record { pins = no_trails; reclaims = no_trails; actions = no_actions; heard = no_answers }
 
 -- nothing has happened: words of zero, the page at home, senders and receivers at their starts, none of which has stopped
 pub record IsNewRing {E : Type 0} (b : Ring E) : Type 0 where
   pub words : b.words ≡ replicate (log_from b.layout b.rows + b.layout.capacity) 0
   pub home : b.home ≡ Some new_page
-  pub guests : (p : ℕ) (v : Visitor E) → slice_get b.guests p ≡ Some v → (p < b.layout.senders) × (v ≡ record { core = new_core b.layout p; visit = Away; sweep = None; lost = None; rows = b.rows })
+  pub guests : (p : ℕ) (v : Visitor E) → slice_get b.guests p ≡ Some v → (p < b.layout.senders) × (v ≡ record { core = new_core b.layout p; pin = Away; reclaimer = None; lost = None; rows = b.rows })
   pub receivers : (r : ℕ) (v : Receiving) → slice_get b.receivers r ≡ Some v → IsNewReceiver b.layout (log_from b.layout b.rows) v
   pub stopped : b.stopped ≡ no_stops
 
@@ -135,11 +135,11 @@ pub data RingReached {E : Type 0} (X : Election E) : Ring E → RingTrails → T
   NewRing : (b : Ring E) → IsNewRing b → RingReached X b no_ring_trails
   TurnTaken : (b : Ring E) (T : RingTrails) (s : ℕ) (v : Visitor E) (word : ℕ) (answer : Answered) → RingReached X b T → guest_going b s ≡ Some v → IsOnWord b (op_due X v (due X v) word)
       → answer ≡ answer_due X v (due X v) (number_found (slice_index b.words) (op_due X v (due X v) word)) word
-      → RingReached X (ring_after X b s v (due X v) word) (record T { visits = ring_trails b s (due X v) T.visits; sweeps = ring_sweeps b s (due X v) T.sweeps; deeds = ring_deeds X b s v (due X v) word answer T.deeds })
+      → RingReached X (ring_after X b s v (due X v) word) (record T { pins = ring_trails b s (due X v) T.pins; reclaims = ring_reclaims b s (due X v) T.reclaims; actions = ring_actions X b s v (due X v) word answer T.actions })
   PutTaken : (b : Ring E) (T : RingTrails) (s : ℕ) (v : Visitor E) (bytes : List ℕ) → RingReached X b T → guest_going b s ≡ Some v → All (λ byte. byte < 256) bytes
-      → RingReached X (with_guest b s (visitor_put v bytes)) (record T { deeds = deeds_with s (if can_put (queue_seen v.core.queue v.visit) (length bytes) then HasPut (next_of v.core.queue) bytes ∷ [] else []) T.deeds })
+      → RingReached X (with_guest b s (visitor_put v bytes)) (record T { actions = actions_with s (if can_put (queue_seen v.core.queue v.pin) (length bytes) then HasPut (next_of v.core.queue) bytes ∷ [] else []) T.actions })
   CloseTaken : (b : Ring E) (T : RingTrails) (s : ℕ) (v : Visitor E) → RingReached X b T → guest_going b s ≡ Some v
-      → RingReached X (with_guest b s (visitor_closed v)) (record T { deeds = deeds_with s (if can_close (queue_seen v.core.queue v.visit) then HasClosed ∷ [] else []) T.deeds })
+      → RingReached X (with_guest b s (visitor_closed v)) (record T { actions = actions_with s (if can_close (queue_seen v.core.queue v.pin) then HasClosed ∷ [] else []) T.actions })
   RecvTaken : (b : Ring E) (T : RingTrails) (r : ℕ) (v next : Receiving) (answer : RecvTurn) → RingReached X b T → slice_get b.receivers r ≡ Some v → RecvDoes (slice_index b.words) v answer next
       → RingReached X (record b { receivers = slice_set b.receivers r next }) (record T { heard = answers_with r answer T.heard })
   StopTaken : (b : Ring E) (T : RingTrails) (s : ℕ) (v : Visitor E) → RingReached X b T → guest_going b s ≡ Some v → RingReached X (record b { stopped = slice_set b.stopped s true }) T
@@ -150,7 +150,7 @@ pub record IsRing {E : Type 0} (b : Ring E) : Type 0 where
   pub words : length b.words ≡ log_from b.layout b.rows + b.layout.capacity
 
 -- ---- what is promised of it
--- with the sweep of who holds the page, and some list of who took the pages, of which the words below the length are the log
+-- with the reclaimer of who holds the page, and some list of who took the pages, of which the words below the length are the log
 pub record IsKeptRing {E : Type 0} (X : Election E) (b : Ring E) (T : RingTrails) : Type 0 where
-  pub leads : Leads X b T.visits T.deeds T.heard
-  pub kept : IsKeptYard X b.layout b.rows (yard_of b leads.sweep leads.owners) T.visits T.deeds T.heard
+  pub leads : Leads X b T.pins T.actions T.heard
+  pub kept : IsKeptYard X b.layout b.rows (yard_of b leads.reclaimer leads.owners) T.pins T.actions T.heard

@@ -17,7 +17,7 @@ IsOfOther s (Turn q word) = q ≢ s
 IsOfOther s (Recv r) = Unit {0}
 IsOfOther s (Stop q) = q ≢ s
 
--- The stop of a sender that went on was answered: it has stopped now, and nothing else has changed. It is no deed of any sender and no
+-- The stop of a sender that went on was answered: it has stopped now, and nothing else has changed. It is no action of any sender and no
 -- answer of any receiver. Each event of the others does what it did before, and is answered and refused alike.
 pub record JustStopped {E : Type 0} (X : Election E) (old : Bus E) (s : ℕ) (a : Answer) (new : Bus E) : Type 0 where
   pub answered : a ≡ answer.Stopped
@@ -26,7 +26,7 @@ pub record JustStopped {E : Type 0} (X : Election E) (old : Bus E) (s : ℕ) (a 
   pub others : (q : ℕ) → q ≢ s → has_stopped new q ≡ has_stopped old q
   pub side : new.side ≡ old.side
   pub receivers : new.receivers ≡ old.receivers
-  pub deeds : (T : Trails) (q : ℕ) → (trails_grown X old (Stop s) a T).deeds q ≡ T.deeds q
+  pub actions : (T : Trails) (q : ℕ) → (trails_grown X old (Stop s) a T).actions q ≡ T.actions q
   pub heard : (T : Trails) (r : ℕ) → (trails_grown X old (Stop s) a T).heard r ≡ T.heard r
   pub trails_alike : (e : Event) (g : Answer) (T : Trails) → IsOfOther s e → trails_grown X new e g T ≡ trails_grown X old e g T
   pub happens_alike : (e : Event) (next : Bus E) → IsOfOther s e → Happens X old e next → Happens X new e (record next { stopped = slice_set next.stopped s true })
@@ -38,7 +38,7 @@ pub record JustStopped {E : Type 0} (X : Election E) (old : Bus E) (s : ℕ) (a 
 pub record StaysStopped {E : Type 0} (old : Bus E) (T : Trails) (s : ℕ) (new : Bus E) (T' : Trails) : Type 0 where
   pub stopped : has_stopped new s ≡ true
   pub state : slice_get new.side.senders s ≡ slice_get old.side.senders s
-  pub deeds : T'.deeds s ≡ T.deeds s
+  pub actions : T'.actions s ≡ T.actions s
 
 -- an event is refused as Stopped, and for nothing else
 abbrev pub IsRefusedAsStopped : {E : Type 0} → Bus E → Event → Type 0

@@ -10,7 +10,7 @@ use Rattle.bus_tenure.specs.Elections.{Elector}
 use Rattle.bus_tenure.specs.Core.{Core, Election, Layout, frame_len}
 use Rattle.bus_tenure.specs.declared.turns.Turn.{Turn as Answered}
 use Rattle.bus_tenure.specs.declared.turns.Turn.TheVariants as turn
-use Rattle.bus_world.specs.Headline.{Deed, Elected, Took, AreFramed}
+use Rattle.bus_world.specs.Headline.{Action, Elected, Took, AreFramed}
 use Rattle.bus_world.specs.Log.{AreCounted}
 use Rattle.bus_world.specs.Playing.{log_of}
 use Rattle.bus_world.specs.Trails.{Trails, Reached, trails_grown}
@@ -36,30 +36,30 @@ pub record HasDelivered (order : Order) (owners : List (ℕ × SenderNo)) (s t f
 
 -- A tenure is lost to the owner with which its election ended, which is another sender, and taken by it. Messages are delivered where the frame of that
 -- tenure holds them. The log is full where the sender's frame does not fit behind it. No sender of a bus with a row for each tenure answers Behind.
-abbrev pub TurnTells : {E : Type 0} → Layout → List ℕ → ℕ → Core E → List Deed → Answered → Type 0
-TurnTells x log s c deeds turn.Idle = Unit {0}
-TurnTells x log s c deeds turn.Waiting = Unit {0}
-TurnTells x log s c deeds turn.Going = Unit {0}
-TurnTells x log s c deeds (turn.Lost t o) = Elected deeds t o.0 × (o.0 ≢ s)
-TurnTells x log s c deeds (turn.Own t) = Elected deeds t s × ((place : ℕ) × Took deeds t place)
-TurnTells x log s c deeds (turn.Delivered t first last) = (order : Order) × (owners : List (ℕ × SenderNo)) × Spells x.senders log order owners × HasDelivered order owners s t first last
-TurnTells x log s c deeds turn.Full = x.capacity < length log + frame_len c
-TurnTells x log s c deeds turn.Closed = Unit {0}
-TurnTells x log s c deeds turn.Spent = Unit {0}
-TurnTells x log s c deeds (turn.Behind t p) = ⊥
+abbrev pub TurnTells : {E : Type 0} → Layout → List ℕ → ℕ → Core E → List Action → Answered → Type 0
+TurnTells x log s c actions turn.Idle = Unit {0}
+TurnTells x log s c actions turn.Waiting = Unit {0}
+TurnTells x log s c actions turn.Going = Unit {0}
+TurnTells x log s c actions (turn.Lost t o) = Elected actions t o.0 × (o.0 ≢ s)
+TurnTells x log s c actions (turn.Own t) = Elected actions t s × ((place : ℕ) × Took actions t place)
+TurnTells x log s c actions (turn.Delivered t first last) = (order : Order) × (owners : List (ℕ × SenderNo)) × Spells x.senders log order owners × HasDelivered order owners s t first last
+TurnTells x log s c actions turn.Full = x.capacity < length log + frame_len c
+TurnTells x log s c actions turn.Closed = Unit {0}
+TurnTells x log s c actions turn.Spent = Unit {0}
+TurnTells x log s c actions (turn.Behind t p) = ⊥
 
 -- of the sender that there is
-abbrev pub SenderTells : {E : Type 0} → Layout → List ℕ → ℕ → Option (Core E) → List Deed → Answered → Type 0
-SenderTells x log s None deeds t = ⊥
-SenderTells x log s (Some c) deeds t = TurnTells x log s c deeds t
+abbrev pub SenderTells : {E : Type 0} → Layout → List ℕ → ℕ → Option (Core E) → List Action → Answered → Type 0
+SenderTells x log s None actions t = ⊥
+SenderTells x log s (Some c) actions t = TurnTells x log s c actions t
 
--- of an event and its answer, whatever trails led to the bus before it; deeds are those with what it added
+-- of an event and its answer, whatever trails led to the bus before it; actions are those with what it added
 abbrev pub EventTells : {E : Type 0} → Layout → Bus E → Event → Answer → Trails → Type 0
 EventTells x old (Put s bytes) a T' = Unit {0}
 EventTells x old (Close s) a T' = Unit {0}
 EventTells x old (Turn s word) (answer.Number n) T' = Unit {0}
 EventTells x old (Turn s word) answer.Closing T' = Unit {0}
-EventTells x old (Turn s word) (answer.Turn t) T' = SenderTells x (log_of record { layout = x; bus = old }) s (going old s) (T'.deeds s) t
+EventTells x old (Turn s word) (answer.Turn t) T' = SenderTells x (log_of record { layout = x; bus = old }) s (going old s) (T'.actions s) t
 EventTells x old (Turn s word) (answer.Recv r) T' = Unit {0}
 EventTells x old (Turn s word) answer.Stopped T' = Unit {0}
 EventTells x old (Recv r) a T' = Unit {0}

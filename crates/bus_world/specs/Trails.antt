@@ -10,7 +10,7 @@ use Rattle.bus_deliverylog.specs.Orders.{IsPrefixOfOrder}
 use Rattle.bus_tenure.specs.Core.{Core, Election, Layout}
 use Rattle.bus_tenure.specs.Situations.{Situation, situation_of, tenure_at, kind_at, op_at, chosen_at}
 use Rattle.bus_tenure.specs.declared.turns.Turn.{Turn as Answered}
-use Rattle.bus_world.specs.Headline.{Deed, HasPut, HasClosed, Stepped, Took, order_given, IsPrefix, Promises}
+use Rattle.bus_world.specs.Headline.{Action, HasPut, HasClosed, Stepped, Took, order_given, IsPrefix, Promises}
 use Rattle.bus_world.specs.Turning.{number_found}
 use Rattle.bus_world.specs.World.{Bus, Event, Put, Close, Turn, Recv, Stop, going, IsEvent, Happens, IsNew, LawfulBus}
 use Rattle.bus_world.specs.Playing.{SizedBus, AllAnswered, Answers, Refused, log_of}
@@ -18,46 +18,46 @@ use Rattle.bus_world.specs.declared.events.Answer.{Answer}
 use Rattle.bus_world.specs.declared.events.Answer.TheVariants as answer
 use Rattle.bus_world.specs.declared.events.StepFault.{StepFault}
 
-abbrev pub step_deed : Option Kind → Option ℕ → ℕ → Option ℕ → Answered → List Deed
-step_deed None tenure got chose turn = []
-step_deed (Some k) tenure got chose turn = Stepped tenure k got chose turn ∷ []
+abbrev pub step_action : Option Kind → Option ℕ → ℕ → Option ℕ → Answered → List Action
+step_action None tenure got chose turn = []
+step_action (Some k) tenure got chose turn = Stepped tenure k got chose turn ∷ []
 
 -- what a turn of a sender in this situation adds to its trail, where its step found this number and this is its answer
-abbrev pub turn_deeds : {E : Type 0} → Election E → Core E → Situation E → ℕ → ℕ → Answer → List Deed
-turn_deeds X c z got word (answer.Number n) = []
-turn_deeds X c z got word answer.Closing = []
-turn_deeds X c z got word (answer.Turn t) = step_deed (kind_at X c z) (tenure_at X c z) got (chosen_at X c z got word) t
-turn_deeds X c z got word (answer.Recv t) = []
-turn_deeds X c z got word answer.Stopped = []
+abbrev pub turn_actions : {E : Type 0} → Election E → Core E → Situation E → ℕ → ℕ → Answer → List Action
+turn_actions X c z got word (answer.Number n) = []
+turn_actions X c z got word answer.Closing = []
+turn_actions X c z got word (answer.Turn t) = step_action (kind_at X c z) (tenure_at X c z) got (chosen_at X c z got word) t
+turn_actions X c z got word (answer.Recv t) = []
+turn_actions X c z got word answer.Stopped = []
 
 -- of the sender that there is
-abbrev pub turning_deeds : {E : Type 0} → Election E → List ℕ → Option (Core E) → ℕ → Answer → List Deed
-turning_deeds X words None word a = []
-turning_deeds X words (Some c) word a = turn_deeds X c (situation_of X c) (number_found (slice_index words) (op_at X c (situation_of X c) word)) word a
+abbrev pub turning_actions : {E : Type 0} → Election E → List ℕ → Option (Core E) → ℕ → Answer → List Action
+turning_actions X words None word a = []
+turning_actions X words (Some c) word a = turn_actions X c (situation_of X c) (number_found (slice_index words) (op_at X c (situation_of X c) word)) word a
 
 -- what a put of these bytes adds, by its answer
-abbrev pub put_deeds : List ℕ → Answer → List Deed
-put_deeds bytes (answer.Number n) = HasPut n bytes ∷ []
-put_deeds bytes answer.Closing = []
-put_deeds bytes (answer.Turn t) = []
-put_deeds bytes (answer.Recv t) = []
-put_deeds bytes answer.Stopped = []
+abbrev pub put_actions : List ℕ → Answer → List Action
+put_actions bytes (answer.Number n) = HasPut n bytes ∷ []
+put_actions bytes answer.Closing = []
+put_actions bytes (answer.Turn t) = []
+put_actions bytes (answer.Recv t) = []
+put_actions bytes answer.Stopped = []
 
 -- what a close adds, by its answer
-abbrev pub close_deeds : Answer → List Deed
-close_deeds (answer.Number n) = []
-close_deeds answer.Closing = HasClosed ∷ []
-close_deeds (answer.Turn t) = []
-close_deeds (answer.Recv t) = []
-close_deeds answer.Stopped = []
+abbrev pub close_actions : Answer → List Action
+close_actions (answer.Number n) = []
+close_actions answer.Closing = HasClosed ∷ []
+close_actions (answer.Turn t) = []
+close_actions (answer.Recv t) = []
+close_actions answer.Stopped = []
 
--- what an event with this answer adds to the trail of sender q: a stop is no deed
-abbrev pub deeds_of : {E : Type 0} → Election E → Bus E → Event → Answer → ℕ → List Deed
-deeds_of X b (Put s bytes) a q = if q == s then put_deeds bytes a else []
-deeds_of X b (Close s) a q = if q == s then close_deeds a else []
-deeds_of X b (Turn s word) a q = if q == s then turning_deeds X b.side.words (going b s) word a else []
-deeds_of X b (Recv r) a q = []
-deeds_of X b (Stop s) a q = []
+-- what an event with this answer adds to the trail of sender q: a stop is no action
+abbrev pub actions_of : {E : Type 0} → Election E → Bus E → Event → Answer → ℕ → List Action
+actions_of X b (Put s bytes) a q = if q == s then put_actions bytes a else []
+actions_of X b (Close s) a q = if q == s then close_actions a else []
+actions_of X b (Turn s word) a q = if q == s then turning_actions X b.side.words (going b s) word a else []
+actions_of X b (Recv r) a q = []
+actions_of X b (Stop s) a q = []
 
 abbrev pub answer_heard : Answer → List RecvTurn
 answer_heard (answer.Number n) = []
@@ -76,14 +76,14 @@ heard_of (Stop s) a q = []
 
 -- ---- the trails of all
 pub record Trails : Type 0 where
-  pub deeds : ℕ → List Deed
+  pub actions : ℕ → List Action
   pub heard : ℕ → List RecvTurn
 
 abbrev pub no_trails : Trails
-no_trails = record { deeds = λ s. []; heard = λ r. [] }
+no_trails = record { actions = λ s. []; heard = λ r. [] }
 
 abbrev pub trails_grown : {E : Type 0} → Election E → Bus E → Event → Answer → Trails → Trails
-trails_grown X b e a T = record { deeds = λ s. T.deeds s ++ deeds_of X b e a s; heard = λ r. T.heard r ++ heard_of e a r }
+trails_grown X b e a T = record { actions = λ s. T.actions s ++ actions_of X b e a s; heard = λ r. T.heard r ++ heard_of e a r }
 
 -- these trails lead to this bus: from a new one, of which nothing has happened, by one event after another
 pub data Reached {E : Type 0} (X : Election E) (x : Layout) : Bus E → Trails → Type 0 where
@@ -92,15 +92,15 @@ pub data Reached {E : Type 0} (X : Election E) (x : Layout) : Bus E → Trails �
 
 -- ---- what is promised of a bus
 -- who took the pages, by tenure
-pub record Takers (owners : List ℕ) (deeds : ℕ → List Deed) : Type 0 where
-  pub took : (t s : ℕ) → slice_get owners t ≡ Some s → (place : ℕ) × Took (deeds s) t place
-  pub only : (t s place : ℕ) → Took (deeds s) t place → slice_get owners t ≡ Some s
+pub record Takers (owners : List ℕ) (actions : ℕ → List Action) : Type 0 where
+  pub took : (t s : ℕ) → slice_get owners t ≡ Some s → (place : ℕ) × Took (actions s) t place
+  pub only : (t s place : ℕ) → Took (actions s) t place → slice_get owners t ≡ Some s
 
 -- the promise holds of these trails, with the order and the owners that the words below the length spell
 pub record IsPromisedBy {E : Type 0} (x : Layout) (b : Bus E) (T : Trails) (order : Order) (owners : List (ℕ × SenderNo)) : Type 0 where
   pub spelled : Spells x.senders (log_of record { layout = x; bus = b }) order owners
-  pub takers : Takers b.side.owners T.deeds
-  pub promises : Promises T.deeds T.heard order owners
+  pub takers : Takers b.side.owners T.actions
+  pub promises : Promises T.actions T.heard order owners
 
 pub record IsPromised {E : Type 0} (x : Layout) (b : Bus E) (T : Trails) : Type 0 where
   pub order : Order
@@ -142,7 +142,7 @@ pub record Stops {E : Type 0} (X : Election E) (x : Layout) (old : Bus E) (event
   pub refused : Refused new event why
 
 -- what every bus that a program holds keeps: some trails lead to it
-pub record IsServedBus {E : Type 0} (X : Election E) (P : Protocol E (Unit {0}) ℕ) (z : SizedBus E) : Type 0 where
+pub record MachineInvariant {E : Type 0} (X : Election E) (P : Protocol E (Unit {0}) ℕ) (z : SizedBus E) : Type 0 where
   pub senders_few : z.layout.senders ≤ MOST_SENDERS
   pub rows_few : z.layout.rows ≤ MOST_ROWS
   pub capacity_few : z.layout.capacity ≤ MOST_LOG_WORDS

@@ -1,4 +1,4 @@
--- Senders and receivers of a bus whose rows are used again, in any order: the hall of the visits and of the sweep, whose words are those
+-- Senders and receivers of a bus whose rows are used again, in any order: the reclamation, with its pins and the holder's reclaimer, whose words are those
 -- of the bus, with the page, the senders, the receivers and who took the pages. Tenure t uses row t mod rows.
 use Rattle.std.specs.Prelude.{◌≡◌, ◌≢◌, ℕ, ◌+◌, ◌*◌, ◌%◌, ◌<◌, ◌≤◌, Option, Some, None, List, [], ◌∷◌, ◌++◌, All, length, slice_get, ◌==◌, if◌then◌else◌}
 use Rattle.bus_register.specs.declared.registers.Op.{Op}
@@ -9,25 +9,25 @@ use Rattle.bus_batch.specs.Batches.{next_of}
 use Rattle.bus_batch.specs.Frames.{Order, Spells}
 use Rattle.bus_deliverylog.specs.Receiving.{Receiving}
 use Rattle.bus_deliverylog.specs.declared.receiving.RecvTurn.{RecvTurn}
-use Rattle.bus_presence.specs.Visits.{visit_fed}
+use Rattle.bus_presence.specs.Pins.{pin_fed}
 use Rattle.bus_presence.specs.Standing.{IsSafe, Stands}
-use Rattle.bus_presence.specs.Sweeps.{Sweeping, sweep_fed}
-use Rattle.bus_presence.specs.Hall.{Hall, Trails, row_of, no_trails, new_hall, trails_with_entry, number_of_step, words_after as hall_words, Reached}
-use Rattle.bus_presence.specs.declared.visits.Visit.TheVariants.{Away}
+use Rattle.bus_presence.specs.Reclaimers.{Reclaiming, reclaim_fed}
+use Rattle.bus_presence.specs.Reclamation.{Reclamation, Trails, row_of, no_trails, new_reclamation, trails_with_entry, number_of_step, words_after as reclamation_words, Reached}
+use Rattle.bus_presence.specs.declared.pins.Pin.TheVariants.{Away}
 use Rattle.bus_tenure.specs.Core.{Core, Election, Layout, stage_at}
 use Rattle.bus_tenure.specs.Situations.{Situation, Elects, line_of, op_at, kind_at, tenure_at, chosen_at}
 use Rattle.bus_tenure.specs.declared.pages.Page.{Page}
 use Rattle.bus_tenure.specs.declared.phases.Phase.TheVariants.{Electing}
 use Rattle.bus_tenure.specs.declared.turns.Turn.{Turn as Answered}
-use Rattle.bus_guest.specs.Guests.{sizes_with, log_from, Due, Visits, Sweeps, Goes, due_of, place_for, core_looked, core_going, visit_going, sweep_going, answer_going}
+use Rattle.bus_guest.specs.Guests.{sizes_with, log_from, Due, Pins, Reclaims, Goes, due_of, place_for, core_looked, core_going, pin_going, reclaimer_going, answer_going}
 use Rattle.bus_world.specs.Turning.{core_moved, after_step, home_after, owners_after}
-use Rattle.bus_world.specs.Headline.{Deed, HasPut, HasClosed, Elected, Promises}
+use Rattle.bus_world.specs.Headline.{Action, HasPut, HasClosed, Elected, Promises}
 use Rattle.bus_world.specs.Log.{words_read_from}
-use Rattle.bus_world.specs.Trails.{step_deed, Takers}
+use Rattle.bus_world.specs.Trails.{step_action, Takers}
 use Rattle.bus_world.specs.World.{new_page, new_core, IsNewReceiver, RecvDoes, can_put, can_close, put_in, close_in}
 
 pub record Yard (E : Type 0) : Type 0 where
-  pub hall : Hall
+  pub reclamation : Reclamation
   pub home : Option Page
   pub senders : ℕ → Option (Core E)
   pub receivers : ℕ → Option Receiving
@@ -44,61 +44,61 @@ word_found place words None = 0
 word_found place words (Some o) = words (place (register o))
 
 -- ---- a turn of sender p, which held this, with this random word
-abbrev pub yard_visited : {E : Type 0} → Election E → Yard E → ℕ → Core E → Op → Yard E
-yard_visited X y p c o = record y {
-  hall = record y.hall { words = hall_words y.hall o; visits = put p (visit_fed (y.hall.visits p) (number_of_step y.hall o)) y.hall.visits };
-  senders = put p (Some (core_looked X c (y.hall.visits p) (number_of_step y.hall o))) y.senders;
+abbrev pub yard_pin_stepped : {E : Type 0} → Election E → Yard E → ℕ → Core E → Op → Yard E
+yard_pin_stepped X y p c o = record y {
+  reclamation = record y.reclamation { words = reclamation_words y.reclamation o; pins = put p (pin_fed (y.reclamation.pins p) (number_of_step y.reclamation o)) y.reclamation.pins };
+  senders = put p (Some (core_looked X c (y.reclamation.pins p) (number_of_step y.reclamation o))) y.senders;
 }
 
-abbrev pub yard_swept : {E : Type 0} → Yard E → Sweeping → Op → Yard E
-yard_swept y s o = record y { hall = record y.hall { words = hall_words y.hall o; sweep = Some (sweep_fed s (number_of_step y.hall o)) } }
+abbrev pub yard_reclaimed : {E : Type 0} → Yard E → Reclaiming → Op → Yard E
+yard_reclaimed y s o = record y { reclamation = record y.reclamation { words = reclamation_words y.reclamation o; reclaimer = Some (reclaim_fed s (number_of_step y.reclamation o)) } }
 
 -- as a sender that has a row for each tenure, in this situation
 abbrev pub yard_after_going : {E : Type 0} → Election E → Layout → ℕ → Yard E → ℕ → Core E → Situation E → ℕ → Yard E
 yard_after_going X x rows y p c z word = record y {
-  hall = record {
-    words = words_stepped (place_for x rows z) y.hall.words (op_at X c z word);
-    visits = put p (visit_going X c (y.hall.visits p) z (word_found (place_for x rows z) y.hall.words (op_at X c z word)) word) y.hall.visits;
-    sweep = sweep_going x rows y.hall.sweep z;
+  reclamation = record {
+    words = words_stepped (place_for x rows z) y.reclamation.words (op_at X c z word);
+    pins = put p (pin_going X c (y.reclamation.pins p) z (word_found (place_for x rows z) y.reclamation.words (op_at X c z word)) word) y.reclamation.pins;
+    reclaimer = reclaimer_going x rows y.reclamation.reclaimer z;
   };
   home = home_after X c z y.home;
-  senders = put p (Some (core_moved (after_step (line_of X c z).move) y.home (core_going X c z (word_found (place_for x rows z) y.hall.words (op_at X c z word)) word))) y.senders;
+  senders = put p (Some (core_moved (after_step (line_of X c z).move) y.home (core_going X c z (word_found (place_for x rows z) y.reclamation.words (op_at X c z word)) word))) y.senders;
   owners = owners_after X c z p y.owners;
 }
 
 abbrev pub yard_after : {E : Type 0} → Election E → Layout → ℕ → Yard E → ℕ → Core E → Due E → ℕ → Yard E
-yard_after X x rows y p c (Visits o) word = yard_visited X y p c o
-yard_after X x rows y p c (Sweeps s o) word = yard_swept y s o
+yard_after X x rows y p c (Pins o) word = yard_pin_stepped X y p c o
+yard_after X x rows y p c (Reclaims s o) word = yard_reclaimed y s o
 yard_after X x rows y p c (Goes z) word = yard_after_going X x rows y p c z word
 
--- the step of a visit joins the trail of its sender
+-- the step of a pin joins the trail of its sender
 abbrev pub trails_with : {E : Type 0} → Yard E → ℕ → Due E → Trails → Trails
-trails_with y p (Visits o) T = trails_with_entry T p record { op = o; got = number_of_step y.hall o }
-trails_with y p (Sweeps s o) T = T
+trails_with y p (Pins o) T = trails_with_entry T p record { op = o; got = number_of_step y.reclamation o }
+trails_with y p (Reclaims s o) T = T
 trails_with y p (Goes z) T = T
 
 -- ---- what a sender does
--- Its deeds, but for the steps of visits and sweeps, of which a visit's stand in the trail of the hall.
-abbrev pub going_deeds : {E : Type 0} → Election E → Layout → ℕ → Yard E → Core E → Situation E → ℕ → Answered → List Deed
-going_deeds X x rows y c z word answer =
-    let got = word_found (place_for x rows z) y.hall.words (op_at X c z word) in step_deed (kind_at X c z) (tenure_at X c z) got (chosen_at X c z got word) answer
+-- Its actions, but for the steps of pins and of reclaimers, of which a pin's stand in the trail of the reclamation.
+abbrev pub going_actions : {E : Type 0} → Election E → Layout → ℕ → Yard E → Core E → Situation E → ℕ → Answered → List Action
+going_actions X x rows y c z word answer =
+    let got = word_found (place_for x rows z) y.reclamation.words (op_at X c z word) in step_action (kind_at X c z) (tenure_at X c z) got (chosen_at X c z got word) answer
 
-abbrev pub due_deeds : {E : Type 0} → Election E → Layout → ℕ → Yard E → Core E → Due E → ℕ → Answered → List Deed
-due_deeds X x rows y c (Visits o) word answer = []
-due_deeds X x rows y c (Sweeps s o) word answer = []
-due_deeds X x rows y c (Goes z) word answer = going_deeds X x rows y c z word answer
+abbrev pub due_actions : {E : Type 0} → Election E → Layout → ℕ → Yard E → Core E → Due E → ℕ → Answered → List Action
+due_actions X x rows y c (Pins o) word answer = []
+due_actions X x rows y c (Reclaims s o) word answer = []
+due_actions X x rows y c (Goes z) word answer = going_actions X x rows y c z word answer
 
--- What a turn answers that adds a deed: what is due of what its step found. Of a turn that adds none nothing is said here.
+-- What a turn answers that adds an action: what is due of what its step found. Of a turn that adds none nothing is said here.
 abbrev pub AnswersDue : {E : Type 0} → Election E → Layout → ℕ → Yard E → Core E → Due E → ℕ → Answered → Type 0
-AnswersDue X x rows y c (Visits o) word answer = Unit {0}
-AnswersDue X x rows y c (Sweeps s o) word answer = Unit {0}
-AnswersDue X x rows y c (Goes z) word answer = answer ≡ answer_going X c z (word_found (place_for x rows z) y.hall.words (op_at X c z word)) word
+AnswersDue X x rows y c (Pins o) word answer = Unit {0}
+AnswersDue X x rows y c (Reclaims s o) word answer = Unit {0}
+AnswersDue X x rows y c (Goes z) word answer = answer ≡ answer_going X c z (word_found (place_for x rows z) y.reclamation.words (op_at X c z word)) word
 
-abbrev pub deeds_with : ℕ → List Deed → (ℕ → List Deed) → ℕ → List Deed
-deeds_with p ds D q = D q ++ (if q == p then ds else [])
+abbrev pub actions_with : ℕ → List Action → (ℕ → List Action) → ℕ → List Action
+actions_with p ds D q = D q ++ (if q == p then ds else [])
 
-abbrev pub no_deeds : ℕ → List Deed
-no_deeds q = []
+abbrev pub no_actions : ℕ → List Action
+no_actions q = []
 
 abbrev pub no_answers : ℕ → List RecvTurn
 no_answers r = []
@@ -110,7 +110,7 @@ answers_with r answer H q = H q ++ (if q == r then answer ∷ [] else [])
 -- ---- what leads to a yard
 -- nothing has happened: words of zero, the page at home, senders and receivers at their starts
 pub record IsNewYard {E : Type 0} (x : Layout) (rows : ℕ) (y : Yard E) : Type 0 where
-  pub hall : y.hall ≡ new_hall
+  pub reclamation : y.reclamation ≡ new_reclamation
   pub home : y.home ≡ Some new_page
   pub senders : (p : ℕ) (c : Core E) → y.senders p ≡ Some c → (p < x.senders) × (c ≡ new_core x p)
   pub receivers : (r : ℕ) (v : Receiving) → y.receivers r ≡ Some v → IsNewReceiver x (log_from x rows) v
@@ -118,42 +118,42 @@ pub record IsNewYard {E : Type 0} (x : Layout) (rows : ℕ) (y : Yard E) : Type 
 
 -- the turn that sender p takes next, which holds this
 abbrev pub due_in : {E : Type 0} → Election E → Layout → ℕ → Yard E → ℕ → Core E → Due E
-due_in X x rows y p c = due_of X x rows p c (y.hall.visits p) y.hall.sweep
+due_in X x rows y p c = due_of X x rows p c (y.reclamation.pins p) y.reclamation.reclaimer
 
--- These trails, deeds and answers lead to a yard: from a new one, by one thing after another, of anybody and in any order. A sender takes
--- a turn with any random word; or one that visits no tenure puts a message, or closes; or a receiver takes a turn.
-pub data Led {E : Type 0} (X : Election E) (x : Layout) (rows : ℕ) : Yard E → Trails → (ℕ → List Deed) → (ℕ → List RecvTurn) → Type 0 where
-  NewYard : (y : Yard E) → IsNewYard x rows y → Led X x rows y no_trails no_deeds no_answers
-  Turned : (y : Yard E) (T : Trails) (D : ℕ → List Deed) (H : ℕ → List RecvTurn) (p : ℕ) (c : Core E) (word : ℕ) (answer : Answered) → Led X x rows y T D H → y.senders p ≡ Some c → AnswersDue X x rows y c (due_in X x rows y p c) word answer
-      → Led X x rows (yard_after X x rows y p c (due_in X x rows y p c) word) (trails_with y p (due_in X x rows y p c) T) (deeds_with p (due_deeds X x rows y c (due_in X x rows y p c) word answer) D) H
-  PutIn : (y : Yard E) (T : Trails) (D : ℕ → List Deed) (H : ℕ → List RecvTurn) (p : ℕ) (c : Core E) (bytes : List ℕ) → Led X x rows y T D H → y.senders p ≡ Some c → y.hall.visits p ≡ Away → All (λ byte. byte < 256) bytes
-      → Led X x rows (record y { senders = put p (Some (put_in c bytes)) y.senders }) T (deeds_with p (if can_put c.queue (length bytes) then HasPut (next_of c.queue) bytes ∷ [] else []) D) H
-  ClosedIn : (y : Yard E) (T : Trails) (D : ℕ → List Deed) (H : ℕ → List RecvTurn) (p : ℕ) (c : Core E) → Led X x rows y T D H → y.senders p ≡ Some c → y.hall.visits p ≡ Away
-      → Led X x rows (record y { senders = put p (Some (close_in c)) y.senders }) T (deeds_with p (if can_close c.queue then HasClosed ∷ [] else []) D) H
-  Heard : (y : Yard E) (T : Trails) (D : ℕ → List Deed) (H : ℕ → List RecvTurn) (r : ℕ) (v next : Receiving) (answer : RecvTurn) → Led X x rows y T D H → y.receivers r ≡ Some v → RecvDoes y.hall.words v answer next
+-- These trails, actions and answers lead to a yard: from a new one, by one thing after another, of anybody and in any order. A sender takes
+-- a turn with any random word; or one that pins no tenure puts a message, or closes; or a receiver takes a turn.
+pub data Led {E : Type 0} (X : Election E) (x : Layout) (rows : ℕ) : Yard E → Trails → (ℕ → List Action) → (ℕ → List RecvTurn) → Type 0 where
+  NewYard : (y : Yard E) → IsNewYard x rows y → Led X x rows y no_trails no_actions no_answers
+  Turned : (y : Yard E) (T : Trails) (D : ℕ → List Action) (H : ℕ → List RecvTurn) (p : ℕ) (c : Core E) (word : ℕ) (answer : Answered) → Led X x rows y T D H → y.senders p ≡ Some c → AnswersDue X x rows y c (due_in X x rows y p c) word answer
+      → Led X x rows (yard_after X x rows y p c (due_in X x rows y p c) word) (trails_with y p (due_in X x rows y p c) T) (actions_with p (due_actions X x rows y c (due_in X x rows y p c) word answer) D) H
+  PutIn : (y : Yard E) (T : Trails) (D : ℕ → List Action) (H : ℕ → List RecvTurn) (p : ℕ) (c : Core E) (bytes : List ℕ) → Led X x rows y T D H → y.senders p ≡ Some c → y.reclamation.pins p ≡ Away → All (λ byte. byte < 256) bytes
+      → Led X x rows (record y { senders = put p (Some (put_in c bytes)) y.senders }) T (actions_with p (if can_put c.queue (length bytes) then HasPut (next_of c.queue) bytes ∷ [] else []) D) H
+  ClosedIn : (y : Yard E) (T : Trails) (D : ℕ → List Action) (H : ℕ → List RecvTurn) (p : ℕ) (c : Core E) → Led X x rows y T D H → y.senders p ≡ Some c → y.reclamation.pins p ≡ Away
+      → Led X x rows (record y { senders = put p (Some (close_in c)) y.senders }) T (actions_with p (if can_close c.queue then HasClosed ∷ [] else []) D) H
+  Heard : (y : Yard E) (T : Trails) (D : ℕ → List Action) (H : ℕ → List RecvTurn) (r : ℕ) (v next : Receiving) (answer : RecvTurn) → Led X x rows y T D H → y.receivers r ≡ Some v → RecvDoes y.reclamation.words v answer next
       → Led X x rows (record y { receivers = put r (Some next) y.receivers }) T D (answers_with r answer H)
 
 -- ---- what is promised of it
--- of its trails, deeds and answers, with one order and one list of tenures and owners
-pub record KeepsPromises {E : Type 0} (X : Election E) (x : Layout) (rows : ℕ) (y : Yard E) (T : Trails) (D : ℕ → List Deed) (H : ℕ → List RecvTurn) (order : Order) (owners : List (ℕ × SenderNo)) : Type 0 where
-  -- its trails lead to its hall by moves of a hall: so no row is cleared while somebody stands in a tenure of it, ..
-  pub reached : Reached (sizes_with x rows) y.hall T
-  pub safe : IsSafe (sizes_with x rows) y.hall T
-  -- .. and while a page is out, the row of the next tenure was never used, or it is swept
-  pub ready : (t : ℕ) → y.hall.words stage_at ≡ 2 * t + 1 → y.hall.sweep ≡ None → t + 1 < rows
+-- of its trails, actions and answers, with one order and one list of tenures and owners
+pub record KeepsPromises {E : Type 0} (X : Election E) (x : Layout) (rows : ℕ) (y : Yard E) (T : Trails) (D : ℕ → List Action) (H : ℕ → List RecvTurn) (order : Order) (owners : List (ℕ × SenderNo)) : Type 0 where
+  -- its trails lead to its reclamation by moves of a reclamation: so no row is cleared while somebody stands in a tenure of it, ..
+  pub reached : Reached (sizes_with x rows) y.reclamation T
+  pub safe : IsSafe (sizes_with x rows) y.reclamation T
+  -- .. and while a page is out, the row of the next tenure was never used, or it is reclaimed
+  pub ready : (t : ℕ) → y.reclamation.words stage_at ≡ 2 * t + 1 → y.reclamation.reclaimer ≡ None → t + 1 < rows
   -- whose election runs stands in its tenure: it stored its presence, then loaded the stage of that tenure, and has not cleared it since
   pub stands : (p : ℕ) (c : Core E) (t : ℕ) (e : E) → y.senders p ≡ Some c → c.phase ≡ Electing t e → Stands (sizes_with x rows) p (T p) t
   -- and its next step is on a word of the row that this tenure uses
   pub within : (p : ℕ) (c : Core E) (t : ℕ) (e : E) (word : ℕ) (o : Op) → y.senders p ≡ Some c → c.phase ≡ Electing t e → X.op e word ≡ Some o
       → (row_of (sizes_with x rows) t ≤ place_for x rows (Elects t e) (register o)) × (place_for x rows (Elects t e) (register o) < row_of (sizes_with x rows) t + x.width)
-  -- who took the pages is who did so by its deeds
+  -- who took the pages is who did so by its actions
   pub takers : Takers y.owners D
   -- the words below the length spell the order and the owners
-  pub spelled : Spells x.senders (words_read_from y.hall.words (log_from x rows) (y.hall.words 0)) order owners
+  pub spelled : Spells x.senders (words_read_from y.reclamation.words (log_from x rows) (y.reclamation.words 0)) order owners
   -- the headline's promise, also of tenures whose rows have gone on to others
   pub promises : Promises D H order owners
 
-pub record IsKeptYard {E : Type 0} (X : Election E) (x : Layout) (rows : ℕ) (y : Yard E) (T : Trails) (D : ℕ → List Deed) (H : ℕ → List RecvTurn) : Type 0 where
+pub record IsKeptYard {E : Type 0} (X : Election E) (x : Layout) (rows : ℕ) (y : Yard E) (T : Trails) (D : ℕ → List Action) (H : ℕ → List RecvTurn) : Type 0 where
   pub order : Order
   pub owners : List (ℕ × SenderNo)
   pub by : KeepsPromises X x rows y T D H order owners
@@ -161,13 +161,13 @@ pub record IsKeptYard {E : Type 0} (X : Election E) (x : Layout) (rows : ℕ) (y
 -- ---- what is no such yard
 pub record YardRefuses {E : Type 0} (X : Election E) (x : Layout) (rows : ℕ) : Type 0 where
   -- the election of a tenure runs of a sender that has stored no presence
-  pub enters_without_presence : (y : Yard E) (T : Trails) (D : ℕ → List Deed) (H : ℕ → List RecvTurn) (p : ℕ) (c : Core E) (t : ℕ) (e : E) → y.senders p ≡ Some c → c.phase ≡ Electing t e → T p ≡ [] → ¬ IsKeptYard X x rows y T D H
+  pub enters_without_presence : (y : Yard E) (T : Trails) (D : ℕ → List Action) (H : ℕ → List RecvTurn) (p : ℕ) (c : Core E) (t : ℕ) (e : E) → y.senders p ≡ Some c → c.phase ≡ Electing t e → T p ≡ [] → ¬ IsKeptYard X x rows y T D H
   -- elections of two tenures of one row run
-  pub two_tenures_of_a_row : (y : Yard E) (T : Trails) (D : ℕ → List Deed) (H : ℕ → List RecvTurn) (p q : ℕ) (c d : Core E) (t u : ℕ) (e f : E) → y.senders p ≡ Some c → c.phase ≡ Electing t e → y.senders q ≡ Some d → d.phase ≡ Electing u f
+  pub two_tenures_of_a_row : (y : Yard E) (T : Trails) (D : ℕ → List Action) (H : ℕ → List RecvTurn) (p q : ℕ) (c d : Core E) (t u : ℕ) (e f : E) → y.senders p ≡ Some c → c.phase ≡ Electing t e → y.senders q ≡ Some d → d.phase ≡ Electing u f
       → t % rows ≡ u % rows → t ≢ u → ¬ IsKeptYard X x rows y T D H
-  -- the page of a tenure is out that has used each row, and nobody sweeps
-  pub holds_without_sweep : (y : Yard E) (T : Trails) (D : ℕ → List Deed) (H : ℕ → List RecvTurn) (t : ℕ) → y.hall.words stage_at ≡ 2 * t + 1 → rows ≤ t + 1 → y.hall.sweep ≡ None → ¬ IsKeptYard X x rows y T D H
+  -- the page of a tenure is out that has used each row, and nobody reclaims
+  pub holds_without_reclaimer : (y : Yard E) (T : Trails) (D : ℕ → List Action) (H : ℕ → List RecvTurn) (t : ℕ) → y.reclamation.words stage_at ≡ 2 * t + 1 → rows ≤ t + 1 → y.reclamation.reclaimer ≡ None → ¬ IsKeptYard X x rows y T D H
   -- senders saw the election of one tenure end with two owners
-  pub two_owners : (y : Yard E) (T : Trails) (D : ℕ → List Deed) (H : ℕ → List RecvTurn) (t s s' o o' : ℕ) → Elected (D s) t o → Elected (D s') t o' → o ≢ o' → ¬ IsKeptYard X x rows y T D H
+  pub two_owners : (y : Yard E) (T : Trails) (D : ℕ → List Action) (H : ℕ → List RecvTurn) (t s s' o o' : ℕ) → Elected (D s) t o → Elected (D s') t o' → o ≢ o' → ¬ IsKeptYard X x rows y T D H
   -- an owner of the list took no page
-  pub owner_without_page : (y : Yard E) (T : Trails) (D : ℕ → List Deed) (H : ℕ → List RecvTurn) (t s : ℕ) → slice_get y.owners t ≡ Some s → D s ≡ [] → ¬ IsKeptYard X x rows y T D H
+  pub owner_without_page : (y : Yard E) (T : Trails) (D : ℕ → List Action) (H : ℕ → List RecvTurn) (t s : ℕ) → slice_get y.owners t ≡ Some s → D s ≡ [] → ¬ IsKeptYard X x rows y T D H

@@ -12,8 +12,8 @@ ghost use Rattle.bus_world.specs.Stopping.{StopsAreForGood, StopRefuses};
 ghost use Rattle.bus_world.specs.World.{Bus, Event};
 ghost use Rattle.bus_world.specs.Yards.{Yard, Led, IsKeptYard, YardRefuses};
 ghost use Rattle.bus_world.specs.Rings.{Ring, RingTrails, RingReached, IsKeptRing};
-ghost use Rattle.bus_world.specs.Headline.{Deed};
-ghost use Rattle.bus_presence.specs.Hall.{Trails as Visiting};
+ghost use Rattle.bus_world.specs.Headline.{Action};
+ghost use Rattle.bus_presence.specs.Reclamation.{Trails as Pinning};
 
 use bus_adoptcommit::Ratifier;
 use bus_ownerbits::laws::election_is_lawful;
@@ -58,12 +58,12 @@ pub fn rows_used_again_keep_promises<Q: Ratifier>()
     ensures { (senders rounds tenures capacity rows : ℕ)
         → IsLayout (layout_with Q.protocol senders rounds tenures capacity)
         → LEAST_ROWS_AGAIN ≤ rows
-        → (yard : Yard (Elector Q)) (visits : Visiting) (deeds : ℕ → List Deed)
+        → (yard : Yard (Elector Q)) (pins : Pinning) (actions : ℕ → List Action)
         (heard : ℕ → List RecvTurn)
         → Led (election_of Q.Ratifier)
-        (layout_with Q.protocol senders rounds tenures capacity) rows yard visits deeds heard
+        (layout_with Q.protocol senders rounds tenures capacity) rows yard pins actions heard
         → IsKeptYard (election_of Q.Ratifier)
-        (layout_with Q.protocol senders rounds tenures capacity) rows yard visits deeds heard }
+        (layout_with Q.protocol senders rounds tenures capacity) rows yard pins actions heard }
 {
     election_is_lawful::<Q>();
 }
@@ -83,8 +83,8 @@ pub fn rings_keep_promises<Q: Ratifier>()
 }
 
 /// No such yard is one in which an election runs of a sender that stored no presence, or elections
-/// of two tenures of one row; in which a page is out that wants a sweep, and nobody sweeps; in
-/// which a tenure has two owners, or an owner that took no page.
+/// of two tenures of one row; in which a page is out that wants a reclamation, and nobody reclaims;
+/// in which a tenure has two owners, or an owner that took no page.
 pub fn yards_refuse<Q: Ratifier>()
     ensures { (senders rounds tenures capacity rows : ℕ)
         → YardRefuses (election_of Q.Ratifier)
@@ -94,7 +94,7 @@ pub fn yards_refuse<Q: Ratifier>()
 /// A stop that is answered changes who has stopped, and nothing else: what is no event of that
 /// sender does what it did before, and is answered and refused alike. Whoever has stopped does
 /// nothing any more, whatever happens next: no event of it is answered, its state is what it was,
-/// and it has no deed more; whatever else is wrong with an event of it, it is refused as Stopped.
+/// and it has no action more; whatever else is wrong with an event of it, it is refused as Stopped.
 /// A stop that does nothing is none. Nothing is refused as Stopped of one that goes on, or that
 /// there is not, or of a receiver. One that goes on may stop, and nobody stops but by a stop of its
 /// own.

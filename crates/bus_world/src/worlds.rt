@@ -51,14 +51,14 @@ impl<Q: Ratifier> Model for World<Q> {
     ghost use Rattle.std.specs.Prelude.{map};
     ghost use Rattle.bus_tenure.specs.Elections.{Elector, election_with, elections};
     ghost use Rattle.bus_world.specs.Playing.{SizedBus, layout_of, sized_bus};
-    ghost use Rattle.bus_world.specs.Trails.{IsServedBus};
+    ghost use Rattle.bus_world.specs.Trails.{MachineInvariant};
 
     ghost Value = { SizedBus (Elector Q) };
 
     ghost view = { λ w. sized_bus (layout_of Q.protocol w.shape) w.cells w.home w.senders.items
         (map (λ s. s.0) w.owners.items) w.receivers.items w.stopped };
 
-    ghost invariant = { λ w. IsServedBus (election_with Q.kind_of Q.op Q.fed Q.protocol)
+    ghost invariant = { λ w. MachineInvariant (election_with Q.kind_of Q.op Q.fed Q.protocol)
         (elections Q.protocol w.shape.rounds)
         (sized_bus (layout_of Q.protocol w.shape) w.cells w.home w.senders.items
         (map (λ s. s.0) w.owners.items) w.receivers.items w.stopped) };
@@ -320,7 +320,7 @@ impl<Q: Ratifier + Drop> World<Q> {
         ensures state { map (λ s. s.0) result.now ≡ self.now.bus.side.owners }
         ensures took { let X = election_of Q.Ratifier in
             (trails : Trails) → Reached X self.now.layout self.now.bus trails
-            → Takers (map (λ s. s.0) result.now) trails.deeds }
+            → Takers (map (λ s. s.0) result.now) trails.actions }
     {
         election_is_lawful::<Q>();
         let _ = &self.shape;

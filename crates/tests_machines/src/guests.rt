@@ -5,7 +5,7 @@ ghost use Rattle.std.specs.Prelude.{◌<◌};
 use bus_adoptcommit::ThreeWord;
 use bus_batch::PutFault;
 use bus_guest::Guest;
-use bus_presence::Visit;
+use bus_presence::Pin;
 use bus_register::{Cells, Kind, Op, Reg, SenderNo};
 use bus_tenure::{Page, Turn};
 use std::process::Abort;
@@ -134,7 +134,7 @@ fn enters(rt: &impl Abort, alone: &mut Guest<ThreeWord>, cells: &mut Cells, page
     holds(rt, cells, 2, 1);
     assert_eq!(rt; alone.kind(), Some(Kind::LoadStageAgain));
     goes_on(rt, alone, cells, page, 1);
-    assert_eq!(rt; alone.visit(), Visit::Inside { tenure: 0 });
+    assert_eq!(rt; alone.pin(), Pin::Pinned { tenure: 0 });
     assert_eq!(rt; alone.turns_left(), 9);
     assert!(rt; !alone.wants_word());
 }
@@ -151,7 +151,7 @@ fn owns(rt: &impl Abort, alone: &mut Guest<ThreeWord>, cells: &mut Cells, page: 
 }
 
 /// In the second tenure it makes the first row ready for the third.
-fn sweeps(rt: &impl Abort, alone: &mut Guest<ThreeWord>, cells: &mut Cells, page: &mut Page) {
+fn reclaims(rt: &impl Abort, alone: &mut Guest<ThreeWord>, cells: &mut Cells, page: &mut Page) {
     comes_to(rt, alone, cells, page, Turn::Own { tenure: 1 });
     goes_on(rt, alone, cells, page, 5);
     assert_eq!(rt; alone.kind(), Some(Kind::ReadPresence));
@@ -176,7 +176,7 @@ fn alone_in_two_tenures(rt: HostRuntime) -> Result<(), Fail> {
     enters(&rt, &mut alone, &mut cells, &mut page);
     owns(&rt, &mut alone, &mut cells, &mut page);
     puts(&rt, &mut alone, b"b");
-    sweeps(&rt, &mut alone, &mut cells, &mut page);
+    reclaims(&rt, &mut alone, &mut cells, &mut page);
     assert_eq!(rt; page.tenures, 2);
     Ok(())
 }
@@ -199,7 +199,7 @@ fn late_sender_withdraws(rt: HostRuntime) -> Result<(), Fail> {
     );
     comes_to(&rt, &mut first, &mut cells, &mut page, delivered(0, 0));
     goes_on(&rt, &mut late, &mut cells, &mut page, 2);
-    assert_eq!(rt; late.visit(), Visit::Barred { tenure: 0 });
+    assert_eq!(rt; late.pin(), Pin::Invalidated { tenure: 0 });
     answers(&rt, &mut late, &mut cells, &mut page, Turn::Waiting);
     assert_eq!(rt; late.tenure(), None);
     holds(&rt, &cells, 3, 0);

@@ -1,4 +1,4 @@
-//! Tests of the parts that a bus is made of: words, ratifiers, coins, elections, visits, batches,
+//! Tests of the parts that a bus is made of: words, ratifiers, coins, elections, pins, batches,
 //! the log, a sender, and texts. They stand above the crates that they test, so that none of those
 //! is proved once more for its tests.
 #![tactic(auto)]

@@ -1,6 +1,6 @@
-//! Visits and sweeps over words of their own.
+//! Pins and reclamations over words of their own.
 
-use bus_presence::{Behind, Presence, Sweep, Visit};
+use bus_presence::{Behind, Pin, Presence, Reclaimer};
 use bus_register::{Cells, Op, Reg};
 use std::process::Abort;
 use std::test::Fail;
@@ -12,14 +12,14 @@ const STAGE: Reg = Reg(0);
 fn take(rt: &impl Abort, cells: &mut Cells, op: Op) -> u64 {
     let place = match op {
         Op::Load(at) | Op::Store(at, _) => at.0,
-        Op::Add(..) | Op::Cas(..) => panic!(rt; "a visit and a sweep load and store alone"),
+        Op::Add(..) | Op::Cas(..) => panic!(rt; "a pin and a reclamation load and store alone"),
     };
     assert!(rt; place < cells.len());
     cells.apply(op)
 }
 
-/// Takes all steps of the visit that are due.
-fn visit(rt: &impl Abort, cells: &mut Cells, presence: &mut Presence) {
+/// Takes all steps of the pin that are due.
+fn pin(rt: &impl Abort, cells: &mut Cells, presence: &mut Presence) {
     for _ in 0..10 {
         let Some(op) = presence.next() else { return };
         let found = take(rt, cells, op);
@@ -27,12 +27,12 @@ fn visit(rt: &impl Abort, cells: &mut Cells, presence: &mut Presence) {
     }
 }
 
-/// Takes all steps of the sweep that are due, until it waits for somebody.
-fn sweep(rt: &impl Abort, cells: &mut Cells, sweep: &mut Sweep) -> Option<Behind> {
+/// Takes all steps of the reclamation that are due, until it waits for somebody.
+fn reclaimer(rt: &impl Abort, cells: &mut Cells, reclaimer: &mut Reclaimer) -> Option<Behind> {
     for _ in 0..10 {
-        let op = sweep.next()?;
+        let op = reclaimer.next()?;
         let found = take(rt, cells, op);
-        let behind = sweep.feed(found);
+        let behind = reclaimer.feed(found);
         if behind.is_some() {
             return behind;
         }
@@ -55,26 +55,26 @@ fn holder_waits_for_who_is_inside(rt: HostRuntime) -> Result<(), Fail> {
     take(&rt, &mut cells, Op::Store(Reg(4), 7));
     let mut late = Presence::new(Reg(2), STAGE);
     late.begin(0);
-    visit(&rt, &mut cells, &mut late);
-    assert_eq!(rt; late.visit(), Visit::Inside { tenure: 0 });
+    pin(&rt, &mut cells, &mut late);
+    assert_eq!(rt; late.pin(), Pin::Pinned { tenure: 0 });
     expect(&rt, &cells, [0, 0, 1, 7, 7]);
 
     take(&rt, &mut cells, Op::Store(STAGE, 3));
-    let mut holder = Sweep::new(0, 2, Reg(1), Reg(3), 2);
+    let mut holder = Reclaimer::new(0, 2, Reg(1), Reg(3), 2);
     let behind = Behind {
         tenure: 0,
         sender: 1,
     };
-    assert_eq!(rt; sweep(&rt, &mut cells, &mut holder), Some(behind));
-    assert_eq!(rt; sweep(&rt, &mut cells, &mut holder), Some(behind));
+    assert_eq!(rt; reclaimer(&rt, &mut cells, &mut holder), Some(behind));
+    assert_eq!(rt; reclaimer(&rt, &mut cells, &mut holder), Some(behind));
     expect(&rt, &cells, [3, 0, 1, 7, 7]);
 
-    let inside = late.visit();
-    assert!(rt; inside == Visit::Inside { tenure: 0 });
+    let inside = late.pin();
+    assert!(rt; inside == Pin::Pinned { tenure: 0 });
     late.part(0);
-    visit(&rt, &mut cells, &mut late);
-    assert_eq!(rt; late.visit(), Visit::Away);
-    assert_eq!(rt; sweep(&rt, &mut cells, &mut holder), None);
+    pin(&rt, &mut cells, &mut late);
+    assert_eq!(rt; late.pin(), Pin::Away);
+    assert_eq!(rt; reclaimer(&rt, &mut cells, &mut holder), None);
     assert!(rt; holder.is_done());
     expect(&rt, &cells, [3, 0, 0, 0, 0]);
     Ok(())
@@ -91,9 +91,9 @@ fn late_sender_withdraws(rt: HostRuntime) -> Result<(), Fail> {
     take(&rt, &mut cells, Op::Store(Reg(1), 1));
     assert_eq!(rt; late.next(), Some(Op::Load(STAGE)));
     late.feed(2);
-    assert_eq!(rt; late.visit(), Visit::Barred { tenure: 0 });
-    visit(&rt, &mut cells, &mut late);
-    assert_eq!(rt; late.visit(), Visit::Away);
+    assert_eq!(rt; late.pin(), Pin::Invalidated { tenure: 0 });
+    pin(&rt, &mut cells, &mut late);
+    assert_eq!(rt; late.pin(), Pin::Away);
     expect(&rt, &cells, [2, 0, 0, 0, 0]);
     Ok(())
 }
@@ -104,8 +104,8 @@ fn page_out_is_still_the_tenure(rt: HostRuntime) -> Result<(), Fail> {
     take(&rt, &mut cells, Op::Store(STAGE, 5));
     let mut presence = Presence::new(Reg(2), STAGE);
     presence.begin(2);
-    visit(&rt, &mut cells, &mut presence);
-    assert_eq!(rt; presence.visit(), Visit::Inside { tenure: 2 });
+    pin(&rt, &mut cells, &mut presence);
+    assert_eq!(rt; presence.pin(), Pin::Pinned { tenure: 2 });
     expect(&rt, &cells, [5, 0, 3, 0, 0]);
     Ok(())
 }

@@ -1,6 +1,6 @@
 //! Each public call once.
 
-use bus_script::{Lines, Place, number_of, refusal_line, words_behind};
+use bus_script::{LineNumber, Lines, number_of, refusal_line, words_behind};
 use std::process::Abort;
 
 #[test]
@@ -17,11 +17,11 @@ fn script_is_read(rt: HostRuntime) {
 
 #[test]
 fn refusals_are_named(rt: HostRuntime) {
-    for (place, text) in [
-        (Place::AtLine(3), "line 3: BadLine\n"),
-        (Place::AtEnd, "end: BadLine\n"),
+    for (line_number, text) in [
+        (LineNumber::AtLine(3), "line 3: BadLine\n"),
+        (LineNumber::AtEnd, "end: BadLine\n"),
     ] {
-        let line = refusal_line(rt.alloc(), place, "BadLine").expect(&rt, "memory");
+        let line = refusal_line(rt.alloc(), line_number, "BadLine").expect(&rt, "memory");
         assert_eq!(rt; line.as_str(), text);
     }
 }

@@ -33,7 +33,7 @@ type Few = Bus<ThreeWord>;
 
 type One = Sender<ThreeWord>;
 
-type Ear = Receiver<ThreeWord>;
+type TestReceiver = Receiver<ThreeWord>;
 
 /// Turns of the sender, up to the one that is answered so.
 fn turns_to(rt: &impl Abort, bus: &Few, sender: &mut One, want: Turn)
@@ -49,12 +49,12 @@ fn turns_to(rt: &impl Abort, bus: &Few, sender: &mut One, want: Turn)
 }
 
 /// Sees what the receiver's next turns answer.
-fn hears(rt: &impl Abort, bus: &Few, ear: &mut Ear, want: &[RecvTurn])
-    requires { bus_of ear.old ≡ bus.now.table }
-    ensures { bus_of ear.new ≡ bus.now.table }
+fn hears(rt: &impl Abort, bus: &Few, receiver: &mut TestReceiver, want: &[RecvTurn])
+    requires { bus_of receiver.old ≡ bus.now.table }
+    ensures { bus_of receiver.new ≡ bus.now.table }
 {
     for (i, turn) in want.iter().enumerate() {
-        let got = ear.turn(bus);
+        let got = receiver.turn(bus);
         assert_eq!(rt; got, *turn, "turn {i}");
     }
 }
@@ -86,7 +86,7 @@ fn head(tenure: u64) -> RecvTurn {
 }
 
 /// The small bus with its sender and its receivers.
-fn small(rt: &impl Abort, alloc: Global) -> (Few, One, Ear, Ear)
+fn small(rt: &impl Abort, alloc: Global) -> (Few, One, TestReceiver, TestReceiver)
     ensures sender { table_of result.1 ≡ result.0.table }
     ensures first { bus_of result.2 ≡ result.0.table }
     ensures second { bus_of result.3 ≡ result.0.table }
@@ -99,7 +99,7 @@ fn small(rt: &impl Abort, alloc: Global) -> (Few, One, Ear, Ear)
 
 /// The same once the a stands in the log. The first receiver has read it, the second has taken no
 /// turn.
-fn with_an_a(rt: &impl Abort, alloc: Global) -> (Few, One, Ear, Ear)
+fn with_an_a(rt: &impl Abort, alloc: Global) -> (Few, One, TestReceiver, TestReceiver)
     ensures sender { table_of result.1 ≡ result.0.table }
     ensures first { bus_of result.2 ≡ result.0.table }
     ensures second { bus_of result.3 ≡ result.0.table }

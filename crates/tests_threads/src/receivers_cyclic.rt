@@ -29,13 +29,13 @@ fn passes<R: Wait + Abort>(
     rt: &R,
     bus: &CyclicBus<ThreeWord>,
     sender: &mut CyclicSender<ThreeWord>,
-    ear: &mut CyclicReceiver<ThreeWord>,
+    receiver: &mut CyclicReceiver<ThreeWord>,
     number: u64,
 )
     requires sender { table_of sender.old ≡ bus.now.table }
-    requires ear { bus_of ear.old ≡ bus.now.table }
+    requires receiver { bus_of receiver.old ≡ bus.now.table }
     ensures sender { table_of sender.new ≡ bus.now.table }
-    ensures ear { bus_of ear.new ≡ bus.now.table }
+    ensures receiver { bus_of receiver.new ≡ bus.now.table }
 {
     assert_eq!(rt; sender.put(b"a"), Ok(number));
     let delivered = Turn::Delivered {
@@ -44,7 +44,7 @@ fn passes<R: Wait + Abort>(
         last: number,
     };
     assert_eq!(rt; sender.send(rt, bus, &mut Pcg32::new(0, 0)), delivered);
-    let item = ear.next_item(rt, bus).expect(rt, "an item");
+    let item = receiver.next_item(rt, bus).expect(rt, "an item");
     assert_eq!(rt; (item.sender, item.number), (SenderNo(0), number));
     assert_eq!(rt; item.message.as_slice(), b"a".as_slice());
 }
@@ -59,20 +59,20 @@ fn made(
     CyclicReceiver<ThreeWord>,
 )
     ensures sender { table_of result.1 ≡ result.0.table }
-    ensures ear { bus_of result.2 ≡ result.0.table }
+    ensures receiver { bus_of result.2 ≡ result.0.table }
 {
     let made = CyclicBus::new(alloc, TWO_ROWS);
     let (bus, mut senders, mut taps) = made.expect(rt, "memory");
-    let ear = CyclicReceiver::new(taps.pop().expect(rt, "a seat"));
-    (bus, senders.pop().expect(rt, "a sender"), ear)
+    let receiver = CyclicReceiver::new(taps.pop().expect(rt, "a seat"));
+    (bus, senders.pop().expect(rt, "a sender"), receiver)
 }
 
 #[test]
 fn five_tenures_over_two_rows(rt: HostRuntime) {
-    let (bus, mut sender, mut ear) = made(&rt, rt.alloc());
-    passes(&rt, &bus, &mut sender, &mut ear, 0);
-    passes(&rt, &bus, &mut sender, &mut ear, 1);
-    passes(&rt, &bus, &mut sender, &mut ear, 2);
-    passes(&rt, &bus, &mut sender, &mut ear, 3);
-    passes(&rt, &bus, &mut sender, &mut ear, 4);
+    let (bus, mut sender, mut receiver) = made(&rt, rt.alloc());
+    passes(&rt, &bus, &mut sender, &mut receiver, 0);
+    passes(&rt, &bus, &mut sender, &mut receiver, 1);
+    passes(&rt, &bus, &mut sender, &mut receiver, 2);
+    passes(&rt, &bus, &mut sender, &mut receiver, 3);
+    passes(&rt, &bus, &mut sender, &mut receiver, 4);
 }

@@ -17,12 +17,12 @@ use std::process::Abort;
 
 /// A sender, beside its bus.
 #[derive(Drop)]
-struct Desk<'b> {
+struct BusSender<'b> {
     bus: &'b Bus<ThreeWord>,
     sender: Sender<ThreeWord>,
 }
 
-impl<'b> Model for Desk<'b> {
+impl<'b> Model for BusSender<'b> {
     ghost use Rattle.std.specs.Prelude.{◌≡◌};
     ghost use Rattle.atomic_table.specs.Seated.{TableId};
     ghost use Rattle.bus_pageslot.specs.Seats.{table_of};
@@ -34,11 +34,11 @@ impl<'b> Model for Desk<'b> {
     ghost invariant = { λ d. table_of d.sender ≡ d.bus.now.table };
 }
 
-impl<'b> Desk<'b> {
-    fn new(bus: &'b Bus<ThreeWord>, sender: Sender<ThreeWord>) -> Desk<'b>
+impl<'b> BusSender<'b> {
+    fn new(bus: &'b Bus<ThreeWord>, sender: Sender<ThreeWord>) -> BusSender<'b>
         requires { table_of sender ≡ bus.now.table }
     {
-        Desk { bus, sender }
+        BusSender { bus, sender }
     }
 
     fn put(&mut self, bytes: &[u8]) -> Result<Answer, StepFault> {
@@ -63,12 +63,12 @@ impl<'b> Desk<'b> {
 
 /// A receiver, beside its bus.
 #[derive(Drop)]
-struct Ear<'b> {
+struct BusReceiver<'b> {
     bus: &'b Bus<ThreeWord>,
     receiver: Receiver<ThreeWord>,
 }
 
-impl<'b> Model for Ear<'b> {
+impl<'b> Model for BusReceiver<'b> {
     ghost use Rattle.std.specs.Prelude.{◌≡◌};
     ghost use Rattle.atomic_table.specs.Seated.{TableId};
     ghost use Rattle.bus_receiver.specs.Listening.{bus_of};
@@ -80,11 +80,11 @@ impl<'b> Model for Ear<'b> {
     ghost invariant = { λ e. bus_of e.receiver ≡ e.bus.now.table };
 }
 
-impl<'b> Ear<'b> {
-    fn new(bus: &'b Bus<ThreeWord>, tap: Tap<ThreeWord>) -> Ear<'b>
+impl<'b> BusReceiver<'b> {
+    fn new(bus: &'b Bus<ThreeWord>, tap: Tap<ThreeWord>) -> BusReceiver<'b>
         requires { tap.table_id ≡ bus.now.table }
     {
-        Ear {
+        BusReceiver {
             bus,
             receiver: Receiver::new(tap),
         }
@@ -99,8 +99,8 @@ impl<'b> Ear<'b> {
 /// A bus and a machine of one shape, dice, and how often tenures were lost.
 #[derive(Drop)]
 struct Both<'b> {
-    desks: Vec<Desk<'b>>,
-    ears: Vec<Ear<'b>>,
+    senders: Vec<BusSender<'b>>,
+    receivers: Vec<BusReceiver<'b>>,
     world: World<ThreeWord>,
     dice: Pcg32,
     lost: u64,
@@ -110,20 +110,20 @@ impl<'b> Both<'b> {
     /// What the bus answers.
     fn answer(&mut self, rt: &impl Abort, event: &Event) -> Result<Answer, StepFault> {
         match event {
-            Event::Put { sender, bytes } => match self.desks.get_mut(*sender as usize) {
-                Some(desk) => desk.put(bytes),
+            Event::Put { sender, bytes } => match self.senders.get_mut(*sender as usize) {
+                Some(found) => found.put(bytes),
                 None => Err(StepFault::NoSuchSender),
             },
-            Event::Close(sender) => match self.desks.get_mut(*sender as usize) {
-                Some(desk) => desk.close(),
+            Event::Close(sender) => match self.senders.get_mut(*sender as usize) {
+                Some(found) => found.close(),
                 None => Err(StepFault::NoSuchSender),
             },
-            Event::Turn { sender, word } => match self.desks.get_mut(*sender as usize) {
-                Some(desk) => desk.turn(*word),
+            Event::Turn { sender, word } => match self.senders.get_mut(*sender as usize) {
+                Some(found) => found.turn(*word),
                 None => Err(StepFault::NoSuchSender),
             },
-            Event::Recv(receiver) => match self.ears.get_mut(*receiver as usize) {
-                Some(ear) => ear.turn(),
+            Event::Recv(receiver) => match self.receivers.get_mut(*receiver as usize) {
+                Some(found) => found.turn(),
                 None => panic!(rt; "no such receiver"),
             },
             Event::Stop(_) => panic!(rt; "a bus of threads has no such call"),
@@ -147,8 +147,8 @@ impl<'b> Both<'b> {
 
     /// Something happens: a put, a close, some turns of a sender, or some of a receiver.
     fn happens<R: Abort + AllocGlobal>(&mut self, rt: &R) {
-        let sender = u64::from(self.below(8)) % self.desks.len().max(1) as u64;
-        let receiver = u64::from(self.below(4)) % self.ears.len().max(1) as u64;
+        let sender = u64::from(self.below(8)) % self.senders.len().max(1) as u64;
+        let receiver = u64::from(self.below(4)) % self.receivers.len().max(1) as u64;
         match self.below(100) {
             0..30 => {
                 let bytes = self.bytes(rt);
@@ -181,7 +181,7 @@ impl<'b> Both<'b> {
 
     /// All senders take turns until the page is at home.
     fn comes_home(&mut self, rt: &impl Abort) {
-        let senders = self.desks.len() as u64;
+        let senders = self.senders.len() as u64;
         for _ in 0..400 {
             for sender in 0..senders {
                 if self.world.page().is_none() {
@@ -230,17 +230,21 @@ fn play<R: Abort + AllocGlobal>(
     requires taps { All (λ t. t.table_id ≡ bus.now.table) taps.items }
 {
     let mut both = Both {
-        desks: Vec::new(rt.alloc()),
-        ears: Vec::new(rt.alloc()),
+        senders: Vec::new(rt.alloc()),
+        receivers: Vec::new(rt.alloc()),
         world,
         dice,
         lost: 0,
     };
     for sender in senders {
-        both.desks.push(Desk::new(bus, sender)).expect(rt, "memory");
+        both.senders
+            .push(BusSender::new(bus, sender))
+            .expect(rt, "memory");
     }
     for tap in taps {
-        both.ears.push(Ear::new(bus, tap)).expect(rt, "memory");
+        both.receivers
+            .push(BusReceiver::new(bus, tap))
+            .expect(rt, "memory");
     }
     for _ in 0..100 {
         both.happens(rt);

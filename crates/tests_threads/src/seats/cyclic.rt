@@ -45,13 +45,13 @@ fn has_items(rt: &impl Abort, ended: &Ended, want: (u64, u64)) {
     assert_eq!(rt; counts, want);
 }
 
-/// Sender 0 holds tenure 1 and waits for sender 1, which visits tenure 0 still.
+/// Sender 0 holds tenure 1 and waits for sender 1, which pins tenure 0 still.
 const BEHIND: Turn = Turn::Behind {
     tenure: 0,
     sender: SenderNo(1),
 };
 
-/// A holder waits for a sender that visits an old tenure, and goes on once that has seen it.
+/// A holder waits for a sender that pins an old tenure, and goes on once that has seen it.
 fn waits_behind<S: Seatable + Drop, R: Abort>(rt: &R, alloc: Global) {
     let (bus, mut first, mut second, mut tap) = pair::<S>(rt, alloc, TWO_ROWS);
     puts(rt, &mut first, b"a", Ok(0));

@@ -4,8 +4,8 @@ use Rattle.bench_rounds.specs.Checks.{HasEach}
 use Rattle.bench_rounds.proofs.Checking.{one_more}
 use Rattle.bench_rounds.proofs.checks.check_counts.Goals as goal
 
-pub loop-listener-preserved : goal.loop-listener-preserved
-loop-listener-preserved g c = one_more (λ listener. HasEach c.args.load.senders c.args.load.messages listener.heard) c.args.listeners.now c.loop-listener.listener-index c.listener-item.result c.loop-listener-test.true c.listener-item.is c.loop-listener.invariant (c.first_miscount.ensures c.in_default.is)
+pub loop-receive_worker-preserved : goal.loop-receive_worker-preserved
+loop-receive_worker-preserved g c = one_more (λ receive_worker. HasEach c.args.load.senders c.args.load.messages receive_worker.heard) c.args.receive_workers.now c.loop-receive_worker.receive_worker-index c.receive_worker-item.result c.loop-receive_worker-test.true c.receive_worker-item.is c.loop-receive_worker.invariant (c.first_miscount.ensures c.in_default.is)
 
 pub returns : goal.returns
-returns g c = subst (All (λ listener. HasEach c.args.load.senders c.args.load.messages listener.heard)) (take_all c.loop-listener.listener-index c.args.listeners.now c.loop-listener-test.false) c.loop-listener.invariant
+returns g c = subst (All (λ receive_worker. HasEach c.args.load.senders c.args.load.messages receive_worker.heard)) (take_all c.loop-receive_worker.receive_worker-index c.args.receive_workers.now c.loop-receive_worker-test.false) c.loop-receive_worker.invariant

@@ -1,5 +1,5 @@
 use Rattle.bus_tenure.specs.Elections.{election_with}
-use Rattle.bus_cyclic.proofs.SameDeeds.{follows_refused}
+use Rattle.bus_cyclic.proofs.SameActions.{follows_refused}
 use Rattle.bus_cyclic.proofs.laws.follows_refuse.Goals as goal
 
 pub returns : goal.returns

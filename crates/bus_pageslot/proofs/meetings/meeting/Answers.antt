@@ -2,15 +2,15 @@ use Rattle.std.proofs.Common.{sym, ◌∙◌, ap, subst}
 use Rattle.atomic_table.specs.Table.{Joins}
 use Rattle.bus_pageslot.specs.declared.rule.View.{View}
 use Rattle.bus_pageslot.specs.declared.rule.View.TheVariants.{Spent}
-use Rattle.bus_pageslot.specs.Rule.{IsShown, views_joined}
+use Rattle.bus_pageslot.specs.Rule.{TableInvariant, views_joined}
 use Rattle.bus_pageslot.proofs.Joining.{IsPair, joins_allowed, parts_allowed, meets_allowed, pairs, still_pair}
 use Rattle.bus_pageslot.proofs.meetings.meeting.Goals as goal
 
 pub join_seat-requires : goal.join_seat-requires
 join_seat-requires g c =
     let P = g.S.Seatable.process in
-    let A = g.S.Seatable.automaton c.args.top.now.key in
-    let L = c.is_lawful.ensures.automaton c.args.top.now.key in
+    let A = g.S.Seatable.automaton c.args.shared.now.key in
+    let L = c.is_lawful.ensures.automaton c.args.shared.now.key in
     let V : Type 0 = View g.row.S.Denot in
     let n = c.requires.second in
     let v : V = c.args.seat.now.me.0 in (
@@ -18,14 +18,14 @@ join_seat-requires g c =
       c.requires.table.1,
       ap (λ m. m.1) n.2,
       c.requires.table.2,
-      subst (λ (w : V). Joins (IsShown P A) c.args.seat.now.id v c.args.other.id w (views_joined v w) Spent) (sym (ap (λ m. m.0) n.2)) (joins_allowed P A v c.requires.first n.0 n.1 c.args.seat.now.id c.args.other.id),
+      subst (λ (w : V). Joins (TableInvariant P A) c.args.seat.now.id v c.args.other.id w (views_joined v w) Spent) (sym (ap (λ m. m.0) n.2)) (joins_allowed P A v c.requires.first n.0 n.1 c.args.seat.now.id c.args.other.id),
     )
 
 pub load-length-requires : goal.load-length-requires
 load-length-requires g c =
     let P = g.S.Seatable.process in
-    let A = g.S.Seatable.automaton c.args.top.now.key in
-    let L = c.is_lawful.ensures.automaton c.args.top.now.key in
+    let A = g.S.Seatable.automaton c.args.shared.now.key in
+    let L = c.is_lawful.ensures.automaton c.args.shared.now.key in
     let V : Type 0 = View g.row.S.Denot in
     let n = c.requires.second in
     let v : V = c.args.seat.now.me.0 in
@@ -39,8 +39,8 @@ load-length-requires g c =
 pub split_seat-part-requires : goal.split_seat-part-requires
 split_seat-part-requires g c =
     let P = g.S.Seatable.process in
-    let A = g.S.Seatable.automaton c.args.top.now.key in
-    let L = c.is_lawful.ensures.automaton c.args.top.now.key in
+    let A = g.S.Seatable.automaton c.args.shared.now.key in
+    let L = c.is_lawful.ensures.automaton c.args.shared.now.key in
     let V : Type 0 = View g.row.S.Denot in
     let n = c.requires.second in
     let v : V = c.args.seat.now.me.0 in

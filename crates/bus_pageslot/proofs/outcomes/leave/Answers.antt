@@ -34,7 +34,7 @@ words_from-words-requires-clause-within g c =
     let f = c.close_with-closed.ensures.values.2 in
     let is = ap (λ m. m.0) n.2 in
     let size = (slots_counts c.close_with-closed.result.words).0 ∙ wide P A L seat.id seat.me.0 n.0 n.1 is ws xs f in
-    let most = subst (λ k. k ≤ A.extent.capacity) (word_at ws 0 c.word-length.result c.word-length.ensures) (fits P A L seat.id seat.me.0 n.0 n.1 is ws xs f) in
+    let most = subst (λ k. k ≤ A.table_layout.capacity) (word_at ws 0 c.word-length.result c.word-length.ensures) (fits P A L seat.id seat.me.0 n.0 n.1 is ws xs f) in
     let room = L.room in
     let at = c.requires.log in omega arith
 
@@ -49,7 +49,7 @@ words_from-words-requires-clause-roomy g c =
     let xs = slots_items c.close_with-closed.result.slots in
     let f = c.close_with-closed.ensures.values.2 in
     let is = ap (λ m. m.0) n.2 in
-    let most = subst (λ k. k ≤ A.extent.capacity) (word_at ws 0 c.word-length.result c.word-length.ensures) (fits P A L seat.id seat.me.0 n.0 n.1 is ws xs f) in
+    let most = subst (λ k. k ≤ A.table_layout.capacity) (word_at ws 0 c.word-length.result c.word-length.ensures) (fits P A L seat.id seat.me.0 n.0 n.1 is ws xs f) in
     let same = c.requires.log_words in
     let room = c.requires.roomy in omega arith
 

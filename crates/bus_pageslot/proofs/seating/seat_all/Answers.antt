@@ -6,13 +6,13 @@ use Rattle.bus_pageslot.proofs.Openings.{one_more}
 use Rattle.bus_pageslot.proofs.seating.seat_all.Goals as goal
 
 pub seat_next-sender-requires-clause-wide : goal.seat_next-sender-requires-clause-wide
-seat_next-sender-requires-clause-wide g c = (ap (λ (z : TableId). z.words) c.loop-me.invariant.table ∙ c.requires.board.words, ap (λ (z : TableId). z.slots) c.loop-me.invariant.table ∙ c.requires.board.slots)
+seat_next-sender-requires-clause-wide g c = (ap (λ (z : TableId). z.words) c.loop-me.invariant.table ∙ c.requires.bus_table.words, ap (λ (z : TableId). z.slots) c.loop-me.invariant.table ∙ c.requires.bus_table.slots)
 
 pub loop-me-preserved : goal.loop-me-preserved
 loop-me-preserved g c =
     let P = g.S.Seatable.process in
     let A = g.S.Seatable.automaton c.args.shape in
-    let table = c.args.top.now.table_id in
+    let table = c.args.shared.now.table_id in
     record {
       below = omega arith;
       senders = subst (AreNewSeats P A table (c.loop-me.me + 1)) (sym c.in_ok-push.ensures.items) (one_more P A table c.loop-me.me c.loop-me.senders.items c.seat_next-sender.result c.loop-me.invariant.senders
@@ -26,7 +26,7 @@ returns-clause-senders g c =
     let P = g.S.Seatable.process in
     let A = g.S.Seatable.automaton c.args.shape in
     let all : c.loop-me.me ≡ c.args.shape.senders = let b = c.loop-me.invariant.below in omega arith in
-    subst (λ n. AreNewSeats P A c.args.top.now.table_id n c.loop-me.senders.items) all c.loop-me.invariant.senders
+    subst (λ n. AreNewSeats P A c.args.shared.now.table_id n c.loop-me.senders.items) all c.loop-me.invariant.senders
 
 pub returns-clause-maker : goal.returns-clause-maker
 returns-clause-maker g c =

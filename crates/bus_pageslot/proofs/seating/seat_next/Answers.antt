@@ -3,12 +3,12 @@ use Rattle.atomic_table.specs.Seated.{TableId}
 use Rattle.atomic_table.specs.Table.{Splits}
 use Rattle.bus_pageslot.specs.declared.rule.View.{View}
 use Rattle.bus_pageslot.specs.declared.rule.View.TheVariants.{Maker, Sender}
-use Rattle.bus_pageslot.specs.Processes.{Extent}
-use Rattle.bus_pageslot.specs.Rule.{stored_in, cut_left, cut_right, IsShown}
+use Rattle.bus_pageslot.specs.Processes.{TableLayout}
+use Rattle.bus_pageslot.specs.Rule.{stored_in, cut_left, cut_right, TableInvariant}
 use Rattle.bus_pageslot.specs.Steps.{all_in}
 use Rattle.bus_pageslot.specs.Steps.Accepts.{Nothing}
-use Rattle.bus_pageslot.specs.Seats.{track_of, stored_of}
-use Rattle.bus_pageslot.specs.Tracks.{no_track, with_deeds}
+use Rattle.bus_pageslot.specs.Seats.{sender_trail_of, stored_of}
+use Rattle.bus_pageslot.specs.SenderTrails.{no_sender_trail, with_actions}
 use Rattle.bus_pageslot.proofs.Accepting.{since_is}
 use Rattle.bus_pageslot.proofs.Openings.{cut_allowed, shows_new}
 use Rattle.bus_pageslot.proofs.seating.seat_next.Goals as goal
@@ -21,15 +21,15 @@ split_seat-seat-requires g c =
     let P = g.S.Seatable.process in
     let B = g.S.Seatable.automaton c.args.shape in
     let M = c.is_lawful.ensures.automaton c.args.shape in
-    let A = g.S.Seatable.automaton c.args.top.now.key in
-    let L = c.is_lawful.ensures.automaton c.args.top.now.key in
+    let A = g.S.Seatable.automaton c.args.shared.now.key in
+    let L = c.is_lawful.ensures.automaton c.args.shared.now.key in
     let me = B.started c.args.me in
     let room = M.room in
     let behind = M.behind in
-    let below = subst (λ n. P.me me < n) (ap (λ (x : Extent). x.senders) (sym (M.started_extent c.args.me))) (let at = M.started_me c.args.me in let l = c.requires.below in let s = c.requires.senders in omega arith) in (
+    let below = subst (λ n. P.me me < n) (ap (λ (x : TableLayout). x.senders) (sym (M.started_table_layout c.args.me))) (let at = M.started_me c.args.me in let l = c.requires.below in let s = c.requires.senders in omega arith) in (
       c.requires.table,
       subst (λ (z : TableId). 0 < z.words) c.requires.table (let w = c.requires.wide.0 in omega arith),
-      subst (λ (v : View g.row.S.Denot). Splits (IsShown P A) c.args.maker.now.id v (cut_left P v) (cut_right v)) (sym (ap (λ m. m.0) c.requires.maker)) (cut_allowed P A L c.args.maker.now.id me below),
+      subst (λ (v : View g.row.S.Denot). Splits (TableInvariant P A) c.args.maker.now.id v (cut_left P v) (cut_right v)) (sym (ap (λ m. m.0) c.requires.maker)) (cut_allowed P A L c.args.maker.now.id me below),
     )
 
 pub seated-requires-clause-shows : goal.seated-requires-clause-shows
@@ -58,6 +58,6 @@ returns-clause-seat g c =
     record {
       core = ap (λ s. s.core) c.seated.ensures ∙ c.start-core.ensures;
       table_is = ap (λ s. s.seat.table_id) c.seated.ensures ∙ split.3;
-      track = ap (track_of P) c.seated.ensures ∙ ap (λ m. all_in P m.0 c.start-core.result) me ∙ ap (λ d. all_in P (Sender (A.started c.args.me) no_track 0) d) c.start-core.ensures ∙ ap (with_deeds no_track) (since_is P c.is_lawful.ensures.process (A.started c.args.me) (A.started c.args.me) [] Nothing);
+      sender_trail = ap (sender_trail_of P) c.seated.ensures ∙ ap (λ m. all_in P m.0 c.start-core.result) me ∙ ap (λ d. all_in P (Sender (A.started c.args.me) no_sender_trail 0) d) c.start-core.ensures ∙ ap (with_actions no_sender_trail) (since_is P c.is_lawful.ensures.process (A.started c.args.me) (A.started c.args.me) [] Nothing);
       stored = ap stored_of c.seated.ensures ∙ ap (λ m. stored_in m.0) me;
     }

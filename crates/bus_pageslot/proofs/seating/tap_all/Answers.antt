@@ -9,8 +9,8 @@ tap_next-tap-requires-clause-wide g c = ap (λ (z : TableId). z.words) c.loop.in
 
 pub loop-preserved : goal.loop-preserved
 loop-preserved g c =
-    let n = (g.S.Seatable.automaton c.args.shape).extent in
-    let table = c.args.top.now.table_id in
+    let n = (g.S.Seatable.automaton c.args.shape).table_layout in
+    let table = c.args.shared.now.table_id in
     record {
       below = omega arith;
       taps = subst (AreNewTaps n table (c.loop.counter + 1)) (sym c.in_ok-push.ensures.items) (one_more_tap n table c.loop.counter c.loop.taps.items c.tap_next-tap.result c.loop.invariant.taps
@@ -22,4 +22,4 @@ loop-preserved g c =
 pub returns : goal.returns
 returns g c =
     let all : c.loop.counter ≡ c.args.shape.receivers = let b = c.loop.invariant.below in omega arith in
-    subst (λ n. AreNewTaps (g.S.Seatable.automaton c.args.shape).extent c.args.top.now.table_id n c.loop.taps.items) all c.loop.invariant.taps
+    subst (λ n. AreNewTaps (g.S.Seatable.automaton c.args.shape).table_layout c.args.shared.now.table_id n c.loop.taps.items) all c.loop.invariant.taps

@@ -10,9 +10,9 @@ use Rattle.bus_pageslot.proofs.steps.step.Goals as goal
 pub load-requires : goal.load-requires
 load-requires g c =
     let P = g.S.Seatable.process in
-    let A = g.S.Seatable.automaton c.args.top.now.key in
+    let A = g.S.Seatable.automaton c.args.shared.now.key in
     let K = c.is_lawful.ensures.process in
-    let L = c.is_lawful.ensures.automaton c.args.top.now.key in
+    let L = c.is_lawful.ensures.automaton c.args.shared.now.key in
     let k = g.K.Told.core in let word = g.K.Told.word in let m = c.args.seat.now.me in let many = c.args.seat.now.table_id.words in
     let o : Op = Load c.in-Load.at in
     let due : Due P k word m many o = subst (Due P k word m many) c.in-Load.is c.requires.due in (
@@ -24,9 +24,9 @@ load-requires g c =
 pub store-requires : goal.store-requires
 store-requires g c =
     let P = g.S.Seatable.process in
-    let A = g.S.Seatable.automaton c.args.top.now.key in
+    let A = g.S.Seatable.automaton c.args.shared.now.key in
     let K = c.is_lawful.ensures.process in
-    let L = c.is_lawful.ensures.automaton c.args.top.now.key in
+    let L = c.is_lawful.ensures.automaton c.args.shared.now.key in
     let k = g.K.Told.core in let word = g.K.Told.word in let m = c.args.seat.now.me in let many = c.args.seat.now.table_id.words in
     let at = c.in-Store.at in
     let v = c.in-Store.value in
@@ -40,9 +40,9 @@ store-requires g c =
 pub fetch_add-requires : goal.fetch_add-requires
 fetch_add-requires g c =
     let P = g.S.Seatable.process in
-    let A = g.S.Seatable.automaton c.args.top.now.key in
+    let A = g.S.Seatable.automaton c.args.shared.now.key in
     let K = c.is_lawful.ensures.process in
-    let L = c.is_lawful.ensures.automaton c.args.top.now.key in
+    let L = c.is_lawful.ensures.automaton c.args.shared.now.key in
     let k = g.K.Told.core in let word = g.K.Told.word in let m = c.args.seat.now.me in let many = c.args.seat.now.table_id.words in
     let o : Op = Add c.in-Add.at c.in-Add.value in
     let due : Due P k word m many o = subst (Due P k word m many) c.in-Add.is c.requires.due in (
@@ -54,9 +54,9 @@ fetch_add-requires g c =
 pub compare_exchange-requires : goal.compare_exchange-requires
 compare_exchange-requires g c =
     let P = g.S.Seatable.process in
-    let A = g.S.Seatable.automaton c.args.top.now.key in
+    let A = g.S.Seatable.automaton c.args.shared.now.key in
     let K = c.is_lawful.ensures.process in
-    let L = c.is_lawful.ensures.automaton c.args.top.now.key in
+    let L = c.is_lawful.ensures.automaton c.args.shared.now.key in
     let k = g.K.Told.core in let word = g.K.Told.word in let m = c.args.seat.now.me in let many = c.args.seat.now.table_id.words in
     let o : Op = Cas c.in-Cas.at c.in-Cas.expected c.in-Cas.value in
     let due : Due P k word m many o = subst (Due P k word m many) c.in-Cas.is c.requires.due in (

@@ -29,7 +29,7 @@ returns-clause-shows g c =
     let table = c.take_in.ensures.table.0 ∙ c.step-got.ensures.table.0 ∙ c.put_out.ensures.table.0 in
     record {
       shown = c.take_in.new.core;
-      deeds = [];
+      actions = [];
       accepts = Nothing;
       counted = counted_now P K d c.args.seat.now.me c.put_out.new.seat.me c.step-got.new.seat.me c.args.word c.step-got.result (ap (λ x. x.1) c.requires.shows.me) c.put_out.new.core c.feed-turn.new.self c.put_out.ensures.core c.put_out.ensures.me gone c.feed-turn.ensures.state
           c.take_in.new.seat.me c.take_in.new.core c.take_in.ensures.core c.take_in.ensures.me;
@@ -57,7 +57,7 @@ returns-clause-took g c =
       core = core_is P K d c.args.seat.now.me c.put_out.new.seat.me c.step-got.new.seat.me c.args.word c.step-got.result (ap (λ x. x.1) c.requires.shows.me) c.put_out.new.core c.feed-turn.new.self c.put_out.ensures.core c.put_out.ensures.me gone c.feed-turn.ensures.state
           c.take_in.new.seat.me c.take_in.new.core c.take_in.ensures.core c.take_in.ensures.me;
       answer = c.feed-turn.ensures.answer ∙ ap (λ k. P.answer k c.step-got.result c.args.word) c.put_out.ensures.core ∙ K.handed_answer d c.step-got.result c.args.word;
-      track = all_now P K d c.args.seat.now.me c.put_out.new.seat.me c.step-got.new.seat.me c.args.word c.step-got.result (ap (λ x. x.1) c.requires.shows.me) c.put_out.new.core c.feed-turn.new.self c.put_out.ensures.core c.put_out.ensures.me gone c.feed-turn.ensures.state
+      sender_trail = all_now P K d c.args.seat.now.me c.put_out.new.seat.me c.step-got.new.seat.me c.args.word c.step-got.result (ap (λ x. x.1) c.requires.shows.me) c.put_out.new.core c.feed-turn.new.self c.put_out.ensures.core c.put_out.ensures.me gone c.feed-turn.ensures.state
           c.take_in.new.seat.me c.take_in.new.core c.take_in.ensures.core c.take_in.ensures.me;
       stored = stored_now P K d c.args.seat.now.me c.put_out.new.seat.me c.step-got.new.seat.me c.args.word c.step-got.result (ap (λ x. x.1) c.requires.shows.me) c.put_out.new.core c.feed-turn.new.self c.put_out.ensures.core c.put_out.ensures.me gone c.feed-turn.ensures.state
           c.take_in.new.seat.me c.take_in.new.core c.take_in.ensures.core c.take_in.ensures.me;

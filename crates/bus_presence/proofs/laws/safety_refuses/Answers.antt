@@ -1,4 +1,4 @@
-use Rattle.bus_presence.proofs.HallLaws.{safety_refused}
+use Rattle.bus_presence.proofs.ReclamationLaws.{safety_refused}
 use Rattle.bus_presence.proofs.laws.safety_refuses.Goals as goal
 
 pub returns : goal.returns

@@ -18,28 +18,28 @@ use Rattle.bus_run.proofs.closing.end_whole.Goals as goal
 
 pub returns-in-Some-clause-late : goal.returns-in-Some-clause-late
 returns-in-Some-clause-late g c =
-    let unsent = subst (λ ds. IsFirstUnsent (λ desk. HasSent c.args.messages desk.sender) ds c.in-Some.sender) c.as_slice.ensures.value c.in-Some.ensures.unsent in
-    (subst (λ n. c.in-Some.sender < n) c.requires.whole.all_send (slice_get_within c.args.desks.items c.in-Some.sender unsent.1 unsent.2), inl unsent)
+    let unsent = subst (λ ds. IsFirstUnsent (λ send_worker. HasSent c.args.messages send_worker.sender) ds c.in-Some.sender) c.as_slice.ensures.value c.in-Some.ensures.unsent in
+    (subst (λ n. c.in-Some.sender < n) c.requires.whole.all_send (slice_get_within c.args.send_workers.items c.in-Some.sender unsent.1 unsent.2), inl unsent)
 
 pub returns-in_err-first-clause-late : goal.returns-in_err-first-clause-late
 returns-in_err-first-clause-late g c =
-    let seats = map (λ listener. listener.receiver.me.0) c.args.listeners.items in
-    let heards = map (λ listener. listener.heard) c.args.listeners.items in
-    let Late : RunFault → Type 0 = IsLate (λ desk. desk.sender) c.args.shape c.args.messages (vec_capacity c.args.room) c.args.desks.items seats heards in
-    let sent = subst (All (λ desk. HasSent c.args.messages desk.sender)) c.as_slice.ensures.value (c.first_unsent.ensures.none c.in_default.is) in
+    let seats = map (λ receive_worker. receive_worker.receiver.me.0) c.args.receive_workers.items in
+    let heards = map (λ receive_worker. receive_worker.heard) c.args.receive_workers.items in
+    let Late : RunFault → Type 0 = IsLate (λ send_worker. send_worker.sender) c.args.shape c.args.messages (vec_capacity c.args.room) c.args.send_workers.items seats heards in
+    let sent = subst (All (λ send_worker. HasSent c.args.messages send_worker.sender)) c.as_slice.ensures.value (c.first_unsent.ensures.none c.in_default.is) in
     let full = c.in_err-first.ensures.full in
-    passed_up _ _ Late c.from_residual.ensures (subst Late (sym full.0) (sent, subst (λ n. vec_capacity c.args.room < n) (sym (length-map c.args.listeners.items (λ listener. listener.heard))) full.1))
+    passed_up _ _ Late c.from_residual.ensures (subst Late (sym full.0) (sent, subst (λ n. vec_capacity c.args.room < n) (sym (length-map c.args.receive_workers.items (λ receive_worker. receive_worker.heard))) full.1))
 
 pub returns-in_err-ended-clause-late : goal.returns-in_err-ended-clause-late
 returns-in_err-ended-clause-late g c =
-    let seats = map (λ listener. listener.receiver.me.0) c.args.listeners.items in
-    let heards = map (λ listener. listener.heard) c.args.listeners.items in
-    let Late : RunFault → Type 0 = IsLate (λ desk. desk.sender) c.args.shape c.args.messages (vec_capacity c.args.room) c.args.desks.items seats heards in
-    let Ends : Shown → Type 0 = IsToldByAll (λ desk. desk.sender) c.args.messages c.args.desks.items seats in
+    let seats = map (λ receive_worker. receive_worker.receiver.me.0) c.args.receive_workers.items in
+    let heards = map (λ receive_worker. receive_worker.heard) c.args.receive_workers.items in
+    let Late : RunFault → Type 0 = IsLate (λ send_worker. send_worker.sender) c.args.shape c.args.messages (vec_capacity c.args.room) c.args.send_workers.items seats heards in
+    let Ends : Shown → Type 0 = IsToldByAll (λ send_worker. send_worker.sender) c.args.messages c.args.send_workers.items seats in
     let last = c.tell_all-told.result.me.0 in
     let told : Ends last = record { first = _; first_is = c.in_ok-first.ensures.first; learnt = c.tell_all-told.ensures.learnt; told = c.tell_all-told.ensures.told } in
-    let sent = subst (All (λ desk. HasSent c.args.messages desk.sender)) c.as_slice.ensures.value (c.first_unsent.ensures.none c.in_default.is) in
-    let room = subst (λ n. n ≤ vec_capacity c.args.room) (sym (length-map c.args.listeners.items (λ listener. listener.heard))) c.in_ok-first.ensures.room in
+    let sent = subst (All (λ send_worker. HasSent c.args.messages send_worker.sender)) c.as_slice.ensures.value (c.first_unsent.ensures.none c.in_default.is) in
+    let room = subst (λ n. n ≤ vec_capacity c.args.room) (sym (length-map c.args.receive_workers.items (λ receive_worker. receive_worker.heard))) c.in_ok-first.ensures.room in
     let stays = c.in_err-ended.ensures.open in
     passed_up _ _ Late c.from_residual-in_err-ended.ensures (subst Late (sym stays.0) (
       c.requires.whole.one_sends,
@@ -48,14 +48,14 @@ returns-in_err-ended-clause-late g c =
 
 pub returns-in_err-all_sent-clause-late : goal.returns-in_err-all_sent-clause-late
 returns-in_err-all_sent-clause-late g c =
-    let seats = map (λ listener. listener.receiver.me.0) c.args.listeners.items in
-    let heards = map (λ listener. listener.heard) c.args.listeners.items in
-    let Late : RunFault → Type 0 = IsLate (λ desk. desk.sender) c.args.shape c.args.messages (vec_capacity c.args.room) c.args.desks.items seats heards in
-    let Ends : Shown → Type 0 = IsToldByAll (λ desk. desk.sender) c.args.messages c.args.desks.items seats in
+    let seats = map (λ receive_worker. receive_worker.receiver.me.0) c.args.receive_workers.items in
+    let heards = map (λ receive_worker. receive_worker.heard) c.args.receive_workers.items in
+    let Late : RunFault → Type 0 = IsLate (λ send_worker. send_worker.sender) c.args.shape c.args.messages (vec_capacity c.args.room) c.args.send_workers.items seats heards in
+    let Ends : Shown → Type 0 = IsToldByAll (λ send_worker. send_worker.sender) c.args.messages c.args.send_workers.items seats in
     let last = c.tell_all-told.result.me.0 in
     let told : Ends last = record { first = _; first_is = c.in_ok-first.ensures.first; learnt = c.tell_all-told.ensures.learnt; told = c.tell_all-told.ensures.told } in
-    let sent = subst (All (λ desk. HasSent c.args.messages desk.sender)) c.as_slice.ensures.value (c.first_unsent.ensures.none c.in_default.is) in
-    let room = subst (λ n. n ≤ vec_capacity c.args.room) (sym (length-map c.args.listeners.items (λ listener. listener.heard))) c.in_ok-first.ensures.room in
+    let sent = subst (All (λ send_worker. HasSent c.args.messages send_worker.sender)) c.as_slice.ensures.value (c.first_unsent.ensures.none c.in_default.is) in
+    let room = subst (λ n. n ≤ vec_capacity c.args.room) (sym (length-map c.args.receive_workers.items (λ receive_worker. receive_worker.heard))) c.in_ok-first.ensures.room in
     let ended = c.in_ok-ended in
     let short = c.in_err-all_sent.ensures.fault in
     passed_up _ _ Late c.from_residual-in_err-all_sent.ensures (subst Late (sym short.1) (
@@ -68,14 +68,14 @@ returns-in_err-all_sent-clause-late g c =
 
 pub returns-in_err-audit-clause-late : goal.returns-in_err-audit-clause-late
 returns-in_err-audit-clause-late g c =
-    let seats = map (λ listener. listener.receiver.me.0) c.args.listeners.items in
-    let heards = map (λ listener. listener.heard) c.args.listeners.items in
-    let Late : RunFault → Type 0 = IsLate (λ desk. desk.sender) c.args.shape c.args.messages (vec_capacity c.args.room) c.args.desks.items seats heards in
-    let Ends : Shown → Type 0 = IsToldByAll (λ desk. desk.sender) c.args.messages c.args.desks.items seats in
+    let seats = map (λ receive_worker. receive_worker.receiver.me.0) c.args.receive_workers.items in
+    let heards = map (λ receive_worker. receive_worker.heard) c.args.receive_workers.items in
+    let Late : RunFault → Type 0 = IsLate (λ send_worker. send_worker.sender) c.args.shape c.args.messages (vec_capacity c.args.room) c.args.send_workers.items seats heards in
+    let Ends : Shown → Type 0 = IsToldByAll (λ send_worker. send_worker.sender) c.args.messages c.args.send_workers.items seats in
     let last = c.tell_all-told.result.me.0 in
     let told : Ends last = record { first = _; first_is = c.in_ok-first.ensures.first; learnt = c.tell_all-told.ensures.learnt; told = c.tell_all-told.ensures.told } in
-    let sent = subst (All (λ desk. HasSent c.args.messages desk.sender)) c.as_slice.ensures.value (c.first_unsent.ensures.none c.in_default.is) in
-    let room = subst (λ n. n ≤ vec_capacity c.args.room) (sym (length-map c.args.listeners.items (λ listener. listener.heard))) c.in_ok-first.ensures.room in
+    let sent = subst (All (λ send_worker. HasSent c.args.messages send_worker.sender)) c.as_slice.ensures.value (c.first_unsent.ensures.none c.in_default.is) in
+    let room = subst (λ n. n ≤ vec_capacity c.args.room) (sym (length-map c.args.receive_workers.items (λ receive_worker. receive_worker.heard))) c.in_ok-first.ensures.room in
     let ended = c.in_ok-ended in
     let why = c.in_err-audit.field-0.0 in
     let notes = c.as_slice-2.ensures.value ∙ c.in_ok-first.ensures.notes in
@@ -108,15 +108,15 @@ returns-clause-report g c =
           record {
             sends = sends;
             carried = λ s k item lt at.
-                let below : s < length c.args.desks.items = subst (λ n. s < n) (sym c.requires.whole.all_send) lt in
-                let told = of_each (λ desk. number_of desk.sender) (λ desk. HasTold (number_of desk.sender) many known) c.args.desks.items s c.requires.whole.in_order c.tell_all-told.ensures.told below in
+                let below : s < length c.args.send_workers.items = subst (λ n. s < n) (sym c.requires.whole.all_send) lt in
+                let told = of_each (λ send_worker. number_of send_worker.sender) (λ send_worker. HasTold (number_of send_worker.sender) many known) c.args.send_workers.items s c.requires.whole.in_order c.tell_all-told.ensures.told below in
                 let has_told = still_told s many known left.log (subst (λ n. HasTold n many known) told.1 told.2) c.in_ok-ended.ensures.front in
                 carries (of_sender s order) many k item (told_all s many left.log left.senders order owners has_told spells (sends s lt)) at;
             closed = c.in_ok-ended.ensures.closed order owners spells;
             fair = fair;
             all = all_counted left.senders left.log order owners _ (subst (λ n. n ≤ 8) (sym senders_are) c.requires.senders) spells c.in_ok-first.ensures.summed fair;
           };
-      each = ap length c.in_ok-first.ensures.notes ∙ length-map c.args.listeners.items (λ listener. listener.heard) ∙ c.requires.whole.all_hear;
+      each = ap length c.in_ok-first.ensures.notes ∙ length-map c.args.receive_workers.items (λ receive_worker. receive_worker.heard) ∙ c.requires.whole.all_hear;
     }
 
 pub returns-clause-by : goal.returns-clause-by

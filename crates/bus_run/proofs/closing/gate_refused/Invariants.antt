@@ -3,5 +3,5 @@ use Rattle.std.specs.List.{list_any}
 use Rattle.bus_run.specs.Stops.{is_gate}
 use Rattle.bus_run.proofs.closing.gate_refused.Given as goal
 
-abbrev pub invariant-loop-desk : goal.invariant-loop-desk
-invariant-loop-desk g l = list_any (λ desk. is_gate desk.fault) (take l.desk-index l.desks) ≡ false
+abbrev pub invariant-loop-send_worker : goal.invariant-loop-send_worker
+invariant-loop-send_worker g l = list_any (λ send_worker. is_gate send_worker.fault) (take l.send_worker-index l.send_workers) ≡ false

@@ -6,9 +6,9 @@ use Rattle.bus_run.specs.Left.{HasLearnt, number_of}
 use Rattle.bus_run.specs.Told.{HasTold}
 use Rattle.bus_run.proofs.closing.tell_all.Given as goal
 
-abbrev pub invariant-loop-desk : goal.invariant-loop-desk
-invariant-loop-desk g l = record {
+abbrev pub invariant-loop-send_worker : goal.invariant-loop-send_worker
+invariant-loop-send_worker g l = record {
   table : bus_of l.first ≡ g.B.OfBus.table;
   learnt : HasLearnt (length l.yielded) l.fn.first.me.0 l.first.me.0;
-  told : All (λ desk. HasTold (number_of desk.sender) l.messages (known_in l.first.me.0)) l.yielded;
+  told : All (λ send_worker. HasTold (number_of send_worker.sender) l.messages (known_in l.first.me.0)) l.yielded;
 }

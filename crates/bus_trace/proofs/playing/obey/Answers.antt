@@ -1,7 +1,7 @@
 use Rattle.std.proofs.Common.{◌-◌, ◌++◌, ◌∙◌, string_bytes, sym, ap, subst}
 use Rattle.std.specs.Option.{option_map}
-use Rattle.bus_script.specs.declared.places.Place.TheVariants.{AtLine}
-use Rattle.bus_script.specs.Places.{refusal_line}
+use Rattle.bus_script.specs.declared.line_numbers.LineNumber.TheVariants.{AtLine}
+use Rattle.bus_script.specs.LineNumbers.{refusal_line}
 use Rattle.bus_replay.specs.Told.{command_told}
 use Rattle.bus_trace.specs.Words.{sizes_told}
 use Rattle.bus_trace.specs.Obeying.{IsRepeated}
@@ -11,7 +11,7 @@ use Rattle.bus_trace.proofs.playing.obey.Goals as goal
 pub returns-in-None-clause-obeyed : goal.returns-in-None-clause-obeyed
 returns-in-None-clause-obeyed g c =
     let M = g.W.Traceable.moves in
-    let row = g.W.Traceable.shows (sizes_told c.args.places) in
+    let row = g.W.Traceable.shows (sizes_told c.args.memory_map) in
     let command = command_told c.in-Some.command in
     let old = string_bytes c.args.sheet.now.text in
     let new = string_bytes c.repeat.new.sheet.text in
@@ -21,7 +21,7 @@ returns-in-None-clause-obeyed g c =
 pub returns-clause-obeyed : goal.returns-clause-obeyed
 returns-clause-obeyed g c =
     let M = g.W.Traceable.moves in
-    let row = g.W.Traceable.shows (sizes_told c.args.places) in
+    let row = g.W.Traceable.shows (sizes_told c.args.memory_map) in
     let command = command_told c.in-Some.command in
     let old = string_bytes c.args.sheet.now.text in
     let new = string_bytes c.repeat.new.sheet.text in

@@ -7,7 +7,7 @@ use Rattle.bus_trace.proofs.playing.play.Given as goal
 abbrev pub invariant-loop-line : goal.invariant-loop-line
 invariant-loop-line g l = record {
   counted : IsCounted (string_bytes l.sheet.text) l.sheet.lines;
-  played : Played g.W.Traceable.moves (g.W.Traceable.shows (sizes_told l.places)) l.fn.bus l.fn.lines l.lines (string_bytes l.fn.sheet.text) l.fn.sheet.lines (string_bytes l.sheet.text) l.sheet.lines l.bus;
+  played : Played g.W.Traceable.moves (g.W.Traceable.shows (sizes_told l.memory_map)) l.fn.bus l.fn.lines l.lines (string_bytes l.fn.sheet.text) l.fn.sheet.lines (string_bytes l.sheet.text) l.sheet.lines l.bus;
 }
 
 abbrev pub decreases-loop-line : goal.decreases-loop-line

@@ -8,7 +8,7 @@ use Rattle.bus_trace.proofs.playing.repeat.Given as goal
 abbrev pub invariant-loop-more : goal.invariant-loop-more
 invariant-loop-more g l = record {
   counted : IsCounted (string_bytes l.sheet.text) l.sheet.lines;
-  repeated : Repeated g.W.Traceable.moves (g.W.Traceable.shows (sizes_told l.places)) l.line (event_told l.event) l.fn.bus (l.fn.times - 1) l.more l.last l.bus
+  repeated : Repeated g.W.Traceable.moves (g.W.Traceable.shows (sizes_told l.memory_map)) l.line (event_told l.event) l.fn.bus (l.fn.times - 1) l.more l.last l.bus
       (string_bytes l.fn.sheet.text) l.fn.sheet.lines (string_bytes l.sheet.text) l.sheet.lines;
 }
 

@@ -2,4 +2,4 @@ use Rattle.std.proofs.Common.{◌≡◌}
 use Rattle.tests_threads.proofs.receivers.hears.Given as goal
 
 abbrev pub invariant-loop-i : goal.invariant-loop-i
-invariant-loop-i g l = l.ear.table_id ≡ l.bus.table
+invariant-loop-i g l = l.receiver.table_id ≡ l.bus.table

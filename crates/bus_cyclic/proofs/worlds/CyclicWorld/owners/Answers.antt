@@ -5,4 +5,4 @@ use Rattle.bus_cyclic.proofs.worlds.CyclicWorld.owners.Goals as goal
 
 pub returns-clause-took : goal.returns-clause-took
 returns-clause-took g c trails leads =
-    subst (λ o. AreLastTakers c.args.self.now.ring.rows o trails.deeds) (sym (ap (map (λ s. s.0)) c.as_slice.ensures.value ∙ ap (λ y. y.owners) c.self.view_is)) leads.owners
+    subst (λ o. AreLastTakers c.args.self.now.ring.rows o trails.actions) (sym (ap (map (λ s. s.0)) c.as_slice.ensures.value ∙ ap (λ y. y.owners) c.self.view_is)) leads.owners

@@ -13,7 +13,7 @@ invariant_of-self g c =
     let P = g.Q.Ratifier.protocol in
     let X = election_with g.Q.Machine.kind_of g.Q.Machine.op g.Q.Machine.fed P in
     let i = c.self.inside in
-    let v : Visitor (Elector g.row.Q.Denot) = record { core = i.core; visit = i.presence.visit; sweep = i.sweep; lost = i.lost; rows = i.rows } in
+    let v : Visitor (Elector g.row.Q.Denot) = record { core = i.core; pin = i.presence.pin; reclaimer = i.reclaimer; lost = i.lost; rows = i.rows } in
     let z = situation_of X i.core in
     let steps = subst (λ y. IsSome (op_at X y.core (situation_of X y.core) c.args.word)) (sym c.self.view_is) c.requires.steps in
     let w = went X (λ x. (elections P x.rounds).width x.senders) (λ x me. (elections P x.rounds).Belongs x.senders me)
@@ -22,8 +22,8 @@ invariant_of-self g c =
     (unparted X v z (subst (λ y. due X y ≡ Goes (situation_of X y.core)) (sym c.self.view_is) c.requires.goes)) z refl steps (λ e. c.requires.begun (sym (ap (λ y. y.core.phase) c.self.view_is) ∙ e)) in
     let n = joined X (λ x. (elections P x.rounds).width x.senders) (λ x me. (elections P x.rounds).Belongs x.senders me)
     v _ _ _ _ _ _ _ w c.feed-turn.result c.feed-turn.ensures.answer
-    c.feed-turn.new.self c.part_after.new.presence.visit c.sweep_by-self-inside.result c.lost_by-self-inside.result i.senders i.width c.self.invariant.senders_are c.self.invariant.width_is
-    c.take-sweep.result c.take-sweep.ensures.value c.feed-turn.ensures.state (ap (λ p. p.visit) c.part_after.ensures) c.sweep_by-self-inside.ensures c.lost_by-self-inside.ensures in
+    c.feed-turn.new.self c.part_after.new.presence.pin c.reclaimer_by-self-inside.result c.lost_by-self-inside.result i.senders i.width c.self.invariant.senders_are c.self.invariant.width_is
+    c.take-reclaimer.result c.take-reclaimer.ensures.value c.feed-turn.ensures.state (ap (λ p. p.pin) c.part_after.ensures) c.reclaimer_by-self-inside.ensures c.lost_by-self-inside.ensures in
     tied X (λ x. (elections P x.rounds).width x.senders) (λ x me. (elections P x.rounds).Belongs x.senders me)
     v _ _ _ _ _ _ _ w c.feed-turn.result c.feed-turn.ensures.answer i.presence c.part_after.new.presence i.senders i.width c.self.invariant
     (ap (λ p. p.word) c.part_after.ensures) (ap (λ p. p.stage) c.part_after.ensures) _ n
@@ -33,7 +33,7 @@ returns-clause-state g c =
     let P = g.Q.Ratifier.protocol in
     let X = election_with g.Q.Machine.kind_of g.Q.Machine.op g.Q.Machine.fed P in
     let i = c.self.inside in
-    let v : Visitor (Elector g.row.Q.Denot) = record { core = i.core; visit = i.presence.visit; sweep = i.sweep; lost = i.lost; rows = i.rows } in
+    let v : Visitor (Elector g.row.Q.Denot) = record { core = i.core; pin = i.presence.pin; reclaimer = i.reclaimer; lost = i.lost; rows = i.rows } in
     let z = situation_of X i.core in
     let steps = subst (λ y. IsSome (op_at X y.core (situation_of X y.core) c.args.word)) (sym c.self.view_is) c.requires.steps in
     let w = went X (λ x. (elections P x.rounds).width x.senders) (λ x me. (elections P x.rounds).Belongs x.senders me)
@@ -42,8 +42,8 @@ returns-clause-state g c =
     (unparted X v z (subst (λ y. due X y ≡ Goes (situation_of X y.core)) (sym c.self.view_is) c.requires.goes)) z refl steps (λ e. c.requires.begun (sym (ap (λ y. y.core.phase) c.self.view_is) ∙ e)) in
     let n = joined X (λ x. (elections P x.rounds).width x.senders) (λ x me. (elections P x.rounds).Belongs x.senders me)
     v _ _ _ _ _ _ _ w c.feed-turn.result c.feed-turn.ensures.answer
-    c.feed-turn.new.self c.part_after.new.presence.visit c.sweep_by-self-inside.result c.lost_by-self-inside.result i.senders i.width c.self.invariant.senders_are c.self.invariant.width_is
-    c.take-sweep.result c.take-sweep.ensures.value c.feed-turn.ensures.state (ap (λ p. p.visit) c.part_after.ensures) c.sweep_by-self-inside.ensures c.lost_by-self-inside.ensures in
+    c.feed-turn.new.self c.part_after.new.presence.pin c.reclaimer_by-self-inside.result c.lost_by-self-inside.result i.senders i.width c.self.invariant.senders_are c.self.invariant.width_is
+    c.take-reclaimer.result c.take-reclaimer.ensures.value c.feed-turn.ensures.state (ap (λ p. p.pin) c.part_after.ensures) c.reclaimer_by-self-inside.ensures c.lost_by-self-inside.ensures in
     n ∙ ap (λ y. visitor_due X y (Goes (situation_of X y.core)) c.args.got c.args.word) c.self.view_is
 
 pub returns-clause-answer : goal.returns-clause-answer
@@ -51,7 +51,7 @@ returns-clause-answer g c =
     let P = g.Q.Ratifier.protocol in
     let X = election_with g.Q.Machine.kind_of g.Q.Machine.op g.Q.Machine.fed P in
     let i = c.self.inside in
-    let v : Visitor (Elector g.row.Q.Denot) = record { core = i.core; visit = i.presence.visit; sweep = i.sweep; lost = i.lost; rows = i.rows } in
+    let v : Visitor (Elector g.row.Q.Denot) = record { core = i.core; pin = i.presence.pin; reclaimer = i.reclaimer; lost = i.lost; rows = i.rows } in
     let z = situation_of X i.core in
     let steps = subst (λ y. IsSome (op_at X y.core (situation_of X y.core) c.args.word)) (sym c.self.view_is) c.requires.steps in
     let w = went X (λ x. (elections P x.rounds).width x.senders) (λ x me. (elections P x.rounds).Belongs x.senders me)

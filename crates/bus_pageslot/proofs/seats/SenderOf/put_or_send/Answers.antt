@@ -1,7 +1,7 @@
 use Rattle.std.proofs.Common.{◌≡◌, [], ◌∷◌, ◌++◌, length, refl, sym, ap, subst, arith}
 use Rattle.bus_batch.specs.Batches.{IsPutFault}
 use Rattle.bus_world.specs.Headline.{HasPut}
-use Rattle.bus_pageslot.specs.Seats.{deeds_of}
+use Rattle.bus_pageslot.specs.Seats.{actions_of}
 use Rattle.bus_pageslot.specs.Sendings.{FillsBatches, Put, waiting_of}
 use Rattle.bus_pageslot.proofs.Sending.{same_sender}
 use Rattle.bus_pageslot.proofs.Batching.{stops_full}
@@ -16,7 +16,7 @@ returns-in-Ok-clause-taken g c =
       could = c.in-Ok.ensures.could;
       core = c.in-Ok.ensures.taken;
       seat = c.put.ensures.seat;
-      deed = subst (λ k. deeds_of P c.put.new.self ≡ deeds_of P s ++ HasPut k c.as_slice.result.now ∷ []) c.in-Ok.ensures.number c.in-Ok.ensures.deed;
+      action = subst (λ k. actions_of P c.put.new.self ≡ actions_of P s ++ HasPut k c.as_slice.result.now ∷ []) c.in-Ok.ensures.number c.in-Ok.ensures.action;
     }))
 
 pub returns-in-Err-put-clause-stops : goal.returns-in-Err-put-clause-stops

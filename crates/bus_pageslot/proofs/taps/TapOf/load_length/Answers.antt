@@ -1,7 +1,7 @@
 use Rattle.std.proofs.Common.{◌≡◌, ◌<◌, arith, subst, sym, ◌∙◌, ap}
 use Rattle.atomic_table.specs.Seated.{TableId}
-use Rattle.bus_pageslot.specs.Buses.{Site}
-use Rattle.bus_pageslot.specs.Seats.{Spot, spot, spot_of, IsTap}
+use Rattle.bus_pageslot.specs.Buses.{BusId}
+use Rattle.bus_pageslot.specs.Seats.{ReceiverSeat, receiver_seat, receiver_seat_of, IsTap}
 use Rattle.bus_pageslot.proofs.Joining.{learned}
 use Rattle.bus_pageslot.proofs.Loads.{length_allowed}
 use Rattle.bus_pageslot.proofs.taps.TapOf.load_length.Goals as goal
@@ -13,20 +13,20 @@ load-length-requires g c =
     let L = c.is_lawful.ensures.automaton c.bus.inside.table.shared.key in
     let h = c.self.invariant.sits in
     let seat = c.unwrap-seat.result in
-    let S : Type 0 = Spot g.row.S.Denot in
-    let there : spot_of c.self.inside.seat ≡ spot seat = ap spot_of (sym c.take.ensures.value ∙ c.unwrap-seat.ensures) in
-    let table : seat.table_id ≡ c.bus.inside.table.shared.table_id = ap (λ (s : S). s.table_id) (sym there ∙ c.self.view_is) ∙ c.requires ∙ sym (ap (λ (b : Site). b.table) c.bus.view_is) in
-    let wide : seat.table_id.words ≡ h.extent.words = ap (λ (s : S). s.table_id.words) (sym there) ∙ h.wide in (
+    let S : Type 0 = ReceiverSeat g.row.S.Denot in
+    let there : receiver_seat_of c.self.inside.seat ≡ receiver_seat seat = ap receiver_seat_of (sym c.take.ensures.value ∙ c.unwrap-seat.ensures) in
+    let table : seat.table_id ≡ c.bus.inside.table.shared.table_id = ap (λ (s : S). s.table_id) (sym there ∙ c.self.view_is) ∙ c.requires ∙ sym (ap (λ (b : BusId). b.table) c.bus.view_is) in
+    let wide : seat.table_id.words ≡ h.table_layout.words = ap (λ (s : S). s.table_id.words) (sym there) ∙ h.wide in (
       table,
       subst (λ (z : TableId). 0 < z.words) table (let room = h.room in let behind = h.behind in omega arith),
-      length_allowed P A L _ _ seat.me h.extent h.ear (ap (λ (s : S). s.me.0) (sym there) ∙ ap (λ m. m.0) h.me),
+      length_allowed P A L _ _ seat.me h.table_layout h.receiver_view (ap (λ (s : S). s.me.0) (sym there) ∙ ap (λ m. m.0) h.me),
     )
 
 pub invariant_of-self : goal.invariant_of-self
 invariant_of-self g c =
     let seat = c.unwrap-seat.result in
-    let S : Type 0 = Spot g.row.S.Denot in
-    let there : spot_of c.self.inside.seat ≡ spot seat = ap spot_of (sym c.take.ensures.value ∙ c.unwrap-seat.ensures) in
-    let a : IsTap (spot seat) c.self.inside.log c.self.inside.known c.self.inside.reader = subst (λ (s : S). IsTap s c.self.inside.log c.self.inside.known c.self.inside.reader) there c.self.invariant in
+    let S : Type 0 = ReceiverSeat g.row.S.Denot in
+    let there : receiver_seat_of c.self.inside.seat ≡ receiver_seat seat = ap receiver_seat_of (sym c.take.ensures.value ∙ c.unwrap-seat.ensures) in
+    let a : IsTap (receiver_seat seat) c.self.inside.log c.self.inside.known c.self.inside.reader = subst (λ (s : S). IsTap s c.self.inside.log c.self.inside.known c.self.inside.reader) there c.self.invariant in
     let load = c.load-length in
-    learned g.S.Seatable.process (spot seat) c.self.inside.log c.self.inside.known load.result c.self.inside.reader load.new.seat.me load.new.seat.table_id a load.ensures.2 (ap (λ (z : TableId). z.words) load.ensures.0)
+    learned g.S.Seatable.process (receiver_seat seat) c.self.inside.log c.self.inside.known load.result c.self.inside.reader load.new.seat.me load.new.seat.table_id a load.ensures.2 (ap (λ (z : TableId). z.words) load.ensures.0)

@@ -7,4 +7,4 @@ use Rattle.bus_replay.proofs.PlayLemmas.{if_ok}
 use Rattle.bus_replay.proofs.cycles.CyclicWorldPlayable.given.Goals as goal
 
 pub returns : goal.returns
-returns g c = if_ok _ _ c.given.result (λ order h trails reached. h (record { visits = reached.0; sweeps = reached.1; deeds = trails.deeds; heard = trails.heard }) reached.2) c.given.ensures
+returns g c = if_ok _ _ c.given.result (λ order h trails reached. h (record { pins = reached.0; reclaims = reached.1; actions = trails.actions; heard = trails.heard }) reached.2) c.given.ensures

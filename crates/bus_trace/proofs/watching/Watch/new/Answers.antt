@@ -18,6 +18,6 @@ invariant_of-result g c =
     let words = ap (λ w. shape.rows * w) c.width.ensures.words in (
       ap (λ w. 2 + shape.rows * w) c.width.ensures.protocol,
       (omega arith),
-      watched_new X (elections P shape.rounds) x s c.in_ok-world.world c.in_ok-cells.cells c.in_ok-spots.spots.items shape.receivers served.senders.1 served.rows.1 served.log_words.1 made.senders made.receivers made.layout made.new
-          (c.in_ok-cells.ensures ∙ ap (λ w. replicate (2 + shape.rows * w + shape.log_words) 0) c.width.ensures.protocol) c.in_ok-spots.ensures,
+      watched_new X (elections P shape.rounds) x s c.in_ok-world.world c.in_ok-cells.cells c.in_ok-cursors.cursors.items shape.receivers served.senders.1 served.rows.1 served.log_words.1 made.senders made.receivers made.layout made.new
+          (c.in_ok-cells.ensures ∙ ap (λ w. replicate (2 + shape.rows * w + shape.log_words) 0) c.width.ensures.protocol) c.in_ok-cursors.ensures,
     )

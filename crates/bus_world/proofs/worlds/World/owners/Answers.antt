@@ -12,4 +12,4 @@ returns-clause-took g c trails reached =
     let shape = c.self.inside.shape in
     let x = layout_with P shape.senders shape.rounds shape.rows shape.log_words in
     let s = serves g.Q.Machine.kind_of g.Q.Machine.op g.Q.Machine.fed P g.met.Q.Machine.names_each_step g.met.Q.Ratifier.own_kinds shape.senders shape.rounds shape.rows shape.log_words (c.election_is_lawful.ensures.lawful.laws shape.rounds) in
-    subst (λ z. Takers z trails.deeds) (sym (ap (map (λ s. s.0)) c.as_slice.ensures.value ∙ ap (λ z. z.bus.side.owners) c.self.view_is)) (took X (elections P shape.rounds) x s _ c.self.invariant c.args.self.now c.self.view_is trails reached)
+    subst (λ z. Takers z trails.actions) (sym (ap (map (λ s. s.0)) c.as_slice.ensures.value ∙ ap (λ z. z.bus.side.owners) c.self.view_is)) (took X (elections P shape.rounds) x s _ c.self.invariant c.args.self.now c.self.view_is trails reached)

@@ -1,0 +1,20 @@
+use Rattle.std.proofs.Common.{rules, ◌≡◌, ◌+◌, Option, Some, List, [], ◌∷◌, replicate, sym, ◌∙◌, subst, arith, ap}
+use Rattle.std.proofs.lemmas.Grind.{common_steps}
+use Rattle.atomic_table.specs.Table.{opening}
+use Rattle.bus_tenure.specs.declared.pages.Page.{Page}
+use Rattle.bus_world.specs.World.{new_page}
+use Rattle.bus_pageslot.specs.declared.rule.View.TheVariants.{Maker}
+use Rattle.bus_pageslot.specs.Rule.{TableInvariant}
+use Rattle.bus_pageslot.proofs.Openings.{opens}
+use Rattle.bus_pageslot.proofs.seating.bus_table.Goals as goal
+
+pub new-requires : goal.new-requires
+new-requires g c =
+    let P = g.S.Seatable.process in
+    let A = g.S.Seatable.automaton c.args.shape in
+    let L = c.is_lawful.ensures.automaton c.args.shape in
+    let many = c.log_at.result + c.args.shape.log_words in
+    let zeros : c.as_slice.result.now ≡ replicate many 0 = (first_of (search rules, grind (arith, common_steps))) in
+    let one : c.push.new.self.items ≡ Some new_page ∷ [] = (first_of (search rules, grind (arith, common_steps))) in
+    subst (λ (xs : List (Option Page)). TableInvariant P A (opening c.as_slice.result.now xs (Maker (A.started 0)))) (sym one)
+    (opens P A L (c.is_lawful.ensures.opens c.args.shape c.requires) c.as_slice.result.now (zeros ∙ ap (λ n. replicate n 0) c.log_at.ensures.words))
