@@ -1,5 +1,5 @@
 pub mod Pins
-pub mod Reclaims
+pub mod Reclaimers
 pub mod Reclamation
 pub mod Standing
 pub mod Rows
