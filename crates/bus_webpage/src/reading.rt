@@ -1,0 +1,212 @@
+//! What a page makes of its rows: the script's first part.
+
+/// Reads the rows and the script, and finds what stands in a word after any step.
+pub const READING: &str = r#"'use strict';
+// ---- What was embedded: the lines of the trace, and the script in hexadecimal digits.
+
+const COLUMNS = ['number', 'line', 'who', 'tenure', 'kind', 'word', 'found', 'after', 'answer'];
+
+function textOf(id) {
+    return document.getElementById(id).textContent;
+}
+
+// The lines of the script; bytes that are no text show as a replacement sign.
+function scriptLines() {
+    const digits = textOf('script-bytes');
+    const bytes = new Uint8Array(digits.length / 2);
+    for (let at = 0; at < bytes.length; at += 1) {
+        bytes[at] = parseInt(digits.substr(2 * at, 2), 16);
+    }
+    const lines = new TextDecoder().decode(bytes).split('\n');
+    if (lines[lines.length - 1] === '') lines.pop();
+    return lines;
+}
+
+// The rows of the trace. A line that is no row is the refusal, which ends a trace.
+function readRows() {
+    const read = {rows: [], refusal: ''};
+    for (const line of textOf('rows').split('\n').slice(1)) {
+        const part = line.split('\t');
+        if (part.length === COLUMNS.length) {
+            const row = {};
+            COLUMNS.forEach((name, at) => { row[name] = part[at]; });
+            read.rows.push(row);
+        } else if (line !== '') {
+            read.refusal = line;
+        }
+    }
+    return read;
+}
+
+// The bus that the script asks for: its first line that is neither empty nor a comment.
+function readShape(lines) {
+    const first = lines.find((line) => line !== '' && !line.startsWith('#')) || '';
+    const part = first.split(' ');
+    if (part.length !== 6 || (part[0] !== 'shape' && part[0] !== 'cycle')) return null;
+    const [senders, receivers, rounds, rows, log] = part.slice(1).map(Number);
+    const bits = Math.ceil(Math.log2(senders));
+    return {cyclic: part[0] === 'cycle', senders, receivers, rounds, rows, log, bits};
+}
+
+// Which word a name of the trace means.
+function placeOf(name) {
+    const part = name.split(' ');
+    if (part[0] === 'presence') return {is: 'presence', of: +part[1]};
+    if (part[0] === 'log') return {is: 'log', at: +part[1]};
+    if (part[0] !== 'row') return {is: part[0]};
+    const row = +part[1];
+    if (part[2] === 'announcement') return {is: 'announcement', row, of: +part[3]};
+    const bit = +part[3];
+    if (part[4] === 'fallback') return {is: 'fallback', row, bit};
+    const place = {is: part[6], row, bit, round: +part[5]};
+    if (part.length > 7) place.of = +part[7];
+    return place;
+}
+
+// Whether the step of a row put a value into its word.
+function stores(row) {
+    if (row.word === '-') return false;
+    const {does} = KINDS[row.kind] || UNKNOWN;
+    return does === 'exchange' ? row.found !== row.after : does !== 'load';
+}
+
+// How many of these rising numbers are at most this one.
+function countUpTo(list, most) {
+    let low = 0;
+    let high = list.length;
+    while (low < high) {
+        const middle = (low + high) >> 1;
+        if (list[middle] <= most) low = middle + 1; else high = middle;
+    }
+    return low;
+}
+
+// All that is looked up while stepping. Steps count from 1, and step 0 is before the first. Each
+// word has the steps that stored in it, so what stands there after any step is found at once.
+function readPage() {
+    const lines = scriptLines();
+    const shape = readShape(lines);
+    const page = {
+        ...readRows(), lines, shape, words: new Map(), processes: new Map(), takes: new Map(),
+        firstOfLine: new Map(), log: [], logStores: [], touched: new Set(),
+    };
+    if (shape && page.rows.length) {
+        for (let s = 0; s < shape.senders; s += 1) processOf(page, 'sender ' + s);
+        for (let r = 0; r < shape.receivers; r += 1) processOf(page, 'receiver ' + r);
+    }
+    page.rows.forEach((row, at) => noteRow(page, row, at + 1));
+    page.roles = rolesOf(page);
+    return page;
+}
+
+function processOf(page, who) {
+    if (!page.processes.has(who)) {
+        const [seat, number] = who.split(' ');
+        page.processes.set(who, {
+            who, seat, number: +number, steps: [], puts: [], given: [], delivered: [], stops: [],
+        });
+    }
+    return page.processes.get(who);
+}
+
+function wordOf(page, name) {
+    if (!page.words.has(name)) {
+        page.words.set(name, {name, place: placeOf(name), stores: []});
+    }
+    return page.words.get(name);
+}
+
+function noteRow(page, row, step) {
+    const process = processOf(page, row.who);
+    process.steps.push(step);
+    if (row.kind === 'put') process.puts.push(step);
+    if (row.kind === 'stop') process.stops.push(step);
+    if (row.answer.startsWith('item ')) process.given.push(step);
+    if (row.answer.startsWith('delivered ')) process.delivered.push(step);
+    if (row.kind === 'TakePage') page.takes.set(row.tenure, step);
+    if (!page.firstOfLine.has(+row.line)) page.firstOfLine.set(+row.line, step);
+    if (row.word === '-') return;
+    const word = wordOf(page, row.word);
+    if (word.place.row !== undefined) page.touched.add(word.place.row);
+    if (word.place.is === 'log') page.log[word.place.at] = word;
+    if (!stores(row)) return;
+    word.stores.push(step);
+    if (word.place.is === 'log' || word.place.is === 'length') page.logStores.push(step);
+}
+
+// The step that stored what stands in a word after this step, or 0 where nobody has.
+function storedBy(word, step) {
+    const count = countUpTo(word.stores, step);
+    return count ? word.stores[count - 1] : 0;
+}
+
+// What stands in a word after this step. All words begin at 0.
+function valueAt(page, word, step) {
+    const by = storedBy(word, step);
+    return by ? page.rows[by - 1].after : '0';
+}
+
+// ---- The log: words that begin frames tell what the words behind them are.
+const SIXTY_TWO = BigInt(62);
+
+function bitsOf(word, from, count) {
+    return Number((word >> BigInt(from)) & ((BigInt(1) << BigInt(count)) - BigInt(1)));
+}
+
+function headOf(word) {
+    if (Number(word >> SIXTY_TWO) !== 1) return null;
+    const count = bitsOf(word, 48, 6) * 256 + bitsOf(word, 40, 8);
+    return {owner: bitsOf(word, 54, 8), count, tenure: bitsOf(word, 0, 40)};
+}
+
+function messageOf(word) {
+    if (Number(word >> SIXTY_TWO) !== 2) return null;
+    const number = bitsOf(word, 40, 8) * 2 ** 40 + bitsOf(word, 0, 40);
+    return {bytes: bitsOf(word, 54, 8), number};
+}
+
+// What each log word is, by what stands in the log at the end of the trace.
+function rolesOf(page) {
+    const roles = [];
+    const last = page.rows.length;
+    const final = (at) => (page.log[at] ? BigInt(valueAt(page, page.log[at], last)) : BigInt(0));
+    let at = 0;
+    while (at < page.log.length) {
+        const head = headOf(final(at));
+        roles[at] = {is: head ? 'head' : 'other'};
+        at += 1;
+        if (head) at = framed(page, roles, final, at, at + head.count, head.owner);
+    }
+    return roles;
+}
+
+// Of the words of a frame behind its head, up to where it ends.
+function framed(page, roles, final, from, end, owner) {
+    let at = from;
+    while (at < end && at < page.log.length) {
+        const message = messageOf(final(at));
+        roles[at] = {is: message ? 'message' : 'end', owner};
+        const first = at;
+        at += 1;
+        const data = message ? Math.ceil(message.bytes / 8) : 0;
+        for (let place = 0; place < data; place += 1) {
+            roles[at] = {is: 'bytes', of: first, place};
+            at += 1;
+        }
+    }
+    return end;
+}
+
+// The bytes of a message after a step, as far as they stand there.
+function bytesAt(page, at, step) {
+    const word = page.log[at];
+    const message = word && messageOf(BigInt(valueAt(page, word, step)));
+    const bytes = [];
+    for (let place = 0; message && place < message.bytes; place += 1) {
+        const data = page.log[at + 1 + (place >> 3)];
+        if (!data || !storedBy(data, step)) return null;
+        bytes.push(bitsOf(BigInt(valueAt(page, data, step)), 56 - 8 * (place & 7), 8));
+    }
+    return message ? bytes : null;
+}
+"#;
