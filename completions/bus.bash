@@ -29,7 +29,7 @@ _bus() {
         case "$command" in
         "") names="-h --help -V --version" ;;
         ratify | replay) names="-h --help" ;;
-        trace) names="--svg -h --help" ;;
+        trace) names="--svg --html -h --help" ;;
         run) names="--senders --receivers --messages --seed --log -h --help" ;;
         log) names="--senders -h --help" ;;
         esac

@@ -6,7 +6,7 @@ use bus_register::limits::{MOST_RECEIVERS, MOST_SENDERS};
 use bus_run::limits::MOST_MESSAGES_EACH;
 use clap::builder::ValueParser;
 use clap::{Arg, ArgAction, ArgMatches, Command, Error, value_parser};
-use std::alloc::Global;
+use std::alloc::{AllocError, Global};
 
 /// What the program is asked to do.
 #[derive(Clone, Copy, Debug, PartialEq, Eq)]
@@ -17,6 +17,8 @@ pub enum Task {
     Trace,
     /// Of the steps of a script, their picture.
     Picture,
+    /// Of a script and its steps, the web page.
+    Webpage,
     /// Of a run, its summary.
     Run(Request),
     /// Of a run, its log.
@@ -39,7 +41,8 @@ fn bus_command<'a>(alloc: Global) -> Result<Command<'a>, Error> {
         .about("Shows each step of a bus that a script on standard input moves")
         .override_usage(help::TRACE_USAGE)
         .after_help(help::TRACE)
-        .arg(svg_flag(alloc))?;
+        .arg(svg_flag(alloc))?
+        .arg(html_flag(alloc)?)?;
     let bus = Command::new(alloc, "bus")
         .bin_name("bus")?
         .version(help::VERSION)
@@ -63,6 +66,7 @@ pub fn parse<'a>(alloc: Global, words: &'a [String]) -> Result<Task, Error> {
     match matches.subcommand() {
         Some(("replay", _)) => Ok(Task::Replay),
         Some(("trace", given)) if given.get_flag("svg") => Ok(Task::Picture),
+        Some(("trace", given)) if given.get_flag("html") => Ok(Task::Webpage),
         Some(("trace", _)) => Ok(Task::Trace),
         Some(("run", given)) if given.get_flag("log") => Ok(Task::RunLog(request_of(given))),
         Some(("run", given)) => Ok(Task::Run(request_of(given))),
@@ -117,6 +121,15 @@ fn svg_flag<'a>(alloc: Global) -> Arg<'a> {
         .long("svg")
         .action(ArgAction::SetTrue)
         .help("Write a picture of the steps, as SVG, in place of the lines")
+}
+
+/// The option of `trace` that asks for a web page.
+fn html_flag<'a>(alloc: Global) -> Result<Arg<'a>, AllocError> {
+    Arg::new(alloc, "html")
+        .long("html")
+        .action(ArgAction::SetTrue)
+        .help("Write a web page that goes through the steps, in place of the lines")
+        .conflicts_with("svg")
 }
 
 /// An option that has a number.

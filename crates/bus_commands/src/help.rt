@@ -61,8 +61,9 @@ number, script line, who, tenure, kind, word, found, after, and the answer.
 Examples:
   bus trace < examples/tour/3_late_sender.script
   bus trace --svg < examples/tour/3_late_sender.script > steps.svg
+  bus trace --html < examples/tour/3_late_sender.script > steps.html
 
-The columns and the picture stand in docs/FORMATS.md, under 'trace'.";
+The columns, the picture and the web page stand in docs/FORMATS.md, under 'trace'.";
 
 /// Behind the options of `run`.
 pub const RUN: &str = "It reads nothing. The order of the messages may differ from run to run.

@@ -24,3 +24,4 @@ pub mod ratify;
 pub mod replay;
 pub mod streams;
 pub mod trace;
+pub mod webpage;

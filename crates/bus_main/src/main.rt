@@ -1,6 +1,7 @@
 //! The program `bus`. `bus ratify`, `bus replay` and `bus trace` read a script from standard input
-//! and write its answer to standard output, `bus trace --svg` a picture of it, and `bus log` the
-//! words of a log. `bus run` lets threads share a bus, and writes what came of it.
+//! and write its answer to standard output, `bus trace --svg` a picture of it, `bus trace --html` a
+//! web page that steps through it, and `bus log` the words of a log. `bus run` lets threads share a
+//! bus, and writes what came of it.
 //!
 //! Exit status: 0 where the script was played, the log was told or the bus was run; 1 where a
 //! script or a log was refused, or the program could not do its work, which standard error then
@@ -15,6 +16,7 @@ use bus_commands::printing::{print_log, print_run};
 use bus_commands::ratify::ratify;
 use bus_commands::replay::replay;
 use bus_commands::trace::trace;
+use bus_commands::webpage::webpage;
 use bus_run::RunFault;
 use bus_script::{Answer, Outcome};
 use clap::error::ErrorKind;
@@ -68,9 +70,13 @@ fn do_task<R: AllocGlobal + Input + Print + Eprint + Threads + Wait + Sync>(
             rt,
             trace::<ThreeWord, _, _>(rt.alloc(), &mut rt.reader(), &mut io::writer(rt)),
         ),
-        Task::Picture => end_picture(
+        Task::Picture => end_drawn(
             rt,
             picture::<ThreeWord, _, _>(rt.alloc(), &mut rt.reader(), &mut io::writer(rt)),
+        ),
+        Task::Webpage => end_drawn(
+            rt,
+            webpage::<ThreeWord, _, _>(rt.alloc(), &mut rt.reader(), &mut io::writer(rt)),
         ),
         Task::Log { senders } => end(
             rt,
@@ -86,9 +92,9 @@ fn given_words<R: AllocGlobal + Env>(rt: &R) -> io::Result<Vec<String>> {
     Ok(env::args(rt)?.collect(rt.alloc())?)
 }
 
-/// Says where a script was refused of which a picture was written, or what kept the program from
-/// that, and gives the exit status.
-fn end_picture<R: Eprint>(rt: &R, ended: Result<Answer, RunFault>) -> ExitCode {
+/// Says where a script was refused of which a picture or a web page was written, or what kept the
+/// program from that, and gives the exit status.
+fn end_drawn<R: Eprint>(rt: &R, ended: Result<Answer, RunFault>) -> ExitCode {
     match ended {
         Ok(answer) => {
             if answer.outcome == Outcome::Refused
