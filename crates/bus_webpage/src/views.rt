@@ -207,7 +207,7 @@ function showStep() {
     write(at('where'), row ? 'Step ' + view.step + ' of ' + total + ', line ' + row.line +
         ' of the script' : 'Before the first of ' + total + ' steps');
     write(at('told'), row ? told(page, row) : 'Nothing has happened yet: all words are 0.');
-    write(at('means'), row ? follows(page, row) : '');
+    write(at('means'), row ? follows(page, row) || spelled(row) : '');
     write(at('why'), !row ? 'The right arrow takes the first step.' :
         saidKind(row) + ': ' + (KINDS[row.kind] || UNKNOWN).why);
     write(at('answer'), row ? 'Answer: ' + row.answer + ' \u2013 ' + saidAnswer(row.answer) : '');
@@ -216,6 +216,12 @@ function showStep() {
     write(at('numbers'), row && row.word !== '-' ?
         row.word + ': found ' + row.found + ', after ' + row.after : '');
     showFrom(row);
+}
+
+// What a word of the log is.
+function spelled(row) {
+    const place = placeOf(row.word);
+    return place.is === 'log' ? 'It spells: ' + saidWord(place.at, BigInt(row.after)) + '.' : '';
 }
 
 // Who stored what the step found.
@@ -485,12 +491,12 @@ function saidWord(index, value) {
     const role = page.roles[index] || {is: 'other'};
     const head = role.is === 'head' && headOf(value);
     if (head) {
-        return 'frame: tenure ' + head.tenure + ', sender ' + head.owner + ', ' +
+        return 'head, tenure ' + head.tenure + ', sender ' + head.owner + ', ' +
             counted(head.count, 'word');
     }
     const message = role.is === 'message' && messageOf(value);
     if (message) return saidMessage(index, role.owner, message);
-    if (role.is === 'bytes') return 'bytes of the message';
+    if (role.is === 'bytes') return 'bytes of that message';
     return role.is === 'end' ? 'end of the order' : 'no word of a frame';
 }
 
@@ -516,6 +522,7 @@ function logList() {
             if (now.is === 'log') list.reveal(now.at);
             else if (list.length !== lengthNow()) list.reveal(Math.max(0, lengthNow() - 1));
             list.length = lengthNow();
+            write(at('log-title'), 'Log, ' + counted(list.length, 'word') + ' published');
             if (list.state !== state || now.is === 'log' || list.wasNow) list.show(true);
             list.state = state;
             list.wasNow = now.is === 'log';
