@@ -5,6 +5,7 @@ mod replay;
 mod run;
 mod streams;
 mod tour;
+mod webpages;
 
 use self::replay::refuses;
 use self::streams::{FailingReader, FullWriter, StuckWriter};
@@ -147,6 +148,7 @@ fn tasks(rt: HostRuntime) {
     names_task(&rt, &["replay"], Task::Replay);
     names_task(&rt, &["trace"], Task::Trace);
     names_task(&rt, &["trace", "--svg"], Task::Picture);
+    names_task(&rt, &["trace", "--html"], Task::Webpage);
     names_task(&rt, &["run"], Task::Run(run));
     names_task(&rt, &["run", "--log"], Task::RunLog(run));
     names_task(&rt, &["log"], Task::Log { senders: 3 });
@@ -201,6 +203,9 @@ fn command_lines(rt: HostRuntime) {
     refuses_words(&rt, &["help"], ErrorKind::InvalidSubcommand);
     refuses_words(&rt, &["ratify", "x"], ErrorKind::UnknownArgument);
     refuses_words(&rt, &["replay", "x"], ErrorKind::UnknownArgument);
+    for rest in [["trace", "--svg", "--html"], ["trace", "--html", "--svg"]] {
+        refuses_words(&rt, &rest, ErrorKind::ArgumentConflict);
+    }
     for rest in [
         ["run", "--senders", "0"],
         ["run", "--senders", "9"],
