@@ -27,7 +27,11 @@ _bus() {
     esac
     if [[ "$word" == -* ]]; then
         case "$command" in
-        "") names="-h --help -V --version" ;;
+        "")
+            names="-h --help -V --version"
+            # The script at the top of the repository takes this word first.
+            if [[ "${COMP_WORDS[0]}" == */* && "$COMP_CWORD" -eq 1 ]]; then names+=" --unproved"; fi
+            ;;
         ratify | replay) names="-h --help" ;;
         trace) names="--svg --html -h --help" ;;
         run) names="--senders --receivers --messages --seed --log -h --help" ;;

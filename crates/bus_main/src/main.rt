@@ -3,10 +3,14 @@
 //! web page that steps through it, and `bus log` the words of a log. `bus run` lets threads share a
 //! bus, and writes what came of it.
 //!
+//! Where a script or a log was refused, standard error says why, as a hint.
+//!
 //! Exit status: 0 where the script was played, the log was told or the bus was run; 1 where a
 //! script or a log was refused, or the program could not do its work, which standard error then
 //! says; 2 where the command line was refused, or asked for help or the version.
 #![tactic(auto)]
+
+ghost use Rattle.std.specs.Prelude.{◌≤◌, ◌^◌};
 
 use bus_adoptcommit::ThreeWord;
 use bus_commands::command_line::{Task, parse};
@@ -15,11 +19,15 @@ use bus_commands::picture::picture;
 use bus_commands::printing::{print_log, print_run};
 use bus_commands::ratify::ratify;
 use bus_commands::replay::replay;
+use bus_commands::streams::{LOG_LIMIT, SCRIPT_LIMIT, read_whole};
 use bus_commands::trace::trace;
 use bus_commands::webpage::webpage;
+use bus_reasons::{Reads, reason_of};
+use bus_register::NoMemory;
 use bus_run::RunFault;
 use bus_script::{Answer, Outcome};
 use clap::error::ErrorKind;
+use std::alloc::Global;
 use std::process::ExitCode;
 use std::rt::Env;
 use std::sync::Wait;
@@ -58,32 +66,78 @@ fn do_task<R: AllocGlobal + Input + Print + Eprint + Threads + Wait + Sync>(
     task: Task,
 ) -> ExitCode {
     match task {
-        Task::Ratify => end(
-            rt,
-            ratify(rt.alloc(), &mut rt.reader(), &mut io::writer(rt)),
-        ),
-        Task::Replay => end(
-            rt,
-            replay::<ThreeWord, _, _>(rt.alloc(), &mut rt.reader(), &mut io::writer(rt)),
-        ),
-        Task::Trace => end(
-            rt,
-            trace::<ThreeWord, _, _>(rt.alloc(), &mut rt.reader(), &mut io::writer(rt)),
-        ),
-        Task::Picture => end_drawn(
-            rt,
-            picture::<ThreeWord, _, _>(rt.alloc(), &mut rt.reader(), &mut io::writer(rt)),
-        ),
-        Task::Webpage => end_drawn(
-            rt,
-            webpage::<ThreeWord, _, _>(rt.alloc(), &mut rt.reader(), &mut io::writer(rt)),
-        ),
-        Task::Log { senders } => end(
-            rt,
-            log(rt.alloc(), senders, &mut rt.reader(), &mut io::writer(rt)),
-        ),
+        Task::Ratify => do_reading(rt, task, Reads::Ratify, SCRIPT_LIMIT),
+        Task::Replay | Task::Trace | Task::Picture | Task::Webpage => {
+            do_reading(rt, task, Reads::Replay, SCRIPT_LIMIT)
+        }
+        Task::Log { senders } => do_reading(rt, task, Reads::Log { senders }, LOG_LIMIT),
         Task::RunLog(request) => end(rt, print_log(rt, rt.alloc(), request, &mut io::writer(rt))),
         Task::Run(request) => end(rt, print_run(rt, rt.alloc(), request, &mut io::writer(rt))),
+    }
+}
+
+/// Does a command that reads, over all of its input, says why that was refused where it was, and
+/// gives the exit status.
+fn do_reading<R: AllocGlobal + Input + Print + Eprint>(
+    rt: &R,
+    task: Task,
+    reads: Reads,
+    limit: usize,
+) -> ExitCode
+    requires { limit ≤ 2 ^ 32 }
+{
+    let input = match read_whole(rt.alloc(), &mut rt.reader(), limit) {
+        Ok(input) => input,
+        Err(fault) => return end(rt, Err(fault)),
+    };
+    let ended = answer(rt, task, input.as_slice());
+    if ended == Ok(Outcome::Refused) {
+        say_why(rt, reads, input.as_slice());
+    }
+    end(rt, ended)
+}
+
+/// Says why an input was refused. It is played once more, for the line that says where.
+fn say_why<R: AllocGlobal + Eprint>(rt: &R, reads: Reads, input: &[u8]) {
+    if let Ok(answer) = answer_again(rt.alloc(), reads, input)
+        && let Some(line) = answer.text.lines().last()
+        && let Ok(Some(reason)) = reason_of(rt.alloc(), reads, input, line.as_bytes())
+    {
+        let _ = eprintln!(rt; "bus: {reason}");
+    }
+}
+
+/// What a command answers to an input; of a trace, what `replay` does.
+fn answer_again(alloc: Global, reads: Reads, input: &[u8]) -> Result<Answer, NoMemory> {
+    match reads {
+        Reads::Ratify => bus_ratify::answer_to(alloc, input),
+        Reads::Replay => bus_replay::answer_to::<ThreeWord>(alloc, input),
+        Reads::Log { senders } => bus_logtext::read_log_text(alloc, input, senders),
+    }
+}
+
+/// Writes what a command that reads answers to its input.
+fn answer<R: AllocGlobal + Print + Eprint>(
+    rt: &R,
+    task: Task,
+    mut input: &[u8],
+) -> Result<Outcome, RunFault> {
+    let mut writer = io::writer(rt);
+    match task {
+        Task::Replay => replay::<ThreeWord, _, _>(rt.alloc(), &mut input, &mut writer),
+        Task::Trace => trace::<ThreeWord, _, _>(rt.alloc(), &mut input, &mut writer),
+        Task::Picture => {
+            let answer = picture::<ThreeWord, _, _>(rt.alloc(), &mut input, &mut writer)?;
+            say_where(rt, &answer);
+            Ok(answer.outcome)
+        }
+        Task::Webpage => {
+            let answer = webpage::<ThreeWord, _, _>(rt.alloc(), &mut input, &mut writer)?;
+            say_where(rt, &answer);
+            Ok(answer.outcome)
+        }
+        Task::Log { senders } => log(rt.alloc(), senders, &mut input, &mut writer),
+        _ => ratify(rt.alloc(), &mut input, &mut writer),
     }
 }
 
@@ -92,19 +146,12 @@ fn given_words<R: AllocGlobal + Env>(rt: &R) -> io::Result<Vec<String>> {
     Ok(env::args(rt)?.collect(rt.alloc())?)
 }
 
-/// Says where a script was refused of which a picture or a web page was written, or what kept the
-/// program from that, and gives the exit status.
-fn end_drawn<R: Eprint>(rt: &R, ended: Result<Answer, RunFault>) -> ExitCode {
-    match ended {
-        Ok(answer) => {
-            if answer.outcome == Outcome::Refused
-                && let Some(line) = answer.text.lines().last()
-            {
-                let _ = eprintln!(rt; "bus: {line}");
-            }
-            end(rt, Ok(answer.outcome))
-        }
-        Err(fault) => end(rt, Err(fault)),
+/// Says where a script was refused of which a picture or a web page was written.
+fn say_where<R: Eprint>(rt: &R, answer: &Answer) {
+    if answer.outcome == Outcome::Refused
+        && let Some(line) = answer.text.lines().last()
+    {
+        let _ = eprintln!(rt; "bus: {line}");
     }
 }
 

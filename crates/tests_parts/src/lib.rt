@@ -26,4 +26,6 @@ mod ratifiers;
 #[cfg(test)]
 mod ratify;
 #[cfg(test)]
+mod reasons;
+#[cfg(test)]
 mod scripts;
