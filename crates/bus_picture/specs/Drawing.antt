@@ -1,4 +1,4 @@
--- What is drawn of a row, over the rows above it: the head of its process, the band of its tenure, an arrow, a mark, its answer and what it did.
+-- What is drawn of a row: below, the head of its process, the band of its tenure and an arrow; above that a mark, its answer and what it did.
 use Rattle.std.specs.Prelude.{ℕ, List, [], ◌++◌, Option, Some, None, is_some, codes, slice_get, take, if◌then◌else◌}
 use Rattle.std.specs.Option.{option_and_then}
 use Rattle.std.specs.Str.{bytes_eq}
@@ -10,6 +10,7 @@ use Rattle.bus_picture.specs.Rows.{Shown, reads, writes}
 use Rattle.bus_picture.specs.Finding.{is_same, stores_in, stays, is_of, latest}
 use Rattle.bus_picture.specs.Places.{across, down, edge}
 use Rattle.bus_picture.specs.Shapes.{head_at, band_at, arrow_at, mark_at, number_at, words_at, words_end}
+use Rattle.bus_picture.specs.Values.{value_text}
 
 abbrev pub place_or : Option Found → ℕ → ℕ
 place_or None place = place
@@ -49,13 +50,19 @@ arrow_text c (Some f) place s = arrow_at (across c f.process) (down f.place) (ac
 abbrev pub mark_text : Columns → (place : ℕ) → Shown → List ℕ
 mark_text c place s = mark_at (across c s.process) (down place) (mark_name s.family) s.answer
 
+-- the word of a step, and what it found there
+abbrev pub found_text : Shown → List ℕ
+found_text s = codes " " ++ s.word ++ codes ": " ++ value_text s.word s.found
+
 -- the kind, and of a step its word, what it found there, and what it left if that is its own
 abbrev pub what_text : Shown → List ℕ
 what_text s =
-    s.kind ++ (if writes s then codes " " ++ s.word ++ codes ": " ++ s.found ++ codes " to " ++ s.after else
-    (if reads s then codes " " ++ s.word ++ codes ": " ++ s.found else []))
+    s.kind ++ (if writes s then found_text s ++ codes " to " ++ value_text s.word s.after else (if reads s then found_text s else []))
 
--- with the arrow from there
-abbrev pub row_text : Columns → (rows above : List Shown) → Option Found → (place : ℕ) → Shown → List ℕ
-row_text c rows above source place s =
-    head_text c rows above place s ++ band_text c rows above place s ++ arrow_text c source place s ++ mark_text c place s ++ number_at (down place) s.number ++ words_at (edge c) (down place) ++ what_text s ++ words_end
+-- what lies below the marks and texts of all rows, with the arrow from there
+abbrev pub under_text : Columns → (rows above : List Shown) → Option Found → (place : ℕ) → Shown → List ℕ
+under_text c rows above source place s = head_text c rows above place s ++ band_text c rows above place s ++ arrow_text c source place s
+
+-- the mark and the texts
+abbrev pub over_text : Columns → (place : ℕ) → Shown → List ℕ
+over_text c place s = mark_text c place s ++ number_at (down place) s.number ++ words_at (edge c) (down place) ++ what_text s ++ words_end

@@ -6,6 +6,7 @@ pub mod Places
 pub mod Arrows
 pub mod Drawing
 pub mod Shapes
+pub mod Values
 pub mod Pictures
 pub mod Refusals
 pub mod AllLines

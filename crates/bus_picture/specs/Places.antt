@@ -24,7 +24,7 @@ across c (Receiver n) = 60 + 130 * (c.senders + n)
 
 -- from the top: time goes downwards
 abbrev pub down : ℕ → ℕ
-down place = 110 + 18 * place
+down place = 150 + 18 * place
 
 -- from the left: where the columns end
 abbrev pub edge : Columns → ℕ

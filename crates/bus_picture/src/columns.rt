@@ -71,7 +71,7 @@ pub fn across(columns: Columns, process: Process) -> u64
 pub fn down(place: u32) -> u64
     ensures { result ≡ down place }
 {
-    110 + 18 * u64::from(place)
+    150 + 18 * u64::from(place)
 }
 
 /// How far from the left the words beside the columns stand, in units of the picture.

@@ -5,7 +5,8 @@ ghost use Rattle.bus_picture.specs.Rows.{row_shown};
 ghost use Rattle.bus_picture.specs.Places.{edge, down};
 ghost use Rattle.bus_picture.specs.Shapes.{number_at, words_at};
 ghost use Rattle.bus_picture.specs.Drawing.{of_another, source_of, place_or, head_text};
-ghost use Rattle.bus_picture.specs.Drawing.{band_text, arrow_text, mark_text, what_text, row_text};
+ghost use Rattle.bus_picture.specs.Drawing.{band_text, arrow_text, mark_text, found_text};
+ghost use Rattle.bus_picture.specs.Drawing.{what_text, under_text, over_text};
 
 use crate::columns::{Columns, across, down, edge};
 use crate::finding::{Found, Wanted, is_same, latest};
@@ -14,7 +15,8 @@ use crate::rows::{Row, reads, writes};
 use crate::shapes::{
     push_arrow_at, push_band_at, push_head_at, push_mark_at, push_number_at, push_words_at,
 };
-use std::alloc::AllocError;
+use crate::values::push_value;
+use std::alloc::{AllocError, Global};
 
 /// What was found, where that is another process's.
 fn of_another(process: Process, found: Option<Found>) -> Option<Found>
@@ -159,22 +161,33 @@ fn push_beside(text: &mut String, columns: Columns, place: u32) -> Result<(), Al
 
 /// Puts what a row did at the end of a text: its kind, and of a step its word, what it found there
 /// and what it left.
-fn push_what(text: &mut String, row: &Row<'_>) -> Result<(), AllocError>
+fn push_what(alloc: Global, text: &mut String, row: &Row<'_>) -> Result<(), AllocError>
     ensures { OnOk result (string_bytes text.new ≡ string_bytes text.old
         ++ what_text (row_shown row.now)) }
 {
     text.push_str(row.kind)?;
     if writes(row) {
-        write!(text, " {}: {} to {}", row.word, row.found, row.after)
+        push_found(alloc, text, row)?;
+        text.push_str(" to ")?;
+        push_value(alloc, text, row.word, row.after)
     } else if reads(row) {
-        write!(text, " {}: {}", row.word, row.found)
+        push_found(alloc, text, row)
     } else {
         Ok(())
     }
 }
 
-/// Draws a row of the rows, with so many of them above it.
-pub fn push_row(
+/// Puts the word of a step and what it found there at the end of a text.
+fn push_found(alloc: Global, text: &mut String, row: &Row<'_>) -> Result<(), AllocError>
+    ensures { OnOk result (string_bytes text.new ≡ string_bytes text.old
+        ++ found_text (row_shown row.now)) }
+{
+    write!(text, " {}: ", row.word)?;
+    push_value(alloc, text, row.word, row.found)
+}
+
+/// Draws what lies below of a row of the rows, with so many of them above it.
+pub fn push_under(
     text: &mut String,
     columns: Columns,
     rows: &[Row<'_>],
@@ -185,16 +198,30 @@ pub fn push_row(
     requires rows { length rows.now < 2 ^ 32 }
     requires above { length above.now < 2 ^ 32 }
     ensures { OnOk result (string_bytes text.new ≡ string_bytes text.old
-        ++ row_text columns (map row_shown rows.now) (map row_shown above.now)
+        ++ under_text columns (map row_shown rows.now) (map row_shown above.now)
         (source_of (map row_shown above.now) (row_shown row.now)) place (row_shown row.now)) }
 {
     push_head(text, columns, rows, above, place, row)?;
     push_band(text, columns, rows, above, place, row)?;
     push_arrow(text, columns, above, place, row)?;
+    Ok(())
+}
+
+/// Draws the mark and the texts of a row.
+pub fn push_over(
+    alloc: Global,
+    text: &mut String,
+    columns: Columns,
+    place: u32,
+    row: &Row<'_>,
+) -> Result<(), AllocError>
+    ensures { OnOk result (string_bytes text.new ≡ string_bytes text.old
+        ++ over_text columns place (row_shown row.now)) }
+{
     push_mark(text, columns, place, row)?;
     push_number(text, place, row)?;
     push_beside(text, columns, place)?;
-    push_what(text, row)?;
+    push_what(alloc, text, row)?;
     text.push_str("</text>\n")?;
     Ok(())
 }

@@ -21,5 +21,6 @@ pub mod pictures;
 pub mod processes;
 pub mod rows;
 pub mod shapes;
+pub mod values;
 
 pub use pictures::picture_of;

@@ -3,10 +3,11 @@
 ghost use Rattle.std.specs.Prelude.{◌≡◌, ◌++◌, ◌<◌, ◌^◌, IfOk, OnOk, length, map, string_bytes};
 ghost use Rattle.bus_picture.specs.Rows.{row_shown};
 ghost use Rattle.bus_picture.specs.Drawing.{arrows_of};
-ghost use Rattle.bus_picture.specs.Pictures.{opening, styles, rows_text, picture_of_rows, picture};
+ghost use Rattle.bus_picture.specs.Pictures.{opening, styles, unders_text, overs_text};
+ghost use Rattle.bus_picture.specs.Pictures.{picture_of_rows, picture};
 
 use crate::columns::{Columns, columns_of, down, edge};
-use crate::drawing::push_row;
+use crate::drawing::{push_over, push_under};
 use crate::rows::{Row, rows_of};
 use crate::shapes::push_size;
 use std::alloc::{AllocError, Global};
@@ -18,16 +19,19 @@ fn push_opening(text: &mut String, columns: Columns, place: u32) -> Result<(), A
     push_size(text, edge(columns) + 440, down(place))
 }
 
-/// Puts how shapes look, and what they say, at the end of a text.
+/// Puts the title, how shapes look, the ground and what they say at the end of a text.
 fn push_styles(text: &mut String) -> Result<(), AllocError>
     ensures { OnOk result (string_bytes text.new ≡ string_bytes text.old ++ styles) }
 {
     text.push_str(
-        "<style>.life{stroke:#999;stroke-dasharray:2 3}\
+        "<title>The steps of a bus, time downwards</title>\n\
+        <style>text{paint-order:stroke;stroke:#fff;stroke-width:3px;stroke-linejoin:round}\
+        .life{stroke:#999;stroke-dasharray:2 3}\
         .band{stroke:#ddd;stroke-width:18;stroke-linecap:square}\
         .arrow{stroke:#06c;marker-end:url(#tip)}.head{font-weight:bold;text-anchor:middle}\
         .tenure{font-size:9px;text-anchor:end}</style>\n\
-        <defs><marker id='tip' viewBox='0 0 8 8' refX='14' refY='4' markerWidth='8' \
+        <defs>\
+        <marker id='tip' viewBox='0 0 8 8' refX='14' refY='4' markerWidth='8' \
         markerHeight='8' orient='auto'><path d='M0 0L8 4L0 8z' fill='#06c'/></marker>\n\
         <circle id='look' r='5' fill='#fff' stroke='#06c' stroke-width='2'/>\
         <rect id='store' x='-5' y='-5' width='10' height='10' fill='#a50'/>\n\
@@ -36,31 +40,52 @@ fn push_styles(text: &mut String) -> Result<(), AllocError>
         <path id='page' d='M0 -9L2 -2L9 0L2 2L0 9L-2 2L-9 0L-2 -2z' fill='#c00'/>\n\
         <path id='call' d='M-4 -4L4 4M-4 4L4 -4' stroke='#000' stroke-width='2'/>\
         <path id='nothing' d='M-4 0H4' stroke='#000' stroke-width='2'/></defs>\n\
-        <use href='#look' x='16' y='18'/><text x='28' y='22'>load</text>\
-        <use href='#store' x='76' y='18'/><text x='88' y='22'>store</text>\
-        <use href='#add' x='138' y='18'/><text x='150' y='22'>add</text>\n\
-        <use href='#exchange' x='192' y='18'/><text x='204' y='22'>compare_exchange</text>\
-        <use href='#page' x='330' y='18'/>\
-        <text x='344' y='22'>stores the stage: takes the page, gives it back</text>\n\
-        <use href='#call' x='16' y='42'/><text x='28' y='46'>call</text>\
-        <use href='#nothing' x='76' y='42'/><text x='88' y='46'>no step</text>\
-        <path class='band' d='M150 42H160'/><text x='176' y='46'>in a tenure, with its number\
+        <rect width='100%' height='100%' fill='#fff'/>\
+        <text x='8' y='20' font-size='14' font-weight='bold'>The steps of a bus, time \
+        downwards</text>\n\
+        <use href='#look' x='16' y='42'/><text x='28' y='46'>load</text>\
+        <use href='#store' x='76' y='42'/><text x='88' y='46'>store</text>\
+        <use href='#add' x='138' y='42'/><text x='150' y='46'>add</text>\
+        <use href='#exchange' x='192' y='42'/><text x='204' y='46'>compare_exchange</text>\n\
+        <use href='#call' x='330' y='42'/><text x='342' y='46'>call</text>\
+        <use href='#nothing' x='390' y='42'/><text x='402' y='46'>no step</text>\n\
+        <use href='#page' x='16' y='64'/>\
+        <text x='30' y='68'>stores the stage: takes the page, gives it back</text>\
+        <path class='band' d='M324 64H334'/><text x='350' y='68'>in a tenure, its number\
         </text>\n\
-        <path class='arrow' d='M344 42H376'/>\
-        <text x='382' y='46'>from a store to a load of another process that found it</text>\n",
+        <path class='arrow' d='M8 86H40'/>\
+        <text x='46' y='90'>from a store to a load of another process that found it</text>\
+        <text x='350' y='90'>no answer: going</text>\n",
     )?;
     Ok(())
 }
 
-/// Draws all rows.
-fn push_rows(text: &mut String, columns: Columns, rows: &[Row<'_>]) -> Result<(), AllocError>
+/// Draws what lies below of all rows.
+fn push_unders(text: &mut String, columns: Columns, rows: &[Row<'_>]) -> Result<(), AllocError>
     requires { length rows.now < 2 ^ 32 }
     ensures { OnOk result (string_bytes text.new ≡ string_bytes text.old
-        ++ rows_text columns (map row_shown rows.now) (arrows_of (map row_shown rows.now)) 0
+        ++ unders_text columns (map row_shown rows.now) (arrows_of (map row_shown rows.now)) 0
         (map row_shown rows.now)) }
 {
     for (place, row) in rows.iter().enumerate() {
-        push_row(text, columns, rows, &rows[..place], place as u32, row)?;
+        push_under(text, columns, rows, &rows[..place], place as u32, row)?;
+    }
+    Ok(())
+}
+
+/// Draws the marks and texts of all rows.
+fn push_overs(
+    alloc: Global,
+    text: &mut String,
+    columns: Columns,
+    rows: &[Row<'_>],
+) -> Result<(), AllocError>
+    requires { length rows.now < 2 ^ 32 }
+    ensures { OnOk result (string_bytes text.new ≡ string_bytes text.old
+        ++ overs_text columns 0 (map row_shown rows.now)) }
+{
+    for (place, row) in rows.iter().enumerate() {
+        push_over(alloc, text, columns, place as u32, row)?;
     }
     Ok(())
 }
@@ -75,7 +100,8 @@ fn drawn(alloc: Global, rows: &[Row<'_>]) -> Result<String, AllocError>
     let mut text = String::new(alloc);
     push_opening(&mut text, columns, rows.len() as u32)?;
     push_styles(&mut text)?;
-    push_rows(&mut text, columns, rows)?;
+    push_unders(&mut text, columns, rows)?;
+    push_overs(alloc, &mut text, columns, rows)?;
     text.push_str("</svg>\n")?;
     Ok(text)
 }

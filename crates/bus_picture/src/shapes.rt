@@ -2,7 +2,8 @@
 
 ghost use Rattle.std.specs.Prelude.{◌≡◌, ◌++◌, OnOk, string_bytes};
 ghost use Rattle.bus_picture.specs.Shapes.{point, at, down_to, text_body, use_of, head_at, band_at};
-ghost use Rattle.bus_picture.specs.Shapes.{arrow_at, mark_at, number_at, words_at, size};
+ghost use Rattle.bus_picture.specs.Shapes.{arrow_at, beside_at, answer_at, mark_at, number_at};
+ghost use Rattle.bus_picture.specs.Shapes.{words_at, extent, size};
 
 use std::alloc::AllocError;
 
@@ -47,10 +48,10 @@ pub fn push_head_at(text: &mut String, x: u64, bottom: u64, who: &str) -> Result
         (string_bytes text.new ≡ string_bytes text.old ++ head_at x bottom who.now) }
 {
     text.push_str("<path class='life' d='M")?;
-    push_point(text, x, 92)?;
+    push_point(text, x, 132)?;
     push_down_to(text, bottom)?;
     text.push_str("<text class='head'")?;
-    push_at(text, x, 84)?;
+    push_at(text, x, 124)?;
     push_said(text, who)?;
     Ok(())
 }
@@ -94,6 +95,29 @@ pub fn push_arrow_at(
     Ok(())
 }
 
+/// A text beside a mark.
+fn push_beside_at(text: &mut String, x: u64, y: u64, words: &str) -> Result<(), AllocError>
+    ensures { OnOk result
+        (string_bytes text.new ≡ string_bytes text.old ++ beside_at x y words.now) }
+{
+    text.push_str("<text dx='14' dy='4'")?;
+    push_at(text, x, y)?;
+    push_said(text, words)?;
+    Ok(())
+}
+
+/// An answer beside its mark; that a turn is going is left out.
+fn push_answer_at(text: &mut String, x: u64, y: u64, answer: &str) -> Result<(), AllocError>
+    ensures { OnOk result
+        (string_bytes text.new ≡ string_bytes text.old ++ answer_at x y answer.now) }
+{
+    if answer == "going" {
+        text.push_str("\n")
+    } else {
+        push_beside_at(text, x, y, answer)
+    }
+}
+
 /// A mark, and the answer beside it.
 pub fn push_mark_at(
     text: &mut String,
@@ -107,9 +131,8 @@ pub fn push_mark_at(
 {
     push_use(text, mark)?;
     push_at(text, x, y)?;
-    text.push_str("/><text dx='14' dy='4'")?;
-    push_at(text, x, y)?;
-    push_said(text, answer)?;
+    text.push_str("/>")?;
+    push_answer_at(text, x, y, answer)?;
     Ok(())
 }
 
@@ -134,14 +157,22 @@ pub fn push_words_at(text: &mut String, x: u64, y: u64) -> Result<(), AllocError
     Ok(())
 }
 
+/// How wide and how high a picture is shown.
+fn push_extent(text: &mut String, width: u64, height: u64) -> Result<(), AllocError>
+    ensures { OnOk result (string_bytes text.new ≡ string_bytes text.old ++ extent width height) }
+{
+    write!(text, " width='{width}' height='{height}'")
+}
+
 /// The beginning of a picture that is so wide and so high.
 pub fn push_size(text: &mut String, width: u64, height: u64) -> Result<(), AllocError>
     ensures { OnOk result (string_bytes text.new ≡ string_bytes text.old ++ size width height) }
 {
     text.push_str(
-        "<svg xmlns='http://www.w3.org/2000/svg' font-family='sans-serif' font-size='11' \
-        viewBox='0 0 ",
+        "<svg xmlns='http://www.w3.org/2000/svg' font-family='sans-serif' font-size='11'",
     )?;
+    push_extent(text, width, height)?;
+    text.push_str(" viewBox='0 0 ")?;
     push_point(text, width, height)?;
     text.push_str("'>\n")?;
     Ok(())

@@ -12,28 +12,60 @@ fn a_store_and_a_load_of_it(rt: HostRuntime) {
     let text = picture_of(rt.alloc(), trace).expect(&rt, "memory");
     let behind = text
         .as_str()
-        .split_once("found it</text>\n")
+        .split_once("no answer: going</text>\n")
         .expect(&rt, "the key");
     assert_eq!(rt;
         behind.1,
         "\
-        <path class='life' d='M60 92V110'/><text class='head' x='60' y='84'>sender 0</text>\n\
-        <path class='band' d='M60 110V110'/>\
-        <text class='tenure' dx='-12' dy='4' x='60' y='110'>3</text>\n\
-        <use href='#store' x='60' y='110'/><text dx='14' dy='4' x='60' y='110'>going</text>\n\
-        <text dy='4' x='8' y='110'>1</text>\n\
-        <text dy='4' x='450' y='110'>StoreLength length: 0 to 5</text>\n\
-        <path class='life' d='M320 92V128'/><text class='head' x='320' y='84'>receiver 1</text>\n\
-        <path class='arrow' d='M60 110L320 128'/>\n\
-        <use href='#look' x='320' y='128'/><text dx='14' dy='4' x='320' y='128'>going</text>\n\
-        <text dy='4' x='8' y='128'>2</text>\n\
-        <text dy='4' x='450' y='128'>LoadLength length: 5</text>\n\
+        <path class='life' d='M60 132V150'/><text class='head' x='60' y='124'>sender 0</text>\n\
+        <path class='band' d='M60 150V150'/>\
+        <text class='tenure' dx='-12' dy='4' x='60' y='150'>3</text>\n\
+        <path class='life' d='M320 132V168'/><text class='head' x='320' y='124'>receiver 1</text>\n\
+        <path class='arrow' d='M60 150L320 168'/>\n\
+        <use href='#store' x='60' y='150'/>\n\
+        <text dy='4' x='8' y='150'>1</text>\n\
+        <text dy='4' x='450' y='150'>StoreLength length: 0 to 5</text>\n\
+        <use href='#look' x='320' y='168'/>\n\
+        <text dy='4' x='8' y='168'>2</text>\n\
+        <text dy='4' x='450' y='168'>LoadLength length: 5</text>\n\
         </svg>\n"
     );
     assert!(rt;
         behind.0.starts_with(
             "<svg xmlns='http://www.w3.org/2000/svg' \
-        font-family='sans-serif' font-size='11' viewBox='0 0 890 146'>\n<style>"
+        font-family='sans-serif' font-size='11' width='890' height='186' \
+        viewBox='0 0 890 186'>\n<title>"
         )
+    );
+}
+
+/// Wants that the one line of a trace, with these columns behind its number, is drawn with these
+/// words beside it.
+fn says<R: Abort + AllocGlobal>(rt: &R, columns: &str, words: &str) {
+    let trace = format!(in rt.alloc(); "1\t2\tsender 0\t0\t{columns}").expect(rt, "memory");
+    let text = picture_of(rt.alloc(), trace.as_str()).expect(rt, "memory");
+    assert!(rt;
+        text.as_str().contains(words),
+        "{words} in {}",
+        text.as_str()
+    );
+}
+
+#[test]
+fn what_stands_in_words(rt: HostRuntime) {
+    says(
+        &rt,
+        "Vote\trow 0 bit 0 round 2 counter\t4294967297\t8589934593\tgoing",
+        ">Vote row 0 bit 0 round 2 counter: 1 heads 1 tails to 2 heads 1 tails<",
+    );
+    says(
+        &rt,
+        "StoreLogWord\tlog 1\t0\t9241386435364257792\tgoing",
+        ">StoreLogWord log 1: 0000000000000000 to 8040000000000000<",
+    );
+    says(
+        &rt,
+        "StoreLength\tlength\t0\t5\tdelivered 0 0 0",
+        ">delivered 0 0 0<",
     );
 }

@@ -1,8 +1,8 @@
 use Rattle.std.proofs.Common.{codes, string_bytes}
-use Rattle.bus_picture.specs.Shapes.{at, text_body}
+use Rattle.bus_picture.specs.Shapes.{at, answer_at}
 use Rattle.bus_picture.proofs.TextLemmas.{grown}
 use Rattle.bus_picture.proofs.shapes.push_mark_at.Goals as goal
 
 pub returns : goal.returns
 returns c =
-    grown (string_bytes c.args.text.now) _ (text_body c.args.answer.now) (grown (string_bytes c.args.text.now) _ (at c.args.x c.args.y) (grown (string_bytes c.args.text.now) _ (codes "/><text dx='14' dy='4'") (grown (string_bytes c.args.text.now) _ (at c.args.x c.args.y) c.in_ok-push_use.ensures c.in_ok-push_at.ensures) c.in_ok-push_str.ensures.bytes) c.in_ok-push_at-2.ensures) c.in_ok-push_said.ensures
+    grown (string_bytes c.args.text.now) _ (answer_at c.args.x c.args.y c.args.answer.now) (grown (string_bytes c.args.text.now) _ (codes "/>") (grown (string_bytes c.args.text.now) _ (at c.args.x c.args.y) c.in_ok-push_use.ensures c.in_ok-push_at.ensures) c.in_ok-push_str.ensures.bytes) c.in_ok-push_answer_at.ensures
