@@ -1,0 +1,165 @@
+-- Both tables are the one.
+use Rattle.std.proofs.Common.{◌≡◌, ℕ, ◌+◌, ◌-◌, Bool, true, false, cond, Option, Some, None, nat_lt, slice_index, refl, sym, ap, arith}
+use Rattle.bus_register.specs.declared.registers.Op.TheVariants.{Load, Store}
+use Rattle.bus_presence.specs.Reclaimers.{Reclaiming}
+use Rattle.bus_presence.specs.declared.pins.Pin.{Pin}
+use Rattle.bus_presence.specs.declared.pins.Pin.TheVariants.{Away, Announcing, Validating, Pinned, Unpinning, Invalidated}
+use Rattle.bus_tenure.specs.Core.{Core, Election, log_at, stage_at}
+use Rattle.bus_tenure.specs.declared.pages.Page.{Page}
+use Rattle.bus_tenure.specs.declared.phases.Reason.{Reason}
+use Rattle.bus_register.specs.declared.kinds.Kind.TheVariants as kind
+use Rattle.bus_batch.specs.Batches.{frame_of}
+use Rattle.bus_batch.specs.Frames.{frame_words}
+use Rattle.bus_presence.specs.Reclamation.{presence_at}
+use Rattle.bus_presence.specs.Pins.{step_at}
+use Rattle.bus_tenure.specs.Situations.{Situation as Own, IsClosed, IsIdle, IsSpent, LooksAtStage, Elects, TakesPage, AwaitsPage, StoresWord, StoresLength, GivesBack, HasHanded, line_of, situation_of as own_situation}
+use Rattle.bus_core.specs.Senders.{Does, Scans, Clears, apart, again, reclaiming, at_home, pinning, situation}
+use Rattle.bus_guest.specs.Guests.{Goes, log_from, due_reclaimed, due_home, due_beside, reclaim_due}
+use Rattle.bus_guest.specs.Turns.{Visitor, sizes_of, due}
+use Rattle.bus_core.specs.Table.{line}
+use Rattle.bus_core.specs.Bridge.{line_apart, AtNone, AtSome, IsLineOf}
+
+-- with a row for each tenure each line is that of the older table
+line_at_none : {E : Type 0} (X : Election E) (c : Core E) (z : Own E) → line X (apart c) (Does z) ≡ line_apart (line_of X c z)
+line_at_none X c IsClosed = refl
+line_at_none X c IsIdle = refl
+line_at_none X c IsSpent = refl
+line_at_none X c LooksAtStage = refl
+line_at_none X c (Elects t e) = refl
+line_at_none X c (TakesPage t) = refl
+line_at_none X c (AwaitsPage t) = refl
+line_at_none X c (StoresWord t page stored) = refl
+line_at_none X c (StoresLength t page stored) = refl
+line_at_none X c (GivesBack t page reason) = refl
+line_at_none X c (HasHanded t reason) = refl
+
+-- and so is the line of the situation that it is in
+pub at_none : {E : Type 0} (X : Election E) → AtNone X
+at_none X c = line_at_none X c (own_situation X c)
+
+-- a word of the log, from where the log begins
+moved : (from at words stored : ℕ) → from + words + stored ≡ from + (at + words + stored - at)
+moved from at words stored = omega arith
+
+module _ {E : Type 0} (X : Election E) where
+  -- with another reclamation
+  abbrev with_reclaimer : Visitor E → Option Reclaiming → Visitor E
+  with_reclaimer v s = record v { reclaimer = s }
+
+  -- a holder's reclamation goes on, or is done
+  reclaimed : (v : Visitor E) (s : Reclaiming) (t : ℕ) (page : Page) (reason : Reason) (a b : Bool) → nat_lt s.scanned s.senders ≡ a
+      → IsLineOf X (with_reclaimer v (Some s)) (due_reclaimed s (cond a (Some (Load record { 0 = s.presences + s.scanned })) (cond b (Some (Store record { 0 = s.row + s.cleared } 0)) None)) (GivesBack t page reason))
+      (line X (again (with_reclaimer v (Some s))) (cond a (Scans s) (cond b (Clears s) (Does (GivesBack t page reason)))))
+  reclaimed v s t page reason true b p = record { kind = ap (λ c. Some (cond c kind.ReadPresence kind.ClearRow)) (sym p); op = λ word. refl; wants = refl; fed = λ got word. refl; answer = λ got word. refl; rest = refl; move = refl; publishes = refl }
+  reclaimed v s t page reason false true p = record { kind = ap (λ c. Some (cond c kind.ReadPresence kind.ClearRow)) (sym p); op = λ word. refl; wants = refl; fed = λ got word. refl; answer = λ got word. refl; rest = refl; move = refl; publishes = refl }
+  reclaimed v s t page reason false false p = record { kind = refl; op = λ word. refl; wants = refl; fed = λ got word. refl; answer = λ got word. refl; rest = refl; move = refl; publishes = refl }
+
+  -- a page that is given back, after what is left of its reclamation
+  gives_back : (v : Visitor E) (s : Option Reclaiming) (t : ℕ) (page : Page) (reason : Reason)
+      → IsLineOf X (with_reclaimer v s) (due_home s (GivesBack t page reason)) (line X (again (with_reclaimer v s)) (reclaiming s (GivesBack t page reason)))
+  gives_back v None t page reason = record { kind = refl; op = λ word. refl; wants = refl; fed = λ got word. refl; answer = λ got word. refl; rest = refl; move = refl; publishes = refl }
+  gives_back v (Some s) t page reason = reclaimed v s t page reason (nat_lt s.scanned s.senders) (nat_lt s.cleared s.width) refl
+
+  -- who takes no step of a pin has the line of what goes on
+  at_home_is : (v : Visitor E) (z : Own E) → IsLineOf X v (due_home (reclaim_due z v.reclaimer) z) (line X (again v) (at_home v.reclaimer z))
+  at_home_is v IsClosed = record { kind = refl; op = λ word. refl; wants = refl; fed = λ got word. refl; answer = λ got word. refl; rest = refl; move = refl; publishes = refl }
+  at_home_is v IsIdle = record { kind = refl; op = λ word. refl; wants = refl; fed = λ got word. refl; answer = λ got word. refl; rest = refl; move = refl; publishes = refl }
+  at_home_is v IsSpent = record { kind = refl; op = λ word. refl; wants = refl; fed = λ got word. refl; answer = λ got word. refl; rest = refl; move = refl; publishes = refl }
+  at_home_is v LooksAtStage = record { kind = refl; op = λ word. refl; wants = refl; fed = λ got word. refl; answer = λ got word. refl; rest = refl; move = refl; publishes = refl }
+  at_home_is v (Elects t e) = record { kind = refl; op = λ word. refl; wants = refl; fed = λ got word. refl; answer = λ got word. refl; rest = refl; move = refl; publishes = refl }
+  at_home_is v (TakesPage t) = record { kind = refl; op = λ word. refl; wants = refl; fed = λ got word. refl; answer = λ got word. refl; rest = refl; move = refl; publishes = refl }
+  at_home_is v (AwaitsPage t) = record { kind = refl; op = λ word. refl; wants = refl; fed = λ got word. refl; answer = λ got word. refl; rest = refl; move = refl; publishes = refl }
+  at_home_is v (StoresWord t page stored) = record { kind = refl; op = λ word. ap (λ at. Some (Store record { 0 = at } (slice_index (frame_words (frame_of v.core.queue t)) stored))) (moved (log_from v.core.layout v.rows) (log_at v.core.layout) page.words stored); wants = refl; fed = λ got word. refl; answer = λ got word. refl; rest = refl; move = refl; publishes = refl }
+  at_home_is v (StoresLength t page stored) = record { kind = refl; op = λ word. refl; wants = refl; fed = λ got word. refl; answer = λ got word. refl; rest = refl; move = refl; publishes = refl }
+  at_home_is v (GivesBack t page reason) = gives_back v v.reclaimer t page reason
+  at_home_is v (HasHanded t reason) = record { kind = refl; op = λ word. refl; wants = refl; fed = λ got word. refl; answer = λ got word. refl; rest = refl; move = refl; publishes = refl }
+
+  -- a step of a pin comes first in both tables
+  pins : (v : Visitor E) (u : Pin) (z : Own E)
+      → IsLineOf X (record v { pin = u }) (due_beside (step_at u (presence_at (sizes_of v) v.core.me) stage_at) v.reclaimer z) (line X (again (record v { pin = u })) (pinning u v.reclaimer z))
+  pins v Away z = at_home_is (record v { pin = Away }) z
+  pins v (Announcing t) z = record { kind = refl; op = λ word. refl; wants = refl; fed = λ got word. refl; answer = λ got word. refl; rest = refl; move = refl; publishes = refl }
+  pins v (Validating t) z = record { kind = refl; op = λ word. refl; wants = refl; fed = λ got word. refl; answer = λ got word. refl; rest = refl; move = refl; publishes = refl }
+  pins v (Pinned t) z = at_home_is (record v { pin = Pinned t }) z
+  pins v (Unpinning t) z = record { kind = refl; op = λ word. refl; wants = refl; fed = λ got word. refl; answer = λ got word. refl; rest = refl; move = refl; publishes = refl }
+  pins v (Invalidated t) z = record { kind = refl; op = λ word. refl; wants = refl; fed = λ got word. refl; answer = λ got word. refl; rest = refl; move = refl; publishes = refl }
+
+  -- with rows that are used again the line is that of what is due
+  pub at_some : AtSome X
+  at_some v = pins v v.pin (own_situation X v.core)
+
+-- ---- what is done as a sender is what goes on as a guest, and the other way round
+-- a reclamation that is done in the one table is done in the other
+goes_reclaimed : {E : Type 0} (s : Reclaiming) (z w : Own E) (a b : Bool) → cond a (Scans s) (cond b (Clears s) (Does z)) ≡ Does w
+    → due_reclaimed s (cond a (Some (Load record { 0 = s.presences + s.scanned })) (cond b (Some (Store record { 0 = s.row + s.cleared } 0)) None)) z ≡ Goes w
+goes_reclaimed s z w true b i = absurd cc
+goes_reclaimed s z w false true i = absurd cc
+goes_reclaimed s z w false false i = cc
+
+-- the same of who takes no step of a pin
+goes_home : {E : Type 0} (s : Option Reclaiming) (z w : Own E) → at_home s z ≡ Does w → due_home (reclaim_due z s) z ≡ Goes w
+goes_home None (GivesBack t page reason) w i = cc
+goes_home (Some s) (GivesBack t page reason) w i =
+    goes_reclaimed s (GivesBack t page reason) w (nat_lt s.scanned s.senders) (nat_lt s.cleared s.width) i
+goes_home s IsClosed w i = cc
+goes_home s IsIdle w i = cc
+goes_home s IsSpent w i = cc
+goes_home s LooksAtStage w i = cc
+goes_home s (Elects t e) w i = cc
+goes_home s (TakesPage t) w i = cc
+goes_home s (AwaitsPage t) w i = cc
+goes_home s (StoresWord t page stored) w i = cc
+goes_home s (StoresLength t page stored) w i = cc
+goes_home s (HasHanded t reason) w i = cc
+
+-- what is done as a sender is what goes on as a guest
+pub goes_pinning : {E : Type 0} (u : Pin) (s : Option Reclaiming) (z w : Own E) (word stage : ℕ) → pinning u s z ≡ Does w
+    → due_beside (step_at u word stage) s z ≡ Goes w
+goes_pinning Away s z w word stage i = goes_home s z w i
+goes_pinning (Pinned t) s z w word stage i = goes_home s z w i
+goes_pinning (Announcing t) s z w word stage i = absurd cc
+goes_pinning (Validating t) s z w word stage i = absurd cc
+goes_pinning (Unpinning t) s z w word stage i = absurd cc
+goes_pinning (Invalidated t) s z w word stage i = absurd cc
+
+-- a reclamation that is done as a guest is done as a sender
+back_reclaimed : {E : Type 0} (s : Reclaiming) (z w : Own E) (a b : Bool)
+    → due_reclaimed s (cond a (Some (Load record { 0 = s.presences + s.scanned })) (cond b (Some (Store record { 0 = s.row + s.cleared } 0)) None)) z ≡ Goes w
+    → cond a (Scans s) (cond b (Clears s) (Does z)) ≡ Does w
+back_reclaimed s z w true b i = absurd cc
+back_reclaimed s z w false true i = absurd cc
+back_reclaimed s z w false false i = cc
+
+-- the same of who takes no step of a pin
+back_home : {E : Type 0} (s : Option Reclaiming) (z w : Own E) → due_home (reclaim_due z s) z ≡ Goes w → at_home s z ≡ Does w
+back_home None (GivesBack t page reason) w i = cc
+back_home (Some s) (GivesBack t page reason) w i =
+    back_reclaimed s (GivesBack t page reason) w (nat_lt s.scanned s.senders) (nat_lt s.cleared s.width) i
+back_home s IsClosed w i = cc
+back_home s IsIdle w i = cc
+back_home s IsSpent w i = cc
+back_home s LooksAtStage w i = cc
+back_home s (Elects t e) w i = cc
+back_home s (TakesPage t) w i = cc
+back_home s (AwaitsPage t) w i = cc
+back_home s (StoresWord t page stored) w i = cc
+back_home s (StoresLength t page stored) w i = cc
+back_home s (HasHanded t reason) w i = cc
+
+-- what goes on as a guest is done as a sender
+back_pinning : {E : Type 0} (u : Pin) (s : Option Reclaiming) (z w : Own E) (word stage : ℕ)
+    → due_beside (step_at u word stage) s z ≡ Goes w → pinning u s z ≡ Does w
+back_pinning Away s z w word stage i = back_home s z w i
+back_pinning (Pinned t) s z w word stage i = back_home s z w i
+back_pinning (Announcing t) s z w word stage i = absurd cc
+back_pinning (Validating t) s z w word stage i = absurd cc
+back_pinning (Unpinning t) s z w word stage i = absurd cc
+back_pinning (Invalidated t) s z w word stage i = absurd cc
+
+-- from the situation to what is due
+pub does_goes : {E : Type 0} (X : Election E) (v : Visitor E) (w : Own E) → situation X (again v) ≡ Does w → due X v ≡ Goes w
+does_goes X v w i = goes_pinning v.pin v.reclaimer (own_situation X v.core) w (presence_at (sizes_of v) v.core.me) stage_at i
+
+-- and back
+pub goes_does : {E : Type 0} (X : Election E) (v : Visitor E) (w : Own E) → due X v ≡ Goes w → situation X (again v) ≡ Does w
+goes_does X v w i = back_pinning v.pin v.reclaimer (own_situation X v.core) w (presence_at (sizes_of v) v.core.me) stage_at i

@@ -1,0 +1,167 @@
+-- Each of the wrong answers is refused.
+use Rattle.std.proofs.Common.{◌≡◌, inl, inr, ℕ, ◌+◌, ◌/◌, ◌<◌, Bool, true, false, Option, Some, None, IfSome, IsSomeAnd, arith, refl, sym, ◌∙◌, ap, subst}
+use Rattle.std.proofs.lemmas.Bool.{true≢false}
+use Rattle.std.proofs.lemmas.Option.{same_Some}
+use Rattle.bus_register.specs.declared.registers.SenderNo.{SenderNo}
+use Rattle.bus_presence.specs.declared.pins.Pin.TheVariants.{Announcing, Pinned, Unpinning}
+use Rattle.bus_tenure.specs.Core.{Core, Election, frame_len}
+use Rattle.bus_tenure.specs.Situations.{LooksAtStage, Elects}
+use Rattle.bus_tenure.specs.declared.pages.Page.{Page}
+use Rattle.bus_tenure.specs.declared.phases.Phase.{Phase}
+use Rattle.bus_tenure.specs.declared.phases.Phase.TheVariants.{Resting, Electing, Holding}
+use Rattle.bus_tenure.proofs.Situated.{tells}
+use Rattle.bus_guest.specs.Keeping.{held_of}
+use Rattle.bus_guest.specs.Telling.{HasPublished, Published, HandsOnSent, LacksRoom, FindsNoRoom, HandsOnFull, FindsEnd, Ended, HandsOnEnd}
+use Rattle.bus_core.specs.Refused.{AnswersRefuse}
+use Rattle.bus_core.specs.Senders.{Sender, Situation, Does, situation}
+use Rattle.bus_core.specs.Table.{line_now}
+use Rattle.bus_core.specs.Telling.{LosesElection, PartsAsLoser, LosesBy, BeginsBy, IsInvalidated}
+use Rattle.bus_core.specs.declared.reuses.Reuse.{Reuse}
+use Rattle.bus_core.proofs.Situated.{own_is}
+
+-- one phase has one page
+same_page : {E : Type 0} (t u : ℕ) (p q : Page) (a b : ℕ) (c d : Bool) → ◌≡◌ {A = Phase E} (Holding t p a c) (Holding u q b d) → (t ≡ u)
+    × ((p ≡ q) × (c ≡ d))
+same_page t u p q a b c d e = (cc, (cc, cc))
+
+-- and one election
+same_election : {E : Type 0} (t u : ℕ) (e f : E) → ◌≡◌ {A = Phase E} (Electing t e) (Electing u f) → (t ≡ u) × (e ≡ f)
+same_election t u e f i = (cc, cc)
+
+-- one step is of one election
+same_step : {E : Type 0} (t u : ℕ) (e f : E) → ◌≡◌ {A = Situation E} (Does (Elects t e)) (Does (Elects u f)) → e ≡ f
+same_step t u e f i = cc
+
+-- one pin is to one tenure
+same_tenure : (t u : ℕ) → Announcing t ≡ Announcing u → t ≡ u
+same_tenure t u e = cc
+
+-- ---- a page that is held
+published_is : {E : Type 0} (ph : Phase E) (t u : ℕ) (page : Page) (stored : ℕ) (published : Bool) → HasPublished u ph
+    → ph ≡ Holding t page stored published → (t ≡ u) × (published ≡ true)
+published_is ph t u page stored published (Published p n) e = let s = same_page u t p page n stored true published e in (sym s.0, sym s.1.1)
+published_is ph t u page stored published HandsOnSent e = absurd cc
+
+-- who lacks room has not stored the length
+room_is : {E : Type 0} (c : Core E) (ph : Phase E) (t u : ℕ) (page : Page) (stored : ℕ) (published : Bool) → LacksRoom c u ph
+    → ph ≡ Holding t page stored published → (published ≡ false) × (c.layout.capacity < page.words + frame_len c)
+room_is c ph t u page stored published (FindsNoRoom p n more) e = let s = same_page u t p page n stored false published e in (sym s.1.1, subst (λ q. c.layout.capacity < q.words + frame_len c) s.1.0 more)
+room_is c ph t u page stored published HandsOnFull e = absurd cc
+
+-- who finds the end has a page that says so
+end_is : {E : Type 0} (ph : Phase E) (t u : ℕ) (page : Page) (stored : ℕ) (published : Bool) → FindsEnd u ph
+    → ph ≡ Holding t page stored published → page.ended ≡ true
+end_is ph t u page stored published (Ended p n end) e =
+    let s = same_page u t p page n stored false published e in subst (λ q. q.ended ≡ true) s.1.0 end
+end_is ph t u page stored published HandsOnEnd e = absurd cc
+
+-- ---- none is held at rest
+rests_unpublished : {E : Type 0} (ph : Phase E) (t : ℕ) → HasPublished t ph → ph ≡ Resting → ⊥
+rests_unpublished ph t (Published p n) e = cc
+rests_unpublished ph t HandsOnSent e = cc
+
+-- nor does it lack room
+rests_with_room : {E : Type 0} (c : Core E) (ph : Phase E) (t : ℕ) → LacksRoom c t ph → ph ≡ Resting → ⊥
+rests_with_room c ph t (FindsNoRoom p n more) e = cc
+rests_with_room c ph t HandsOnFull e = cc
+
+-- nor has it found the end
+rests_before_the_end : {E : Type 0} (ph : Phase E) (t : ℕ) → FindsEnd t ph → ph ≡ Resting → ⊥
+rests_before_the_end ph t (Ended p n end) e = cc
+rests_before_the_end ph t HandsOnEnd e = cc
+
+-- ---- of a fact that only one kind of rows has
+some_is : (reuse : Option Reuse) (r : Reuse) (Q : Reuse → Type 0) → reuse ≡ Some r → IsSomeAnd reuse Q → Q r
+some_is reuse r Q e w = let h : IsSomeAnd (Some r) Q = subst (λ y. IsSomeAnd y Q) e w in h
+
+-- of rows that are used again, with a row for each tenure
+none_not : (reuse : Option Reuse) (Q : Reuse → Type 0) → reuse ≡ None → ¬ IsSomeAnd reuse Q
+none_not reuse Q e w = let h : IsSomeAnd None Q = subst (λ y. IsSomeAnd y Q) e w in h
+
+-- of whatever rows those are
+of_some : (reuse : Option Reuse) (A : Type 0) (Q : Reuse → Type 0) → ((r : Reuse) → Q r → A) → IsSomeAnd reuse Q → A
+of_some None A Q f w = absurd w
+of_some (Some r) A Q f w = f r w
+
+-- one tenure has begun
+begun_once : {E : Type 0} (c : Core E) (reuse : Option Reuse) (t u : ℕ) → BeginsBy c reuse t → BeginsBy c reuse u → t ≡ u
+begun_once c None t u e f = same_Some _ _ (sym e ∙ f)
+begun_once c (Some r) t u e f = same_tenure t u (sym e ∙ f)
+
+module _ {E : Type 0} (X : Election E) (v : Sender E) (got word : ℕ) where
+  -- who goes through an election looks at no stage for the first time
+  looks_not : (u : ℕ) (e : E) → v.core.phase ≡ Electing u e → situation X v ≡ Does LooksAtStage → ⊥
+  looks_not u e runs i = let bad = sym (tells X v.core LooksAtStage (own_is X v LooksAtStage i)) ∙ runs in cc
+
+  -- with a row for each tenure it loses with its election
+  lost_election : (t : ℕ) (o : SenderNo) → v.reuse ≡ None → LosesBy X v got word t o v.reuse → LosesElection X v got word t o
+  lost_election t o e w = let h : LosesBy X v got word t o None = subst (LosesBy X v got word t o) e w in h
+
+  -- with rows that are used again it parts from what it lost
+  parts_as : (t : ℕ) (o : SenderNo) (r : Reuse) → v.reuse ≡ Some r → LosesBy X v got word t o v.reuse → PartsAsLoser r t o
+  parts_as t o r e w = let h : LosesBy X v got word t o (Some r) = subst (LosesBy X v got word t o) e w in h
+
+  -- with rows that are used again it stands in the tenure
+  stands_in : (t : ℕ) (r : Reuse) → v.reuse ≡ Some r → IfSome v.reuse (λ r. r.pin ≡ Pinned t) → r.pin ≡ Pinned t
+  stands_in t r e w = let h : IfSome (Some r) (λ r. r.pin ≡ Pinned t) = subst (λ y. IfSome y (λ r. r.pin ≡ Pinned t)) e w in h
+
+  -- all of them
+  pub refused : AnswersRefuse X v got word
+  refused = record {
+    idle_with_a_step = λ w. w;
+    delivered_unpublished =
+        λ t first last page stored held w. true≢false (sym (published_is v.core.phase t t page stored false w.published held).1);
+    delivered_elsewhere =
+        λ t u first last page stored published held apart w. apart (published_is v.core.phase t u page stored published w.published held).0;
+    delivered_from_elsewhere = λ t first last apart w. apart w.first_is;
+    delivered_too_far = λ t first last far some w. let e = w.last_is in omega arith;
+    delivered_the_end = λ t first last ends w. true≢false (sym ends ∙ w.sends);
+    full_with_room = λ t page stored published held room w. let l = (room_is v.core v.core.phase t w.tenure page stored published w.lacks held).1 in omega arith;
+    full_published = λ t page stored held w. true≢false (room_is v.core v.core.phase t w.tenure page stored true w.lacks held).0;
+    closed_too_soon = λ t page stored published held goes stays w. elim w.why [
+      | inl a ↦ true≢false (sym a.0 ∙ stays)
+      | inr a ↦ true≢false (sym (end_is v.core.phase t w.tenure page stored published a held) ∙ goes)
+    ];
+    delivered_at_rest = λ t first last rests w. rests_unpublished v.core.phase t w.published rests;
+    full_at_rest = λ rests w. rests_with_room v.core v.core.phase w.tenure w.lacks rests;
+    closed_at_rest = λ rests w. elim w.why [
+      | inl a ↦ rests_unpublished v.core.phase w.tenure a.1 rests
+      | inr a ↦ rests_before_the_end v.core.phase w.tenure a rests
+    ];
+    spent_too_soon = λ left w. let e = w.past in omega arith;
+    lost_to_itself = λ t none w. (lost_election t record { 0 = v.core.me } none w).other refl;
+    lost_undecided = λ t u o e none here undecided w.
+        let l = lost_election t o none w in
+        let same = same_step u t e l.election (sym here ∙ l.elects) in
+        let bad = sym undecided ∙ ap (λ y. X.owner (X.fed y got word)) same ∙ l.chosen in cc;
+    lost_at_rest = λ t o none rests w.
+        let l = lost_election t o none w in
+        let bad = sym rests ∙ (tells X v.core (Elects t l.election) (own_is X v (Elects t l.election) l.elects)).0 in cc;
+    lost_to_another = λ t o r some none w. let l = parts_as t o r some w in let bad = sym none ∙ l.lost in cc;
+    lost_away = λ t o r some away w. let l = parts_as t o r some w in let bad = sym away ∙ l.parts in cc;
+    own_of_another = λ t u o e runs owned other w.
+        let same = (same_election u t e w.election (sym runs ∙ w.elects)).1 in
+        other (same_Some o v.core.me (sym owned ∙ ap X.owner same ∙ w.chosen));
+    own_elsewhere = λ t u e runs apart w. apart (sym (same_election u t e w.election (sym runs ∙ w.elects)).0);
+    own_away = λ t r some away w. let bad = sym away ∙ stands_in t r some w.pinned in cc;
+    waits_apart = λ u e none runs w. elim w [
+      | inl l ↦ looks_not u e runs l.looks
+      | inr b ↦ none_not v.reuse _ none b
+    ];
+    waits_pinned = λ t u e r some at runs w. elim w [
+      | inl l ↦ looks_not u e runs l.looks
+      | inr b ↦ (let h = some_is v.reuse r _ some b in let bad = sym at ∙ h.is in cc)
+    ];
+    behind_apart = λ t p none w. none_not v.reuse _ none w;
+    behind_unnamed = λ t p apart w. of_some v.reuse ⊥ _ (λ r b. apart b.found) w;
+    behind_without_a_load = λ t p apart w. of_some v.reuse ⊥ _ (λ r b. apart b.loads) w;
+    behind_at_rest = λ t p rests w. of_some v.reuse ⊥ _ (λ r b. let bad = sym (ap held_of rests) ∙ b.held in cc) w;
+    loses_silently = λ t o loses w. w.loses t o loses;
+    forgets_its_loss = λ t r some parts rests w.
+        let bad = sym (ap held_of rests) ∙ w.holds t (subst (λ y. IsSomeAnd y (λ r. r.pin ≡ Unpinning t)) (sym some) parts) in cc;
+    invalidated_silently =
+        λ t r some invalidated w. w.invalidated (subst (λ y. IsSomeAnd y (λ r. IsInvalidated r)) (sym some) record { tenure = t; is = invalidated });
+    takes_silently = λ t takes w. w.takes t takes;
+    gives_silently = λ t gives w. w.gives t gives;
+    begins_elsewhere = λ t looks begins apart w. let after = (line_now X v).fed got word in apart (begun_once after.core after.reuse t (got / 2) begins (w.begins looks));
+  }

@@ -1,0 +1,86 @@
+-- What is no cause of a sender's step.
+use Rattle.std.specs.Prelude.{◌≡◌, ◌≢◌, ℕ, ◌+◌, ◌<◌, ◌≤◌, false, true, Bool, Some, None}
+use Rattle.bus_register.specs.declared.kinds.Kind.{Kind}
+use Rattle.bus_register.specs.declared.kinds.Kind.TheVariants as kind
+use Rattle.bus_register.specs.Protocol.{Protocol}
+use Rattle.bus_adoptcommit.specs.declared.verdicts.Verdict.{Verdict}
+use Rattle.bus_coinconc.specs.declared.conciliators.Stage.TheVariants.{SetMark, ReadOtherMark}
+use Rattle.bus_presence.specs.Reclamation.{row_of}
+use Rattle.bus_presence.specs.Reclaimers.{Reclaiming, is_reclaimed}
+use Rattle.bus_presence.specs.declared.pins.Pin.TheVariants.{Away, Announcing, Validating, Pinned, Unpinning, Invalidated}
+use Rattle.bus_tenure.specs.Causes.{IsInRatifier, IsInConciliator, CountsVotes}
+use Rattle.bus_tenure.specs.Elections.{Elector, elections}
+use Rattle.bus_tenure.specs.declared.pages.Page.{Page}
+use Rattle.bus_tenure.specs.declared.phases.Phase.TheVariants.{Resting, Electing, Holding}
+use Rattle.bus_guest.specs.CausesRefuse.{IsOfElection}
+use Rattle.bus_guest.specs.Guests.{sizes_with}
+use Rattle.bus_guest.specs.Keeping.{held_of}
+use Rattle.bus_core.specs.declared.reuses.Reuse.{Reuse}
+use Rattle.bus_core.specs.Causes.{HasCause}
+use Rattle.bus_core.specs.Senders.{Sender}
+
+-- in its tenures, with both kinds of rows
+pub record RefusesOwn {S : Type 0} (P : Protocol S Bool Verdict) (v : Sender (Elector S)) : Type 0 where
+  -- it rests, and takes the page, stores a word of a log, or goes to a fallback word
+  pub resting_takes : v.core.phase ≡ Resting → ¬ HasCause P v kind.TakePage
+  pub resting_stores : v.core.phase ≡ Resting → ¬ HasCause P v kind.StoreLogWord
+  pub resting_falls_back : v.core.phase ≡ Resting → ¬ HasCause P v kind.Fallback
+  -- it holds the page of an order that has ended, and stores a length
+  pub ended_publishes : (tenure : ℕ) (page : Page) (stored : ℕ) → v.core.phase ≡ Holding tenure page stored false → page.ended ≡ true
+      → ¬ HasCause P v kind.StoreLength
+  -- it has brought nothing to a ratifier, and goes on there, or has brought its bit, and begins again
+  pub unbrought_reads_first : IsInRatifier P v.core false → ¬ HasCause P v kind.ReadFirst
+  pub unbrought_writes_second : IsInRatifier P v.core false → ¬ HasCause P v kind.WriteSecond
+  pub unbrought_reads_second : IsInRatifier P v.core false → ¬ HasCause P v kind.ReadSecond
+  pub brings_again : IsInRatifier P v.core true → ¬ HasCause P v kind.WriteFirst
+  -- it has not set its mark, and loads the other one, or has not loaded that, and votes, or is to load votes, and votes again
+  pub unmarked_reads : IsInConciliator v.core SetMark → ¬ HasCause P v kind.ReadOtherMark
+  pub unread_votes : IsInConciliator v.core ReadOtherMark → ¬ HasCause P v kind.Vote
+  pub counting_votes : CountsVotes v.core → ¬ HasCause P v kind.Vote
+  -- a page whose election has not ended, or has chosen another
+  pub takes_undecided : (t : ℕ) (e : Elector S) → v.core.phase ≡ Electing t e → (elections P v.core.layout.rounds).output e ≡ None
+      → ¬ HasCause P v kind.TakePage
+  pub takes_what_it_lost : (t o : ℕ) (e : Elector S) → v.core.phase ≡ Electing t e → (elections P v.core.layout.rounds).output e ≡ Some o
+      → o ≢ v.core.me → ¬ HasCause P v kind.TakePage
+
+-- with a row for each tenure: a presence that is stored, cleared or asked, another look at the stage, and a row that is cleared
+pub record RefusesApart {S : Type 0} (P : Protocol S Bool Verdict) (v : Sender (Elector S)) : Type 0 where
+  pub enters : v.reuse ≡ None → ¬ HasCause P v kind.Enter
+  pub looks_again : v.reuse ≡ None → ¬ HasCause P v kind.LoadStageAgain
+  pub withdraws : v.reuse ≡ None → ¬ HasCause P v kind.Withdraw
+  pub asks : v.reuse ≡ None → ¬ HasCause P v kind.ReadPresence
+  pub clears : v.reuse ≡ None → ¬ HasCause P v kind.ClearRow
+
+-- with rows that are used again
+pub record RefusesAgain {S : Type 0} (P : Protocol S Bool Verdict) (v : Sender (Elector S)) (r : Reuse) : Type 0 where
+  -- a step of an election where it pins no tenure, has not stored its presence, has not looked at the stage again, stands in another
+  -- tenure, or is to clear its presence
+  pub elects_away : (k : Kind) → IsOfElection k → r.pin ≡ Away → ¬ HasCause P v k
+  pub elects_unseen : (k : Kind) (t : ℕ) → IsOfElection k → r.pin ≡ Announcing t → ¬ HasCause P v k
+  pub elects_too_soon : (k : Kind) (t : ℕ) → IsOfElection k → r.pin ≡ Validating t → ¬ HasCause P v k
+  pub elects_elsewhere : (k : Kind) (t u : ℕ) (e : Elector S) → IsOfElection k → r.pin ≡ Pinned t → v.core.phase ≡ Electing u e → t ≢ u
+      → ¬ HasCause P v k
+  pub elects_while_unpinning : (k : Kind) (t : ℕ) → IsOfElection k → r.pin ≡ Unpinning t → ¬ HasCause P v k
+  pub elects_invalidated : (k : Kind) (t : ℕ) → IsOfElection k → r.pin ≡ Invalidated t → ¬ HasCause P v k
+  -- a presence of a tenure that is past for it
+  pub enters_the_past : (t : ℕ) → r.pin ≡ Announcing t → t < v.core.least → ¬ HasCause P v kind.Enter
+  -- a presence that is cleared while it pins no tenure, or stands in one, or of one that it neither lost nor has the page of
+  pub withdraws_away : r.pin ≡ Away → ¬ HasCause P v kind.Withdraw
+  pub withdraws_pinned : (t : ℕ) → r.pin ≡ Pinned t → ¬ HasCause P v kind.Withdraw
+  pub withdraws_undone : (t : ℕ) → r.pin ≡ Unpinning t → r.lost ≡ None → v.core.phase ≡ Resting → ¬ HasCause P v kind.Withdraw
+  -- a presence that is scanned by who holds no page, and a word that is cleared before all are scanned
+  pub asks_at_rest : v.core.phase ≡ Resting → ¬ HasCause P v kind.ReadPresence
+  pub clears_before_it_scanned : (s : Reclaiming) → r.reclaimer ≡ Some s → s.scanned < s.senders → ¬ HasCause P v kind.ClearRow
+  -- another step while its presence is to be cleared
+  pub looks_while_unpinning : (t : ℕ) → r.pin ≡ Unpinning t → ¬ HasCause P v kind.LoadStage
+  pub publishes_while_unpinning : (t : ℕ) → r.pin ≡ Unpinning t → ¬ HasCause P v kind.StoreLength
+  -- a page that is given back before the next row is ready: its reclamation is not done, was of another row, or never began
+  pub gives_back_unready : (s : Reclaiming) → r.reclaimer ≡ Some s → is_reclaimed s ≡ false → ¬ HasCause P v kind.GivePageBack
+  pub gives_back_reclaimed_elsewhere : (s : Reclaiming) (t : ℕ) → r.reclaimer ≡ Some s → held_of v.core.phase ≡ Some t
+      → s.row ≢ row_of (sizes_with v.core.layout r.rows) (t + 1) → ¬ HasCause P v kind.GivePageBack
+  pub gives_back_unreclaimed : (t : ℕ) → r.reclaimer ≡ None → held_of v.core.phase ≡ Some t → r.rows ≤ t + 1 → ¬ HasCause P v kind.GivePageBack
+
+pub record RefusesCauses {S : Type 0} (P : Protocol S Bool Verdict) (v : Sender (Elector S)) : Type 0 where
+  pub own : RefusesOwn P v
+  pub apart : RefusesApart P v
+  pub again : (r : Reuse) → v.reuse ≡ Some r → RefusesAgain P v r

@@ -1,0 +1,41 @@
+-- What code sees of a situation, in its tenure or beside it.
+use Rattle.std.specs.Prelude.{Option, Some, None}
+use Rattle.bus_turning.specs.Doings.{doing_of}
+use Rattle.bus_turning.specs.declared.doings.Doing.{Doing}
+use Rattle.bus_turning.specs.declared.doings.Doing.TheVariants as doing
+use Rattle.bus_core.specs.declared.steps.Step.{Step}
+use Rattle.bus_core.specs.declared.steps.Ending.{Ending}
+use Rattle.bus_core.specs.declared.steps.Step.TheVariants as step
+use Rattle.bus_core.specs.Senders.{Situation, Does, Announces, Validates, Unpins, Withdraws, Scans, Clears}
+
+-- a step shows what it is, and what code does it with
+abbrev pub step_of : {E : Type 0} → Situation E → Step
+step_of (Does z) = step.Does (doing_of z)
+step_of (Announces t) = step.Announces t
+step_of (Validates t) = step.Validates t
+step_of (Unpins t) = step.Unpins t
+step_of (Withdraws t) = step.Withdraws t
+step_of (Scans s) = step.Scans
+step_of (Clears s) = step.Clears
+
+-- how what gives the page back ends its tenure
+abbrev pub ending_by : Doing → Option Ending
+ending_by (doing.Back t reason) = Some record { tenure = t; reason = reason }
+ending_by (doing.Rests a) = None
+ending_by doing.Looks = None
+ending_by (doing.Elects t) = None
+ending_by (doing.Takes t) = None
+ending_by (doing.Awaits t) = None
+ending_by (doing.Word t words stored) = None
+ending_by (doing.Length t words) = None
+ending_by (doing.Handed t reason) = None
+
+-- the same of a step
+abbrev pub ending_of : Step → Option Ending
+ending_of (step.Does d) = ending_by d
+ending_of (step.Announces t) = None
+ending_of (step.Validates t) = None
+ending_of (step.Unpins t) = None
+ending_of (step.Withdraws t) = None
+ending_of step.Scans = None
+ending_of step.Clears = None

@@ -1,0 +1,11 @@
+pub mod Senders
+pub mod Table
+pub mod Doings
+pub mod Keeping
+pub mod Seen
+pub mod Causes
+pub mod CausesRefuse
+pub mod Places
+pub mod Telling
+pub mod Refused
+pub mod Bridge

@@ -1,0 +1,81 @@
+-- What no step of a sender may answer, whatever its definitions are.
+use Rattle.std.specs.Prelude.{◌≡◌, ◌≢◌, ℕ, ◌+◌, ◌/◌, ◌<◌, ◌≤◌, false, true, Some, None, Bool}
+use Rattle.bus_batch.specs.Batches.{next_of}
+use Rattle.bus_register.specs.declared.registers.Op.TheVariants.{Load}
+use Rattle.bus_register.specs.declared.registers.SenderNo.{SenderNo}
+use Rattle.bus_presence.specs.Reclamation.{presence_at}
+use Rattle.bus_presence.specs.declared.pins.Pin.TheVariants.{Away, Pinned, Unpinning, Invalidated}
+use Rattle.bus_tenure.specs.Core.{Election, frame_len, is_closing}
+use Rattle.bus_tenure.specs.Situations.{LooksAtStage, Elects}
+use Rattle.bus_tenure.specs.declared.pages.Page.{Page}
+use Rattle.bus_tenure.specs.declared.phases.Phase.TheVariants.{Resting, Electing, Holding}
+use Rattle.bus_tenure.specs.declared.turns.Turn.TheVariants as turn
+use Rattle.bus_guest.specs.Guests.{sizes_with}
+use Rattle.bus_core.specs.declared.reuses.Reuse.{Reuse}
+use Rattle.bus_core.specs.Senders.{Sender, Does, situation}
+use Rattle.bus_core.specs.Table.{line_now}
+use Rattle.bus_core.specs.Telling.{FeedTells, Loses, IsChosen, GivesReady, Begins}
+
+pub record AnswersRefuse {E : Type 0} (X : Election E) (v : Sender E) (got word : ℕ) : Type 0 where
+  -- Idle with a step
+  pub idle_with_a_step : ¬ FeedTells X v got word turn.Idle
+  -- Delivered before the length takes its frame in
+  pub delivered_unpublished : (t first last : ℕ) (page : Page) (stored : ℕ) → v.core.phase ≡ Holding t page stored false
+      → ¬ FeedTells X v got word (turn.Delivered t first last)
+  -- Delivered of another tenure than that whose page it holds
+  pub delivered_elsewhere : (t u first last : ℕ) (page : Page) (stored : ℕ) (published : Bool)
+      → v.core.phase ≡ Holding t page stored published → t ≢ u → ¬ FeedTells X v got word (turn.Delivered u first last)
+  -- Delivered with another first or last number than those of its batch
+  pub delivered_from_elsewhere : (t first last : ℕ) → first ≢ v.core.queue.first → ¬ FeedTells X v got word (turn.Delivered t first last)
+  pub delivered_too_far : (t first last : ℕ) → next_of v.core.queue ≤ last → 0 < next_of v.core.queue
+      → ¬ FeedTells X v got word (turn.Delivered t first last)
+  -- Delivered of an end mark
+  pub delivered_the_end : (t first last : ℕ) → is_closing v.core.queue.phase ≡ true → ¬ FeedTells X v got word (turn.Delivered t first last)
+  -- Full where its frame fits, or once it is published
+  pub full_with_room : (t : ℕ) (page : Page) (stored : ℕ) (published : Bool) → v.core.phase ≡ Holding t page stored published
+      → page.words + frame_len v.core ≤ v.core.layout.capacity → ¬ FeedTells X v got word turn.Full
+  pub full_published : (t : ℕ) (page : Page) (stored : ℕ) → v.core.phase ≡ Holding t page stored true → ¬ FeedTells X v got word turn.Full
+  -- Closed while the order goes on, by a sender that was not to close
+  pub closed_too_soon : (t : ℕ) (page : Page) (stored : ℕ) (published : Bool) → v.core.phase ≡ Holding t page stored published
+      → page.ended ≡ false → is_closing v.core.queue.phase ≡ false → ¬ FeedTells X v got word turn.Closed
+  -- any answer of a holder, where it holds no page
+  pub delivered_at_rest : (t first last : ℕ) → v.core.phase ≡ Resting → ¬ FeedTells X v got word (turn.Delivered t first last)
+  pub full_at_rest : v.core.phase ≡ Resting → ¬ FeedTells X v got word turn.Full
+  pub closed_at_rest : v.core.phase ≡ Resting → ¬ FeedTells X v got word turn.Closed
+  -- Spent while a tenure is left
+  pub spent_too_soon : got / 2 < v.core.layout.rows → ¬ FeedTells X v got word turn.Spent
+  -- Lost with a row for each tenure: to itself, or by a step that left its election without an owner, or was no step of it
+  pub lost_to_itself : (t : ℕ) → v.reuse ≡ None → ¬ FeedTells X v got word (turn.Lost t record { 0 = v.core.me })
+  pub lost_undecided : (t u : ℕ) (o : SenderNo) (e : E) → v.reuse ≡ None → situation X v ≡ Does (Elects u e)
+      → X.owner (X.fed e got word) ≡ None → ¬ FeedTells X v got word (turn.Lost t o)
+  pub lost_at_rest : (t : ℕ) (o : SenderNo) → v.reuse ≡ None → v.core.phase ≡ Resting → ¬ FeedTells X v got word (turn.Lost t o)
+  -- Lost with rows that are used again: where it remembers no owner, or while it pins no tenure
+  pub lost_to_another : (t : ℕ) (o : SenderNo) (r : Reuse) → v.reuse ≡ Some r → r.lost ≡ None → ¬ FeedTells X v got word (turn.Lost t o)
+  pub lost_away : (t : ℕ) (o : SenderNo) (r : Reuse) → v.reuse ≡ Some r → r.pin ≡ Away → ¬ FeedTells X v got word (turn.Lost t o)
+  -- Own of a tenure whose election chose another, of another tenure, or while it pins none
+  pub own_of_another : (t u o : ℕ) (e : E) → v.core.phase ≡ Electing u e → X.owner e ≡ Some o → o ≢ v.core.me
+      → ¬ FeedTells X v got word (turn.Own t)
+  pub own_elsewhere : (t u : ℕ) (e : E) → v.core.phase ≡ Electing u e → t ≢ u → ¬ FeedTells X v got word (turn.Own t)
+  pub own_away : (t : ℕ) (r : Reuse) → v.reuse ≡ Some r → r.pin ≡ Away → ¬ FeedTells X v got word (turn.Own t)
+  -- Waiting of a sender that goes through an election, in the tenure that it stands in
+  pub waits_apart : (u : ℕ) (e : E) → v.reuse ≡ None → v.core.phase ≡ Electing u e → ¬ FeedTells X v got word turn.Waiting
+  pub waits_pinned : (t u : ℕ) (e : E) (r : Reuse) → v.reuse ≡ Some r → r.pin ≡ Pinned t → v.core.phase ≡ Electing u e
+      → ¬ FeedTells X v got word turn.Waiting
+  -- Behind with a row for each tenure, or where the step found another number than the presence of that tenure, was no load of that
+  -- sender's presence, or held no page
+  pub behind_apart : (t : ℕ) (p : SenderNo) → v.reuse ≡ None → ¬ FeedTells X v got word (turn.Behind t p)
+  pub behind_unnamed : (t : ℕ) (p : SenderNo) → got ≢ 1 + t → ¬ FeedTells X v got word (turn.Behind t p)
+  pub behind_without_a_load : (t : ℕ) (p : SenderNo)
+      → (line_now X v).op word ≢ Some (Load record { 0 = presence_at (sizes_with v.core.layout 0) p.0 })
+      → ¬ FeedTells X v got word (turn.Behind t p)
+  pub behind_at_rest : (t : ℕ) (p : SenderNo) → v.core.phase ≡ Resting → ¬ FeedTells X v got word (turn.Behind t p)
+  -- Going where it lost a tenure, whether it remembers to whom or not, came too late, takes a page or gives one back
+  pub loses_silently : (t : ℕ) (o : SenderNo) → Loses X v got word t o → ¬ FeedTells X v got word turn.Going
+  pub forgets_its_loss : (t : ℕ) (r : Reuse) → v.reuse ≡ Some r → r.pin ≡ Unpinning t → v.core.phase ≡ Resting
+      → ¬ FeedTells X v got word turn.Going
+  pub invalidated_silently : (t : ℕ) (r : Reuse) → v.reuse ≡ Some r → r.pin ≡ Invalidated t → ¬ FeedTells X v got word turn.Going
+  pub takes_silently : (t : ℕ) → IsChosen X v t → ¬ FeedTells X v got word turn.Going
+  pub gives_silently : (t : ℕ) → GivesReady X v t → ¬ FeedTells X v got word turn.Going
+  -- Going where it begins another tenure than the one whose stage it looked at
+  pub begins_elsewhere : (t : ℕ) → situation X v ≡ Does LooksAtStage → Begins ((line_now X v).fed got word) t → t ≢ got / 2
+      → ¬ FeedTells X v got word turn.Going

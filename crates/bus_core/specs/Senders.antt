@@ -1,0 +1,90 @@
+-- One sender: what it holds, and the situations that it can be in. Its rows are used again where it has a Reuse; with None each tenure has a
+-- row of its own.
+use Rattle.std.specs.Prelude.{ℕ, ◌+◌, Option, Some, None, nat_lt, if◌then◌else◌}
+use Rattle.bus_presence.specs.Reclaimers.{Reclaiming}
+use Rattle.bus_presence.specs.declared.pins.Pin.{Pin}
+use Rattle.bus_presence.specs.declared.pins.Pin.TheVariants.{Away, Announcing, Validating, Pinned, Unpinning, Invalidated}
+use Rattle.bus_tenure.specs.Core.{Core, Election, Layout, log_at}
+use Rattle.bus_tenure.specs.Situations.{Situation as Own, IsClosed, IsIdle, IsSpent, LooksAtStage, Elects, TakesPage, AwaitsPage, StoresWord, StoresLength, GivesBack, HasHanded, situation_of as own_situation}
+use Rattle.bus_guest.specs.Guests.{log_from}
+use Rattle.bus_guest.specs.Turns.{Visitor}
+use Rattle.bus_core.specs.declared.reuses.Reuse.{Reuse}
+
+pub record Sender (E : Type 0) : Type 0 where
+  pub core : Core E
+  pub reuse : Option Reuse
+
+-- with a row for each tenure
+abbrev pub apart : {E : Type 0} → Core E → Sender E
+apart c = record { core = c; reuse = None }
+
+-- with rows that are used again
+abbrev pub reuse_of : {E : Type 0} → Visitor E → Reuse
+reuse_of v = record { pin = v.pin; reclaimer = v.reclaimer; lost = v.lost; rows = v.rows }
+
+abbrev pub again : {E : Type 0} → Visitor E → Sender E
+again v = record { core = v.core; reuse = Some (reuse_of v) }
+
+abbrev pub visitor_of : {E : Type 0} → Core E → Reuse → Visitor E
+visitor_of c r = record { core = c; pin = r.pin; reclaimer = r.reclaimer; lost = r.lost; rows = r.rows }
+
+-- ---- the words
+-- where the log begins
+abbrev pub log_start : Layout → Option Reuse → ℕ
+log_start x None = log_at x
+log_start x (Some r) = log_from x r.rows
+
+-- how many words the bus has
+abbrev pub words_all : {E : Type 0} → Sender E → ℕ
+words_all v = log_start v.core.layout v.reuse + v.core.layout.capacity
+
+-- ---- the situations
+pub data Situation (E : Type 0) : Type 0 where
+  -- in a tenure, or before it
+  Does : Own E → Situation E
+  -- it stores its presence
+  Announces : (tenure : ℕ) → Situation E
+  -- its presence stands, and it looks at the stage again
+  Validates : (tenure : ℕ) → Situation E
+  -- it has lost the tenure, or taken its page, and clears its presence
+  Unpins : (tenure : ℕ) → Situation E
+  -- the stage was another tenure's, and it clears its presence
+  Withdraws : (tenure : ℕ) → Situation E
+  -- as a holder it loads the next presence
+  Scans : Reclaiming → Situation E
+  -- and clears the next word of the next tenure's row
+  Clears : Reclaiming → Situation E
+
+abbrev pub reclaiming : {E : Type 0} → Option Reclaiming → Own E → Situation E
+reclaiming None z = Does z
+reclaiming (Some s) z = if nat_lt s.scanned s.senders then Scans s else (if nat_lt s.cleared s.width then Clears s else Does z)
+
+-- what is left of a reclamation comes before the page is given back
+abbrev pub at_home : {E : Type 0} → Option Reclaiming → Own E → Situation E
+at_home s IsClosed = Does IsClosed
+at_home s IsIdle = Does IsIdle
+at_home s IsSpent = Does IsSpent
+at_home s LooksAtStage = Does LooksAtStage
+at_home s (Elects t e) = Does (Elects t e)
+at_home s (TakesPage t) = Does (TakesPage t)
+at_home s (AwaitsPage t) = Does (AwaitsPage t)
+at_home s (StoresWord t page stored) = Does (StoresWord t page stored)
+at_home s (StoresLength t page stored) = Does (StoresLength t page stored)
+at_home s (GivesBack t page reason) = reclaiming s (GivesBack t page reason)
+at_home s (HasHanded t reason) = Does (HasHanded t reason)
+
+-- a step of its pin comes first
+abbrev pub pinning : {E : Type 0} → Pin → Option Reclaiming → Own E → Situation E
+pinning Away s z = at_home s z
+pinning (Announcing t) s z = Announces t
+pinning (Validating t) s z = Validates t
+pinning (Pinned t) s z = at_home s z
+pinning (Unpinning t) s z = Unpins t
+pinning (Invalidated t) s z = Withdraws t
+
+abbrev pub situation_by : {E : Type 0} → Option Reuse → Own E → Situation E
+situation_by None z = Does z
+situation_by (Some r) z = pinning r.pin r.reclaimer z
+
+abbrev pub situation : {E : Type 0} → Election E → Sender E → Situation E
+situation X v = situation_by v.reuse (own_situation X v.core)

@@ -1,0 +1,133 @@
+-- What the answer of a step tells, by what the sender held before it.
+use Rattle.std.specs.Prelude.{◌≡◌, ◌≢◌, ◌⊎◌, ℕ, ◌+◌, ◌-◌, ◌/◌, ◌<◌, ◌≤◌, false, true, Option, Some, None, IfSome, IsSomeAnd}
+use Rattle.bus_register.specs.declared.registers.Op.TheVariants.{Load}
+use Rattle.bus_register.specs.declared.registers.SenderNo.{SenderNo}
+use Rattle.bus_batch.specs.Batches.{next_of}
+use Rattle.bus_presence.specs.Reclamation.{presence_at}
+use Rattle.bus_presence.specs.declared.pins.Pin.TheVariants.{Announcing, Pinned, Unpinning, Invalidated}
+use Rattle.bus_tenure.specs.Core.{Core, Election, is_closing}
+use Rattle.bus_tenure.specs.Seen.{tenure_of}
+use Rattle.bus_tenure.specs.Situations.{LooksAtStage, Elects, situation_of, waits as stage_waits}
+use Rattle.bus_tenure.specs.declared.phases.Phase.TheVariants.{Electing}
+use Rattle.bus_tenure.specs.declared.turns.Turn.{Turn}
+use Rattle.bus_tenure.specs.declared.turns.Turn.TheVariants.{Idle, Waiting, Going, Lost, Own, Delivered, Full, Closed, Spent, Behind}
+use Rattle.bus_guest.specs.Guests.{sizes_with}
+use Rattle.bus_guest.specs.Keeping.{IsRowReady, held_of}
+use Rattle.bus_guest.specs.Telling.{Returns, HasPublished, LacksRoom, FindsEnd}
+use Rattle.bus_core.specs.declared.reuses.Reuse.{Reuse}
+use Rattle.bus_core.specs.Senders.{Sender, Does, situation}
+use Rattle.bus_core.specs.Table.{line_now}
+
+-- it looked at the stage for the first time, and that was of a held tenure, or of one that it may not enter any more
+pub record LooksInVain {E : Type 0} (X : Election E) (v : Sender E) (got : ℕ) : Type 0 where
+  pub looks : situation X v ≡ Does LooksAtStage
+  pub waits : stage_waits v.core got ≡ true
+
+-- it looked at the stage for the first time, and that was of a tenure past the last one
+pub record FindsNoneLeft {E : Type 0} (X : Election E) (v : Sender E) (got : ℕ) : Type 0 where
+  pub looks : situation X v ≡ Does LooksAtStage
+  pub enters : stage_waits v.core got ≡ false
+  pub past : v.core.layout.rows ≤ got / 2
+
+-- it looked again, and the stage was another tenure's
+pub record IsInvalidated (r : Reuse) : Type 0 where
+  pub tenure : ℕ
+  pub is : r.pin ≡ Invalidated tenure
+
+-- the step ended its election of this tenure, in favour of this owner, another sender
+pub record LosesElection {E : Type 0} (X : Election E) (v : Sender E) (got word t : ℕ) (o : SenderNo) : Type 0 where
+  pub election : E
+  pub elects : situation X v ≡ Does (Elects t election)
+  pub chosen : X.owner (X.fed election got word) ≡ Some o.0
+  pub other : o.0 ≢ v.core.me
+
+-- it withdraws from this tenure, which it lost to this owner
+pub record PartsAsLoser (r : Reuse) (t : ℕ) (o : SenderNo) : Type 0 where
+  pub parts : r.pin ≡ Unpinning t
+  pub lost : r.lost ≡ Some o
+
+-- it lost this tenure to this owner: with the step that ended its election, or where rows are used again with the one that clears its
+-- presence
+abbrev pub LosesBy : {E : Type 0} → Election E → Sender E → ℕ → ℕ → ℕ → SenderNo → Option Reuse → Type 0
+LosesBy X v got word t o None = LosesElection X v got word t o
+LosesBy X v got word t o (Some r) = PartsAsLoser r t o
+
+abbrev pub Loses : {E : Type 0} → Election E → Sender E → ℕ → ℕ → ℕ → SenderNo → Type 0
+Loses X v got word t o = LosesBy X v got word t o v.reuse
+
+-- its election of this tenure had ended and chosen it; where rows are used again it stood in that tenure
+pub record IsChosen {E : Type 0} (X : Election E) (v : Sender E) (t : ℕ) : Type 0 where
+  pub pinned : IfSome v.reuse (λ r. r.pin ≡ Pinned t)
+  pub election : E
+  pub elects : v.core.phase ≡ Electing t election
+  pub chosen : X.owner election ≡ Some v.core.me
+
+-- it gives the page of this tenure back, or has handed it on, and where rows are used again the row of the next tenure was ready
+pub record GivesReady {E : Type 0} (X : Election E) (v : Sender E) (t : ℕ) : Type 0 where
+  pub does : situation X v ≡ Does (situation_of X v.core)
+  pub returns : Returns t (situation_of X v.core)
+  pub ready : IfSome v.reuse (λ r. IsRowReady (sizes_with v.core.layout r.rows) t r.reclaimer)
+
+-- it gives the page of this tenure back with its messages in the log, and these are the first and the last number of its batch
+pub record Delivers {E : Type 0} (X : Election E) (v : Sender E) (t first last : ℕ) : Type 0 where
+  pub gives : GivesReady X v t
+  pub published : HasPublished t v.core.phase
+  pub sends : is_closing v.core.queue.phase ≡ false
+  pub first_is : first ≡ v.core.queue.first
+  pub last_is : last ≡ next_of v.core.queue - 1
+
+-- of whatever tenure that was: its frame does not fit
+pub record IsFull {E : Type 0} (X : Election E) (v : Sender E) : Type 0 where
+  pub tenure : ℕ
+  pub gives : GivesReady X v tenure
+  pub lacks : LacksRoom v.core tenure v.core.phase
+
+-- its end mark stands in the log, or the order had ended before
+pub record Ends {E : Type 0} (X : Election E) (v : Sender E) : Type 0 where
+  pub tenure : ℕ
+  pub gives : GivesReady X v tenure
+  pub why : ((is_closing v.core.queue.phase ≡ true) × HasPublished tenure v.core.phase) ⊎ FindsEnd tenure v.core.phase
+
+-- it holds a page, and loaded the presence of sender p, which named tenure t, whose row the tenure after its own uses
+pub record IsBehind {E : Type 0} (X : Election E) (v : Sender E) (got word t p : ℕ) (r : Reuse) : Type 0 where
+  pub loads : (line_now X v).op word ≡ Some (Load record { 0 = presence_at (sizes_with v.core.layout r.rows) p })
+  pub found : got ≡ 1 + t
+  pub below : p < v.core.layout.senders
+  pub tenure : ℕ
+  pub held : held_of v.core.phase ≡ Some tenure
+  pub past : t + r.rows ≡ tenure + 1
+
+-- it has begun this tenure: its election runs, or where rows are used again it is to store its presence
+abbrev pub BeginsBy : {E : Type 0} → Core E → Option Reuse → ℕ → Type 0
+BeginsBy c None t = tenure_of c.phase ≡ Some t
+BeginsBy c (Some r) t = r.pin ≡ Announcing t
+
+abbrev pub Begins : {E : Type 0} → Sender E → ℕ → Type 0
+Begins v t = BeginsBy v.core v.reuse t
+
+-- No other answer is due. It lost no tenure, and withdraws from none that it came too late for; so where it withdraws, it has taken that
+-- tenure's page. It takes no page, and gives none back; where it looked at the stage for the first time, that lets it begin the stage's
+-- tenure, and it does so; and nobody is behind.
+pub record TellsNoMore {E : Type 0} (X : Election E) (v : Sender E) (got word : ℕ) : Type 0 where
+  pub loses : (t : ℕ) (o : SenderNo) → ¬ Loses X v got word t o
+  pub holds : (t : ℕ) → IsSomeAnd v.reuse (λ r. r.pin ≡ Unpinning t) → held_of v.core.phase ≡ Some t
+  pub invalidated : ¬ IsSomeAnd v.reuse (λ r. IsInvalidated r)
+  pub takes : (t : ℕ) → ¬ IsChosen X v t
+  pub gives : (t : ℕ) → ¬ GivesReady X v t
+  pub waits : ¬ LooksInVain X v got
+  pub spent : ¬ FindsNoneLeft X v got
+  pub begins : situation X v ≡ Does LooksAtStage → Begins ((line_now X v).fed got word) (got / 2)
+  pub behind : (t p : ℕ) → ¬ IsSomeAnd v.reuse (λ r. IsBehind X v got word t p r)
+
+-- With a step that found this number, and this random word. No step is taken where nothing is pending.
+abbrev pub FeedTells : {E : Type 0} → Election E → Sender E → ℕ → ℕ → Turn → Type 0
+FeedTells X v got word Idle = ⊥
+FeedTells X v got word Waiting = LooksInVain X v got ⊎ IsSomeAnd v.reuse (λ r. IsInvalidated r)
+FeedTells X v got word Going = TellsNoMore X v got word
+FeedTells X v got word (Lost t o) = Loses X v got word t o
+FeedTells X v got word (Own t) = IsChosen X v t
+FeedTells X v got word (Delivered t first last) = Delivers X v t first last
+FeedTells X v got word Full = IsFull X v
+FeedTells X v got word Closed = Ends X v
+FeedTells X v got word Spent = FindsNoneLeft X v got
+FeedTells X v got word (Behind t p) = IsSomeAnd v.reuse (λ r. IsBehind X v got word t p.0 r)

@@ -1,0 +1,637 @@
+//! A sender and its turns.
+
+ghost use Rattle.std.specs.Prelude.{◌≡◌, ℕ, ◌+◌, ◌*◌, ◌-◌, ◌<◌, ◌≤◌, ◌^◌, [], ◌∷◌, ◌++◌, length};
+ghost use Rattle.std.specs.Prelude.{Option, Some, None, IfOk, IfErr, OnOk, OnErr, IfSome, IsSome};
+ghost use Rattle.std.specs.Prelude.{IsTrue, ◌↔◌, false, true, ◌%◌};
+ghost use Rattle.bus_register.specs.Words.{register};
+ghost use Rattle.bus_batch.specs.Batches.{next_of, CanPut, IsPutFault, CanClose, IsCloseFault};
+ghost use Rattle.bus_batch.specs.Batches.{IsShut};
+ghost use Rattle.bus_batch.specs.declared.batches.Phase.TheVariants as queue_phase;
+ghost use Rattle.bus_tenure.specs.Core.{words_of, is_closing, is_closed};
+ghost use Rattle.bus_tenure.specs.Elections.{election_of, elections, layout_with};
+ghost use Rattle.bus_tenure.specs.Seen.{AwaitsItsPage, turns_of, HasElection};
+ghost use Rattle.bus_tenure.specs.Situations.{situation_of, tenure_begun as tenure_by_stage};
+ghost use Rattle.bus_tenure.specs.declared.phases.Phase.TheVariants as phase;
+ghost use Rattle.bus_guest.specs.Turns.{on_place};
+ghost use Rattle.bus_turning.specs.Doings.{doing_of};
+ghost use Rattle.bus_turning.specs.declared.doings.Doing.TheVariants as doing;
+ghost use Rattle.bus_core.specs.Causes.{HasCause, IsCaused};
+ghost use Rattle.bus_core.specs.Doings.{step_of};
+ghost use Rattle.bus_core.specs.Keeping.{ReuseKeeps, reclaimer_op_of, sender, IsAway, queue_of};
+ghost use Rattle.bus_core.specs.Keeping.{page_out, core_without, new_sender};
+ghost use Rattle.bus_core.specs.Places.{LiesAt};
+ghost use Rattle.bus_core.specs.Seen.{pin_of, tenure_begun};
+ghost use Rattle.bus_core.specs.Senders.{Does, situation, log_start, words_all};
+ghost use Rattle.bus_core.specs.Table.{line, line_now, rest_at};
+ghost use Rattle.bus_core.specs.Telling.{FeedTells};
+
+use super::feeding::feed_parts;
+use super::reuses::Reuse;
+use super::steps::{Ending, Step, ending_of};
+use bus_adoptcommit::Ratifier;
+use bus_batch::{CloseFault, PutFault};
+use bus_guest::limits::{LEAST_ROWS_AGAIN, MOST_ROWS_AGAIN};
+use bus_ownerbits::Election;
+use bus_presence::Pin;
+use bus_register::limits::{MOST_ROUNDS, MOST_SENDERS, NUMBERS, TENURES};
+use bus_register::{Kind, Op, Reg, SenderNo};
+use bus_tenure::{Page, Turn};
+use bus_turning::{Doing, Turns};
+use std::marker::Model;
+
+/// The word of the length.
+const LENGTH: Reg = Reg(0);
+
+/// The word of the stage: twice the tenure that is open, and one more while its owner has the page.
+const STAGE: Reg = Reg(1);
+
+/// A sender. It takes one step a turn, which `next` tells and whose finding `feed` takes in. Each
+/// tenure has a row of words of its own, or a few rows are used again.
+///
+/// A turn that looks at the situation once asks `step`, gives what that told to `take_out_of`, and
+/// then to `wants_word_of`, `next_of` and `feed_of`, or to `rest_of`.
+///
+/// The words are the length, the stage, where rows are used again a presence for each sender, the
+/// rows and the log, in this order.
+#[derive(Drop)]
+pub struct SenderCore<Q: Ratifier> {
+    turns: Turns<Q>,
+    reuse: Option<Reuse>,
+}
+
+impl<Q: Ratifier> Model for SenderCore<Q> {
+    ghost use Rattle.bus_tenure.specs.Elections.{Elector, elections};
+    ghost use Rattle.bus_core.specs.Keeping.{ReuseKeeps};
+    ghost use Rattle.bus_core.specs.Senders.{Sender};
+
+    ghost Value = { Sender (Elector Q) };
+
+    ghost view = { λ c. record { core = c.turns; reuse = c.reuse } };
+
+    ghost invariant = { λ c. ReuseKeeps
+        ((elections Q.protocol c.turns.layout.rounds).width c.turns.layout.senders)
+        ((elections Q.protocol c.turns.layout.rounds).Belongs c.turns.layout.senders c.turns.me)
+        c.turns c.reuse };
+}
+
+impl<Q: Ratifier + Drop> SenderCore<Q> {
+    /// Sender `me` of so many, with nothing pending and no tenure begun, of a bus of so many rounds
+    /// for each bit, rows, one for each tenure, and log words.
+    pub fn new(senders: u64, me: SenderNo, rounds: u64, rows: u64, log_words: u64) -> SenderCore<Q>
+        requires me_below { me.0 < senders }
+        requires few { senders ≤ MOST_SENDERS }
+        requires rounds_some { 1 ≤ rounds }
+        requires rounds_few { rounds ≤ MOST_ROUNDS }
+        requires rows_few { rows ≤ TENURES }
+        requires log_few { log_words ≤ 2 ^ 20 }
+        requires room { words_of (layout_with Q.protocol senders rounds rows log_words) ≤ 2 ^ 63 }
+        ensures { result ≡ new_sender
+            (layout_with Q.protocol senders rounds rows log_words) me.0 None }
+    {
+        SenderCore {
+            turns: Turns::new(senders, me, rounds, rows, log_words),
+            reuse: None,
+        }
+    }
+
+    /// The same where rows are used again, 2 to 8.
+    pub fn cyclic(
+        senders: u64,
+        me: SenderNo,
+        rounds: u64,
+        rows: u64,
+        log_words: u64,
+    ) -> SenderCore<Q>
+        requires me_below { me.0 < senders }
+        requires few { senders ≤ MOST_SENDERS }
+        requires rounds_some { 1 ≤ rounds }
+        requires rounds_few { rounds ≤ MOST_ROUNDS }
+        requires rows_some { LEAST_ROWS_AGAIN ≤ rows }
+        requires rows_few { rows ≤ MOST_ROWS_AGAIN }
+        requires log_few { log_words ≤ 2 ^ 20 }
+        ensures { result ≡ new_sender
+            (layout_with Q.protocol senders rounds TENURES log_words) me.0 (Some rows) }
+    {
+        let width = Election::<Q>::width(senders, rounds);
+        let _ = width;
+        SenderCore {
+            turns: Turns::new(senders, me, rounds, TENURES, log_words),
+            reuse: Some(Reuse {
+                pin: Pin::Away,
+                reclaimer: None,
+                lost: None,
+                rows,
+            }),
+        }
+    }
+
+    /// The sender's number.
+    pub fn number(&self) -> SenderNo
+        ensures { result.0 ≡ self.now.core.me }
+    {
+        self.turns.number()
+    }
+
+    /// How many messages wait.
+    pub fn pending(&self) -> u64
+        ensures { result ≡ length self.now.core.queue.messages }
+    {
+        self.turns.pending()
+    }
+
+    /// The number that the next message gets.
+    pub fn next_number(&self) -> u64
+        ensures { result ≡ next_of self.now.core.queue }
+    {
+        self.turns.next_number()
+    }
+
+    /// An end mark waits.
+    pub fn is_closing(&self) -> bool
+        ensures { result ≡ is_closing self.now.core.queue.phase }
+    {
+        self.turns.is_closing()
+    }
+
+    /// Nothing more is sent.
+    pub fn is_closed(&self) -> bool
+        ensures { result ≡ is_closed self.now.core.queue.phase }
+    {
+        self.turns.is_closed()
+    }
+
+    /// How far its pin of a tenure has come; none where each tenure has a row of its own.
+    pub fn pin(&self) -> Option<Pin>
+        ensures { result ≡ pin_of self.now.reuse }
+    {
+        match &self.reuse {
+            None => None,
+            Some(reuse) => Some(reuse.pin),
+        }
+    }
+
+    /// The tenure that it has begun, or whose page it has.
+    pub fn tenure(&self) -> Option<u64>
+        ensures { result ≡ tenure_begun self.now }
+    {
+        match self.pin() {
+            None | Some(Pin::Away) => self.turns.tenure(),
+            Some(Pin::Announcing { tenure })
+            | Some(Pin::Validating { tenure })
+            | Some(Pin::Pinned { tenure })
+            | Some(Pin::Unpinning { tenure })
+            | Some(Pin::Invalidated { tenure }) => Some(tenure),
+        }
+    }
+
+    /// How many turns the election takes at most, with the one that takes the page; 0 where none is
+    /// begun. Those of its pin are not among them.
+    pub fn turns_left(&self) -> u64
+        ensures turns { let X = election_of Q.Ratifier in result ≡ turns_of X self.now.core.phase }
+        ensures running { HasElection self.now.core.phase → 1 ≤ result }
+    {
+        self.turns.turns_left()
+    }
+
+    /// The tenure that it may begin where the stage is this.
+    pub fn may_begin(&self, stage: u64) -> Option<u64>
+        ensures { result ≡ tenure_by_stage self.now.core stage }
+    {
+        self.turns.may_begin(stage)
+    }
+
+    /// What it does next.
+    pub fn step(&self) -> Step
+        ensures { let X = election_of Q.Ratifier in result ≡ step_of (situation X self.now) }
+    {
+        let Some(reuse) = &self.reuse else {
+            return Step::Does(self.turns.doing());
+        };
+        match reuse.pin {
+            Pin::Announcing { tenure } => Step::Announces { tenure },
+            Pin::Validating { tenure } => Step::Validates { tenure },
+            Pin::Unpinning { tenure } => Step::Unpins { tenure },
+            Pin::Invalidated { tenure } => Step::Withdraws { tenure },
+            Pin::Away | Pin::Pinned { .. } => {
+                let doing = self.turns.doing();
+                match (doing, &reuse.reclaimer) {
+                    (Doing::Back { .. }, Some(reclaimer)) => match reclaimer.next() {
+                        Some(Op::Load(_)) => Step::Scans,
+                        Some(_) => Step::Clears,
+                        None => Step::Does(doing),
+                    },
+                    _ => Step::Does(doing),
+                }
+            }
+        }
+    }
+
+    /// Where its presence stands.
+    fn presence(&self) -> Reg
+        ensures { result.0 ≡ 2 + self.now.core.me }
+    {
+        Reg(2 + u64::from(self.turns.number().0))
+    }
+
+    /// Where the log begins.
+    fn log_start(&self) -> u64
+        ensures at { result ≡ log_start self.now.core.layout self.now.reuse }
+        ensures room { result + self.now.core.layout.capacity ≤ 2 ^ 63 }
+    {
+        match &self.reuse {
+            None => self.turns.log_apart(),
+            Some(reuse) => 2 + self.turns.senders() + reuse.rows * self.turns.width(),
+        }
+    }
+
+    /// A step of its election, on the row that its tenure uses.
+    fn election_step(&self, tenure: u64, word: u32) -> Option<Op>
+        requires { let X = election_of Q.Ratifier in
+            doing_of (situation_of X self.now.core) ≡ doing.Elects tenure }
+        ensures step { let X = election_of Q.Ratifier in
+            result ≡ (line X self.now (Does (situation_of X self.now.core))).op word }
+        ensures below { IfSome result (λ o. register o < words_all self.now) }
+    {
+        let op = self.turns.election_next(tenure, word)?;
+        match &self.reuse {
+            None => Some(op),
+            Some(reuse) => {
+                let senders = self.turns.senders();
+                Some(on_row(op, tenure, senders, reuse.rows, self.turns.width()))
+            }
+        }
+    }
+
+    /// The step of a sender in its tenure, or before it.
+    fn own_step(&self, doing: Doing, word: u32) -> Option<Op>
+        requires { let X = election_of Q.Ratifier in
+            doing_of (situation_of X self.now.core) ≡ doing }
+        ensures step { let X = election_of Q.Ratifier in
+            result ≡ (line X self.now (Does (situation_of X self.now.core))).op word }
+        ensures below { IfSome result (λ o. register o < words_all self.now) }
+    {
+        match doing {
+            Doing::Rests(_) | Doing::Awaits { .. } => None,
+            Doing::Looks => Some(Op::Load(STAGE)),
+            Doing::Elects { tenure } => self.election_step(tenure, word),
+            Doing::Takes { tenure } => Some(Op::Store(STAGE, self.turns.stage_taken(tenure))),
+            Doing::Word {
+                tenure,
+                words,
+                stored,
+            } => {
+                let number = self.turns.frame_word(tenure, words, stored);
+                Some(Op::Store(Reg(self.log_start() + words + stored), number))
+            }
+            Doing::Length { tenure, words } => {
+                Some(Op::Store(LENGTH, self.turns.length_after(tenure, words)))
+            }
+            Doing::Back { .. } | Doing::Handed { .. } => {
+                Some(Op::Store(STAGE, self.turns.stage_given()))
+            }
+        }
+    }
+
+    /// What the step of a sender in its tenure, or before it, is for.
+    fn own_kind(&self, doing: Doing) -> Option<Kind>
+        requires { let X = election_of Q.Ratifier in
+            doing_of (situation_of X self.now.core) ≡ doing }
+        ensures { let X = election_of Q.Ratifier in
+            result ≡ (line X self.now (Does (situation_of X self.now.core))).kind }
+    {
+        match doing {
+            Doing::Rests(_) | Doing::Awaits { .. } => None,
+            Doing::Looks => Some(Kind::LoadStage),
+            Doing::Elects { tenure } => self.turns.election_kind(tenure),
+            Doing::Takes { .. } => Some(Kind::TakePage),
+            Doing::Word { .. } => Some(Kind::StoreLogWord),
+            Doing::Length { .. } => Some(Kind::StoreLength),
+            Doing::Back { .. } | Doing::Handed { .. } => Some(Kind::GivePageBack),
+        }
+    }
+
+    /// Each kind of step has its cause in what the sender holds before it.
+    pub fn has_causes(&self)
+        ensures { let X = election_of Q.Ratifier in IsCaused X Q.protocol self.now }
+    {
+        self.turns.is_kept();
+    }
+
+    /// The next step lies where its situation has it.
+    fn lies(&self, word: u32)
+        ensures { let X = election_of Q.Ratifier in
+            IfSome ((line_now X self.now).op word)
+            (λ o. LiesAt self.now (situation X self.now) (register o)) }
+    {
+        self.turns.is_kept();
+        let _ = word;
+    }
+
+    /// What the answer to the next step tells.
+    fn tells(&self, got: u64, word: u32)
+        requires { let X = election_of Q.Ratifier in
+            IsSome ((line_now X self.now).op word) }
+        ensures { let X = election_of Q.Ratifier in
+            FeedTells X self.now got word ((line_now X self.now).answer got word) }
+    {
+        self.turns.is_kept();
+        let _ = (got, word);
+    }
+
+    /// What the next step is for; none where none is due.
+    pub fn kind(&self) -> Option<Kind>
+        ensures kind { let X = election_of Q.Ratifier in result ≡ (line_now X self.now).kind }
+        ensures cause { IfSome result (λ k. HasCause Q.protocol self.now k) }
+    {
+        self.kind_of(self.step())
+    }
+
+    /// The same of the step that `step` told.
+    pub fn kind_of(&self, step: Step) -> Option<Kind>
+        requires { let X = election_of Q.Ratifier in step_of (situation X self.now) ≡ step }
+        ensures kind { let X = election_of Q.Ratifier in result ≡ (line_now X self.now).kind }
+        ensures cause { IfSome result (λ k. HasCause Q.protocol self.now k) }
+    {
+        self.has_causes();
+        self.kind_in(step)
+    }
+
+    /// What the step is for that `step` told.
+    fn kind_in(&self, step: Step) -> Option<Kind>
+        requires { let X = election_of Q.Ratifier in step_of (situation X self.now) ≡ step }
+        ensures { let X = election_of Q.Ratifier in result ≡ (line_now X self.now).kind }
+    {
+        match step {
+            Step::Does(doing) => self.own_kind(doing),
+            Step::Announces { .. } => Some(Kind::Enter),
+            Step::Validates { .. } => Some(Kind::LoadStageAgain),
+            Step::Unpins { .. } | Step::Withdraws { .. } => Some(Kind::Withdraw),
+            Step::Scans => Some(Kind::ReadPresence),
+            Step::Clears => Some(Kind::ClearRow),
+        }
+    }
+
+    /// The answer where no step is due; Going where one is, or a page is to be laid.
+    pub fn rest(&self) -> Turn
+        ensures { let X = election_of Q.Ratifier in result ≡ rest_at (line_now X self.now) }
+    {
+        self.rest_of(self.step())
+    }
+
+    /// The same of the step that `step` told.
+    pub fn rest_of(&self, step: Step) -> Turn
+        requires { let X = election_of Q.Ratifier in step_of (situation X self.now) ≡ step }
+        ensures { let X = election_of Q.Ratifier in result ≡ rest_at (line_now X self.now) }
+    {
+        match step {
+            Step::Does(Doing::Rests(turn)) => turn,
+            _ => Turn::Going,
+        }
+    }
+
+    /// The next step asks for a random word.
+    pub fn wants_word(&self) -> bool
+        ensures { let X = election_of Q.Ratifier in result ≡ (line_now X self.now).wants_word }
+    {
+        self.wants_word_of(self.step())
+    }
+
+    /// The same of the step that `step` told.
+    pub fn wants_word_of(&self, step: Step) -> bool
+        requires { let X = election_of Q.Ratifier in step_of (situation X self.now) ≡ step }
+        ensures { let X = election_of Q.Ratifier in result ≡ (line_now X self.now).wants_word }
+    {
+        match step {
+            Step::Does(_) => self.turns.wants_word(),
+            Step::Announces { .. } | Step::Validates { .. } => false,
+            Step::Unpins { .. } | Step::Withdraws { .. } => false,
+            Step::Scans | Step::Clears => false,
+        }
+    }
+
+    /// It pins no tenure.
+    fn is_away(&self) -> bool
+        ensures { IsTrue result ↔ IsAway self.now.reuse }
+    {
+        match &self.reuse {
+            None => true,
+            Some(reuse) => reuse.pin == Pin::Away,
+        }
+    }
+
+    /// It has closed, or is closing.
+    fn is_shut(&self) -> bool
+        ensures { IsTrue result ↔ IsShut self.now.core.queue }
+    {
+        self.turns.is_closing() || self.turns.is_closed()
+    }
+
+    /// Appends a message to the batch and gives its number. While it pins a tenure the batch is
+    /// on its way.
+    pub fn put(&mut self, bytes: &[u8]) -> Result<u64, PutFault>
+        requires { next_of self.old.core.queue < NUMBERS }
+        ensures number { IfOk result (λ number. number ≡ next_of self.old.core.queue) }
+        ensures taken { OnOk result
+            (self.new ≡ record self.old {
+              core = record self.old.core {
+                queue = record self.old.core.queue {
+                  messages = self.old.core.queue.messages ++ bytes.now ∷ [];
+                };
+              };
+            }) }
+        ensures could { OnOk result
+            (CanPut (queue_of self.old.core.queue self.old.reuse) (length bytes.now)) }
+        ensures fault { IfErr result
+            (IsPutFault (queue_of self.old.core.queue self.old.reuse) (length bytes.now)) }
+        ensures refused { OnErr result (self.new ≡ self.old) }
+    {
+        if self.is_away() {
+            return self.turns.put(bytes);
+        }
+        if self.is_shut() {
+            return Err(PutFault::Closed);
+        }
+        Err(PutFault::Busy)
+    }
+
+    /// Lets an end mark wait in place of messages. While it pins a tenure the batch is on its
+    /// way.
+    pub fn close(&mut self) -> Result<(), CloseFault>
+        ensures taken { OnOk result
+            (self.new ≡ record self.old {
+              core = record self.old.core {
+                queue = record self.old.core.queue { phase = queue_phase.Closing };
+              };
+            }) }
+        ensures could { OnOk result
+            (CanClose (queue_of self.old.core.queue self.old.reuse)) }
+        ensures fault { IfErr result
+            (IsCloseFault (queue_of self.old.core.queue self.old.reuse)) }
+        ensures refused { OnErr result (self.new ≡ self.old) }
+    {
+        if self.is_away() {
+            return self.turns.close();
+        }
+        if self.is_shut() {
+            return Err(CloseFault::Closed);
+        }
+        Err(CloseFault::Busy)
+    }
+
+    /// The page is taken and is to be laid.
+    pub fn awaits_page(&self) -> bool
+        ensures { IsTrue result ↔ AwaitsItsPage self.now.core.phase }
+    {
+        self.turns.awaits_page()
+    }
+
+    /// Lays the page before it, which it has taken.
+    pub fn lay(&mut self, page: Page)
+        requires { AwaitsItsPage self.old.core.phase }
+        ensures { (t : ℕ) → self.old.core.phase ≡ phase.Taken t
+            → self.new ≡ record self.old {
+              core = record self.old.core { phase = phase.Holding t page 0 false };
+            } }
+    {
+        self.turns.lay(page);
+    }
+
+    /// Takes the page from it, where it is to be given back.
+    pub fn take_out(&mut self) -> Option<Page>
+        ensures page { let X = election_of Q.Ratifier in
+            result ≡ page_out (line_now X self.old).move }
+        ensures state { let X = election_of Q.Ratifier in
+            self.new ≡ record self.old {
+              core = core_without (line_now X self.old).move self.old.core;
+            } }
+    {
+        let mut step = self.step();
+        self.take_out_of(&mut step)
+    }
+
+    /// The same of the step that `step` told, which becomes the one that is due afterwards.
+    pub fn take_out_of(&mut self, step: &mut Step) -> Option<Page>
+        requires { let X = election_of Q.Ratifier in step_of (situation X self.old) ≡ step.old }
+        ensures page { let X = election_of Q.Ratifier in
+            result ≡ page_out (line_now X self.old).move }
+        ensures state { let X = election_of Q.Ratifier in
+            self.new ≡ record self.old {
+              core = core_without (line_now X self.old).move self.old.core;
+            } }
+        ensures due { let X = election_of Q.Ratifier in step_of (situation X self.new) ≡ step.new }
+    {
+        match ending_of(*step) {
+            None => None,
+            Some(Ending { tenure, reason }) => {
+                *step = Step::Does(Doing::Handed { tenure, reason });
+                Some(self.turns.hand(tenure, reason))
+            }
+        }
+    }
+
+    /// The next step; none where none is due. Takes nothing and changes nothing.
+    pub fn next(&self, word: u32) -> Option<Op>
+        ensures step { let X = election_of Q.Ratifier in
+            result ≡ (line_now X self.now).op word }
+        ensures lies { let X = election_of Q.Ratifier in
+            IfSome result (λ o. LiesAt self.now (situation X self.now) (register o)) }
+        ensures below { IfSome result (λ o. register o < words_all self.now) }
+    {
+        self.next_of(self.step(), word)
+    }
+
+    /// The same of the step that `step` told.
+    pub fn next_of(&self, step: Step, word: u32) -> Option<Op>
+        requires { let X = election_of Q.Ratifier in step_of (situation X self.now) ≡ step }
+        ensures step { let X = election_of Q.Ratifier in
+            result ≡ (line_now X self.now).op word }
+        ensures lies { let X = election_of Q.Ratifier in
+            IfSome result (λ o. LiesAt self.now (situation X self.now) (register o)) }
+        ensures below { IfSome result (λ o. register o < words_all self.now) }
+    {
+        self.lies(word);
+        self.step_in(step, word)
+    }
+
+    /// The step that `step` told.
+    fn step_in(&self, step: Step, word: u32) -> Option<Op>
+        requires { let X = election_of Q.Ratifier in step_of (situation X self.now) ≡ step }
+        ensures step { let X = election_of Q.Ratifier in
+            result ≡ (line_now X self.now).op word }
+        ensures below { IfSome result (λ o. register o < words_all self.now) }
+    {
+        match step {
+            Step::Does(doing) => self.own_step(doing, word),
+            Step::Announces { tenure } => Some(Op::Store(self.presence(), 1 + tenure)),
+            Step::Validates { .. } => Some(Op::Load(STAGE)),
+            Step::Unpins { .. } | Step::Withdraws { .. } => Some(Op::Store(self.presence(), 0)),
+            Step::Scans | Step::Clears => reclaimer_step(&self.reuse),
+        }
+    }
+
+    /// The step that `next` told for the same random word was taken, and found `got`.
+    pub fn feed(&mut self, got: u64, word: u32) -> Turn
+        requires { let X = election_of Q.Ratifier in
+            IsSome ((line_now X self.old).op word) }
+        ensures state { let X = election_of Q.Ratifier in
+            self.new ≡ (line_now X self.old).fed got word }
+        ensures answer { let X = election_of Q.Ratifier in
+            result ≡ (line_now X self.old).answer got word }
+        ensures tells { let X = election_of Q.Ratifier in FeedTells X self.old got word result }
+    {
+        let step = self.step();
+        self.feed_of(step, got, word)
+    }
+
+    /// The same of the step that `step` told.
+    pub fn feed_of(&mut self, step: Step, got: u64, word: u32) -> Turn
+        requires step { let X = election_of Q.Ratifier in
+            step_of (situation X self.old) ≡ step }
+        requires due { let X = election_of Q.Ratifier in
+            IsSome ((line_now X self.old).op word) }
+        ensures state { let X = election_of Q.Ratifier in
+            self.new ≡ (line_now X self.old).fed got word }
+        ensures answer { let X = election_of Q.Ratifier in
+            result ≡ (line_now X self.old).answer got word }
+        ensures tells { let X = election_of Q.Ratifier in FeedTells X self.old got word result }
+    {
+        self.tells(got, word);
+        feed_parts(&mut self.turns, &mut self.reuse, step, got, word)
+    }
+}
+
+/// The next step of a reclamation.
+fn reclaimer_step(reuse: &Option<Reuse>) -> Option<Op>
+    ensures { result ≡ reclaimer_op_of reuse.now }
+{
+    match reuse {
+        None => None,
+        Some(reuse) => match &reuse.reclaimer {
+            None => None,
+            Some(reclaimer) => reclaimer.next(),
+        },
+    }
+}
+
+/// A step on a word of a row, on the row that this tenure uses.
+fn on_row(op: Op, tenure: u64, senders: u64, rows: u64, width: u64) -> Op
+    requires tenure { tenure < TENURES }
+    requires senders { senders ≤ MOST_SENDERS }
+    requires rows_some { LEAST_ROWS_AGAIN ≤ rows }
+    requires rows_few { rows ≤ MOST_ROWS_AGAIN }
+    requires width { width ≤ 2 ^ 23 }
+    requires above { 2 + tenure * width ≤ register op }
+    requires below { register op < 2 + tenure * width + width }
+    ensures op { result ≡ on_place
+        (λ at. 2 + senders + tenure % rows * width + (at - (2 + tenure * width))) op }
+    ensures below { register result < 2 + senders + rows * width }
+{
+    let from = 2 + tenure * width;
+    let to = 2 + senders + tenure % rows * width;
+    match op {
+        Op::Load(at) => Op::Load(Reg(to + (at.0 - from))),
+        Op::Store(at, number) => Op::Store(Reg(to + (at.0 - from)), number),
+        Op::Add(at, number) => Op::Add(Reg(to + (at.0 - from)), number),
+        Op::Cas(at, old, new) => Op::Cas(Reg(to + (at.0 - from)), old, new),
+    }
+}

@@ -1,0 +1,36 @@
+//! What no step of a sender may answer, and what is no cause of one.
+
+ghost use Rattle.std.specs.Prelude.{ℕ};
+ghost use Rattle.bus_tenure.specs.Elections.{Elector, election_of};
+ghost use Rattle.bus_core.specs.CausesRefuse.{RefusesCauses};
+ghost use Rattle.bus_core.specs.Refused.{AnswersRefuse};
+ghost use Rattle.bus_core.specs.Senders.{Sender};
+
+use bus_adoptcommit::Ratifier;
+
+/// No answer of a step is true that is Idle; Delivered before the length takes the frame in, or
+/// with other numbers than those of the batch; Full where the frame fits; Closed while the order
+/// goes on; Spent while a tenure is left; Lost to itself, at rest, by a step that left its election
+/// without an owner, or where it remembers no owner; Own while it pins no tenure, of another
+/// tenure, or of one whose election chose another; Waiting of a sender that goes through its
+/// election; Behind with a row for each tenure, where the step loaded no presence, found another
+/// number than that of the tenure, or was taken without a page; or Going where one of these is due,
+/// or where it begins another tenure than the one whose stage it looked at.
+pub fn answers_refuse<Q: Ratifier>()
+    ensures { let X = election_of Q.Ratifier in
+        (sender : Sender (Elector Q)) (got word : ℕ) → AnswersRefuse X sender got word }
+{}
+
+/// No sender that rests takes a page, stores a word of a log or falls back. None stores a length
+/// past the end of the order, goes on in a ratifier before it has brought its bit, brings it twice,
+/// loads a mark before it has set its own, votes out of turn, or takes a page before it was chosen.
+///
+/// With a row for each tenure none shows a presence, asks for one, or clears a row. With rows that
+/// are used again none takes a step of an election while it pins no tenure, has not stored its
+/// presence, has not looked at the stage again, stands in another tenure or is to clear its
+/// presence. None enters a tenure that is past for it, clears its presence while it pins none or
+/// stands in one, clears a row before all presences have passed, or gives a page back before the
+/// row after its tenure's is ready.
+pub fn causes_refuse<Q: Ratifier>()
+    ensures { (sender : Sender (Elector Q)) → RefusesCauses Q.protocol sender }
+{}

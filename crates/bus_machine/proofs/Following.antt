@@ -1,0 +1,250 @@
+-- Whatever happens, the new machine follows the old one, and what is answered is so.
+use Rattle.std.proofs.Common.{◌≡◌, ℕ, ◌+◌, ◌/◌, ◌≤◌, Option, Some, None, List, ◌++◌, filter, map, slice_get, refl, sym, ◌∙◌, ap, subst}
+use Rattle.std.proofs.Math.Path.{fun_ext}
+use Rattle.std.proofs.lemmas.Grind.{flat_map-append}
+use Rattle.std.proofs.lemmas.Option.{slice_get-map, same_Some}
+use Rattle.std.specs.Prelude.{option_map}
+use Rattle.bus_batch.specs.Frames.{frame_words, log_words}
+use Rattle.bus_core.specs.Senders.{Sender, apart, again}
+use Rattle.bus_core.specs.Table.{lost_of}
+use Rattle.bus_cyclic.proofs.CyclicLaws.{led, layout_served}
+use Rattle.bus_cyclic.proofs.LogGrowing.{log_grows}
+use Rattle.bus_cyclic.proofs.Staying as cyclic
+use Rattle.bus_cyclic.proofs.TruthLaws.{event_true, seen}
+use Rattle.bus_cyclic.specs.Cyclic.{CyclicBus}
+use Rattle.bus_cyclic.specs.Staying as staying
+use Rattle.bus_cyclic.specs.Truth as truth
+use Rattle.bus_guest.specs.Turns.{Visitor}
+use Rattle.bus_register.specs.Protocol.{Protocol}
+use Rattle.bus_register.specs.declared.registers.SenderNo.{SenderNo}
+use Rattle.bus_tenure.specs.Core.{Core, Election, Layout}
+use Rattle.bus_tenure.specs.declared.turns.Turn.{Turn as Answered}
+use Rattle.bus_tenure.specs.declared.turns.Turn.TheVariants as turn
+use Rattle.bus_world.proofs.EventTrails.{reached_kept}
+use Rattle.bus_world.proofs.Tellings.{event_tells}
+use Rattle.bus_world.proofs.WorldLaws.{event_left}
+use Rattle.bus_world.specs.Headline.{Action, HasPut, HasClosed, Stepped, IsPrefix}
+use Rattle.bus_world.specs.Telling as plain
+use Rattle.bus_world.specs.World.{Bus, Event, Put, Close, Turn, Recv, Stop}
+use Rattle.bus_world.specs.Rings.{guest_going}
+use Rattle.bus_world.specs.declared.events.Answer.{Answer}
+use Rattle.bus_world.specs.declared.events.Answer.TheVariants as answer
+use Rattle.bus_machine.proofs.AtNone as none
+use Rattle.bus_machine.proofs.AtSome as some
+use Rattle.bus_machine.proofs.Leading.{Sits, sits_after, led_ring, ring_serves, ring_ok, ring_two}
+use Rattle.bus_machine.proofs.Promised.{promised, guest_at}
+use Rattle.bus_machine.proofs.Rising.{plain_rises}
+use Rattle.bus_machine.proofs.Staying.{promise_stays, grown_longer}
+use Rattle.bus_machine.specs.Bridge.{of_bus, of_cyclic, plain_trails, ring_trails, IsPlainEvent, IsCyclicEvent}
+use Rattle.bus_machine.specs.Machine.{Machine, Trails, Reached, Then, Happens, trails_grown, going, log_of, stage_of}
+use Rattle.bus_machine.specs.Promise.{HasGoneOn, is_in, actions_in, Follows}
+use Rattle.bus_machine.specs.Telling.{TurnTells, SenderTells, EventTells, Tells, LossesAreSeen}
+
+-- ---- actions in a tenure
+in_same : (t : ℕ) (d : Action) → is_in t d ≡ staying.is_in t d
+in_same t (HasPut number bytes) = refl
+in_same t HasClosed = refl
+in_same t (Stepped None k found chose told) = refl
+in_same t (Stepped (Some u) k found chose told) = refl
+
+pub actions_same : (t : ℕ) (ds : List Action) → actions_in t ds ≡ staying.actions_in t ds
+actions_same t ds = ap (λ f. filter f ds) (fun_ext (in_same t))
+
+-- ---- what an answer tells
+module _ {E : Type 0} (x : Layout) (b : Bus E) where
+  turn_at_none : (s : ℕ) (c : Core E) (actions : List Action) (t : Answered) → plain.TurnTells x (log_of (of_bus x b)) s c actions t → TurnTells (of_bus x b) s (apart c) actions t
+  turn_at_none s c actions t h = by t h where
+    by : (t : Answered) → plain.TurnTells x (log_of (of_bus x b)) s c actions t → TurnTells (of_bus x b) s (apart c) actions t
+    by turn.Idle h = h
+    by turn.Waiting h = h
+    by turn.Going h = h
+    by (turn.Lost u o) h = h
+    by (turn.Own u) h = h
+    by (turn.Delivered u first last) h = h
+    by turn.Full h = h
+    by turn.Closed h = h
+    by turn.Spent h = h
+    by (turn.Behind u p) h = h
+
+  sender_at_none : (s word : ℕ) (T : Trails) (a : Answer) (o : Option (Sender E)) → going (of_bus x b) s ≡ o → plain.EventTells x b (Turn s word) a (plain_trails T) → SenderTells (of_bus x b) s o (T.actions s) a
+  sender_at_none s word T a None i h = tt
+  sender_at_none s word T (answer.Number n) (Some v) i h = tt
+  sender_at_none s word T answer.Closing (Some v) i h = tt
+  sender_at_none s word T (answer.Turn t) (Some v) i h =
+      let o = none.opened x b s v i in
+      subst (λ y. TurnTells (of_bus x b) s y (T.actions s) t) (sym o.2) (turn_at_none s o.0 (T.actions s) t (subst (λ y. plain.SenderTells x (log_of (of_bus x b)) s y (T.actions s) t) o.1 h))
+  sender_at_none s word T (answer.Recv r) (Some v) i h = tt
+  sender_at_none s word T answer.Stopped (Some v) i h = tt
+
+  tells_at_none : (e : Event) (a : Answer) (T : Trails) → plain.EventTells x b e a (plain_trails T) → EventTells (of_bus x b) e a T
+  tells_at_none (Put s bytes) a T h = tt
+  tells_at_none (Close s) a T h = tt
+  tells_at_none (Turn s word) a T h = sender_at_none s word T a (going (of_bus x b) s) refl h
+  tells_at_none (Recv r) a T h = tt
+  tells_at_none (Stop s) a T h = tt
+
+module _ {E : Type 0} (z : CyclicBus E) where
+  turn_at_some : (s : ℕ) (v : Visitor E) (actions : List Action) (t : Answered) → truth.GuestTells z.ring s v.core actions t → TurnTells (of_cyclic z) s (again v) actions t
+  turn_at_some s v actions t h = by t h where
+    by : (t : Answered) → truth.GuestTells z.ring s v.core actions t → TurnTells (of_cyclic z) s (again v) actions t
+    by turn.Idle h = h
+    by turn.Waiting h = h
+    by turn.Going h = h
+    by (turn.Lost u o) h = h
+    by (turn.Own u) h = h
+    by (turn.Delivered u first last) h = h
+    by turn.Full h = h
+    by turn.Closed h = h
+    by turn.Spent h = h
+    by (turn.Behind u p) h = h
+
+  sender_at_some : (s : ℕ) (actions : List Action) (a : Answer) (o : Option (Sender E)) → going (of_cyclic z) s ≡ o → truth.TurnIsTrue z.ring s (guest_going z.ring s) actions a → SenderTells (of_cyclic z) s o actions a
+  sender_at_some s actions a None i h = tt
+  sender_at_some s actions (answer.Number n) (Some v) i h = tt
+  sender_at_some s actions answer.Closing (Some v) i h = tt
+  sender_at_some s actions (answer.Turn t) (Some v) i h =
+      let o = some.opened z s v i in
+      subst (λ y. TurnTells (of_cyclic z) s y actions t) (sym o.2) (turn_at_some s o.0 actions t (subst (λ y. truth.TurnIsTrue z.ring s y actions (answer.Turn t)) o.1 h))
+  sender_at_some s actions (answer.Recv r) (Some v) i h = tt
+  sender_at_some s actions answer.Stopped (Some v) i h = tt
+
+  tells_at_some : (e : Event) (a : Answer) (T : Trails) → truth.EventIsTrue z.ring e a (ring_trails T) → EventTells (of_cyclic z) e a T
+  tells_at_some (Put s bytes) a T h = tt
+  tells_at_some (Close s) a T h = tt
+  tells_at_some (Turn s word) a T h = sender_at_some s (T.actions s) a (going (of_cyclic z) s) refl h
+  tells_at_some (Recv r) a T h = tt
+  tells_at_some (Stop s) a T h = tt
+
+-- ---- one event, by trails that lead to the machine before it
+module _ {E : Type 0} (X : Election E) (P : Protocol E (Unit {0}) ℕ) (m m' : Machine E) (T : Trails) (e : Event) (a : Answer) (s : Sits X P m) (r : Reached X m T) (h : Happens X m e a m') where
+  -- what is said of both machines, with a row for each tenure
+  module _ (fresh : m.reuse ≡ None) where
+    i : Rattle.bus_machine.specs.Bridge.IsPlain X m T
+    i = none.reached_at_none X m T r fresh
+
+    k : IsPlainEvent X m.layout i.bus e a m'
+    k = none.happens_at_none X m.layout i.bus e a m' (subst (λ y. Happens X y e a m') i.is h)
+
+    kept : Rattle.bus_world.proofs.EventTrails.Kept X P s.serves.laws m.layout s.ok s.serves.width s.serves.starts s.serves.owner_is s.serves.named s.serves.announces s.serves.apart i.bus (plain_trails T)
+    kept = reached_kept X P s.serves.laws m.layout s.ok s.serves.width s.serves.starts s.serves.owner_is s.serves.named s.serves.announces s.serves.apart i.bus (plain_trails T) i.reached
+
+    left : Rattle.bus_world.proofs.WorldLaws.Left X P s.serves.laws m.layout s.ok s.serves.width s.serves.starts s.serves.owner_is kept.frames k.bus
+    left = (event_left X P s.serves.laws m.layout s.ok s.serves.width s.serves.starts s.serves.owner_is i.bus kept.frames kept.lawful k.bus e k.event k.happens).left
+
+    both_plain : (C : Machine E → Machine E → Type 0) → C (of_bus m.layout i.bus) (of_bus m.layout k.bus) → C m m'
+    both_plain C c = subst (λ y. C y m') (sym i.is) (subst (C (of_bus m.layout i.bus)) (sym k.is) c)
+
+    plain_grows : IsPrefix (log_of m) (log_of m')
+    plain_grows = both_plain (λ y z. IsPrefix (log_of y) (log_of z)) record {
+      rest = log_words left.continues.more;
+      together = ap (λ w. w ++ log_words left.continues.more) kept.lawful.keeps.sending.log.words_are ∙ sym (flat_map-append frame_words kept.frames left.continues.more)
+          ∙ ap log_words left.continues.together ∙ sym left.lawful.keeps.sending.log.words_are;
+    }
+
+    plain_stage : stage_of m ≤ stage_of m'
+    plain_stage = both_plain (λ y z. stage_of y ≤ stage_of z) (plain_rises X P m.layout i.bus k.bus kept.frames left.frames_now kept.lawful left.lawful e k.happens)
+
+    plain_told : EventTells m e a (trails_grown X m e a T)
+    plain_told =
+        let q = s.serves in
+        let so = event_tells X P q.laws m.layout s.ok q.width q.starts q.owner_is q.named q.announces q.apart i.bus k.bus (plain_trails T) i.reached e a k.happens k.answers in
+        subst (λ y. EventTells y e a (trails_grown X y e a T)) (sym i.is) (tells_at_none m.layout i.bus e a (trails_grown X (of_bus m.layout i.bus) e a T) (subst (plain.EventTells m.layout i.bus e a) (k.trails T) so))
+
+  -- and with rows that are used again
+  module _ (rows : ℕ) (used : m.reuse ≡ Some rows) where
+    j : Rattle.bus_machine.proofs.Leading.IsLedRing X P m T
+    j = led_ring X P m T s r rows used
+
+    abbrev z : CyclicBus E
+    z = j.bus
+
+    d : IsCyclicEvent X z e a m'
+    d = some.happens_at_some X z e a m' j.sized (subst (λ y. Happens X y e a m') j.is h)
+
+    c : Rattle.bus_world.proofs.Serving.Serves X P z.ring.layout
+    c = ring_serves X P m s z j.is
+
+    x : Rattle.bus_world.proofs.RingLaws.IsRingLayout X P c.laws c.owner_is c.named c.announces c.apart z.ring.layout z.ring.rows
+    x = layout_served X P z.ring.layout z.ring.rows c (ring_ok X P m s z j.is) (ring_two X P m s z j.is)
+
+    l : Rattle.bus_world.proofs.RingLaws.IsLed X P c.laws c.owner_is c.named c.announces c.apart z.ring (ring_trails T)
+    l = led X P z c (ring_ok X P m s z j.is) (ring_two X P m s z j.is) (ring_trails T) j.leads
+
+    both_cyclic : (C : Machine E → Machine E → Type 0) → C (of_cyclic z) (of_cyclic d.bus) → C m m'
+    both_cyclic C q = subst (λ y. C y m') (sym j.is) (subst (C (of_cyclic z)) (sym d.is) q)
+
+    cyclic_grows : IsPrefix (log_of m) (log_of m')
+    cyclic_grows = both_cyclic (λ y w. IsPrefix (log_of y) (log_of w)) (log_grows X P z c (ring_ok X P m s z j.is) (ring_two X P m s z j.is) (ring_trails T) j.leads e d.bus.ring d.steps.happens d.steps.within)
+
+    cyclic_stage : stage_of m ≤ stage_of m'
+    cyclic_stage = both_cyclic (λ y w. stage_of y ≤ stage_of w) (cyclic.event_rises X P c.laws c.owner_is c.named c.announces c.apart z.ring x (ring_trails T) l e d.bus.ring d.steps.happens d.steps.within)
+
+    cyclic_told : EventTells m e a (trails_grown X m e a T)
+    cyclic_told =
+        let so = event_true X P z c (ring_ok X P m s z j.is) (ring_two X P m s z j.is) (ring_trails T) j.leads e a d.bus d.steps in
+        subst (λ y. EventTells y e a (trails_grown X y e a T)) (sym j.is) (tells_at_some z e a (trails_grown X (of_cyclic z) e a T) (subst (truth.EventIsTrue z.ring e a) (d.trails T) so))
+
+    cyclic_stays : (t q : ℕ) → t + rows ≤ stage_of m / 2 → actions_in t ((trails_grown X m e a T).actions q) ≡ actions_in t (T.actions q)
+    cyclic_stays t q gone =
+        let many : rows ≡ z.ring.rows = same_Some _ _ (sym used ∙ ap (λ (y : Machine E). y.reuse) j.is) in
+        let here = subst (λ n. t + n ≤ stage_of (of_cyclic z) / 2) many (subst (λ y. t + rows ≤ stage_of y / 2) j.is gone) in
+        actions_same t ((trails_grown X m e a T).actions q) ∙ ap (λ y. staying.actions_in t ((trails_grown X y e a T).actions q)) j.is ∙ ap (λ (U : Rattle.bus_world.specs.Rings.RingTrails). staying.actions_in t (U.actions q)) (sym (d.trails T))
+        ∙ cyclic.event_stays X P c.laws c.owner_is c.named c.announces c.apart z.ring x (ring_trails T) l t here e a q ∙ sym (actions_same t (T.actions q))
+
+  pub grows : IsPrefix (log_of m) (log_of m')
+  grows = by m.reuse refl where
+    by : (o : Option ℕ) → m.reuse ≡ o → IsPrefix (log_of m) (log_of m')
+    by None fresh = plain_grows fresh
+    by (Some rows) used = cyclic_grows rows used
+
+  pub rises : stage_of m ≤ stage_of m'
+  rises = by m.reuse refl where
+    by : (o : Option ℕ) → m.reuse ≡ o → stage_of m ≤ stage_of m'
+    by None fresh = plain_stage fresh
+    by (Some rows) used = cyclic_stage rows used
+
+  pub told : EventTells m e a (trails_grown X m e a T)
+  told = by m.reuse refl where
+    by : (o : Option ℕ) → m.reuse ≡ o → EventTells m e a (trails_grown X m e a T)
+    by None fresh = plain_told fresh
+    by (Some rows) used = cyclic_told rows used
+
+  pub stays : (t q : ℕ) → HasGoneOn m m.reuse t → actions_in t ((trails_grown X m e a T).actions q) ≡ actions_in t (T.actions q)
+  stays t q = by m.reuse refl where
+    by : (o : Option ℕ) → m.reuse ≡ o → HasGoneOn m o t → actions_in t ((trails_grown X m e a T).actions q) ≡ actions_in t (T.actions q)
+    by None fresh gone = absurd gone
+    by (Some rows) used gone = cyclic_stays rows used t q gone
+
+module _ {E : Type 0} (X : Election E) (P : Protocol E (Unit {0}) ℕ) (m : Machine E) (T₀ : Trails) (s : Sits X P m) (r₀ : Reached X m T₀) where
+  pub follows : (m' : Machine E) (e : Event) (a : Answer) → Happens X m e a m' → Follows X m e a m'
+  follows m' e a h = record {
+    grows = grows X P m m' T₀ e a s r₀ h;
+    rises = rises X P m m' T₀ e a s r₀ h;
+    reached = λ T r. Then m m' T e a r h;
+    promised = λ T r. promise_stays X m m' T (trails_grown X m e a T) (ap (λ x. x.senders) (none.event_reuse X m m' e a h).0) (promised X P m T s r) (promised X P m' (trails_grown X m e a T) (sits_after X P m m' e a h s) (Then m m' T e a r h)) (grows X P m m' T e a s r h) (grown_longer X m T e a);
+    stays = λ T r t q gone. stays X P m m' T e a s r h t q gone;
+  }
+
+  pub tells : (m' : Machine E) (e : Event) (a : Answer) → Happens X m e a m' → Tells X m e a
+  tells m' e a h = λ T r. told X P m m' T e a s r h
+
+-- ---- what a sender remembers
+module _ {E : Type 0} (X : Election E) (P : Protocol E (Unit {0}) ℕ) (m : Machine E) (T : Trails) (s : Sits X P m) (r : Reached X m T) where
+  none_lost : (x : Layout) (b : Bus E) (p : ℕ) (v : Sender E) (o : SenderNo) → slice_get (map apart b.side.senders) p ≡ Some v → lost_of v.reuse ≡ Some o → ⊥
+  none_lost x b p v o at lost = by (slice_get b.side.senders p) (sym (slice_get-map apart b.side.senders p) ∙ at) where
+    by : (k : Option (Core E)) → option_map apart k ≡ Some v → ⊥
+    by None e = cc
+    by (Some c) e = let bad : ◌≡◌ {A = Option SenderNo} None (Some o) = ap (λ (y : Sender E). lost_of y.reuse) (same_Some _ _ e) ∙ lost in cc
+
+  cyclic_lost : (z : CyclicBus E) → truth.LossesAreSeen z.ring T.actions → LossesAreSeen (of_cyclic z) T.actions
+  cyclic_lost z h p v o at lost =
+      let u = guest_at X z p v at in
+      let w = h.seen p u.0 o u.1 (sym (ap (λ (y : Sender E). lost_of y.reuse) u.2) ∙ lost) in
+      record { tenure = w.tenure; parts = ap (λ (y : Sender E). Rattle.bus_machine.specs.Promise.pin_of y.reuse) u.2 ∙ w.parts; elected = w.elected; other = w.other }
+
+  pub losses : LossesAreSeen m T.actions
+  losses = by m.reuse refl where
+    by : (o : Option ℕ) → m.reuse ≡ o → LossesAreSeen m T.actions
+    by None e = let i = none.reached_at_none X m T r e in subst (λ y. LossesAreSeen y T.actions) (sym i.is) (λ p v o at lost. absurd (none_lost m.layout i.bus p v o at lost))
+    by (Some rows) e = let j = led_ring X P m T s r rows e in
+        subst (λ y. LossesAreSeen y T.actions) (sym j.is) (cyclic_lost j.bus (seen X P j.bus (ring_serves X P m s j.bus j.is) (ring_ok X P m s j.bus j.is) (ring_two X P m s j.bus j.is) (ring_trails T) j.leads))

@@ -1,0 +1,59 @@
+-- What leads to a machine of sizes that are served, as each of the two kinds of rows has it.
+use Rattle.std.proofs.Common.{◌≡◌, ℕ, ◌≤◌, Some, [], sym, ◌∙◌, ap, subst}
+use Rattle.bus_cyclic.proofs.CyclicLaws.{leads_on}
+use Rattle.bus_cyclic.proofs.LastTakers.{none_took}
+use Rattle.bus_cyclic.specs.Cyclic.{CyclicBus, LeadTo, AreLastTakers}
+use Rattle.bus_register.specs.Protocol.{Protocol}
+use Rattle.bus_tenure.specs.Core.{Election}
+use Rattle.bus_world.proofs.Serving.{Serves}
+use Rattle.bus_world.specs.Bus.{IsLayout}
+use Rattle.bus_world.specs.World.{Event}
+use Rattle.bus_world.specs.declared.events.Answer.{Answer}
+use Rattle.bus_machine.proofs.AtNone.{event_reuse}
+use Rattle.bus_machine.proofs.AtSome.{happens_at_some, new_ring}
+use Rattle.bus_machine.specs.Bridge.{of_cyclic, ring_trails, AreSized}
+use Rattle.bus_machine.specs.Machine.{Machine, Trails, Reached, New as Start, Then as Next, Happens, trails_grown}
+use Rattle.bus_machine.specs.Promise.{HasRows}
+
+module _ {E : Type 0} (X : Election E) (P : Protocol E (Unit {0}) ℕ) where
+  -- its sizes are served
+  pub record Sits (m : Machine E) : Type 0 where
+    pub serves : Serves X P m.layout
+    pub ok : IsLayout m.layout
+    pub rows : HasRows m.reuse
+
+  pub sits_before : (w m : Machine E) (e : Event) (a : Answer) → Happens X w e a m → Sits m → Sits w
+  sits_before w m e a h s = let i = event_reuse X w m e a h in record { serves = subst (Serves X P) i.0 s.serves; ok = subst IsLayout i.0 s.ok; rows = subst HasRows i.1 s.rows }
+
+  pub sits_after : (w m : Machine E) (e : Event) (a : Answer) → Happens X w e a m → Sits w → Sits m
+  sits_after w m e a h s = let i = event_reuse X w m e a h in record { serves = subst (Serves X P) (sym i.0) s.serves; ok = subst IsLayout (sym i.0) s.ok; rows = subst HasRows (sym i.1) s.rows }
+
+  -- ---- rows that are used again
+  module _ (m : Machine E) (s : Sits m) (z : CyclicBus E) (is : m ≡ of_cyclic z) where
+    pub ring_serves : Serves X P z.ring.layout
+    ring_serves = subst (Serves X P) (ap (λ (y : Machine E). y.layout) is) s.serves
+
+    pub ring_ok : IsLayout z.ring.layout
+    ring_ok = subst IsLayout (ap (λ (y : Machine E). y.layout) is) s.ok
+
+    pub ring_two : 2 ≤ z.ring.rows
+    ring_two = subst HasRows (ap (λ (y : Machine E). y.reuse) is) s.rows
+
+  -- with who took the last pages
+  pub record IsLedRing (m : Machine E) (T : Trails) : Type 0 where
+    pub bus : CyclicBus E
+    pub is : m ≡ of_cyclic bus
+    pub sized : AreSized bus.ring
+    pub leads : LeadTo X bus (ring_trails T)
+
+  pub led_ring : (m : Machine E) (T : Trails) → Sits m → Reached X m T → (rows : ℕ) → m.reuse ≡ Some rows → IsLedRing m T
+  led_ring m T s (Start w new) rows e =
+      let i = new_ring X w new rows e in
+      let none : [] ≡ i.bus.owners = sym new.owners ∙ ap (λ (y : Machine E). y.owners) i.is in
+      record { bus = i.bus; is = i.is; sized = i.sized; leads = record { reached = i.reached; owners = subst (λ o. AreLastTakers i.bus.ring.rows o (λ q. [])) none (none_took i.bus.ring.rows) } }
+  led_ring m T s (Next w v U f a before h) rows e =
+      let t = sits_before w v f a h s in
+      let i = led_ring w U t before rows (sym (event_reuse X w v f a h).1 ∙ e) in
+      let k = happens_at_some X i.bus f a v i.sized (subst (λ y. Happens X y f a v) i.is h) in
+      let l = leads_on X P i.bus (ring_serves w t i.bus i.is) (ring_ok w t i.bus i.is) (ring_two w t i.bus i.is) (ring_trails U) i.leads f a k.bus k.steps in
+      record { bus = k.bus; is = k.is; sized = k.sized; leads = subst (λ y. LeadTo X k.bus (ring_trails (trails_grown X y f a U))) (sym i.is) (subst (LeadTo X k.bus) (k.trails U) l) }

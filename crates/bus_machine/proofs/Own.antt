@@ -1,0 +1,43 @@
+-- Where a sender goes on in its tenure or before it, its situation is the one that it has there.
+use Rattle.std.proofs.Common.{◌≡◌, Bool, true, false, cond, Option, Some, None, nat_lt}
+use Rattle.bus_core.specs.Senders.{Does, Scans, Clears, reclaiming, at_home, pinning, situation_by}
+use Rattle.bus_core.specs.declared.reuses.Reuse.{Reuse}
+use Rattle.bus_presence.specs.Reclaimers.{Reclaiming}
+use Rattle.bus_presence.specs.declared.pins.Pin.{Pin}
+use Rattle.bus_presence.specs.declared.pins.Pin.TheVariants.{Away, Announcing, Validating, Pinned, Unpinning, Invalidated}
+use Rattle.bus_tenure.specs.Situations.{Situation as Own, IsClosed, IsIdle, IsSpent, LooksAtStage, Elects, TakesPage, AwaitsPage, StoresWord, StoresLength, GivesBack, HasHanded}
+
+module _ {E : Type 0} where
+  by_reclaimed : (s : Reclaiming) (w z : Own E) (a b : Bool) → cond a (Scans s) (cond b (Clears s) (Does w)) ≡ Does z → w ≡ z
+  by_reclaimed s w z true b i = absurd cc
+  by_reclaimed s w z false true i = absurd cc
+  by_reclaimed s w z false false i = cc
+
+  by_reclaimer : (s : Option Reclaiming) (w z : Own E) → reclaiming s w ≡ Does z → w ≡ z
+  by_reclaimer None w z i = cc
+  by_reclaimer (Some s) w z i = by_reclaimed s w z (nat_lt s.scanned s.senders) (nat_lt s.cleared s.width) i
+
+  by_home : (s : Option Reclaiming) (w z : Own E) → at_home s w ≡ Does z → w ≡ z
+  by_home s (GivesBack t page reason) z i = by_reclaimer s (GivesBack t page reason) z i
+  by_home s IsClosed z i = cc
+  by_home s IsIdle z i = cc
+  by_home s IsSpent z i = cc
+  by_home s LooksAtStage z i = cc
+  by_home s (Elects t e) z i = cc
+  by_home s (TakesPage t) z i = cc
+  by_home s (AwaitsPage t) z i = cc
+  by_home s (StoresWord t page stored) z i = cc
+  by_home s (StoresLength t page stored) z i = cc
+  by_home s (HasHanded t reason) z i = cc
+
+  by_pin : (u : Pin) (s : Option Reclaiming) (w z : Own E) → pinning u s w ≡ Does z → w ≡ z
+  by_pin Away s w z i = by_home s w z i
+  by_pin (Announcing t) s w z i = absurd cc
+  by_pin (Validating t) s w z i = absurd cc
+  by_pin (Pinned t) s w z i = by_home s w z i
+  by_pin (Unpinning t) s w z i = absurd cc
+  by_pin (Invalidated t) s w z i = absurd cc
+
+  pub own_of : (r : Option Reuse) (w z : Own E) → situation_by r w ≡ Does z → w ≡ z
+  own_of None w z i = cc
+  own_of (Some r) w z i = by_pin r.pin r.reclaimer w z i

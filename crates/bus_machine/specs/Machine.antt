@@ -1,0 +1,217 @@
+-- The bus as a machine that plays events, with a row of words for each tenure or with rows that are used again; and which trails lead to it.
+use Rattle.std.specs.Prelude.{◌≡◌, ℕ, ◌+◌, ◌-◌, ◌<◌, Bool, true, Option, Some, None, List, [], ◌∷◌, ◌++◌, All, drop, length, slice_get, slice_index, slice_set, replicate, if◌then◌else◌}
+use Rattle.bus_register.specs.declared.registers.Op.{Op}
+use Rattle.bus_register.specs.Words.{register}
+use Rattle.bus_batch.specs.Batches.{next_of, CanPut, CanClose}
+use Rattle.bus_batch.specs.declared.batches.Phase.TheVariants.{Closing}
+use Rattle.bus_deliverylog.specs.Receiving.{Receiving}
+use Rattle.bus_deliverylog.specs.declared.receiving.RecvTurn.{RecvTurn}
+use Rattle.bus_presence.specs.Reclamation.{Trails as Entries, no_trails, trails_with_entry}
+use Rattle.bus_tenure.specs.Core.{Election, Layout, log_at, stage_at}
+use Rattle.bus_tenure.specs.Situations.{PageMove}
+use Rattle.bus_tenure.specs.declared.pages.Page.{Page}
+use Rattle.bus_tenure.specs.declared.turns.Turn.{Turn as Answered}
+use Rattle.bus_core.specs.Keeping.{queue_of, new_sender}
+use Rattle.bus_core.specs.Senders.{Sender, Situation, Does, Announces, Validates, Unpins, Withdraws, Scans, Clears, situation}
+use Rattle.bus_core.specs.Table.{Line, line_now}
+use Rattle.bus_guest.specs.Guests.{log_from}
+use Rattle.bus_world.specs.Headline.{Action}
+use Rattle.bus_world.specs.Log.{words_read_from}
+use Rattle.bus_world.specs.Trails.{step_action, put_actions, close_actions}
+use Rattle.bus_world.specs.Turning.{words_after, number_found, home_moved, core_moved, after_step}
+use Rattle.bus_world.specs.World.{Event, Put, Close, Turn, Recv, Stop, is_set, no_stops, new_page, IsNewReceiver, RecvDoes}
+use Rattle.bus_world.specs.Yards.{no_actions, no_answers, actions_with, answers_with}
+use Rattle.bus_world.specs.declared.events.Answer.{Answer}
+use Rattle.bus_world.specs.declared.events.Answer.TheVariants as answer
+
+pub record Machine (E : Type 0) : Type 0 where
+  pub layout : Layout
+  -- how many rows are used again: None where each tenure has a row
+  pub reuse : Option ℕ
+  pub words : List ℕ
+  pub home : Option Page
+  pub senders : List (Sender E)
+  pub receivers : List Receiving
+  -- of each sender whether it has stopped
+  pub stopped : List Bool
+  -- who took the pages, by tenure: all of them, or the last, of which there are at most as many as rows that are used again
+  pub owners : List ℕ
+
+-- where the log begins
+abbrev pub log_place : Layout → Option ℕ → ℕ
+log_place x None = log_at x
+log_place x (Some rows) = log_from x rows
+
+-- the words of the log below the length
+abbrev pub log_of : {E : Type 0} → Machine E → List ℕ
+log_of b = words_read_from (slice_index b.words) (log_place b.layout b.reuse) (slice_index b.words 0)
+
+-- twice the tenure that is open, and one more while its page is out
+abbrev pub stage_of : {E : Type 0} → Machine E → ℕ
+stage_of b = slice_index b.words stage_at
+
+-- the last of a list, at most so many
+abbrev pub last_of : ℕ → List ℕ → List ℕ
+last_of many owners = drop (length owners - many) owners
+
+-- those who took the pages that a machine still tells, of all by tenure
+abbrev pub owners_told : Option ℕ → List ℕ → List ℕ
+owners_told None owners = owners
+owners_told (Some rows) owners = last_of rows owners
+
+-- the sender s has stopped
+abbrev pub has_stopped : {E : Type 0} → Machine E → ℕ → Bool
+has_stopped b s = is_set (slice_get b.stopped s)
+
+-- the sender s, if there is one and it has not stopped
+abbrev pub going : {E : Type 0} → Machine E → ℕ → Option (Sender E)
+going b s = if has_stopped b s then None else slice_get b.senders s
+
+abbrev pub with_sender : {E : Type 0} → Machine E → ℕ → Sender E → Machine E
+with_sender b s v = record b { senders = slice_set b.senders s v }
+
+abbrev pub put_in : {E : Type 0} → Sender E → List ℕ → Sender E
+put_in v bytes = record v { core = record v.core { queue = record v.core.queue { messages = v.core.queue.messages ++ bytes ∷ [] } } }
+
+abbrev pub close_in : {E : Type 0} → Sender E → Sender E
+close_in v = record v { core = record v.core { queue = record v.core.queue { phase = Closing } } }
+
+-- a sender, with the page laid before it where it has taken it
+abbrev pub moved : {E : Type 0} → PageMove → Option Page → Sender E → Sender E
+moved move home v = record v { core = core_moved move home v.core }
+
+-- ---- a turn of sender s by this line, with this random word
+-- what its step finds
+abbrev pub found : {E : Type 0} → Machine E → Line E → ℕ → ℕ
+found b l word = number_found (slice_index b.words) (l.op word)
+
+abbrev pub turn_answer : {E : Type 0} → Machine E → Line E → ℕ → Answered
+turn_answer b l word = l.answer (found b l word) word
+
+abbrev pub machine_after : {E : Type 0} → Machine E → ℕ → Line E → ℕ → Machine E
+machine_after b s l word =
+    record b {
+      words = words_after b.words (l.op word);
+      home = home_moved l.move b.home;
+      senders = slice_set b.senders s (moved (after_step l.move) b.home (l.fed (found b l word) word));
+      owners = owners_told b.reuse (if l.takes then b.owners ++ s ∷ [] else b.owners);
+    }
+
+-- ---- what happens with an event that is answered
+-- a step, if one is due, is on a word of the bus
+abbrev pub IsOnWord : {E : Type 0} → Machine E → Option Op → Type 0
+IsOnWord b None = Unit {0}
+IsOnWord b (Some o) = register o < length b.words
+
+-- a sender that goes on takes a turn
+pub record TakesTurn {E : Type 0} (X : Election E) (old : Machine E) (s word : ℕ) (a : Answer) (new : Machine E) : Type 0 where
+  pub sender : Sender E
+  pub goes : going old s ≡ Some sender
+  pub within : IsOnWord old ((line_now X sender).op word)
+  pub answered : a ≡ answer.Turn (turn_answer old (line_now X sender) word)
+  pub after : new ≡ machine_after old s (line_now X sender) word
+
+-- it takes a message into its batch, and answers the number of the message
+pub record TakesPut {E : Type 0} (old : Machine E) (s : ℕ) (bytes : List ℕ) (a : Answer) (new : Machine E) : Type 0 where
+  pub sender : Sender E
+  pub goes : going old s ≡ Some sender
+  pub are_bytes : All (λ byte. byte < 256) bytes
+  pub can : CanPut (queue_of sender.core.queue sender.reuse) (length bytes)
+  pub answered : a ≡ answer.Number (next_of sender.core.queue)
+  pub after : new ≡ with_sender old s (put_in sender bytes)
+
+-- it lets an end mark wait
+pub record TakesClose {E : Type 0} (old : Machine E) (s : ℕ) (a : Answer) (new : Machine E) : Type 0 where
+  pub sender : Sender E
+  pub goes : going old s ≡ Some sender
+  pub can : CanClose (queue_of sender.core.queue sender.reuse)
+  pub answered : a ≡ answer.Closing
+  pub after : new ≡ with_sender old s (close_in sender)
+
+-- it stops, which changes nothing else
+pub record StopsNow {E : Type 0} (old : Machine E) (s : ℕ) (a : Answer) (new : Machine E) : Type 0 where
+  pub sender : Sender E
+  pub goes : going old s ≡ Some sender
+  pub answered : a ≡ answer.Stopped
+  pub after : new ≡ record old { stopped = slice_set old.stopped s true }
+
+-- a receiver takes a turn
+pub record Hears {E : Type 0} (old : Machine E) (r : ℕ) (a : Answer) (new : Machine E) : Type 0 where
+  pub receiver : Receiving
+  pub next : Receiving
+  pub heard : RecvTurn
+  pub there : slice_get old.receivers r ≡ Some receiver
+  pub does : RecvDoes (slice_index old.words) receiver heard next
+  pub answered : a ≡ answer.Recv heard
+  pub after : new ≡ record old { receivers = slice_set old.receivers r next }
+
+-- Event e happens, a is its answer, and new is what is left. Nothing is assumed of who is scheduled, of the random words, or of who stops.
+abbrev pub Happens : {E : Type 0} → Election E → Machine E → Event → Answer → Machine E → Type 0
+Happens X old (Put s bytes) a new = TakesPut old s bytes a new
+Happens X old (Close s) a new = TakesClose old s a new
+Happens X old (Turn s word) a new = TakesTurn X old s word a new
+Happens X old (Recv r) a new = Hears old r a new
+Happens X old (Stop s) a new = StopsNow old s a new
+
+-- ---- what happened: the steps of pins and of reclamations, the actions of senders, the answers of receivers
+pub record Trails : Type 0 where
+  pub pins : Entries
+  pub reclaims : Entries
+  pub actions : ℕ → List Action
+  pub heard : ℕ → List RecvTurn
+
+abbrev pub no_machine_trails : Trails
+no_machine_trails = record { pins = no_trails; reclaims = no_trails; actions = no_actions; heard = no_answers }
+
+abbrev pub entered : Entries → ℕ → Option Op → ℕ → Entries
+entered T s None got = T
+entered T s (Some o) got = trails_with_entry T s record { op = o; got = got }
+
+-- what a turn adds, in this situation, by this line
+abbrev pub turn_trails : {E : Type 0} → Situation E → Line E → ℕ → ℕ → ℕ → Answered → Trails → Trails
+turn_trails (Does z) l s got word told T = record T { actions = actions_with s (step_action l.kind l.tenure got (l.chosen got word) told) T.actions }
+turn_trails (Announces t) l s got word told T = record T { pins = entered T.pins s (l.op word) got; actions = actions_with s [] T.actions }
+turn_trails (Validates t) l s got word told T = record T { pins = entered T.pins s (l.op word) got; actions = actions_with s [] T.actions }
+turn_trails (Unpins t) l s got word told T = record T { pins = entered T.pins s (l.op word) got; actions = actions_with s [] T.actions }
+turn_trails (Withdraws t) l s got word told T = record T { pins = entered T.pins s (l.op word) got; actions = actions_with s [] T.actions }
+turn_trails (Scans r) l s got word told T = record T { reclaims = entered T.reclaims s (l.op word) got; actions = actions_with s [] T.actions }
+turn_trails (Clears r) l s got word told T = record T { reclaims = entered T.reclaims s (l.op word) got; actions = actions_with s [] T.actions }
+
+-- of the sender that goes on, by its answer
+abbrev pub turn_grown : {E : Type 0} → Election E → Machine E → ℕ → Option (Sender E) → ℕ → Answer → Trails → Trails
+turn_grown X b s None word a T = T
+turn_grown X b s (Some v) word (answer.Number n) T = T
+turn_grown X b s (Some v) word answer.Closing T = T
+turn_grown X b s (Some v) word (answer.Turn t) T = turn_trails (situation X v) (line_now X v) s (found b (line_now X v) word) word t T
+turn_grown X b s (Some v) word (answer.Recv t) T = T
+turn_grown X b s (Some v) word answer.Stopped T = T
+
+abbrev pub heard_grown : ℕ → Answer → (ℕ → List RecvTurn) → ℕ → List RecvTurn
+heard_grown r (answer.Number n) H = H
+heard_grown r answer.Closing H = H
+heard_grown r (answer.Turn t) H = H
+heard_grown r (answer.Recv t) H = answers_with r t H
+heard_grown r answer.Stopped H = H
+
+-- what an event with this answer adds: a stop is no action
+abbrev pub trails_grown : {E : Type 0} → Election E → Machine E → Event → Answer → Trails → Trails
+trails_grown X b (Put s bytes) a T = record T { actions = actions_with s (put_actions bytes a) T.actions }
+trails_grown X b (Close s) a T = record T { actions = actions_with s (close_actions a) T.actions }
+trails_grown X b (Turn s word) a T = turn_grown X b s (going b s) word a T
+trails_grown X b (Recv r) a T = record T { heard = heard_grown r a T.heard }
+trails_grown X b (Stop s) a T = T
+
+-- ---- what is reached
+-- nothing has happened: words of zero, the page at home, senders and receivers at their starts, none of which has stopped
+pub record IsNew {E : Type 0} (b : Machine E) : Type 0 where
+  pub words : b.words ≡ replicate (log_place b.layout b.reuse + b.layout.capacity) 0
+  pub home : b.home ≡ Some new_page
+  pub senders : (p : ℕ) (v : Sender E) → slice_get b.senders p ≡ Some v → (p < b.layout.senders) × (v ≡ new_sender b.layout p b.reuse)
+  pub receivers : (r : ℕ) (v : Receiving) → slice_get b.receivers r ≡ Some v → IsNewReceiver b.layout (log_place b.layout b.reuse) v
+  pub stopped : b.stopped ≡ no_stops
+  pub owners : b.owners ≡ []
+
+-- These trails lead to this machine, from a new one, by one event after another.
+pub data Reached {E : Type 0} (X : Election E) : Machine E → Trails → Type 0 where
+  New : (b : Machine E) → IsNew b → Reached X b no_machine_trails
+  Then : (b b' : Machine E) (T : Trails) (e : Event) (a : Answer) → Reached X b T → Happens X b e a b' → Reached X b' (trails_grown X b e a T)

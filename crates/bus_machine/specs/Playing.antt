@@ -1,0 +1,161 @@
+-- The machine as a program holds it: which shapes are served, what each call tells, and what is said of events one after another.
+use Rattle.std.specs.Prelude.{◌≡◌, ℕ, ◌+◌, ◌*◌, ◌^◌, ◌≤◌, Bool, true, false, Option, Some, None, List, [], ◌∷◌, length, take, slice_get}
+use Rattle.bus_register.specs.declared.limits.TheConstants.{MOST_SENDERS, MOST_RECEIVERS, MOST_ROUNDS, MOST_ROWS, LEAST_LOG_WORDS, MOST_LOG_WORDS, TENURES}
+use Rattle.bus_register.specs.Protocol.{Protocol}
+use Rattle.bus_adoptcommit.specs.declared.verdicts.Verdict.{Verdict}
+use Rattle.bus_batch.specs.Batches.{IsPutFault, IsCloseFault}
+use Rattle.bus_batch.specs.declared.batches.CloseFault.{CloseFault}
+use Rattle.bus_batch.specs.declared.batches.PutFault.{PutFault}
+use Rattle.bus_core.specs.Keeping.{queue_of}
+use Rattle.bus_core.specs.Senders.{Sender}
+use Rattle.bus_deliverylog.specs.Receiving.{Receiving}
+use Rattle.bus_guest.specs.declared.limits.TheConstants.{LEAST_ROWS_AGAIN, MOST_ROWS_AGAIN}
+use Rattle.bus_tenure.specs.Core.{Election, Layout, words_of}
+use Rattle.bus_tenure.specs.Elections.{Elector, layout_with}
+use Rattle.bus_tenure.specs.declared.pages.Page.{Page}
+use Rattle.bus_world.specs.Playing.{Within, Beyond, RecvRefused}
+use Rattle.bus_world.specs.World.{Event, Put, Close, Turn, Recv, Stop}
+use Rattle.bus_world.specs.declared.events.Answer.{Answer}
+use Rattle.bus_world.specs.declared.events.StepFault.{StepFault}
+use Rattle.bus_world.specs.declared.events.StepFault.TheVariants as fault
+use Rattle.bus_world.specs.declared.shapes.MakeFault.{MakeFault}
+use Rattle.bus_world.specs.declared.shapes.MakeFault.TheVariants as make
+use Rattle.bus_world.specs.declared.shapes.Shape.{Shape}
+use Rattle.bus_machine.specs.Machine.{Machine, Trails, Happens, IsNew, Reached, trails_grown, has_stopped, no_machine_trails}
+use Rattle.bus_machine.specs.Promise.{Extends, Follows}
+use Rattle.bus_machine.specs.Telling.{Causes, Says, Tells, OpensOnly}
+
+-- ---- shapes
+-- the sizes of a bus of this shape, over such ratifiers: its rows are its tenures, or are used again by up to 2^40 of them
+abbrev pub layout_of : {S : Type 0} → Protocol S Bool Verdict → Shape → Option ℕ → Layout
+layout_of P shape None = layout_with P shape.senders shape.rounds shape.rows shape.log_words
+layout_of P shape (Some rows) = layout_with P shape.senders shape.rounds TENURES shape.log_words
+
+abbrev pub least_rows : Option ℕ → ℕ
+least_rows None = 1
+least_rows (Some rows) = LEAST_ROWS_AGAIN
+
+abbrev pub most_rows : Option ℕ → ℕ
+most_rows None = MOST_ROWS
+most_rows (Some rows) = MOST_ROWS_AGAIN
+
+-- the rows that are used again are those of the shape
+abbrev pub ShapeOf : Shape → Option ℕ → Type 0
+ShapeOf shape None = Unit {0}
+ShapeOf shape (Some rows) = rows ≡ shape.rows
+
+-- the words can be numbered
+abbrev pub RoomFor : {S : Type 0} → Protocol S Bool Verdict → Shape → Option ℕ → Type 0
+RoomFor P shape None = words_of (layout_of P shape None) ≤ 2 ^ 63
+RoomFor P shape (Some rows) = Unit {0}
+
+-- where the log begins, where a row has so many words
+abbrev pub log_with : Shape → Option ℕ → ℕ → ℕ
+log_with shape None width = 2 + shape.rows * width
+log_with shape (Some rows) width = 2 + shape.senders + rows * width
+
+-- the bus of these parts
+abbrev pub machine_of : {E S : Type 0} → Protocol S Bool Verdict → Shape → Option ℕ → List ℕ → Option Page → List (Sender E) → List Receiving → List Bool → List ℕ → Machine E
+machine_of P shape reuse words home senders receivers stopped owners = record { layout = layout_of P shape reuse; reuse = reuse; words = words; home = home; senders = senders; receivers = receivers; stopped = stopped; owners = owners }
+
+-- a bus of this shape is served
+pub record IsServed (shape : Shape) (reuse : Option ℕ) : Type 0 where
+  pub senders : Within 1 MOST_SENDERS shape.senders
+  pub receivers : Within 1 MOST_RECEIVERS shape.receivers
+  pub rounds : Within 1 MOST_ROUNDS shape.rounds
+  pub rows : Within (least_rows reuse) (most_rows reuse) shape.rows
+  pub log_words : Within LEAST_LOG_WORDS MOST_LOG_WORDS shape.log_words
+
+-- why no bus is made: each cause where it holds and no earlier one
+abbrev pub MakeRefused : Shape → Option ℕ → MakeFault → Type 0
+MakeRefused shape reuse make.Senders = Beyond 1 MOST_SENDERS shape.senders
+MakeRefused shape reuse make.Receivers = Within 1 MOST_SENDERS shape.senders × Beyond 1 MOST_RECEIVERS shape.receivers
+MakeRefused shape reuse make.Rounds = Within 1 MOST_SENDERS shape.senders × Within 1 MOST_RECEIVERS shape.receivers × Beyond 1 MOST_ROUNDS shape.rounds
+MakeRefused shape reuse make.Rows = Within 1 MOST_SENDERS shape.senders × Within 1 MOST_RECEIVERS shape.receivers × Within 1 MOST_ROUNDS shape.rounds × Beyond (least_rows reuse) (most_rows reuse) shape.rows
+MakeRefused shape reuse make.LogWords =
+    Within 1 MOST_SENDERS shape.senders × Within 1 MOST_RECEIVERS shape.receivers × Within 1 MOST_ROUNDS shape.rounds × Within (least_rows reuse) (most_rows reuse) shape.rows × Beyond LEAST_LOG_WORDS MOST_LOG_WORDS shape.log_words
+MakeRefused shape reuse make.NoMemory = IsServed shape reuse
+
+-- a new bus of this shape, over such ratifiers
+pub record IsMade {E S : Type 0} (X : Election E) (P : Protocol S Bool Verdict) (shape : Shape) (reuse : Option ℕ) (m : Machine E) : Type 0 where
+  pub served : IsServed shape reuse
+  pub layout : m.layout ≡ layout_of P shape reuse
+  pub rows : m.reuse ≡ reuse
+  pub new : IsNew m
+  pub senders : length m.senders ≡ shape.senders
+  pub receivers : length m.receivers ≡ shape.receivers
+  pub begins : Reached X m no_machine_trails
+
+-- ---- why an event is refused
+-- there is no such sender; or it has stopped; or it has a cause of its own
+abbrev pub SenderRefused : {E : Type 0} → Option (Sender E) → Bool → StepFault → (Sender E → Type 0) → Type 0
+SenderRefused None stopped why own = why ≡ fault.NoSuchSender
+SenderRefused (Some v) true why own = why ≡ fault.Stopped
+SenderRefused (Some v) false why own = own v
+
+abbrev pub PutRefused : {E : Type 0} → ℕ → StepFault → Sender E → Type 0
+PutRefused len why v = (cause : PutFault) × IsPutFault (queue_of v.core.queue v.reuse) len cause × (why ≡ fault.Put cause)
+
+abbrev pub CloseRefused : {E : Type 0} → StepFault → Sender E → Type 0
+CloseRefused why v = (cause : CloseFault) × IsCloseFault (queue_of v.core.queue v.reuse) cause × (why ≡ fault.Close cause)
+
+-- each fault where its cause holds and no earlier one; turns and stops have no cause of their own
+abbrev pub Refused : {E : Type 0} → Machine E → Event → StepFault → Type 0
+Refused m (Put s bytes) why = SenderRefused (slice_get m.senders s) (has_stopped m s) why (PutRefused (length bytes) why)
+Refused m (Close s) why = SenderRefused (slice_get m.senders s) (has_stopped m s) why (CloseRefused why)
+Refused m (Turn s word) why = SenderRefused (slice_get m.senders s) (has_stopped m s) why (λ v. ⊥)
+Refused m (Recv r) why = RecvRefused (slice_get m.receivers r) why
+Refused m (Stop s) why = SenderRefused (slice_get m.senders s) (has_stopped m s) why (λ v. ⊥)
+
+-- ---- what a call tells
+-- The event happened, and this was its answer. The sender whose turn it was had a cause for its step; what the answer tells is so, of that
+-- sender and what its step found, and by whatever trails led to the old machine; the stage leaves that of an open tenure only by who takes
+-- its page; and the new machine follows the old one.
+pub record Answers {S : Type 0} (X : Election (Elector S)) (P : Protocol S Bool Verdict) (old : Machine (Elector S)) (e : Event) (a : Answer) (new : Machine (Elector S)) : Type 0 where
+  pub happens : Happens X old e a new
+  pub causes : Causes X P old e
+  pub says : Says X old e a
+  pub tells : Tells X old e a
+  pub opens : OpensOnly X old e a new
+  pub follows : Follows X old e a new
+
+-- the event is refused, and nothing has changed
+pub record Refuses {E : Type 0} (old : Machine E) (e : Event) (why : StepFault) (new : Machine E) : Type 0 where
+  pub refused : Refused old e why
+  pub nothing : new ≡ old
+
+-- ---- events one after another
+-- each is answered
+abbrev pub AllAnswered : {S : Type 0} → Election (Elector S) → Protocol S Bool Verdict → Machine (Elector S) → List Event → Machine (Elector S) → Type 0
+AllAnswered X P old [] new = new ≡ old
+AllAnswered {S} X P old (e ∷ events) new = (mid : Machine (Elector S)) × (a : Answer) × Answers X P old e a mid × AllAnswered X P mid events new
+
+-- the trails after these events with their answers
+abbrev pub trails_after : {S : Type 0} (X : Election (Elector S)) (P : Protocol S Bool Verdict) (old : Machine (Elector S)) (events : List Event) (new : Machine (Elector S)) → AllAnswered X P old events new → Trails → Trails
+trails_after X P old [] new run T = T
+trails_after X P old (e ∷ events) new run T = trails_after X P run.0 events new run.3 (trails_grown X old e run.1 T)
+
+-- all were answered, and what is left follows what there was
+pub record Played {S : Type 0} (X : Election (Elector S)) (P : Protocol S Bool Verdict) (old : Machine (Elector S)) (events : List Event) (new : Machine (Elector S)) : Type 0 where
+  pub answered : AllAnswered X P old events new
+  pub extends : Extends X old new (trails_after X P old events new answered)
+
+-- the event at a place is the first that is refused: those before it have happened, and no other
+pub record Stops {S : Type 0} (X : Election (Elector S)) (P : Protocol S Bool Verdict) (old : Machine (Elector S)) (events : List Event) (place : ℕ) (why : StepFault) (new : Machine (Elector S)) : Type 0 where
+  pub played : Played X P old (take place events) new
+  pub event : Event
+  pub at : slice_get events place ≡ Some event
+  pub refused : Refused new event why
+
+-- ---- what every machine that a program holds keeps: some trails lead to it
+abbrev pub AreRows : Layout → Option ℕ → Type 0
+AreRows x None = x.rows ≤ MOST_ROWS
+AreRows x (Some rows) = Within LEAST_ROWS_AGAIN MOST_ROWS_AGAIN rows × (x.rows ≡ TENURES)
+
+pub record IsHeld {E : Type 0} (X : Election E) (m : Machine E) : Type 0 where
+  pub senders_few : m.layout.senders ≤ MOST_SENDERS
+  pub rows : AreRows m.layout m.reuse
+  pub capacity_few : m.layout.capacity ≤ MOST_LOG_WORDS
+  pub senders : length m.senders ≡ m.layout.senders
+  pub trails : Trails
+  pub reached : Reached X m trails

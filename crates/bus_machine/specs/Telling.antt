@@ -1,0 +1,147 @@
+-- What the answer of a sender's turn tells: of the sender, of what its step found, and of what happened by whatever trails led to the machine.
+use Rattle.std.specs.Prelude.{◌≡◌, ◌≢◌, ℕ, ◌+◌, ◌*◌, ◌<◌, Bool, Option, Some, None, List, length, slice_get, slice_index}
+use Rattle.bus_adoptcommit.specs.declared.verdicts.Verdict.{Verdict}
+use Rattle.bus_register.specs.Protocol.{Protocol}
+use Rattle.bus_register.specs.Words.{register}
+use Rattle.bus_register.specs.declared.registers.Op.{Op}
+use Rattle.bus_register.specs.declared.registers.SenderNo.{SenderNo}
+use Rattle.bus_batch.specs.Frames.{Order, Spells}
+use Rattle.bus_core.specs.Causes.{IsCaused}
+use Rattle.bus_core.specs.Senders.{Sender, Does, situation}
+use Rattle.bus_core.specs.Table.{line_now, lost_of}
+use Rattle.bus_core.specs.Telling.{FeedTells}
+use Rattle.bus_presence.specs.declared.pins.Pin.{Pin}
+use Rattle.bus_presence.specs.declared.pins.Pin.TheVariants.{Unpinning}
+use Rattle.bus_tenure.specs.Core.{Election, frame_len}
+use Rattle.bus_tenure.specs.Elections.{Elector}
+use Rattle.bus_tenure.specs.Situations.{IsClosed, IsIdle, IsSpent}
+use Rattle.bus_tenure.specs.declared.turns.Turn.{Turn as Answered}
+use Rattle.bus_tenure.specs.declared.turns.Turn.TheVariants as turn
+use Rattle.bus_world.specs.Headline.{Action, Elected, Took}
+use Rattle.bus_world.specs.Telling.{HasDelivered}
+use Rattle.bus_world.specs.World.{Event, Put, Close, Turn, Recv, Stop}
+use Rattle.bus_world.specs.declared.events.Answer.{Answer}
+use Rattle.bus_world.specs.declared.events.Answer.TheVariants as answer
+use Rattle.bus_machine.specs.Machine.{Machine, Trails, Reached, trails_grown, going, log_of, stage_of}
+use Rattle.bus_machine.specs.Promise.{pin_of}
+
+-- ---- a turn tells of the sender that took it, and of what its step found in these words
+-- without a step: the sender has nothing to do, for the reason that it answers
+abbrev pub RestTells : {E : Type 0} → Election E → Sender E → Answered → Type 0
+RestTells X v turn.Idle = situation X v ≡ Does IsIdle
+RestTells X v turn.Waiting = ⊥
+RestTells X v turn.Going = ⊥
+RestTells X v (turn.Lost t o) = ⊥
+RestTells X v (turn.Own t) = ⊥
+RestTells X v (turn.Delivered t first last) = ⊥
+RestTells X v turn.Full = ⊥
+RestTells X v turn.Closed = situation X v ≡ Does IsClosed
+RestTells X v turn.Spent = situation X v ≡ Does IsSpent
+RestTells X v (turn.Behind t p) = ⊥
+
+abbrev pub StepTells : {E : Type 0} → Election E → List ℕ → Sender E → Option Op → ℕ → Answered → Type 0
+StepTells X words v None word t = RestTells X v t
+StepTells X words v (Some o) word t = FeedTells X v (slice_index words (register o)) word t
+
+-- of the sender that goes on
+abbrev pub SenderSays : {E : Type 0} → Election E → List ℕ → Option (Sender E) → ℕ → Answer → Type 0
+SenderSays X words None word a = Unit {0}
+SenderSays X words (Some v) word (answer.Number n) = Unit {0}
+SenderSays X words (Some v) word answer.Closing = Unit {0}
+SenderSays X words (Some v) word (answer.Turn t) = StepTells X words v ((line_now X v).op word) word t
+SenderSays X words (Some v) word (answer.Recv r) = Unit {0}
+SenderSays X words (Some v) word answer.Stopped = Unit {0}
+
+-- So Behind is answered only by a holder that loaded a presence with this step and found in it the tenure whose row is to be cleared; Own
+-- only by who stood in that tenure, whose election had chosen it; Delivered, Full and, of a turn that took a step, Closed only by who gives
+-- the page back, when the row of the next tenure is ready. Going is answered only where none of these is due, and never without a step.
+abbrev pub Says : {E : Type 0} → Election E → Machine E → Event → Answer → Type 0
+Says X m (Put s bytes) a = Unit {0}
+Says X m (Close s) a = Unit {0}
+Says X m (Turn s word) a = SenderSays X m.words (going m s) word a
+Says X m (Recv r) a = Unit {0}
+Says X m (Stop s) a = Unit {0}
+
+-- ---- why a sender takes its step
+abbrev pub SenderCauses : {S : Type 0} → Election (Elector S) → Protocol S Bool Verdict → Option (Sender (Elector S)) → Type 0
+SenderCauses X P None = Unit {0}
+SenderCauses X P (Some v) = IsCaused X P v
+
+-- the sender whose turn it is, and which goes on, has a cause for its step, whatever that is for
+abbrev pub Causes : {S : Type 0} → Election (Elector S) → Protocol S Bool Verdict → Machine (Elector S) → Event → Type 0
+Causes X P m (Put s bytes) = Unit {0}
+Causes X P m (Close s) = Unit {0}
+Causes X P m (Turn s word) = SenderCauses X P (going m s)
+Causes X P m (Recv r) = Unit {0}
+Causes X P m (Stop s) = Unit {0}
+
+-- ---- by whatever trails led to the machine
+-- rows are used again
+abbrev pub IsReused : Option ℕ → Type 0
+IsReused None = ⊥
+IsReused (Some rows) = Unit {0}
+
+-- ---- an answer of sender s
+-- A tenure is lost to the owner with which a step of this sender saw its election end, and which is another sender. A tenure is the
+-- sender's own where it is elected in it and took its page. Messages are delivered where the last frame of the order is that of this
+-- sender and tenure and holds them, with these numbers. The log is full where the sender's frame does not fit behind it. A presence stands
+-- in the way only where rows are used again.
+abbrev pub TurnTells : {E : Type 0} → Machine E → ℕ → Sender E → List Action → Answered → Type 0
+TurnTells m s v actions turn.Idle = Unit {0}
+TurnTells m s v actions turn.Waiting = Unit {0}
+TurnTells m s v actions turn.Going = Unit {0}
+TurnTells m s v actions (turn.Lost t o) = Elected actions t o.0 × (o.0 ≢ s)
+TurnTells m s v actions (turn.Own t) = Elected actions t s × ((place : ℕ) × Took actions t place)
+TurnTells m s v actions (turn.Delivered t first last) = (order : Order) × (owners : List (ℕ × SenderNo)) × Spells m.layout.senders (log_of m) order owners × HasDelivered order owners s t first last
+TurnTells m s v actions turn.Full = m.layout.capacity < length (log_of m) + frame_len v.core
+TurnTells m s v actions turn.Closed = Unit {0}
+TurnTells m s v actions turn.Spent = Unit {0}
+TurnTells m s v actions (turn.Behind t p) = IsReused m.reuse
+
+-- of the sender that goes on
+abbrev pub SenderTells : {E : Type 0} → Machine E → ℕ → Option (Sender E) → List Action → Answer → Type 0
+SenderTells m s None actions a = Unit {0}
+SenderTells m s (Some v) actions (answer.Number n) = Unit {0}
+SenderTells m s (Some v) actions answer.Closing = Unit {0}
+SenderTells m s (Some v) actions (answer.Turn t) = TurnTells m s v actions t
+SenderTells m s (Some v) actions (answer.Recv r) = Unit {0}
+SenderTells m s (Some v) actions answer.Stopped = Unit {0}
+
+-- an event of the machine as it was, with its answer, by the trails that lead to the machine as it is then
+abbrev pub EventTells : {E : Type 0} → Machine E → Event → Answer → Trails → Type 0
+EventTells m (Put s bytes) a T = Unit {0}
+EventTells m (Close s) a T = Unit {0}
+EventTells m (Turn s word) a T = SenderTells m s (going m s) (T.actions s) a
+EventTells m (Recv r) a T = Unit {0}
+EventTells m (Stop s) a T = Unit {0}
+
+-- whatever trails led to the old machine: with what this event and its answer add to them, what the answer tells is so
+abbrev pub Tells : {E : Type 0} → Election E → Machine E → Event → Answer → Type 0
+Tells X old e a = (T : Trails) → Reached X old T → EventTells old e a (trails_grown X old e a T)
+
+-- ---- what a sender remembers that has lost a tenure
+-- sender s, whose pin has come so far, parts from a tenure, whose election it saw end with this owner by a step of its own; and it is
+-- not this owner itself
+pub record HasSeenLoss (pin : Pin) (s : ℕ) (o : SenderNo) (actions : List Action) : Type 0 where
+  pub tenure : ℕ
+  pub parts : pin ≡ Unpinning tenure
+  pub elected : Elected actions tenure o.0
+  pub other : o.0 ≢ s
+
+-- so has each that remembers an owner
+abbrev pub LossesAreSeen : {E : Type 0} → Machine E → (ℕ → List Action) → Type 0
+LossesAreSeen {E} m actions = (s : ℕ) (v : Sender E) (o : SenderNo) → slice_get m.senders s ≡ Some v → lost_of v.reuse ≡ Some o → HasSeenLoss (pin_of v.reuse) s o (actions s)
+
+-- ---- who takes a page
+-- Sender s took the page of tenure t with this turn, in which it is elected by whatever trails led to the machine; and the stage tells so.
+pub record TakesStage {E : Type 0} (X : Election E) (old : Machine E) (e : Event) (a : Answer) (new : Machine E) (t : ℕ) : Type 0 where
+  pub sender : ℕ
+  pub word : ℕ
+  pub event : e ≡ Turn sender word
+  pub own : a ≡ answer.Turn (turn.Own t)
+  pub stage : stage_of new ≡ 2 * t + 1
+  pub elected : (T : Trails) → Reached X old T → Elected ((trails_grown X old e a T).actions sender) t sender
+
+-- the stage leaves that of an open tenure only so
+abbrev pub OpensOnly : {E : Type 0} → Election E → Machine E → Event → Answer → Machine E → Type 0
+OpensOnly X old e a new = (t : ℕ) → stage_of old ≡ 2 * t → stage_of new ≢ 2 * t → TakesStage X old e a new t

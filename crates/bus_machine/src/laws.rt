@@ -1,0 +1,112 @@
+//! What holds of the machine.
+
+ghost use Rattle.std.specs.Prelude.{◌≡◌, ℕ, List};
+ghost use Rattle.bus_tenure.specs.Elections.{Elector, election_of, layout_with};
+ghost use Rattle.bus_world.specs.Bus.{IsLayout};
+ghost use Rattle.bus_core.specs.Senders.{Sender};
+ghost use Rattle.bus_world.specs.Headline.{Action};
+ghost use Rattle.bus_world.specs.World.{Event};
+ghost use Rattle.bus_world.specs.declared.events.Answer.{Answer};
+ghost use Rattle.bus_machine.specs.Machine.{Machine, Trails, Reached, Happens};
+ghost use Rattle.bus_machine.specs.Bridge.{HappensAtNone, HappensAtSome};
+ghost use Rattle.bus_machine.specs.Bridge.{ReachedAtNone, ReachedAtSome};
+ghost use Rattle.bus_machine.specs.Bridge.{RefusedAtNone, RefusedAtSome};
+ghost use Rattle.bus_machine.specs.Promise.{IsPromised, HasRows, Follows};
+ghost use Rattle.bus_machine.specs.Promise.{actions_in};
+ghost use Rattle.bus_machine.specs.Refusals.{LossesRefuse, AnswersRefuse, SaysNoMore};
+ghost use Rattle.bus_machine.specs.Refusals.{SaysMore, FollowsRefuse, PagesRefuse};
+ghost use Rattle.bus_machine.specs.Stopping.{StopsAreForGood, StopRefuses};
+ghost use Rattle.bus_machine.specs.Telling.{Tells, OpensOnly, LossesAreSeen};
+
+use bus_adoptcommit::Ratifier;
+use bus_ownerbits::laws::election_is_lawful;
+
+/// What happens to it happens to the bus that it is, with a row for each tenure and with rows used
+/// again; what leads to it leads to that bus; and its events are refused for the same faults.
+pub fn machine_is_either<Q: Ratifier>()
+    ensures none { HappensAtNone (election_of Q.Ratifier) }
+    ensures some { HappensAtSome (election_of Q.Ratifier) }
+    ensures reached_apart { ReachedAtNone (election_of Q.Ratifier) }
+    ensures reached_again { ReachedAtSome (election_of Q.Ratifier) }
+    ensures refused_apart { RefusedAtNone (Elector Q) }
+    ensures refused_again { RefusedAtSome (Elector Q) }
+{}
+
+/// Whatever trails lead to it, the headline's promise holds of them, with a row for each tenure and
+/// with two rows or more; and by all of them each sender that remembers to whom it lost its tenure
+/// has seen the election of that tenure end so.
+pub fn machine_keeps_promise<Q: Ratifier>()
+    ensures { let X = election_of Q.Ratifier in
+        (senders rounds rows capacity : ℕ)
+        → IsLayout (layout_with Q.protocol senders rounds rows capacity)
+        → (machine : Machine (Elector Q)) (trails : Trails)
+        → machine.layout ≡ layout_with Q.protocol senders rounds rows capacity
+        → HasRows machine.reuse → Reached X machine trails
+        → IsPromised X machine trails × LossesAreSeen machine trails.actions }
+{
+    election_is_lawful::<Q>();
+}
+
+/// And whatever happens to such a machine, with any answer: what is left follows it, what the answer
+/// tells is so, and the stage leaves that of an open tenure only by who takes its page.
+pub fn events_keep_promise<Q: Ratifier>()
+    ensures { let X = election_of Q.Ratifier in
+        (senders rounds rows capacity : ℕ)
+        → IsLayout (layout_with Q.protocol senders rounds rows capacity)
+        → (old : Machine (Elector Q)) (trails : Trails)
+        → old.layout ≡ layout_with Q.protocol senders rounds rows capacity
+        → HasRows old.reuse → Reached X old trails
+        → (event : Event) (given : Answer) (new : Machine (Elector Q))
+        → Happens X old event given new
+        → Follows X old event given new × Tells X old event given
+        × OpensOnly X old event given new }
+{
+    election_is_lawful::<Q>();
+}
+
+/// A stop that is answered changes who has stopped, and nothing else: what is no event of that
+/// sender does what it did before, and is answered and refused alike. Whoever has stopped does
+/// nothing any more, whatever happens next: no event of it is answered, it holds what it held, and
+/// it has no action more and no step of a pin or of a reclamation; whatever else is wrong with an
+/// event of it, it is refused as Stopped. A stop that does nothing is none. Nothing is refused as
+/// Stopped of one that goes on, or that there is not, or of a receiver. One that goes on may stop,
+/// and nobody stops but by a stop of its own.
+pub fn stops_are_for_good<Q: Ratifier>()
+    ensures stops { StopsAreForGood (election_of Q.Ratifier) Q.protocol }
+    ensures refuses { StopRefuses (election_of Q.Ratifier) }
+{}
+
+/// No sender remembers an owner that has done nothing, or itself, or another owner than that with
+/// which it saw the election of its tenure end.
+pub fn losses_refuse<Q: Ratifier>()
+    ensures { (machine : Machine (Elector Q)) → LossesRefuse machine }
+{}
+
+/// No answer is true that is Lost to an owner whose election the sender did not see, or to itself;
+/// Own of a tenure whose page it did not take; Delivered where the log is empty; Full where the
+/// frame fits; Behind where each tenure has a row.
+pub fn answers_refuse<Q: Ratifier>()
+    ensures { (machine : Machine (Elector Q)) (number : ℕ) (sender : Sender (Elector Q))
+        (actions : List Action) → AnswersRefuse machine number sender actions }
+{}
+
+/// A sender whose actions in a tenure are the same as before has announced itself there, has seen
+/// its election end with an owner, and has taken its page, only where it had done so before. So
+/// what was elected in a tenure stays as it is, once its row has gone on. Actions with which a
+/// sender has seen the election end since, or has taken the page, are not the same.
+pub fn same_actions_say_no_more()
+    ensures same { (t : ℕ) (before after : List Action) → actions_in t after ≡ actions_in t before
+        → SaysNoMore t before after }
+    ensures more { (t : ℕ) (before after : List Action) → SaysMore t before after }
+{}
+
+/// No machine follows another by an event with which the stage falls; and none is promised whose
+/// page is at home while the stage is odd, or out while it is even, or knows another number of
+/// tenures.
+pub fn machines_refuse<Q: Ratifier>()
+    ensures follows { let X = election_of Q.Ratifier in
+        (old : Machine (Elector Q)) (event : Event) (given : Answer) (new : Machine (Elector Q))
+        → FollowsRefuse X old event given new }
+    ensures pages { let X = election_of Q.Ratifier in
+        (machine : Machine (Elector Q)) (trails : Trails) → PagesRefuse X machine trails }
+{}

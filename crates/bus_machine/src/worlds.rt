@@ -1,0 +1,441 @@
+//! A bus that plays events, with a row of words for each tenure or with rows that are used again.
+
+ghost use Rattle.std.specs.Prelude.{◌≡◌, ℕ, ◌<◌, ◌≤◌, false, length, map, slice_get};
+ghost use Rattle.std.specs.Prelude.{List, Some, None};
+ghost use Rattle.std.specs.Prelude.{IfOk, IfErr, OnOk, OnErr};
+ghost use Rattle.std.specs.Option.{option_copied};
+ghost use Rattle.bus_register.specs.declared.registers.SenderNo.{SenderNo as Number};
+ghost use Rattle.bus_batch.specs.Frames.{Spells};
+ghost use Rattle.bus_deliverylog.specs.Orders.{order_held};
+ghost use Rattle.bus_tenure.specs.Elections.{election_of};
+ghost use Rattle.bus_world.specs.declared.events.Answer.TheVariants as answer;
+ghost use Rattle.bus_world.specs.Headline.{order_given};
+ghost use Rattle.bus_world.specs.Playing.{event_told};
+ghost use Rattle.bus_world.specs.World.{Put, Close, Turn as SenderTurn, Recv, Stop};
+ghost use Rattle.bus_machine.specs.Machine.{Trails, Reached, Happens, has_stopped, log_of};
+ghost use Rattle.bus_machine.specs.Playing.{IsMade, MakeRefused, ShapeOf, Answers, Refused};
+ghost use Rattle.bus_machine.specs.Playing.{Refuses, Played, Stops};
+ghost use Rattle.bus_machine.specs.Promise.{IsPromised, TakersTold};
+ghost use Rattle.bus_machine.specs.Telling.{Causes, Says, LossesAreSeen};
+
+use crate::shapes::{fault_of, log_word};
+use crate::starts::new_senders;
+use crate::turns::{close_to, note_owner, put_to, turn_sender};
+use arrayvec::ArrayVec;
+use bus_adoptcommit::Ratifier;
+use bus_core::SenderCore;
+use bus_deliverylog::{Order, Reader, read_front, read_log};
+use bus_ownerbits::Election;
+use bus_ownerbits::laws::election_is_lawful;
+use bus_register::limits::{MOST_ROWS, MOST_SENDERS};
+use bus_register::{Cells, NoMemory, Reg, SenderNo};
+use bus_tenure::Page;
+use bus_world::starts::{NEW_PAGE, new_receivers};
+use bus_world::turns::turn_receiver;
+use bus_world::{Answer, Event, MakeFault, PlayFault, Shape, StepFault};
+use std::alloc::Global;
+use std::marker::Model;
+
+/// A bus, which one caller moves by events: its words, its page, its senders and its receivers.
+///
+/// Each tenure has a row of words of its own, or a few rows are used again: tenure t uses row t mod
+/// rows, and there are up to 2^40 tenures. A sender then shows in a word of its own, its presence,
+/// which tenure it pins. Who holds the page clears the row of the next tenure before it gives the
+/// page back, once it has asked each presence and found that it does not name the tenure that used
+/// the row before; where one does, its turns answer Behind, until that has changed. So a sender
+/// that stops while its presence names a tenure may make a holder wait for good.
+#[derive(Drop)]
+pub struct World<Q: Ratifier> {
+    shape: Shape,
+    /// How many rows are used again.
+    reuse: Option<u64>,
+    cells: Cells,
+    home: Option<Page>,
+    senders: Vec<SenderCore<Q>>,
+    receivers: Vec<Reader>,
+    /// Who took the pages, by tenure; where rows are used again the last, as many as there are
+    /// rows.
+    owners: ArrayVec<SenderNo, MOST_ROWS>,
+    /// Whether a sender has stopped, by its number.
+    stopped: [bool; MOST_SENDERS],
+}
+
+impl<Q: Ratifier> Model for World<Q> {
+    ghost use Rattle.std.specs.Prelude.{map};
+    ghost use Rattle.bus_tenure.specs.Elections.{Elector, election_with};
+    ghost use Rattle.bus_machine.specs.Machine.{Machine};
+    ghost use Rattle.bus_machine.specs.Playing.{IsHeld, machine_of};
+
+    ghost Value = { Machine (Elector Q) };
+
+    ghost view = { λ w. machine_of Q.protocol w.shape w.reuse w.cells w.home w.senders.items
+        w.receivers.items w.stopped (map (λ s. s.0) w.owners.items) };
+
+    ghost invariant = { λ w. IsHeld (election_with Q.kind_of Q.op Q.fed Q.protocol)
+        (machine_of Q.protocol w.shape w.reuse w.cells w.home w.senders.items
+        w.receivers.items w.stopped (map (λ s. s.0) w.owners.items)) };
+}
+
+impl<Q: Ratifier + Drop> World<Q> {
+    /// A new bus with a row of words for each tenure, its words at zero and its page at home.
+    pub fn new(alloc: Global, shape: Shape) -> Result<World<Q>, MakeFault>
+        ensures made { let X = election_of Q.Ratifier in
+            IfOk result (IsMade X Q.protocol shape None) }
+        ensures fault { IfErr result (MakeRefused shape None) }
+    {
+        World::make(alloc, shape, None)
+    }
+
+    /// A new bus whose rows of words are used again: `rows` of its shape, 2 to 8.
+    pub fn cyclic(alloc: Global, shape: Shape) -> Result<World<Q>, MakeFault>
+        ensures made { let X = election_of Q.Ratifier in
+            IfOk result (IsMade X Q.protocol shape (Some shape.rows)) }
+        ensures fault { IfErr result (MakeRefused shape (Some shape.rows)) }
+    {
+        World::make(alloc, shape, Some(shape.rows))
+    }
+
+    /// A new bus of either kind.
+    fn make(alloc: Global, shape: Shape, reuse: Option<u64>) -> Result<World<Q>, MakeFault>
+        requires { ShapeOf shape reuse }
+        ensures made { let X = election_of Q.Ratifier in
+            IfOk result (IsMade X Q.protocol shape reuse) }
+        ensures fault { IfErr result (MakeRefused shape reuse) }
+    {
+        if let Some(fault) = fault_of(shape, reuse) {
+            return Err(fault);
+        }
+        let width = Election::<Q>::width(shape.senders, shape.rounds);
+        let log = log_word(shape, reuse, width);
+        let cells = Cells::new(alloc, log + shape.log_words)?;
+        let senders = new_senders(alloc, shape, reuse)?;
+        let receivers = new_receivers(alloc, shape, Reg(log))?;
+        Ok(World {
+            shape,
+            reuse,
+            cells,
+            home: Some(NEW_PAGE),
+            senders,
+            receivers,
+            owners: ArrayVec::new(),
+            stopped: [false; MOST_SENDERS],
+        })
+    }
+
+    /// Wants a sender that there is and that has not stopped.
+    fn goes_on(&self, sender: u64) -> Result<(), StepFault>
+        ensures there { OnOk result (sender < length self.now.senders) }
+        ensures goes { OnOk result (has_stopped self.now sender ≡ false) }
+        ensures fault { IfErr result (Refused self.now (Stop sender)) }
+    {
+        if sender >= self.senders.len() as u64 {
+            return Err(StepFault::NoSuchSender);
+        }
+        if self.stopped[sender as usize] {
+            return Err(StepFault::Stopped);
+        }
+        Ok(())
+    }
+
+    /// A message is put into the batch of a sender.
+    fn put_at(&mut self, sender: u64, bytes: &[u8]) -> Result<u64, StepFault>
+        ensures happens { let X = election_of Q.Ratifier in
+            IfOk result (λ number. Happens X self.old (Put sender bytes.now)
+            (answer.Number number) self.new) }
+        ensures refused { IfErr result
+            (λ why. Refuses self.old (Put sender bytes.now) why self.new) }
+    {
+        election_is_lawful::<Q>();
+        self.goes_on(sender)?;
+        put_to(&mut self.senders[sender as usize], bytes)
+    }
+
+    /// An end mark waits at a sender.
+    fn close_at(&mut self, sender: u64) -> Result<(), StepFault>
+        ensures happens { let X = election_of Q.Ratifier in
+            OnOk result (Happens X self.old (Close sender) answer.Closing self.new) }
+        ensures refused { IfErr result (λ why. Refuses self.old (Close sender) why self.new) }
+    {
+        election_is_lawful::<Q>();
+        self.goes_on(sender)?;
+        close_to(&mut self.senders[sender as usize])
+    }
+
+    /// A sender takes a turn.
+    fn turn_at(&mut self, sender: u64, word: u32) -> Result<Answer, StepFault>
+        ensures happens { let X = election_of Q.Ratifier in
+            IfOk result (λ a. Happens X self.old (SenderTurn sender word) a self.new) }
+        ensures causes { let X = election_of Q.Ratifier in
+            OnOk result (Causes X Q.protocol self.old (SenderTurn sender word)) }
+        ensures says { let X = election_of Q.Ratifier in
+            IfOk result (λ a. Says X self.old (SenderTurn sender word) a) }
+        ensures refused { IfErr result
+            (λ why. Refuses self.old (SenderTurn sender word) why self.new) }
+    {
+        election_is_lawful::<Q>();
+        self.goes_on(sender)?;
+        let core = &mut self.senders[sender as usize];
+        core.has_causes();
+        let turn = turn_sender(&mut self.cells, &mut self.home, core, word);
+        note_owner(&mut self.owners, self.reuse, SenderNo(sender as u8), turn);
+        Ok(Answer::Turn(turn))
+    }
+
+    /// A receiver takes a turn.
+    fn recv_at(&mut self, receiver: u64) -> Result<Answer, StepFault>
+        ensures happens { let X = election_of Q.Ratifier in
+            IfOk result (λ a. Happens X self.old (Recv receiver) a self.new) }
+        ensures refused { IfErr result
+            (λ why. Refuses self.old (Recv receiver) why self.new) }
+    {
+        election_is_lawful::<Q>();
+        if receiver as usize >= self.receivers.len() {
+            return Err(StepFault::NoSuchReceiver);
+        }
+        let reader = &mut self.receivers[receiver as usize];
+        Ok(Answer::Recv(turn_receiver(&mut self.cells, reader)))
+    }
+
+    /// A sender stops.
+    fn stop_at(&mut self, sender: u64) -> Result<(), StepFault>
+        ensures happens { let X = election_of Q.Ratifier in
+            OnOk result (Happens X self.old (Stop sender) answer.Stopped self.new) }
+        ensures refused { IfErr result (λ why. Refuses self.old (Stop sender) why self.new) }
+    {
+        self.goes_on(sender)?;
+        self.stopped[sender as usize] = true;
+        Ok(())
+    }
+
+    /// A message is put into the batch of a sender, and gets this number. While the sender pins a
+    /// tenure of rows that are used again this is refused as Busy. Takes no memory.
+    pub fn put(&mut self, sender: SenderNo, bytes: &[u8]) -> Result<u64, StepFault>
+        ensures answered { let X = election_of Q.Ratifier in
+            IfOk result (λ number. Answers X Q.protocol self.old (Put sender.0 bytes.now)
+            (answer.Number number) self.new) }
+        ensures refused { IfErr result
+            (λ why. Refuses self.old (Put sender.0 bytes.now) why self.new) }
+    {
+        election_is_lawful::<Q>();
+        let _ = &self.shape;
+        self.put_at(u64::from(sender.0), bytes)
+    }
+
+    /// A sender is to close the order: an end mark waits at it from then on. While the sender
+    /// pins a tenure of rows that are used again this is refused as Busy. Takes no memory.
+    pub fn close(&mut self, sender: SenderNo) -> Result<(), StepFault>
+        ensures answered { let X = election_of Q.Ratifier in
+            OnOk result (Answers X Q.protocol self.old (Close sender.0) answer.Closing self.new) }
+        ensures refused { IfErr result (λ why. Refuses self.old (Close sender.0) why self.new) }
+    {
+        election_is_lawful::<Q>();
+        let _ = &self.shape;
+        self.close_at(u64::from(sender.0))
+    }
+
+    /// A sender stops: from now on it does nothing any more. A page that it has stays out, and a
+    /// holder may wait for its presence for good. Takes no step and no memory.
+    pub fn stop(&mut self, sender: SenderNo) -> Result<(), StepFault>
+        ensures answered { let X = election_of Q.Ratifier in
+            OnOk result (Answers X Q.protocol self.old (Stop sender.0) answer.Stopped self.new) }
+        ensures refused { IfErr result (λ why. Refuses self.old (Stop sender.0) why self.new) }
+    {
+        election_is_lawful::<Q>();
+        let _ = &self.shape;
+        self.stop_at(u64::from(sender.0))
+    }
+
+    /// What happens next, and its answer.
+    fn take_in(&mut self, event: &Event) -> Result<Answer, StepFault>
+        ensures happens { let X = election_of Q.Ratifier in
+            IfOk result (λ a. Happens X self.old (event_told event.now) a self.new) }
+        ensures causes { let X = election_of Q.Ratifier in
+            OnOk result (Causes X Q.protocol self.old (event_told event.now)) }
+        ensures says { let X = election_of Q.Ratifier in
+            IfOk result (λ a. Says X self.old (event_told event.now) a) }
+        ensures refused { IfErr result
+            (λ why. Refuses self.old (event_told event.now) why self.new) }
+    {
+        match event {
+            Event::Put { sender, bytes } => Ok(Answer::Number(self.put_at(*sender, bytes)?)),
+            Event::Close(sender) => {
+                self.close_at(*sender)?;
+                Ok(Answer::Closing)
+            }
+            Event::Turn { sender, word } => self.turn_at(*sender, *word),
+            Event::Recv(receiver) => self.recv_at(*receiver),
+            Event::Stop(sender) => {
+                self.stop_at(*sender)?;
+                Ok(Answer::Stopped)
+            }
+        }
+    }
+
+    /// What happens next, and its answer. A refused event changes nothing. Takes no memory.
+    ///
+    /// By the actions of all trails that lead here, with this turn: a sender that answers Lost saw
+    /// the election of that tenure end with the owner that it names, which is another sender; one
+    /// that answers Own is elected and took the page; what is Delivered is the last frame of the
+    /// order; and Full is answered only where the frame does not fit behind the log. No turn is a
+    /// action in a tenure whose row had gone on before: what was elected there stays as it is.
+    pub fn step(&mut self, event: &Event) -> Result<Answer, StepFault>
+        ensures answered { let X = election_of Q.Ratifier in
+            IfOk result (λ a. Answers X Q.protocol self.old (event_told event.now) a self.new) }
+        ensures refused { IfErr result
+            (λ why. Refuses self.old (event_told event.now) why self.new) }
+    {
+        election_is_lawful::<Q>();
+        let _ = &self.shape;
+        self.take_in(event)
+    }
+
+    /// Events, one after another, up to the first that is refused. Of each that happened all is so
+    /// that `step` says of it. Takes no memory.
+    pub fn play(&mut self, events: &[Event]) -> Result<(), PlayFault>
+        ensures played { let X = election_of Q.Ratifier in
+            OnOk result (Played X Q.protocol self.old (map event_told events.now) self.new) }
+        ensures stopped { let X = election_of Q.Ratifier in
+            IfErr result (λ fault. Stops X Q.protocol self.old (map event_told events.now)
+            fault.place fault.why self.new) }
+    {
+        election_is_lawful::<Q>();
+        let _ = &self.shape;
+        for (place, event) in events.iter().enumerate() {
+            if let Err(why) = self.step(event) {
+                return Err(PlayFault { place, why });
+            }
+        }
+        Ok(())
+    }
+
+    /// Who took the pages, by tenure; where rows are used again the last, at most as many as there
+    /// are rows, the oldest first.
+    pub fn owners(&self) -> &[SenderNo]
+        ensures state { map (λ s. s.0) result.now ≡ self.now.owners }
+        ensures took { let X = election_of Q.Ratifier in
+            (trails : Trails) → Reached X self.now trails
+            → TakersTold self.now.reuse (map (λ s. s.0) result.now) trails.actions }
+    {
+        election_is_lawful::<Q>();
+        let _ = &self.shape;
+        self.owners.as_slice()
+    }
+
+    /// The page, where it is at home; none where a sender has it.
+    pub fn page(&self) -> Option<&Page>
+        ensures { option_copied result ≡ self.now.home }
+    {
+        self.home.as_ref()
+    }
+
+    /// A sender, where there is one of this number.
+    pub fn sender(&self, sender: SenderNo) -> Option<&SenderCore<Q>>
+        ensures { option_copied result ≡ slice_get self.now.senders sender.0 }
+    {
+        let number = usize::from(sender.0);
+        if number < self.senders.len() {
+            Some(&self.senders[number])
+        } else {
+            None
+        }
+    }
+
+    /// How many senders there are.
+    pub fn senders(&self) -> u64
+        ensures count { result ≡ length self.now.senders }
+        ensures few { result ≤ MOST_SENDERS }
+    {
+        self.senders.len() as u64
+    }
+
+    /// The words of the bus. Takes no step.
+    pub fn words(&self) -> &[u64]
+        ensures { result.now ≡ self.now.words }
+    {
+        self.cells.as_slice()
+    }
+
+    /// What stands in a word, where there is such a word. Takes no step.
+    pub fn word(&self, at: Reg) -> Option<u64>
+        ensures { result ≡ slice_get self.now.words at.0 }
+    {
+        if at.0 < self.cells.len() {
+            Some(self.cells.get(at))
+        } else {
+            None
+        }
+    }
+
+    /// A receiver, where there is one of this number.
+    pub fn reader(&self, receiver: u64) -> Option<&Reader>
+        ensures { option_copied result ≡ slice_get self.now.receivers receiver }
+    {
+        let number = receiver as usize;
+        if number < self.receivers.len() {
+            Some(&self.receivers[number])
+        } else {
+            None
+        }
+    }
+
+    /// How many receivers there are.
+    pub fn receivers(&self) -> u64
+        ensures { result ≡ length self.now.receivers }
+    {
+        self.receivers.len() as u64
+    }
+
+    /// The words of the log below the length.
+    pub fn log(&self) -> &[u64]
+        ensures { result.now ≡ log_of self.now }
+    {
+        election_is_lawful::<Q>();
+        let words = self.cells.as_slice();
+        let log = words.len() - self.shape.log_words as usize;
+        &words[log..log + words[0] as usize]
+    }
+
+    /// The order: what the words below the length spell. Memory is its only refusal.
+    pub fn order(&self, alloc: Global) -> Result<Order, NoMemory>
+        ensures { IfOk result (λ order. (owners : List (ℕ × Number))
+            × Spells self.now.layout.senders (log_of self.now) (order_held order) owners) }
+    {
+        election_is_lawful::<Q>();
+        match read_log(alloc, self.log(), self.shape.senders) {
+            Ok(read) => Ok(read.order),
+            Err(_) => Err(NoMemory),
+        }
+    }
+
+    /// What the receiver of this number was given: the items and the end that it was answered.
+    /// There must be such a receiver. Memory is its only refusal.
+    pub fn given(&self, alloc: Global, receiver: u64) -> Result<Order, NoMemory>
+        requires { receiver < length self.now.receivers }
+        ensures { let X = election_of Q.Ratifier in
+            IfOk result (λ order. (trails : Trails) → Reached X self.now trails
+            → order_held order ≡ order_given (trails.heard receiver)) }
+    {
+        election_is_lawful::<Q>();
+        let place = self.receivers[receiver as usize].place();
+        match read_front(alloc, &self.log()[..place as usize], self.shape.senders) {
+            Ok(front) => Ok(front.order),
+            Err(_) => Err(NoMemory),
+        }
+    }
+
+    /// What a bus promises: some trails lead to it, and of all trails that do the promise holds.
+    /// And by all of them each sender that remembers to whom it lost its tenure has seen the
+    /// election of that tenure end so.
+    pub fn promises(&self)
+        ensures happened { let X = election_of Q.Ratifier in
+            (trails : Trails) × Reached X self.now trails }
+        ensures promised { let X = election_of Q.Ratifier in
+            (trails : Trails) → Reached X self.now trails → IsPromised X self.now trails }
+        ensures losses { let X = election_of Q.Ratifier in
+            (trails : Trails) → Reached X self.now trails
+            → LossesAreSeen self.now trails.actions }
+    {
+        election_is_lawful::<Q>();
+        let _ = &self.shape;
+    }
+}
