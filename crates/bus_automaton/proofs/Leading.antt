@@ -1,0 +1,226 @@
+-- What a sender of the one machine may do leads on, with a row for each tenure and with rows that are used again.
+use Rattle.std.proofs.Common.{◌≡◌, ◌≢◌, ℕ, zero, suc, ◌<◌, cond, eq-eqb, ne_eqb, false, Option, Some, None, List, [], ◌∷◌, ◌++◌, length, slice_get, slice_index, replicate, refl, sym, ◌∙◌, ap, subst}
+use Rattle.std.specs.Prelude.{All}
+use Rattle.std.proofs.lemmas.List.{append-nil}
+use Rattle.std.proofs.lemmas.Option.{slice_get_within}
+use Rattle.bus_batch.specs.Batches.{Pending, next_of, CanPut, CanClose}
+use Rattle.bus_core.specs.Keeping.{queue_of}
+use Rattle.bus_core.specs.Senders.{Sender, Situation, Does, Announces, Validates, Unpins, Withdraws, Scans, Clears, situation}
+use Rattle.bus_core.specs.Table.{Line, line_now}
+use Rattle.bus_core.specs.declared.reuses.Reuse.{Reuse}
+use Rattle.bus_cyclic.proofs.CyclicLaws.{next_seen}
+use Rattle.bus_presence.specs.Reclamation.{Trails as Entries}
+use Rattle.bus_register.specs.Proved.TableLaws.{get_set_same, get_set_other}
+use Rattle.bus_register.specs.Words.{register}
+use Rattle.bus_register.specs.declared.registers.Op.{Op}
+use Rattle.bus_tenure.specs.Core.{Election, Layout}
+use Rattle.bus_tenure.specs.declared.turns.Turn.{Turn as Answered}
+use Rattle.bus_world.specs.Headline.{Action, HasPut, HasClosed}
+use Rattle.bus_world.specs.Trails.{step_action}
+use Rattle.bus_world.specs.Turning.{words_after, number_found}
+use Rattle.bus_world.specs.World.{Put, Close, Turn, is_set, no_stops}
+use Rattle.bus_world.specs.Yards.{actions_with}
+use Rattle.bus_world.specs.declared.events.Answer.TheVariants as answer
+use Rattle.bus_machine.specs.Machine.{Machine, Trails, Reached, Then, IsOnWord, going, with_sender, put_in, close_in, machine_after, found, turn_answer, trails_grown, turn_trails, turn_grown, entered}
+use Rattle.bus_pageslot.specs.Lawful.{AcceptsIn}
+use Rattle.bus_pageslot.specs.SenderTrails.{with_sender_trail}
+use Rattle.bus_automaton.proofs.AutomatonLawful.{Moves, LeadsOn}
+use Rattle.bus_automaton.specs.OneAutomaton.{MachineHistory, IsMachineHistory, trail_of, bus_of}
+use Rattle.bus_automaton.specs.OneProcess.{entries, adds_pin, adds_reclaim, adds_by, process_of}
+
+-- ---- who goes on
+none_set : (n s : ℕ) → is_set (slice_get (replicate n false) s) ≡ false
+none_set zero s = refl
+none_set (suc n) zero = refl
+none_set (suc n) (suc s) = none_set n s
+
+all_go : {E : Type 0} (m : Machine E) → m.stopped ≡ no_stops → (s : ℕ) → going m s ≡ slice_get m.senders s
+all_go m none s = ap (λ t. cond t None (slice_get m.senders s)) (ap (λ l. is_set (slice_get l s)) none ∙ none_set 8 s)
+
+-- the next number of its batch, also while that is on its way
+next_is : (q : Pending) (r : Option Reuse) → next_of (queue_of q r) ≡ next_of q
+next_is q None = refl
+next_is q (Some r) = next_seen q r.pin
+
+-- ---- trails
+own_actions : (s : ℕ) (ds : List Action) (D : ℕ → List Action) → actions_with s ds D s ≡ D s ++ ds
+own_actions s ds D = ap (λ b. D s ++ cond b ds []) (eq-eqb s s refl)
+
+other_actions : (s : ℕ) (ds : List Action) (D : ℕ → List Action) (q : ℕ) → q ≢ s → actions_with s ds D q ≡ D q
+other_actions s ds D q ne = ap (λ b. D q ++ cond b ds []) (ne_eqb q s ne) ∙ append-nil (D q)
+
+own_entered : (T : Entries) (p : ℕ) (o : Option Op) (got : ℕ) → entered T p o got p ≡ T p ++ entries o got
+own_entered T p None got = sym (append-nil (T p))
+own_entered T p (Some o) got = ap (λ b. cond b (T p ++ record { op = o; got = got } ∷ []) (T p)) (eq-eqb p p refl)
+
+other_entered : (T : Entries) (p : ℕ) (o : Option Op) (got q : ℕ) → q ≢ p → entered T p o got q ≡ T q
+other_entered T p None got q ne = refl
+other_entered T p (Some o) got q ne = ap (λ b. cond b (T q ++ record { op = o; got = got } ∷ []) (T q)) (ne_eqb q p ne)
+
+module _ {E : Type 0} (l : Line E) (p got word : ℕ) (T : Trails) where
+  -- after a step of a pin, and after one of a reclamation
+  abbrev pinned : Trails
+  pinned = record T { pins = entered T.pins p (l.op word) got; actions = actions_with p [] T.actions }
+
+  abbrev reclaimed : Trails
+  reclaimed = record T { reclaims = entered T.reclaims p (l.op word) got; actions = actions_with p [] T.actions }
+
+  own_pinned : trail_of pinned p ≡ with_sender_trail (trail_of T p) (adds_pin (l.op word) got)
+  own_pinned = λ n. record {
+    actions = own_actions p [] T.actions n;
+    pins = own_entered T.pins p (l.op word) got n;
+    reclaims = sym (append-nil (T.reclaims p)) n;
+  }
+
+  own_reclaimed : trail_of reclaimed p ≡ with_sender_trail (trail_of T p) (adds_reclaim (l.op word) got)
+  own_reclaimed = λ n. record {
+    actions = own_actions p [] T.actions n;
+    pins = sym (append-nil (T.pins p)) n;
+    reclaims = own_entered T.reclaims p (l.op word) got n;
+  }
+
+  other_pinned : (q : ℕ) → q ≢ p → trail_of pinned q ≡ trail_of T q
+  other_pinned q ne = λ n. record {
+    actions = other_actions p [] T.actions q ne n;
+    pins = other_entered T.pins p (l.op word) got q ne n;
+    reclaims = T.reclaims q;
+  }
+
+  other_reclaimed : (q : ℕ) → q ≢ p → trail_of reclaimed q ≡ trail_of T q
+  other_reclaimed q ne = λ n. record {
+    actions = other_actions p [] T.actions q ne n;
+    pins = T.pins q;
+    reclaims = other_entered T.reclaims p (l.op word) got q ne n;
+  }
+
+  -- what a step in its tenure is as an action
+  abbrev stepped : List Action
+  stepped = step_action l.kind l.tenure got (l.chosen got word) (l.answer got word)
+
+  -- after a turn in this situation: all that its sender did by then, and what the others did
+  abbrev turned : Situation E → Trails
+  turned s = turn_trails s l p got word (l.answer got word) T
+
+  own_turned : (s : Situation E) → trail_of (turned s) p ≡ with_sender_trail (trail_of T p) (adds_by s l got word)
+  own_turned (Does z) = λ n. record {
+    actions = own_actions p stepped T.actions n;
+    pins = sym (append-nil (T.pins p)) n;
+    reclaims = sym (append-nil (T.reclaims p)) n;
+  }
+  own_turned (Announces t) = own_pinned
+  own_turned (Validates t) = own_pinned
+  own_turned (Unpins t) = own_pinned
+  own_turned (Withdraws t) = own_pinned
+  own_turned (Scans r) = own_reclaimed
+  own_turned (Clears r) = own_reclaimed
+
+  other_turned : (s : Situation E) (q : ℕ) → q ≢ p → trail_of (turned s) q ≡ trail_of T q
+  other_turned (Does z) q ne = λ n. record { actions = other_actions p stepped T.actions q ne n; pins = T.pins q; reclaims = T.reclaims q }
+  other_turned (Announces t) q ne = other_pinned q ne
+  other_turned (Validates t) q ne = other_pinned q ne
+  other_turned (Unpins t) q ne = other_pinned q ne
+  other_turned (Withdraws t) q ne = other_pinned q ne
+  other_turned (Scans r) q ne = other_reclaimed q ne
+  other_turned (Clears r) q ne = other_reclaimed q ne
+
+-- a step that is due is on a word
+on_word : {E : Type 0} (m : Machine E) (a : Option Op) (o : Op) → a ≡ Some o → register o < length m.words → IsOnWord m a
+on_word m a o due low = subst (IsOnWord m) (sym due) low
+
+-- ---- what leads on
+module _ {E : Type 0} (X : Election E) (x : Layout) (reuse : Option ℕ) (z : MachineHistory E) (h : IsMachineHistory X x reuse z) (p : ℕ)
+    (v : Sender E) (at : slice_get z.machine.senders p ≡ Some v) where
+  abbrev m : Machine E
+  m = z.machine
+
+  abbrev T : Trails
+  T = z.trails
+
+  goes : going m p ≡ Some v
+  goes = all_go m h.running p ∙ at
+
+  -- ---- what it accepts
+  accepts : (w : Sender E) (ds : List Action) → Reached X (with_sender m p w) (record T { actions = actions_with p ds T.actions })
+      → AcceptsIn (bus_of X x reuse) z p w ds
+  accepts w ds reached = record {
+    state = record { machine = with_sender m p w; trails = record T { actions = actions_with p ds T.actions } };
+    changes = record {
+      reached = record {
+        served = h.served;
+        has_rows = h.has_rows;
+        layout = h.layout;
+        rows_are = h.rows_are;
+        reached = reached;
+        alone = h.alone;
+        running = h.running;
+      };
+      here = get_set_same m.senders p w (slice_get_within m.senders p v at);
+      others = λ q ne. get_set_other m.senders p w q ne;
+      sender_trail = λ n. record { actions = own_actions p ds T.actions n; pins = T.pins p; reclaims = T.reclaims p };
+      nothing_else = λ q ne. (λ n. record { actions = other_actions p ds T.actions q ne n; pins = T.pins q; reclaims = T.reclaims q });
+    };
+    words = refl;
+    home = refl;
+  }
+
+  takes_message : (bytes : List ℕ) → CanPut (queue_of v.core.queue v.reuse) (length bytes) → All (λ byte. byte < 256) bytes
+      → AcceptsIn (bus_of X x reuse) z p (put_in v bytes) (HasPut (next_of (queue_of v.core.queue v.reuse)) bytes ∷ [])
+  takes_message bytes can small = subst (λ k. AcceptsIn (bus_of X x reuse) z p (put_in v bytes) (HasPut k bytes ∷ []))
+      (sym (next_is v.core.queue v.reuse))
+      (accepts (put_in v bytes) (HasPut (next_of v.core.queue) bytes ∷ [])
+      (Then m (with_sender m p (put_in v bytes)) T (Put p bytes) (answer.Number (next_of v.core.queue)) h.reached
+      (record { sender = v; goes = goes; are_bytes = small; can = can; answered = refl; after = refl })))
+
+  takes_close : CanClose (queue_of v.core.queue v.reuse) → AcceptsIn (bus_of X x reuse) z p (close_in v) (HasClosed ∷ [])
+  takes_close can = accepts (close_in v) (HasClosed ∷ [])
+      (Then m (with_sender m p (close_in v)) T (Close p) answer.Closing h.reached
+      (record { sender = v; goes = goes; can = can; answered = refl; after = refl }))
+
+  -- ---- its step
+  module _ (word : ℕ) (o : Op) (due : (line_now X v).op word ≡ Some o) (low : register o < length m.words) where
+    abbrev l : Line E
+    l = line_now X v
+
+    abbrev told : Answered
+    told = turn_answer m l word
+
+    abbrev grown : Trails
+    grown = trails_grown X m (Turn p word) (answer.Turn told) T
+
+    grown_is : turn_trails (situation X v) l p (found m l word) word told T ≡ grown
+    grown_is = ap (λ g. turn_grown X m p g word (answer.Turn told) T) (sym goes)
+
+    found_is : found m l word ≡ slice_index m.words (register o)
+    found_is = ap (number_found (slice_index m.words)) due
+
+    moves : Moves (process_of X) (bus_of X x reuse) z p v word o
+    moves = record {
+      state = record { machine = machine_after m p l word; trails = grown };
+      changes = record {
+        reached = record {
+          served = h.served;
+          has_rows = h.has_rows;
+          layout = h.layout;
+          rows_are = h.rows_are;
+          reached = Then m (machine_after m p l word) T (Turn p word) (answer.Turn told) h.reached
+              (record { sender = v; goes = goes; within = on_word m (l.op word) o due low; answered = refl; after = refl });
+          alone = h.alone;
+          running = h.running;
+        };
+        here = get_set_same m.senders p _ (slice_get_within m.senders p v at)
+            ∙ ap (λ g. Some ((process_of X).after v m.home g word)) found_is;
+        others = λ q ne. get_set_other m.senders p _ q ne;
+        sender_trail = ap (λ U. trail_of U p) (sym grown_is) ∙ own_turned l p (found m l word) word T (situation X v)
+            ∙ ap (λ g. with_sender_trail (trail_of T p) (adds_by (situation X v) l g word)) found_is;
+        nothing_else = λ q ne. ap (λ U. trail_of U q) (sym grown_is) ∙ other_turned l p (found m l word) word T (situation X v) q ne;
+      };
+      words = ap (words_after m.words) due;
+      home = refl;
+    }
+
+pub leads_on : {E : Type 0} (X : Election E) (x : Layout) (reuse : Option ℕ) → LeadsOn (process_of X) (bus_of X x reuse)
+leads_on X x reuse = record {
+  message = λ z p v bytes h at can small. takes_message X x reuse z h p v at bytes can small;
+  close = λ z p v h at can. takes_close X x reuse z h p v at can;
+  step = λ z p v word o h at due low. moves X x reuse z h p v at word o due low;
+}

@@ -1,0 +1,3 @@
+pub mod OneProcess
+pub mod OneAutomaton
+pub mod Bridge

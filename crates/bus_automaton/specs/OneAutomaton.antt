@@ -1,0 +1,44 @@
+-- A bus of either kind of rows as threads go by it: one automaton, by the one machine and what leads to it.
+use Rattle.std.specs.Prelude.{◌≡◌, ℕ, Option, [], slice_get}
+use Rattle.bus_tenure.specs.Core.{Election, Layout}
+use Rattle.bus_core.specs.Keeping.{new_sender}
+use Rattle.bus_core.specs.Senders.{Sender}
+use Rattle.bus_world.specs.Bus.{IsLayout}
+use Rattle.bus_world.specs.World.{no_stops}
+use Rattle.bus_machine.specs.Machine.{Machine, Trails, Reached}
+use Rattle.bus_machine.specs.Promise.{HasRows}
+use Rattle.bus_pageslot.specs.Processes.{Automaton}
+use Rattle.bus_pageslot.specs.SenderTrails.{SenderTrail}
+use Rattle.bus_automaton.specs.OneProcess.{table_layout_by}
+
+-- a machine, and what has happened to it
+pub record MachineHistory (E : Type 0) : Type 0 where
+  pub machine : Machine E
+  pub trails : Trails
+
+-- Some events lead to it, of whichever senders and in any order. It has no receivers of its own, and no event was a stop.
+pub record IsMachineHistory {E : Type 0} (X : Election E) (x : Layout) (reuse : Option ℕ) (z : MachineHistory E) : Type 0 where
+  pub served : IsLayout x
+  pub has_rows : HasRows reuse
+  pub layout : z.machine.layout ≡ x
+  pub rows_are : z.machine.reuse ≡ reuse
+  pub reached : Reached X z.machine z.trails
+  pub alone : z.machine.receivers ≡ []
+  pub running : z.machine.stopped ≡ no_stops
+
+-- all that a sender did
+abbrev pub trail_of : Trails → ℕ → SenderTrail
+trail_of T p = record { actions = T.actions p; pins = T.pins p; reclaims = T.reclaims p }
+
+-- with a row for each tenure, or with so many rows that are used again
+abbrev pub bus_of : {E : Type 0} → Election E → Layout → Option ℕ → Automaton (Sender E)
+bus_of {E} X x reuse = record {
+  table_layout = table_layout_by x reuse;
+  started = λ p. new_sender x p reuse;
+  State = MachineHistory E;
+  IsReached = IsMachineHistory X x reuse;
+  words = λ z. z.machine.words;
+  home = λ z. z.machine.home;
+  sender = λ z p. slice_get z.machine.senders p;
+  sender_trail = λ z p. trail_of z.trails p;
+}

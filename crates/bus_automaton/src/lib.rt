@@ -1,0 +1,4 @@
+//! One process and one automaton for threads, of both kinds of rows.
+#![tactic(auto)]
+
+pub mod laws;
