@@ -4,15 +4,11 @@
 //! `rt try` in its folder prints `3 replicas, 30 commands: all equal`.
 #![tactic(auto)]
 
-ghost use Rattle.std.specs.Prelude.{◌≡◌, All};
-ghost use Rattle.bus_receiver.specs.Seats.{table_of};
+ghost use Rattle.std.specs.Prelude.{◌≡◌};
 ghost use Rattle.example_counters.specs.Commands.{counters_changed, message_of, IsCommand};
 
 use anyhow::{Context, ensure};
-use bus_receiver::{Bus, Receiver, RecvTurn, Sender, Shape, Tap, ThreeWord, Turn};
-use rand_pcg::Pcg32;
-use std::alloc::{AllocError, Global};
-use std::marker::Model;
+use bus_handles::{ReceiverHandle, RecvTurn, SenderHandle, Shape, ThreeWord, open};
 use std::sync::Wait;
 use std::{io, thread};
 
@@ -49,47 +45,17 @@ fn apply(message: &[u8], counters: &mut [u64; 4])
     }
 }
 
-/// A worker: a bus, a sender and a receiver of it, and its replica of the counters.
+/// A worker: a sender, a receiver, and its replica of the counters.
 #[derive(Drop)]
-struct Worker<'b> {
-    bus: &'b Bus<ThreeWord>,
-    sender: Sender<ThreeWord>,
-    receiver: Receiver<ThreeWord>,
-    rng: Pcg32,
+struct Worker {
+    sender: SenderHandle<ThreeWord>,
+    receiver: ReceiverHandle<ThreeWord>,
     counters: [u64; 4],
 }
 
-impl<'b> Model for Worker<'b> {
-    ghost use Rattle.std.specs.Prelude.{◌≡◌, ℕ, List};
-    ghost use Rattle.bus_receiver.specs.Seats.{table_of};
-    ghost use Rattle.bus_receiver.specs.Listening.{bus_of};
-
-    ghost Value = { List ℕ };
-
-    ghost view = { λ w. w.counters };
-
-    ghost invariant = { λ w. (table_of w.sender ≡ w.bus.now.table)
-        × (bus_of w.receiver ≡ w.bus.now.table) };
-}
-
-impl<'b> Worker<'b> {
-    /// A worker with this sender and a receiver of this bus.
-    fn new(bus: &'b Bus<ThreeWord>, sender: Sender<ThreeWord>, tap: Tap<ThreeWord>) -> Worker<'b>
-        requires sender { table_of sender ≡ bus.now.table }
-        requires tap { tap.table_id ≡ bus.now.table }
-    {
-        let rng = Pcg32::new(0, u64::from(sender.number().0));
-        Worker {
-            bus,
-            sender,
-            rng,
-            receiver: Receiver::new(tap),
-            counters: [0; 4],
-        }
-    }
-
+impl Worker {
     /// Sends two batches, each a reset of its own counter and an addition to all, and catches up.
-    fn work<W: Wait>(mut self, wait: &W) -> anyhow::Result<Worker<'b>> {
+    fn work<W: Wait>(mut self, wait: &W) -> anyhow::Result<Worker> {
         let own = self.sender.number().0;
         for amount in [5, 7] {
             self.put(Command::Reset { counter: own })?;
@@ -109,16 +75,14 @@ impl<'b> Worker<'b> {
 
     /// Sends the batch.
     fn send<W: Wait>(&mut self, wait: &W) -> anyhow::Result<()> {
-        let bus = self.bus;
-        let sent = self.sender.send(wait, bus, &mut self.rng);
-        ensure!(matches!(sent, Turn::Delivered { .. }), "stopped: {sent:?}");
+        self.sender.deliver(wait)?;
         Ok(())
     }
 
     /// Applies all that has come by now.
     fn catch_up<W: Wait>(&mut self, wait: &W) {
         for _ in wait.forever() {
-            match self.receiver.turn(self.bus) {
+            match self.receiver.turn() {
                 RecvTurn::Item(item) => apply(item.message.as_slice(), &mut self.counters),
                 RecvTurn::Empty | RecvTurn::End => return,
                 RecvTurn::Going | RecvTurn::Head { .. } => {}
@@ -135,28 +99,8 @@ impl<'b> Worker<'b> {
     }
 }
 
-/// A worker for each sender, with the receiver of its number.
-fn workers_of<'b>(
-    alloc: Global,
-    bus: &'b Bus<ThreeWord>,
-    senders: Vec<Sender<ThreeWord>>,
-    taps: Vec<Tap<ThreeWord>>,
-) -> Result<Vec<Worker<'b>>, AllocError>
-    requires senders { All (λ sender. table_of sender ≡ bus.now.table) senders.items }
-    requires taps { All (λ tap. tap.table_id ≡ bus.now.table) taps.items }
-{
-    let mut workers = Vec::new(alloc);
-    for (sender, tap) in senders.into_iter().zip(taps) {
-        workers.push(Worker::new(bus, sender, tap))?;
-    }
-    Ok(workers)
-}
-
 /// Sees that all replicas are equal and that no command is missing.
-fn compare<R: Eprint + Wait>(
-    rt: &R,
-    workers: Vec<anyhow::Result<Worker<'_>>>,
-) -> anyhow::Result<()> {
+fn compare<R: Eprint + Wait>(rt: &R, workers: Vec<anyhow::Result<Worker>>) -> anyhow::Result<()> {
     let mut first = None;
     for worker in workers {
         let counters = worker?.finish(rt)?;
@@ -174,8 +118,15 @@ fn main(rt: HostRuntime) -> anyhow::Result<()> {
         rows: 64,
         log_words: 1024,
     };
-    let (bus, senders, taps) = Bus::new(rt.alloc(), shape)?;
-    let workers = workers_of(rt.alloc(), &bus, senders, taps)?;
+    let (senders, receivers) = open::<ThreeWord>(rt.alloc(), shape)?;
+    let mut workers = Vec::new(rt.alloc());
+    for (sender, receiver) in senders.into_iter().zip(receivers) {
+        workers.push(Worker {
+            sender,
+            receiver,
+            counters: [0; 4],
+        })?;
+    }
     compare(
         &rt,
         thread::map_vec(&rt, workers, &|worker| worker.work(&rt))?,

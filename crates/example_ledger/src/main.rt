@@ -7,12 +7,10 @@
 
 ghost use Rattle.std.specs.Prelude.{◌≡◌, ◌↔◌, ◌^◌, ◌<◌, IsTrue, IfOk, sum};
 ghost use Rattle.std.specs.Bool.{OnFalse};
-ghost use Rattle.bus_receiver.specs.Seats.{table_of};
 ghost use Rattle.example_ledger.specs.Transfers.{after_transfer, message_of, money, CanBePaid};
 
 use anyhow::{Context, ensure};
-use bus_receiver::{Bus, Receiver, RecvTurn, Sender, Shape, Tap, ThreeWord, Turn};
-use rand_pcg::Pcg32;
+use bus_handles::{ReceiverHandle, RecvTurn, SenderHandle, Shape, ThreeWord, open};
 use std::marker::Model;
 use std::sync::Wait;
 use std::{io, thread};
@@ -75,42 +73,31 @@ struct Ledger {
     refused: u64,
 }
 
-/// A worker: a bus, a sender and a receiver of it, and its replica of the ledger.
+/// A worker: a sender, a receiver, and its replica of the ledger.
 #[derive(Drop)]
-struct Worker<'b> {
-    bus: &'b Bus<ThreeWord>,
-    sender: Sender<ThreeWord>,
-    receiver: Receiver<ThreeWord>,
-    rng: Pcg32,
+struct Worker {
+    sender: SenderHandle<ThreeWord>,
+    receiver: ReceiverHandle<ThreeWord>,
     ledger: Ledger,
 }
 
-impl<'b> Model for Worker<'b> {
+impl Model for Worker {
     ghost use Rattle.std.specs.Prelude.{◌≡◌, ℕ, List, sum};
-    ghost use Rattle.bus_receiver.specs.Seats.{table_of};
-    ghost use Rattle.bus_receiver.specs.Listening.{bus_of};
     ghost use Rattle.example_ledger.specs.Transfers.{money};
 
     ghost Value = { List ℕ };
 
     ghost view = { λ w. w.ledger.balances };
 
-    ghost invariant = { λ w. (table_of w.sender ≡ w.bus.now.table)
-        × (bus_of w.receiver ≡ w.bus.now.table) × (sum w.ledger.balances ≡ money) };
+    ghost invariant = { λ w. sum w.ledger.balances ≡ money };
 }
 
-impl<'b> Worker<'b> {
-    /// A worker with this sender and a receiver of this bus.
-    fn new(bus: &'b Bus<ThreeWord>, sender: Sender<ThreeWord>, tap: Tap<ThreeWord>) -> Worker<'b>
-        requires sender { table_of sender ≡ bus.now.table }
-        requires tap { tap.table_id ≡ bus.now.table }
-    {
-        let rng = Pcg32::new(0, u64::from(sender.number().0));
+impl Worker {
+    /// A worker with this sender and this receiver, of whom nobody has paid yet.
+    fn new(sender: SenderHandle<ThreeWord>, receiver: ReceiverHandle<ThreeWord>) -> Worker {
         Worker {
-            bus,
             sender,
-            rng,
-            receiver: Receiver::new(tap),
+            receiver,
             ledger: Ledger {
                 balances: [60; 4],
                 applied: 0,
@@ -120,7 +107,7 @@ impl<'b> Worker<'b> {
     }
 
     /// Sends two batches of transfers, each with one to an unknown account, and catches up.
-    fn work<W: Wait>(mut self, wait: &W) -> anyhow::Result<Worker<'b>> {
+    fn work<W: Wait>(mut self, wait: &W) -> anyhow::Result<Worker> {
         let from = self.sender.number().0;
         for amount in [20, 30] {
             for to in 0..5 {
@@ -134,9 +121,7 @@ impl<'b> Worker<'b> {
 
     /// Sends the batch.
     fn send<W: Wait>(&mut self, wait: &W) -> anyhow::Result<()> {
-        let bus = self.bus;
-        let sent = self.sender.send(wait, bus, &mut self.rng);
-        ensure!(matches!(sent, Turn::Delivered { .. }), "stopped: {sent:?}");
+        self.sender.deliver(wait)?;
         Ok(())
     }
 
@@ -145,7 +130,7 @@ impl<'b> Worker<'b> {
     /// prefix of one order. So all apply the same transfers to the same balances.
     fn catch_up<W: Wait>(&mut self, wait: &W) {
         for _ in wait.forever() {
-            match self.receiver.turn(self.bus) {
+            match self.receiver.turn() {
                 RecvTurn::Item(item) => self.take_in(item.message.as_slice()),
                 RecvTurn::Empty | RecvTurn::End => return,
                 RecvTurn::Going | RecvTurn::Head { .. } => {}
@@ -182,10 +167,10 @@ fn main(rt: HostRuntime) -> anyhow::Result<()> {
         rows: 64,
         log_words: 1024,
     };
-    let (bus, senders, taps) = Bus::new(rt.alloc(), shape)?;
+    let (senders, receivers) = open::<ThreeWord>(rt.alloc(), shape)?;
     let mut workers = Vec::new(rt.alloc());
-    for (sender, tap) in senders.into_iter().zip(taps) {
-        workers.push(Worker::new(&bus, sender, tap))?;
+    for (sender, receiver) in senders.into_iter().zip(receivers) {
+        workers.push(Worker::new(sender, receiver))?;
     }
     // That replicas are equal and no command is missing is tested, not proved: which commands are
     // refused depends on the order, and no contract here ties a replica to it.

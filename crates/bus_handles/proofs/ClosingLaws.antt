@@ -1,0 +1,22 @@
+-- A close that is taken, and then sent.
+use Rattle.std.proofs.Common.{◌≡◌, Result, Ok, Err, OnOk, IfErr, sym, subst}
+use Rattle.bus_tenure.specs.declared.turns.Turn.{Turn}
+use Rattle.bus_tenure.specs.declared.turns.Turn.TheVariants as turn
+use Rattle.bus_pageslot.specs.Processes.{Process}
+use Rattle.bus_pageslot.specs.Seats.{SenderSeat}
+use Rattle.bus_pageslot.specs.Turns.{Sends}
+use Rattle.bus_handles.specs.Closings.{Closes, ClosesAndSends, NotEndedFor}
+use Rattle.bus_handles.specs.declared.answers.OrderNotEnded.{OrderNotEnded}
+use Rattle.bus_handles.specs.declared.answers.OrderNotEnded.TheVariants as why
+
+-- where it was answered Closed
+pub ends : {C A : Type 0} (P : Process C) (old closed new : SenderSeat C) (answer : Turn) (r : Result A OrderNotEnded) → Closes P old closed → Sends P closed answer new → OnOk r (answer ≡ turn.Closed) → OnOk r (ClosesAndSends P old turn.Closed new)
+ends P old closed new answer (Ok x) closes sends is =
+    record { closed = closed; closes = closes; sends = subst (λ t. Sends P closed t new) is sends }
+ends P old closed new answer (Err e) closes sends is = is
+
+-- where it was answered otherwise
+pub ends_not : {C A : Type 0} (P : Process C) (old closed new : SenderSeat C) (answer : Turn) (r : Result A OrderNotEnded) → Closes P old closed → Sends P closed answer new → IfErr r (λ e. (e ≡ why.Turn answer) × (answer ≡ turn.Closed → ⊥)) → IfErr r (λ e. NotEndedFor P old e new)
+ends_not P old closed new answer (Ok x) closes sends is = is
+ends_not P old closed new answer (Err e) closes sends is =
+    subst (λ e. NotEndedFor P old e new) (sym is.0) (record { closed = closed; closes = closes; sends = sends }, is.1)

@@ -1,0 +1,2 @@
+mod ClosingLaws
+mod HandleLaws

@@ -1,0 +1,4 @@
+pub mod Answers
+pub mod Closings
+pub mod Handles
+pub mod Texts

@@ -1,0 +1,24 @@
+-- What is said of a call that did not do what it was asked for.
+use Rattle.std.specs.Prelude.{ℕ, List, ◌++◌, codes}
+use Rattle.bus_batch.specs.Faults.{close_fault_text}
+use Rattle.bus_tenure.specs.Text.{turn_text}
+use Rattle.bus_handles.specs.declared.answers.NotDelivered.{NotDelivered}
+use Rattle.bus_handles.specs.declared.answers.NotDelivered.TheVariants as delivered
+use Rattle.bus_handles.specs.declared.answers.OrderNotEnded.{OrderNotEnded}
+use Rattle.bus_handles.specs.declared.answers.OrderNotEnded.TheVariants as order
+use Rattle.bus_handles.specs.declared.answers.BusNotEnded.{BusNotEnded}
+use Rattle.bus_handles.specs.declared.answers.BusNotEnded.TheVariants as bus
+
+abbrev pub not_delivered_text : NotDelivered → List ℕ
+not_delivered_text delivered.Idle = codes "nothing is delivered: no message waits"
+not_delivered_text delivered.Full = codes "nothing is delivered: the log is full"
+not_delivered_text delivered.Closed = codes "nothing is delivered: the order has ended"
+not_delivered_text delivered.Spent = codes "nothing is delivered: all rows are spent"
+
+abbrev pub order_not_ended_text : OrderNotEnded → List ℕ
+order_not_ended_text (order.Close why) = codes "the close is not taken: " ++ close_fault_text why
+order_not_ended_text (order.Turn answer) = codes "the close is not sent: " ++ turn_text answer
+
+abbrev pub bus_not_ended_text : BusNotEnded → List ℕ
+bus_not_ended_text bus.InUse = codes "other handles have the bus still"
+bus_not_ended_text bus.PageOut = codes "a sender has not given the page back"

@@ -1,0 +1,130 @@
+//! What sending and ending came to, as a Result.
+
+ghost use Rattle.std.specs.Prelude.{◌≡◌, ◌≢◌, true, Some, IfOk, IfErr, OnOk};
+ghost use Rattle.bus_pageslot.specs.Turns.{is_last};
+ghost use Rattle.bus_handles.specs.Answers.{delivered_turn, not_delivered_turn};
+ghost use Rattle.bus_handles.specs.Texts.{not_delivered_text, order_not_ended_text};
+ghost use Rattle.bus_handles.specs.Texts.{bus_not_ended_text};
+
+use bus_batch::CloseFault;
+use bus_tenure::Turn;
+use std::error::Error;
+use std::fmt;
+
+/// The messages of a sender from the first number to the last one stand in the order, in the frame
+/// of this tenure.
+#[derive(Clone, Copy, Debug, PartialEq, Eq)]
+pub struct Delivered {
+    pub tenure: u64,
+    pub first: u64,
+    pub last: u64,
+}
+
+/// Why no message was delivered.
+#[derive(Clone, Copy, Debug, PartialEq, Eq)]
+pub enum NotDelivered {
+    /// Nothing was pending.
+    Idle,
+    /// The frame does not fit the log. The batch is kept.
+    Full,
+    /// The order has ended, by this sender or another.
+    Closed,
+    /// All rows are spent. The batch is kept.
+    Spent,
+}
+
+impl Error for NotDelivered {}
+
+impl fmt::Display for NotDelivered {
+    ghost output = { λ why. Some (not_delivered_text why) };
+
+    fn fmt<W: fmt::Write>(&self, f: &mut fmt::Formatter<W>) -> fmt::Result {
+        f.write_str(match self {
+            NotDelivered::Idle => "nothing is delivered: no message waits",
+            NotDelivered::Full => "nothing is delivered: the log is full",
+            NotDelivered::Closed => "nothing is delivered: the order has ended",
+            NotDelivered::Spent => "nothing is delivered: all rows are spent",
+        })
+    }
+}
+
+/// Why the order was not ended by this call.
+#[derive(Clone, Copy, Debug, PartialEq, Eq)]
+pub enum OrderNotEnded {
+    /// The close was not taken, and nothing has changed.
+    Close(CloseFault),
+    /// The end mark waits, and this is what sending it was answered.
+    Turn(Turn),
+}
+
+impl Error for OrderNotEnded {}
+
+impl fmt::Display for OrderNotEnded {
+    ghost output = { λ why. Some (order_not_ended_text why) };
+
+    fn fmt<W: fmt::Write>(&self, f: &mut fmt::Formatter<W>) -> fmt::Result {
+        match self {
+            OrderNotEnded::Close(why) => write!(f, "the close is not taken: {why}"),
+            OrderNotEnded::Turn(answer) => write!(f, "the close is not sent: {answer}"),
+        }
+    }
+}
+
+/// Why a bus was not ended.
+#[derive(Clone, Copy, Debug, PartialEq, Eq)]
+pub enum BusNotEnded {
+    /// Other handles have the bus still.
+    InUse,
+    /// A sender that took the page has not given it back.
+    PageOut,
+}
+
+impl Error for BusNotEnded {}
+
+impl fmt::Display for BusNotEnded {
+    ghost output = { λ why. Some (bus_not_ended_text why) };
+
+    fn fmt<W: fmt::Write>(&self, f: &mut fmt::Formatter<W>) -> fmt::Result {
+        f.write_str(match self {
+            BusNotEnded::InUse => "other handles have the bus still",
+            BusNotEnded::PageOut => "a sender has not given the page back",
+        })
+    }
+}
+
+/// A last answer of a sender: what was delivered, or why nothing was.
+pub fn answered(turn: Turn) -> Result<Delivered, NotDelivered>
+    requires { is_last turn ≡ true }
+    ensures delivered { IfOk result (λ done. turn ≡ delivered_turn done) }
+    ensures not_delivered { IfErr result (λ why. turn ≡ not_delivered_turn why) }
+{
+    match turn {
+        Turn::Delivered {
+            tenure,
+            first,
+            last,
+        } => Ok(Delivered {
+            tenure,
+            first,
+            last,
+        }),
+        Turn::Idle => Err(NotDelivered::Idle),
+        Turn::Full => Err(NotDelivered::Full),
+        Turn::Closed => Err(NotDelivered::Closed),
+        Turn::Spent => Err(NotDelivered::Spent),
+        Turn::Waiting | Turn::Going | Turn::Lost { .. } | Turn::Own { .. } => unreachable!(),
+        Turn::Behind { .. } => unreachable!(),
+    }
+}
+
+/// The last answer to a close that was sent, as a Result.
+pub(crate) fn order_ended(turn: Turn) -> Result<(), OrderNotEnded>
+    ensures ended { OnOk result (turn ≡ Turn.Closed) }
+    ensures not_ended { IfErr result
+        (λ why. (why ≡ OrderNotEnded.Turn turn) × (turn ≢ Turn.Closed)) }
+{
+    match turn {
+        Turn::Closed => Ok(()),
+        other => Err(OrderNotEnded::Turn(other)),
+    }
+}

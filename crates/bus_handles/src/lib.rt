@@ -1,0 +1,32 @@
+//! Handles of a bus. One call opens a bus and gives a handle for each of its senders and receivers.
+//! All handles have the bus together, so a program has no bus in hand, passes none to a call, and
+//! states nothing of which bus a handle is of. The last handle that is left can end the bus.
+//!
+//!     let (senders, receivers) = open::<ThreeWord>(rt.alloc(), shape)?;
+//!     for mut sender in senders {
+//!         sender.put(b"hello")?;
+//!         sender.deliver(&rt)?;
+//!     }
+//!     for mut receiver in receivers {
+//!         let first = receiver.next_item(&rt).context("the end")?;
+//!     }
+//!
+//! The crates `example_hello` and `example_map` are whole programs of that form.
+#![tactic(auto)]
+
+mod answers;
+mod opening;
+mod receivers;
+mod senders;
+
+pub use answers::{BusNotEnded, Delivered, NotDelivered, OrderNotEnded, answered};
+pub use bus_receiver::{
+    CloseFault, Ended, Heard, Item, Kind, LEAST_LOG_WORDS, LEAST_ROWS_AGAIN, LogFault, LogRead,
+    MOST_BYTES, MOST_LOG_WORDS, MOST_MESSAGES, MOST_RECEIVERS, MOST_ROUNDS, MOST_ROWS,
+    MOST_ROWS_AGAIN, MOST_SENDERS, MakeFault, Message, Next, Order, Page, PutFault, RecvTurn,
+    Seatable, SendFault, SenderNo, Shape, ThreeWord, Turn, TwoCollect, Unsent, read_log,
+    tenures_needed, tenures_of_sitting, words_needed, words_of_sitting,
+};
+pub use opening::{open, open_cyclic, open_of};
+pub use receivers::{CyclicReceiverHandle, ReceiverHandle, ReceiverHandleOf};
+pub use senders::{CyclicSenderHandle, SenderHandle, SenderHandleOf};

@@ -1,0 +1,175 @@
+//! A receiver with its bus.
+
+ghost use Rattle.std.specs.Prelude.{◌≡◌, ℕ, ◌≤◌, List, length, Some, None, IfOk};
+ghost use Rattle.std.specs.Ordering.{nat_cmp};
+ghost use Rattle.std.specs.Arc.{arc_value};
+ghost use Rattle.bus_pageslot.specs.Endings.{IsLeft};
+ghost use Rattle.bus_pageslot.specs.Rule.{receiver_view_in, known_in};
+ghost use Rattle.bus_pageslot.specs.Listening.{Hears};
+ghost use Rattle.bus_pageslot.specs.Seats.{table_of, actions_of, stored_of};
+ghost use Rattle.bus_receiver.specs.Listening.{bus_of, Takes, HaveMet, IsTold};
+ghost use Rattle.bus_receiver.specs.Listening.{PassesTo, PassesWhile, item_or_end};
+
+use crate::answers::BusNotEnded;
+use crate::senders::SenderHandleOf;
+use bus_batch::Item;
+use bus_deliverylog::RecvTurn;
+use bus_guest::Guest;
+use bus_pageslot::{BusOf, Ended, Seatable};
+use bus_receiver::{Next, ReceiverOf};
+use bus_tenure::SenderCore;
+use std::cmp::Ordering;
+use std::marker::Model;
+use std::sync::{Arc, Wait};
+
+/// A receiver with its bus. One thread at a time has it. Its calls are those of `ReceiverOf`, and
+/// none of them takes memory.
+#[derive(Drop)]
+pub struct ReceiverHandleOf<S: Seatable> {
+    bus: Arc<BusOf<S>>,
+    receiver: ReceiverOf<S>,
+}
+
+impl<S: Seatable> Model for ReceiverHandleOf<S> {
+    ghost use Rattle.std.specs.Prelude.{◌≡◌};
+    ghost use Rattle.std.specs.Arc.{arc_value};
+    ghost use Rattle.bus_receiver.specs.Listening.{bus_of};
+    ghost use Rattle.bus_handles.specs.Handles.{SeatOfBus};
+
+    ghost Value = { SeatOfBus S };
+
+    ghost view = { λ h. record { bus = arc_value h.bus; me = h.receiver.me } };
+
+    ghost invariant = { λ h. bus_of h.receiver ≡ (arc_value h.bus).table };
+}
+
+/// Of a bus with a row of words for each of its tenures.
+pub type ReceiverHandle<Q> = ReceiverHandleOf<SenderCore<Q>>;
+
+/// Of a bus whose rows of words are used again.
+pub type CyclicReceiverHandle<Q> = ReceiverHandleOf<Guest<Q>>;
+
+impl<S: Seatable + Drop> ReceiverHandleOf<S> {
+    ghost use Rattle.bus_handles.specs.Handles.{seat_of};
+
+    /// This receiver of this bus.
+    pub(crate) fn new(bus: Arc<BusOf<S>>, receiver: ReceiverOf<S>) -> ReceiverHandleOf<S>
+        requires { bus_of receiver ≡ (arc_value bus).table }
+        ensures bus { result.bus ≡ arc_value bus }
+        ensures seat { seat_of result ≡ receiver }
+    {
+        ReceiverHandleOf { bus, receiver }
+    }
+
+    /// How many words it has read.
+    pub fn place(&self) -> u64
+        ensures place { result ≡ (receiver_view_in self.now.me.0).place }
+        ensures within { result ≤ length (known_in self.now.me.0) }
+    {
+        self.receiver.place()
+    }
+
+    /// How many words of the log it knows; 0 before its first load.
+    pub fn known(&self) -> u64
+        ensures { result ≡ length (known_in self.now.me.0) }
+    {
+        self.receiver.known()
+    }
+
+    /// The end was among what it was answered.
+    pub fn has_ended(&self) -> bool
+        ensures { result ≡ (receiver_view_in self.now.me.0).ended }
+    {
+        self.receiver.has_ended()
+    }
+
+    /// One turn: a load of the length where it has read all that it knows, else a load of the word
+    /// at its place. After the end it takes no step.
+    pub fn turn(&mut self) -> RecvTurn
+        ensures bus { self.new.bus ≡ self.old.bus }
+        ensures hears { Hears self.old.me result self.new.me }
+    {
+        let bus: &BusOf<S> = &self.bus;
+        self.receiver.turn(bus)
+    }
+
+    /// Turns, until one finds a head, an item or the end. That it ends is not promised.
+    pub fn take<W: Wait>(&mut self, wait: &W) -> RecvTurn
+        ensures bus { self.new.bus ≡ self.old.bus }
+        ensures takes { Takes self.old.me result self.new.me }
+    {
+        let bus: &BusOf<S> = &self.bus;
+        self.receiver.take(wait, bus)
+    }
+
+    /// Turns, until one finds an item or the end: the item, and none at the end and ever after. It
+    /// waits as `take` does, and that it ends is not promised.
+    pub fn next_item<W: Wait>(&mut self, wait: &W) -> Option<Item>
+        ensures bus { self.new.bus ≡ self.old.bus }
+        ensures passes { PassesTo self.old.me (item_or_end result) self.new.me }
+    {
+        let bus: &BusOf<S> = &self.bus;
+        self.receiver.next_item(wait, bus)
+    }
+
+    /// As `next_item`, but that it can be told to stop: each time a turn finds nothing more it asks
+    /// `go_on` once, goes on where that says yes, and answers Stopped where it says no. It asks
+    /// nowhere else. So what it knows of the log comes first.
+    pub fn next_item_while<W: Wait, F: FnMut() -> bool>(&mut self, wait: &W, go_on: F) -> Next
+        requires { F.IsAlwaysCallable go_on }
+        ensures bus { self.new.bus ≡ self.old.bus }
+        ensures passes { PassesWhile F.step self.old.me go_on result self.new.me }
+    {
+        let bus: &BusOf<S> = &self.bus;
+        self.receiver.next_item_while(wait, bus, go_on)
+    }
+
+    /// A sender of the same bus tells it of the log: it knows from then on all that the sender has
+    /// published.
+    pub fn told<R>(&mut self, sender: &mut SenderHandleOf<S, R>)
+        requires { table_of sender.old ≡ self.old.bus.table }
+        ensures bus { (self.new.bus ≡ self.old.bus)
+            × (table_of sender.new ≡ table_of sender.old) }
+        ensures told { IsTold S.process sender.old.core (actions_of S.process sender.old)
+            (stored_of sender.old) self.old.me self.new.me }
+        ensures sender { (sender.new.core ≡ sender.old.core)
+            × (sender.new.seat.me ≡ sender.old.seat.me) }
+    {
+        let bus: &BusOf<S> = &self.bus;
+        self.receiver.told(&mut sender.sender, bus);
+    }
+
+    /// Two receivers of one bus meet: from then on both know the log up to the length that is
+    /// loaded. Answers how its place compares with the other's: Less where it has read fewer words.
+    pub fn meet(&mut self, other: &mut ReceiverHandleOf<S>) -> Ordering
+        requires { other.old.bus.table ≡ self.old.bus.table }
+        ensures bus { (self.new.bus ≡ self.old.bus) × (other.new.bus ≡ other.old.bus) }
+        ensures order { result
+            ≡ nat_cmp (receiver_view_in self.old.me.0).place
+            (receiver_view_in other.old.me.0).place }
+        ensures met { HaveMet self.old.me other.old.me self.new.me other.new.me }
+    {
+        let bus: &BusOf<S> = &self.bus;
+        self.receiver.meet(&mut other.receiver, bus)
+    }
+
+    /// Ends the bus by this handle, where it is the last one: its log and its page, where the page
+    /// is at home. The handle is gone in either case, and with the last one the bus.
+    pub fn end(self) -> Result<Ended, BusNotEnded>
+        ensures ended { IfOk result
+            (λ left. IsLeft S.process (S.automaton self.bus.shape) self.me.0 left.log
+            (Some left.page)) }
+        ensures senders { IfOk result (λ left. left.senders ≡ self.bus.shape.senders) }
+        ensures out { result ≡ Err BusNotEnded.PageOut → (log : List ℕ)
+            × IsLeft S.process (S.automaton self.bus.shape) self.me.0 log None }
+    {
+        let ReceiverHandleOf { bus, receiver } = self;
+        let Ok(bus) = Arc::try_unwrap(bus) else {
+            return Err(BusNotEnded::InUse);
+        };
+        match ReceiverOf::end(bus, receiver) {
+            Ok(ended) => Ok(ended),
+            Err(_) => Err(BusNotEnded::PageOut),
+        }
+    }
+}

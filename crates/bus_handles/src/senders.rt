@@ -1,0 +1,250 @@
+//! A sender with its bus, and with the random words that it votes by.
+
+ghost use Rattle.std.specs.Prelude.{◌≡◌, ℕ, List, [], ◌∷◌, ◌++◌, length};
+ghost use Rattle.std.specs.Prelude.{Some, None, IfSome, IfNone, IfOk, IfErr, OnOk, OnErr};
+ghost use Rattle.std.specs.Arc.{arc_value};
+ghost use Rattle.bus_batch.specs.Batches.{next_of, CanPut, IsPutFault, CanClose, IsCloseFault};
+ghost use Rattle.bus_tenure.specs.Core.{is_closed};
+ghost use Rattle.bus_register.specs.declared.registers.Op.{Op};
+ghost use Rattle.bus_world.specs.Headline.{HasPut, HasClosed, puts};
+ghost use Rattle.bus_pageslot.specs.Seats.{TookAndTold, table_of, actions_of, stored_of};
+ghost use Rattle.bus_pageslot.specs.Turns.{Sends, SendsAsking, StopsWaiting};
+ghost use Rattle.bus_pageslot.specs.Sendings.{waiting_of, HasSent, HasSentPart};
+ghost use Rattle.bus_handles.specs.Answers.{delivered_turn, not_delivered_turn};
+ghost use Rattle.bus_handles.specs.Closings.{ClosesAndSends, NotEndedFor};
+
+use crate::answers::{Delivered, NotDelivered, OrderNotEnded, answered, order_ended};
+use bus_batch::{CloseFault, Message, PutFault};
+use bus_guest::Guest;
+use bus_pageslot::{BusOf, Seatable, SenderOf, Unsent};
+use bus_register::{Kind, SenderNo};
+use bus_tenure::{SenderCore, Turn};
+use rand_core::Rng;
+use rand_pcg::Pcg32;
+use std::marker::Model;
+use std::sync::{Arc, Wait};
+
+/// A sender with its bus, and with a generator of the random words that it votes by. One thread at
+/// a time has it. Its calls are those of `SenderOf`, and none of them takes memory.
+#[derive(Drop)]
+pub struct SenderHandleOf<S: Seatable, R = Pcg32> {
+    bus: Arc<BusOf<S>>,
+    pub(crate) sender: SenderOf<S>,
+    rng: R,
+}
+
+impl<S: Seatable, R> Model for SenderHandleOf<S, R> {
+    ghost use Rattle.std.specs.Prelude.{◌≡◌};
+    ghost use Rattle.std.specs.Arc.{arc_value};
+    ghost use Rattle.bus_pageslot.specs.Seats.{SenderSeat, table_of};
+
+    ghost Value = { SenderSeat S };
+
+    ghost view = { λ h. h.sender };
+
+    ghost invariant = { λ h. table_of h.sender ≡ (arc_value h.bus).table };
+}
+
+/// Of a bus with a row of words for each of its tenures.
+pub type SenderHandle<Q, R = Pcg32> = SenderHandleOf<SenderCore<Q>, R>;
+
+/// Of a bus whose rows of words are used again.
+pub type CyclicSenderHandle<Q, R = Pcg32> = SenderHandleOf<Guest<Q>, R>;
+
+impl<S: Seatable + Drop, R: Rng + Drop> SenderHandleOf<S, R> {
+    /// This sender of this bus.
+    pub(crate) fn new(bus: Arc<BusOf<S>>, sender: SenderOf<S>, rng: R) -> SenderHandleOf<S, R>
+        requires { table_of sender ≡ (arc_value bus).table }
+        ensures { result ≡ sender }
+    {
+        SenderHandleOf { bus, sender, rng }
+    }
+
+    /// The same sender, which votes by the words of this generator from now on.
+    pub fn with_rng<T: Rng + Drop>(self, rng: T) -> SenderHandleOf<S, T>
+        ensures { result ≡ self }
+    {
+        let SenderHandleOf { bus, sender, .. } = self;
+        SenderHandleOf { bus, sender, rng }
+    }
+
+    /// The sender's number, from 0 on.
+    pub fn number(&self) -> SenderNo
+        ensures { result.0 ≡ S.process.me self.now.core }
+    {
+        self.sender.number()
+    }
+
+    /// How many messages wait in its batch, at most 16.
+    pub fn pending(&self) -> u64
+        ensures { result ≡ length (waiting_of S.process self.now) }
+    {
+        self.sender.pending()
+    }
+
+    /// The number that the next message gets.
+    pub fn next_number(&self) -> u64
+        ensures { result ≡ next_of (S.process.queue self.now.core) }
+    {
+        self.sender.next_number()
+    }
+
+    /// It sends nothing more: it has closed the order, or has learned that the order has ended.
+    /// False as long as its close waits to be sent.
+    pub fn is_closed(&self) -> bool
+        ensures { result ≡ is_closed (S.process.queue self.now.core).phase }
+    {
+        self.sender.is_closed()
+    }
+
+    /// The last length of the log, in words, that it has stored; 0 before the first.
+    pub fn words(&self) -> u64
+        ensures { result ≡ stored_of self.now }
+    {
+        self.sender.words()
+    }
+
+    /// What its next step is for; none where none is due.
+    pub fn kind(&self) -> Option<Kind>
+        ensures kind { result ≡ S.process.kind self.now.core }
+        ensures cause { IfSome result (S.HasCause self.now.core) }
+    {
+        self.sender.kind()
+    }
+
+    /// Its next step asks for a random word.
+    pub fn wants_word(&self) -> bool
+        ensures { result ≡ S.process.wants_word self.now.core }
+    {
+        self.sender.wants_word()
+    }
+
+    /// How many turns its election takes at most, with the one that takes the page; 0 where none
+    /// is begun.
+    pub fn turns_left(&self) -> u64
+        ensures { result ≡ S.process.turns_left self.now.core }
+    {
+        self.sender.turns_left()
+    }
+
+    /// Appends a message of at most 56 bytes to its batch of at most 16, and gives its number,
+    /// which counts the messages of this sender from 0 on. Takes no step. A fault changes nothing.
+    pub fn put(&mut self, bytes: &[u8]) -> Result<u64, PutFault>
+        ensures number { IfOk result (λ number. number ≡ next_of (S.process.queue self.old.core)) }
+        ensures taken { OnOk result
+            (self.new.core ≡ S.process.with_message self.old.core bytes.now) }
+        ensures action { IfOk result
+            (λ number. actions_of S.process self.new
+            ≡ actions_of S.process self.old ++ HasPut number bytes.now ∷ []) }
+        ensures could { OnOk result (CanPut (S.process.queue self.old.core) (length bytes.now)) }
+        ensures fault { IfErr result
+            (IsPutFault (S.process.queue self.old.core) (length bytes.now)) }
+        ensures refused { OnErr result (self.new.core ≡ self.old.core) }
+        ensures seat { self.new.seat ≡ self.old.seat }
+    {
+        self.sender.put(bytes)
+    }
+
+    /// Lets an end mark wait, which ends the order once it is sent. Refused where messages wait,
+    /// in its batch or on their way, and where it is closing or closed. Takes no step. A fault
+    /// changes nothing.
+    pub fn close(&mut self) -> Result<(), CloseFault>
+        ensures taken { OnOk result (self.new.core ≡ S.process.with_close self.old.core) }
+        ensures action { OnOk result
+            (actions_of S.process self.new ≡ actions_of S.process self.old ++ HasClosed ∷ []) }
+        ensures could { OnOk result (CanClose (S.process.queue self.old.core)) }
+        ensures fault { IfErr result (IsCloseFault (S.process.queue self.old.core)) }
+        ensures refused { OnErr result (self.new.core ≡ self.old.core) }
+        ensures seat { self.new.seat ≡ self.old.seat }
+    {
+        self.sender.close()
+    }
+
+    /// One turn: at most one step on one word of the bus. `word` is the random word of a vote;
+    /// other steps do not look at it.
+    pub fn turn(&mut self, word: u32) -> Turn
+        ensures table { table_of self.new ≡ table_of self.old }
+        ensures rests { S.process.op self.old.core word ≡ None
+            → (self.new ≡ self.old) × (result ≡ S.process.rest self.old.core) }
+        ensures steps { (op : Op) → S.process.op self.old.core word ≡ Some op
+            → TookAndTold S.process S.AnswerTells self.old word result self.new }
+    {
+        let bus: &BusOf<S> = &self.bus;
+        self.sender.turn(bus, word)
+    }
+
+    /// Turns, until there is nothing more to do, or nothing more that can be done: Idle, Delivered,
+    /// Full, Closed or Spent. Each vote takes one word of its generator. It waits for nothing but
+    /// its own next turn, and that it ends is not promised.
+    #[must_use]
+    pub fn send<W: Wait>(&mut self, wait: &W) -> Turn
+        ensures table { table_of self.new ≡ table_of self.old }
+        ensures sends { Sends S.process self.old result self.new }
+        ensures puts { puts (actions_of S.process self.new) ≡ puts (actions_of S.process self.old) }
+    {
+        let bus: &BusOf<S> = &self.bus;
+        self.sender.send(wait, bus, &mut self.rng)
+    }
+
+    /// As `send`, but that it can be told to stop: each time a turn answers Waiting or Behind it
+    /// asks `go_on` once, goes on where that says yes, and gives None where it says no. It asks
+    /// nowhere else. The batch is kept then, and any later turn goes on with it. After Behind the
+    /// sender holds the page, which nobody else has until then.
+    #[must_use]
+    pub fn send_while<W: Wait, F: FnMut() -> bool>(&mut self, wait: &W, go_on: F) -> Option<Turn>
+        requires { F.IsAlwaysCallable go_on }
+        ensures table { table_of self.new ≡ table_of self.old }
+        ensures sends { IfSome result
+            (λ turn. SendsAsking S.process F.step self.old go_on turn self.new) }
+        ensures stops { IfNone result (StopsWaiting S.process F.step self.old go_on self.new) }
+        ensures puts { puts (actions_of S.process self.new) ≡ puts (actions_of S.process self.old) }
+    {
+        let bus: &BusOf<S> = &self.bus;
+        self.sender.send_while(wait, bus, &mut self.rng, go_on)
+    }
+
+    /// Sends messages in their order: first what waits in its batch, and then these, in batches of
+    /// 16, of which the last may be smaller. Ok where no message waits any more. It stops at the
+    /// first batch that is not sent off, which is kept, and at the first message that is refused.
+    /// It waits as `send` does, and that it ends is not promised.
+    pub fn send_all<W: Wait>(&mut self, wait: &W, messages: &[Message]) -> Result<(), Unsent>
+        ensures table { table_of self.new ≡ table_of self.old }
+        ensures all { OnOk result (HasSent S.process self.old messages.now self.new) }
+        ensures part { IfErr result
+            (λ unsent. HasSentPart S.process self.old messages.now unsent self.new) }
+    {
+        let bus: &BusOf<S> = &self.bus;
+        self.sender.send_all(wait, bus, &mut self.rng, messages)
+    }
+
+    /// Sends what waits, as `send` does: Ok where messages were delivered, with their numbers, and
+    /// else why none was.
+    pub fn deliver<W: Wait>(&mut self, wait: &W) -> Result<Delivered, NotDelivered>
+        ensures table { table_of self.new ≡ table_of self.old }
+        ensures delivered { IfOk result
+            (λ done. Sends S.process self.old (delivered_turn done) self.new) }
+        ensures not_delivered { IfErr result
+            (λ why. Sends S.process self.old (not_delivered_turn why) self.new) }
+        ensures puts { puts (actions_of S.process self.new) ≡ puts (actions_of S.process self.old) }
+    {
+        let bus: &BusOf<S> = &self.bus;
+        let turn = self.sender.send(wait, bus, &mut self.rng);
+        answered(turn)
+    }
+
+    /// Closes, and sends that as `send` does: Ok where the order has ended then, and else why the
+    /// close was not taken, or what sending it was answered.
+    pub fn end_order<W: Wait>(&mut self, wait: &W) -> Result<(), OrderNotEnded>
+        ensures table { table_of self.new ≡ table_of self.old }
+        ensures ended { OnOk result (ClosesAndSends S.process self.old Turn.Closed self.new) }
+        ensures not_ended { IfErr result (λ why. NotEndedFor S.process self.old why self.new) }
+        ensures puts { puts (actions_of S.process self.new) ≡ puts (actions_of S.process self.old) }
+    {
+        if let Err(why) = self.sender.close() {
+            return Err(OrderNotEnded::Close(why));
+        }
+        let bus: &BusOf<S> = &self.bus;
+        let turn = self.sender.send(wait, bus, &mut self.rng);
+        order_ended(turn)
+    }
+}
