@@ -34,7 +34,8 @@ pub fn process_is_lawful<Q: Ratifier>()
 pub fn automaton_is_lawful<Q: Ratifier>()
     ensures { let X = election_of Q.Ratifier in
         (senders rounds rows capacity : ℕ) (reuse : Option ℕ)
-        → AutomatonLaws (process_of X) (bus_of X (layout_with Q.protocol senders rounds rows capacity) reuse) }
+        → AutomatonLaws (process_of X)
+        (bus_of X (layout_with Q.protocol senders rounds rows capacity) reuse) }
 {
     election_is_lawful::<Q>();
 }
@@ -45,5 +46,6 @@ pub fn automaton_opens<Q: Ratifier>()
     ensures { let X = election_of Q.Ratifier in
         (senders rounds rows capacity : ℕ) (reuse : Option ℕ)
         → IsLayout (layout_with Q.protocol senders rounds rows capacity) → HasRows reuse
-        → Opens (process_of X) (bus_of X (layout_with Q.protocol senders rounds rows capacity) reuse) }
+        → Opens (process_of X)
+        (bus_of X (layout_with Q.protocol senders rounds rows capacity) reuse) }
 {}
