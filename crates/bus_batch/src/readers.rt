@@ -2,7 +2,7 @@
 
 ghost use Rattle.std.specs.Prelude.{◌≡◌, ℕ, ◌+◌, ◌*◌, ◌-◌, ◌<◌, ◌≤◌};
 ghost use Rattle.std.specs.Prelude.{◌^◌, List, [], ◌∷◌, ◌++◌, length, All, IfSome};
-ghost use Rattle.std.specs.Prelude.{IfNone, IfOk, OnErr, IsErr, IsTrue, ◌↔◌, false, ◌⊎◌};
+ghost use Rattle.std.specs.Prelude.{IfNone, IsNone, IfOk, OnErr, IsErr, IsTrue, ◌↔◌, false, ◌⊎◌};
 ghost use Rattle.bus_batch.specs.Frames.{data_len};
 
 use crate::messages::{Item, Message, Piece};
@@ -158,18 +158,6 @@ impl FrameReader {
         ensures met { HasMetBadWord self.now → result ≡ false }
     {
         matches!(self.place, Place::Body { .. } | Place::Data { .. })
-    }
-
-    /// The same reader once more. Takes no memory.
-    pub fn copied(&self) -> FrameReader
-        ensures { result ≡ self.now }
-    {
-        FrameReader {
-            senders: self.senders,
-            least: self.least,
-            place: self.place,
-            bytes: self.bytes.copied(),
-        }
     }
 
     /// Takes a word in a head's place.
@@ -389,6 +377,7 @@ impl FrameReader {
             → IsTrue result
             → HasRead self.old.senders (words ++ word ∷ []) (pieces ++ None ∷ []) self.new }
         ensures stays { result ≡ false → self.new ≡ self.old }
+        ensures for_good { HasMetBadWord self.old → result ≡ false }
     {
         match self.place {
             Place::Body { owner, left, room } => {
@@ -427,6 +416,7 @@ impl FrameReader {
             (λ item. HasRead self.old.senders
             (words ++ word ∷ []) (pieces ++ Some (piece.Item item) ∷ []) self.new) }
         ensures stays { IfNone result (self.new ≡ self.old) }
+        ensures for_good { HasMetBadWord self.old → IsNone result }
     {
         match self.place {
             Place::Data {

@@ -21,7 +21,7 @@ use Rattle.bus_tenure.specs.Core.{Core, Election, row_at, is_empty, is_closing, 
 use Rattle.bus_tenure.specs.Elections.{Elector, ElectorKeeps, elections, election_with}
 use Rattle.bus_tenure.specs.Keeping.{SenderInvariant, PhaseKeeps, IsElecting}
 use Rattle.bus_tenure.specs.Situations.{Situation as Own, IsClosed, IsIdle, IsSpent, LooksAtStage, Elects, TakesPage, AwaitsPage, StoresWord, StoresLength, GivesBack, HasHanded, kind_at, situation_at, situation_of}
-use Rattle.bus_turning.proofs.TenureCaused.{word_cause, length_cause, back_cause, timely, election_cause}
+use Rattle.bus_tenure.proofs.Caused.{word_cause, length_cause, back_cause, timely, election_cause}
 use Rattle.bus_tenure.proofs.Situated.{tells}
 use Rattle.bus_guest.specs.Besides.{reclaims_by}
 use Rattle.bus_guest.specs.Causes.{HasCause as HasCauseAgain}

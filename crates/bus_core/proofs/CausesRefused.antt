@@ -9,7 +9,7 @@ use Rattle.bus_tenure.specs.Core.{Core}
 use Rattle.bus_tenure.specs.Elections.{Elector, elections}
 use Rattle.bus_tenure.specs.declared.phases.Phase.{Phase}
 use Rattle.bus_tenure.specs.declared.phases.Phase.TheVariants.{Electing}
-use Rattle.bus_turning.proofs.TenureRefused.{refuses_causes}
+use Rattle.bus_tenure.proofs.Refused.{refuses_causes}
 use Rattle.bus_guest.specs.Causes.{HasCause as HasCauseAgain}
 use Rattle.bus_guest.proofs.CausesRefuse.{refused as refused_again}
 use Rattle.bus_core.specs.Causes.{HasCause}

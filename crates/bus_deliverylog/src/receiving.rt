@@ -166,6 +166,7 @@ impl Reader {
         requires going { self.old.ended ≡ false }
         ensures word { IsTrue result → (words : _) (pieces : _) → HasReceived words pieces self.old
             → TakesWord words pieces self.old got RecvTurn.Going self.new }
+        ensures read { IsTrue result → self.new.place ≡ self.old.place + 1 }
         ensures stays { result ≡ false → self.new ≡ self.old }
         ensures senders { self.new.frames.senders ≡ self.old.frames.senders }
     {
@@ -186,6 +187,7 @@ impl Reader {
         ensures word { IfSome result (λ item. (words : _) (pieces : _)
             → HasReceived words pieces self.old
             → TakesWord words pieces self.old got (RecvTurn.Item item) self.new) }
+        ensures read { IfSome result (λ _. self.new.place ≡ self.old.place + 1) }
         ensures stays { IfNone result (self.new ≡ self.old) }
         ensures senders { self.new.frames.senders ≡ self.old.frames.senders }
     {

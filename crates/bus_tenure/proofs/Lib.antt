@@ -1,5 +1,5 @@
-mod Lawful
-mod Turning
-mod Caused
-mod Refused
+pub mod Lawful
+pub mod Turning
+pub mod Caused
+pub mod Refused
 pub mod Situated

@@ -12,7 +12,7 @@ use Rattle.bus_tenure.specs.declared.phases.Phase.TheVariants.{Electing}
 use Rattle.bus_tenure.specs.Core.{Core, row_at}
 use Rattle.bus_tenure.specs.Elections.{Elector, ElectorKeeps, elections}
 use Rattle.bus_tenure.specs.Keeping.{SenderInvariant, PhaseKeeps, IsElecting}
-use Rattle.bus_turning.proofs.TenureLawful.{elections_law}
+use Rattle.bus_tenure.proofs.Lawful.{elections_law}
 
 -- of a step that there may be
 for_some : (x y : Option Op) (Q : Op → Type 0) → x ≡ y → ((o : Op) → y ≡ Some o → Q o) → IfSome x Q

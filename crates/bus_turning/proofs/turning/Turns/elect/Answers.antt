@@ -4,8 +4,8 @@ use Rattle.bus_binconsensus.specs.Objects.{decide_protocol}
 use Rattle.bus_coinconc.specs.ConciliatorProtocol.{conciliator_protocol}
 use Rattle.bus_ownerbits.specs.Election.{owner_of}
 use Rattle.bus_tenure.specs.Elections.{election_with}
-use Rattle.bus_turning.proofs.TenureLawful.{keeps_after}
-use Rattle.bus_turning.proofs.TenureTurning.{sender_some, no_owner, own_owner, its_op, lost_state, lost_answer, keeps_electing}
+use Rattle.bus_tenure.proofs.Lawful.{keeps_after}
+use Rattle.bus_tenure.proofs.Turning.{sender_some, no_owner, own_owner, its_op, lost_state, lost_answer, keeps_electing}
 use Rattle.bus_turning.proofs.Electing.{own_state}
 use Rattle.bus_turning.proofs.Inverted.{unowned as not_yet}
 use Rattle.bus_turning.proofs.turning.Turns.elect.Goals as goal
