@@ -102,7 +102,7 @@ pub fn run<R: Threads + Clock + Sync>(
         rows: LEAST_ROWS_AGAIN + u64::from(dice.next_u32() % 7),
         log_words: if is_scarce { 128 } else { 16_384 },
     };
-    let made = Bus::new(alloc, shape)?;
+    let made = Bus::cyclic(alloc, shape)?;
     run_on::<Brand, R>(rt, alloc, made, load, dice)
 }
 

@@ -6,10 +6,10 @@ use Rattle.bus_core.specs.Senders.{apart, again}
 use Rattle.bus_world.specs.Trails.{Reached as PlainReached}
 use Rattle.bus_machine.proofs.AtNone.{reached_at_none}
 use Rattle.bus_machine.proofs.AtSome.{reached_at_some}
-use Rattle.bus_machine.specs.Bridge.{plain_trails, ring_trails}
+use Rattle.bus_machine.specs.Proved.Bridge.{plain_trails, ring_trails}
 use Rattle.bus_machine.specs.Machine.{Machine}
-use Rattle.bus_pageslot.specs.RowsAgain.{bus_again}
-use Rattle.bus_pageslot.specs.RowsApart.{bus_apart}
+use Rattle.bus_automaton.specs.RowsAgain.{bus_again}
+use Rattle.bus_automaton.specs.RowsApart.{bus_apart}
 use Rattle.bus_automaton.specs.Bridge.{Shows, BusAtNone, BusAtSome}
 use Rattle.bus_automaton.specs.OneAutomaton.{MachineHistory, IsMachineHistory, bus_of}
 
@@ -46,7 +46,7 @@ module _ {E : Type 0} (X : Election E) (x : Layout) where
         };
         words = ap (λ (m : Machine E). m.words) i.is;
         home = ap (λ (m : Machine E). m.home) i.is;
-        sender = λ p. ap (λ (m : Machine E). slice_get m.senders p) i.is ∙ slice_get-map again i.bus.ring.guests p;
+        sender = λ p. ap (λ (m : Machine E). slice_get m.senders p) i.is ∙ slice_get-map again i.bus.ring.participants p;
         actions = λ p. refl;
       }
 

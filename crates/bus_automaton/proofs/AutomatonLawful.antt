@@ -14,10 +14,9 @@ use Rattle.bus_tenure.specs.declared.pages.Page.{Page}
 use Rattle.bus_world.specs.Headline.{Action, HasPut, HasClosed, Promises, puts}
 use Rattle.bus_world.specs.Log.{Knows}
 use Rattle.bus_world.specs.Turning.{words_after, home_moved}
-use Rattle.bus_pageslot.specs.Lawful.{AutomatonLaws, IsSender, ChangesTo, AcceptsIn, StepsIn, LogGrows, HasLog, IsPromisedOf, no_answers}
-use Rattle.bus_pageslot.specs.Processes.{Process, Automaton, TableLayout, actions_at, log_in, log_below}
-use Rattle.bus_pageslot.specs.SenderTrails.{with_sender_trail}
-use Rattle.bus_pageslot.specs.Steps.{EndsBy}
+use Rattle.bus_automaton.specs.Lawful.{AutomatonLaws, IsSender, ChangesTo, AcceptsIn, StepsIn, LogGrows, HasLog, IsPromisedOf, no_answers}
+use Rattle.bus_automaton.specs.Processes.{Process, Automaton, TableLayout, actions_at, log_in, log_below, EndsBy}
+use Rattle.bus_automaton.specs.SenderTrails.{with_sender_trail}
 use Rattle.bus_automaton.proofs.ProcessLawful.{counted_as}
 use Rattle.bus_automaton.specs.Bridge.{DoesAs, Shows, ShowsAll}
 
@@ -53,7 +52,7 @@ module _ {C D : Type 0} (f : C → D) (P : Process C) (Q : Process D) (i : DoesA
       (ends_by c (P.fed c got word) (P.after c home got word) home (P.move c) e)
 
 -- who is there is what f makes of who is there
-there : {C D : Type 0} (f : C → D) (o : Option C) (b : Option D) (d : D) → b ≡ option_map f o → b ≡ Some d
+pub there : {C D : Type 0} (f : C → D) (o : Option C) (b : Option D) (d : D) → b ≡ option_map f o → b ≡ Some d
     → (c : C) × (o ≡ Some c) × (d ≡ f c)
 there f None b d e at = absurd (let q : None ≡ Some d = sym e ∙ at in cc)
 there f (Some c) b d e at = (c, refl, same_Some _ _ (sym at ∙ e))

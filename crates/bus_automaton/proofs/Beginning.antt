@@ -6,12 +6,12 @@ use Rattle.bus_machine.proofs.NewSenders.{no_senders, one_more_sender}
 use Rattle.bus_machine.specs.Machine.{Machine, New, log_place, no_machine_trails}
 use Rattle.bus_machine.specs.Promise.{HasRows}
 use Rattle.bus_machine.specs.Turning.{AreNewSenders}
-use Rattle.bus_pageslot.proofs.AgainStates.{opens_again}
-use Rattle.bus_pageslot.proofs.ApartStates.{opens_apart}
-use Rattle.bus_pageslot.specs.Lawful.{Opens}
-use Rattle.bus_pageslot.specs.Processes.{IsCounted}
-use Rattle.bus_pageslot.specs.RowsAgain.{process_again, started_again}
-use Rattle.bus_pageslot.specs.RowsApart.{process_apart}
+use Rattle.bus_automaton.proofs.AgainStates.{opens_again}
+use Rattle.bus_automaton.proofs.ApartStates.{opens_apart}
+use Rattle.bus_automaton.specs.Lawful.{Opens}
+use Rattle.bus_automaton.specs.Processes.{IsCounted}
+use Rattle.bus_automaton.specs.RowsAgain.{process_again, started_again}
+use Rattle.bus_automaton.specs.RowsApart.{process_apart}
 use Rattle.bus_register.specs.Proved.TableLaws.{some_or_none, here_not}
 use Rattle.bus_tenure.specs.Core.{Election, Layout}
 use Rattle.bus_world.specs.Bus.{IsLayout}

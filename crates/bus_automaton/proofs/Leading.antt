@@ -8,7 +8,7 @@ use Rattle.bus_core.specs.Keeping.{queue_of}
 use Rattle.bus_core.specs.Senders.{Sender, Situation, Does, Announces, Validates, Unpins, Withdraws, Scans, Clears, situation}
 use Rattle.bus_core.specs.Table.{Line, line_now}
 use Rattle.bus_core.specs.declared.reuses.Reuse.{Reuse}
-use Rattle.bus_cyclic.proofs.CyclicLaws.{next_seen}
+use Rattle.bus_machine.proofs.Cyclic.CyclicLaws.{next_seen}
 use Rattle.bus_presence.specs.Reclamation.{Trails as Entries}
 use Rattle.bus_register.specs.Proved.TableLaws.{get_set_same, get_set_other}
 use Rattle.bus_register.specs.Words.{register}
@@ -19,11 +19,11 @@ use Rattle.bus_world.specs.Headline.{Action, HasPut, HasClosed}
 use Rattle.bus_world.specs.Trails.{step_action}
 use Rattle.bus_world.specs.Turning.{words_after, number_found}
 use Rattle.bus_world.specs.World.{Put, Close, Turn, is_set, no_stops}
-use Rattle.bus_world.specs.Yards.{actions_with}
+use Rattle.bus_world.specs.CyclicProtocols.{actions_with}
 use Rattle.bus_world.specs.declared.events.Answer.TheVariants as answer
-use Rattle.bus_machine.specs.Machine.{Machine, Trails, Reached, Then, IsOnWord, going, with_sender, put_in, close_in, machine_after, found, turn_answer, trails_grown, turn_trails, turn_grown, entered}
-use Rattle.bus_pageslot.specs.Lawful.{AcceptsIn}
-use Rattle.bus_pageslot.specs.SenderTrails.{with_sender_trail}
+use Rattle.bus_machine.specs.Machine.{Machine, Trails, Reached, Then, Happens, IsOnWord, going, with_sender, put_in, close_in, machine_after, found, turn_answer, trails_grown, turn_trails, turn_grown, entered}
+use Rattle.bus_automaton.specs.Lawful.{AcceptsIn}
+use Rattle.bus_automaton.specs.SenderTrails.{with_sender_trail}
 use Rattle.bus_automaton.proofs.AutomatonLawful.{Moves, LeadsOn}
 use Rattle.bus_automaton.specs.OneAutomaton.{MachineHistory, IsMachineHistory, trail_of, bus_of}
 use Rattle.bus_automaton.specs.OneProcess.{entries, adds_pin, adds_reclaim, adds_by, process_of}
@@ -193,6 +193,16 @@ module _ {E : Type 0} (X : Election E) (x : Layout) (reuse : Option ℕ) (z : Ma
     found_is : found m l word ≡ slice_index m.words (register o)
     found_is = ap (number_found (slice_index m.words)) due
 
+    -- the turn happens
+    pub takes_turn : Happens X m (Turn p word) (answer.Turn told) (machine_after m p l word)
+    takes_turn = record { sender = v; goes = goes; within = on_word m (l.op word) o due low; answered = refl; after = refl }
+
+    -- and all that the sender did grows by it
+    pub grown_trail : trail_of grown p
+        ≡ with_sender_trail (trail_of T p) (adds_by (situation X v) l (slice_index m.words (register o)) word)
+    grown_trail = ap (λ U. trail_of U p) (sym grown_is) ∙ own_turned l p (found m l word) word T (situation X v)
+        ∙ ap (λ g. with_sender_trail (trail_of T p) (adds_by (situation X v) l g word)) found_is
+
     moves : Moves (process_of X) (bus_of X x reuse) z p v word o
     moves = record {
       state = record { machine = machine_after m p l word; trails = grown };
@@ -202,16 +212,14 @@ module _ {E : Type 0} (X : Election E) (x : Layout) (reuse : Option ℕ) (z : Ma
           has_rows = h.has_rows;
           layout = h.layout;
           rows_are = h.rows_are;
-          reached = Then m (machine_after m p l word) T (Turn p word) (answer.Turn told) h.reached
-              (record { sender = v; goes = goes; within = on_word m (l.op word) o due low; answered = refl; after = refl });
+          reached = Then m (machine_after m p l word) T (Turn p word) (answer.Turn told) h.reached takes_turn;
           alone = h.alone;
           running = h.running;
         };
         here = get_set_same m.senders p _ (slice_get_within m.senders p v at)
             ∙ ap (λ g. Some ((process_of X).after v m.home g word)) found_is;
         others = λ q ne. get_set_other m.senders p _ q ne;
-        sender_trail = ap (λ U. trail_of U p) (sym grown_is) ∙ own_turned l p (found m l word) word T (situation X v)
-            ∙ ap (λ g. with_sender_trail (trail_of T p) (adds_by (situation X v) l g word)) found_is;
+        sender_trail = grown_trail;
         nothing_else = λ q ne. ap (λ U. trail_of U q) (sym grown_is) ∙ other_turned l p (found m l word) word T (situation X v) q ne;
       };
       words = ap (words_after m.words) due;

@@ -1,3 +1,12 @@
+pub mod Taking
+pub mod Phases
+pub mod Counting
+pub mod Choosing
+pub mod Histories
+pub mod ApartTurns
+pub mod ApartStates
+pub mod AgainTurns
+pub mod AgainStates
 pub mod ProcessLawful
 pub mod AutomatonLawful
 pub mod ProcessesAreOne
@@ -5,3 +14,6 @@ pub mod AutomataAreOne
 pub mod Leading
 pub mod Beginning
 pub mod Lawful
+pub mod HandedTells
+pub mod Owning
+pub mod ServedPlans

@@ -10,11 +10,9 @@ use Rattle.bus_register.specs.declared.registers.Op.TheVariants.{Store}
 use Rattle.bus_tenure.specs.declared.pages.Page.{Page}
 use Rattle.bus_tenure.specs.declared.turns.Turn.{Turn}
 use Rattle.bus_world.specs.Headline.{Action}
-use Rattle.bus_pageslot.specs.Lawful.{ProcessLaws, Keeps, IsOneStep}
-use Rattle.bus_pageslot.specs.Processes.{Process, TableLayout, IsCounted}
-use Rattle.bus_pageslot.specs.Sendings.{is_refusal}
-use Rattle.bus_pageslot.specs.Steps.{page_given}
-use Rattle.bus_pageslot.specs.Turns.{is_last}
+use Rattle.bus_automaton.specs.Lawful.{ProcessLaws, Keeps, IsOneStep}
+use Rattle.bus_automaton.specs.Processes.{Process, TableLayout, IsCounted, page_given}
+use Rattle.bus_automaton.specs.LastAnswers.{is_refusal, is_last}
 use Rattle.bus_automaton.specs.Bridge.{DoesAs}
 
 -- what a process owes, of what it holds now

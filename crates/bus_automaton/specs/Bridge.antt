@@ -3,9 +3,9 @@ use Rattle.std.specs.Prelude.{◌≡◌, ℕ, Option, Some, None, List, option_m
 use Rattle.bus_tenure.specs.Core.{Election, Layout}
 use Rattle.bus_tenure.specs.declared.pages.Page.{Page}
 use Rattle.bus_core.specs.Senders.{apart, again}
-use Rattle.bus_pageslot.specs.Processes.{Process, Automaton, actions_at}
-use Rattle.bus_pageslot.specs.RowsApart.{process_apart, bus_apart}
-use Rattle.bus_pageslot.specs.RowsAgain.{process_again, bus_again}
+use Rattle.bus_automaton.specs.Processes.{Process, Automaton, actions_at}
+use Rattle.bus_automaton.specs.RowsApart.{process_apart, bus_apart}
+use Rattle.bus_automaton.specs.RowsAgain.{process_again, bus_again}
 use Rattle.bus_automaton.specs.OneProcess.{process_of}
 use Rattle.bus_automaton.specs.OneAutomaton.{bus_of}
 

@@ -7,8 +7,8 @@ use Rattle.bus_world.specs.Bus.{IsLayout}
 use Rattle.bus_world.specs.World.{no_stops}
 use Rattle.bus_machine.specs.Machine.{Machine, Trails, Reached}
 use Rattle.bus_machine.specs.Promise.{HasRows}
-use Rattle.bus_pageslot.specs.Processes.{Automaton}
-use Rattle.bus_pageslot.specs.SenderTrails.{SenderTrail}
+use Rattle.bus_automaton.specs.Processes.{Automaton}
+use Rattle.bus_automaton.specs.SenderTrails.{SenderTrail}
 use Rattle.bus_automaton.specs.OneProcess.{table_layout_by}
 
 -- a machine, and what has happened to it

@@ -12,9 +12,9 @@ use Rattle.bus_world.specs.Trails.{step_action}
 use Rattle.bus_world.specs.Turning.{before_step, after_step, laying}
 use Rattle.bus_world.specs.Waiting.{waiting_at}
 use Rattle.bus_machine.specs.Machine.{log_place, moved, put_in, close_in}
-use Rattle.bus_pageslot.specs.Processes.{TableLayout, Process}
-use Rattle.bus_pageslot.specs.RowsApart.{is_holding, is_taken}
-use Rattle.bus_pageslot.specs.SenderTrails.{SenderTrail, sender_trail_of_actions}
+use Rattle.bus_automaton.specs.Processes.{TableLayout, Process}
+use Rattle.bus_automaton.specs.RowsApart.{is_holding, is_taken}
+use Rattle.bus_automaton.specs.SenderTrails.{SenderTrail, sender_trail_of_actions}
 
 -- how large a bus is: with a row for each tenure, or with so many rows that are used again and a presence for each sender before them
 abbrev pub table_layout_by : Layout → Option ℕ → TableLayout

@@ -1,26 +1,24 @@
 //! What threads may go by holds of the one process and of the one automaton.
 
-ghost use Rattle.std.specs.Prelude.{ℕ, Option};
+ghost use Rattle.std.specs.Prelude.{◌≡◌, ℕ, ◌≤◌, Option};
+ghost use Rattle.bus_register.specs.declared.limits.TheConstants.{MOST_SENDERS};
+ghost use Rattle.bus_core.specs.Senders.{Sender};
+ghost use Rattle.bus_core.specs.Telling.{FeedTells};
 ghost use Rattle.bus_tenure.specs.Elections.{Elector, election_of, layout_with};
+ghost use Rattle.bus_tenure.specs.declared.turns.Turn.{Turn};
 ghost use Rattle.bus_world.specs.Bus.{IsLayout};
+ghost use Rattle.bus_world.specs.declared.shapes.MakeFault.{MakeFault};
+ghost use Rattle.bus_world.specs.declared.shapes.MakeFault.TheVariants.{NoMemory};
+ghost use Rattle.bus_machine.specs.Playing.{ShapeOf};
 ghost use Rattle.bus_machine.specs.Promise.{HasRows};
-ghost use Rattle.bus_pageslot.specs.Lawful.{ProcessLaws, AutomatonLaws, Opens};
+ghost use Rattle.bus_automaton.specs.Lawful.{ProcessLaws, AutomatonLaws, Opens};
 ghost use Rattle.bus_automaton.specs.OneProcess.{process_of};
 ghost use Rattle.bus_automaton.specs.OneAutomaton.{bus_of};
-ghost use Rattle.bus_automaton.specs.Bridge.{ProcessAtNone, ProcessAtSome};
-ghost use Rattle.bus_automaton.specs.Bridge.{BusAtNone, BusAtSome};
+ghost use Rattle.bus_automaton.specs.Buses.{process_by, automaton_by, Serves, Refuses};
+ghost use Rattle.bus_automaton.specs.declared.plans.Plan.{Plan};
 
 use bus_adoptcommit::Ratifier;
 use bus_ownerbits::laws::election_is_lawful;
-
-/// With a row for each tenure the process does what a sender of such a bus does, and with rows that
-/// are used again what a guest does; and each state of the automaton shows a state of that bus.
-pub fn automaton_is_either<Q: Ratifier>()
-    ensures process_apart { ProcessAtNone (election_of Q.Ratifier) }
-    ensures process_again { ProcessAtSome (election_of Q.Ratifier) }
-    ensures bus_apart { BusAtNone (election_of Q.Ratifier) }
-    ensures bus_again { BusAtSome (election_of Q.Ratifier) }
-{}
 
 /// A sender of either kind of rows is a process that threads may go by.
 pub fn process_is_lawful<Q: Ratifier>()
@@ -49,3 +47,27 @@ pub fn automaton_opens<Q: Ratifier>()
         → Opens (process_of X)
         (bus_of X (layout_with Q.protocol senders rounds rows capacity) reuse) }
 {}
+
+/// Threads may go by a sender of any ratifier, and by a bus of any plan. What an answer tells once
+/// the page is out of the sender's hands, it tells of the sender before that. No plan is refused
+/// for two causes, and for want of memory each that is served and no other: so with another fault
+/// none is that is served. A number of its senders fits a byte.
+pub fn threads_may_go_by<Q: Ratifier>()
+    ensures process { ProcessLaws (process_by Q.Ratifier) }
+    ensures tells { let X = election_of Q.Ratifier in
+        (v : Sender (Elector Q)) (got word : ℕ) (answer : Turn)
+        → FeedTells X ((process_by Q.Ratifier).handed v) got word answer
+        → FeedTells X v got word answer }
+    ensures one_cause { (plan : Plan) (why other : MakeFault)
+        → Refuses plan why → Refuses plan other → why ≡ other }
+    ensures memory { (plan : Plan) → ShapeOf plan.shape plan.reuse → Refuses plan NoMemory
+        → Serves plan }
+    ensures no_memory { (plan : Plan) → Serves plan → Refuses plan NoMemory }
+    ensures few_senders { (plan : Plan) → Serves plan → plan.shape.senders ≤ MOST_SENDERS }
+    ensures automaton { (plan : Plan)
+        → AutomatonLaws (process_by Q.Ratifier) (automaton_by Q.Ratifier plan) }
+    ensures opens { (plan : Plan) → Serves plan
+        → Opens (process_by Q.Ratifier) (automaton_by Q.Ratifier plan) }
+{
+    election_is_lawful::<Q>();
+}

@@ -2,3 +2,6 @@
 #![tactic(auto)]
 
 pub mod laws;
+pub mod plans;
+
+pub use plans::Plan;

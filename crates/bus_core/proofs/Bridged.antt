@@ -14,10 +14,10 @@ use Rattle.bus_presence.specs.Reclamation.{presence_at}
 use Rattle.bus_presence.specs.Pins.{step_at}
 use Rattle.bus_tenure.specs.Situations.{Situation as Own, IsClosed, IsIdle, IsSpent, LooksAtStage, Elects, TakesPage, AwaitsPage, StoresWord, StoresLength, GivesBack, HasHanded, line_of, situation_of as own_situation}
 use Rattle.bus_core.specs.Senders.{Does, Scans, Clears, apart, again, reclaiming, at_home, pinning, situation}
-use Rattle.bus_guest.specs.Guests.{Goes, log_from, due_reclaimed, due_home, due_beside, reclaim_due}
-use Rattle.bus_guest.specs.Turns.{Visitor, sizes_of, due}
+use Rattle.bus_core.specs.Reusing.Participants.{Goes, log_from, due_reclaimed, due_home, due_beside, reclaim_due}
+use Rattle.bus_core.specs.Reusing.Turns.{Participant, sizes_of, due}
 use Rattle.bus_core.specs.Table.{line}
-use Rattle.bus_core.specs.Bridge.{line_apart, AtNone, AtSome, IsLineOf}
+use Rattle.bus_core.specs.Proved.Bridge.{line_apart, AtNone, AtSome, IsLineOf}
 
 -- with a row for each tenure each line is that of the older table
 line_at_none : {E : Type 0} (X : Election E) (c : Core E) (z : Own E) → line X (apart c) (Does z) ≡ line_apart (line_of X c z)
@@ -43,11 +43,11 @@ moved from at words stored = omega arith
 
 module _ {E : Type 0} (X : Election E) where
   -- with another reclamation
-  abbrev with_reclaimer : Visitor E → Option Reclaiming → Visitor E
+  abbrev with_reclaimer : Participant E → Option Reclaiming → Participant E
   with_reclaimer v s = record v { reclaimer = s }
 
   -- a holder's reclamation goes on, or is done
-  reclaimed : (v : Visitor E) (s : Reclaiming) (t : ℕ) (page : Page) (reason : Reason) (a b : Bool) → nat_lt s.scanned s.senders ≡ a
+  reclaimed : (v : Participant E) (s : Reclaiming) (t : ℕ) (page : Page) (reason : Reason) (a b : Bool) → nat_lt s.scanned s.senders ≡ a
       → IsLineOf X (with_reclaimer v (Some s)) (due_reclaimed s (cond a (Some (Load record { 0 = s.presences + s.scanned })) (cond b (Some (Store record { 0 = s.row + s.cleared } 0)) None)) (GivesBack t page reason))
       (line X (again (with_reclaimer v (Some s))) (cond a (Scans s) (cond b (Clears s) (Does (GivesBack t page reason)))))
   reclaimed v s t page reason true b p = record { kind = ap (λ c. Some (cond c kind.ReadPresence kind.ClearRow)) (sym p); op = λ word. refl; wants = refl; fed = λ got word. refl; answer = λ got word. refl; rest = refl; move = refl; publishes = refl }
@@ -55,13 +55,13 @@ module _ {E : Type 0} (X : Election E) where
   reclaimed v s t page reason false false p = record { kind = refl; op = λ word. refl; wants = refl; fed = λ got word. refl; answer = λ got word. refl; rest = refl; move = refl; publishes = refl }
 
   -- a page that is given back, after what is left of its reclamation
-  gives_back : (v : Visitor E) (s : Option Reclaiming) (t : ℕ) (page : Page) (reason : Reason)
+  gives_back : (v : Participant E) (s : Option Reclaiming) (t : ℕ) (page : Page) (reason : Reason)
       → IsLineOf X (with_reclaimer v s) (due_home s (GivesBack t page reason)) (line X (again (with_reclaimer v s)) (reclaiming s (GivesBack t page reason)))
   gives_back v None t page reason = record { kind = refl; op = λ word. refl; wants = refl; fed = λ got word. refl; answer = λ got word. refl; rest = refl; move = refl; publishes = refl }
   gives_back v (Some s) t page reason = reclaimed v s t page reason (nat_lt s.scanned s.senders) (nat_lt s.cleared s.width) refl
 
   -- who takes no step of a pin has the line of what goes on
-  at_home_is : (v : Visitor E) (z : Own E) → IsLineOf X v (due_home (reclaim_due z v.reclaimer) z) (line X (again v) (at_home v.reclaimer z))
+  at_home_is : (v : Participant E) (z : Own E) → IsLineOf X v (due_home (reclaim_due z v.reclaimer) z) (line X (again v) (at_home v.reclaimer z))
   at_home_is v IsClosed = record { kind = refl; op = λ word. refl; wants = refl; fed = λ got word. refl; answer = λ got word. refl; rest = refl; move = refl; publishes = refl }
   at_home_is v IsIdle = record { kind = refl; op = λ word. refl; wants = refl; fed = λ got word. refl; answer = λ got word. refl; rest = refl; move = refl; publishes = refl }
   at_home_is v IsSpent = record { kind = refl; op = λ word. refl; wants = refl; fed = λ got word. refl; answer = λ got word. refl; rest = refl; move = refl; publishes = refl }
@@ -75,7 +75,7 @@ module _ {E : Type 0} (X : Election E) where
   at_home_is v (HasHanded t reason) = record { kind = refl; op = λ word. refl; wants = refl; fed = λ got word. refl; answer = λ got word. refl; rest = refl; move = refl; publishes = refl }
 
   -- a step of a pin comes first in both tables
-  pins : (v : Visitor E) (u : Pin) (z : Own E)
+  pins : (v : Participant E) (u : Pin) (z : Own E)
       → IsLineOf X (record v { pin = u }) (due_beside (step_at u (presence_at (sizes_of v) v.core.me) stage_at) v.reclaimer z) (line X (again (record v { pin = u })) (pinning u v.reclaimer z))
   pins v Away z = at_home_is (record v { pin = Away }) z
   pins v (Announcing t) z = record { kind = refl; op = λ word. refl; wants = refl; fed = λ got word. refl; answer = λ got word. refl; rest = refl; move = refl; publishes = refl }
@@ -88,7 +88,7 @@ module _ {E : Type 0} (X : Election E) where
   pub at_some : AtSome X
   at_some v = pins v v.pin (own_situation X v.core)
 
--- ---- what is done as a sender is what goes on as a guest, and the other way round
+-- ---- what is done as a sender is what goes on as a participant, and the other way round
 -- a reclamation that is done in the one table is done in the other
 goes_reclaimed : {E : Type 0} (s : Reclaiming) (z w : Own E) (a b : Bool) → cond a (Scans s) (cond b (Clears s) (Does z)) ≡ Does w
     → due_reclaimed s (cond a (Some (Load record { 0 = s.presences + s.scanned })) (cond b (Some (Store record { 0 = s.row + s.cleared } 0)) None)) z ≡ Goes w
@@ -112,7 +112,7 @@ goes_home s (StoresWord t page stored) w i = cc
 goes_home s (StoresLength t page stored) w i = cc
 goes_home s (HasHanded t reason) w i = cc
 
--- what is done as a sender is what goes on as a guest
+-- what is done as a sender is what goes on as a participant
 pub goes_pinning : {E : Type 0} (u : Pin) (s : Option Reclaiming) (z w : Own E) (word stage : ℕ) → pinning u s z ≡ Does w
     → due_beside (step_at u word stage) s z ≡ Goes w
 goes_pinning Away s z w word stage i = goes_home s z w i
@@ -122,7 +122,7 @@ goes_pinning (Validating t) s z w word stage i = absurd cc
 goes_pinning (Unpinning t) s z w word stage i = absurd cc
 goes_pinning (Invalidated t) s z w word stage i = absurd cc
 
--- a reclamation that is done as a guest is done as a sender
+-- a reclamation that is done as a participant is done as a sender
 back_reclaimed : {E : Type 0} (s : Reclaiming) (z w : Own E) (a b : Bool)
     → due_reclaimed s (cond a (Some (Load record { 0 = s.presences + s.scanned })) (cond b (Some (Store record { 0 = s.row + s.cleared } 0)) None)) z ≡ Goes w
     → cond a (Scans s) (cond b (Clears s) (Does z)) ≡ Does w
@@ -146,7 +146,7 @@ back_home s (StoresWord t page stored) w i = cc
 back_home s (StoresLength t page stored) w i = cc
 back_home s (HasHanded t reason) w i = cc
 
--- what goes on as a guest is done as a sender
+-- what goes on as a participant is done as a sender
 back_pinning : {E : Type 0} (u : Pin) (s : Option Reclaiming) (z w : Own E) (word stage : ℕ)
     → due_beside (step_at u word stage) s z ≡ Goes w → pinning u s z ≡ Does w
 back_pinning Away s z w word stage i = back_home s z w i
@@ -157,9 +157,9 @@ back_pinning (Unpinning t) s z w word stage i = absurd cc
 back_pinning (Invalidated t) s z w word stage i = absurd cc
 
 -- from the situation to what is due
-pub does_goes : {E : Type 0} (X : Election E) (v : Visitor E) (w : Own E) → situation X (again v) ≡ Does w → due X v ≡ Goes w
+pub does_goes : {E : Type 0} (X : Election E) (v : Participant E) (w : Own E) → situation X (again v) ≡ Does w → due X v ≡ Goes w
 does_goes X v w i = goes_pinning v.pin v.reclaimer (own_situation X v.core) w (presence_at (sizes_of v) v.core.me) stage_at i
 
 -- and back
-pub goes_does : {E : Type 0} (X : Election E) (v : Visitor E) (w : Own E) → due X v ≡ Goes w → situation X (again v) ≡ Does w
+pub goes_does : {E : Type 0} (X : Election E) (v : Participant E) (w : Own E) → due X v ≡ Goes w → situation X (again v) ≡ Does w
 goes_does X v w i = back_pinning v.pin v.reclaimer (own_situation X v.core) w (presence_at (sizes_of v) v.core.me) stage_at i

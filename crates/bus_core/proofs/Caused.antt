@@ -23,17 +23,17 @@ use Rattle.bus_tenure.specs.Keeping.{SenderInvariant, PhaseKeeps, IsElecting}
 use Rattle.bus_tenure.specs.Situations.{Situation as Own, IsClosed, IsIdle, IsSpent, LooksAtStage, Elects, TakesPage, AwaitsPage, StoresWord, StoresLength, GivesBack, HasHanded, kind_at, situation_at, situation_of}
 use Rattle.bus_tenure.proofs.Caused.{word_cause, length_cause, back_cause, timely, election_cause}
 use Rattle.bus_tenure.proofs.Situated.{tells}
-use Rattle.bus_guest.specs.Besides.{reclaims_by}
-use Rattle.bus_guest.specs.Causes.{HasCause as HasCauseAgain}
-use Rattle.bus_guest.specs.Guests.{Due, Pins, Reclaims, Goes}
-use Rattle.bus_guest.specs.Keeping.{GuestKeeps}
-use Rattle.bus_guest.specs.Turns.{Visitor, due, kind_due, kind_of_reclaim}
-use Rattle.bus_guest.proofs.Causing.{chooses_itself, pin_caused, reclaimer_caused, own_caused}
-use Rattle.bus_guest.proofs.Keeps.{goes_beside}
-use Rattle.bus_guest.proofs.Tells.{ChoosesItself, reclaims_beside}
+use Rattle.bus_core.specs.Reusing.Besides.{reclaims_by}
+use Rattle.bus_core.specs.Reusing.Causes.{HasCause as HasCauseAgain}
+use Rattle.bus_core.specs.Reusing.Participants.{Due, Pins, Reclaims, Goes}
+use Rattle.bus_core.specs.Reusing.Keeping.{ParticipantKeeps}
+use Rattle.bus_core.specs.Reusing.Turns.{Participant, due, kind_due, kind_of_reclaim}
+use Rattle.bus_core.proofs.Reusing.Causing.{chooses_itself, pin_caused, reclaimer_caused, own_caused}
+use Rattle.bus_core.proofs.Reusing.Keeps.{goes_beside}
+use Rattle.bus_core.proofs.Reusing.Tells.{ChoosesItself, reclaims_beside}
 use Rattle.bus_core.specs.Causes.{HasCause, IsCaused}
 use Rattle.bus_core.specs.Keeping.{ReuseKeeps, sender}
-use Rattle.bus_core.specs.Senders.{Sender, apart, visitor_of}
+use Rattle.bus_core.specs.Senders.{Sender, apart, participant_of}
 use Rattle.bus_core.specs.Table.{line_now}
 use Rattle.bus_core.specs.declared.reuses.Reuse.{Reuse}
 use Rattle.bus_core.proofs.Bridged.{at_none, at_some}
@@ -127,8 +127,8 @@ module _ {S : Type 0} (P : Protocol S Bool Verdict) where
   cause_apart c kind.ReadPresence h = absurd h
   cause_apart c kind.ClearRow h = absurd h
 
-  -- and so is a cause of a guest
-  cause_again : (c : Core (Elector S)) (r : Reuse) (k : Kind) → HasCauseAgain P (visitor_of c r) k → HasCause P (sender c (Some r)) k
+  -- and so is a cause of a participant
+  cause_again : (c : Core (Elector S)) (r : Reuse) (k : Kind) → HasCauseAgain P (participant_of c r) k → HasCause P (sender c (Some r)) k
   cause_again c r kind.LoadStage h = h
   cause_again c r kind.Announce h = h
   cause_again c r kind.WriteFirst h = h
@@ -159,7 +159,7 @@ module _ {S : Type 0} (P : Protocol S Bool Verdict) where
   all_apart c (Some k) h = cause_apart c k h
 
   -- and with rows that are used again
-  all_again : (c : Core (Elector S)) (r : Reuse) (x : Option Kind) → IfSome x (HasCauseAgain P (visitor_of c r))
+  all_again : (c : Core (Elector S)) (r : Reuse) (x : Option Kind) → IfSome x (HasCauseAgain P (participant_of c r))
       → IfSome x (HasCause P (sender c (Some r)))
   all_again c r None h = tt
   all_again c r (Some k) h = cause_again c r k h
@@ -218,17 +218,17 @@ module _ {S : Type 0} (kind_of : S → Option Kind) (op : S → ℕ → Option O
   chooses c k = chooses_itself kind_of op fed P c (λ kd e. for_kind (HasCauseApart P c) _ (own_kind_caused c k) kd e)
 
   module _ (width : ℕ) (Belongs : ℕ → Elector S → Type 0) where
-    -- whatever is due of a guest has its cause
-    guest_caused : (w : Visitor (Elector S)) → GuestKeeps width Belongs w → TurnsKeep w.core → (d : Due (Elector S)) → due X w ≡ d
+    -- whatever is due of a participant has its cause
+    participant_caused : (w : Participant (Elector S)) → ParticipantKeeps width Belongs w → TurnsKeep w.core → (d : Due (Elector S)) → due X w ≡ d
         → IfSome (kind_due X w d) (HasCauseAgain P w)
-    guest_caused w g k (Pins o) i = pin_caused P X w width Belongs g _ refl
-    guest_caused w g k (Reclaims s o) i =
+    participant_caused w g k (Pins o) i = pin_caused P X w width Belongs g _ refl
+    participant_caused w g k (Reclaims s o) i =
         let f = reclaims_beside _ _ _ s o i in
         reclaimer_caused P X w width Belongs g o (i ∙ sym (ap (λ y. reclaims_by y o (situation_of X w.core)) f.0)) (some_of w.reclaimer s f.0) _ (λ s' q. named_reclaimer s s' o f.1 q)
       where
         some_of : (x : Option Reclaiming) (s : Reclaiming) → x ≡ Some s → IsSome x
         some_of x s e = subst IsSome (sym e) refl
-    guest_caused w g k (Goes z) i =
+    participant_caused w g k (Goes z) i =
         let e = goes_beside _ _ _ z i in
         own_caused P X w width Belongs g (i ∙ ap Goes (sym e)) (kind_at X w.core z) (subst (λ y. IfSome (kind_at X w.core y) (HasCauseApart P w.core)) e (own_kind_caused w.core k))
 
@@ -240,8 +240,8 @@ module _ {S : Type 0} (kind_of : S → Option Kind) (op : S → ℕ → Option O
           → IfSome (line_now X (sender v.core r)).kind (HasCause P (sender v.core r))
       by None g = subst (λ l. IfSome l (HasCause P (apart v.core))) (sym (ap (λ l. l.kind) (at_none X v.core))) (all_apart P v.core _ (own_kind_caused v.core k))
       by (Some r) g =
-          let w = visitor_of v.core r in
-          subst (λ l. IfSome l (HasCause P (sender v.core (Some r)))) (sym (at_some X w).kind) (all_again P v.core r _ (guest_caused w g k (due X w) refl))
+          let w = participant_of v.core r in
+          subst (λ l. IfSome l (HasCause P (sender v.core (Some r)))) (sym (at_some X w).kind) (all_again P v.core r _ (participant_caused w g k (due X w) refl))
 
     -- the same, kind by kind
     pub line_is_caused : (v : Sender (Elector S)) → TurnsKeep v.core → ReuseKeeps width Belongs v.core v.reuse → IsCaused X P v

@@ -10,12 +10,12 @@ use Rattle.bus_tenure.specs.Elections.{Elector, elections}
 use Rattle.bus_tenure.specs.declared.phases.Phase.{Phase}
 use Rattle.bus_tenure.specs.declared.phases.Phase.TheVariants.{Electing}
 use Rattle.bus_tenure.proofs.Refused.{refuses_causes}
-use Rattle.bus_guest.specs.Causes.{HasCause as HasCauseAgain}
-use Rattle.bus_guest.proofs.CausesRefuse.{refused as refused_again}
+use Rattle.bus_core.specs.Reusing.Causes.{HasCause as HasCauseAgain}
+use Rattle.bus_core.proofs.Reusing.CausesRefuse.{refused as refused_again}
 use Rattle.bus_core.specs.Causes.{HasCause}
 use Rattle.bus_core.specs.CausesRefuse.{RefusesOwn, RefusesApart, RefusesAgain, RefusesCauses}
 use Rattle.bus_core.specs.Keeping.{sender}
-use Rattle.bus_core.specs.Senders.{Sender, visitor_of}
+use Rattle.bus_core.specs.Senders.{Sender, participant_of}
 use Rattle.bus_core.specs.declared.reuses.Reuse.{Reuse}
 
 -- one phase has one election
@@ -61,43 +61,43 @@ module _ {S : Type 0} (P : Protocol S Bool Verdict) where
     clears = λ none w. none_not v.reuse _ none w;
   }
 
-  -- a cause of a sender whose rows are used again is one of a guest
-  as_guest : (c : Core (Elector S)) (r : Reuse) (k : Kind) → HasCause P (sender c (Some r)) k → HasCauseAgain P (visitor_of c r) k
-  as_guest c r kind.LoadStage h = h
-  as_guest c r kind.Announce h = h
-  as_guest c r kind.WriteFirst h = h
-  as_guest c r kind.ReadFirst h = h
-  as_guest c r kind.WriteSecond h = h
-  as_guest c r kind.ReadSecond h = h
-  as_guest c r kind.SetMark h = h
-  as_guest c r kind.ReadOtherMark h = h
-  as_guest c r kind.Vote h = h
-  as_guest c r kind.ReadVotes h = h
-  as_guest c r kind.Fallback h = h
-  as_guest c r kind.ReadAnnouncement h = h
-  as_guest c r kind.TakePage h = h
-  as_guest c r kind.StoreLogWord h = h
-  as_guest c r kind.StoreLength h = h
-  as_guest c r kind.GivePageBack h = h.1
-  as_guest c r kind.LoadLength h = absurd h
-  as_guest c r kind.LoadLogWord h = absurd h
-  as_guest c r kind.Enter h = h
-  as_guest c r kind.LoadStageAgain h = h
-  as_guest c r kind.Withdraw h = h
-  as_guest c r kind.ReadPresence h = h
-  as_guest c r kind.ClearRow h = h
+  -- a cause of a sender whose rows are used again is one of a participant
+  as_participant : (c : Core (Elector S)) (r : Reuse) (k : Kind) → HasCause P (sender c (Some r)) k → HasCauseAgain P (participant_of c r) k
+  as_participant c r kind.LoadStage h = h
+  as_participant c r kind.Announce h = h
+  as_participant c r kind.WriteFirst h = h
+  as_participant c r kind.ReadFirst h = h
+  as_participant c r kind.WriteSecond h = h
+  as_participant c r kind.ReadSecond h = h
+  as_participant c r kind.SetMark h = h
+  as_participant c r kind.ReadOtherMark h = h
+  as_participant c r kind.Vote h = h
+  as_participant c r kind.ReadVotes h = h
+  as_participant c r kind.Fallback h = h
+  as_participant c r kind.ReadAnnouncement h = h
+  as_participant c r kind.TakePage h = h
+  as_participant c r kind.StoreLogWord h = h
+  as_participant c r kind.StoreLength h = h
+  as_participant c r kind.GivePageBack h = h.1
+  as_participant c r kind.LoadLength h = absurd h
+  as_participant c r kind.LoadLogWord h = absurd h
+  as_participant c r kind.Enter h = h
+  as_participant c r kind.LoadStageAgain h = h
+  as_participant c r kind.Withdraw h = h
+  as_participant c r kind.ReadPresence h = h
+  as_participant c r kind.ClearRow h = h
 
   -- what none has a cause for with rows that are used again
   again_refused : (c : Core (Elector S)) (r : Reuse) → RefusesAgain P (sender c (Some r)) r
   again_refused c r =
-      let n = refused_again P (visitor_of c r) in
+      let n = refused_again P (participant_of c r) in
       record {
-        elects_away = λ k i e w. n.elects_away k i e (as_guest c r k w);
-        elects_unseen = λ k t i e w. n.elects_unseen k t i e (as_guest c r k w);
-        elects_too_soon = λ k t i e w. n.elects_too_soon k t i e (as_guest c r k w);
-        elects_elsewhere = λ k t u e i at runs other w. n.elects_elsewhere k t u e i at runs other (as_guest c r k w);
-        elects_while_unpinning = λ k t i e w. n.elects_while_unpinning k t i e (as_guest c r k w);
-        elects_invalidated = λ k t i e w. n.elects_invalidated k t i e (as_guest c r k w);
+        elects_away = λ k i e w. n.elects_away k i e (as_participant c r k w);
+        elects_unseen = λ k t i e w. n.elects_unseen k t i e (as_participant c r k w);
+        elects_too_soon = λ k t i e w. n.elects_too_soon k t i e (as_participant c r k w);
+        elects_elsewhere = λ k t u e i at runs other w. n.elects_elsewhere k t u e i at runs other (as_participant c r k w);
+        elects_while_unpinning = λ k t i e w. n.elects_while_unpinning k t i e (as_participant c r k w);
+        elects_invalidated = λ k t i e w. n.elects_invalidated k t i e (as_participant c r k w);
         enters_the_past = λ t e past w. n.enters_the_past t e past w;
         withdraws_away = λ e w. n.withdraws_away e w;
         withdraws_pinned = λ t e w. n.withdraws_pinned t e w;

@@ -14,13 +14,13 @@ use Rattle.bus_tenure.specs.declared.phases.Phase.{Phase}
 use Rattle.bus_tenure.specs.declared.phases.Phase.TheVariants.{Resting, Giving, Holding}
 use Rattle.bus_tenure.specs.declared.phases.Reason.{Reason}
 use Rattle.bus_tenure.proofs.Situated.{tells}
-use Rattle.bus_guest.specs.Guests.{Due, Pins, Reclaims, Goes, due_of, due_beside, due_home, due_reclaimed, reclaim_due, core_seen, pin_seen}
-use Rattle.bus_guest.specs.Turns.{Visitor, sizes_of, due, op_due, visitor_due}
-use Rattle.bus_guest.specs.Keeping.{IsOutside, PinKeeps, ReclaimerKeeps, LostKeeps}
-use Rattle.bus_guest.proofs.Keeps.{goes_beside, reclaimed_beside, ElectionsKeep}
-use Rattle.bus_guest.proofs.Steps.{Kept, keeps_pin, went, unparted, gives_page}
-use Rattle.bus_guest.proofs.Tells.{reclaims_beside}
-use Rattle.bus_core.specs.Senders.{Sender, Does, visitor_of, situation_by, situation}
+use Rattle.bus_core.specs.Reusing.Participants.{Due, Pins, Reclaims, Goes, due_of, due_beside, due_home, due_reclaimed, reclaim_due, core_seen, pin_seen}
+use Rattle.bus_core.specs.Reusing.Turns.{Participant, sizes_of, due, op_due, participant_due}
+use Rattle.bus_core.specs.Reusing.Keeping.{IsOutside, PinKeeps, ReclaimerKeeps, LostKeeps}
+use Rattle.bus_core.proofs.Reusing.Keeps.{goes_beside, reclaimed_beside, ElectionsKeep}
+use Rattle.bus_core.proofs.Reusing.Steps.{Kept, keeps_pin, went, unparted, gives_page}
+use Rattle.bus_core.proofs.Reusing.Tells.{reclaims_beside}
+use Rattle.bus_core.specs.Senders.{Sender, Does, participant_of, situation_by, situation}
 use Rattle.bus_core.specs.Table.{line_now}
 use Rattle.bus_core.specs.Keeping.{ReuseKeeps, sender}
 use Rattle.bus_core.specs.declared.reuses.Reuse.{Reuse}
@@ -60,7 +60,7 @@ reclaimed_on x p s got k not = by (nat_lt s.scanned s.senders) (got == 1 + s.pas
 
 module _ {E : Type 0} (X : Election E) (W : Layout → ℕ) (B : Layout → ℕ → ℕ → E → Type 0) (law : ElectionsKeep X W B) where
   -- who looks at the stage pins no tenure
-  looks_away : (v : Visitor E) → Kept X W B v → v.core.phase ≡ Resting → ((t : ℕ) → v.pin ≡ Unpinning t → ⊥) → due X v ≡ Goes LooksAtStage
+  looks_away : (v : Participant E) → Kept X W B v → v.core.phase ≡ Resting → ((t : ℕ) → v.pin ≡ Unpinning t → ⊥) → due X v ≡ Goes LooksAtStage
       → v.pin ≡ Away
   looks_away v k rests stays d = by v.pin refl k.pin d where
     by : (u : Pin) → v.pin ≡ u → PinKeeps (B v.core.layout v.core.me) v.core u
@@ -74,7 +74,7 @@ module _ {E : Type 0} (X : Election E) (W : Layout → ℕ) (B : Layout → ℕ 
     by (Invalidated t) i h e = absurd cc
 
   -- a first look at the stage
-  seen_keeps : (v : Visitor E) (got : ℕ) → Kept X W B v → v.core.phase ≡ Resting → resting v.core ≡ LooksAtStage → v.pin ≡ Away
+  seen_keeps : (v : Participant E) (got : ℕ) → Kept X W B v → v.core.phase ≡ Resting → resting v.core ≡ LooksAtStage → v.pin ≡ Away
       → Kept X W B record v { core = core_seen v.core got; pin = pin_seen v.core got }
   seen_keeps v got k rests looks away = by (waits v.core got) (nat_le v.core.layout.rows (got / 2)) refl refl where
     out : IsOutside v.core.phase
@@ -106,8 +106,8 @@ module _ {E : Type 0} (X : Election E) (W : Layout → ℕ) (B : Layout → ℕ 
     }
 
   -- whatever is due
-  keeps_due : (v : Visitor E) (got word : ℕ) → Kept X W B v → (d : Due E) → due X v ≡ d → IsSome (op_due X v d word)
-      → Kept X W B (visitor_due X v d got word)
+  keeps_due : (v : Participant E) (got word : ℕ) → Kept X W B v → (d : Due E) → due X v ≡ d → IsSome (op_due X v d word)
+      → Kept X W B (participant_due X v d got word)
   keeps_due v got word k (Pins o) i h = keeps_pin X W B law v got k
   keeps_due v got word k (Reclaims s o) i h =
       let f = reclaims_beside _ _ _ s o i in
@@ -128,11 +128,11 @@ module _ {E : Type 0} (X : Election E) (W : Layout → ℕ) (B : Layout → ℕ 
     stays z d = unparted X v z d
 
     goes : (z : Own E) → situation_of X v.core ≡ z → due X v ≡ Goes z → IsSome (op_at X v.core z word) → v.core.phase ≢ Resting
-        → Kept X W B (visitor_due X v (Goes z) got word)
+        → Kept X W B (participant_due X v (Goes z) got word)
     goes z is d h not = (went X W B law v got word k (stays z d) z is h not).keeps
 
     by : (z : Own E) → situation_of X v.core ≡ z → due X v ≡ Goes z → IsSome (op_due X v (Goes z) word)
-        → Kept X W B (visitor_due X v (Goes z) got word)
+        → Kept X W B (participant_due X v (Goes z) got word)
     by IsClosed is d h = absurd (let q : false ≡ true = h in cc)
     by IsIdle is d h = absurd (let q : false ≡ true = h in cc)
     by IsSpent is d h = absurd (let q : false ≡ true = h in cc)
@@ -143,7 +143,7 @@ module _ {E : Type 0} (X : Election E) (W : Layout → ℕ) (B : Layout → ℕ 
         goes (Elects t e) is d (some_op (X.op e word) h) (λ r. let q = sym (tells X v.core (Elects t e) is).0 ∙ r in cc)
       where
         some_op : (o : Option Op)
-            → IsSome (Rattle.bus_guest.specs.Turns.op_placed (λ r. Rattle.bus_guest.specs.Guests.place_for v.core.layout v.rows (Elects t e) r) o)
+            → IsSome (Rattle.bus_core.specs.Reusing.Turns.op_placed (λ r. Rattle.bus_core.specs.Reusing.Participants.place_for v.core.layout v.rows (Elects t e) r) o)
             → IsSome o
         some_op None g = g
         some_op (Some o) g = g
@@ -168,7 +168,7 @@ module _ {E : Type 0} (X : Election E) (W : Layout → ℕ) (B : Layout → ℕ 
         → Keeps ((line_now X (sender v.core r)).fed got word)
     by None k h = subst Keeps (sym (ap (λ l. l.fed got word) (at_none X v.core))) tt
     by (Some r) k h =
-        let w = visitor_of v.core r in
+        let w = participant_of v.core r in
         let s = at_some X w in
         subst Keeps (sym (s.fed got word)) (keeps_due w got word k (due X w) refl (subst IsSome (s.op word) h))
 
@@ -180,6 +180,6 @@ module _ {E : Type 0} (X : Election E) (W : Layout → ℕ) (B : Layout → ℕ 
         → Keeps (sender (record v.core { phase = Giving t reason }) r)
     by None k e = tt
     by (Some r) k e =
-        let w = visitor_of v.core r in
+        let w = participant_of v.core r in
         let g = goes_pinning r.pin r.reclaimer (situation_of X v.core) (situation_of X v.core) (presence_at (sizes_of w) v.core.me) stage_at e in
         gives_page X W B law w k t page reason is (reclaimed_beside _ _ _ _ g t page reason is)

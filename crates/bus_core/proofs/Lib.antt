@@ -1,3 +1,4 @@
+pub mod Reusing
 pub mod Bridged
 pub mod Situated
 mod Stepped

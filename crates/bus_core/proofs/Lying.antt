@@ -9,9 +9,9 @@ use Rattle.bus_tenure.specs.Core.{Election, Layout, row_at}
 use Rattle.bus_tenure.specs.Situations.{IsClosed, IsIdle, IsSpent, LooksAtStage, Elects, TakesPage, AwaitsPage, StoresWord, StoresLength, GivesBack, HasHanded, situation_of as own_situation}
 use Rattle.bus_tenure.specs.declared.phases.Phase.TheVariants.{Electing}
 use Rattle.bus_tenure.proofs.Situated.{tells}
-use Rattle.bus_guest.specs.Guests.{sizes_with}
-use Rattle.bus_guest.specs.Keeping.{ReclaimerKeeps, IsHeldReclaimer}
-use Rattle.bus_guest.proofs.Keeps.{runs_pinned}
+use Rattle.bus_core.specs.Reusing.Participants.{sizes_with}
+use Rattle.bus_core.specs.Reusing.Keeping.{ReclaimerKeeps, IsHeldReclaimer}
+use Rattle.bus_core.proofs.Reusing.Keeps.{runs_pinned}
 use Rattle.bus_core.specs.Keeping.{ReuseKeeps}
 use Rattle.bus_core.specs.Places.{IsInRow, StandsIn, IsAsked, IsInNextRow, LiesAt}
 use Rattle.bus_core.specs.Senders.{Sender, Situation, Does, Announces, Validates, Unpins, Withdraws, Scans, Clears, situation_by, situation}

@@ -10,8 +10,8 @@ use Rattle.bus_tenure.specs.declared.pages.Page.{Page}
 use Rattle.bus_tenure.specs.declared.phases.Phase.{Phase}
 use Rattle.bus_tenure.specs.declared.phases.Phase.TheVariants.{Resting, Electing, Holding}
 use Rattle.bus_tenure.proofs.Situated.{tells}
-use Rattle.bus_guest.specs.Keeping.{held_of}
-use Rattle.bus_guest.specs.Telling.{HasPublished, Published, HandsOnSent, LacksRoom, FindsNoRoom, HandsOnFull, FindsEnd, Ended, HandsOnEnd}
+use Rattle.bus_core.specs.Reusing.Keeping.{held_of}
+use Rattle.bus_core.specs.Reusing.Telling.{HasPublished, Published, HandsOnSent, LacksRoom, FindsNoRoom, HandsOnFull, FindsEnd, Ended, HandsOnEnd}
 use Rattle.bus_core.specs.Refused.{AnswersRefuse}
 use Rattle.bus_core.specs.Senders.{Sender, Situation, Does, situation}
 use Rattle.bus_core.specs.Table.{line_now}

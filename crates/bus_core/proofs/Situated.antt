@@ -6,7 +6,7 @@ use Rattle.bus_presence.specs.declared.pins.Pin.{Pin}
 use Rattle.bus_presence.specs.declared.pins.Pin.TheVariants.{Away, Announcing, Validating, Pinned, Unpinning, Invalidated}
 use Rattle.bus_tenure.specs.Core.{Election}
 use Rattle.bus_tenure.specs.Situations.{Situation as Own, IsClosed, IsIdle, IsSpent, LooksAtStage, Elects, TakesPage, AwaitsPage, StoresWord, StoresLength, GivesBack, HasHanded, situation_of as own_situation}
-use Rattle.bus_turning.specs.declared.doings.Doing.{Doing}
+use Rattle.bus_tenure.specs.declared.doings.Doing.{Doing}
 use Rattle.bus_core.specs.Doings.{step_of}
 use Rattle.bus_core.specs.Senders.{Sender, Situation, Does, Announces, Validates, Unpins, Withdraws, Scans, Clears, reclaiming, at_home, pinning, situation_by, situation}
 use Rattle.bus_core.specs.declared.reuses.Reuse.{Reuse}

@@ -12,16 +12,16 @@ use Rattle.bus_tenure.specs.declared.phases.Reason.{Reason}
 use Rattle.bus_tenure.specs.declared.phases.Phase.TheVariants.{Giving}
 use Rattle.bus_tenure.specs.declared.turns.Turn.{Turn}
 use Rattle.bus_tenure.specs.declared.turns.Turn.TheVariants as turn
-use Rattle.bus_guest.proofs.Lies.{reclaimer_below}
+use Rattle.bus_core.proofs.Reusing.Lies.{reclaimer_below}
 use Rattle.bus_core.proofs.Situated.{does_by}
-use Rattle.bus_core.specs.Senders.{Sender, Situation, Does, Announces, Validates, Unpins, Withdraws, Scans, Clears, pinning, situation_by, situation, words_all, visitor_of}
+use Rattle.bus_core.specs.Senders.{Sender, Situation, Does, Announces, Validates, Unpins, Withdraws, Scans, Clears, pinning, situation_by, situation, words_all, participant_of}
 use Rattle.bus_core.specs.Table.{reuse_elected, answer_elected, line}
-use Rattle.bus_turning.specs.Doings.{doing_of}
+use Rattle.bus_tenure.specs.Doings.{doing_of}
 use Rattle.bus_core.specs.Doings.{step_of, ending_of}
 use Rattle.bus_core.specs.declared.steps.Ending.{Ending}
 use Rattle.std.proofs.lemmas.Option.{same_Some}
 use Rattle.bus_core.specs.Keeping.{ReuseKeeps, reclaimer_op_of, sender, page_out, core_without, reuse_answered, turn_answered}
-use Rattle.bus_turning.specs.declared.doings.Doing.TheVariants as doing
+use Rattle.bus_tenure.specs.declared.doings.Doing.TheVariants as doing
 use Rattle.bus_core.specs.declared.reuses.Reuse.{Reuse}
 use Rattle.bus_core.specs.declared.steps.Step.TheVariants as step
 
@@ -34,7 +34,7 @@ module _ {E : Type 0} where
     by : (s : Option Reclaiming) → r.reclaimer ≡ s → reclaimer_op_of (Some (record r { reclaimer = s })) ≡ Some o
         → register o < words_all (record { core = c; reuse = Some r })
     by None is j = absurd cc
-    by (Some s) is j = reclaimer_below (visitor_of c r) k.rows_some k.reclaimer s is o j
+    by (Some s) is j = reclaimer_below (participant_of c r) k.rows_some k.reclaimer s is o j
 
   -- an election's step is answered
   pub elected_reuse : (c : Core E) (t : ℕ) (own : Option ℕ) (reuse : Option Reuse)

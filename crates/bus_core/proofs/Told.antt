@@ -15,24 +15,24 @@ use Rattle.bus_tenure.specs.declared.phases.Phase.TheVariants.{Electing, Giving}
 use Rattle.bus_tenure.specs.declared.turns.Turn.{Turn}
 use Rattle.bus_tenure.specs.declared.turns.Turn.TheVariants as turn
 use Rattle.bus_tenure.proofs.Situated.{tells}
-use Rattle.bus_guest.specs.Besides.{reclaims_by}
-use Rattle.bus_guest.specs.Guests.{Due, Pins, Reclaims, Goes, answer_going}
-use Rattle.bus_guest.specs.Keeping.{GuestKeeps}
-use Rattle.bus_guest.specs.Telling.{FeedTells as TellsAgain, Returns, Gives, Says, GivesReady as GivesAgain, HasPublished, HandsOnSent, HandsOnEnd, HandsOnFull}
-use Rattle.bus_guest.specs.Turns.{Visitor, due, op_due, answer_due, answer_of_reclaim}
-use Rattle.bus_guest.proofs.Keeps.{goes_beside}
-use Rattle.bus_guest.proofs.Tells.{ChoosesItself, Shows, reclaims_beside, gives_shows, told_pin, told_reclaimer, told_own}
+use Rattle.bus_core.specs.Reusing.Besides.{reclaims_by}
+use Rattle.bus_core.specs.Reusing.Participants.{Due, Pins, Reclaims, Goes, answer_going}
+use Rattle.bus_core.specs.Reusing.Keeping.{ParticipantKeeps}
+use Rattle.bus_core.specs.Reusing.Telling.{FeedTells as TellsAgain, Returns, Gives, Says, GivesReady as GivesAgain, HasPublished, HandsOnSent, HandsOnEnd, HandsOnFull}
+use Rattle.bus_core.specs.Reusing.Turns.{Participant, due, op_due, answer_due, answer_of_reclaim}
+use Rattle.bus_core.proofs.Reusing.Keeps.{goes_beside}
+use Rattle.bus_core.proofs.Reusing.Tells.{ChoosesItself, Shows, reclaims_beside, gives_shows, told_pin, told_reclaimer, told_own}
 use Rattle.bus_core.specs.Keeping.{ReuseKeeps, sender}
-use Rattle.bus_core.specs.Senders.{Sender, Does, apart, again, visitor_of}
+use Rattle.bus_core.specs.Senders.{Sender, Does, apart, again, participant_of}
 use Rattle.bus_core.specs.Table.{line, line_now}
 use Rattle.bus_core.specs.Telling.{FeedTells, GivesReady, Begins, TellsNoMore}
 use Rattle.bus_core.specs.declared.reuses.Reuse.{Reuse}
 use Rattle.bus_core.proofs.Bridged.{at_none, at_some, does_goes, goes_does}
 
 -- ---- with rows that are used again
--- what the answer of a guest's step tells
-pub told_at_some : {E : Type 0} (X : Election E) (width : ℕ) (Belongs : ℕ → E → Type 0) (v : Visitor E) (got word : ℕ)
-    → GuestKeeps width Belongs v → ChoosesItself X v.core → IsSome ((line_now X (again v)).op word)
+-- what the answer of a participant's step tells
+pub told_at_some : {E : Type 0} (X : Election E) (width : ℕ) (Belongs : ℕ → E → Type 0) (v : Participant E) (got word : ℕ)
+    → ParticipantKeeps width Belongs v → ChoosesItself X v.core → IsSome ((line_now X (again v)).op word)
     → TellsAgain X v got word ((line_now X (again v)).answer got word)
 told_at_some {E} X width Belongs v got word k own h =
     let s = at_some X v in subst (TellsAgain X v got word) (sym (s.answer got word)) (by (due X v) refl (subst IsSome (s.op word) h))
@@ -49,8 +49,8 @@ told_at_some {E} X width Belongs v got word k own h =
         let e = goes_beside _ _ _ z i in
         told_own X v got word width Belongs k _ (i ∙ ap Goes (sym e)) own (ap (λ y. answer_going X v.core y got word) (sym e)) (subst (λ d. IsSome (op_due X v d word)) (sym i) h)
 
-module _ {E : Type 0} (X : Election E) (v : Visitor E) (got word : ℕ) where
-  -- who gives a page back as a guest does so as a sender
+module _ {E : Type 0} (X : Election E) (v : Participant E) (got word : ℕ) where
+  -- who gives a page back as a participant does so as a sender
   gives_ready : (t : ℕ) → GivesAgain X v t → GivesReady X (again v) t
   gives_ready t w = record { does = goes_does X v (situation_of X v.core) w.due_is; returns = w.returns; ready = w.ready }
 
@@ -213,4 +213,4 @@ line_told {E} X width Belongs v got word k own h = by v.reuse k h where
       let n = at_none X v.core in
       subst (FeedTells X (apart v.core) got word) (sym (ap (λ l. l.answer got word) n))
       (tells_apart X v.core got word own (situation_of X v.core) refl (subst IsSome (ap (λ l. l.op word) n) h))
-  by (Some r) k h = tells_again X (visitor_of v.core r) got word _ (told_at_some X width Belongs (visitor_of v.core r) got word k own h)
+  by (Some r) k h = tells_again X (participant_of v.core r) got word _ (told_at_some X width Belongs (participant_of v.core r) got word k own h)

@@ -10,24 +10,24 @@ use Rattle.bus_tenure.specs.Core.{Election}
 use Rattle.bus_tenure.specs.Elections.{Elector}
 use Rattle.bus_coinconc.specs.declared.conciliators.Stage.TheVariants.{SetMark, ReadOtherMark}
 use Rattle.bus_walkcoin.specs.declared.coins.Phase.TheVariants.{Vote}
-use Rattle.bus_guest.specs.Causes.{EntersTenure, LooksAgain, LeavesTenure, AsksSender, ClearsWord, ReturnsPage, StandsInside as StandsInRow}
-use Rattle.bus_core.specs.Senders.{Sender, visitor_of}
+use Rattle.bus_core.specs.Reusing.Causes.{EntersTenure, LooksAgain, LeavesTenure, AsksSender, ClearsWord, ReturnsPage, StandsInside as StandsInRow}
+use Rattle.bus_core.specs.Senders.{Sender, participant_of}
 use Rattle.bus_core.specs.Table.{line_now}
 use Rattle.bus_core.specs.Keeping.{IsAway}
 
 -- where rows are used again, it stands in the very tenure whose election it goes through
 abbrev pub StandsInside : {E : Type 0} → Sender E → Type 0
-StandsInside v = IfSome v.reuse (λ r. StandsInRow (visitor_of v.core r))
+StandsInside v = IfSome v.reuse (λ r. StandsInRow (participant_of v.core r))
 
 -- it would give the page of a tenure back, or has handed it on; where rows are used again, the row of the next tenure is ready
 abbrev pub GivesPage : {E : Type 0} → Sender E → Type 0
-GivesPage v = (LeavesPage v.core ⊎ HasHandedOn v.core) × IfSome v.reuse (λ r. ReturnsPage (visitor_of v.core r))
+GivesPage v = (LeavesPage v.core ⊎ HasHandedOn v.core) × IfSome v.reuse (λ r. ReturnsPage (participant_of v.core r))
 
 -- The sender has a cause for a step of this kind. The kinds of the last lines are a receiver's.
 abbrev pub HasCause : {S : Type 0} → Protocol S Bool Verdict → Sender (Elector S) → Kind → Type 0
 HasCause P v kind.LoadStage = IsAway v.reuse × LooksForTenure v.core
-HasCause P v kind.Enter = IsSomeAnd v.reuse (λ r. EntersTenure (visitor_of v.core r))
-HasCause P v kind.LoadStageAgain = IsSomeAnd v.reuse (λ r. LooksAgain (visitor_of v.core r))
+HasCause P v kind.Enter = IsSomeAnd v.reuse (λ r. EntersTenure (participant_of v.core r))
+HasCause P v kind.LoadStageAgain = IsSomeAnd v.reuse (λ r. LooksAgain (participant_of v.core r))
 HasCause P v kind.Announce = StandsInside v × BeginsElection P v.core
 HasCause P v kind.WriteFirst = StandsInside v × IsInRatifier P v.core false
 HasCause P v kind.ReadFirst = StandsInside v × IsInRatifier P v.core true
@@ -39,12 +39,12 @@ HasCause P v kind.Vote = StandsInside v × AsksCoin v.core Vote
 HasCause P v kind.ReadVotes = StandsInside v × CountsVotes v.core
 HasCause P v kind.Fallback = StandsInside v × IsAtFallback v.core
 HasCause P v kind.ReadAnnouncement = StandsInside v × SearchesCandidate v.core
-HasCause P v kind.Withdraw = IsSomeAnd v.reuse (λ r. LeavesTenure (visitor_of v.core r))
+HasCause P v kind.Withdraw = IsSomeAnd v.reuse (λ r. LeavesTenure (participant_of v.core r))
 HasCause P v kind.TakePage = StandsInside v × IsElected P v.core
 HasCause P v kind.StoreLogWord = IsAway v.reuse × HasWordLeft v.core
 HasCause P v kind.StoreLength = IsAway v.reuse × HasStoredAll v.core
-HasCause P v kind.ReadPresence = IsSomeAnd v.reuse (λ r. AsksSender (visitor_of v.core r))
-HasCause P v kind.ClearRow = IsSomeAnd v.reuse (λ r. ClearsWord (visitor_of v.core r))
+HasCause P v kind.ReadPresence = IsSomeAnd v.reuse (λ r. AsksSender (participant_of v.core r))
+HasCause P v kind.ClearRow = IsSomeAnd v.reuse (λ r. ClearsWord (participant_of v.core r))
 HasCause P v kind.GivePageBack = GivesPage v
 HasCause P v kind.LoadLength = ⊥
 HasCause P v kind.LoadLogWord = ⊥

@@ -12,9 +12,9 @@ use Rattle.bus_tenure.specs.Causes.{IsInRatifier, IsInConciliator, CountsVotes}
 use Rattle.bus_tenure.specs.Elections.{Elector, elections}
 use Rattle.bus_tenure.specs.declared.pages.Page.{Page}
 use Rattle.bus_tenure.specs.declared.phases.Phase.TheVariants.{Resting, Electing, Holding}
-use Rattle.bus_guest.specs.CausesRefuse.{IsOfElection}
-use Rattle.bus_guest.specs.Guests.{sizes_with}
-use Rattle.bus_guest.specs.Keeping.{held_of}
+use Rattle.bus_core.specs.Reusing.CausesRefuse.{IsOfElection}
+use Rattle.bus_core.specs.Reusing.Participants.{sizes_with}
+use Rattle.bus_core.specs.Reusing.Keeping.{held_of}
 use Rattle.bus_core.specs.declared.reuses.Reuse.{Reuse}
 use Rattle.bus_core.specs.Causes.{HasCause}
 use Rattle.bus_core.specs.Senders.{Sender}

@@ -1,8 +1,8 @@
 -- What code sees of a situation, in its tenure or beside it.
 use Rattle.std.specs.Prelude.{Option, Some, None}
-use Rattle.bus_turning.specs.Doings.{doing_of}
-use Rattle.bus_turning.specs.declared.doings.Doing.{Doing}
-use Rattle.bus_turning.specs.declared.doings.Doing.TheVariants as doing
+use Rattle.bus_tenure.specs.Doings.{doing_of}
+use Rattle.bus_tenure.specs.declared.doings.Doing.{Doing}
+use Rattle.bus_tenure.specs.declared.doings.Doing.TheVariants as doing
 use Rattle.bus_core.specs.declared.steps.Step.{Step}
 use Rattle.bus_core.specs.declared.steps.Ending.{Ending}
 use Rattle.bus_core.specs.declared.steps.Step.TheVariants as step

@@ -2,24 +2,23 @@
 use Rattle.std.specs.Prelude.{◌≡◌, ℕ, Option, Some, None, [], false}
 use Rattle.bus_register.specs.declared.registers.Op.{Op}
 use Rattle.bus_presence.specs.Reclaimers.{Reclaiming, reclaim_op}
-use Rattle.bus_tenure.specs.Core.{Core}
-use Rattle.bus_guest.specs.Keeping.{GuestKeeps}
+use Rattle.bus_tenure.specs.Core.{Core, Layout}
+use Rattle.bus_core.specs.Reusing.Keeping.{ParticipantKeeps}
 use Rattle.bus_tenure.specs.declared.turns.Turn.{Turn}
 use Rattle.bus_tenure.specs.declared.turns.Turn.TheVariants as turn
 use Rattle.bus_presence.specs.declared.pins.Pin.TheVariants.{Away, Pinned, Unpinning}
 use Rattle.bus_batch.specs.Batches.{Pending}
 use Rattle.bus_batch.specs.declared.batches.Phase.TheVariants.{Open}
-use Rattle.bus_tenure.specs.Core.{Layout}
 use Rattle.bus_tenure.specs.Situations.{PageMove, Stays, Comes, Returns}
 use Rattle.bus_tenure.specs.declared.pages.Page.{Page}
 use Rattle.bus_tenure.specs.declared.phases.Phase.TheVariants as phase
-use Rattle.bus_guest.specs.Turns.{queue_seen}
-use Rattle.bus_core.specs.Senders.{Sender, visitor_of}
+use Rattle.bus_core.specs.Reusing.Turns.{queue_seen}
+use Rattle.bus_core.specs.Senders.{Sender, participant_of}
 use Rattle.bus_core.specs.declared.reuses.Reuse.{Reuse}
 
 abbrev pub ReuseKeeps : {E : Type 0} → ℕ → (ℕ → E → Type 0) → Core E → Option Reuse → Type 0
 ReuseKeeps width Belongs c None = Unit {0}
-ReuseKeeps width Belongs c (Some r) = GuestKeeps width Belongs (visitor_of c r)
+ReuseKeeps width Belongs c (Some r) = ParticipantKeeps width Belongs (participant_of c r)
 
 -- the step that is left of a reclamation
 abbrev pub reclaimer_left : Option Reclaiming → Option Op

@@ -1,3 +1,4 @@
+pub mod Reusing
 pub mod Senders
 pub mod Table
 pub mod Doings
@@ -8,4 +9,4 @@ pub mod CausesRefuse
 pub mod Places
 pub mod Telling
 pub mod Refused
-pub mod Bridge
+pub mod Proved

@@ -5,8 +5,8 @@ use Rattle.bus_presence.specs.Reclaimers.{Reclaiming}
 use Rattle.bus_presence.specs.declared.pins.Pin.TheVariants.{Pinned}
 use Rattle.bus_tenure.specs.Core.{Layout, length_at, stage_at, row_at}
 use Rattle.bus_tenure.specs.Situations.{IsClosed, IsIdle, IsSpent, LooksAtStage, Elects, TakesPage, AwaitsPage, StoresWord, StoresLength, GivesBack, HasHanded}
-use Rattle.bus_guest.specs.Guests.{sizes_with}
-use Rattle.bus_guest.specs.Keeping.{held_of}
+use Rattle.bus_core.specs.Reusing.Participants.{sizes_with}
+use Rattle.bus_core.specs.Reusing.Keeping.{held_of}
 use Rattle.bus_core.specs.declared.reuses.Reuse.{Reuse}
 use Rattle.bus_core.specs.Senders.{Sender, Situation, Does, Announces, Validates, Unpins, Withdraws, Scans, Clears, log_start}
 use Rattle.bus_core.specs.Table.{presence_of}

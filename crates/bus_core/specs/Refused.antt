@@ -10,7 +10,7 @@ use Rattle.bus_tenure.specs.Situations.{LooksAtStage, Elects}
 use Rattle.bus_tenure.specs.declared.pages.Page.{Page}
 use Rattle.bus_tenure.specs.declared.phases.Phase.TheVariants.{Resting, Electing, Holding}
 use Rattle.bus_tenure.specs.declared.turns.Turn.TheVariants as turn
-use Rattle.bus_guest.specs.Guests.{sizes_with}
+use Rattle.bus_core.specs.Reusing.Participants.{sizes_with}
 use Rattle.bus_core.specs.declared.reuses.Reuse.{Reuse}
 use Rattle.bus_core.specs.Senders.{Sender, Does, situation}
 use Rattle.bus_core.specs.Table.{line_now}

@@ -3,7 +3,7 @@ use Rattle.std.specs.Prelude.{ℕ, Option, Some, None}
 use Rattle.bus_presence.specs.declared.pins.Pin.{Pin}
 use Rattle.bus_tenure.specs.Core.{Core}
 use Rattle.bus_tenure.specs.Seen.{tenure_of}
-use Rattle.bus_guest.specs.Turns.{tenure_begun_by}
+use Rattle.bus_core.specs.Reusing.Turns.{tenure_begun_by}
 use Rattle.bus_core.specs.declared.reuses.Reuse.{Reuse}
 use Rattle.bus_core.specs.Senders.{Sender}
 

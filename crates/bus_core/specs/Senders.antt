@@ -6,8 +6,8 @@ use Rattle.bus_presence.specs.declared.pins.Pin.{Pin}
 use Rattle.bus_presence.specs.declared.pins.Pin.TheVariants.{Away, Announcing, Validating, Pinned, Unpinning, Invalidated}
 use Rattle.bus_tenure.specs.Core.{Core, Election, Layout, log_at}
 use Rattle.bus_tenure.specs.Situations.{Situation as Own, IsClosed, IsIdle, IsSpent, LooksAtStage, Elects, TakesPage, AwaitsPage, StoresWord, StoresLength, GivesBack, HasHanded, situation_of as own_situation}
-use Rattle.bus_guest.specs.Guests.{log_from}
-use Rattle.bus_guest.specs.Turns.{Visitor}
+use Rattle.bus_core.specs.Reusing.Participants.{log_from}
+use Rattle.bus_core.specs.Reusing.Turns.{Participant}
 use Rattle.bus_core.specs.declared.reuses.Reuse.{Reuse}
 
 pub record Sender (E : Type 0) : Type 0 where
@@ -19,14 +19,14 @@ abbrev pub apart : {E : Type 0} → Core E → Sender E
 apart c = record { core = c; reuse = None }
 
 -- with rows that are used again
-abbrev pub reuse_of : {E : Type 0} → Visitor E → Reuse
+abbrev pub reuse_of : {E : Type 0} → Participant E → Reuse
 reuse_of v = record { pin = v.pin; reclaimer = v.reclaimer; lost = v.lost; rows = v.rows }
 
-abbrev pub again : {E : Type 0} → Visitor E → Sender E
+abbrev pub again : {E : Type 0} → Participant E → Sender E
 again v = record { core = v.core; reuse = Some (reuse_of v) }
 
-abbrev pub visitor_of : {E : Type 0} → Core E → Reuse → Visitor E
-visitor_of c r = record { core = c; pin = r.pin; reclaimer = r.reclaimer; lost = r.lost; rows = r.rows }
+abbrev pub participant_of : {E : Type 0} → Core E → Reuse → Participant E
+participant_of c r = record { core = c; pin = r.pin; reclaimer = r.reclaimer; lost = r.lost; rows = r.rows }
 
 -- ---- the words
 -- where the log begins

@@ -17,8 +17,8 @@ use Rattle.bus_tenure.specs.Situations.{IsClosed, IsIdle, IsSpent, LooksAtStage,
 use Rattle.bus_tenure.specs.declared.phases.Phase.TheVariants.{Taken, Holding}
 use Rattle.bus_tenure.specs.declared.turns.Turn.{Turn}
 use Rattle.bus_tenure.specs.declared.turns.Turn.TheVariants as turn
-use Rattle.bus_guest.specs.Guests.{sizes_with, core_seen, pin_seen, pin_elected, lost_elected}
-use Rattle.bus_guest.specs.Turns.{op_placed, answer_of_loss, answer_of_reclaim}
+use Rattle.bus_core.specs.Reusing.Participants.{sizes_with, core_seen, pin_seen, pin_elected, lost_elected}
+use Rattle.bus_core.specs.Reusing.Turns.{op_placed, answer_of_loss, answer_of_reclaim}
 use Rattle.bus_core.specs.Senders.{Sender, Situation, Does, Announces, Validates, Unpins, Withdraws, Scans, Clears, log_start, situation}
 use Rattle.bus_core.specs.declared.reuses.Reuse.{Reuse}
 

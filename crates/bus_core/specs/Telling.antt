@@ -11,9 +11,9 @@ use Rattle.bus_tenure.specs.Situations.{LooksAtStage, Elects, situation_of, wait
 use Rattle.bus_tenure.specs.declared.phases.Phase.TheVariants.{Electing}
 use Rattle.bus_tenure.specs.declared.turns.Turn.{Turn}
 use Rattle.bus_tenure.specs.declared.turns.Turn.TheVariants.{Idle, Waiting, Going, Lost, Own, Delivered, Full, Closed, Spent, Behind}
-use Rattle.bus_guest.specs.Guests.{sizes_with}
-use Rattle.bus_guest.specs.Keeping.{IsRowReady, held_of}
-use Rattle.bus_guest.specs.Telling.{Returns, HasPublished, LacksRoom, FindsEnd}
+use Rattle.bus_core.specs.Reusing.Participants.{sizes_with}
+use Rattle.bus_core.specs.Reusing.Keeping.{IsRowReady, held_of}
+use Rattle.bus_core.specs.Reusing.Telling.{Returns, HasPublished, LacksRoom, FindsEnd}
 use Rattle.bus_core.specs.declared.reuses.Reuse.{Reuse}
 use Rattle.bus_core.specs.Senders.{Sender, Does, situation}
 use Rattle.bus_core.specs.Table.{line_now}

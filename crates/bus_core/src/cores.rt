@@ -12,9 +12,9 @@ ghost use Rattle.bus_tenure.specs.Elections.{election_of, elections, layout_with
 ghost use Rattle.bus_tenure.specs.Seen.{AwaitsItsPage, turns_of, HasElection};
 ghost use Rattle.bus_tenure.specs.Situations.{situation_of, tenure_begun as tenure_by_stage};
 ghost use Rattle.bus_tenure.specs.declared.phases.Phase.TheVariants as phase;
-ghost use Rattle.bus_guest.specs.Turns.{on_place};
-ghost use Rattle.bus_turning.specs.Doings.{doing_of};
-ghost use Rattle.bus_turning.specs.declared.doings.Doing.TheVariants as doing;
+ghost use Rattle.bus_core.specs.Reusing.Turns.{on_place};
+ghost use Rattle.bus_tenure.specs.Doings.{doing_of};
+ghost use Rattle.bus_tenure.specs.declared.doings.Doing.TheVariants as doing;
 ghost use Rattle.bus_core.specs.Causes.{HasCause, IsCaused};
 ghost use Rattle.bus_core.specs.Doings.{step_of};
 ghost use Rattle.bus_core.specs.Keeping.{ReuseKeeps, reclaimer_op_of, sender, IsAway, queue_of};
@@ -28,15 +28,14 @@ ghost use Rattle.bus_core.specs.Telling.{FeedTells};
 use super::feeding::feed_parts;
 use super::reuses::Reuse;
 use super::steps::{Ending, Step, ending_of};
+use crate::limits::{LEAST_ROWS_AGAIN, MOST_ROWS_AGAIN};
 use bus_adoptcommit::Ratifier;
 use bus_batch::{CloseFault, PutFault};
-use bus_guest::limits::{LEAST_ROWS_AGAIN, MOST_ROWS_AGAIN};
 use bus_ownerbits::Election;
 use bus_presence::Pin;
 use bus_register::limits::{MOST_ROUNDS, MOST_SENDERS, NUMBERS, TENURES};
 use bus_register::{Kind, Op, Reg, SenderNo};
-use bus_tenure::{Page, Turn};
-use bus_turning::{Doing, Turns};
+use bus_tenure::{Doing, Page, Turn, Turns};
 use std::marker::Model;
 
 /// The word of the length.
@@ -201,6 +200,7 @@ impl<Q: Ratifier + Drop> SenderCore<Q> {
     }
 
     /// What it does next.
+    #[inline(always)]
     pub fn step(&self) -> Step
         ensures { let X = election_of Q.Ratifier in result ≡ step_of (situation X self.now) }
     {
@@ -234,6 +234,7 @@ impl<Q: Ratifier + Drop> SenderCore<Q> {
     }
 
     /// Where the log begins.
+    #[inline(always)]
     fn log_start(&self) -> u64
         ensures at { result ≡ log_start self.now.core.layout self.now.reuse }
         ensures room { result + self.now.core.layout.capacity ≤ 2 ^ 63 }
@@ -390,6 +391,7 @@ impl<Q: Ratifier + Drop> SenderCore<Q> {
     }
 
     /// The next step asks for a random word.
+    #[inline(always)]
     pub fn wants_word(&self) -> bool
         ensures { let X = election_of Q.Ratifier in result ≡ (line_now X self.now).wants_word }
     {
@@ -397,6 +399,7 @@ impl<Q: Ratifier + Drop> SenderCore<Q> {
     }
 
     /// The same of the step that `step` told.
+    #[inline(always)]
     pub fn wants_word_of(&self, step: Step) -> bool
         requires { let X = election_of Q.Ratifier in step_of (situation X self.now) ≡ step }
         ensures { let X = election_of Q.Ratifier in result ≡ (line_now X self.now).wants_word }
@@ -510,6 +513,7 @@ impl<Q: Ratifier + Drop> SenderCore<Q> {
     }
 
     /// The same of the step that `step` told, which becomes the one that is due afterwards.
+    #[inline(always)]
     pub fn take_out_of(&mut self, step: &mut Step) -> Option<Page>
         requires { let X = election_of Q.Ratifier in step_of (situation X self.old) ≡ step.old }
         ensures page { let X = election_of Q.Ratifier in
@@ -541,6 +545,7 @@ impl<Q: Ratifier + Drop> SenderCore<Q> {
     }
 
     /// The same of the step that `step` told.
+    #[inline(always)]
     pub fn next_of(&self, step: Step, word: u32) -> Option<Op>
         requires { let X = election_of Q.Ratifier in step_of (situation X self.now) ≡ step }
         ensures step { let X = election_of Q.Ratifier in
@@ -584,6 +589,7 @@ impl<Q: Ratifier + Drop> SenderCore<Q> {
     }
 
     /// The same of the step that `step` told.
+    #[inline(always)]
     pub fn feed_of(&mut self, step: Step, got: u64, word: u32) -> Turn
         requires step { let X = election_of Q.Ratifier in
             step_of (situation X self.old) ≡ step }

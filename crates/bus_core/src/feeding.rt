@@ -8,9 +8,9 @@ ghost use Rattle.bus_tenure.specs.Elections.{election_of, elections};
 ghost use Rattle.bus_tenure.specs.Situations.{situation_of, resting, LooksAtStage};
 ghost use Rattle.bus_tenure.specs.Situations.{answer_of_stage};
 ghost use Rattle.bus_tenure.specs.declared.phases.Phase.TheVariants as phase;
-ghost use Rattle.bus_guest.specs.Turns.{answer_of_reclaim, answer_of_loss};
-ghost use Rattle.bus_turning.specs.Doings.{doing_of};
-ghost use Rattle.bus_turning.specs.declared.doings.Doing.TheVariants as doing;
+ghost use Rattle.bus_core.specs.Reusing.Turns.{answer_of_reclaim, answer_of_loss};
+ghost use Rattle.bus_tenure.specs.Doings.{doing_of};
+ghost use Rattle.bus_tenure.specs.declared.doings.Doing.TheVariants as doing;
 ghost use Rattle.bus_core.specs.Doings.{step_of};
 ghost use Rattle.bus_core.specs.Keeping.{ReuseKeeps, sender, reclaimer_in, reuse_answered};
 ghost use Rattle.bus_core.specs.Keeping.{turn_answered};
@@ -20,13 +20,12 @@ ghost use Rattle.bus_core.specs.Table.{reuse_reclaiming, reuse_taken, reuse_give
 
 use super::reuses::Reuse;
 use super::steps::Step;
+use crate::limits::{LEAST_ROWS_AGAIN, MOST_ROWS_AGAIN};
 use bus_adoptcommit::Ratifier;
-use bus_guest::limits::{LEAST_ROWS_AGAIN, MOST_ROWS_AGAIN};
 use bus_presence::{Behind, Pin, Reclaimer};
 use bus_register::limits::{MOST_SENDERS, TENURES};
 use bus_register::{Reg, SenderNo};
-use bus_tenure::Turn;
-use bus_turning::{Doing, Turns};
+use bus_tenure::{Doing, Turn, Turns};
 
 /// Goes on after the step that `step` told.
 pub fn feed_parts<Q: Ratifier + Drop>(

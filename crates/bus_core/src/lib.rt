@@ -20,7 +20,7 @@
 
 pub mod cores;
 mod feeding;
-pub mod laws;
+pub mod limits;
 pub mod refusals;
 pub mod reuses;
 pub mod steps;

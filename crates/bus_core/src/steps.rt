@@ -3,8 +3,7 @@
 ghost use Rattle.std.specs.Prelude.{◌≡◌};
 ghost use Rattle.bus_core.specs.Doings.{ending_of as spec_ending_of};
 
-use bus_tenure::Reason;
-use bus_turning::Doing;
+use bus_tenure::{Doing, Reason};
 
 /// What a sender does next.
 #[derive(Clone, Copy, Debug, PartialEq, Eq)]

@@ -2,7 +2,7 @@
 use Rattle.std.proofs.Common.{◌≡◌, Result, Ok, Err, OnOk, IfErr, sym, subst}
 use Rattle.bus_tenure.specs.declared.turns.Turn.{Turn}
 use Rattle.bus_tenure.specs.declared.turns.Turn.TheVariants as turn
-use Rattle.bus_pageslot.specs.Processes.{Process}
+use Rattle.bus_automaton.specs.Processes.{Process}
 use Rattle.bus_pageslot.specs.Seats.{SenderSeat}
 use Rattle.bus_pageslot.specs.Turns.{Sends}
 use Rattle.bus_handles.specs.Closings.{Closes, ClosesAndSends, NotEndedFor}

@@ -4,7 +4,7 @@ use Rattle.bus_batch.specs.Batches.{CanClose, IsCloseFault}
 use Rattle.bus_tenure.specs.declared.turns.Turn.{Turn}
 use Rattle.bus_tenure.specs.declared.turns.Turn.TheVariants as turn
 use Rattle.bus_world.specs.Headline.{HasClosed}
-use Rattle.bus_pageslot.specs.Processes.{Process}
+use Rattle.bus_automaton.specs.Processes.{Process}
 use Rattle.bus_pageslot.specs.Seats.{SenderSeat, actions_of}
 use Rattle.bus_pageslot.specs.Turns.{Sends}
 use Rattle.bus_handles.specs.declared.answers.OrderNotEnded.{OrderNotEnded}

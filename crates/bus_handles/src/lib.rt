@@ -24,9 +24,9 @@ pub use bus_receiver::{
     CloseFault, Ended, Heard, Item, Kind, LEAST_LOG_WORDS, LEAST_ROWS_AGAIN, LogFault, LogRead,
     MOST_BYTES, MOST_LOG_WORDS, MOST_MESSAGES, MOST_RECEIVERS, MOST_ROUNDS, MOST_ROWS,
     MOST_ROWS_AGAIN, MOST_SENDERS, MakeFault, Message, Next, Order, Page, PutFault, RecvTurn,
-    Seatable, SendFault, SenderNo, Shape, ThreeWord, Turn, TwoCollect, Unsent, read_log,
-    tenures_needed, tenures_of_sitting, words_needed, words_of_sitting,
+    SendFault, SenderNo, Shape, ThreeWord, Turn, TwoCollect, Unsent, read_log, tenures_needed,
+    tenures_of_sitting, words_needed, words_of_sitting,
 };
-pub use opening::{open, open_cyclic, open_of};
-pub use receivers::{CyclicReceiverHandle, ReceiverHandle, ReceiverHandleOf};
-pub use senders::{CyclicSenderHandle, SenderHandle, SenderHandleOf};
+pub use opening::{open, open_cyclic};
+pub use receivers::ReceiverHandle;
+pub use senders::SenderHandle;

@@ -1,17 +1,18 @@
 //! How a bus is opened: all its handles in one call.
 
-ghost use Rattle.std.specs.Prelude.{All, ◌≡◌, IfOk, IfErr};
+ghost use Rattle.std.specs.Prelude.{All, ◌≡◌, Some, None, IfOk, IfErr};
+ghost use Rattle.bus_machine.specs.Playing.{IsServed, MakeRefused};
+ghost use Rattle.bus_automaton.specs.Buses.{process_by, automaton_by};
+ghost use Rattle.bus_automaton.specs.declared.plans.Plan.{Plan};
 ghost use Rattle.bus_pageslot.specs.Seats.{table_of};
 ghost use Rattle.bus_handles.specs.Handles.{seats_of, IsOpened};
 
-use crate::receivers::{CyclicReceiverHandle, ReceiverHandle, ReceiverHandleOf};
-use crate::senders::{CyclicSenderHandle, SenderHandle, SenderHandleOf};
+use crate::receivers::ReceiverHandle;
+use crate::senders::SenderHandle;
 use bus_adoptcommit::Ratifier;
-use bus_guest::Guest;
-use bus_pageslot::{BusOf, Seatable, SenderOf, TapOf};
-use bus_receiver::ReceiverOf;
+use bus_pageslot::{Bus, Sender, Tap};
+use bus_receiver::Receiver;
 use bus_register::NoMemory;
-use bus_tenure::SenderCore;
 use bus_world::{MakeFault, Shape};
 use rand_pcg::Pcg32;
 use std::alloc::Global;
@@ -24,51 +25,40 @@ pub fn open<Q: Ratifier + Drop>(
     alloc: Global,
     shape: Shape,
 ) -> Result<(Vec<SenderHandle<Q>>, Vec<ReceiverHandle<Q>>), MakeFault>
-    ensures opened { IfOk result
-        (λ made. IsOpened ⟦<SenderCore<Q> as Seatable>⟧.process
-        (⟦<SenderCore<Q> as Seatable>⟧.automaton shape) shape made.0.items made.1.items) }
-    ensures served { IfOk result (λ _. ⟦<SenderCore<Q> as Seatable>⟧.Serves shape) }
-    ensures fault { IfErr result (⟦<SenderCore<Q> as Seatable>⟧.Refuses shape) }
+    ensures opened { let plan : Plan = record { shape = shape; reuse = None } in
+        IfOk result (λ made. IsOpened (process_by Q.Ratifier) (automaton_by Q.Ratifier plan)
+        plan made.0.items made.1.items) }
+    ensures served { IfOk result (λ _. IsServed shape None) }
+    ensures fault { IfErr result (MakeRefused shape None) }
 {
-    open_of::<SenderCore<Q>>(alloc, shape)
+    let (bus, senders, taps) = Bus::<Q>::new(alloc, shape)?;
+    let handles = share(alloc, bus, senders, taps)?;
+    Ok(handles)
 }
 
 /// As `open`, of a bus whose rows of words are used again.
 pub fn open_cyclic<Q: Ratifier + Drop>(
     alloc: Global,
     shape: Shape,
-) -> Result<(Vec<CyclicSenderHandle<Q>>, Vec<CyclicReceiverHandle<Q>>), MakeFault>
-    ensures opened { IfOk result
-        (λ made. IsOpened ⟦<Guest<Q> as Seatable>⟧.process
-        (⟦<Guest<Q> as Seatable>⟧.automaton shape) shape made.0.items made.1.items) }
-    ensures served { IfOk result (λ _. ⟦<Guest<Q> as Seatable>⟧.Serves shape) }
-    ensures fault { IfErr result (⟦<Guest<Q> as Seatable>⟧.Refuses shape) }
+) -> Result<(Vec<SenderHandle<Q>>, Vec<ReceiverHandle<Q>>), MakeFault>
+    ensures opened { let plan : Plan = record { shape = shape; reuse = Some shape.rows } in
+        IfOk result (λ made. IsOpened (process_by Q.Ratifier) (automaton_by Q.Ratifier plan)
+        plan made.0.items made.1.items) }
+    ensures served { IfOk result (λ _. IsServed shape (Some shape.rows)) }
+    ensures fault { IfErr result (MakeRefused shape (Some shape.rows)) }
 {
-    open_of::<Guest<Q>>(alloc, shape)
-}
-
-/// As `open`, of a bus of such senders.
-pub fn open_of<S: Seatable + Drop>(
-    alloc: Global,
-    shape: Shape,
-) -> Result<(Vec<SenderHandleOf<S>>, Vec<ReceiverHandleOf<S>>), MakeFault>
-    ensures opened { IfOk result
-        (λ made. IsOpened S.process (S.automaton shape) shape made.0.items made.1.items) }
-    ensures served { IfOk result (λ _. S.Serves shape) }
-    ensures fault { IfErr result (S.Refuses shape) }
-{
-    let (bus, senders, taps) = BusOf::<S>::new(alloc, shape)?;
+    let (bus, senders, taps) = Bus::<Q>::cyclic(alloc, shape)?;
     let handles = share(alloc, bus, senders, taps)?;
     Ok(handles)
 }
 
 /// A handle for each of these senders and receivers, with their bus.
-fn share<S: Seatable + Drop>(
+fn share<Q: Ratifier + Drop>(
     alloc: Global,
-    bus: BusOf<S>,
-    senders: Vec<SenderOf<S>>,
-    taps: Vec<TapOf<S>>,
-) -> Result<(Vec<SenderHandleOf<S>>, Vec<ReceiverHandleOf<S>>), NoMemory>
+    bus: Bus<Q>,
+    senders: Vec<Sender<Q>>,
+    taps: Vec<Tap<Q>>,
+) -> Result<(Vec<SenderHandle<Q>>, Vec<ReceiverHandle<Q>>), NoMemory>
     requires senders { All (λ sender. table_of sender ≡ bus.table) senders.items }
     requires taps { All (λ tap. tap.table_id ≡ bus.table) taps.items }
     ensures senders { IfOk result (λ made. made.0.items ≡ senders.items) }
@@ -79,12 +69,12 @@ fn share<S: Seatable + Drop>(
     let mut sending = Vec::new(alloc);
     for sender in senders {
         let rng = Pcg32::new(0, u64::from(sender.number().0));
-        sending.push(SenderHandleOf::new(Arc::try_clone(&bus)?, sender, rng))?;
+        sending.push(SenderHandle::new(Arc::try_clone(&bus)?, sender, rng))?;
     }
     let mut receiving = Vec::new(alloc);
     for tap in taps {
-        let receiver = ReceiverOf::new(tap);
-        receiving.push(ReceiverHandleOf::new(Arc::try_clone(&bus)?, receiver))?;
+        let receiver = Receiver::new(tap);
+        receiving.push(ReceiverHandle::new(Arc::try_clone(&bus)?, receiver))?;
     }
     Ok((sending, receiving))
 }

@@ -3,6 +3,7 @@
 ghost use Rattle.std.specs.Prelude.{◌≡◌, ℕ, ◌≤◌, List, length, Some, None, IfOk};
 ghost use Rattle.std.specs.Ordering.{nat_cmp};
 ghost use Rattle.std.specs.Arc.{arc_value};
+ghost use Rattle.bus_automaton.specs.Buses.{process_by, automaton_by};
 ghost use Rattle.bus_pageslot.specs.Endings.{IsLeft};
 ghost use Rattle.bus_pageslot.specs.Rule.{receiver_view_in, known_in};
 ghost use Rattle.bus_pageslot.specs.Listening.{Hears};
@@ -11,54 +12,49 @@ ghost use Rattle.bus_receiver.specs.Listening.{bus_of, Takes, HaveMet, IsTold};
 ghost use Rattle.bus_receiver.specs.Listening.{PassesTo, PassesWhile, item_or_end};
 
 use crate::answers::BusNotEnded;
-use crate::senders::SenderHandleOf;
+use crate::senders::SenderHandle;
+use bus_adoptcommit::{Ratifier, ThreeWord};
 use bus_batch::Item;
 use bus_deliverylog::RecvTurn;
-use bus_guest::Guest;
-use bus_pageslot::{BusOf, Ended, Seatable};
-use bus_receiver::{Next, ReceiverOf};
-use bus_tenure::SenderCore;
+use bus_pageslot::{Bus, Ended};
+use bus_receiver::{Next, Receiver};
 use std::cmp::Ordering;
 use std::marker::Model;
 use std::sync::{Arc, Wait};
 
-/// A receiver with its bus. One thread at a time has it. Its calls are those of `ReceiverOf`, and
+/// A receiver with its bus. One thread at a time has it. Its calls are those of `Receiver`, and
 /// none of them takes memory.
 #[derive(Drop)]
-pub struct ReceiverHandleOf<S: Seatable> {
-    bus: Arc<BusOf<S>>,
-    receiver: ReceiverOf<S>,
+pub struct ReceiverHandle<Q: Ratifier = ThreeWord> {
+    bus: Arc<Bus<Q>>,
+    receiver: Receiver<Q>,
 }
 
-impl<S: Seatable> Model for ReceiverHandleOf<S> {
+impl<Q: Ratifier> Model for ReceiverHandle<Q> {
     ghost use Rattle.std.specs.Prelude.{◌≡◌};
     ghost use Rattle.std.specs.Arc.{arc_value};
+    ghost use Rattle.bus_tenure.specs.Elections.{Elector};
+    ghost use Rattle.bus_core.specs.Senders.{Sender as Held};
     ghost use Rattle.bus_receiver.specs.Listening.{bus_of};
     ghost use Rattle.bus_handles.specs.Handles.{SeatOfBus};
 
-    ghost Value = { SeatOfBus S };
+    ghost Value = { SeatOfBus (Held (Elector Q)) };
 
     ghost view = { λ h. record { bus = arc_value h.bus; me = h.receiver.me } };
 
     ghost invariant = { λ h. bus_of h.receiver ≡ (arc_value h.bus).table };
 }
 
-/// Of a bus with a row of words for each of its tenures.
-pub type ReceiverHandle<Q> = ReceiverHandleOf<SenderCore<Q>>;
-
-/// Of a bus whose rows of words are used again.
-pub type CyclicReceiverHandle<Q> = ReceiverHandleOf<Guest<Q>>;
-
-impl<S: Seatable + Drop> ReceiverHandleOf<S> {
+impl<Q: Ratifier + Drop> ReceiverHandle<Q> {
     ghost use Rattle.bus_handles.specs.Handles.{seat_of};
 
     /// This receiver of this bus.
-    pub(crate) fn new(bus: Arc<BusOf<S>>, receiver: ReceiverOf<S>) -> ReceiverHandleOf<S>
+    pub(crate) fn new(bus: Arc<Bus<Q>>, receiver: Receiver<Q>) -> ReceiverHandle<Q>
         requires { bus_of receiver ≡ (arc_value bus).table }
         ensures bus { result.bus ≡ arc_value bus }
         ensures seat { seat_of result ≡ receiver }
     {
-        ReceiverHandleOf { bus, receiver }
+        ReceiverHandle { bus, receiver }
     }
 
     /// How many words it has read.
@@ -89,7 +85,7 @@ impl<S: Seatable + Drop> ReceiverHandleOf<S> {
         ensures bus { self.new.bus ≡ self.old.bus }
         ensures hears { Hears self.old.me result self.new.me }
     {
-        let bus: &BusOf<S> = &self.bus;
+        let bus: &Bus<Q> = &self.bus;
         self.receiver.turn(bus)
     }
 
@@ -98,7 +94,7 @@ impl<S: Seatable + Drop> ReceiverHandleOf<S> {
         ensures bus { self.new.bus ≡ self.old.bus }
         ensures takes { Takes self.old.me result self.new.me }
     {
-        let bus: &BusOf<S> = &self.bus;
+        let bus: &Bus<Q> = &self.bus;
         self.receiver.take(wait, bus)
     }
 
@@ -108,7 +104,7 @@ impl<S: Seatable + Drop> ReceiverHandleOf<S> {
         ensures bus { self.new.bus ≡ self.old.bus }
         ensures passes { PassesTo self.old.me (item_or_end result) self.new.me }
     {
-        let bus: &BusOf<S> = &self.bus;
+        let bus: &Bus<Q> = &self.bus;
         self.receiver.next_item(wait, bus)
     }
 
@@ -120,28 +116,29 @@ impl<S: Seatable + Drop> ReceiverHandleOf<S> {
         ensures bus { self.new.bus ≡ self.old.bus }
         ensures passes { PassesWhile F.step self.old.me go_on result self.new.me }
     {
-        let bus: &BusOf<S> = &self.bus;
+        let bus: &Bus<Q> = &self.bus;
         self.receiver.next_item_while(wait, bus, go_on)
     }
 
     /// A sender of the same bus tells it of the log: it knows from then on all that the sender has
     /// published.
-    pub fn told<R>(&mut self, sender: &mut SenderHandleOf<S, R>)
+    pub fn told<R>(&mut self, sender: &mut SenderHandle<Q, R>)
         requires { table_of sender.old ≡ self.old.bus.table }
         ensures bus { (self.new.bus ≡ self.old.bus)
             × (table_of sender.new ≡ table_of sender.old) }
-        ensures told { IsTold S.process sender.old.core (actions_of S.process sender.old)
-            (stored_of sender.old) self.old.me self.new.me }
+        ensures told { let P = process_by Q.Ratifier in
+            IsTold P sender.old.core (actions_of P sender.old) (stored_of sender.old)
+            self.old.me self.new.me }
         ensures sender { (sender.new.core ≡ sender.old.core)
             × (sender.new.seat.me ≡ sender.old.seat.me) }
     {
-        let bus: &BusOf<S> = &self.bus;
+        let bus: &Bus<Q> = &self.bus;
         self.receiver.told(&mut sender.sender, bus);
     }
 
     /// Two receivers of one bus meet: from then on both know the log up to the length that is
     /// loaded. Answers how its place compares with the other's: Less where it has read fewer words.
-    pub fn meet(&mut self, other: &mut ReceiverHandleOf<S>) -> Ordering
+    pub fn meet(&mut self, other: &mut ReceiverHandle<Q>) -> Ordering
         requires { other.old.bus.table ≡ self.old.bus.table }
         ensures bus { (self.new.bus ≡ self.old.bus) × (other.new.bus ≡ other.old.bus) }
         ensures order { result
@@ -149,7 +146,7 @@ impl<S: Seatable + Drop> ReceiverHandleOf<S> {
             (receiver_view_in other.old.me.0).place }
         ensures met { HaveMet self.old.me other.old.me self.new.me other.new.me }
     {
-        let bus: &BusOf<S> = &self.bus;
+        let bus: &Bus<Q> = &self.bus;
         self.receiver.meet(&mut other.receiver, bus)
     }
 
@@ -157,17 +154,18 @@ impl<S: Seatable + Drop> ReceiverHandleOf<S> {
     /// is at home. The handle is gone in either case, and with the last one the bus.
     pub fn end(self) -> Result<Ended, BusNotEnded>
         ensures ended { IfOk result
-            (λ left. IsLeft S.process (S.automaton self.bus.shape) self.me.0 left.log
-            (Some left.page)) }
-        ensures senders { IfOk result (λ left. left.senders ≡ self.bus.shape.senders) }
+            (λ left. IsLeft (process_by Q.Ratifier) (automaton_by Q.Ratifier self.bus.plan)
+            self.me.0 left.log (Some left.page)) }
+        ensures senders { IfOk result (λ left. left.senders ≡ self.bus.plan.shape.senders) }
         ensures out { result ≡ Err BusNotEnded.PageOut → (log : List ℕ)
-            × IsLeft S.process (S.automaton self.bus.shape) self.me.0 log None }
+            × IsLeft (process_by Q.Ratifier) (automaton_by Q.Ratifier self.bus.plan)
+            self.me.0 log None }
     {
-        let ReceiverHandleOf { bus, receiver } = self;
+        let ReceiverHandle { bus, receiver } = self;
         let Ok(bus) = Arc::try_unwrap(bus) else {
             return Err(BusNotEnded::InUse);
         };
-        match ReceiverOf::end(bus, receiver) {
+        match Receiver::end(bus, receiver) {
             Ok(ended) => Ok(ended),
             Err(_) => Err(BusNotEnded::PageOut),
         }

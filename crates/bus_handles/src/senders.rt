@@ -7,6 +7,10 @@ ghost use Rattle.bus_batch.specs.Batches.{next_of, CanPut, IsPutFault, CanClose,
 ghost use Rattle.bus_tenure.specs.Core.{is_closed};
 ghost use Rattle.bus_register.specs.declared.registers.Op.{Op};
 ghost use Rattle.bus_world.specs.Headline.{HasPut, HasClosed, puts};
+ghost use Rattle.bus_core.specs.Causes.{HasCause};
+ghost use Rattle.bus_core.specs.Telling.{FeedTells};
+ghost use Rattle.bus_tenure.specs.Elections.{election_of};
+ghost use Rattle.bus_automaton.specs.Buses.{process_by};
 ghost use Rattle.bus_pageslot.specs.Seats.{TookAndTold, table_of, actions_of, stored_of};
 ghost use Rattle.bus_pageslot.specs.Turns.{Sends, SendsAsking, StopsWaiting};
 ghost use Rattle.bus_pageslot.specs.Sendings.{waiting_of, HasSent, HasSentPart};
@@ -14,77 +18,73 @@ ghost use Rattle.bus_handles.specs.Answers.{delivered_turn, not_delivered_turn};
 ghost use Rattle.bus_handles.specs.Closings.{ClosesAndSends, NotEndedFor};
 
 use crate::answers::{Delivered, NotDelivered, OrderNotEnded, answered, order_ended};
+use bus_adoptcommit::{Ratifier, ThreeWord};
 use bus_batch::{CloseFault, Message, PutFault};
-use bus_guest::Guest;
-use bus_pageslot::{BusOf, Seatable, SenderOf, Unsent};
+use bus_pageslot::{Bus, Sender, Unsent};
 use bus_register::{Kind, SenderNo};
-use bus_tenure::{SenderCore, Turn};
+use bus_tenure::Turn;
 use rand_core::Rng;
 use rand_pcg::Pcg32;
 use std::marker::Model;
 use std::sync::{Arc, Wait};
 
 /// A sender with its bus, and with a generator of the random words that it votes by. One thread at
-/// a time has it. Its calls are those of `SenderOf`, and none of them takes memory.
+/// a time has it. Its calls are those of `Sender`, and none of them takes memory.
 #[derive(Drop)]
-pub struct SenderHandleOf<S: Seatable, R = Pcg32> {
-    bus: Arc<BusOf<S>>,
-    pub(crate) sender: SenderOf<S>,
+pub struct SenderHandle<Q: Ratifier = ThreeWord, R = Pcg32> {
+    bus: Arc<Bus<Q>>,
+    pub(crate) sender: Sender<Q>,
     rng: R,
 }
 
-impl<S: Seatable, R> Model for SenderHandleOf<S, R> {
+impl<Q: Ratifier, R> Model for SenderHandle<Q, R> {
     ghost use Rattle.std.specs.Prelude.{◌≡◌};
     ghost use Rattle.std.specs.Arc.{arc_value};
+    ghost use Rattle.bus_tenure.specs.Elections.{Elector};
+    ghost use Rattle.bus_core.specs.Senders.{Sender as Held};
     ghost use Rattle.bus_pageslot.specs.Seats.{SenderSeat, table_of};
 
-    ghost Value = { SenderSeat S };
+    ghost Value = { SenderSeat (Held (Elector Q)) };
 
     ghost view = { λ h. h.sender };
 
     ghost invariant = { λ h. table_of h.sender ≡ (arc_value h.bus).table };
 }
 
-/// Of a bus with a row of words for each of its tenures.
-pub type SenderHandle<Q, R = Pcg32> = SenderHandleOf<SenderCore<Q>, R>;
-
-/// Of a bus whose rows of words are used again.
-pub type CyclicSenderHandle<Q, R = Pcg32> = SenderHandleOf<Guest<Q>, R>;
-
-impl<S: Seatable + Drop, R: Rng + Drop> SenderHandleOf<S, R> {
+impl<Q: Ratifier + Drop, R: Rng + Drop> SenderHandle<Q, R> {
     /// This sender of this bus.
-    pub(crate) fn new(bus: Arc<BusOf<S>>, sender: SenderOf<S>, rng: R) -> SenderHandleOf<S, R>
+    pub(crate) fn new(bus: Arc<Bus<Q>>, sender: Sender<Q>, rng: R) -> SenderHandle<Q, R>
         requires { table_of sender ≡ (arc_value bus).table }
         ensures { result ≡ sender }
     {
-        SenderHandleOf { bus, sender, rng }
+        SenderHandle { bus, sender, rng }
     }
 
     /// The same sender, which votes by the words of this generator from now on.
-    pub fn with_rng<T: Rng + Drop>(self, rng: T) -> SenderHandleOf<S, T>
+    pub fn with_rng<T: Rng + Drop>(self, rng: T) -> SenderHandle<Q, T>
         ensures { result ≡ self }
     {
-        let SenderHandleOf { bus, sender, .. } = self;
-        SenderHandleOf { bus, sender, rng }
+        let SenderHandle { bus, sender, .. } = self;
+        SenderHandle { bus, sender, rng }
     }
 
     /// The sender's number, from 0 on.
     pub fn number(&self) -> SenderNo
-        ensures { result.0 ≡ S.process.me self.now.core }
+        ensures { result.0 ≡ (process_by Q.Ratifier).me self.now.core }
     {
         self.sender.number()
     }
 
     /// How many messages wait in its batch, at most 16.
     pub fn pending(&self) -> u64
-        ensures { result ≡ length (waiting_of S.process self.now) }
+        ensures { result ≡ length (waiting_of (process_by Q.Ratifier) self.now) }
     {
         self.sender.pending()
     }
 
     /// The number that the next message gets.
     pub fn next_number(&self) -> u64
-        ensures { result ≡ next_of (S.process.queue self.now.core) }
+        ensures { result ≡ next_of ((process_by Q.Ratifier).queue self.now.core) }
     {
         self.sender.next_number()
     }
@@ -92,7 +92,7 @@ impl<S: Seatable + Drop, R: Rng + Drop> SenderHandleOf<S, R> {
     /// It sends nothing more: it has closed the order, or has learned that the order has ended.
     /// False as long as its close waits to be sent.
     pub fn is_closed(&self) -> bool
-        ensures { result ≡ is_closed (S.process.queue self.now.core).phase }
+        ensures { result ≡ is_closed ((process_by Q.Ratifier).queue self.now.core).phase }
     {
         self.sender.is_closed()
     }
@@ -106,15 +106,15 @@ impl<S: Seatable + Drop, R: Rng + Drop> SenderHandleOf<S, R> {
 
     /// What its next step is for; none where none is due.
     pub fn kind(&self) -> Option<Kind>
-        ensures kind { result ≡ S.process.kind self.now.core }
-        ensures cause { IfSome result (S.HasCause self.now.core) }
+        ensures kind { result ≡ (process_by Q.Ratifier).kind self.now.core }
+        ensures cause { IfSome result (HasCause Q.protocol self.now.core) }
     {
         self.sender.kind()
     }
 
     /// Its next step asks for a random word.
     pub fn wants_word(&self) -> bool
-        ensures { result ≡ S.process.wants_word self.now.core }
+        ensures { result ≡ (process_by Q.Ratifier).wants_word self.now.core }
     {
         self.sender.wants_word()
     }
@@ -122,7 +122,7 @@ impl<S: Seatable + Drop, R: Rng + Drop> SenderHandleOf<S, R> {
     /// How many turns its election takes at most, with the one that takes the page; 0 where none
     /// is begun.
     pub fn turns_left(&self) -> u64
-        ensures { result ≡ S.process.turns_left self.now.core }
+        ensures { result ≡ (process_by Q.Ratifier).turns_left self.now.core }
     {
         self.sender.turns_left()
     }
@@ -130,15 +130,17 @@ impl<S: Seatable + Drop, R: Rng + Drop> SenderHandleOf<S, R> {
     /// Appends a message of at most 56 bytes to its batch of at most 16, and gives its number,
     /// which counts the messages of this sender from 0 on. Takes no step. A fault changes nothing.
     pub fn put(&mut self, bytes: &[u8]) -> Result<u64, PutFault>
-        ensures number { IfOk result (λ number. number ≡ next_of (S.process.queue self.old.core)) }
+        ensures number { let P = process_by Q.Ratifier in
+            IfOk result (λ number. number ≡ next_of (P.queue self.old.core)) }
         ensures taken { OnOk result
-            (self.new.core ≡ S.process.with_message self.old.core bytes.now) }
-        ensures action { IfOk result
-            (λ number. actions_of S.process self.new
-            ≡ actions_of S.process self.old ++ HasPut number bytes.now ∷ []) }
-        ensures could { OnOk result (CanPut (S.process.queue self.old.core) (length bytes.now)) }
+            (self.new.core ≡ (process_by Q.Ratifier).with_message self.old.core bytes.now) }
+        ensures action { let P = process_by Q.Ratifier in IfOk result
+            (λ number. actions_of P self.new
+            ≡ actions_of P self.old ++ HasPut number bytes.now ∷ []) }
+        ensures could { let P = process_by Q.Ratifier in
+            OnOk result (CanPut (P.queue self.old.core) (length bytes.now)) }
         ensures fault { IfErr result
-            (IsPutFault (S.process.queue self.old.core) (length bytes.now)) }
+            (IsPutFault ((process_by Q.Ratifier).queue self.old.core) (length bytes.now)) }
         ensures refused { OnErr result (self.new.core ≡ self.old.core) }
         ensures seat { self.new.seat ≡ self.old.seat }
     {
@@ -149,11 +151,12 @@ impl<S: Seatable + Drop, R: Rng + Drop> SenderHandleOf<S, R> {
     /// in its batch or on their way, and where it is closing or closed. Takes no step. A fault
     /// changes nothing.
     pub fn close(&mut self) -> Result<(), CloseFault>
-        ensures taken { OnOk result (self.new.core ≡ S.process.with_close self.old.core) }
-        ensures action { OnOk result
-            (actions_of S.process self.new ≡ actions_of S.process self.old ++ HasClosed ∷ []) }
-        ensures could { OnOk result (CanClose (S.process.queue self.old.core)) }
-        ensures fault { IfErr result (IsCloseFault (S.process.queue self.old.core)) }
+        ensures taken { let P = process_by Q.Ratifier in
+            OnOk result (self.new.core ≡ P.with_close self.old.core) }
+        ensures action { let P = process_by Q.Ratifier in
+            OnOk result (actions_of P self.new ≡ actions_of P self.old ++ HasClosed ∷ []) }
+        ensures could { OnOk result (CanClose ((process_by Q.Ratifier).queue self.old.core)) }
+        ensures fault { IfErr result (IsCloseFault ((process_by Q.Ratifier).queue self.old.core)) }
         ensures refused { OnErr result (self.new.core ≡ self.old.core) }
         ensures seat { self.new.seat ≡ self.old.seat }
     {
@@ -164,12 +167,13 @@ impl<S: Seatable + Drop, R: Rng + Drop> SenderHandleOf<S, R> {
     /// other steps do not look at it.
     pub fn turn(&mut self, word: u32) -> Turn
         ensures table { table_of self.new ≡ table_of self.old }
-        ensures rests { S.process.op self.old.core word ≡ None
-            → (self.new ≡ self.old) × (result ≡ S.process.rest self.old.core) }
-        ensures steps { (op : Op) → S.process.op self.old.core word ≡ Some op
-            → TookAndTold S.process S.AnswerTells self.old word result self.new }
+        ensures rests { let P = process_by Q.Ratifier in P.op self.old.core word ≡ None
+            → (self.new ≡ self.old) × (result ≡ P.rest self.old.core) }
+        ensures steps { let P = process_by Q.Ratifier in (op : Op)
+            → P.op self.old.core word ≡ Some op
+            → TookAndTold P (FeedTells (election_of Q.Ratifier)) self.old word result self.new }
     {
-        let bus: &BusOf<S> = &self.bus;
+        let bus: &Bus<Q> = &self.bus;
         self.sender.turn(bus, word)
     }
 
@@ -179,10 +183,11 @@ impl<S: Seatable + Drop, R: Rng + Drop> SenderHandleOf<S, R> {
     #[must_use]
     pub fn send<W: Wait>(&mut self, wait: &W) -> Turn
         ensures table { table_of self.new ≡ table_of self.old }
-        ensures sends { Sends S.process self.old result self.new }
-        ensures puts { puts (actions_of S.process self.new) ≡ puts (actions_of S.process self.old) }
+        ensures sends { Sends (process_by Q.Ratifier) self.old result self.new }
+        ensures puts { let P = process_by Q.Ratifier in
+            puts (actions_of P self.new) ≡ puts (actions_of P self.old) }
     {
-        let bus: &BusOf<S> = &self.bus;
+        let bus: &Bus<Q> = &self.bus;
         self.sender.send(wait, bus, &mut self.rng)
     }
 
@@ -195,11 +200,13 @@ impl<S: Seatable + Drop, R: Rng + Drop> SenderHandleOf<S, R> {
         requires { F.IsAlwaysCallable go_on }
         ensures table { table_of self.new ≡ table_of self.old }
         ensures sends { IfSome result
-            (λ turn. SendsAsking S.process F.step self.old go_on turn self.new) }
-        ensures stops { IfNone result (StopsWaiting S.process F.step self.old go_on self.new) }
-        ensures puts { puts (actions_of S.process self.new) ≡ puts (actions_of S.process self.old) }
+            (λ turn. SendsAsking (process_by Q.Ratifier) F.step self.old go_on turn self.new) }
+        ensures stops { IfNone result
+            (StopsWaiting (process_by Q.Ratifier) F.step self.old go_on self.new) }
+        ensures puts { let P = process_by Q.Ratifier in
+            puts (actions_of P self.new) ≡ puts (actions_of P self.old) }
     {
-        let bus: &BusOf<S> = &self.bus;
+        let bus: &Bus<Q> = &self.bus;
         self.sender.send_while(wait, bus, &mut self.rng, go_on)
     }
 
@@ -209,11 +216,11 @@ impl<S: Seatable + Drop, R: Rng + Drop> SenderHandleOf<S, R> {
     /// It waits as `send` does, and that it ends is not promised.
     pub fn send_all<W: Wait>(&mut self, wait: &W, messages: &[Message]) -> Result<(), Unsent>
         ensures table { table_of self.new ≡ table_of self.old }
-        ensures all { OnOk result (HasSent S.process self.old messages.now self.new) }
+        ensures all { OnOk result (HasSent (process_by Q.Ratifier) self.old messages.now self.new) }
         ensures part { IfErr result
-            (λ unsent. HasSentPart S.process self.old messages.now unsent self.new) }
+            (λ unsent. HasSentPart (process_by Q.Ratifier) self.old messages.now unsent self.new) }
     {
-        let bus: &BusOf<S> = &self.bus;
+        let bus: &Bus<Q> = &self.bus;
         self.sender.send_all(wait, bus, &mut self.rng, messages)
     }
 
@@ -222,12 +229,13 @@ impl<S: Seatable + Drop, R: Rng + Drop> SenderHandleOf<S, R> {
     pub fn deliver<W: Wait>(&mut self, wait: &W) -> Result<Delivered, NotDelivered>
         ensures table { table_of self.new ≡ table_of self.old }
         ensures delivered { IfOk result
-            (λ done. Sends S.process self.old (delivered_turn done) self.new) }
+            (λ done. Sends (process_by Q.Ratifier) self.old (delivered_turn done) self.new) }
         ensures not_delivered { IfErr result
-            (λ why. Sends S.process self.old (not_delivered_turn why) self.new) }
-        ensures puts { puts (actions_of S.process self.new) ≡ puts (actions_of S.process self.old) }
+            (λ why. Sends (process_by Q.Ratifier) self.old (not_delivered_turn why) self.new) }
+        ensures puts { let P = process_by Q.Ratifier in
+            puts (actions_of P self.new) ≡ puts (actions_of P self.old) }
     {
-        let bus: &BusOf<S> = &self.bus;
+        let bus: &Bus<Q> = &self.bus;
         let turn = self.sender.send(wait, bus, &mut self.rng);
         answered(turn)
     }
@@ -236,14 +244,17 @@ impl<S: Seatable + Drop, R: Rng + Drop> SenderHandleOf<S, R> {
     /// close was not taken, or what sending it was answered.
     pub fn end_order<W: Wait>(&mut self, wait: &W) -> Result<(), OrderNotEnded>
         ensures table { table_of self.new ≡ table_of self.old }
-        ensures ended { OnOk result (ClosesAndSends S.process self.old Turn.Closed self.new) }
-        ensures not_ended { IfErr result (λ why. NotEndedFor S.process self.old why self.new) }
-        ensures puts { puts (actions_of S.process self.new) ≡ puts (actions_of S.process self.old) }
+        ensures ended { OnOk result
+            (ClosesAndSends (process_by Q.Ratifier) self.old Turn.Closed self.new) }
+        ensures not_ended { IfErr result
+            (λ why. NotEndedFor (process_by Q.Ratifier) self.old why self.new) }
+        ensures puts { let P = process_by Q.Ratifier in
+            puts (actions_of P self.new) ≡ puts (actions_of P self.old) }
     {
         if let Err(why) = self.sender.close() {
             return Err(OrderNotEnded::Close(why));
         }
-        let bus: &BusOf<S> = &self.bus;
+        let bus: &Bus<Q> = &self.bus;
         let turn = self.sender.send(wait, bus, &mut self.rng);
         order_ended(turn)
     }

@@ -20,10 +20,10 @@ use Rattle.bus_world.specs.Playing.{TurnAnswers, PutGives, CloseGives, RecvAnswe
 use Rattle.bus_world.specs.Trails.{New, Then, turning_actions, turn_actions, heard_of, trails_grown as plain_grown, Reached as PlainReached}
 use Rattle.bus_world.specs.Turning.{side_after, core_after, words_after, number_found, home_after, owners_after}
 use Rattle.bus_world.specs.World.{Bus, Event, Put, Close, Turn, Recv, Stop, SenderDoes, ReceiverDoes, StopDoes, IsNewReceiver, is_set, can_close, is_open, new_core, going as plain_going, with_sender as plain_with, put_in as plain_put, close_in as plain_close}
-use Rattle.bus_world.specs.Yards.{actions_with}
+use Rattle.bus_world.specs.CyclicProtocols.{actions_with}
 use Rattle.bus_world.specs.declared.events.Answer.{Answer}
 use Rattle.bus_world.specs.declared.events.Answer.TheVariants as answer
-use Rattle.bus_machine.specs.Bridge.{of_bus, plain_trails, IsPlainEvent, HappensAtNone, IsPlain}
+use Rattle.bus_machine.specs.Proved.Bridge.{of_bus, plain_trails, IsPlainEvent, HappensAtNone, IsPlain}
 use Rattle.bus_machine.specs.Machine.{Machine, Trails, Reached, New as Start, Then as Next, TakesTurn, TakesPut, TakesClose, StopsNow, Hears, Happens, IsNew, no_machine_trails, trails_grown, turn_grown, turn_trails, log_place, going, with_sender, put_in, close_in, machine_after, found, turn_answer}
 
 closed_by : {A : Type 0} (o b : Bool) (xs : List A) → o ≡ true → b ≡ false → xs ≡ [] → o && ((cond b false true) && is_empty xs) ≡ true

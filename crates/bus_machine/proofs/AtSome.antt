@@ -14,13 +14,13 @@ use Rattle.bus_core.proofs.Bridged.{at_some}
 use Rattle.bus_core.specs.Keeping.{new_sender, queue_of}
 use Rattle.bus_core.specs.Senders.{Sender, Situation, Does, Scans, Clears, again, situation, at_home, pinning, reclaiming}
 use Rattle.bus_core.specs.Table.{line, line_now}
-use Rattle.bus_cyclic.proofs.CyclicLaws.{next_seen}
-use Rattle.bus_cyclic.specs.Cyclic.{CyclicBus}
-use Rattle.bus_cyclic.specs.Following.{Steps, ring_trails_grown, TurnsWithin}
-use Rattle.bus_cyclic.specs.Following as following
-use Rattle.bus_cyclic.specs.Happening.{GuestDoes, ReaderDoes, TurnAnswers, RecvAnswers, core_found}
-use Rattle.bus_guest.specs.Guests.{Due, Pins, Reclaims, Goes, place_for, log_from, due_beside, due_home, due_reclaimed, reclaim_due, core_looked, core_going}
-use Rattle.bus_guest.specs.Turns.{Visitor, due, op_due, op_placed, visitor_due, sizes_of, queue_seen, answer_due}
+use Rattle.bus_machine.proofs.Cyclic.CyclicLaws.{next_seen}
+use Rattle.bus_machine.specs.Proved.Cyclic.{OwnedCyclicMachine}
+use Rattle.bus_machine.specs.Proved.Following.{Steps, ring_trails_grown, TurnsWithin}
+use Rattle.bus_machine.specs.Proved.Following as following
+use Rattle.bus_machine.specs.Proved.Happening.{ParticipantDoes, ReaderDoes, TurnAnswers, RecvAnswers, core_found}
+use Rattle.bus_core.specs.Reusing.Participants.{Due, Pins, Reclaims, Goes, place_for, log_from, due_beside, due_home, due_reclaimed, reclaim_due, core_looked, core_going}
+use Rattle.bus_core.specs.Reusing.Turns.{Participant, due, op_due, op_placed, participant_due, sizes_of, queue_seen, answer_due}
 use Rattle.bus_presence.specs.Reclamation.{presence_at}
 use Rattle.bus_presence.specs.Reclaimers.{Reclaiming}
 use Rattle.bus_presence.specs.Pins.{step_at}
@@ -33,17 +33,17 @@ use Rattle.bus_tenure.specs.declared.turns.Turn.{Turn as Answered}
 use Rattle.bus_world.proofs.EventTrails.{put_taken}
 use Rattle.bus_world.specs.Headline.{HasPut, HasClosed}
 use Rattle.bus_world.specs.Playing.{PutGives, CloseGives, StopGives}
-use Rattle.bus_world.specs.Rings.{Ring, RingTrails, RingReached, NewRing, TurnTaken, PutTaken, CloseTaken, RecvTaken, StopTaken, ring_after, ring_actions, ring_reclaims, visitor_moved}
-use Rattle.bus_world.specs.Rings as rings
+use Rattle.bus_world.specs.CyclicMachines.{CyclicMachine, CyclicTrails, CyclicReached, NewCyclic, TurnTaken, PutTaken, CloseTaken, RecvTaken, StopTaken, ring_after, ring_actions, ring_reclaims, participant_moved}
+use Rattle.bus_world.specs.CyclicMachines as rings
 use Rattle.bus_world.specs.Trails.{step_action, put_actions, close_actions}
 use Rattle.bus_world.specs.Turning.{words_after, number_found, home_moved, core_moved, after_step, owners_by}
 use Rattle.bus_world.specs.World.{Event, Put, Close, Turn, Recv, Stop, is_set, new_core, IsNewReceiver}
-use Rattle.bus_world.specs.Yards.{word_found, actions_with, answers_with}
+use Rattle.bus_world.specs.CyclicProtocols.{word_found, actions_with, answers_with}
 use Rattle.bus_world.specs.declared.events.Answer.{Answer}
 use Rattle.bus_world.specs.declared.events.Answer.TheVariants as answer
 use Rattle.bus_machine.proofs.AtNone.{close_taken, event_reuse}
 use Rattle.bus_machine.proofs.Takes.{takes_told}
-use Rattle.bus_machine.specs.Bridge.{of_ring, of_cyclic, ring_trails, AreSized, IsCyclicEvent, HappensAtSome, IsRingOf}
+use Rattle.bus_machine.specs.Proved.Bridge.{of_ring, of_cyclic, ring_trails, AreSized, IsCyclicEvent, HappensAtSome, IsCyclicOf}
 use Rattle.bus_machine.specs.Machine.{Machine, Trails, Reached, New as Start, Then as Next, TakesTurn, TakesPut, TakesClose, StopsNow, Hears, Happens, IsNew, IsOnWord, no_machine_trails, log_place, last_of, going, with_sender, put_in, close_in, moved, machine_after, found, turn_answer, turn_trails, turn_grown, trails_grown}
 
 -- ---- layout and rows stay
@@ -91,12 +91,12 @@ module _ {E : Type 0} (X : Election E) where
   going_layout c (GivesBack t page reason) got word = refl
   going_layout c (HasHanded t reason) got word = refl
 
-  pub due_layout : (v : Visitor E) (d : Due E) (m : PageMove) (home : Option Page) (got word : ℕ) → (visitor_moved m home (visitor_due X v d got word)).core.layout ≡ v.core.layout
+  pub due_layout : (v : Participant E) (d : Due E) (m : PageMove) (home : Option Page) (got word : ℕ) → (participant_moved m home (participant_due X v d got word)).core.layout ≡ v.core.layout
   due_layout v (Pins o) m home got word = moved_layout m home _ ∙ looked_layout v.core v.pin got
   due_layout v (Reclaims s o) m home got word = moved_layout m home _
   due_layout v (Goes z) m home got word = moved_layout m home _ ∙ going_layout v.core z got word
 
-  pub due_rows : (v : Visitor E) (d : Due E) (m : PageMove) (home : Option Page) (got word : ℕ) → (visitor_moved m home (visitor_due X v d got word)).rows ≡ v.rows
+  pub due_rows : (v : Participant E) (d : Due E) (m : PageMove) (home : Option Page) (got word : ℕ) → (participant_moved m home (participant_due X v d got word)).rows ≡ v.rows
   due_rows v (Pins o) m home got word = refl
   due_rows v (Reclaims s o) m home got word = refl
   due_rows v (Goes z) m home got word = refl
@@ -113,7 +113,7 @@ beside_log : (from at words stored : ℕ) → from + words + stored ≡ from + (
 beside_log from at words stored = omega arith
 
 module _ {E : Type 0} (X : Election E) where
-  op_own : (v : Visitor E) (z : Own E) (word : ℕ) → (line X (again v) (Does z)).op word ≡ op_placed (place_for v.core.layout v.rows z) (op_at X v.core z word)
+  op_own : (v : Participant E) (z : Own E) (word : ℕ) → (line X (again v) (Does z)).op word ≡ op_placed (place_for v.core.layout v.rows z) (op_at X v.core z word)
   op_own v IsClosed word = refl
   op_own v IsIdle word = refl
   op_own v IsSpent word = refl
@@ -126,7 +126,7 @@ module _ {E : Type 0} (X : Election E) where
   op_own v (GivesBack t page reason) word = refl
   op_own v (HasHanded t reason) word = refl
 
-  action_own : (v : Visitor E) (z : Own E) (got word : ℕ) (a : Answered) → step_action (line X (again v) (Does z)).kind (line X (again v) (Does z)).tenure got ((line X (again v) (Does z)).chosen got word) a ≡ step_action (kind_at X v.core z) (tenure_at X v.core z) got (chosen_at X v.core z got word) a
+  action_own : (v : Participant E) (z : Own E) (got word : ℕ) (a : Answered) → step_action (line X (again v) (Does z)).kind (line X (again v) (Does z)).tenure got ((line X (again v) (Does z)).chosen got word) a ≡ step_action (kind_at X v.core z) (tenure_at X v.core z) got (chosen_at X v.core z got word) a
   action_own v IsClosed got word a = refl
   action_own v IsIdle got word a = refl
   action_own v IsSpent got word a = refl
@@ -140,36 +140,36 @@ module _ {E : Type 0} (X : Election E) where
   action_own v (HasHanded t reason) got word a = refl
 
   -- ---- the trails of a turn
-  module _ (b : Ring E) (s word : ℕ) (T : Trails) (a : Answered) where
-    abbrev ring_grown : Visitor E → Due E → RingTrails
+  module _ (b : CyclicMachine E) (s word : ℕ) (T : Trails) (a : Answered) where
+    abbrev ring_grown : Participant E → Due E → CyclicTrails
     ring_grown v d = record { pins = rings.ring_trails b s d T.pins; reclaims = ring_reclaims b s d T.reclaims; actions = ring_actions X b s v d word a T.actions; heard = T.heard }
 
-    abbrev grown_by : Visitor E → Situation E → RingTrails
+    abbrev grown_by : Participant E → Situation E → CyclicTrails
     grown_by v z = ring_trails (turn_trails z (line X (again v) z) s (found (of_ring b []) (line X (again v) z) word) word a T)
 
-    Fits : Visitor E → Type 0
+    Fits : Participant E → Type 0
     Fits v = (v.core.layout ≡ b.layout) × (v.rows ≡ b.rows)
 
-    grown_own : (v : Visitor E) (z : Own E) → v.core.layout ≡ b.layout → v.rows ≡ b.rows → grown_by v (Does z) ≡ ring_grown v (Goes z)
+    grown_own : (v : Participant E) (z : Own E) → v.core.layout ≡ b.layout → v.rows ≡ b.rows → grown_by v (Does z) ≡ ring_grown v (Goes z)
     grown_own v z i j =
         let words = slice_index b.words in
         let got : found (of_ring b []) (line X (again v) (Does z)) word ≡ word_found (place_for b.layout b.rows z) words (op_at X v.core z word) =
         ap (number_found words) (op_own v z word) ∙ found_placed (place_for v.core.layout v.rows z) words (op_at X v.core z word)
         ∙ ap (λ x. word_found (place_for x v.rows z) words (op_at X v.core z word)) i ∙ ap (λ r. word_found (place_for b.layout r z) words (op_at X v.core z word)) j in
-        ap (λ d. record (ring_trails T) { actions = Rattle.bus_world.specs.Yards.actions_with s d T.actions })
+        ap (λ d. record (ring_trails T) { actions = Rattle.bus_world.specs.CyclicProtocols.actions_with s d T.actions })
         (ap (λ g. step_action (line X (again v) (Does z)).kind (line X (again v) (Does z)).tenure g ((line X (again v) (Does z)).chosen g word) a) got ∙ action_own v z _ word a)
 
-    grown_reclaimed : (v : Visitor E) (r : Reclaiming) (z : Own E) (p q : Bool) → v.core.layout ≡ b.layout → v.rows ≡ b.rows
+    grown_reclaimed : (v : Participant E) (r : Reclaiming) (z : Own E) (p q : Bool) → v.core.layout ≡ b.layout → v.rows ≡ b.rows
         → grown_by v (cond p (Scans r) (cond q (Clears r) (Does z))) ≡ ring_grown v (due_reclaimed r (cond p (Some (Load record { 0 = r.presences + r.scanned })) (cond q (Some (Store record { 0 = r.row + r.cleared } 0)) None)) z)
     grown_reclaimed v r z true q i j = refl
     grown_reclaimed v r z false true i j = refl
     grown_reclaimed v r z false false i j = grown_own v z i j
 
-    grown_reclaiming : (v : Visitor E) (r : Option Reclaiming) (z : Own E) → v.core.layout ≡ b.layout → v.rows ≡ b.rows → grown_by v (reclaiming r z) ≡ ring_grown v (due_home r z)
+    grown_reclaiming : (v : Participant E) (r : Option Reclaiming) (z : Own E) → v.core.layout ≡ b.layout → v.rows ≡ b.rows → grown_by v (reclaiming r z) ≡ ring_grown v (due_home r z)
     grown_reclaiming v None z i j = grown_own v z i j
     grown_reclaiming v (Some r) z i j = grown_reclaimed v r z (nat_lt r.scanned r.senders) (nat_lt r.cleared r.width) i j
 
-    grown_home : (v : Visitor E) (r : Option Reclaiming) (z : Own E) → v.core.layout ≡ b.layout → v.rows ≡ b.rows → grown_by v (at_home r z) ≡ ring_grown v (due_home (reclaim_due z r) z)
+    grown_home : (v : Participant E) (r : Option Reclaiming) (z : Own E) → v.core.layout ≡ b.layout → v.rows ≡ b.rows → grown_by v (at_home r z) ≡ ring_grown v (due_home (reclaim_due z r) z)
     grown_home v r (GivesBack t page reason) i j = grown_reclaiming v r (GivesBack t page reason) i j
     grown_home v r IsClosed i j = grown_own v IsClosed i j
     grown_home v r IsIdle i j = grown_own v IsIdle i j
@@ -182,7 +182,7 @@ module _ {E : Type 0} (X : Election E) where
     grown_home v r (StoresLength t page stored) i j = grown_own v (StoresLength t page stored) i j
     grown_home v r (HasHanded t reason) i j = grown_own v (HasHanded t reason) i j
 
-    grown_pinning : (v : Visitor E) (u : Pin) (z : Own E) → v.core.layout ≡ b.layout → v.rows ≡ b.rows → grown_by v (pinning u v.reclaimer z) ≡ ring_grown v (due_beside (step_at u (presence_at (sizes_of v) v.core.me) stage_at) v.reclaimer z)
+    grown_pinning : (v : Participant E) (u : Pin) (z : Own E) → v.core.layout ≡ b.layout → v.rows ≡ b.rows → grown_by v (pinning u v.reclaimer z) ≡ ring_grown v (due_beside (step_at u (presence_at (sizes_of v) v.core.me) stage_at) v.reclaimer z)
     grown_pinning v Away z i j = grown_home v v.reclaimer z i j
     grown_pinning v (Announcing t) z i j = refl
     grown_pinning v (Validating t) z i j = refl
@@ -190,51 +190,51 @@ module _ {E : Type 0} (X : Election E) where
     grown_pinning v (Unpinning t) z i j = refl
     grown_pinning v (Invalidated t) z i j = refl
 
-    pub grown_is : (v : Visitor E) → v.core.layout ≡ b.layout → v.rows ≡ b.rows → grown_by v (situation X (again v)) ≡ ring_grown v (due X v)
+    pub grown_is : (v : Participant E) → v.core.layout ≡ b.layout → v.rows ≡ b.rows → grown_by v (situation X (again v)) ≡ ring_grown v (due X v)
     grown_is v i j = grown_pinning v v.pin (situation_of X v.core) i j
 
 -- ---- a sender that goes on
 module _ {E : Type 0} where
-  abbrev FitsIn : Ring E → Visitor E → Type 0
+  abbrev FitsIn : CyclicMachine E → Participant E → Type 0
   FitsIn b v = (v.core.layout ≡ b.layout) × (v.rows ≡ b.rows)
 
-  fit_after : (b : Ring E) → AreSized b → (s : ℕ) (v n : Visitor E) → slice_get b.guests s ≡ Some v → n.core.layout ≡ v.core.layout → n.rows ≡ v.rows → (p : ℕ) (w : Visitor E) → slice_get (slice_set b.guests s n) p ≡ Some w → FitsIn b w
+  fit_after : (b : CyclicMachine E) → AreSized b → (s : ℕ) (v n : Participant E) → slice_get b.participants s ≡ Some v → n.core.layout ≡ v.core.layout → n.rows ≡ v.rows → (p : ℕ) (w : Participant E) → slice_get (slice_set b.participants s n) p ≡ Some w → FitsIn b w
   fit_after b fit s v n at i j p w here = elim (cases_eq p s) [
-    | inl same ↦ subst (FitsIn b) (same_Some _ _ (sym (get_set_same b.guests s n (slice_get_within b.guests s v at)) ∙ sym (ap (slice_get (slice_set b.guests s n)) same) ∙ here)) (i ∙ (fit s v at).0, j ∙ (fit s v at).1)
-    | inr ne ↦ fit p w (sym (get_set_other b.guests s n p ne) ∙ here)
+    | inl same ↦ subst (FitsIn b) (same_Some _ _ (sym (get_set_same b.participants s n (slice_get_within b.participants s v at)) ∙ sym (ap (slice_get (slice_set b.participants s n)) same) ∙ here)) (i ∙ (fit s v at).0, j ∙ (fit s v at).1)
+    | inr ne ↦ fit p w (sym (get_set_other b.participants s n p ne) ∙ here)
   ]
 
-  opened_at : (t : Bool) (xs : Option (Sender E)) (o : Option (Visitor E)) (v : Sender E) → xs ≡ option_map again o → cond t None xs ≡ Some v → (u : Visitor E) × (cond t None o ≡ Some u) × (v ≡ again u) × (o ≡ Some u)
+  opened_at : (t : Bool) (xs : Option (Sender E)) (o : Option (Participant E)) (v : Sender E) → xs ≡ option_map again o → cond t None xs ≡ Some v → (u : Participant E) × (cond t None o ≡ Some u) × (v ≡ again u) × (o ≡ Some u)
   opened_at true xs o v e g = absurd cc
   opened_at false xs None v e g = absurd (let q : None ≡ Some v = sym e ∙ g in cc)
   opened_at false xs (Some u) v e g = (u, refl, same_Some _ _ (sym g ∙ e), refl)
 
-  pub opened : (z : CyclicBus E) (s : ℕ) (v : Sender E) → going (of_cyclic z) s ≡ Some v → (u : Visitor E) × (rings.guest_going z.ring s ≡ Some u) × (v ≡ again u) × (slice_get z.ring.guests s ≡ Some u)
-  opened z s v g = opened_at (is_set (slice_get z.ring.stopped s)) (slice_get (map again z.ring.guests) s) (slice_get z.ring.guests s) v (slice_get-map again z.ring.guests s) g
+  pub opened : (z : OwnedCyclicMachine E) (s : ℕ) (v : Sender E) → going (of_cyclic z) s ≡ Some v → (u : Participant E) × (rings.participant_going z.ring s ≡ Some u) × (v ≡ again u) × (slice_get z.ring.participants s ≡ Some u)
+  opened z s v g = opened_at (is_set (slice_get z.ring.stopped s)) (slice_get (map again z.ring.participants) s) (slice_get z.ring.participants s) v (slice_get-map again z.ring.participants s) g
 
-  on_word : (z : CyclicBus E) (o : Option Op) → IsOnWord (of_cyclic z) o → rings.IsOnWord z.ring o
+  on_word : (z : OwnedCyclicMachine E) (o : Option Op) → IsOnWord (of_cyclic z) o → rings.IsOnWord z.ring o
   on_word z None h = h
   on_word z (Some o) h = h
 
-  abbrev new_visitor : ℕ → Sender E → Visitor E
-  new_visitor rows v = record { core = v.core; pin = Away; reclaimer = None; lost = None; rows = rows }
+  abbrev new_participant : ℕ → Sender E → Participant E
+  new_participant rows v = record { core = v.core; pin = Away; reclaimer = None; lost = None; rows = rows }
 
-  rebuilt : (rows : ℕ) (l : List (Sender E)) → ((p : ℕ) (v : Sender E) → slice_get l p ≡ Some v → again (new_visitor rows v) ≡ v) → map again (map (new_visitor rows) l) ≡ l
+  rebuilt : (rows : ℕ) (l : List (Sender E)) → ((p : ℕ) (v : Sender E) → slice_get l p ≡ Some v → again (new_participant rows v) ≡ v) → map again (map (new_participant rows) l) ≡ l
   rebuilt rows [] h = refl
-  rebuilt rows (v ∷ l) h = ap (λ y. y ∷ map again (map (new_visitor rows) l)) (h 0 v refl) ∙ ap (λ y. v ∷ y) (rebuilt rows l (λ p w e. h (suc p) w e))
+  rebuilt rows (v ∷ l) h = ap (λ y. y ∷ map again (map (new_participant rows) l)) (h 0 v refl) ∙ ap (λ y. v ∷ y) (rebuilt rows l (λ p w e. h (suc p) w e))
 
 -- ---- one event
-module _ {E : Type 0} (X : Election E) (z : CyclicBus E) (sized : AreSized z.ring) where
-  abbrev b : Ring E
+module _ {E : Type 0} (X : Election E) (z : OwnedCyclicMachine E) (sized : AreSized z.ring) where
+  abbrev b : CyclicMachine E
   b = z.ring
 
-  abbrev got_by : Visitor E → ℕ → ℕ
+  abbrev got_by : Participant E → ℕ → ℕ
   got_by v word = number_found (slice_index b.words) (op_due X v (due X v) word)
 
-  abbrev cyclic_after : Visitor E → ℕ → ℕ → CyclicBus E
+  abbrev cyclic_after : Participant E → ℕ → ℕ → OwnedCyclicMachine E
   cyclic_after v s word = record { ring = ring_after X b s v (due X v) word; owners = last_of b.rows (owners_by (answer_due X v (due X v) (got_by v word) word) s z.owners) }
 
-  turn_is : (v : Visitor E) (s word : ℕ) → machine_after (of_cyclic z) s (line_now X (again v)) word ≡ of_cyclic (cyclic_after v s word)
+  turn_is : (v : Participant E) (s word : ℕ) → machine_after (of_cyclic z) s (line_now X (again v)) word ≡ of_cyclic (cyclic_after v s word)
   turn_is v s word =
       let l = line_now X (again v) in
       let i = at_some X v in
@@ -246,18 +246,18 @@ module _ {E : Type 0} (X : Election E) (z : CyclicBus E) (sized : AreSized z.rin
       ∙ ap (λ m. after (op_due X v d word) m (l.fed got word) (owners_by (answer_due X v d got word) s z.owners)) i.move
       ∙ ap (λ f. after (op_due X v d word) (rings.move_due X v d) f (owners_by (answer_due X v d got word) s z.owners)) (i.fed got word)
       ∙ ap (λ g. record (of_cyclic z) { words = words_after b.words (op_due X v d word); home = home_moved (rings.move_due X v d) b.home; senders = g; owners = last_of b.rows (owners_by (answer_due X v d got word) s z.owners) })
-      (sym (map-set again b.guests s (rings.visitor_moved (after_step (rings.move_due X v d)) b.home (visitor_due X v d got word))))
+      (sym (map-set again b.participants s (rings.participant_moved (after_step (rings.move_due X v d)) b.home (participant_due X v d got word))))
     where
       after : Option Op → PageMove → Sender E → List ℕ → Machine E
       after o m f w = record (of_cyclic z) { words = words_after b.words o; home = home_moved m b.home; senders = slice_set (of_cyclic z).senders s (moved (after_step m) b.home f); owners = last_of b.rows w }
 
-  answer_is : (v : Visitor E) (word : ℕ) → turn_answer (of_cyclic z) (line_now X (again v)) word ≡ answer_due X v (due X v) (got_by v word) word
+  answer_is : (v : Participant E) (word : ℕ) → turn_answer (of_cyclic z) (line_now X (again v)) word ≡ answer_due X v (due X v) (got_by v word) word
   answer_is v word =
       let l = line_now X (again v) in
       let i = at_some X v in
       ap (λ o. l.answer (number_found (slice_index b.words) o) word) (i.op word) ∙ i.answer (got_by v word) word
 
-  turn_adds : (s word : ℕ) (a : Answer) (t : Answered) (v : Visitor E) → a ≡ answer.Turn t → rings.guest_going b s ≡ Some v → going (of_cyclic z) s ≡ Some (again v) → slice_get b.guests s ≡ Some v → (T : Trails) → ring_trails_grown X b (Turn s word) a (ring_trails T) ≡ ring_trails (trails_grown X (of_cyclic z) (Turn s word) a T)
+  turn_adds : (s word : ℕ) (a : Answer) (t : Answered) (v : Participant E) → a ≡ answer.Turn t → rings.participant_going b s ≡ Some v → going (of_cyclic z) s ≡ Some (again v) → slice_get b.participants s ≡ Some v → (T : Trails) → ring_trails_grown X b (Turn s word) a (ring_trails T) ≡ ring_trails (trails_grown X (of_cyclic z) (Turn s word) a T)
   turn_adds s word a t v told g h at T =
       ap (λ w. ring_trails_grown X b (Turn s word) w (ring_trails T)) told
       ∙ ap (λ o. following.turn_grown X b s o word (answer.Turn t) (ring_trails T)) g
@@ -282,14 +282,14 @@ module _ {E : Type 0} (X : Election E) (z : CyclicBus E) (sized : AreSized z.rin
         steps = record {
           is = tt;
           within = subst (λ k. TurnsWithin X b k word) (sym o.1) low;
-          happens = subst (λ k. GuestDoes b k (λ y. ring_after X b s y (due X y) word) new.ring) (sym o.1) refl;
+          happens = subst (λ k. ParticipantDoes b k (λ y. ring_after X b s y (due X y) word) new.ring) (sym o.1) refl;
           answers = subst (λ k. TurnAnswers X b.words k word a) (sym o.1) told;
           owners = ap (following.owners_told z s) (sym told);
         };
         trails = turn_adds s word a t v told o.1 (h.goes ∙ ap Some o.2) o.3;
         reached = λ T r.
-            subst (λ w. RingReached X new.ring (ring_trails_grown X b (Turn s word) w T)) (sym told)
-            (subst (λ k. RingReached X new.ring (following.turn_grown X b s k word (answer.Turn t) T)) (sym o.1)
+            subst (λ w. CyclicReached X new.ring (ring_trails_grown X b (Turn s word) w T)) (sym told)
+            (subst (λ k. CyclicReached X new.ring (following.turn_grown X b s k word (answer.Turn t) T)) (sym o.1)
             (TurnTaken b T s v word t r o.1 low refl));
       }
 
@@ -300,23 +300,23 @@ module _ {E : Type 0} (X : Election E) (z : CyclicBus E) (sized : AreSized z.rin
       let can = subst (λ (y : Sender E). CanPut (queue_of y.core.queue y.reuse) (length bytes)) o.2 h.can in
       let may = put_taken (queue_seen v.core.queue v.pin) (length bytes) can in
       let put = record v { core = record v.core { queue = record v.core.queue { messages = v.core.queue.messages ++ bytes ∷ [] } } } in
-      let new : CyclicBus E = record { ring = rings.with_guest b s put; owners = z.owners } in
+      let new : OwnedCyclicMachine E = record { ring = rings.with_participant b s put; owners = z.owners } in
       let told : a ≡ answer.Number (next_of v.core.queue) = h.answered ∙ ap (λ (y : Sender E). answer.Number (next_of y.core.queue)) o.2 in
       record {
         bus = new;
-        is = h.after ∙ ap (λ y. with_sender (of_cyclic z) s (put_in y bytes)) o.2 ∙ ap (λ l. record (of_cyclic z) { senders = l }) (sym (map-set again b.guests s put));
+        is = h.after ∙ ap (λ y. with_sender (of_cyclic z) s (put_in y bytes)) o.2 ∙ ap (λ l. record (of_cyclic z) { senders = l }) (sym (map-set again b.participants s put));
         sized = fit_after b sized s v put o.3 refl refl;
         steps = record {
           is = h.are_bytes;
           within = tt;
-          happens = subst (λ k. GuestDoes b k (λ y. rings.with_guest b s (rings.visitor_put y bytes)) new.ring) (sym o.1) (ap (λ t. rings.with_guest b s (cond t put v)) (sym may));
+          happens = subst (λ k. ParticipantDoes b k (λ y. rings.with_participant b s (rings.participant_put y bytes)) new.ring) (sym o.1) (ap (λ t. rings.with_participant b s (cond t put v)) (sym may));
           answers = (next_of v.core.queue, subst (λ k. PutGives (core_found k) (length bytes) (next_of v.core.queue)) (sym o.1) (can, sym (next_seen v.core.queue v.pin)), told);
           owners = refl;
         };
         trails = λ T. refl;
         reached = λ T r.
-            subst (λ w. RingReached X new.ring (record T { actions = actions_with s (put_actions bytes w) T.actions })) (sym told)
-            (subst (λ t. RingReached X (rings.with_guest b s (cond t put v)) (record T { actions = actions_with s (cond t (HasPut (next_of v.core.queue) bytes ∷ []) []) T.actions })) may (PutTaken b T s v bytes r o.1 h.are_bytes));
+            subst (λ w. CyclicReached X new.ring (record T { actions = actions_with s (put_actions bytes w) T.actions })) (sym told)
+            (subst (λ t. CyclicReached X (rings.with_participant b s (cond t put v)) (record T { actions = actions_with s (cond t (HasPut (next_of v.core.queue) bytes ∷ []) []) T.actions })) may (PutTaken b T s v bytes r o.1 h.are_bytes));
       }
 
   closes : (s : ℕ) (a : Answer) (m : Machine E) → TakesClose (of_cyclic z) s a m → IsCyclicEvent X z (Close s) a m
@@ -326,28 +326,28 @@ module _ {E : Type 0} (X : Election E) (z : CyclicBus E) (sized : AreSized z.rin
       let can = subst (λ (y : Sender E). CanClose (queue_of y.core.queue y.reuse)) o.2 h.can in
       let may = close_taken (queue_seen v.core.queue v.pin) can in
       let closed = record v { core = record v.core { queue = record v.core.queue { phase = Closing } } } in
-      let new : CyclicBus E = record { ring = rings.with_guest b s closed; owners = z.owners } in
+      let new : OwnedCyclicMachine E = record { ring = rings.with_participant b s closed; owners = z.owners } in
       record {
         bus = new;
-        is = h.after ∙ ap (λ y. with_sender (of_cyclic z) s (close_in y)) o.2 ∙ ap (λ l. record (of_cyclic z) { senders = l }) (sym (map-set again b.guests s closed));
+        is = h.after ∙ ap (λ y. with_sender (of_cyclic z) s (close_in y)) o.2 ∙ ap (λ l. record (of_cyclic z) { senders = l }) (sym (map-set again b.participants s closed));
         sized = fit_after b sized s v closed o.3 refl refl;
         steps = record {
           is = tt;
           within = tt;
-          happens = subst (λ k. GuestDoes b k (λ y. rings.with_guest b s (rings.visitor_closed y)) new.ring) (sym o.1) (ap (λ t. rings.with_guest b s (cond t closed v)) (sym may));
+          happens = subst (λ k. ParticipantDoes b k (λ y. rings.with_participant b s (rings.participant_closed y)) new.ring) (sym o.1) (ap (λ t. rings.with_participant b s (cond t closed v)) (sym may));
           answers = (subst (λ k. CloseGives (core_found k)) (sym o.1) can, h.answered);
           owners = refl;
         };
         trails = λ T. refl;
         reached = λ T r.
-            subst (λ w. RingReached X new.ring (record T { actions = actions_with s (close_actions w) T.actions })) (sym h.answered)
-            (subst (λ t. RingReached X (rings.with_guest b s (cond t closed v)) (record T { actions = actions_with s (cond t (HasClosed ∷ []) []) T.actions })) may (CloseTaken b T s v r o.1));
+            subst (λ w. CyclicReached X new.ring (record T { actions = actions_with s (close_actions w) T.actions })) (sym h.answered)
+            (subst (λ t. CyclicReached X (rings.with_participant b s (cond t closed v)) (record T { actions = actions_with s (cond t (HasClosed ∷ []) []) T.actions })) may (CloseTaken b T s v r o.1));
       }
 
   stops : (s : ℕ) (a : Answer) (m : Machine E) → StopsNow (of_cyclic z) s a m → IsCyclicEvent X z (Stop s) a m
   stops s a m h =
       let o = opened z s h.sender h.goes in
-      let new : CyclicBus E = record { ring = record b { stopped = slice_set b.stopped s true }; owners = z.owners } in
+      let new : OwnedCyclicMachine E = record { ring = record b { stopped = slice_set b.stopped s true }; owners = z.owners } in
       record {
         bus = new;
         is = h.after;
@@ -355,7 +355,7 @@ module _ {E : Type 0} (X : Election E) (z : CyclicBus E) (sized : AreSized z.rin
         steps = record {
           is = tt;
           within = tt;
-          happens = subst (λ k. GuestDoes b k (λ y. record b { stopped = slice_set b.stopped s true }) new.ring) (sym o.1) refl;
+          happens = subst (λ k. ParticipantDoes b k (λ y. record b { stopped = slice_set b.stopped s true }) new.ring) (sym o.1) refl;
           answers = (subst (λ k. StopGives (core_found k)) (sym o.1) tt, h.answered);
           owners = refl;
         };
@@ -365,7 +365,7 @@ module _ {E : Type 0} (X : Election E) (z : CyclicBus E) (sized : AreSized z.rin
 
   hears : (r : ℕ) (a : Answer) (m : Machine E) → Hears (of_cyclic z) r a m → IsCyclicEvent X z (Recv r) a m
   hears r a m h =
-      let new : CyclicBus E = record { ring = record b { receivers = slice_set b.receivers r h.next }; owners = z.owners } in
+      let new : OwnedCyclicMachine E = record { ring = record b { receivers = slice_set b.receivers r h.next }; owners = z.owners } in
       record {
         bus = new;
         is = h.after;
@@ -378,7 +378,7 @@ module _ {E : Type 0} (X : Election E) (z : CyclicBus E) (sized : AreSized z.rin
           owners = refl;
         };
         trails = λ T. ap (λ w. ring_trails_grown X b (Recv r) w (ring_trails T)) h.answered ∙ ap (λ w. ring_trails (trails_grown X (of_cyclic z) (Recv r) w T)) (sym h.answered);
-        reached = λ T before. subst (λ w. RingReached X new.ring (ring_trails_grown X b (Recv r) w T)) (sym h.answered) (RecvTaken b T r h.receiver h.next h.heard before h.there h.does);
+        reached = λ T before. subst (λ w. CyclicReached X new.ring (ring_trails_grown X b (Recv r) w T)) (sym h.answered) (RecvTaken b T r h.receiver h.next h.heard before h.there h.does);
       }
 
 pub happens_at_some : {E : Type 0} (X : Election E) → HappensAtSome X
@@ -390,38 +390,38 @@ happens_at_some X z (Stop s) a m sized h = stops X z sized s a m h
 
 -- ---- what is reached
 module _ {E : Type 0} (X : Election E) where
-  pub new_ring : (w : Machine E) → IsNew w → (rows : ℕ) → w.reuse ≡ Some rows → IsRingOf X w no_machine_trails
+  pub new_ring : (w : Machine E) → IsNew w → (rows : ℕ) → w.reuse ≡ Some rows → IsCyclicOf X w no_machine_trails
   new_ring w new rows e = record {
     bus = record { ring = b; owners = [] };
-    is = ap (λ r. record w { reuse = r }) e ∙ ap (λ l. record w { reuse = Some rows; senders = l }) (sym (rebuilt rows w.senders (λ p v at. let i = (new.senders p v at).1 in ap (λ y. again (new_visitor rows y)) i ∙ ap (λ r. new_sender w.layout p r) (sym e) ∙ sym i)))
-        ∙ ap (λ o. record w { reuse = Some rows; senders = map again b.guests; owners = o }) new.owners;
-    sized = λ p v at. let n = guest_new p v (slice_get w.senders p) refl (sym (slice_get-map (new_visitor rows) w.senders p) ∙ at) in (ap (λ y. y.core.layout) n.1, ap (λ y. y.rows) n.1);
-    reached = NewRing b record {
+    is = ap (λ r. record w { reuse = r }) e ∙ ap (λ l. record w { reuse = Some rows; senders = l }) (sym (rebuilt rows w.senders (λ p v at. let i = (new.senders p v at).1 in ap (λ y. again (new_participant rows y)) i ∙ ap (λ r. new_sender w.layout p r) (sym e) ∙ sym i)))
+        ∙ ap (λ o. record w { reuse = Some rows; senders = map again b.participants; owners = o }) new.owners;
+    sized = λ p v at. let n = participant_new p v (slice_get w.senders p) refl (sym (slice_get-map (new_participant rows) w.senders p) ∙ at) in (ap (λ y. y.core.layout) n.1, ap (λ y. y.rows) n.1);
+    reached = NewCyclic b record {
       words = new.words ∙ ap (λ r. replicate (log_place w.layout r + w.layout.capacity) 0) e;
       home = new.home;
-      guests = λ p v at. guest_new p v (slice_get w.senders p) refl (sym (slice_get-map (new_visitor rows) w.senders p) ∙ at);
+      participants = λ p v at. participant_new p v (slice_get w.senders p) refl (sym (slice_get-map (new_participant rows) w.senders p) ∙ at);
       receivers = λ r v at. subst (λ u. IsNewReceiver w.layout (log_place w.layout u) v) e (new.receivers r v at);
       stopped = new.stopped;
     };
   } where
-    b : Ring E
-    b = record { layout = w.layout; rows = rows; words = w.words; home = w.home; guests = map (new_visitor rows) w.senders; receivers = w.receivers; stopped = w.stopped }
+    b : CyclicMachine E
+    b = record { layout = w.layout; rows = rows; words = w.words; home = w.home; participants = map (new_participant rows) w.senders; receivers = w.receivers; stopped = w.stopped }
 
-    guest_new : (p : ℕ) (v : Visitor E) (o : Option (Sender E)) → slice_get w.senders p ≡ o → option_map (new_visitor rows) o ≡ Some v → (p < w.layout.senders) × (v ≡ record { core = new_core w.layout p; pin = Away; reclaimer = None; lost = None; rows = rows })
-    guest_new p v None i j = absurd cc
-    guest_new p v (Some y) i j = let n = new.senders p y i in (n.0, sym (same_Some _ _ j) ∙ ap (new_visitor rows) n.1)
+    participant_new : (p : ℕ) (v : Participant E) (o : Option (Sender E)) → slice_get w.senders p ≡ o → option_map (new_participant rows) o ≡ Some v → (p < w.layout.senders) × (v ≡ record { core = new_core w.layout p; pin = Away; reclaimer = None; lost = None; rows = rows })
+    participant_new p v None i j = absurd cc
+    participant_new p v (Some y) i j = let n = new.senders p y i in (n.0, sym (same_Some _ _ j) ∙ ap (new_participant rows) n.1)
 
-  pub next_ring : (w m : Machine E) (T : Trails) (e : Event) (a : Answer) → Happens X w e a m → IsRingOf X w T → IsRingOf X m (trails_grown X w e a T)
+  pub next_ring : (w m : Machine E) (T : Trails) (e : Event) (a : Answer) → Happens X w e a m → IsCyclicOf X w T → IsCyclicOf X m (trails_grown X w e a T)
   next_ring w m T e a h i =
       let k = happens_at_some X i.bus e a m i.sized (subst (λ y. Happens X y e a m) i.is h) in
       record {
         bus = k.bus;
         is = k.is;
         sized = k.sized;
-        reached = subst (λ y. RingReached X k.bus.ring (ring_trails (trails_grown X y e a T))) (sym i.is) (subst (RingReached X k.bus.ring) (k.trails T) (k.reached (ring_trails T) i.reached));
+        reached = subst (λ y. CyclicReached X k.bus.ring (ring_trails (trails_grown X y e a T))) (sym i.is) (subst (CyclicReached X k.bus.ring) (k.trails T) (k.reached (ring_trails T) i.reached));
       }
 
   -- whatever leads to it, leads to the bus whose rows are used again
-  pub reached_at_some : (m : Machine E) (T : Trails) → Reached X m T → (rows : ℕ) → m.reuse ≡ Some rows → IsRingOf X m T
+  pub reached_at_some : (m : Machine E) (T : Trails) → Reached X m T → (rows : ℕ) → m.reuse ≡ Some rows → IsCyclicOf X m T
   reached_at_some m T (Start w new) rows e = new_ring w new rows e
   reached_at_some m T (Next w v U f a before h) rows e = next_ring w v U f a h (reached_at_some w U before rows (sym (event_reuse X w v f a h).1 ∙ e))

@@ -2,7 +2,7 @@
 use Rattle.std.proofs.Common.{◌≡◌, ℕ, ◌<◌, ◌≤◌, Bool, true, false, cond, Option, Some, None, List, [], ◌∷◌, ◌++◌, get_or, length, slice_get, slice_index, slice_set, refl, sym, ◌∙◌, ap, subst, arith}
 use Rattle.std.specs.Prelude.{All, IfSome, Result, Ok, Err, IfOk, IfErr, OnOk, OnErr}
 use Rattle.std.proofs.lemmas.Option.{slice_get_past}
-use Rattle.bus_core.specs.Senders.{Sender}
+use Rattle.bus_core.specs.Senders.{Sender, situation}
 use Rattle.bus_core.specs.Table.{Line, line_now}
 use Rattle.bus_deliverylog.specs.Receiving.{Receiving}
 use Rattle.bus_deliverylog.specs.declared.receiving.RecvTurn.{RecvTurn}
@@ -23,7 +23,6 @@ use Rattle.bus_world.specs.World.{Put, Close, Turn, Recv, Stop, RecvDoes}
 use Rattle.bus_world.specs.declared.events.Answer.TheVariants as answer
 use Rattle.bus_world.specs.declared.events.StepFault.{StepFault}
 use Rattle.bus_world.specs.declared.events.StepFault.TheVariants as fault
-use Rattle.bus_core.specs.Senders.{situation}
 use Rattle.bus_machine.proofs.Holding.{held_after}
 use Rattle.bus_machine.proofs.Takes.{takes_told}
 use Rattle.bus_machine.specs.Machine.{Machine, Happens, IsOnWord, going, has_stopped, with_sender, moved, found, machine_after, owners_told}

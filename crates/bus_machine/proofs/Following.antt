@@ -1,5 +1,8 @@
 -- Whatever happens, the new machine follows the old one, and what is answered is so.
-use Rattle.std.proofs.Common.{◌≡◌, ℕ, ◌+◌, ◌/◌, ◌≤◌, Option, Some, None, List, ◌++◌, filter, map, slice_get, refl, sym, ◌∙◌, ap, subst}
+use Rattle.std.proofs.Common.{◌≡◌, ℕ, ◌+◌, ◌/◌, ◌≤◌, Option, Some, None, List, [], ◌∷◌, ◌++◌, filter, length, map, take, slice_get, arith}
+use Rattle.std.proofs.Common.{refl, sym, ◌∙◌, ap, subst}
+use Rattle.std.proofs.Math.Seq.{take-length}
+use Rattle.std.proofs.lemmas.List.{length-append, take-append-le}
 use Rattle.std.proofs.Math.Path.{fun_ext}
 use Rattle.std.proofs.lemmas.Grind.{flat_map-append}
 use Rattle.std.proofs.lemmas.Option.{slice_get-map, same_Some}
@@ -7,38 +10,45 @@ use Rattle.std.specs.Prelude.{option_map}
 use Rattle.bus_batch.specs.Frames.{frame_words, log_words}
 use Rattle.bus_core.specs.Senders.{Sender, apart, again}
 use Rattle.bus_core.specs.Table.{lost_of}
-use Rattle.bus_cyclic.proofs.CyclicLaws.{led, layout_served}
-use Rattle.bus_cyclic.proofs.LogGrowing.{log_grows}
-use Rattle.bus_cyclic.proofs.Staying as cyclic
-use Rattle.bus_cyclic.proofs.TruthLaws.{event_true, seen}
-use Rattle.bus_cyclic.specs.Cyclic.{CyclicBus}
-use Rattle.bus_cyclic.specs.Staying as staying
-use Rattle.bus_cyclic.specs.Truth as truth
-use Rattle.bus_guest.specs.Turns.{Visitor}
+use Rattle.bus_machine.proofs.Cyclic.CyclicLaws.{led, layout_served}
+use Rattle.bus_machine.proofs.Cyclic.LogGrowing.{log_grows}
+use Rattle.bus_machine.proofs.Cyclic.Staying as cyclic
+use Rattle.bus_machine.proofs.Cyclic.TruthLaws.{event_true, seen}
+use Rattle.bus_machine.specs.Proved.Cyclic.{OwnedCyclicMachine}
+use Rattle.bus_machine.specs.Proved.Staying as staying
+use Rattle.bus_machine.specs.Proved.Truth as truth
+use Rattle.bus_core.specs.Reusing.Turns.{Participant}
 use Rattle.bus_register.specs.Protocol.{Protocol}
+use Rattle.bus_register.specs.Proved.TableLaws.{push_here}
 use Rattle.bus_register.specs.declared.registers.SenderNo.{SenderNo}
 use Rattle.bus_tenure.specs.Core.{Core, Election, Layout}
 use Rattle.bus_tenure.specs.declared.turns.Turn.{Turn as Answered}
 use Rattle.bus_tenure.specs.declared.turns.Turn.TheVariants as turn
 use Rattle.bus_world.proofs.EventTrails.{reached_kept}
 use Rattle.bus_world.proofs.Tellings.{event_tells}
+use Rattle.bus_world.proofs.Waiting.{event_frames}
 use Rattle.bus_world.proofs.WorldLaws.{event_left}
-use Rattle.bus_world.specs.Headline.{Action, HasPut, HasClosed, Stepped, IsPrefix}
+use Rattle.bus_world.specs.Headline.{Action, HasPut, HasClosed, Stepped, IsPrefix, put_of, puts}
 use Rattle.bus_world.specs.Telling as plain
+use Rattle.bus_world.specs.Trails.{put_actions}
 use Rattle.bus_world.specs.World.{Bus, Event, Put, Close, Turn, Recv, Stop}
-use Rattle.bus_world.specs.Rings.{guest_going}
+use Rattle.bus_world.specs.CyclicMachines.{participant_going}
+use Rattle.bus_world.specs.CyclicProtocols.{actions_with}
 use Rattle.bus_world.specs.declared.events.Answer.{Answer}
 use Rattle.bus_world.specs.declared.events.Answer.TheVariants as answer
 use Rattle.bus_machine.proofs.AtNone as none
 use Rattle.bus_machine.proofs.AtSome as some
+use Rattle.bus_machine.proofs.Bounding.{actions_of_it}
+use Rattle.bus_machine.proofs.Framed.{framed}
+use Rattle.bus_machine.proofs.Joining.{event_words, event_joins}
 use Rattle.bus_machine.proofs.Leading.{Sits, sits_after, led_ring, ring_serves, ring_ok, ring_two}
-use Rattle.bus_machine.proofs.Promised.{promised, guest_at}
+use Rattle.bus_machine.proofs.Promised.{promised, participant_at}
 use Rattle.bus_machine.proofs.Rising.{plain_rises}
 use Rattle.bus_machine.proofs.Staying.{promise_stays, grown_longer}
-use Rattle.bus_machine.specs.Bridge.{of_bus, of_cyclic, plain_trails, ring_trails, IsPlainEvent, IsCyclicEvent}
+use Rattle.bus_machine.specs.Proved.Bridge.{of_bus, of_cyclic, plain_trails, ring_trails, IsPlainEvent, IsCyclicEvent}
 use Rattle.bus_machine.specs.Machine.{Machine, Trails, Reached, Then, Happens, trails_grown, going, log_of, stage_of}
-use Rattle.bus_machine.specs.Promise.{HasGoneOn, is_in, actions_in, Follows}
-use Rattle.bus_machine.specs.Telling.{TurnTells, SenderTells, EventTells, Tells, LossesAreSeen}
+use Rattle.bus_machine.specs.Promise.{HasGoneOn, is_in, actions_in, Follows, ReusesSafely, words_joined}
+use Rattle.bus_machine.specs.Telling.{TurnTells, PutTells, SenderTells, EventTells, Tells, LossesAreSeen}
 
 -- ---- actions in a tenure
 in_same : (t : ℕ) (d : Action) → is_in t d ≡ staying.is_in t d
@@ -51,6 +61,40 @@ pub actions_same : (t : ℕ) (ds : List Action) → actions_in t ds ≡ staying.
 actions_same t ds = ap (λ f. filter f ds) (fun_ext (in_same t))
 
 -- ---- what an answer tells
+-- of a put
+abbrev PutIsTold : Event → Answer → Trails → Type 0
+PutIsTold (Put s bytes) a T = PutTells (T.actions s) a
+PutIsTold (Close s) a T = Unit {0}
+PutIsTold (Turn s word) a T = Unit {0}
+PutIsTold (Recv r) a T = Unit {0}
+PutIsTold (Stop s) a T = Unit {0}
+
+-- a put that is numbered by the trails
+number_told : (xs : List Action) (n : ℕ) (bytes : List ℕ)
+    → ((place : ℕ) → slice_get (xs ++ HasPut n bytes ∷ []) place ≡ Some (HasPut n bytes)
+    → n ≡ length (puts (take place (xs ++ HasPut n bytes ∷ []))))
+    → n + 1 ≡ length (puts (xs ++ HasPut n bytes ∷ []))
+number_told xs n bytes numbered =
+    let d = HasPut n bytes in
+    let before : take (length xs) (xs ++ d ∷ []) ≡ xs = take-append-le (length xs) xs (d ∷ []) (omega arith) ∙ take-length xs in
+    let here = numbered (length xs) (push_here xs d (length xs) refl) ∙ ap (λ l. length (puts l)) before in
+    let all = ap length (flat_map-append put_of xs (d ∷ [])) ∙ length-append (puts xs) (bytes ∷ []) in
+    omega arith
+
+put_told : (s : ℕ) (bytes : List ℕ) (a : Answer) (T : Trails) (P : Trails) → P.actions ≡ actions_with s (put_actions bytes a) T.actions
+    → ((place number : ℕ) (sent : List ℕ) → slice_get (P.actions s) place ≡ Some (HasPut number sent)
+    → number ≡ length (puts (take place (P.actions s)))) → PutTells (P.actions s) a
+put_told s bytes (answer.Number n) T P is numbered =
+    let now : P.actions s ≡ T.actions s ++ HasPut n bytes ∷ [] = ap (λ (D : ℕ → List Action). D s) is
+    ∙ actions_of_it s (HasPut n bytes ∷ []) T.actions s refl in
+    number_told (T.actions s) n bytes (λ place at. subst (λ l. slice_get l place ≡ Some (HasPut n bytes) → n ≡ length (puts (take place l)))
+    now (numbered place n bytes) at)
+    ∙ sym (ap (λ l. length (puts l)) now)
+put_told s bytes answer.Closing T P is numbered = tt
+put_told s bytes (answer.Turn t) T P is numbered = tt
+put_told s bytes (answer.Recv r) T P is numbered = tt
+put_told s bytes answer.Stopped T P is numbered = tt
+
 module _ {E : Type 0} (x : Layout) (b : Bus E) where
   turn_at_none : (s : ℕ) (c : Core E) (actions : List Action) (t : Answered) → plain.TurnTells x (log_of (of_bus x b)) s c actions t → TurnTells (of_bus x b) s (apart c) actions t
   turn_at_none s c actions t h = by t h where
@@ -76,17 +120,18 @@ module _ {E : Type 0} (x : Layout) (b : Bus E) where
   sender_at_none s word T (answer.Recv r) (Some v) i h = tt
   sender_at_none s word T answer.Stopped (Some v) i h = tt
 
-  tells_at_none : (e : Event) (a : Answer) (T : Trails) → plain.EventTells x b e a (plain_trails T) → EventTells (of_bus x b) e a T
-  tells_at_none (Put s bytes) a T h = tt
-  tells_at_none (Close s) a T h = tt
-  tells_at_none (Turn s word) a T h = sender_at_none s word T a (going (of_bus x b) s) refl h
-  tells_at_none (Recv r) a T h = tt
-  tells_at_none (Stop s) a T h = tt
+  tells_at_none : (e : Event) (a : Answer) (T : Trails) → PutIsTold e a T → plain.EventTells x b e a (plain_trails T)
+      → EventTells (of_bus x b) e a T
+  tells_at_none (Put s bytes) a T p h = p
+  tells_at_none (Close s) a T p h = tt
+  tells_at_none (Turn s word) a T p h = sender_at_none s word T a (going (of_bus x b) s) refl h
+  tells_at_none (Recv r) a T p h = tt
+  tells_at_none (Stop s) a T p h = tt
 
-module _ {E : Type 0} (z : CyclicBus E) where
-  turn_at_some : (s : ℕ) (v : Visitor E) (actions : List Action) (t : Answered) → truth.GuestTells z.ring s v.core actions t → TurnTells (of_cyclic z) s (again v) actions t
+module _ {E : Type 0} (z : OwnedCyclicMachine E) where
+  turn_at_some : (s : ℕ) (v : Participant E) (actions : List Action) (t : Answered) → truth.ParticipantTells z.ring s v.core actions t → TurnTells (of_cyclic z) s (again v) actions t
   turn_at_some s v actions t h = by t h where
-    by : (t : Answered) → truth.GuestTells z.ring s v.core actions t → TurnTells (of_cyclic z) s (again v) actions t
+    by : (t : Answered) → truth.ParticipantTells z.ring s v.core actions t → TurnTells (of_cyclic z) s (again v) actions t
     by turn.Idle h = h
     by turn.Waiting h = h
     by turn.Going h = h
@@ -98,7 +143,7 @@ module _ {E : Type 0} (z : CyclicBus E) where
     by turn.Spent h = h
     by (turn.Behind u p) h = h
 
-  sender_at_some : (s : ℕ) (actions : List Action) (a : Answer) (o : Option (Sender E)) → going (of_cyclic z) s ≡ o → truth.TurnIsTrue z.ring s (guest_going z.ring s) actions a → SenderTells (of_cyclic z) s o actions a
+  sender_at_some : (s : ℕ) (actions : List Action) (a : Answer) (o : Option (Sender E)) → going (of_cyclic z) s ≡ o → truth.TurnIsTrue z.ring s (participant_going z.ring s) actions a → SenderTells (of_cyclic z) s o actions a
   sender_at_some s actions a None i h = tt
   sender_at_some s actions (answer.Number n) (Some v) i h = tt
   sender_at_some s actions answer.Closing (Some v) i h = tt
@@ -108,18 +153,35 @@ module _ {E : Type 0} (z : CyclicBus E) where
   sender_at_some s actions (answer.Recv r) (Some v) i h = tt
   sender_at_some s actions answer.Stopped (Some v) i h = tt
 
-  tells_at_some : (e : Event) (a : Answer) (T : Trails) → truth.EventIsTrue z.ring e a (ring_trails T) → EventTells (of_cyclic z) e a T
-  tells_at_some (Put s bytes) a T h = tt
-  tells_at_some (Close s) a T h = tt
-  tells_at_some (Turn s word) a T h = sender_at_some s (T.actions s) a (going (of_cyclic z) s) refl h
-  tells_at_some (Recv r) a T h = tt
-  tells_at_some (Stop s) a T h = tt
+  tells_at_some : (e : Event) (a : Answer) (T : Trails) → PutIsTold e a T → truth.EventIsTrue z.ring e a (ring_trails T)
+      → EventTells (of_cyclic z) e a T
+  tells_at_some (Put s bytes) a T p h = p
+  tells_at_some (Close s) a T p h = tt
+  tells_at_some (Turn s word) a T p h = sender_at_some s (T.actions s) a (going (of_cyclic z) s) refl h
+  tells_at_some (Recv r) a T p h = tt
+  tells_at_some (Stop s) a T p h = tt
 
 -- ---- one event, by trails that lead to the machine before it
 module _ {E : Type 0} (X : Election E) (P : Protocol E (Unit {0}) ℕ) (m m' : Machine E) (T : Trails) (e : Event) (a : Answer) (s : Sits X P m) (r : Reached X m T) (h : Happens X m e a m') where
+  -- a put
+  abbrev T' : Trails
+  T' = trails_grown X m e a T
+
+  put_is_told : PutIsTold e a T'
+  put_is_told = by e refl where
+    by : (g : Event) → e ≡ g → PutIsTold g a T'
+    by (Put p bytes) i =
+        let k = promised X P m' T' (sits_after X P m m' e a h s) (Then m m' T e a r h) in
+        put_told p bytes a T T' (ap (λ f. (trails_grown X m f a T).actions) i)
+        (λ place number sent at. k.by.promises.numbered p place number sent at)
+    by (Close p) i = tt
+    by (Turn p word) i = tt
+    by (Recv q) i = tt
+    by (Stop p) i = tt
+
   -- what is said of both machines, with a row for each tenure
   module _ (fresh : m.reuse ≡ None) where
-    i : Rattle.bus_machine.specs.Bridge.IsPlain X m T
+    i : Rattle.bus_machine.specs.Proved.Bridge.IsPlain X m T
     i = none.reached_at_none X m T r fresh
 
     k : IsPlainEvent X m.layout i.bus e a m'
@@ -128,8 +190,13 @@ module _ {E : Type 0} (X : Election E) (P : Protocol E (Unit {0}) ℕ) (m m' : M
     kept : Rattle.bus_world.proofs.EventTrails.Kept X P s.serves.laws m.layout s.ok s.serves.width s.serves.starts s.serves.owner_is s.serves.named s.serves.announces s.serves.apart i.bus (plain_trails T)
     kept = reached_kept X P s.serves.laws m.layout s.ok s.serves.width s.serves.starts s.serves.owner_is s.serves.named s.serves.announces s.serves.apart i.bus (plain_trails T) i.reached
 
+    after : Rattle.bus_world.proofs.WorldLaws.After X P s.serves.laws m.layout s.ok s.serves.width s.serves.starts s.serves.owner_is
+        kept.frames (event_frames X i.bus e kept.frames) k.bus
+    after = event_left X P s.serves.laws m.layout s.ok s.serves.width s.serves.starts s.serves.owner_is i.bus kept.frames kept.lawful k.bus
+        e k.event k.happens
+
     left : Rattle.bus_world.proofs.WorldLaws.Left X P s.serves.laws m.layout s.ok s.serves.width s.serves.starts s.serves.owner_is kept.frames k.bus
-    left = (event_left X P s.serves.laws m.layout s.ok s.serves.width s.serves.starts s.serves.owner_is i.bus kept.frames kept.lawful k.bus e k.event k.happens).left
+    left = after.left
 
     both_plain : (C : Machine E → Machine E → Type 0) → C (of_bus m.layout i.bus) (of_bus m.layout k.bus) → C m m'
     both_plain C c = subst (λ y. C y m') (sym i.is) (subst (C (of_bus m.layout i.bus)) (sym k.is) c)
@@ -141,6 +208,14 @@ module _ {E : Type 0} (X : Election E) (P : Protocol E (Unit {0}) ℕ) (m m' : M
           ∙ ap log_words left.continues.together ∙ sym left.lawful.keeps.sending.log.words_are;
     }
 
+    -- the frame of who stores the length joins
+    plain_joins : log_of m' ≡ log_of m ++ words_joined X m e
+    unfolding left after
+    plain_joins = both_plain (λ y z. log_of z ≡ log_of y ++ words_joined X y e) (
+        left.lawful.keeps.sending.log.words_are ∙ ap log_words after.now_is ∙ event_words X m.layout i.bus kept.frames e
+        ∙ ap (λ w. w ++ words_joined X (of_bus m.layout i.bus) e) (sym kept.lawful.keeps.sending.log.words_are)
+        )
+
     plain_stage : stage_of m ≤ stage_of m'
     plain_stage = both_plain (λ y z. stage_of y ≤ stage_of z) (plain_rises X P m.layout i.bus k.bus kept.frames left.frames_now kept.lawful left.lawful e k.happens)
 
@@ -148,14 +223,17 @@ module _ {E : Type 0} (X : Election E) (P : Protocol E (Unit {0}) ℕ) (m m' : M
     plain_told =
         let q = s.serves in
         let so = event_tells X P q.laws m.layout s.ok q.width q.starts q.owner_is q.named q.announces q.apart i.bus k.bus (plain_trails T) i.reached e a k.happens k.answers in
-        subst (λ y. EventTells y e a (trails_grown X y e a T)) (sym i.is) (tells_at_none m.layout i.bus e a (trails_grown X (of_bus m.layout i.bus) e a T) (subst (plain.EventTells m.layout i.bus e a) (k.trails T) so))
+        subst (λ y. EventTells y e a (trails_grown X y e a T)) (sym i.is)
+        (tells_at_none m.layout i.bus e a (trails_grown X (of_bus m.layout i.bus) e a T)
+        (subst (λ y. PutIsTold e a (trails_grown X y e a T)) i.is put_is_told)
+        (subst (plain.EventTells m.layout i.bus e a) (k.trails T) so))
 
   -- and with rows that are used again
   module _ (rows : ℕ) (used : m.reuse ≡ Some rows) where
-    j : Rattle.bus_machine.proofs.Leading.IsLedRing X P m T
+    j : Rattle.bus_machine.proofs.Leading.IsLedCyclic X P m T
     j = led_ring X P m T s r rows used
 
-    abbrev z : CyclicBus E
+    abbrev z : OwnedCyclicMachine E
     z = j.bus
 
     d : IsCyclicEvent X z e a m'
@@ -164,10 +242,10 @@ module _ {E : Type 0} (X : Election E) (P : Protocol E (Unit {0}) ℕ) (m m' : M
     c : Rattle.bus_world.proofs.Serving.Serves X P z.ring.layout
     c = ring_serves X P m s z j.is
 
-    x : Rattle.bus_world.proofs.RingLaws.IsRingLayout X P c.laws c.owner_is c.named c.announces c.apart z.ring.layout z.ring.rows
+    x : Rattle.bus_world.proofs.CyclicMachineLaws.IsCyclicLayout X P c.laws c.owner_is c.named c.announces c.apart z.ring.layout z.ring.rows
     x = layout_served X P z.ring.layout z.ring.rows c (ring_ok X P m s z j.is) (ring_two X P m s z j.is)
 
-    l : Rattle.bus_world.proofs.RingLaws.IsLed X P c.laws c.owner_is c.named c.announces c.apart z.ring (ring_trails T)
+    l : Rattle.bus_world.proofs.CyclicMachineLaws.IsLed X P c.laws c.owner_is c.named c.announces c.apart z.ring (ring_trails T)
     l = led X P z c (ring_ok X P m s z j.is) (ring_two X P m s z j.is) (ring_trails T) j.leads
 
     both_cyclic : (C : Machine E → Machine E → Type 0) → C (of_cyclic z) (of_cyclic d.bus) → C m m'
@@ -176,19 +254,26 @@ module _ {E : Type 0} (X : Election E) (P : Protocol E (Unit {0}) ℕ) (m m' : M
     cyclic_grows : IsPrefix (log_of m) (log_of m')
     cyclic_grows = both_cyclic (λ y w. IsPrefix (log_of y) (log_of w)) (log_grows X P z c (ring_ok X P m s z j.is) (ring_two X P m s z j.is) (ring_trails T) j.leads e d.bus.ring d.steps.happens d.steps.within)
 
+    -- and so here
+    cyclic_joins : log_of m' ≡ log_of m ++ words_joined X m e
+    cyclic_joins = event_joins X P m m' T (framed X P m T s r) e a h cyclic_grows rows used
+        (subst (ReusesSafely X m T) used (promised X P m T s r).by.reuse)
+
     cyclic_stage : stage_of m ≤ stage_of m'
     cyclic_stage = both_cyclic (λ y w. stage_of y ≤ stage_of w) (cyclic.event_rises X P c.laws c.owner_is c.named c.announces c.apart z.ring x (ring_trails T) l e d.bus.ring d.steps.happens d.steps.within)
 
     cyclic_told : EventTells m e a (trails_grown X m e a T)
     cyclic_told =
         let so = event_true X P z c (ring_ok X P m s z j.is) (ring_two X P m s z j.is) (ring_trails T) j.leads e a d.bus d.steps in
-        subst (λ y. EventTells y e a (trails_grown X y e a T)) (sym j.is) (tells_at_some z e a (trails_grown X (of_cyclic z) e a T) (subst (truth.EventIsTrue z.ring e a) (d.trails T) so))
+        subst (λ y. EventTells y e a (trails_grown X y e a T)) (sym j.is)
+        (tells_at_some z e a (trails_grown X (of_cyclic z) e a T) (subst (λ y. PutIsTold e a (trails_grown X y e a T)) j.is put_is_told)
+        (subst (truth.EventIsTrue z.ring e a) (d.trails T) so))
 
     cyclic_stays : (t q : ℕ) → t + rows ≤ stage_of m / 2 → actions_in t ((trails_grown X m e a T).actions q) ≡ actions_in t (T.actions q)
     cyclic_stays t q gone =
         let many : rows ≡ z.ring.rows = same_Some _ _ (sym used ∙ ap (λ (y : Machine E). y.reuse) j.is) in
         let here = subst (λ n. t + n ≤ stage_of (of_cyclic z) / 2) many (subst (λ y. t + rows ≤ stage_of y / 2) j.is gone) in
-        actions_same t ((trails_grown X m e a T).actions q) ∙ ap (λ y. staying.actions_in t ((trails_grown X y e a T).actions q)) j.is ∙ ap (λ (U : Rattle.bus_world.specs.Rings.RingTrails). staying.actions_in t (U.actions q)) (sym (d.trails T))
+        actions_same t ((trails_grown X m e a T).actions q) ∙ ap (λ y. staying.actions_in t ((trails_grown X y e a T).actions q)) j.is ∙ ap (λ (U : Rattle.bus_world.specs.CyclicMachines.CyclicTrails). staying.actions_in t (U.actions q)) (sym (d.trails T))
         ∙ cyclic.event_stays X P c.laws c.owner_is c.named c.announces c.apart z.ring x (ring_trails T) l t here e a q ∙ sym (actions_same t (T.actions q))
 
   pub grows : IsPrefix (log_of m) (log_of m')
@@ -196,6 +281,13 @@ module _ {E : Type 0} (X : Election E) (P : Protocol E (Unit {0}) ℕ) (m m' : M
     by : (o : Option ℕ) → m.reuse ≡ o → IsPrefix (log_of m) (log_of m')
     by None fresh = plain_grows fresh
     by (Some rows) used = cyclic_grows rows used
+
+  -- what joins the log with an event
+  pub joins : log_of m' ≡ log_of m ++ words_joined X m e
+  joins = by m.reuse refl where
+    by : (o : Option ℕ) → m.reuse ≡ o → log_of m' ≡ log_of m ++ words_joined X m e
+    by None fresh = plain_joins fresh
+    by (Some rows) used = cyclic_joins rows used
 
   pub rises : stage_of m ≤ stage_of m'
   rises = by m.reuse refl where
@@ -218,6 +310,7 @@ module _ {E : Type 0} (X : Election E) (P : Protocol E (Unit {0}) ℕ) (m m' : M
 module _ {E : Type 0} (X : Election E) (P : Protocol E (Unit {0}) ℕ) (m : Machine E) (T₀ : Trails) (s : Sits X P m) (r₀ : Reached X m T₀) where
   pub follows : (m' : Machine E) (e : Event) (a : Answer) → Happens X m e a m' → Follows X m e a m'
   follows m' e a h = record {
+    joins = joins X P m m' T₀ e a s r₀ h;
     grows = grows X P m m' T₀ e a s r₀ h;
     rises = rises X P m m' T₀ e a s r₀ h;
     reached = λ T r. Then m m' T e a r h;
@@ -236,9 +329,9 @@ module _ {E : Type 0} (X : Election E) (P : Protocol E (Unit {0}) ℕ) (m : Mach
     by None e = cc
     by (Some c) e = let bad : ◌≡◌ {A = Option SenderNo} None (Some o) = ap (λ (y : Sender E). lost_of y.reuse) (same_Some _ _ e) ∙ lost in cc
 
-  cyclic_lost : (z : CyclicBus E) → truth.LossesAreSeen z.ring T.actions → LossesAreSeen (of_cyclic z) T.actions
+  cyclic_lost : (z : OwnedCyclicMachine E) → truth.LossesAreSeen z.ring T.actions → LossesAreSeen (of_cyclic z) T.actions
   cyclic_lost z h p v o at lost =
-      let u = guest_at X z p v at in
+      let u = participant_at X z p v at in
       let w = h.seen p u.0 o u.1 (sym (ap (λ (y : Sender E). lost_of y.reuse) u.2) ∙ lost) in
       record { tenure = w.tenure; parts = ap (λ (y : Sender E). Rattle.bus_machine.specs.Promise.pin_of y.reuse) u.2 ∙ w.parts; elected = w.elected; other = w.other }
 

@@ -6,22 +6,21 @@ use Rattle.bus_core.specs.Senders.{Sender, Situation, Does, Announces, Validates
 use Rattle.bus_core.specs.Table.{line, line_now}
 use Rattle.bus_core.specs.Telling.{FeedTells, LosesBy, GivesReady, IsBehind}
 use Rattle.bus_core.specs.declared.reuses.Reuse.{Reuse}
-use Rattle.bus_guest.proofs.Tells.{Shows, gives_shows}
-use Rattle.bus_guest.specs.Guests.{sizes_with}
-use Rattle.bus_guest.specs.Keeping.{held_of, IsRowReady}
-use Rattle.bus_guest.specs.Telling.{Returns, HasPublished, LacksRoom, FindsEnd}
-use Rattle.bus_guest.specs.Telling.HasPublished.{Published, HandsOnSent}
-use Rattle.bus_guest.specs.Telling.LacksRoom.{FindsNoRoom, HandsOnFull}
-use Rattle.bus_guest.specs.Telling.FindsEnd.{Ended, HandsOnEnd}
-use Rattle.bus_guest.specs.Telling.Returns.{Gives, Says}
+use Rattle.bus_core.proofs.Reusing.Tells.{Shows, gives_shows}
+use Rattle.bus_core.specs.Reusing.Participants.{sizes_with}
+use Rattle.bus_core.specs.Reusing.Keeping.{held_of, IsRowReady}
+use Rattle.bus_core.specs.Reusing.Telling.{Returns, HasPublished, LacksRoom, FindsEnd}
+use Rattle.bus_core.specs.Reusing.Telling.HasPublished.{Published, HandsOnSent}
+use Rattle.bus_core.specs.Reusing.Telling.LacksRoom.{FindsNoRoom, HandsOnFull}
+use Rattle.bus_core.specs.Reusing.Telling.FindsEnd.{Ended, HandsOnEnd}
+use Rattle.bus_core.specs.Reusing.Telling.Returns.{Gives, Says}
 use Rattle.bus_register.specs.declared.registers.Op.{Op}
 use Rattle.bus_register.specs.declared.registers.Op.TheVariants.{Store}
 use Rattle.bus_register.specs.declared.registers.SenderNo.{SenderNo}
 use Rattle.bus_tenure.proofs.Situated.{tells}
 use Rattle.bus_tenure.specs.Core.{Core, Election, stage_at}
-use Rattle.bus_tenure.specs.Situations.{Situation as Own, IsClosed, IsIdle, IsSpent, LooksAtStage, Elects, TakesPage, AwaitsPage, StoresWord, StoresLength, GivesBack, HasHanded, situation_of, PageMove}
+use Rattle.bus_tenure.specs.Situations.{Situation as Own, IsClosed, IsIdle, IsSpent, LooksAtStage, Elects, TakesPage, AwaitsPage, StoresWord, StoresLength, GivesBack, HasHanded, situation_of, PageMove, Stays, Comes, Returns as MovesHome}
 use Rattle.bus_tenure.specs.Seen.{AwaitsItsPage}
-use Rattle.bus_tenure.specs.Situations.{Stays, Comes, Returns as MovesHome}
 use Rattle.bus_tenure.specs.declared.pages.Page.{Page}
 use Rattle.bus_tenure.specs.declared.phases.Phase.{Phase}
 use Rattle.bus_tenure.specs.declared.phases.Phase.TheVariants as phase

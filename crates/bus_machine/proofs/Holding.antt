@@ -9,9 +9,9 @@ use Rattle.bus_batch.specs.Frames.{Frame, Order, AreFrames, log_words}
 use Rattle.bus_core.proofs.Bridged.{at_none, at_some}
 use Rattle.bus_core.specs.Senders.{Sender, apart, again, words_all}
 use Rattle.bus_core.specs.Table.{line_now}
-use Rattle.bus_cyclic.proofs.CyclicLaws as cyclic
-use Rattle.bus_cyclic.proofs.ViewLaws as cyclic_views
-use Rattle.bus_cyclic.specs.Cyclic.{CyclicBus, IsServedRing}
+use Rattle.bus_machine.proofs.Cyclic.CyclicLaws as cyclic
+use Rattle.bus_machine.proofs.Cyclic.ViewLaws as cyclic_views
+use Rattle.bus_machine.specs.Proved.Cyclic.{OwnedCyclicMachine, IsServedCyclic}
 use Rattle.bus_deliverylog.specs.Receiving.{Receiving, receiving_op}
 use Rattle.bus_register.specs.Protocol.{Protocol}
 use Rattle.bus_register.specs.Words.{register, SumFits}
@@ -23,7 +23,7 @@ use Rattle.bus_world.proofs.EventTrails as plain_trails_of
 use Rattle.bus_world.proofs.LogLaws.{length-read}
 use Rattle.bus_world.proofs.PlayingLaws as plain
 use Rattle.bus_world.proofs.Serving.{Serves}
-use Rattle.bus_world.proofs.RingFits as fits
+use Rattle.bus_world.proofs.CyclicMachineFits as fits
 use Rattle.bus_world.proofs.Stopping.{not_stopped}
 use Rattle.bus_world.proofs.TurningLaws.{side_of}
 use Rattle.bus_world.proofs.ViewingLaws.{read-list}
@@ -36,8 +36,8 @@ use Rattle.bus_world.specs.World.{Bus, Event, Put, Close, Turn, Recv, Stop, give
 use Rattle.bus_world.specs.declared.events.Answer.{Answer}
 use Rattle.bus_machine.proofs.AtNone as none
 use Rattle.bus_machine.proofs.Leading.{Sits, led_ring, ring_serves, ring_ok, ring_two}
-use Rattle.bus_machine.proofs.Promised.{guest_at}
-use Rattle.bus_machine.specs.Bridge.{of_bus, of_cyclic, plain_trails, ring_trails}
+use Rattle.bus_machine.proofs.Promised.{participant_at}
+use Rattle.bus_machine.specs.Proved.Bridge.{of_bus, of_cyclic, plain_trails, ring_trails}
 use Rattle.bus_machine.specs.Machine.{Machine, Trails, Reached, Then, Happens, trails_grown, log_place, log_of, turn_answer, going}
 use Rattle.bus_machine.specs.Playing.{IsHeld, AreRows}
 use Rattle.bus_machine.specs.Promise.{HasRows}
@@ -82,10 +82,10 @@ module _ {E : Type 0} (X : Election E) (P : Protocol E (Unit {0}) ℕ) where
     pub is : m ≡ of_bus m.layout bus
     pub served : MachineInvariant X P record { layout = m.layout; bus = bus }
 
-  pub record HeldRing (m : Machine E) : Type 0 where
-    pub bus : CyclicBus E
+  pub record HeldCyclic (m : Machine E) : Type 0 where
+    pub bus : OwnedCyclicMachine E
     pub is : m ≡ of_cyclic bus
-    pub served : IsServedRing X bus
+    pub served : IsServedCyclic X bus
 
   module _ (m : Machine E) (s : Serves X P m.layout) (h : IsHeld X m) where
     pub held_plain : m.reuse ≡ None → HeldPlain m
@@ -108,7 +108,7 @@ module _ {E : Type 0} (X : Election E) (P : Protocol E (Unit {0}) ℕ) where
           };
         }
 
-    pub held_ring : (rows : ℕ) → m.reuse ≡ Some rows → HeldRing m
+    pub held_ring : (rows : ℕ) → m.reuse ≡ Some rows → HeldCyclic m
     held_ring rows used =
         let t = sits m s h in
         let i = led_ring X P m h.trails t h.reached rows used in
@@ -124,7 +124,7 @@ module _ {E : Type 0} (X : Election E) (P : Protocol E (Unit {0}) ℕ) where
             rows_few = r.0.1;
             capacity_few = subst (λ (y : Machine E). y.layout.capacity ≤ 65536) i.is h.capacity_few;
             tenures = r.1;
-            senders = sym (length-map z.ring.guests again) ∙ subst (λ (y : Machine E). length y.senders ≡ y.layout.senders) i.is h.senders;
+            senders = sym (length-map z.ring.participants again) ∙ subst (λ (y : Machine E). length y.senders ≡ y.layout.senders) i.is h.senders;
             owners_few = few;
             is = (cyclic.led X P z (ring_serves X P m t z i.is) (ring_ok X P m t z i.is) (ring_two X P m t z i.is) (ring_trails h.trails) i.leads).is;
             trails = ring_trails h.trails;
@@ -132,7 +132,7 @@ module _ {E : Type 0} (X : Election E) (P : Protocol E (Unit {0}) ℕ) where
           };
         }
 
-    ring_served : (k : HeldRing m) → Serves X P k.bus.ring.layout
+    ring_served : (k : HeldCyclic m) → Serves X P k.bus.ring.layout
     ring_served k = subst (Serves X P) (ap (λ (y : Machine E). y.layout) k.is) s
 
     -- ---- where there are this many words
@@ -199,8 +199,8 @@ module _ {E : Type 0} (X : Election E) (P : Protocol E (Unit {0}) ℕ) where
       plain_at : (k : HeldPlain m) → (c : Core E) × (slice_get k.bus.side.senders p ≡ Some c) × (v ≡ apart c)
       plain_at k = core_there (slice_get k.bus.side.senders p) (sym (slice_get-map apart k.bus.side.senders p) ∙ subst (λ (y : Machine E). slice_get y.senders p ≡ Some v) k.is at)
 
-      ring_at : (k : HeldRing m) → (u : _) × (slice_get k.bus.ring.guests p ≡ Some u) × (v ≡ again u)
-      ring_at k = guest_at X k.bus p v (subst (λ (y : Machine E). slice_get y.senders p ≡ Some v) k.is at)
+      ring_at : (k : HeldCyclic m) → (u : _) × (slice_get k.bus.ring.participants p ≡ Some u) × (v ≡ again u)
+      ring_at k = participant_at X k.bus p v (subst (λ (y : Machine E). slice_get y.senders p ≡ Some v) k.is at)
 
       pub room : length m.words ≡ words_all v
       room = by m.reuse refl where

@@ -1,8 +1,8 @@
 -- What leads to a machine of sizes that are served, as each of the two kinds of rows has it.
 use Rattle.std.proofs.Common.{◌≡◌, ℕ, ◌≤◌, Some, [], sym, ◌∙◌, ap, subst}
-use Rattle.bus_cyclic.proofs.CyclicLaws.{leads_on}
-use Rattle.bus_cyclic.proofs.LastTakers.{none_took}
-use Rattle.bus_cyclic.specs.Cyclic.{CyclicBus, LeadTo, AreLastTakers}
+use Rattle.bus_machine.proofs.Cyclic.CyclicLaws.{leads_on}
+use Rattle.bus_machine.proofs.Cyclic.LastTakers.{none_took}
+use Rattle.bus_machine.specs.Proved.Cyclic.{OwnedCyclicMachine, LeadTo, AreLastTakers}
 use Rattle.bus_register.specs.Protocol.{Protocol}
 use Rattle.bus_tenure.specs.Core.{Election}
 use Rattle.bus_world.proofs.Serving.{Serves}
@@ -11,7 +11,7 @@ use Rattle.bus_world.specs.World.{Event}
 use Rattle.bus_world.specs.declared.events.Answer.{Answer}
 use Rattle.bus_machine.proofs.AtNone.{event_reuse}
 use Rattle.bus_machine.proofs.AtSome.{happens_at_some, new_ring}
-use Rattle.bus_machine.specs.Bridge.{of_cyclic, ring_trails, AreSized}
+use Rattle.bus_machine.specs.Proved.Bridge.{of_cyclic, ring_trails, AreSized}
 use Rattle.bus_machine.specs.Machine.{Machine, Trails, Reached, New as Start, Then as Next, Happens, trails_grown}
 use Rattle.bus_machine.specs.Promise.{HasRows}
 
@@ -29,7 +29,7 @@ module _ {E : Type 0} (X : Election E) (P : Protocol E (Unit {0}) ℕ) where
   sits_after w m e a h s = let i = event_reuse X w m e a h in record { serves = subst (Serves X P) (sym i.0) s.serves; ok = subst IsLayout (sym i.0) s.ok; rows = subst HasRows (sym i.1) s.rows }
 
   -- ---- rows that are used again
-  module _ (m : Machine E) (s : Sits m) (z : CyclicBus E) (is : m ≡ of_cyclic z) where
+  module _ (m : Machine E) (s : Sits m) (z : OwnedCyclicMachine E) (is : m ≡ of_cyclic z) where
     pub ring_serves : Serves X P z.ring.layout
     ring_serves = subst (Serves X P) (ap (λ (y : Machine E). y.layout) is) s.serves
 
@@ -40,13 +40,13 @@ module _ {E : Type 0} (X : Election E) (P : Protocol E (Unit {0}) ℕ) where
     ring_two = subst HasRows (ap (λ (y : Machine E). y.reuse) is) s.rows
 
   -- with who took the last pages
-  pub record IsLedRing (m : Machine E) (T : Trails) : Type 0 where
-    pub bus : CyclicBus E
+  pub record IsLedCyclic (m : Machine E) (T : Trails) : Type 0 where
+    pub bus : OwnedCyclicMachine E
     pub is : m ≡ of_cyclic bus
     pub sized : AreSized bus.ring
     pub leads : LeadTo X bus (ring_trails T)
 
-  pub led_ring : (m : Machine E) (T : Trails) → Sits m → Reached X m T → (rows : ℕ) → m.reuse ≡ Some rows → IsLedRing m T
+  pub led_ring : (m : Machine E) (T : Trails) → Sits m → Reached X m T → (rows : ℕ) → m.reuse ≡ Some rows → IsLedCyclic m T
   led_ring m T s (Start w new) rows e =
       let i = new_ring X w new rows e in
       let none : [] ≡ i.bus.owners = sym new.owners ∙ ap (λ (y : Machine E). y.owners) i.is in

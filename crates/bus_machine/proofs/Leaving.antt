@@ -3,7 +3,7 @@ use Rattle.std.proofs.Common.{◌≡◌, ◌≢◌, ℕ, ◌+◌, ◌*◌, ◌<�
 use Rattle.std.proofs.lemmas.List.{get_or-set_same}
 use Rattle.bus_core.specs.Senders.{Sender, Situation, Does, Announces, Validates, Unpins, Withdraws, Scans, Clears, situation}
 use Rattle.bus_core.specs.Table.{line, line_now}
-use Rattle.bus_guest.specs.Keeping.{held_of}
+use Rattle.bus_core.specs.Reusing.Keeping.{held_of}
 use Rattle.bus_machine.proofs.Own.{own_of}
 use Rattle.bus_machine.specs.Machine.{Machine, Trails, Happens, TakesTurn, IsOnWord, going, has_stopped, turn_answer, trails_grown, stage_of}
 use Rattle.bus_machine.specs.Promise.{IsPromised, IsPagedBy}

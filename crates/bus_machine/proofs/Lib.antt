@@ -1,15 +1,21 @@
+pub mod Cyclic
 pub mod Takes
 pub mod Own
 pub mod AtNone
 pub mod AtSome
 pub mod Leading
 pub mod Paging
+pub mod Framed
+pub mod Clearing
+pub mod Knowing
+pub mod Joining
+pub mod Bounding
 pub mod Promised
 pub mod Staying
 pub mod Rising
 pub mod Following
+pub mod PinBounds
 pub mod Leaving
-pub mod Refusing
 pub mod StopLaws
 pub mod Holding
 pub mod TurnLaws
@@ -20,3 +26,5 @@ pub mod NewSenders
 pub mod PlayLaws
 pub mod Calls
 pub mod RefusalLaws
+mod PromiseRefused
+mod LogRefused

@@ -1,5 +1,6 @@
 -- Events that are played one after another, and what is said of all of them.
-use Rattle.std.proofs.Common.{Bool, ◌≡◌, ℕ, ◌≤◌, Option, Some, None, List, [], ◌∷◌, ◌++◌, arith, refl, sym, ◌∙◌, ap, subst}
+use Rattle.std.proofs.Common.{Bool, ◌≡◌, ℕ, ◌≤◌, Option, Some, None, List, [], ◌∷◌, ◌++◌, arith, refl, sym, ◌∙◌, ap, subst, append_assoc}
+use Rattle.std.proofs.lemmas.List.{append-nil}
 use Rattle.bus_register.specs.Protocol.{Protocol}
 use Rattle.bus_adoptcommit.specs.declared.verdicts.Verdict.{Verdict}
 use Rattle.bus_tenure.specs.Core.{Election, Layout}
@@ -13,8 +14,8 @@ use Rattle.bus_machine.proofs.Leading.{Sits, sits_after}
 use Rattle.bus_machine.proofs.Promised.{promised}
 use Rattle.bus_machine.proofs.Staying.{Longer, stays_long, grown_longer, promise_stays}
 use Rattle.bus_machine.specs.Machine.{Machine, Trails, Reached, trails_grown, log_of, stage_of}
-use Rattle.bus_machine.specs.Playing.{Answers, AllAnswered, trails_after, Played}
-use Rattle.bus_machine.specs.Promise.{HasGoneOn, actions_in}
+use Rattle.bus_machine.specs.Playing.{Answers, AllAnswered, trails_after, words_after, Played}
+use Rattle.bus_machine.specs.Promise.{HasGoneOn, actions_in, words_joined}
 
 -- one event more
 pub answered_more : {S : Type 0} (X : Election (Elector S)) (P : Protocol S Bool Verdict) (events : List Event) (old mid new : Machine (Elector S)) (e : Event) (a : Answer) → AllAnswered X P old events mid → Answers X P mid e a new → AllAnswered X P old (events ++ e ∷ []) new
@@ -32,6 +33,14 @@ module _ {S : Type 0} (X : Election (Elector S)) (Q : Protocol S Bool Verdict) w
   run_grows : (events : List Event) (old new : Machine (Elector S)) → AllAnswered X Q old events new → IsPrefix (log_of old) (log_of new)
   run_grows [] old new run = same_prefix (log_of old) (log_of new) (ap log_of run)
   run_grows (e ∷ events) old new run = prefix_after (log_of old) (log_of run.0) (log_of new) run.2.follows.grows (run_grows events run.0 new run.3)
+
+  -- the words that have joined
+  run_joins : (events : List Event) (old new : Machine (Elector S)) (run : AllAnswered X Q old events new)
+      → log_of new ≡ log_of old ++ words_after X Q old events new run
+  run_joins [] old new run = ap log_of run ∙ sym (append-nil (log_of old))
+  run_joins (e ∷ events) old new run =
+      run_joins events run.0 new run.3 ∙ ap (λ w. w ++ words_after X Q run.0 events new run.3) run.2.follows.joins
+      ∙ append_assoc (log_of old) (words_joined X old e) (words_after X Q run.0 events new run.3)
 
   run_rises : (events : List Event) (old new : Machine (Elector S)) → AllAnswered X Q old events new → stage_of old ≤ stage_of new
   run_rises [] old new run = let same = ap stage_of run in omega arith
@@ -64,6 +73,7 @@ module _ {S : Type 0} (X : Election (Elector S)) (Q : Protocol S Bool Verdict) w
   played P events old new s run = record {
     answered = run;
     extends = record {
+      joins = run_joins events old new run;
       grows = run_grows events old new run;
       rises = run_rises events old new run;
       reached = λ T r. run_reached events old new run T r;

@@ -1,41 +1,49 @@
 -- The promise of the bus with a row for each tenure, and of the one whose rows are used again, is that of the machine which it is.
-use Rattle.std.proofs.Common.{◌≡◌, ℕ, ◌≤◌, Option, Some, None, List, ◌++◌, map, slice_get, slice_index, arith, refl, sym, ◌∙◌, ap, subst, ◌*◌, ◌+◌}
+use Rattle.std.proofs.Common.{◌≡◌, ◌≢◌, ℕ, ◌<◌, ◌≤◌, Option, Some, None, List, ◌++◌, map, slice_get, slice_index, arith, refl, sym, ◌∙◌, ap}
+use Rattle.std.proofs.Common.{subst, ◌*◌, ◌+◌}
 use Rattle.std.proofs.Math.Path.{fun_ext}
 use Rattle.std.proofs.lemmas.Option.{slice_get-map, same_Some}
 use Rattle.std.specs.Prelude.{option_map}
 use Rattle.bus_batch.proofs.FrameLaws.{spells_one}
 use Rattle.bus_batch.specs.Frames.{Order, Spells, log_words, order_of, tenure_and_owner}
-use Rattle.bus_core.specs.Senders.{Sender, Does, apart, again, situation}
-use Rattle.bus_cyclic.proofs.CyclicLaws.{kept_at, layout_served, led}
-use Rattle.bus_cyclic.specs.Cyclic.{CyclicBus, AreLastTakers, LeadTo}
+use Rattle.bus_core.specs.Keeping.{reclaimer_in}
+use Rattle.bus_core.specs.Senders.{Sender, Does, Clears, apart, again, situation}
+use Rattle.bus_core.specs.Table.{line, line_now}
+use Rattle.bus_machine.proofs.Cyclic.CyclicLaws.{kept_at, layout_served, led}
+use Rattle.bus_machine.specs.Proved.Cyclic.{OwnedCyclicMachine, AreLastTakers, LeadTo}
 use Rattle.bus_deliverylog.specs.Orders.{of_sender}
-use Rattle.bus_guest.specs.Guests.{log_from}
-use Rattle.bus_guest.specs.Guests.{sizes_with}
-use Rattle.bus_guest.specs.Turns.{Visitor}
-use Rattle.bus_presence.specs.Reclamation.{Reached as ReclamationReached}
-use Rattle.bus_presence.specs.Standing.{IsSafe}
+use Rattle.bus_core.specs.Reusing.Participants.{log_from, sizes_with}
+use Rattle.bus_core.specs.Reusing.Turns.{Participant}
+use Rattle.bus_presence.specs.Reclamation.{Reached as ReclamationReached, row_of}
+use Rattle.bus_presence.specs.Standing.{IsSafe, Stands}
 use Rattle.bus_presence.specs.Reclaimers.{Reclaiming}
 use Rattle.bus_register.specs.Protocol.{Protocol}
+use Rattle.bus_register.specs.Words.{register}
+use Rattle.bus_register.specs.declared.registers.Op.{Op}
+use Rattle.bus_register.specs.declared.registers.Op.TheVariants.{Store}
 use Rattle.bus_tenure.specs.Core.{Core, Election, Layout, log_at}
-use Rattle.bus_guest.specs.Keeping.{held_of}
+use Rattle.bus_core.specs.Reusing.Keeping.{held_of}
 use Rattle.bus_tenure.specs.Situations.{TakesPage, situation_of}
 use Rattle.bus_world.proofs.EventTrails as plain
-use Rattle.bus_world.proofs.RingLaws.{IsRingLayout, IsLed}
+use Rattle.bus_world.proofs.CyclicMachineLaws.{IsCyclicLayout, IsLed}
 use Rattle.bus_world.proofs.Serving.{Serves}
 use Rattle.bus_world.proofs.Waiting.{waiting_of}
-use Rattle.bus_world.proofs.YardLaws.{HasKept, led_kept, words_read}
+use Rattle.bus_world.proofs.CyclicProtocolLaws.{HasKept, led_kept, words_read}
 use Rattle.bus_world.specs.Bus.{IsLayout}
 use Rattle.bus_world.specs.Headline.{puts}
 use Rattle.bus_world.specs.Log.{words_read_from}
-use Rattle.bus_world.specs.Rings.{Ring, IsKeptRing, yard_of, core_in}
-use Rattle.bus_world.specs.Rings as rings
+use Rattle.bus_world.specs.CyclicMachines.{CyclicMachine, IsKeptCyclic, yard_of, core_in}
+use Rattle.bus_world.specs.CyclicMachines as rings
 use Rattle.bus_world.specs.Trails.{Reached as PlainReached}
 use Rattle.bus_world.specs.Waiting.{waiting_at}
 use Rattle.bus_world.specs.World.{Bus}
-use Rattle.bus_world.specs.Yards.{Yard}
+use Rattle.bus_world.specs.CyclicProtocols.{CyclicProtocol}
 use Rattle.bus_machine.proofs.AtNone.{reached_at_none}
 use Rattle.bus_machine.proofs.Leading.{Sits, led_ring, ring_serves, ring_ok, ring_two}
-use Rattle.bus_machine.specs.Bridge.{of_bus, of_cyclic, plain_trails, ring_trails}
+use Rattle.bus_machine.specs.Proved.Bridge.{of_bus, of_cyclic, plain_trails, ring_trails}
+use Rattle.bus_machine.proofs.Clearing.{clearing, spared}
+use Rattle.bus_machine.proofs.Framed.{IsFramed, framed}
+use Rattle.bus_machine.proofs.Knowing.{knows, out, past}
 use Rattle.bus_machine.proofs.Own.{own_of}
 use Rattle.bus_machine.proofs.Paging.{paged, finds_page, holds_page}
 use Rattle.bus_machine.specs.Machine.{Machine, Trails, Reached, stage_of}
@@ -43,30 +51,48 @@ use Rattle.bus_machine.specs.Promise.{IsPromised, IsPagedBy, FindsPage, reclamat
 
 module _ {E : Type 0} (X : Election E) where
   -- ---- rows that are used again
-  module _ (z : CyclicBus E) where
-    pin_same : (p : ℕ) (o : Option (Visitor E)) → slice_get (map again z.ring.guests) p ≡ option_map again o → rings.pin_in o ≡ pin_in (slice_get (map again z.ring.guests) p)
+  module _ (z : OwnedCyclicMachine E) where
+    pin_same : (p : ℕ) (o : Option (Participant E)) → slice_get (map again z.ring.participants) p ≡ option_map again o → rings.pin_in o ≡ pin_in (slice_get (map again z.ring.participants) p)
     pin_same p None i = sym (ap pin_in i)
     pin_same p (Some v) i = sym (ap pin_in i)
 
     reclamation_is : (reclaimer : Option Reclaiming) (owners : List ℕ) → (yard_of z.ring reclaimer owners).reclamation ≡ reclamation_of (of_cyclic z) reclaimer
-    reclamation_is reclaimer owners = ap (λ f. record { words = slice_index z.ring.words; pins = f; reclaimer = reclaimer }) (fun_ext (λ p. pin_same p (slice_get z.ring.guests p) (slice_get-map again z.ring.guests p)))
+    reclamation_is reclaimer owners = ap (λ f. record { words = slice_index z.ring.words; pins = f; reclaimer = reclaimer }) (fun_ext (λ p. pin_same p (slice_get z.ring.participants p) (slice_get-map again z.ring.participants p)))
 
-    there_as : (v : Sender E) (o : Option (Visitor E)) → option_map again o ≡ Some v → (u : Visitor E) × (o ≡ Some u) × (v ≡ again u)
+    there_as : (v : Sender E) (o : Option (Participant E)) → option_map again o ≡ Some v → (u : Participant E) × (o ≡ Some u) × (v ≡ again u)
     there_as v None e = absurd cc
     there_as v (Some u) e = (u, refl, sym (same_Some _ _ e))
 
-    pub guest_at : (p : ℕ) (v : Sender E) → slice_get (of_cyclic z).senders p ≡ Some v → (u : Visitor E) × (slice_get z.ring.guests p ≡ Some u) × (v ≡ again u)
-    guest_at p v at = there_as v (slice_get z.ring.guests p) (sym (slice_get-map again z.ring.guests p) ∙ at)
+    pub participant_at : (p : ℕ) (v : Sender E) → slice_get (of_cyclic z).senders p ≡ Some v → (u : Participant E) × (slice_get z.ring.participants p ≡ Some u) × (v ≡ again u)
+    participant_at p v at = there_as v (slice_get z.ring.participants p) (sym (slice_get-map again z.ring.participants p) ∙ at)
 
     -- with what the frames of its log say of the page, and of what senders have put
-    record Beside (T : Trails) (order : Order) : Type 0 where
+    record Beside (P : Protocol E (Unit {0}) ℕ) (T : Trails) (order : Order) : Type 0 where
+      frames : IsFramed P (of_cyclic z) T
       paged : IsPagedBy (stage_of (of_cyclic z)) (slice_index z.ring.words 0) order.ended z.ring.home
-      finds : (p : ℕ) (u : Visitor E) (t : ℕ) → slice_get z.ring.guests p ≡ Some u → situation_of X u.core ≡ TakesPage t → FindsPage (of_cyclic z) t
-      holds : (p : ℕ) (u : Visitor E) (t : ℕ) → slice_get z.ring.guests p ≡ Some u → held_of u.core.phase ≡ Some t → stage_of (of_cyclic z) ≡ 2 * t + 1
-      sent : (p : ℕ) (u : Visitor E) → slice_get z.ring.guests p ≡ Some u → puts (T.actions p) ≡ map (λ i. i.message) (of_sender p order) ++ waiting_at u.core u.core.phase
+      finds : (p : ℕ) (u : Participant E) (t : ℕ) → slice_get z.ring.participants p ≡ Some u → situation_of X u.core ≡ TakesPage t → FindsPage (of_cyclic z) t
+      holds : (p : ℕ) (u : Participant E) (t : ℕ) → slice_get z.ring.participants p ≡ Some u → held_of u.core.phase ≡ Some t → stage_of (of_cyclic z) ≡ 2 * t + 1
+      sent : (p : ℕ) (u : Participant E) → slice_get z.ring.participants p ≡ Some u → puts (T.actions p) ≡ map (λ i. i.message) (of_sender p order) ++ waiting_at u.core u.core.phase
 
-    promised_at_some : (T : Trails) (p : IsKeptRing X z.ring (ring_trails T)) → AreLastTakers z.ring.rows z.owners T.actions → Beside T p.kept.order → IsPromised X (of_cyclic z) T
-    promised_at_some T p l beside =
+    -- no step clears a word of a row in which anybody stands
+    spares_at : (T : Trails) (k : IsKeptCyclic X z.ring (ring_trails T)) (p q t place word : ℕ) (v : Sender E) (s : Reclaiming) (o : Op)
+        → slice_get (of_cyclic z).senders p ≡ Some v
+        → situation X v ≡ Clears s → (line_now X v).op word ≡ Some o → Stands (sizes_with z.ring.layout z.ring.rows) q (T.pins q) t
+        → place < z.ring.layout.width
+        → register o ≢ row_of (sizes_with z.ring.layout z.ring.rows) t + place
+    spares_at T k p q t place word v s o at i next stands low same =
+        let c = clearing X v s i in
+        let u = participant_at p v at in
+        let held = subst (λ (y : Sender E). held_of y.core.phase ≡ Some c.tenure) u.2 c.held in
+        let mine : k.leads.reclaimer ≡ Some s = sym (k.leads.holder p u.0 c.tenure u.1 held)
+        ∙ sym (ap (λ (y : Sender E). reclaimer_in y.reuse) u.2) ∙ c.reclaims in
+        let due : Some (Store record { 0 = s.row + s.cleared } 0) ≡ Some o = sym (ap (λ w. (line X v w).op word) i) ∙ next in
+        spared (sizes_with z.ring.layout z.ring.rows) (yard_of z.ring k.leads.reclaimer k.leads.owners).reclamation T.pins k.kept.by.safe s
+        mine c.step q t place stands low (ap register (same_Some _ _ due) ∙ same)
+
+    promised_at_some : (P : Protocol E (Unit {0}) ℕ) (T : Trails) (p : IsKeptCyclic X z.ring (ring_trails T))
+        → AreLastTakers z.ring.rows z.owners T.actions → Beside P T p.kept.order → IsPromised X (of_cyclic z) T
+    promised_at_some P T p l beside =
         let by = p.kept.by in
         let reclamation = reclamation_is p.leads.reclaimer p.leads.owners in
         let x = sizes_with z.ring.layout z.ring.rows in
@@ -78,18 +104,22 @@ module _ {E : Type 0} (X : Election E) where
             takers = record { all = l.all; takers = l.takers; told = l.last_are };
             promises = by.promises;
             paged = beside.paged;
-            finds = λ q v t at takes. let u = guest_at q v at in beside.finds q u.0 t u.1 (own_of (again u.0).reuse (situation_of X u.0.core) (TakesPage t) (subst (λ y. situation X y ≡ Does (TakesPage t)) u.2 takes));
-            holds = λ q v t at held. let u = guest_at q v at in beside.holds q u.0 t u.1 (subst (λ (y : Sender E). held_of y.core.phase ≡ Some t) u.2 held);
-            sent = λ q v at. let u = guest_at q v at in subst (λ (y : Sender E). puts (T.actions q) ≡ map (λ i. i.message) (of_sender q p.kept.order) ++ waiting_at y.core y.core.phase) (sym u.2) (beside.sent q u.0 u.1);
+            finds = λ q v t at takes. let u = participant_at q v at in beside.finds q u.0 t u.1 (own_of (again u.0).reuse (situation_of X u.0.core) (TakesPage t) (subst (λ y. situation X y ≡ Does (TakesPage t)) u.2 takes));
+            holds = λ q v t at held. let u = participant_at q v at in beside.holds q u.0 t u.1 (subst (λ (y : Sender E). held_of y.core.phase ≡ Some t) u.2 held);
+            knows = knows X P (of_cyclic z) T beside.frames p.kept.order p.kept.owners by.spelled;
+            out = out X P (of_cyclic z) T beside.frames record { all = l.all; takers = l.takers; told = l.last_are };
+            past = λ q v t page stored word o at. past X P (of_cyclic z) T beside.frames q v at t page stored word o;
+            sent = λ q v at. let u = participant_at q v at in subst (λ (y : Sender E). puts (T.actions q) ≡ map (λ i. i.message) (of_sender q p.kept.order) ++ waiting_at y.core y.core.phase) (sym u.2) (beside.sent q u.0 u.1);
             reuse = record {
               reclaimer = p.leads.reclaimer;
-              holder = λ q v t at held. let u = guest_at q v at in
-                  subst (λ (y : Sender E). Rattle.bus_core.specs.Keeping.reclaimer_in y.reuse ≡ p.leads.reclaimer) (sym u.2) (p.leads.holder q u.0 t u.1 (subst (λ (y : Sender E). Rattle.bus_guest.specs.Keeping.held_of y.core.phase ≡ Some t) u.2 held));
+              holder = λ q v t at held. let u = participant_at q v at in
+                  subst (λ (y : Sender E). Rattle.bus_core.specs.Keeping.reclaimer_in y.reuse ≡ p.leads.reclaimer) (sym u.2) (p.leads.holder q u.0 t u.1 (subst (λ (y : Sender E). Rattle.bus_core.specs.Reusing.Keeping.held_of y.core.phase ≡ Some t) u.2 held));
               reached = subst (λ h. ReclamationReached x h T.pins) reclamation by.reached;
               safe = subst (λ h. IsSafe x h T.pins) reclamation by.safe;
               ready = by.ready;
-              stands = λ q v t e at ph. let u = guest_at q v at in by.stands q u.0.core t e (ap core_in u.1) (sym (ap (λ (y : Sender E). y.core.phase) u.2) ∙ ph);
-              within = λ q v t e word o at ph next. let u = guest_at q v at in by.within q u.0.core t e word o (ap core_in u.1) (sym (ap (λ (y : Sender E). y.core.phase) u.2) ∙ ph) next;
+              stands = λ q v t e at ph. let u = participant_at q v at in by.stands q u.0.core t e (ap core_in u.1) (sym (ap (λ (y : Sender E). y.core.phase) u.2) ∙ ph);
+              within = λ q v t e word o at ph next. let u = participant_at q v at in by.within q u.0.core t e word o (ap core_in u.1) (sym (ap (λ (y : Sender E). y.core.phase) u.2) ∙ ph) next;
+              spares = spares_at T p;
             };
           };
         }
@@ -97,7 +127,8 @@ module _ {E : Type 0} (X : Election E) where
 -- whatever leads to a machine, the promise holds of it
 module _ {E : Type 0} (X : Election E) (P : Protocol E (Unit {0}) ℕ) where
   -- ---- with a row for each tenure
-  module _ (x : Layout) (q : Serves X P x) (ok : IsLayout x) (b : Bus E) (T : Trails) (r : PlainReached X x b (plain_trails T)) where
+  module _ (x : Layout) (q : Serves X P x) (ok : IsLayout x) (b : Bus E) (T : Trails) (r : PlainReached X x b (plain_trails T))
+      (f : IsFramed P (of_bus x b) T) where
     k : plain.Kept X P q.laws x ok q.width q.starts q.owner_is q.named q.announces q.apart b (plain_trails T)
     k = plain.reached_kept X P q.laws x ok q.width q.starts q.owner_is q.named q.announces q.apart b (plain_trails T) r
 
@@ -128,6 +159,9 @@ module _ {E : Type 0} (X : Election E) (P : Protocol E (Unit {0}) ℕ) where
             holds = λ s v t at held.
                 let c = core_at s v at in
                 holds_page X P q.laws x ok q.width q.starts q.owner_is (slice_index b.side.words) b.side.home (slice_get b.side.senders) b.side.owners k.frames sending s c.0 c.1 t (subst (λ (y : Sender E). held_of y.core.phase ≡ Some t) c.2 held);
+            knows = knows X P (of_bus x b) T f (order_of k.frames) (map tenure_and_owner k.frames) p.spelled;
+            out = out X P (of_bus x b) T f record { all = b.side.owners; takers = p.takers; told = refl };
+            past = λ s v t page stored word o at. past X P (of_bus x b) T f s v at t page stored word o;
             sent = λ s v at. let c = core_at s v at in
                 subst (λ (y : Sender E). puts (T.actions s) ≡ map (λ i. i.message) (of_sender s (order_of k.frames)) ++ waiting_at y.core y.core.phase) (sym c.2)
                 (k.tied.puts s ∙ ap (λ o. map (λ i. i.message) (of_sender s (order_of k.frames)) ++ waiting_of o) c.1);
@@ -136,20 +170,21 @@ module _ {E : Type 0} (X : Election E) (P : Protocol E (Unit {0}) ℕ) where
         }
 
   -- ---- with rows that are used again
-  module _ (z : CyclicBus E) (q : Serves X P z.ring.layout) (ok : IsLayout z.ring.layout) (two : 2 ≤ z.ring.rows) (T : Trails) (l : LeadTo X z (ring_trails T)) where
-    x : IsRingLayout X P q.laws q.owner_is q.named q.announces q.apart z.ring.layout z.ring.rows
+  module _ (z : OwnedCyclicMachine E) (q : Serves X P z.ring.layout) (ok : IsLayout z.ring.layout) (two : 2 ≤ z.ring.rows) (T : Trails)
+      (l : LeadTo X z (ring_trails T)) (f : IsFramed P (of_cyclic z) T) where
+    x : IsCyclicLayout X P q.laws q.owner_is q.named q.announces q.apart z.ring.layout z.ring.rows
     x = layout_served X P z.ring.layout z.ring.rows q ok two
 
     h : IsLed X P q.laws q.owner_is q.named q.announces q.apart z.ring (ring_trails T)
     h = led X P z q ok two (ring_trails T) l
 
-    abbrev y : Yard E
+    abbrev y : CyclicProtocol E
     y = yard_of z.ring h.leads.reclaimer h.leads.owners
 
     kept : HasKept X P q.laws z.ring.layout x.ok x.width x.starts q.owner_is q.named q.announces q.apart z.ring.rows x.two T.heard y T.pins T.actions
     kept = led_kept X P q.laws z.ring.layout x.ok x.width x.starts q.owner_is q.named q.announces q.apart z.ring.rows x.two T.heard y T.pins T.actions h.leads.led
 
-    p : IsKeptRing X z.ring (ring_trails T)
+    p : IsKeptCyclic X z.ring (ring_trails T)
     p = kept_at X P z q ok two (ring_trails T) l
 
     log_read : words_read_from (slice_index z.ring.words) (log_from z.ring.layout z.ring.rows) (slice_index z.ring.words 0) ≡ log_words kept.frames
@@ -164,7 +199,8 @@ module _ {E : Type 0} (X : Election E) (P : Protocol E (Unit {0}) ℕ) where
         (subst (λ w. Spells z.ring.layout.senders w p.kept.order p.kept.owners) log_read p.kept.by.spelled)).0
 
     at_some : IsPromised X (of_cyclic z) T
-    at_some = promised_at_some X z T p l.owners record {
+    at_some = promised_at_some X z P T p l.owners record {
+      frames = f;
       paged = subst (λ n. IsPagedBy n (slice_index z.ring.words 0) p.kept.order.ended z.ring.home) (sym kept.kept.laid.stage)
           (subst (λ n. IsPagedBy (kept.V 1) n p.kept.order.ended z.ring.home) (sym kept.kept.laid.length)
           (subst (λ (o : Order). IsPagedBy (kept.V 1) (kept.V 0) o.ended z.ring.home) order_is
@@ -182,7 +218,9 @@ module _ {E : Type 0} (X : Election E) (P : Protocol E (Unit {0}) ℕ) where
     by : (o : Option ℕ) → m.reuse ≡ o → IsPromised X m T
     by None e =
         let i = reached_at_none X m T r e in
-        subst (λ y. IsPromised X y T) (sym i.is) (promised_at_none m.layout s.serves s.ok i.bus T i.reached)
+        subst (λ y. IsPromised X y T) (sym i.is) (promised_at_none m.layout s.serves s.ok i.bus T i.reached
+        (subst (λ y. IsFramed P y T) i.is (framed X P m T s r)))
     by (Some rows) e =
         let i = led_ring X P m T s r rows e in
-        subst (λ y. IsPromised X y T) (sym i.is) (at_some i.bus (ring_serves X P m s i.bus i.is) (ring_ok X P m s i.bus i.is) (ring_two X P m s i.bus i.is) T i.leads)
+        subst (λ y. IsPromised X y T) (sym i.is) (at_some i.bus (ring_serves X P m s i.bus i.is) (ring_ok X P m s i.bus i.is)
+        (ring_two X P m s i.bus i.is) T i.leads (subst (λ y. IsFramed P y T) i.is (framed X P m T s r)))

@@ -19,17 +19,16 @@ use Rattle.bus_tenure.specs.Elections.{Elector}
 use Rattle.bus_tenure.specs.declared.turns.Turn.{Turn as Answered}
 use Rattle.bus_world.specs.Headline.{Action}
 use Rattle.bus_world.specs.Playing.{RecvRefused}
-use Rattle.bus_world.specs.Stopping.{IsOfOther}
 use Rattle.bus_world.specs.Trails.{put_actions, close_actions}
 use Rattle.bus_world.specs.World.{Event, Put, Close, Turn, Recv, Stop, is_set}
-use Rattle.bus_world.specs.Yards.{actions_with}
+use Rattle.bus_world.specs.CyclicProtocols.{actions_with}
 use Rattle.bus_world.specs.declared.events.Answer.{Answer}
 use Rattle.bus_world.specs.declared.events.Answer.TheVariants as answer
 use Rattle.bus_world.specs.declared.events.StepFault.{StepFault}
 use Rattle.bus_world.specs.declared.events.StepFault.TheVariants as fault
 use Rattle.bus_machine.specs.Machine.{Machine, Trails, Reached, New as Start, Then as Next, Happens, IsOnWord, trails_grown, turn_grown, turn_trails, entered, going, has_stopped, found}
 use Rattle.bus_machine.specs.Playing.{Refused, SenderRefused, PutRefused, CloseRefused, AllAnswered, trails_after}
-use Rattle.bus_machine.specs.Stopping.{with_stop_of, JustStopped, StaysStopped, StopsAreForGood, StopRefuses}
+use Rattle.bus_machine.specs.Stopping.{IsOfOther, with_stop_of, JustStopped, StaysStopped, StopsAreForGood, StopRefuses}
 
 -- ---- of each machine that is reached
 module _ {E : Type 0} (X : Election E) where

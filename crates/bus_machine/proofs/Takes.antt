@@ -3,7 +3,7 @@ use Rattle.std.proofs.Common.{◌≡◌, ℕ, List, [], ◌∷◌, ◌++◌, Opt
 use Rattle.bus_core.specs.Senders.{Sender, Situation, Does, Announces, Validates, Unpins, Withdraws, Scans, Clears}
 use Rattle.bus_core.specs.Table.{line, answer_elected, lost_of}
 use Rattle.bus_core.specs.declared.reuses.Reuse.{Reuse}
-use Rattle.bus_guest.specs.Turns.{answer_of_loss, answer_of_reclaim}
+use Rattle.bus_core.specs.Reusing.Turns.{answer_of_loss, answer_of_reclaim}
 use Rattle.bus_presence.specs.Reclaimers.{behind_of}
 use Rattle.bus_presence.specs.declared.reclaimers.Behind.{Behind}
 use Rattle.bus_register.specs.declared.registers.SenderNo.{SenderNo}

@@ -1,8 +1,11 @@
+pub mod Proved
 pub mod Machine
-pub mod Bridge
 pub mod Promise
 pub mod Telling
+pub mod Bounding
 pub mod Playing
 pub mod Turning
 pub mod Stopping
 pub mod Refusals
+pub mod PromiseRefusals
+pub mod LogRefusals

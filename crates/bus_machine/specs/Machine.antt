@@ -14,13 +14,13 @@ use Rattle.bus_tenure.specs.declared.turns.Turn.{Turn as Answered}
 use Rattle.bus_core.specs.Keeping.{queue_of, new_sender}
 use Rattle.bus_core.specs.Senders.{Sender, Situation, Does, Announces, Validates, Unpins, Withdraws, Scans, Clears, situation}
 use Rattle.bus_core.specs.Table.{Line, line_now}
-use Rattle.bus_guest.specs.Guests.{log_from}
+use Rattle.bus_core.specs.Reusing.Participants.{log_from}
 use Rattle.bus_world.specs.Headline.{Action}
 use Rattle.bus_world.specs.Log.{words_read_from}
 use Rattle.bus_world.specs.Trails.{step_action, put_actions, close_actions}
 use Rattle.bus_world.specs.Turning.{words_after, number_found, home_moved, core_moved, after_step}
 use Rattle.bus_world.specs.World.{Event, Put, Close, Turn, Recv, Stop, is_set, no_stops, new_page, IsNewReceiver, RecvDoes}
-use Rattle.bus_world.specs.Yards.{no_actions, no_answers, actions_with, answers_with}
+use Rattle.bus_world.specs.CyclicProtocols.{no_actions, no_answers, actions_with, answers_with}
 use Rattle.bus_world.specs.declared.events.Answer.{Answer}
 use Rattle.bus_world.specs.declared.events.Answer.TheVariants as answer
 

@@ -1,5 +1,6 @@
 -- The machine as a program holds it: which shapes are served, what each call tells, and what is said of events one after another.
-use Rattle.std.specs.Prelude.{◌≡◌, ℕ, ◌+◌, ◌*◌, ◌^◌, ◌≤◌, Bool, true, false, Option, Some, None, List, [], ◌∷◌, length, take, slice_get}
+use Rattle.std.specs.Prelude.{◌≡◌, ℕ, ◌+◌, ◌*◌, ◌^◌, ◌≤◌, Bool, true, false, Option, Some, None, List, [], ◌∷◌, ◌++◌, length, take}
+use Rattle.std.specs.Prelude.{slice_get}
 use Rattle.bus_register.specs.declared.limits.TheConstants.{MOST_SENDERS, MOST_RECEIVERS, MOST_ROUNDS, MOST_ROWS, LEAST_LOG_WORDS, MOST_LOG_WORDS, TENURES}
 use Rattle.bus_register.specs.Protocol.{Protocol}
 use Rattle.bus_adoptcommit.specs.declared.verdicts.Verdict.{Verdict}
@@ -9,7 +10,7 @@ use Rattle.bus_batch.specs.declared.batches.PutFault.{PutFault}
 use Rattle.bus_core.specs.Keeping.{queue_of}
 use Rattle.bus_core.specs.Senders.{Sender}
 use Rattle.bus_deliverylog.specs.Receiving.{Receiving}
-use Rattle.bus_guest.specs.declared.limits.TheConstants.{LEAST_ROWS_AGAIN, MOST_ROWS_AGAIN}
+use Rattle.bus_core.specs.declared.limits.TheConstants.{LEAST_ROWS_AGAIN, MOST_ROWS_AGAIN}
 use Rattle.bus_tenure.specs.Core.{Election, Layout, words_of}
 use Rattle.bus_tenure.specs.Elections.{Elector, layout_with}
 use Rattle.bus_tenure.specs.declared.pages.Page.{Page}
@@ -22,7 +23,7 @@ use Rattle.bus_world.specs.declared.shapes.MakeFault.{MakeFault}
 use Rattle.bus_world.specs.declared.shapes.MakeFault.TheVariants as make
 use Rattle.bus_world.specs.declared.shapes.Shape.{Shape}
 use Rattle.bus_machine.specs.Machine.{Machine, Trails, Happens, IsNew, Reached, trails_grown, has_stopped, no_machine_trails}
-use Rattle.bus_machine.specs.Promise.{Extends, Follows}
+use Rattle.bus_machine.specs.Promise.{Extends, Follows, words_joined}
 use Rattle.bus_machine.specs.Telling.{Causes, Says, Tells, OpensOnly}
 
 -- ---- shapes
@@ -135,10 +136,17 @@ abbrev pub trails_after : {S : Type 0} (X : Election (Elector S)) (P : Protocol 
 trails_after X P old [] new run T = T
 trails_after X P old (e ∷ events) new run T = trails_after X P run.0 events new run.3 (trails_grown X old e run.1 T)
 
+-- the words that join the log with these events, one after another
+abbrev pub words_after : {S : Type 0} (X : Election (Elector S)) (P : Protocol S Bool Verdict) (old : Machine (Elector S))
+    (events : List Event)
+    (new : Machine (Elector S)) → AllAnswered X P old events new → List ℕ
+words_after X P old [] new run = []
+words_after X P old (e ∷ events) new run = words_joined X old e ++ words_after X P run.0 events new run.3
+
 -- all were answered, and what is left follows what there was
 pub record Played {S : Type 0} (X : Election (Elector S)) (P : Protocol S Bool Verdict) (old : Machine (Elector S)) (events : List Event) (new : Machine (Elector S)) : Type 0 where
   pub answered : AllAnswered X P old events new
-  pub extends : Extends X old new (trails_after X P old events new answered)
+  pub extends : Extends X old new (words_after X P old events new answered) (trails_after X P old events new answered)
 
 -- the event at a place is the first that is refused: those before it have happened, and no other
 pub record Stops {S : Type 0} (X : Election (Elector S)) (P : Protocol S Bool Verdict) (old : Machine (Elector S)) (events : List Event) (place : ℕ) (why : StepFault) (new : Machine (Elector S)) : Type 0 where

@@ -1,31 +1,35 @@
 -- What is promised of the machine, and how an event leaves the promise: of both kinds of rows.
-use Rattle.std.specs.Prelude.{◌≡◌, ℕ, ◌+◌, ◌*◌, ◌/◌, ◌<◌, ◌≤◌, Bool, false, Option, Some, None, List, ◌++◌, filter, map, slice_get, slice_index, ◌==◌}
+use Rattle.std.specs.Prelude.{◌≡◌, ◌≢◌, ℕ, ◌+◌, ◌*◌, ◌/◌, ◌<◌, ◌≤◌, Bool, false, Option, Some, None, List, [], ◌++◌, filter, length, map}
+use Rattle.std.specs.Prelude.{slice_get, slice_index, ◌==◌, if◌then◌else◌}
+use Rattle.bus_register.specs.declared.limits.TheConstants.{MOST_SENDERS}
 use Rattle.bus_register.specs.declared.registers.Op.{Op}
 use Rattle.bus_register.specs.declared.registers.SenderNo.{SenderNo}
 use Rattle.bus_register.specs.Words.{register}
-use Rattle.bus_batch.specs.Frames.{Order, Spells}
+use Rattle.bus_batch.specs.Batches.{frame_of}
+use Rattle.bus_batch.specs.Frames.{Frame, Order, Spells, frame_words}
 use Rattle.bus_core.specs.Keeping.{reclaimer_in}
-use Rattle.bus_core.specs.Senders.{Sender, Does, situation}
+use Rattle.bus_core.specs.Senders.{Sender, Does, Clears, situation}
+use Rattle.bus_core.specs.Table.{line_now}
 use Rattle.bus_core.specs.declared.reuses.Reuse.{Reuse}
 use Rattle.bus_deliverylog.specs.Orders.{of_sender, IsPrefixOfOrder}
-use Rattle.bus_guest.specs.Guests.{sizes_with, place_for}
-use Rattle.bus_guest.specs.Keeping.{held_of}
-use Rattle.bus_guest.specs.declared.limits.TheConstants.{LEAST_ROWS_AGAIN}
+use Rattle.bus_core.specs.Reusing.Participants.{sizes_with, place_for}
+use Rattle.bus_core.specs.Reusing.Keeping.{held_of}
+use Rattle.bus_core.specs.declared.limits.TheConstants.{LEAST_ROWS_AGAIN}
 use Rattle.bus_presence.specs.Reclamation.{Reclamation, Reached as ReclamationReached, row_of}
 use Rattle.bus_presence.specs.Standing.{IsSafe, Stands}
 use Rattle.bus_presence.specs.Reclaimers.{Reclaiming}
 use Rattle.bus_presence.specs.declared.pins.Pin.{Pin}
 use Rattle.bus_presence.specs.declared.pins.Pin.TheVariants.{Away}
 use Rattle.bus_tenure.specs.Core.{Election}
-use Rattle.bus_tenure.specs.Situations.{Elects, TakesPage}
+use Rattle.bus_tenure.specs.Situations.{Elects, TakesPage, StoresWord}
 use Rattle.bus_tenure.specs.declared.pages.Page.{Page}
-use Rattle.bus_tenure.specs.declared.phases.Phase.TheVariants.{Electing}
-use Rattle.bus_world.specs.Headline.{Action, HasPut, HasClosed, Stepped, puts, order_given, IsPrefix, Promises}
+use Rattle.bus_tenure.specs.declared.phases.Phase.TheVariants.{Electing, Holding}
+use Rattle.bus_world.specs.Headline.{Action, HasPut, HasClosed, Stepped, Took, puts, order_given, IsPrefix, Promises}
 use Rattle.bus_world.specs.Trails.{Takers}
 use Rattle.bus_world.specs.Waiting.{waiting_at}
-use Rattle.bus_world.specs.World.{Event}
+use Rattle.bus_world.specs.World.{Event, Put, Close, Turn, Recv, Stop}
 use Rattle.bus_world.specs.declared.events.Answer.{Answer}
-use Rattle.bus_machine.specs.Machine.{Machine, Trails, Reached, trails_grown, owners_told, log_of, stage_of}
+use Rattle.bus_machine.specs.Machine.{Machine, Trails, Reached, trails_grown, owners_told, log_place, log_of, stage_of, going}
 
 -- a row for each tenure, or two rows or more
 abbrev pub HasRows : Option ℕ → Type 0
@@ -66,6 +70,10 @@ pub record ReusesRows {E : Type 0} (X : Election E) (m : Machine E) (T : Trails)
   -- and its next step is on a word of the row that this tenure uses
   pub within : (p : ℕ) (v : Sender E) (t : ℕ) (e : E) (word : ℕ) (o : Op) → slice_get m.senders p ≡ Some v → v.core.phase ≡ Electing t e → X.op e word ≡ Some o
       → (row_of (sizes_with m.layout rows) t ≤ place_for m.layout rows (Elects t e) (register o)) × (place_for m.layout rows (Elects t e) (register o) < row_of (sizes_with m.layout rows) t + m.layout.width)
+  -- no step clears a word of a row in which anybody stands
+  pub spares : (p q t place word : ℕ) (v : Sender E) (s : Reclaiming) (o : Op) → slice_get m.senders p ≡ Some v → situation X v ≡ Clears s
+      → (line_now X v).op word ≡ Some o → Stands (sizes_with m.layout rows) q (T.pins q) t → place < m.layout.width
+      → register o ≢ row_of (sizes_with m.layout rows) t + place
 
 abbrev pub ReusesSafely : {E : Type 0} → Election E → Machine E → Trails → Option ℕ → Type 0
 ReusesSafely X m T None = Unit {0}
@@ -77,6 +85,40 @@ ReusesSafely X m T (Some rows) = ReusesRows X m T rows
 abbrev pub IsPagedBy : (stage len : ℕ) → Bool → Option Page → Type 0
 IsPagedBy stage len ended None = (t : ℕ) × (stage ≡ 2 * t + 1)
 IsPagedBy stage len ended (Some page) = (stage ≡ 2 * page.tenures) × (page.words ≡ len) × (page.ended ≡ ended)
+
+-- it knows how many items of each sender this order has
+pub record KnowsOrder (page : Page) (order : Order) : Type 0 where
+  pub entries : length page.next ≡ MOST_SENDERS
+  pub next : (s : ℕ) → s < MOST_SENDERS → slice_index page.next s ≡ length (of_sender s order)
+
+-- A page that is out knows what the log was when it left home: how many words it had, the order that these spell, and the tenures.
+pub record KnowsFront (senders tenure : ℕ) (page : Page) (front : List ℕ) : Type 0 where
+  pub order : Order
+  pub owners : List (ℕ × SenderNo)
+  pub spelled : Spells senders front order owners
+  pub words : page.words ≡ length front
+  pub knows : KnowsOrder page order
+  pub ended : page.ended ≡ order.ended
+  pub tenures : page.tenures ≡ tenure
+
+-- While it is out, who took it last of all has it: the owner of the tenure that is open. Behind the words that it knows stands the owner's
+-- frame, once that is published, and nothing else.
+pub record IsWithOwner {E : Type 0} (m : Machine E) (T : Trails) (owners : List ℕ) : Type 0 where
+  pub tenure : ℕ
+  pub stage : stage_of m ≡ 2 * tenure + 1
+  pub owner : ℕ
+  pub last : slice_get owners tenure ≡ Some owner
+  pub many : length owners ≡ tenure + 1
+  pub took : (place : ℕ) × Took (T.actions owner) tenure place
+  pub sender : Sender E
+  pub there : slice_get m.senders owner ≡ Some sender
+  pub page : Page
+  pub stored : ℕ
+  pub published : Bool
+  pub has : sender.core.phase ≡ Holding tenure page stored published
+  pub front : List ℕ
+  pub knows : KnowsFront m.layout.senders tenure page front
+  pub behind : log_of m ≡ front ++ (if published then frame_words (frame_of sender.core.queue tenure) else [])
 
 -- the page is at home, and the stage is that of this tenure
 pub record FindsPage {E : Type 0} (m : Machine E) (t : ℕ) : Type 0 where
@@ -94,6 +136,13 @@ pub record IsPromisedBy {E : Type 0} (X : Election E) (m : Machine E) (T : Trail
   -- who takes the page of a tenure with its next step finds it at home, in that tenure; and who holds it, holds that of the tenure
   pub finds : (s : ℕ) (v : Sender E) (t : ℕ) → slice_get m.senders s ≡ Some v → situation X v ≡ Does (TakesPage t) → FindsPage m t
   pub holds : (s : ℕ) (v : Sender E) (t : ℕ) → slice_get m.senders s ≡ Some v → held_of v.core.phase ≡ Some t → stage_of m ≡ 2 * t + 1
+  -- a page at home knows how many items of each sender the order has; one that is out is with the owner of the tenure that is open
+  pub knows : (page : Page) → m.home ≡ Some page → KnowsOrder page order
+  pub out : m.home ≡ None → IsWithOwner m T takers.all
+  -- a word of the log is stored past its length, behind those of the same frame that are stored
+  pub past : (s : ℕ) (v : Sender E) (t : ℕ) (page : Page) (stored word : ℕ) (o : Op) → slice_get m.senders s ≡ Some v
+      → situation X v ≡ Does (StoresWord t page stored) → (line_now X v).op word ≡ Some o
+      → register o ≡ log_place m.layout m.reuse + slice_index m.words 0 + stored
   -- what a sender has put is what stands of it in the order, and then what waits
   pub sent : (s : ℕ) (v : Sender E) → slice_get m.senders s ≡ Some v → puts (T.actions s) ≡ map (λ i. i.message) (of_sender s order) ++ waiting_at v.core v.core.phase
   pub reuse : ReusesSafely X m T m.reuse
@@ -130,17 +179,42 @@ is_in t (Stepped (Some u) k found chose answer) = u == t
 abbrev pub actions_in : ℕ → List Action → List Action
 actions_in t actions = filter (is_in t) actions
 
+-- ---- what joins the log
+-- the frame that joins it with the next turn of this sender, where that stores a length
+abbrev pub frame_next : {E : Type 0} → Election E → Option (Sender E) → Option Frame
+frame_next X None = None
+frame_next X (Some v) = (line_now X v).publishes
+
+-- with an event: that of a sender that goes on and whose turn stores a length; with all others none
+abbrev pub frame_published : {E : Type 0} → Election E → Machine E → Event → Option Frame
+frame_published X m (Put s bytes) = None
+frame_published X m (Close s) = None
+frame_published X m (Turn s word) = frame_next X (going m s)
+frame_published X m (Recv r) = None
+frame_published X m (Stop s) = None
+
+-- the words of a frame, where there is one
+abbrev pub words_of_frame : Option Frame → List ℕ
+words_of_frame None = []
+words_of_frame (Some f) = frame_words f
+
+-- the words that join the log with an event
+abbrev pub words_joined : {E : Type 0} → Election E → Machine E → Event → List ℕ
+words_joined X m e = words_of_frame (frame_published X m e)
+
 -- ---- one machine follows another
--- The log below the length is extended, and never otherwise changed. The stage never falls. Whatever trails led to the old machine, with
--- these ones they lead to the new one, and the promise stays; and of a tenure whose row had gone on before, no sender has an action more: no
--- step of its election, and none of who holds its page. So what was elected there stays as it is.
-pub record Extends {E : Type 0} (X : Election E) (old new : Machine E) (grown : Trails → Trails) : Type 0 where
+-- The log below the length is extended by these words, and by no others, and never otherwise changed. The stage never falls. Whatever
+-- trails led to the old machine, with these ones they lead to the new one, and the promise stays; and of a tenure whose row had gone on
+-- before, no sender has an action more: no step of its election, and none of who holds its page. So what was elected there stays as it is.
+pub record Extends {E : Type 0} (X : Election E) (old new : Machine E) (joined : List ℕ) (grown : Trails → Trails) : Type 0 where
+  pub joins : log_of new ≡ log_of old ++ joined
   pub grows : IsPrefix (log_of old) (log_of new)
   pub rises : stage_of old ≤ stage_of new
   pub reached : (T : Trails) → Reached X old T → Reached X new (grown T)
   pub promised : (T : Trails) → Reached X old T → StaysPromised X old T new (grown T)
   pub stays : (T : Trails) → Reached X old T → (t s : ℕ) → HasGoneOn old old.reuse t → actions_in t ((grown T).actions s) ≡ actions_in t (T.actions s)
 
--- by an event with this answer
+-- By an event with this answer: the frame of a sender whose turn stores a length joins the log with that step, and with no other event
+-- does any word join it.
 abbrev pub Follows : {E : Type 0} → Election E → Machine E → Event → Answer → Machine E → Type 0
-Follows X old e a new = Extends X old new (trails_grown X old e a)
+Follows X old e a new = Extends X old new (words_joined X old e) (trails_grown X old e a)

@@ -6,7 +6,6 @@ use Rattle.bus_register.specs.Protocol.{Protocol}
 use Rattle.bus_adoptcommit.specs.declared.verdicts.Verdict.{Verdict}
 use Rattle.bus_tenure.specs.Core.{Election}
 use Rattle.bus_tenure.specs.Elections.{Elector}
-use Rattle.bus_world.specs.Stopping.{IsOfOther}
 use Rattle.bus_world.specs.World.{Event, Put, Close, Turn, Recv, Stop}
 use Rattle.bus_world.specs.declared.events.Answer.{Answer}
 use Rattle.bus_world.specs.declared.events.Answer.TheVariants as answer
@@ -14,6 +13,14 @@ use Rattle.bus_world.specs.declared.events.StepFault.{StepFault}
 use Rattle.bus_world.specs.declared.events.StepFault.TheVariants as fault
 use Rattle.bus_machine.specs.Machine.{Machine, Happens, Reached, Trails, trails_grown, has_stopped}
 use Rattle.bus_machine.specs.Playing.{Refused, AllAnswered, trails_after}
+
+-- an event of another sender than s, or of a receiver
+abbrev pub IsOfOther : ℕ → Event → Type 0
+IsOfOther s (Put q bytes) = q ≢ s
+IsOfOther s (Close q) = q ≢ s
+IsOfOther s (Turn q word) = q ≢ s
+IsOfOther s (Recv r) = Unit {0}
+IsOfOther s (Stop q) = q ≢ s
 
 -- the same machine, where this is told of a sender: that it has stopped, or that it has not
 abbrev pub with_stop_of : {E : Type 0} → ℕ → Bool → Machine E → Machine E

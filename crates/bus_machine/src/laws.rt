@@ -1,40 +1,31 @@
 //! What holds of the machine.
 
 ghost use Rattle.std.specs.Prelude.{◌≡◌, ℕ, List};
+ghost use Rattle.bus_ownerbits.specs.Sizes.{election_bound};
 ghost use Rattle.bus_tenure.specs.Elections.{Elector, election_of, layout_with};
 ghost use Rattle.bus_world.specs.Bus.{IsLayout};
 ghost use Rattle.bus_core.specs.Senders.{Sender};
 ghost use Rattle.bus_world.specs.Headline.{Action};
 ghost use Rattle.bus_world.specs.World.{Event};
 ghost use Rattle.bus_world.specs.declared.events.Answer.{Answer};
+ghost use Rattle.bus_machine.specs.LogRefusals.{LogsRefuse};
 ghost use Rattle.bus_machine.specs.Machine.{Machine, Trails, Reached, Happens};
-ghost use Rattle.bus_machine.specs.Bridge.{HappensAtNone, HappensAtSome};
-ghost use Rattle.bus_machine.specs.Bridge.{ReachedAtNone, ReachedAtSome};
-ghost use Rattle.bus_machine.specs.Bridge.{RefusedAtNone, RefusedAtSome};
+ghost use Rattle.bus_machine.specs.Bounding.{AreBounded, PinsAreBounded};
 ghost use Rattle.bus_machine.specs.Promise.{IsPromised, HasRows, Follows};
 ghost use Rattle.bus_machine.specs.Promise.{actions_in};
+ghost use Rattle.bus_machine.specs.PromiseRefusals.{PromiseRefuses};
 ghost use Rattle.bus_machine.specs.Refusals.{LossesRefuse, AnswersRefuse, SaysNoMore};
-ghost use Rattle.bus_machine.specs.Refusals.{SaysMore, FollowsRefuse, PagesRefuse};
+ghost use Rattle.bus_machine.specs.Refusals.{SaysMore, NumbersRefuse, FollowsRefuse};
+ghost use Rattle.bus_machine.specs.Refusals.{PagesRefuse, WordsRefuse, BoundsRefuse};
 ghost use Rattle.bus_machine.specs.Stopping.{StopsAreForGood, StopRefuses};
 ghost use Rattle.bus_machine.specs.Telling.{Tells, OpensOnly, LossesAreSeen};
 
 use bus_adoptcommit::Ratifier;
 use bus_ownerbits::laws::election_is_lawful;
 
-/// What happens to it happens to the bus that it is, with a row for each tenure and with rows used
-/// again; what leads to it leads to that bus; and its events are refused for the same faults.
-pub fn machine_is_either<Q: Ratifier>()
-    ensures none { HappensAtNone (election_of Q.Ratifier) }
-    ensures some { HappensAtSome (election_of Q.Ratifier) }
-    ensures reached_apart { ReachedAtNone (election_of Q.Ratifier) }
-    ensures reached_again { ReachedAtSome (election_of Q.Ratifier) }
-    ensures refused_apart { RefusedAtNone (Elector Q) }
-    ensures refused_again { RefusedAtSome (Elector Q) }
-{}
-
-/// Whatever trails lead to it, the headline's promise holds of them, with a row for each tenure and
-/// with two rows or more; and by all of them each sender that remembers to whom it lost its tenure
-/// has seen the election of that tenure end so.
+/// Whatever trails lead to it, the headline's promise holds of them, with a row for each tenure
+/// and with two rows or more; and by all of them each sender that remembers to whom it lost its
+/// tenure has seen the election of that tenure end so.
 pub fn machine_keeps_promise<Q: Ratifier>()
     ensures { let X = election_of Q.Ratifier in
         (senders rounds rows capacity : ℕ)
@@ -47,8 +38,8 @@ pub fn machine_keeps_promise<Q: Ratifier>()
     election_is_lawful::<Q>();
 }
 
-/// And whatever happens to such a machine, with any answer: what is left follows it, what the answer
-/// tells is so, and the stage leaves that of an open tenure only by who takes its page.
+/// And whatever happens to such a machine, with any answer: what is left follows it, what the
+/// answer tells is so, and the stage leaves that of an open tenure only by who takes its page.
 pub fn events_keep_promise<Q: Ratifier>()
     ensures { let X = election_of Q.Ratifier in
         (senders rounds rows capacity : ℕ)
@@ -60,6 +51,24 @@ pub fn events_keep_promise<Q: Ratifier>()
         → Happens X old event given new
         → Follows X old event given new × Tells X old event given
         × OpensOnly X old event given new }
+{
+    election_is_lawful::<Q>();
+}
+
+/// A sender takes no more steps towards the page of a tenure than an election of so many senders
+/// and rounds has turns: those of its election, and the one that takes the page. While its
+/// election runs, or has chosen it, one turn at least is left, and those that are left and those
+/// that it took are no more. Where rows are used again three steps more, at most, are of its pin
+/// of that tenure.
+pub fn steps_are_bounded<Q: Ratifier>()
+    ensures { let X = election_of Q.Ratifier in
+        (senders rounds rows capacity : ℕ)
+        → IsLayout (layout_with Q.protocol senders rounds rows capacity)
+        → (machine : Machine (Elector Q)) (trails : Trails)
+        → machine.layout ≡ layout_with Q.protocol senders rounds rows capacity
+        → HasRows machine.reuse → Reached X machine trails
+        → AreBounded X (election_bound Q.protocol.steps senders rounds) machine trails
+        × PinsAreBounded trails }
 {
     election_is_lawful::<Q>();
 }
@@ -76,18 +85,29 @@ pub fn stops_are_for_good<Q: Ratifier>()
     ensures refuses { StopRefuses (election_of Q.Ratifier) }
 {}
 
+/// Of no machine the promise holds in which senders saw the election of one tenure end with two
+/// owners, or an owner took no page. Where rows are used again: in which an election runs of a
+/// sender that stored no presence, or elections of two tenures of one row, or a page is held and
+/// the row of the next tenure, which was used before, is not reclaimed.
+pub fn promise_refuses<Q: Ratifier>()
+    ensures { let X = election_of Q.Ratifier in
+        (machine : Machine (Elector Q)) (trails : Trails) → PromiseRefuses X machine trails }
+{}
+
 /// No sender remembers an owner that has done nothing, or itself, or another owner than that with
 /// which it saw the election of its tenure end.
 pub fn losses_refuse<Q: Ratifier>()
     ensures { (machine : Machine (Elector Q)) → LossesRefuse machine }
 {}
 
-/// No answer is true that is Lost to an owner whose election the sender did not see, or to itself;
-/// Own of a tenure whose page it did not take; Delivered where the log is empty; Full where the
-/// frame fits; Behind where each tenure has a row.
+/// No answer is true that accepts a message with another number than how many its sender had put
+/// before it; or that is Lost to an owner whose election the sender did not see, or to itself; Own
+/// of a tenure whose page it did not take; Delivered where the log is empty; Full where the frame
+/// fits; Behind where each tenure has a row.
 pub fn answers_refuse<Q: Ratifier>()
-    ensures { (machine : Machine (Elector Q)) (number : ℕ) (sender : Sender (Elector Q))
+    ensures turns { (machine : Machine (Elector Q)) (number : ℕ) (sender : Sender (Elector Q))
         (actions : List Action) → AnswersRefuse machine number sender actions }
+    ensures numbers { (actions : List Action) → NumbersRefuse actions }
 {}
 
 /// A sender whose actions in a tenure are the same as before has announced itself there, has seen
@@ -100,13 +120,29 @@ pub fn same_actions_say_no_more()
     ensures more { (t : ℕ) (before after : List Action) → SaysMore t before after }
 {}
 
-/// No machine follows another by an event with which the stage falls; and none is promised whose
-/// page is at home while the stage is odd, or out while it is even, or knows another number of
-/// tenures.
+/// No machine follows another by an event with which the stage falls; or with which the log gets
+/// other words though no length was stored, or the same words though one was, or another frame
+/// than that of who stored it. None is promised whose page is at home while the stage is odd, or
+/// out while it is even, or knows another number of tenures or of items, or is out while nobody
+/// holds it; nor one of which a sender stores a word of the log below the length next, or clears a
+/// word of a row in which somebody stands. None is bounded of which a sender took more steps
+/// towards a page, or has no turn left while its election runs.
 pub fn machines_refuse<Q: Ratifier>()
     ensures follows { let X = election_of Q.Ratifier in
         (old : Machine (Elector Q)) (event : Event) (given : Answer) (new : Machine (Elector Q))
         → FollowsRefuse X old event given new }
     ensures pages { let X = election_of Q.Ratifier in
         (machine : Machine (Elector Q)) (trails : Trails) → PagesRefuse X machine trails }
+    ensures words { let X = election_of Q.Ratifier in
+        (machine : Machine (Elector Q)) (trails : Trails) → WordsRefuse X machine trails }
+    ensures bounds { let X = election_of Q.Ratifier in
+        (bound : ℕ) (machine : Machine (Elector Q)) (trails : Trails)
+        → BoundsRefuse X bound machine trails }
+{}
+
+/// Of no machine the promise holds in which a sender has put a message that neither stands in the
+/// log nor waits, or whose first word below the length is zero.
+pub fn logs_refuse<Q: Ratifier>()
+    ensures { let X = election_of Q.Ratifier in
+        (machine : Machine (Elector Q)) (trails : Trails) → LogsRefuse X machine trails }
 {}

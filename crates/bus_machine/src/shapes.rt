@@ -5,7 +5,7 @@ ghost use Rattle.bus_machine.specs.Playing.{IsServed, MakeRefused, least_rows as
 ghost use Rattle.bus_machine.specs.Playing.{most_rows as spec_most_rows, ShapeOf, log_with};
 ghost use Rattle.bus_world.specs.declared.shapes.MakeFault.TheVariants.{NoMemory};
 
-use bus_guest::limits::{LEAST_ROWS_AGAIN, MOST_ROWS_AGAIN};
+use bus_core::limits::{LEAST_ROWS_AGAIN, MOST_ROWS_AGAIN};
 use bus_register::limits::{
     LEAST_LOG_WORDS, MOST_LOG_WORDS, MOST_RECEIVERS, MOST_ROUNDS, MOST_ROWS, MOST_SENDERS,
 };

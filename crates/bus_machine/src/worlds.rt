@@ -276,8 +276,10 @@ impl<Q: Ratifier + Drop> World<Q> {
     /// By the actions of all trails that lead here, with this turn: a sender that answers Lost saw
     /// the election of that tenure end with the owner that it names, which is another sender; one
     /// that answers Own is elected and took the page; what is Delivered is the last frame of the
-    /// order; and Full is answered only where the frame does not fit behind the log. No turn is a
-    /// action in a tenure whose row had gone on before: what was elected there stays as it is.
+    /// order; and Full is answered only where the frame does not fit behind the log. No turn is an
+    /// action in a tenure whose row had gone on before: what was elected there stays as it is. The
+    /// log gets the frame of a sender whose turn stores a length, with that turn, and no word
+    /// else.
     pub fn step(&mut self, event: &Event) -> Result<Answer, StepFault>
         ensures answered { let X = election_of Q.Ratifier in
             IfOk result (λ a. Answers X Q.protocol self.old (event_told event.now) a self.new) }

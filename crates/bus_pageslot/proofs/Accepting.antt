@@ -6,8 +6,8 @@ use Rattle.bus_batch.specs.declared.batches.Phase.{Phase}
 use Rattle.bus_batch.specs.declared.batches.Phase.TheVariants.{Open, Closing}
 use Rattle.bus_tenure.specs.Core.{is_closing}
 use Rattle.bus_world.specs.Headline.{Action, HasPut, HasClosed}
-use Rattle.bus_pageslot.specs.Processes.{Process}
-use Rattle.bus_pageslot.specs.Lawful.{ProcessLaws}
+use Rattle.bus_automaton.specs.Processes.{Process}
+use Rattle.bus_automaton.specs.Lawful.{ProcessLaws}
 use Rattle.bus_pageslot.specs.Steps.{Accepts, puts_from, closes_since, accepted_since}
 use Rattle.bus_pageslot.specs.Steps.Accepts.{Nothing, Message, Close}
 

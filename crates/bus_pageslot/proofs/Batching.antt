@@ -11,11 +11,12 @@ use Rattle.bus_world.specs.Headline.{puts}
 use Rattle.bus_pageslot.specs.declared.seats.SendFault.{SendFault}
 use Rattle.bus_pageslot.specs.declared.seats.SendFault.TheVariants as fault
 use Rattle.bus_pageslot.specs.declared.seats.Unsent.{Unsent}
-use Rattle.bus_pageslot.specs.Processes.{Process}
-use Rattle.bus_pageslot.specs.Lawful.{ProcessLaws}
+use Rattle.bus_automaton.specs.Processes.{Process}
+use Rattle.bus_automaton.specs.Lawful.{ProcessLaws}
 use Rattle.bus_pageslot.specs.Seats.{SenderSeat, Took, actions_of}
-use Rattle.bus_pageslot.specs.Turns.{Turned, TurnsOn, Here, More, Sends, is_last}
-use Rattle.bus_pageslot.specs.Sendings.{waiting_of, SendsOff, is_refusal, Keeps, KeepsFor, FillsBatches, SentBefore, Put, SentFull, HasSent, Refuses, StopsAt, Stops, can_come, WaitsOf, HasSentPart}
+use Rattle.bus_pageslot.specs.Turns.{Turned, TurnsOn, Here, More, Sends}
+use Rattle.bus_automaton.specs.LastAnswers.{is_last, is_refusal}
+use Rattle.bus_pageslot.specs.Sendings.{waiting_of, SendsOff, Keeps, KeepsFor, FillsBatches, SentBefore, Put, SentFull, HasSent, Refuses, StopsAt, Stops, can_come, WaitsOf, HasSentPart}
 use Rattle.bus_pageslot.proofs.Sending.{sending_puts, fills_puts}
 
 module _ {C : Type 0} (P : Process C) (K : ProcessLaws P) where

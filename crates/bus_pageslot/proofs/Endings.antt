@@ -14,8 +14,8 @@ use Rattle.bus_world.proofs.ViewingLaws.{frames_spell}
 use Rattle.bus_pageslot.specs.ReceiverViews.{ReceiverView}
 use Rattle.bus_pageslot.specs.declared.rule.View.{View}
 use Rattle.bus_pageslot.specs.declared.rule.View.TheVariants.{Tap}
-use Rattle.bus_pageslot.specs.Processes.{TableLayout, Process, Automaton, log_below, log_in}
-use Rattle.bus_pageslot.specs.Lawful.{AutomatonLaws}
+use Rattle.bus_automaton.specs.Processes.{TableLayout, Process, Automaton, log_below, log_in}
+use Rattle.bus_automaton.specs.Lawful.{AutomatonLaws}
 use Rattle.bus_pageslot.specs.Rule.{slot_of, known_in, KnowsLog, TableInvariant}
 use Rattle.bus_pageslot.specs.Endings.{IsLeft}
 use Rattle.bus_pageslot.specs.Outcomes.{IsOutcome}

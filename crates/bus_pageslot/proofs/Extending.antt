@@ -13,8 +13,8 @@ use Rattle.bus_world.specs.Turning.{words_after}
 use Rattle.bus_world.proofs.LogLaws.{length-read}
 use Rattle.bus_pageslot.specs.declared.rule.View.{View}
 use Rattle.bus_pageslot.specs.declared.rule.View.TheVariants.{Sender}
-use Rattle.bus_pageslot.specs.Processes.{TableLayout, Process, Automaton, log_below}
-use Rattle.bus_pageslot.specs.Lawful.{AutomatonLaws}
+use Rattle.bus_automaton.specs.Processes.{TableLayout, Process, Automaton, log_below}
+use Rattle.bus_automaton.specs.Lawful.{AutomatonLaws}
 use Rattle.bus_pageslot.specs.Rule.{Sat, sender_trail_in, stored_in, IsSeated, TableInvariant}
 use Rattle.bus_pageslot.specs.Steps.{IsDue}
 use Rattle.bus_pageslot.proofs.Reaching.{accepted}

@@ -17,12 +17,12 @@ use Rattle.bus_world.specs.Headline.{Action, puts, IsPrefix}
 use Rattle.bus_pageslot.specs.ReceiverViews.{ReceiverView, receiver_view_knowing, HasHeard, Agree}
 use Rattle.bus_pageslot.specs.declared.rule.View.{View}
 use Rattle.bus_pageslot.specs.declared.rule.View.TheVariants.{Maker, Sender, Tap, Meeting, Telling, Spent}
-use Rattle.bus_pageslot.specs.Processes.{TableLayout, Process, Automaton, log_below, log_in}
-use Rattle.bus_pageslot.specs.Lawful.{AutomatonLaws}
+use Rattle.bus_automaton.specs.Processes.{TableLayout, Process, Automaton, log_below, log_in}
+use Rattle.bus_automaton.specs.Lawful.{AutomatonLaws}
 use Rattle.bus_pageslot.specs.Rule.{Sat, Seats, IsSeated, KnowsLog, IsTrueOf, TableInvariant, views_joined, first_of, second_of, all_knowing, receiver_view_in, with_receiver_view, known_in, capacity_in, IsFirst}
 use Rattle.bus_pageslot.specs.Steps.{Accepts, Meets, Met, Learns, KnowsSent}
 use Rattle.bus_pageslot.specs.Seats.{ReceiverSeat, receiver_seat_of, IsTap}
-use Rattle.bus_pageslot.specs.SenderTrails.{SenderTrail}
+use Rattle.bus_automaton.specs.SenderTrails.{SenderTrail}
 use Rattle.bus_pageslot.proofs.AllSeats.{still_seen, seen_longer}
 use Rattle.bus_pageslot.proofs.Hearing.{agree}
 use Rattle.bus_pageslot.proofs.ReaderLaws.{fits_learnt}

@@ -18,8 +18,8 @@ use Rattle.bus_world.proofs.ReceivingLaws.{length-log_pieces}
 use Rattle.bus_pageslot.specs.ReceiverViews.{ReceiverView, receiver_view_after_load, receiver_view_knowing, heard_length, heard_word, length_turn, HasHeard}
 use Rattle.bus_pageslot.specs.declared.rule.View.{View}
 use Rattle.bus_pageslot.specs.declared.rule.View.TheVariants.{Tap}
-use Rattle.bus_pageslot.specs.Processes.{TableLayout, Process, Automaton, log_in}
-use Rattle.bus_pageslot.specs.Lawful.{AutomatonLaws}
+use Rattle.bus_automaton.specs.Processes.{TableLayout, Process, Automaton, log_in}
+use Rattle.bus_automaton.specs.Lawful.{AutomatonLaws}
 use Rattle.bus_pageslot.specs.Rule.{Sat, Seats, KnowsLog, IsTrueOf, TableInvariant, receiver_view_in, known_in, with_receiver_view, senders_in, table_layout_in, capacity_in}
 use Rattle.bus_pageslot.specs.Steps.{Learns, Reads}
 use Rattle.bus_pageslot.specs.Listening.{FindsLength, FindsWord}

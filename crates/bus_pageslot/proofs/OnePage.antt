@@ -7,11 +7,11 @@ use Rattle.atomic_table.specs.Table.{State}
 use Rattle.bus_batch.proofs.FrameLaws.{spells_one}
 use Rattle.bus_tenure.specs.declared.pages.Page.{Page}
 use Rattle.bus_world.specs.Headline.{Action}
-use Rattle.bus_pageslot.specs.SenderTrails.{SenderTrail}
+use Rattle.bus_automaton.specs.SenderTrails.{SenderTrail}
 use Rattle.bus_pageslot.specs.declared.rule.View.{View}
 use Rattle.bus_pageslot.specs.declared.rule.View.TheVariants.{Maker, Sender, Tap, Meeting, Telling, Spent}
 use Rattle.bus_pageslot.specs.Rule.{Seats, TableInvariant}
-use Rattle.bus_pageslot.specs.Processes.{TableLayout, Process, Automaton, log_below}
+use Rattle.bus_automaton.specs.Processes.{TableLayout, Process, Automaton, log_below}
 use Rattle.bus_pageslot.specs.Promised.{Fits, ShowsActions, IsPromised}
 
 -- what a view shows of a sender is what it is true of

@@ -17,14 +17,14 @@ use Rattle.bus_world.specs.World.{new_page}
 use Rattle.bus_pageslot.specs.ReceiverViews.{new_receiver_view}
 use Rattle.bus_pageslot.specs.declared.rule.View.{View}
 use Rattle.bus_pageslot.specs.declared.rule.View.TheVariants.{Maker, Sender, Tap, Meeting, Telling, Spent}
-use Rattle.bus_pageslot.specs.Processes.{TableLayout, Process, Automaton, IsCounted, log_in}
-use Rattle.bus_pageslot.specs.Lawful.{AutomatonLaws, Opens}
+use Rattle.bus_automaton.specs.Processes.{TableLayout, Process, Automaton, IsCounted, log_in}
+use Rattle.bus_automaton.specs.Lawful.{AutomatonLaws, Opens}
 use Rattle.bus_pageslot.specs.Rule.{slot_of, tap_left, tap_right, sender_trail_in, stored_in, cut_left, cut_right, KnowsLog, IsTrueOf, TableInvariant}
 use Rattle.bus_pageslot.specs.Steps.{carried_of}
 use Rattle.bus_pageslot.specs.Steps.Accepts.{Nothing}
 use Rattle.bus_pageslot.specs.Seats.{SenderSeat, ReceiverSeat, Shows, table_of}
 use Rattle.bus_pageslot.specs.Buses.{IsNewSeat, AreNewSeats, IsNewTap, AreNewTaps}
-use Rattle.bus_pageslot.specs.SenderTrails.{no_sender_trail}
+use Rattle.bus_automaton.specs.SenderTrails.{no_sender_trail}
 use Rattle.bus_pageslot.proofs.AllSeats.{still_seen, seen_longer}
 use Rattle.bus_pageslot.proofs.Hearing.{heard_new}
 use Rattle.atomic_table.specs.Seated.{TableId}

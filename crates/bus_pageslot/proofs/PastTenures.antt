@@ -1,41 +1,66 @@
--- Where rows of words are used again: no step of a sender lowers the stage, and none is an action in a tenure whose row has gone on.
-use Rattle.std.proofs.Common.{◌≡◌, ℕ, ◌+◌, ◌≤◌, ◌<◌, Option, Some, List, [], slice_index, sym, ◌∙◌, ap, subst}
-use Rattle.std.specs.Prelude.{◌/◌}
+-- No step of a sender lowers the stage; and where rows of words are used again, none is an action in a tenure whose row has gone on.
+use Rattle.std.proofs.Common.{◌≡◌, ℕ, ◌≤◌, Bool, true, false, cond, Option, Some, None, List, [], ◌∷◌, ◌++◌, filter, slice_index, refl, sym, ◌∙◌, ap, subst}
 use mathlib.Core.Option.{some}
 use lib.ListN.{get_elem?}
 use Rattle.atomic_table.specs.Table.{State}
-use Rattle.bus_register.specs.declared.registers.Op.{Op}
+use Rattle.bus_core.specs.Senders.{Sender}
+use Rattle.bus_machine.specs.Machine.{Machine}
+use Rattle.bus_machine.specs.Promise.{Follows, HasGoneOn as HasGoneOnIn, actions_in, is_in}
 use Rattle.bus_register.specs.Words.{register}
-use Rattle.bus_register.specs.Protocol.{Protocol}
-use Rattle.bus_cyclic.specs.Staying.{actions_in}
-use Rattle.bus_guest.specs.Turns.{Visitor, due}
+use Rattle.bus_register.specs.declared.registers.Op.{Op}
 use Rattle.bus_tenure.specs.Core.{Election, Layout}
 use Rattle.bus_tenure.specs.declared.pages.Page.{Page}
-use Rattle.bus_world.specs.Turning.{words_after}
-use Rattle.bus_world.proofs.Serving.{Serves}
-use Rattle.bus_pageslot.specs.declared.rule.View.{View}
-use Rattle.bus_pageslot.specs.declared.rule.View.TheVariants.{Sender}
-use Rattle.bus_pageslot.specs.Processes.{TableLayout}
-use Rattle.bus_pageslot.specs.RowsAgain.{process_again, bus_again, adds_due}
-use Rattle.bus_pageslot.specs.Rule.{Sat, sender_trail_in, stored_in, IsSeated, TableInvariant}
-use Rattle.bus_pageslot.specs.SafeSeats.{LeavesPast}
+use Rattle.bus_world.specs.Headline.{Action}
+use Rattle.bus_automaton.specs.Lawful.{AutomatonLaws}
+use Rattle.bus_automaton.specs.OneAutomaton.{bus_of}
+use Rattle.bus_automaton.specs.OneProcess.{process_of}
+use Rattle.bus_automaton.specs.SenderTrails.{SenderTrail}
+use Rattle.bus_automaton.proofs.Leading.{grown_trail}
+use Rattle.bus_pageslot.specs.Rule.{Sat, TableInvariant}
+use Rattle.bus_pageslot.specs.SafeSeats.{HasGoneOn, LeavesPast}
 use Rattle.bus_pageslot.specs.Steps.{IsDue}
-use Rattle.bus_pageslot.proofs.AgainStates.{automaton_laws, stage_rises, leaves_past}
-use Rattle.bus_pageslot.proofs.Reaching.{accepted}
+use Rattle.bus_pageslot.specs.declared.rule.View.{View}
+use Rattle.bus_pageslot.proofs.Stepping as stepping
 
-pub past_is_left : {E : Type 0} (X : Election E) (P : Protocol E (Unit {0}) ℕ) (x : Layout) (rows : ℕ) (y : Serves X P x) (s : State (Option Page) (View (Visitor E))) → TableInvariant (process_again X) (bus_again X x rows) s
-    → (id : ℕ) (m : Sat (Visitor E)) → get_elem? s.views id ≡ some m.0 → (d : Visitor E) (word many : ℕ) (o : Op) → IsDue (process_again X) d word m many o → LeavesPast X rows s.words d word o
-past_is_left {E} X P x rows y s r id m at d word many o is_due =
-    let A = bus_again X x rows in
-    let L = automaton_laws X P x rows y in
-    let c = is_due.shown in
-    let seated : IsSeated (process_again X) A r.state r.seat id c (sender_trail_in m.0) (stored_in m.0) = r.views id (Sender c (sender_trail_in m.0) (stored_in m.0)) (at ∙ ap (λ (y : Sat (Visitor E)). some y.0) is_due.me) in
-    let grown = accepted (process_again X) A L r.state r.reached c seated.core d is_due.actions is_due.accepts in
-    let z = grown.state in
-    let is = L.senders z c.core.me d grown.changes.reached grown.changes.here in
-    let within = subst (λ (x : TableLayout). register o < x.words) is.table_layout is_due.below in
-    let same : z.ring.words ≡ s.words = grown.words ∙ sym r.words in
-    subst (λ (ws : List ℕ). LeavesPast X rows ws d word o) same record {
-      rises = stage_rises X P x rows y z grown.changes.reached c.core.me d grown.changes.here word o is_due.due within;
-      leaves = leaves_past X P x rows y z grown.changes.reached c.core.me d grown.changes.here word o is_due.due within;
-    }
+-- ---- what leaves the actions of a tenure as they are adds none to them
+filter_append : {A : Type 0} (f : A → Bool) (xs ys : List A) → filter f (xs ++ ys) ≡ filter f xs ++ filter f ys
+filter_append f [] ys = refl
+filter_append f (x ∷ xs) ys = by (f x) (filter_append f xs ys) where
+  by : (b : Bool) → filter f (xs ++ ys) ≡ filter f xs ++ filter f ys
+      → cond b (x ∷ filter f (xs ++ ys)) (filter f (xs ++ ys)) ≡ cond b (x ∷ filter f xs) (filter f xs) ++ filter f ys
+  by true e = ap (λ l. x ∷ l) e
+  by false e = e
+
+nothing_more : {A : Type 0} (xs ys : List A) → xs ++ ys ≡ xs → ys ≡ []
+nothing_more [] ys e = e
+nothing_more (x ∷ xs) ys e = nothing_more xs ys (same_tail x (xs ++ ys) xs e) where
+  same_tail : {A : Type 0} (x : A) (us vs : List A) → x ∷ us ≡ x ∷ vs → us ≡ vs
+  same_tail x us vs e = cc
+
+none_added : (t : ℕ) (xs ys : List Action) → actions_in t (xs ++ ys) ≡ actions_in t xs → actions_in t ys ≡ []
+none_added t xs ys e = nothing_more (actions_in t xs) (actions_in t ys) (sym (filter_append (is_in t) xs ys) ∙ e)
+
+gone_in : {E : Type 0} (m : Machine E) (reuse : Option ℕ) (t : ℕ) → HasGoneOn reuse m.words t → HasGoneOnIn m reuse t
+gone_in m None t h = h
+gone_in m (Some rows) t h = h
+
+pub past_is_left : {E : Type 0} (X : Election E) (x : Layout) (reuse : Option ℕ) (L : AutomatonLaws (process_of X) (bus_of X x reuse))
+    (s : State (Option Page) (View (Sender E))) (r : TableInvariant (process_of X) (bus_of X x reuse) s) (id : ℕ) (m : Sat (Sender E))
+    (at : get_elem? s.views id ≡ some m.0) (d : Sender E) (word many : ℕ) (o : Op) (is_due : IsDue (process_of X) d word m many o)
+    → stepping.OfEvents X (Follows X) x → LeavesPast (process_of X) reuse s.words d word o
+past_is_left {E} X x reuse L s r id m at d word many o is_due law =
+    let z = stepping.z X x reuse L s r id m at d word many o is_due in
+    let p = is_due.shown.core.me in
+    let h = stepping.is_history X x reuse L s r id m at d word many o is_due in
+    let here = stepping.here X x reuse L s r id m at d word many o is_due in
+    let low = stepping.low X x reuse L s r id m at d word many o is_due in
+    let follows = stepping.turn_is X x reuse L s r id m at d word many o is_due (Follows X) law in
+    let trail = grown_trail X x reuse z h p d here word o is_due.due low in
+    let more = ((process_of X).adds d (slice_index z.machine.words (register o)) word).actions in
+    subst (λ w. LeavesPast (process_of X) reuse w d word o) (sym (stepping.words_are X x reuse L s r id m at d word many o is_due)) (record {
+      rises = subst (λ w. slice_index z.machine.words 1 ≤ slice_index w 1)
+          (stepping.words_now X x reuse L s r id m at d word many o is_due) follows.rises;
+      leaves = λ t gone. none_added t (z.trails.actions p) more
+          (ap (actions_in t) (sym (ap (λ (u : SenderTrail). u.actions) trail))
+          ∙ follows.stays z.trails h.reached t p (subst (λ n. HasGoneOnIn z.machine n t) (sym h.rows_are) (gone_in z.machine reuse t gone)));
+    })

@@ -15,8 +15,8 @@ use Rattle.bus_world.specs.Headline.{IsPrefix, order_given, heads}
 use Rattle.bus_pageslot.specs.ReceiverViews.{ReceiverView, IsSilent}
 use Rattle.bus_pageslot.specs.declared.rule.View.{View}
 use Rattle.bus_pageslot.specs.declared.rule.View.TheVariants.{Maker, Sender, Tap, Meeting, Telling, Spent}
-use Rattle.bus_pageslot.specs.Processes.{TableLayout, Process, Automaton, log_below, log_in, actions_at}
-use Rattle.bus_pageslot.specs.Lawful.{AutomatonLaws}
+use Rattle.bus_automaton.specs.Processes.{TableLayout, Process, Automaton, log_below, log_in, actions_at}
+use Rattle.bus_automaton.specs.Lawful.{AutomatonLaws}
 use Rattle.bus_pageslot.specs.Rule.{KnowsLog, IsTrueOf, Seats, TableInvariant}
 use Rattle.bus_pageslot.specs.Promised.{Fits, ShowsActions, ShowsTrail, IsShownTrail, IsPromised}
 use Rattle.bus_pageslot.proofs.Hearing.{begins_order, begins_owners}

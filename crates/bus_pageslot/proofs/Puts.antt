@@ -10,8 +10,8 @@ use Rattle.bus_tenure.specs.declared.pages.Page.{Page}
 use Rattle.bus_world.specs.Headline.{Action, HasPut, HasClosed}
 use Rattle.bus_pageslot.specs.declared.rule.View.{View}
 use Rattle.bus_pageslot.specs.declared.rule.View.TheVariants.{Sender}
-use Rattle.bus_pageslot.specs.Processes.{TableLayout, Process}
-use Rattle.bus_pageslot.specs.Lawful.{ProcessLaws, Keeps}
+use Rattle.bus_automaton.specs.Processes.{TableLayout, Process}
+use Rattle.bus_automaton.specs.Lawful.{ProcessLaws, Keeps}
 use Rattle.bus_pageslot.specs.Rule.{Sat, sender_trail_in, stored_in}
 use Rattle.bus_pageslot.specs.Steps.{Accepts, carried_of, since_in, all_in}
 use Rattle.bus_pageslot.specs.Steps.Accepts.{Message, Close}

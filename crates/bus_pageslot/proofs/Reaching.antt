@@ -3,11 +3,11 @@ use Rattle.std.proofs.Common.{◌≡◌, Some, List, [], ◌∷◌, ◌++◌, re
 use Rattle.std.proofs.lemmas.List.{append-nil}
 use Rattle.bus_batch.specs.Batches.{next_of}
 use Rattle.bus_world.specs.Headline.{Action, HasPut, HasClosed}
-use Rattle.bus_pageslot.specs.Processes.{Process, Automaton}
-use Rattle.bus_pageslot.specs.Lawful.{AutomatonLaws, AcceptsIn}
+use Rattle.bus_automaton.specs.Processes.{Process, Automaton}
+use Rattle.bus_automaton.specs.Lawful.{AutomatonLaws, AcceptsIn}
 use Rattle.bus_pageslot.specs.Steps.{Accepts}
 use Rattle.bus_pageslot.specs.Steps.Accepts.{Nothing, Message, Close}
-use Rattle.bus_pageslot.specs.SenderTrails.{with_actions}
+use Rattle.bus_automaton.specs.SenderTrails.{with_actions}
 
 module _ {C : Type 0} (P : Process C) (A : Automaton C) (L : AutomatonLaws P A) (z : A.State) (reached : A.IsReached z) (c : C) (here : A.sender z (P.me c) ≡ Some c) where
   stays_in : AcceptsIn A z (P.me c) c []

@@ -13,7 +13,7 @@ use Rattle.bus_deliverylog.specs.Receiving.{Receiving, HasReceived, TakesLength,
 use Rattle.bus_world.specs.Headline.{IsPrefix}
 use Rattle.bus_pageslot.specs.ReceiverViews.{ReceiverView, heard_length, heard_word, length_turn}
 use Rattle.bus_pageslot.specs.declared.rule.View.TheVariants.{Tap}
-use Rattle.bus_pageslot.specs.Processes.{TableLayout}
+use Rattle.bus_automaton.specs.Processes.{TableLayout}
 use Rattle.bus_pageslot.specs.Rule.{Sat, receiver_view_in, known_in}
 use Rattle.bus_pageslot.specs.Seats.{knows, IsFit, IsReceiverView}
 use Rattle.bus_pageslot.specs.Listening.{FindsLength, FindsWord, HearsLength, HearsWord, Hears}

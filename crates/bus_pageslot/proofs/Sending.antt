@@ -11,10 +11,11 @@ use Rattle.bus_tenure.specs.declared.turns.Turn.{Turn}
 use Rattle.bus_tenure.specs.declared.turns.Turn.TheVariants as turn
 use Rattle.bus_batch.specs.Batches.{next_of}
 use Rattle.bus_world.specs.Headline.{Action, HasPut, put_of, puts}
-use Rattle.bus_pageslot.specs.Processes.{Process}
-use Rattle.bus_pageslot.specs.Lawful.{ProcessLaws, IsOneStep}
+use Rattle.bus_automaton.specs.Processes.{Process}
+use Rattle.bus_automaton.specs.Lawful.{ProcessLaws, IsOneStep}
 use Rattle.bus_pageslot.specs.Seats.{SenderSeat, Took, actions_of}
-use Rattle.bus_pageslot.specs.Turns.{Turned, TurnsOn, Here, More, Sends, is_last, is_waiting, AsksOn, Begins as Unasked, Goes, Asks, SendsAsking}
+use Rattle.bus_pageslot.specs.Turns.{Turned, TurnsOn, Here, More, Sends, is_waiting, AsksOn, Begins as Unasked, Goes, Asks, SendsAsking}
+use Rattle.bus_automaton.specs.LastAnswers.{is_last}
 use Rattle.bus_pageslot.specs.Sendings.{FillsBatches, SentBefore, Put, SentFull}
 
 one_puts_nothing : (due : Option Kind) (got : ℕ) (a : Turn) (ds : List Action) → (ds ≡ []) ⊎ IsOneStep due got a ds → puts ds ≡ []

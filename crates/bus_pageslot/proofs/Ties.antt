@@ -1,5 +1,5 @@
 -- How what leads to a state becomes the rule of the table: each step of a sender is allowed.
-use Rattle.std.proofs.Common.{◌≡◌, ◌≢◌, ℕ, ◌<◌, ◌≤◌, ◌==◌, cond, eq-eqb, ne_eqb, is_some, true, Option, Some, None, List, [], ◌∷◌, ◌++◌, length, set, slice_index, slice_set, arith, refl, sym, ◌∙◌, ap, subst, append_assoc, ⊎_elim, inl, inr}
+use Rattle.std.proofs.Common.{◌≡◌, ◌≢◌, ℕ, ◌<◌, ◌≤◌, ◌==◌, cond, eq-eqb, ne_eqb, is_some, true, Option, Some, None, List, [], ◌∷◌, ◌++◌, length, set, slice_index, slice_set, arith, refl, sym, ◌∙◌, ap, subst, ⊎_elim, inl, inr}
 use mathlib.Core.Option.{some, none}
 use mathlib.Core.Option as maybe
 use lib.ListN.{get_elem?}
@@ -24,11 +24,11 @@ use Rattle.bus_world.proofs.LogLaws.{length-read}
 use Rattle.bus_pageslot.specs.ReceiverViews.{ReceiverView, HasHeard}
 use Rattle.bus_pageslot.specs.declared.rule.View.{View}
 use Rattle.bus_pageslot.specs.declared.rule.View.TheVariants.{Maker, Sender, Tap, Meeting, Telling, Spent}
-use Rattle.bus_pageslot.specs.Processes.{TableLayout, Process, Automaton, log_below, log_in}
-use Rattle.bus_pageslot.specs.Lawful.{ProcessLaws, AutomatonLaws, ChangesTo, AcceptsIn, StepsIn, LogGrows, IsSender}
+use Rattle.bus_automaton.specs.Processes.{TableLayout, Process, Automaton, log_below, log_in}
+use Rattle.bus_automaton.specs.Lawful.{ProcessLaws, AutomatonLaws, ChangesTo, AcceptsIn, StepsIn, LogGrows, IsSender}
 use Rattle.bus_pageslot.specs.Rule.{slot_of, Sat, sender_trail_in, stored_in, IsSeated, IsUnseated, KnowsLog, IsTrueOf, TableInvariant}
 use Rattle.bus_pageslot.specs.Steps.{all_in, since_in, stored_by, Told, Gone, IsDue}
-use Rattle.bus_pageslot.specs.SenderTrails.{SenderTrail, with_actions, with_sender_trail}
+use Rattle.bus_automaton.specs.SenderTrails.{SenderTrail, with_actions, with_sender_trail}
 use Rattle.bus_pageslot.proofs.Accepting.{since_is}
 use Rattle.bus_pageslot.proofs.AllSeats.{still_seen}
 use Rattle.bus_pageslot.proofs.Hearing.{heard_later}

@@ -1,5 +1,5 @@
 -- The parts of a sender's turn, put together: what it holds afterwards, and that its seat shows it.
-use Rattle.std.proofs.Common.{◌≡◌, ℕ, ◌<◌, Bool, true, false, cond, Option, Some, None, List, [], ◌∷◌, ◌++◌, arith, refl, sym, ◌∙◌, ap, subst}
+use Rattle.std.proofs.Common.{◌≡◌, ℕ, ◌<◌, Bool, true, false, cond, Option, Some, None, List, [], ◌∷◌, arith, refl, sym, ◌∙◌, ap, subst}
 use prog.Atomic.{either}
 use Rattle.std.proofs.lemmas.Bool.{true≢false}
 use Rattle.std.proofs.lemmas.List.{append-nil}
@@ -9,12 +9,12 @@ use Rattle.bus_register.specs.Words.{register, after, SumFits}
 use Rattle.bus_tenure.specs.Situations.{PageMove, Stays, Comes, Returns}
 use Rattle.bus_tenure.specs.declared.pages.Page.{Page}
 use Rattle.bus_pageslot.specs.declared.rule.View.TheVariants.{Sender}
-use Rattle.bus_pageslot.specs.Processes.{TableLayout, Process, Automaton, IsCounted}
-use Rattle.bus_pageslot.specs.Lawful.{ProcessLaws, AutomatonLaws}
+use Rattle.bus_automaton.specs.Processes.{TableLayout, Process, Automaton, IsCounted, EndsBy}
+use Rattle.bus_automaton.specs.Lawful.{ProcessLaws, AutomatonLaws}
 use Rattle.bus_pageslot.specs.Rule.{Sat, sender_trail_in, stored_in, TableInvariant}
-use Rattle.bus_pageslot.specs.Steps.{EndsBy, laid_from, laid_at, carried_of, out_with, carried_by, slot_in, slots_emptied, since_in, all_in, stored_by, Told, Gone, GoesOn, Due}
+use Rattle.bus_pageslot.specs.Steps.{laid_from, laid_at, carried_of, out_with, carried_by, slot_in, slots_emptied, since_in, all_in, stored_by, Told, Gone, GoesOn, Due}
 use Rattle.bus_pageslot.specs.Steps.Accepts.{Nothing}
-use Rattle.bus_pageslot.specs.SenderTrails.{with_actions, with_sender_trail}
+use Rattle.bus_automaton.specs.SenderTrails.{with_actions, with_sender_trail}
 use Rattle.bus_pageslot.proofs.Accepting.{since_is}
 use Rattle.bus_pageslot.proofs.Ties.{goes_allowed}
 

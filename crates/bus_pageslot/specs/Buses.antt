@@ -3,19 +3,19 @@ use Rattle.std.specs.Prelude.{◌≡◌, ℕ, ◌≤◌, ◌^◌, Option, Some, 
 use Rattle.atomic_table.specs.declared.shared.Seat.{Seat}
 use Rattle.atomic_table.specs.Seated.{TableId}
 use Rattle.bus_tenure.specs.declared.pages.Page.{Page}
-use Rattle.bus_world.specs.declared.shapes.Shape.{Shape}
 use Rattle.bus_pageslot.specs.declared.rule.View.{View}
 use Rattle.bus_pageslot.specs.declared.rule.View.TheVariants.{Maker}
 use Rattle.bus_pageslot.specs.Seats.{SenderSeat, ReceiverSeat, table_of, sender_trail_of, stored_of}
 use Rattle.bus_pageslot.specs.ReceiverViews.{new_receiver_view}
-use Rattle.bus_pageslot.specs.Processes.{TableLayout, Process, Automaton}
+use Rattle.bus_automaton.specs.Processes.{TableLayout, Process, Automaton}
+use Rattle.bus_automaton.specs.declared.plans.Plan.{Plan}
 use Rattle.bus_pageslot.specs.Rule.{receiver_view_in, table_layout_in}
-use Rattle.bus_pageslot.specs.SenderTrails.{no_sender_trail}
+use Rattle.bus_automaton.specs.SenderTrails.{no_sender_trail}
 
--- a bus: its table, and the sizes that were asked for
+-- a bus: its table, and what it was made by
 pub record BusId : Type 0 where
   pub table : TableId
-  pub shape : Shape
+  pub plan : Plan
 
 -- a table of these sizes, and the seat of its maker
 pub record IsBusTable {C : Type 0} (A : Automaton C) (table : TableId) (maker : Seat (Option Page) (View C)) : Type 0 where

@@ -7,7 +7,7 @@ use Rattle.bus_tenure.specs.declared.pages.Page.{Page}
 use Rattle.bus_world.specs.Headline.{IsPrefix}
 use Rattle.bus_pageslot.specs.declared.rule.View.{View}
 use Rattle.bus_pageslot.specs.Rule.{slot_of, known_in, TableInvariant}
-use Rattle.bus_pageslot.specs.Processes.{Process, Automaton, log_below}
+use Rattle.bus_automaton.specs.Processes.{Process, Automaton, log_below}
 use Rattle.bus_pageslot.specs.Promised.{IsPromised}
 
 -- A table of which the rule holds, with this log below the length and this page at home, where a receiver's seat shows what it showed

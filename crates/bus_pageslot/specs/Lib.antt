@@ -1,9 +1,4 @@
-pub mod SenderTrails
 pub mod ReceiverViews
-pub mod Processes
-pub mod Lawful
-pub mod RowsApart
-pub mod RowsAgain
 pub mod Rule
 pub mod Steps
 pub mod Stages
@@ -16,4 +11,6 @@ pub mod Buses
 pub mod Endings
 pub mod Outcomes
 pub mod Promised
+pub mod Histories
 pub mod SafeSeats
+pub mod Truths

@@ -9,8 +9,8 @@ use Rattle.bus_batch.specs.Frames.{Frame, AreFrames, log_words}
 use Rattle.bus_tenure.specs.declared.pages.Page.{Page}
 use Rattle.bus_world.specs.Headline.{IsPrefix}
 use Rattle.bus_pageslot.specs.ReceiverViews.{ReceiverView, new_receiver_view, receiver_view_knowing, HasHeard}
-use Rattle.bus_pageslot.specs.Processes.{TableLayout, no_table_layout, Process, Automaton, log_in}
-use Rattle.bus_pageslot.specs.SenderTrails.{SenderTrail, no_sender_trail}
+use Rattle.bus_automaton.specs.Processes.{TableLayout, no_table_layout, Process, Automaton, log_in}
+use Rattle.bus_automaton.specs.SenderTrails.{SenderTrail, no_sender_trail}
 use Rattle.bus_pageslot.specs.declared.rule.View.{View}
 use Rattle.bus_pageslot.specs.declared.rule.View.TheVariants.{Maker, Sender, Tap, Meeting, Telling, Spent}
 

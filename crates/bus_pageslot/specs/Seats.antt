@@ -12,10 +12,10 @@ use Rattle.bus_world.specs.Headline.{Action}
 use Rattle.bus_pageslot.specs.declared.rule.View.{View}
 use Rattle.bus_pageslot.specs.declared.rule.View.TheVariants.{Sender, Tap, Spent}
 use Rattle.bus_pageslot.specs.ReceiverViews.{ReceiverView, new_receiver_view}
-use Rattle.bus_pageslot.specs.Processes.{TableLayout, Process, IsCounted}
+use Rattle.bus_automaton.specs.Processes.{TableLayout, Process, IsCounted}
 use Rattle.bus_pageslot.specs.Rule.{Sat, sender_trail_in, stored_in, known_in}
 use Rattle.bus_pageslot.specs.Steps.{Accepts, carried_of, all_in, stored_by, Told}
-use Rattle.bus_pageslot.specs.SenderTrails.{SenderTrail, with_sender_trail}
+use Rattle.bus_automaton.specs.SenderTrails.{SenderTrail, with_sender_trail}
 
 -- a sender: what it holds, and its seat
 pub record SenderSeat (C : Type 0) : Type 0 where

@@ -5,14 +5,14 @@ use Rattle.bus_batch.specs.Batches.{CanPut, IsPutFault, next_of}
 use Rattle.bus_batch.specs.declared.batches.PutFault.{PutFault}
 use Rattle.bus_batch.specs.declared.batches.PutFault.TheVariants as put
 use Rattle.bus_tenure.specs.declared.turns.Turn.{Turn}
-use Rattle.bus_tenure.specs.declared.turns.Turn.TheVariants as turn
 use Rattle.bus_world.specs.Headline.{HasPut, puts}
-use Rattle.bus_pageslot.specs.Processes.{Process}
+use Rattle.bus_automaton.specs.Processes.{Process}
 use Rattle.bus_pageslot.specs.Seats.{SenderSeat, actions_of}
 use Rattle.bus_pageslot.specs.Turns.{Sends}
 use Rattle.bus_pageslot.specs.declared.seats.SendFault.{SendFault}
 use Rattle.bus_pageslot.specs.declared.seats.SendFault.TheVariants as fault
 use Rattle.bus_pageslot.specs.declared.seats.Unsent.{Unsent}
+use Rattle.bus_automaton.specs.LastAnswers.{is_refusal}
 
 -- the messages that wait in its batch
 abbrev pub waiting_of : {C : Type 0} → Process C → SenderSeat C → List (List ℕ)
@@ -31,19 +31,6 @@ pub record SendsOff {C : Type 0} (P : Process C) (old new : SenderSeat C) : Type
   pub answer : Turn
   pub sends : Sends P old answer new
   pub none : waiting_of P new ≡ []
-
--- the answers after which messages may wait still
-abbrev pub is_refusal : Turn → Bool
-is_refusal turn.Idle = false
-is_refusal turn.Waiting = false
-is_refusal turn.Going = false
-is_refusal (turn.Lost t owner) = false
-is_refusal (turn.Own t) = false
-is_refusal (turn.Delivered t first last) = false
-is_refusal turn.Full = true
-is_refusal turn.Closed = true
-is_refusal turn.Spent = true
-is_refusal (turn.Behind t sender) = false
 
 -- the batch was not sent off: turns up to a last one, after which the same messages wait as before, one at least
 pub record Keeps {C : Type 0} (P : Process C) (old : SenderSeat C) (answer : Turn) (new : SenderSeat C) : Type 0 where

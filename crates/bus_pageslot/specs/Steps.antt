@@ -16,9 +16,9 @@ use Rattle.bus_world.specs.Headline.{Action, HasPut, HasClosed, puts, IsPrefix}
 use Rattle.bus_pageslot.specs.ReceiverViews.{receiver_view_after_load, receiver_view_knowing, Agree}
 use Rattle.bus_pageslot.specs.declared.rule.View.{View}
 use Rattle.bus_pageslot.specs.declared.rule.View.TheVariants.{Maker, Sender, Tap, Meeting, Telling, Spent}
-use Rattle.bus_pageslot.specs.Processes.{Process, IsCounted}
+use Rattle.bus_automaton.specs.Processes.{Process, IsCounted, EndsBy}
 use Rattle.bus_pageslot.specs.Rule.{Sat, sender_trail_in, stored_in, receiver_view_in, known_in, with_receiver_view, views_joined, first_of, second_of, all_knowing, table_layout_in, capacity_in}
-use Rattle.bus_pageslot.specs.SenderTrails.{SenderTrail, with_actions, with_sender_trail}
+use Rattle.bus_automaton.specs.SenderTrails.{SenderTrail, with_actions, with_sender_trail}
 
 -- ---- what a sender accepts between its steps
 -- what a sender has accepted makes this sender of c, and adds these actions
@@ -58,12 +58,6 @@ abbrev pub carried_of : Bool → List (ℕ × Option Page)
 carried_of true = (0, None) ∷ []
 carried_of false = []
 
--- the page that goes home with a turn
-abbrev pub page_given : PageMove → Option Page
-page_given Stays = None
-page_given (Comes t) = None
-page_given (Returns t reason page) = Some page
-
 -- what is in its slot right before a step: the page, where the turn gives it back
 abbrev pub out_with : PageMove → List (ℕ × Option Page) → List (ℕ × Option Page)
 out_with Stays carried = carried
@@ -93,12 +87,6 @@ laid_from P c (Some page) = P.laid c page
 abbrev pub laid_at : {C : Type 0} → Process C → C → Bool → Option Page → C
 laid_at P c true slot = laid_from P c slot
 laid_at P c false slot = c
-
--- The parts of a turn are the whole turn: c has taken its step, is s once it was told what that found, and s' is what it holds after the turn.
-abbrev pub EndsBy : {C : Type 0} → Process C → C → C → C → Option Page → PageMove → Type 0
-EndsBy P c s s' home Stays = (s' ≡ s) × (P.awaits s ≡ false) × (P.holds s' ≡ P.holds c)
-EndsBy P c s s' home (Comes t) = (P.awaits s ≡ true) × (P.holds c ≡ false) × ((page : Page) → home ≡ Some page → (s' ≡ P.laid s page) × (P.holds s' ≡ true))
-EndsBy P c s s' home (Returns t reason page) = (s' ≡ s) × (P.awaits s ≡ false) × (P.holds c ≡ true) × (P.holds s' ≡ false)
 
 -- ---- one step
 -- the length that it stores, else the one stored before

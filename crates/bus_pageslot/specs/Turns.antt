@@ -3,26 +3,14 @@ use Rattle.std.specs.Prelude.{◌≡◌, ℕ, Bool, true, false, Some, None}
 use Rattle.bus_register.specs.declared.registers.Op.{Op}
 use Rattle.bus_tenure.specs.declared.turns.Turn.{Turn}
 use Rattle.bus_tenure.specs.declared.turns.Turn.TheVariants as turn
-use Rattle.bus_pageslot.specs.Processes.{Process}
+use Rattle.bus_automaton.specs.Processes.{Process}
 use Rattle.bus_pageslot.specs.Seats.{SenderSeat, Took}
+use Rattle.bus_automaton.specs.LastAnswers.{is_last}
 
 -- one turn: the step that is due, and where none is nothing
 pub record Turned {C : Type 0} (P : Process C) (old : SenderSeat C) (word : ℕ) (answer : Turn) (new : SenderSeat C) : Type 0 where
   pub rests : P.op old.core word ≡ None → (new ≡ old) × (answer ≡ P.rest old.core)
   pub steps : (op : Op) → P.op old.core word ≡ Some op → Took P old word answer new
-
--- there is nothing more to do, or nothing more that can be done
-abbrev pub is_last : Turn → Bool
-is_last turn.Idle = true
-is_last turn.Waiting = false
-is_last turn.Going = false
-is_last (turn.Lost t owner) = false
-is_last (turn.Own t) = false
-is_last (turn.Delivered t first last) = true
-is_last turn.Full = true
-is_last turn.Closed = true
-is_last turn.Spent = true
-is_last (turn.Behind t sender) = false
 
 -- another sender has to go on first: the one that holds the page, or one that pins a tenure still
 abbrev pub is_waiting : Turn → Bool

@@ -3,26 +3,34 @@
 ghost use Rattle.std.specs.Prelude.{All, ◌≡◌, ℕ, List, Some, None, IfOk, OnErr, IfErr, []};
 ghost use Rattle.std.specs.Prelude.{◌≤◌};
 ghost use Rattle.std.specs.Vec.{vec_len, vec_capacity};
+ghost use Rattle.bus_machine.specs.Playing.{IsServed, MakeRefused, ShapeOf};
+ghost use Rattle.bus_automaton.specs.Buses.{process_by, automaton_by, Serves, Refuses};
+ghost use Rattle.bus_automaton.specs.declared.plans.Plan.{Plan};
 ghost use Rattle.bus_pageslot.specs.Buses.{AreNewSeats, AreNewTaps};
 ghost use Rattle.bus_pageslot.specs.Seats.{table_of};
 ghost use Rattle.bus_pageslot.specs.Endings.{IsLeft};
 
 use crate::outcomes::{EndFault, Ended, leave};
 use crate::rule::BusTable;
-use crate::seatables::Seatable;
-use crate::seating::{bus_table, seat_all, tap_all};
-use crate::seats::SenderOf;
-use crate::taps::TapOf;
+use crate::seating::{bus_table, log_at, seat_all, tap_all};
+use crate::seats::Sender;
+use crate::taps::Tap;
+use bus_adoptcommit::{Ratifier, ThreeWord};
+use bus_automaton::Plan;
+use bus_machine::shapes::fault_of;
 use bus_register::NoMemory;
 use bus_world::{MakeFault, Shape};
 use std::alloc::Global;
 use std::marker::Model;
 
+/// A bus with its senders and its receivers.
+type Made<Q> = (Bus<Q>, Vec<Sender<Q>>, Vec<Tap<Q>>);
+
 /// A bus that threads share by `&`, without a lock: each step of a sender or of a receiver is one
 /// atomic step on one word of its table.
 #[derive(Drop)]
-pub struct BusOf<S: Seatable> {
-    pub(crate) table: BusTable<S>,
+pub struct Bus<Q: Ratifier = ThreeWord> {
+    pub(crate) table: BusTable<Q>,
     senders: u64,
     /// The place of the log's first word.
     log: u64,
@@ -30,73 +38,92 @@ pub struct BusOf<S: Seatable> {
     room: Vec<u64>,
 }
 
-impl<S: Seatable> Model for BusOf<S> {
+impl<Q: Ratifier> Model for Bus<Q> {
     ghost use Rattle.std.specs.Prelude.{◌≡◌, ◌≤◌, []};
     ghost use Rattle.std.specs.Vec.{vec_len, vec_capacity};
+    ghost use Rattle.bus_automaton.specs.Buses.{automaton_with};
     ghost use Rattle.bus_pageslot.specs.Buses.{BusId};
 
     ghost Value = { BusId };
 
-    ghost view = { λ b. record { table = b.table.shared.table_id; shape = b.table.shared.key } };
+    ghost view = { λ b. record { table = b.table.shared.table_id; plan = b.table.shared.key } };
 
-    ghost invariant = { λ b. (b.senders ≡ b.table.shared.key.senders)
-        × (b.senders ≡ (S.automaton b.table.shared.key).table_layout.senders)
-        × (b.log ≡ (S.automaton b.table.shared.key).table_layout.log)
-        × (b.log_words ≡ (S.automaton b.table.shared.key).table_layout.capacity)
+    ghost invariant = { λ b.
+        let A = automaton_with Q.kind_of Q.op Q.fed Q.protocol b.table.shared.key in
+        (b.senders ≡ b.table.shared.key.shape.senders)
+        × (b.senders ≡ A.table_layout.senders)
+        × (b.log ≡ A.table_layout.log)
+        × (b.log_words ≡ A.table_layout.capacity)
         × (b.room.items ≡ []) × (vec_len b.room ≡ 0)
         × (b.log_words ≤ vec_capacity b.room) };
 }
 
-impl<S: Seatable + Drop> BusOf<S> {
-    /// A new bus of this shape, with its words at zero and its page at home, and each of its
-    /// senders and receivers, in order. All memory is taken here: no later call takes any.
+impl<Q: Ratifier + Drop> Bus<Q> {
+    /// A new bus of this shape with a row of words for each tenure, with its words at zero and its
+    /// page at home, and each of its senders and receivers, in order. All memory is taken here: no
+    /// later call takes any.
     pub fn new(
         alloc: Global,
         shape: Shape,
-    ) -> Result<(BusOf<S>, Vec<SenderOf<S>>, Vec<TapOf<S>>), MakeFault>
-        ensures shape { IfOk result (λ made. made.0.shape ≡ shape) }
-        ensures senders { IfOk result
-            (λ made. AreNewSeats S.process (S.automaton shape) made.0.table shape.senders
-            made.1.items) }
-        ensures taps { IfOk result
-            (λ made. AreNewTaps (S.automaton shape).table_layout made.0.table shape.receivers
-            made.2.items) }
+    ) -> Result<(Bus<Q>, Vec<Sender<Q>>, Vec<Tap<Q>>), MakeFault>
+        ensures plan { IfOk result (λ made. made.0.plan ≡ record { shape = shape; reuse = None }) }
+        ensures senders { let plan : Plan = record { shape = shape; reuse = None } in IfOk result
+            (λ made. AreNewSeats (process_by Q.Ratifier) (automaton_by Q.Ratifier plan)
+            made.0.table shape.senders made.1.items) }
+        ensures taps { let plan : Plan = record { shape = shape; reuse = None } in IfOk result
+            (λ made. AreNewTaps (automaton_by Q.Ratifier plan).table_layout made.0.table
+            shape.receivers made.2.items) }
         ensures table { IfOk result (λ made. All (λ s. table_of s ≡ made.0.table) made.1.items
             × All (λ t. t.table_id ≡ made.0.table) made.2.items) }
-        ensures served { IfOk result (λ _. S.Serves shape) }
-        ensures fault { IfErr result (S.Refuses shape) }
+        ensures served { IfOk result (λ _. IsServed shape None) }
+        ensures fault { IfErr result (MakeRefused shape None) }
     {
-        if let Some(fault) = S::fault(shape) {
-            return Err(fault);
-        }
-        let (table, maker) = bus_table(alloc, shape)?;
-        let log = S::log_at(shape);
-        let (senders, maker) = seat_all(alloc, shape, &table.shared, maker)?;
-        let taps = tap_all(alloc, shape, &table.shared, maker, log)?;
-        let room = roomy(alloc, shape.log_words)?;
-        let bus = BusOf {
-            table,
-            senders: shape.senders,
-            log,
-            log_words: shape.log_words,
-            room,
-        };
-        Ok((bus, senders, taps))
+        make(alloc, Plan::apart(shape))
+    }
+
+    /// The same with two to eight rows of words that are used again, for up to 2^40 tenures: `rows`
+    /// of its shape is how many there are.
+    ///
+    /// Who holds the page makes the row of the next tenure ready before it gives the page back. It
+    /// asks each sender once which tenure it pins, and where that is the one that used the row
+    /// before, it answers Behind until that has changed. So a sender that stops while it pins a
+    /// tenure may make a holder wait for good.
+    pub fn cyclic(
+        alloc: Global,
+        shape: Shape,
+    ) -> Result<(Bus<Q>, Vec<Sender<Q>>, Vec<Tap<Q>>), MakeFault>
+        ensures plan { IfOk result
+            (λ made. made.0.plan ≡ record { shape = shape; reuse = Some shape.rows }) }
+        ensures senders { let plan : Plan = record { shape = shape; reuse = Some shape.rows } in
+            IfOk result
+            (λ made. AreNewSeats (process_by Q.Ratifier) (automaton_by Q.Ratifier plan)
+            made.0.table shape.senders made.1.items) }
+        ensures taps { let plan : Plan = record { shape = shape; reuse = Some shape.rows } in
+            IfOk result
+            (λ made. AreNewTaps (automaton_by Q.Ratifier plan).table_layout made.0.table
+            shape.receivers made.2.items) }
+        ensures table { IfOk result (λ made. All (λ s. table_of s ≡ made.0.table) made.1.items
+            × All (λ t. t.table_id ≡ made.0.table) made.2.items) }
+        ensures served { IfOk result (λ _. IsServed shape (Some shape.rows)) }
+        ensures fault { IfErr result (MakeRefused shape (Some shape.rows)) }
+    {
+        make(alloc, Plan::again(shape))
     }
 
     /// Ends the bus, by a receiver of it: its log and its page, where the page is at home, and
     /// PageOut where a sender that took it has not given it back. Bus and receiver are gone in
     /// either case.
-    pub fn end(self, tap: TapOf<S>) -> Result<Ended, EndFault>
+    pub fn end(self, tap: Tap<Q>) -> Result<Ended, EndFault>
         requires { tap.table_id ≡ self.table }
         ensures ended { IfOk result
-            (λ left. IsLeft S.process (S.automaton self.shape) tap.me.0
-            left.log (Some left.page)) }
-        ensures senders { IfOk result (λ left. left.senders ≡ self.shape.senders) }
+            (λ left. IsLeft (process_by Q.Ratifier) (automaton_by Q.Ratifier self.plan)
+            tap.me.0 left.log (Some left.page)) }
+        ensures senders { IfOk result (λ left. left.senders ≡ self.plan.shape.senders) }
         ensures out { OnErr result ((log : List ℕ)
-            × IsLeft S.process (S.automaton self.shape) tap.me.0 log None) }
+            × IsLeft (process_by Q.Ratifier) (automaton_by Q.Ratifier self.plan)
+            tap.me.0 log None) }
     {
-        let BusOf {
+        let Bus {
             table,
             senders,
             log,
@@ -105,6 +132,39 @@ impl<S: Seatable + Drop> BusOf<S> {
         } = self;
         leave(table, tap.into_seat(), senders, log, log_words, room)
     }
+}
+
+/// A new bus of this plan.
+fn make<Q: Ratifier + Drop>(alloc: Global, plan: Plan) -> Result<Made<Q>, MakeFault>
+    requires { ShapeOf plan.shape plan.reuse }
+    ensures plan { IfOk result (λ made. made.0.plan ≡ plan) }
+    ensures senders { IfOk result
+        (λ made. AreNewSeats (process_by Q.Ratifier) (automaton_by Q.Ratifier plan) made.0.table
+        plan.shape.senders made.1.items) }
+    ensures taps { IfOk result
+        (λ made. AreNewTaps (automaton_by Q.Ratifier plan).table_layout made.0.table
+        plan.shape.receivers made.2.items) }
+    ensures table { IfOk result (λ made. All (λ s. table_of s ≡ made.0.table) made.1.items
+        × All (λ t. t.table_id ≡ made.0.table) made.2.items) }
+    ensures served { IfOk result (λ _. Serves plan) }
+    ensures fault { IfErr result (Refuses plan) }
+{
+    if let Some(fault) = fault_of(plan.shape, plan.reuse) {
+        return Err(fault);
+    }
+    let (table, maker) = bus_table(alloc, plan)?;
+    let log = log_at::<Q>(plan);
+    let (senders, maker) = seat_all(alloc, plan, &table.shared, maker)?;
+    let taps = tap_all(alloc, plan, &table.shared, maker, log)?;
+    let room = roomy(alloc, plan.shape.log_words)?;
+    let bus = Bus {
+        table,
+        senders: plan.shape.senders,
+        log,
+        log_words: plan.shape.log_words,
+        room,
+    };
+    Ok((bus, senders, taps))
 }
 
 /// Room for so many words.

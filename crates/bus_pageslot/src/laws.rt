@@ -1,176 +1,219 @@
 //! What holds of every bus, between any two steps.
 
-ghost use Rattle.std.specs.Prelude.{◌≡◌, ℕ, ◌*◌, ◌<◌, ◌≤◌, Option, List, []};
-ghost use Rattle.std.specs.Prelude.{◌∷◌, ◌++◌, ◌+◌, false, length, slice_index, Some};
+ghost use Rattle.std.specs.Prelude.{◌≡◌, ◌≢◌, ℕ, ◌*◌, ◌<◌, ◌≤◌, Option, List, []};
+ghost use Rattle.std.specs.Prelude.{◌∷◌, ◌++◌, ◌+◌, false, length, slice_index, Some, IsSomeAnd};
 ghost use mathlib.Core.Option.{some};
 ghost use lib.ListN.{get_elem?};
+ghost use Rattle.bus_register.specs.Words.{register};
 ghost use Rattle.bus_register.specs.declared.registers.Op.{Op};
 ghost use Rattle.bus_register.specs.declared.registers.Op.TheVariants.{Load, Store};
 ghost use Rattle.bus_register.specs.declared.registers.SenderNo.{SenderNo};
 ghost use Rattle.atomic_table.specs.Table.{State};
-ghost use Rattle.bus_cyclic.specs.Cyclic as cyclic;
-ghost use Rattle.bus_cyclic.specs.Truth.{LossesAreSeen};
+ghost use Rattle.bus_core.specs.Senders.{Sender};
+ghost use Rattle.bus_core.specs.Table.{line_now};
+ghost use Rattle.bus_core.specs.Telling.{FeedTells};
 ghost use Rattle.bus_deliverylog.specs.declared.receiving.RecvTurn.{RecvTurn};
-ghost use Rattle.bus_guest.specs.Guests.{sizes_with};
-ghost use Rattle.bus_guest.specs.Telling.{FeedTells};
-ghost use Rattle.bus_guest.specs.Turns.{Visitor, sizes_of};
+ghost use Rattle.bus_core.specs.Reusing.Participants.{sizes_with};
+ghost use Rattle.bus_machine.specs.Playing.{layout_of};
+ghost use Rattle.bus_machine.specs.Promise.{words_of_frame};
+ghost use Rattle.bus_ownerbits.specs.Sizes.{election_bound};
 ghost use Rattle.bus_presence.specs.Reclamation.{presence_at};
-ghost use Rattle.bus_tenure.specs.Core.{Core};
 ghost use Rattle.bus_tenure.specs.Elections.{Elector, election_of};
 ghost use Rattle.bus_tenure.specs.declared.pages.Page.{Page};
 ghost use Rattle.bus_tenure.specs.declared.turns.Turn.TheVariants.{Behind};
 ghost use Rattle.bus_world.specs.Headline.{IsPrefix};
-ghost use Rattle.bus_world.specs.Playing.{layout_of};
-ghost use Rattle.bus_world.specs.Rings.{IsKeptRing};
 ghost use Rattle.bus_world.specs.Turning.{words_after};
-ghost use Rattle.bus_world.specs.declared.shapes.Shape.{Shape};
+ghost use Rattle.bus_automaton.specs.Buses.{process_by, automaton_by};
+ghost use Rattle.bus_automaton.specs.Processes.{TableLayout, log_below};
+ghost use Rattle.bus_automaton.specs.SenderTrails.{SenderTrail, with_sender_trail};
+ghost use Rattle.bus_automaton.specs.declared.plans.Plan.{Plan};
 ghost use Rattle.bus_pageslot.specs.ReceiverViews.{ReceiverView};
 ghost use Rattle.bus_pageslot.specs.declared.rule.View.{View};
-ghost use Rattle.bus_pageslot.specs.declared.rule.View.TheVariants.{Sender, Tap};
+ghost use Rattle.bus_pageslot.specs.declared.rule.View.TheVariants as view;
+ghost use Rattle.bus_pageslot.specs.Histories.{HasHistory};
 ghost use Rattle.bus_pageslot.specs.Listening.{Hears};
-ghost use Rattle.bus_pageslot.specs.Processes.{TableLayout, log_below};
-ghost use Rattle.bus_pageslot.specs.RowsAgain.{process_again, bus_again};
-ghost use Rattle.bus_pageslot.specs.RowsApart.{process_apart, bus_apart};
+ghost use Rattle.bus_pageslot.specs.Promised.{IsPromised};
 ghost use Rattle.bus_pageslot.specs.Rule.{Sat, TableInvariant};
 ghost use Rattle.bus_pageslot.specs.SafeSeats.{AreSafe, LeavesPast};
 ghost use Rattle.bus_pageslot.specs.Seats.{SenderSeat, TookAndTold, sender_trail_of};
-ghost use Rattle.bus_pageslot.specs.Promised.{IsPromised};
 ghost use Rattle.bus_pageslot.specs.Stages.{TakesPageOf};
-ghost use Rattle.bus_pageslot.specs.Steps.{IsDue};
-ghost use Rattle.bus_pageslot.specs.SenderTrails.{SenderTrail};
+ghost use Rattle.bus_pageslot.specs.Steps.{IsDue, all_in};
+ghost use Rattle.bus_pageslot.specs.Truths.{IsTrueAnswer};
 
-use crate::seatables::Seatable;
 use bus_adoptcommit::Ratifier;
+use bus_automaton::laws::threads_may_go_by;
+use bus_machine::laws::{events_keep_promise, machine_keeps_promise, steps_are_bounded};
 use bus_ownerbits::laws::election_is_lawful;
 
 /// Whenever the rule of the table holds, which is between any two steps of any threads, the page
 /// of promises holds of what the seats show: of the actions of senders and of what receivers were
 /// answered, however these are numbered, with the order and the owners that the words below the
 /// length spell. What a receiver knows is a beginning of these words.
-pub fn seats_keep_promises<S: Seatable>()
-    ensures { (shape : Shape) (s : State (Option Page) (View S))
-        → TableInvariant S.process (S.automaton shape) s
-        → IsPromised S.process (S.automaton shape).table_layout s }
+pub fn seats_keep_promises<Q: Ratifier>()
+    ensures { let P = process_by Q.Ratifier in let A = automaton_by Q.Ratifier in
+        (plan : Plan) (s : State (Option Page) (View (Sender (Elector Q))))
+        → TableInvariant P (A plan) s → IsPromised P (A plan).table_layout s }
 {
-    S::is_lawful();
+    threads_may_go_by::<Q>();
 }
 
 /// What the seats show is one page: of each sender its actions, which its seat shows, and one order
 /// and one list of owners, which the words below the length spell.
-pub fn seats_show_one_page<S: Seatable>()
-    ensures { (x : TableLayout) (s : State (Option Page) (View S))
-        → (h k : IsPromised S.process x s) → ((p : ℕ) → h.actions p ≡ k.actions p)
-        × (h.order ≡ k.order) × (h.owners ≡ k.owners) }
+pub fn seats_show_one_page<Q: Ratifier>()
+    ensures { (x : TableLayout) (s : State (Option Page) (View (Sender (Elector Q))))
+        → (h k : IsPromised (process_by Q.Ratifier) x s)
+        → ((p : ℕ) → h.actions p ≡ k.actions p) × (h.order ≡ k.order) × (h.owners ≡ k.owners) }
 {}
 
 /// Each sender shows in some seat: a table with the seat of sender 0 alone, of two or more, is no
 /// bus, and no page holds of it.
-pub fn no_page_without_each_sender<S: Seatable>()
-    ensures shown { (shape : Shape) (s : State (Option Page) (View S))
-        (c : S) (sender_trail : SenderTrail) (stored : ℕ) → 1
-        < (S.automaton shape).table_layout.senders
-        → S.process.me c ≡ 0 → s.views ≡ Sender c sender_trail stored ∷ []
-        → ¬ TableInvariant S.process (S.automaton shape) s }
-    ensures promised { (x : TableLayout) (s : State (Option Page) (View S))
-        (c : S) (sender_trail : SenderTrail) (stored : ℕ) → 1 < x.senders
-        → S.process.me c ≡ 0 → s.views ≡ Sender c sender_trail stored ∷ []
-        → ¬ IsPromised S.process x s }
+pub fn no_page_without_each_sender<Q: Ratifier>()
+    ensures shown { let P = process_by Q.Ratifier in let A = automaton_by Q.Ratifier in
+        (plan : Plan) (s : State (Option Page) (View (Sender (Elector Q))))
+        (v : Sender (Elector Q)) (sender_trail : SenderTrail) (stored : ℕ)
+        → 1 < (A plan).table_layout.senders
+        → P.me v ≡ 0 → s.views ≡ view.Sender v sender_trail stored ∷ []
+        → ¬ TableInvariant P (A plan) s }
+    ensures promised { let P = process_by Q.Ratifier in
+        (x : TableLayout) (s : State (Option Page) (View (Sender (Elector Q))))
+        (v : Sender (Elector Q)) (sender_trail : SenderTrail) (stored : ℕ) → 1 < x.senders
+        → P.me v ≡ 0 → s.views ≡ view.Sender v sender_trail stored ∷ []
+        → ¬ IsPromised P x s }
 {}
 
 /// A sender's step leaves a log that begins with the one before it, whatever the step is for: so no
 /// step stores a smaller length. No other step changes a word: receivers load, and seats that are
 /// made, joined or cut apart leave all words as they are. So between any two steps each log below
 /// the length begins each later one.
-pub fn steps_only_extend_the_log<S: Seatable>()
-    ensures extends { (shape : Shape) (s : State (Option Page) (View S)) (seat : ℕ) (m : Sat S)
-        (d : S) (word many : ℕ) (o : Op)
-        → TableInvariant S.process (S.automaton shape) s → get_elem? s.views seat ≡ some m.0
-        → IsDue S.process d word m many o
-        → IsPrefix (log_below (S.automaton shape).table_layout s.words)
-        (log_below (S.automaton shape).table_layout (words_after s.words (Some o))) }
-    ensures refused { (shape : Shape) (s : State (Option Page) (View S)) (seat : ℕ) (m : Sat S)
-        (d : S) (word many v : ℕ)
-        → TableInvariant S.process (S.automaton shape) s → get_elem? s.views seat ≡ some m.0
-        → v < slice_index s.words 0
-        → ¬ IsDue S.process d word m many (Store (record { 0 = 0 }) v) }
+pub fn steps_only_extend_the_log<Q: Ratifier>()
+    ensures extends { let P = process_by Q.Ratifier in let A = automaton_by Q.Ratifier in
+        (plan : Plan) (s : State (Option Page) (View (Sender (Elector Q)))) (seat : ℕ)
+        (m : Sat (Sender (Elector Q))) (d : Sender (Elector Q)) (word many : ℕ) (o : Op)
+        → TableInvariant P (A plan) s → get_elem? s.views seat ≡ some m.0
+        → IsDue P d word m many o
+        → IsPrefix (log_below (A plan).table_layout s.words)
+        (log_below (A plan).table_layout (words_after s.words (Some o))) }
+    ensures refused { let P = process_by Q.Ratifier in let A = automaton_by Q.Ratifier in
+        (plan : Plan) (s : State (Option Page) (View (Sender (Elector Q)))) (seat : ℕ)
+        (m : Sat (Sender (Elector Q))) (d : Sender (Elector Q)) (word many n : ℕ)
+        → TableInvariant P (A plan) s → get_elem? s.views seat ≡ some m.0
+        → n < slice_index s.words 0
+        → ¬ IsDue P d word m many (Store (record { 0 = 0 }) n) }
 {
-    S::is_lawful();
+    threads_may_go_by::<Q>();
+}
+
+/// Behind each table, of either kind of rows, stands a machine with its words and its page, and the
+/// seats show what led to it. So the machine's promise holds of that: each tenure has at most one
+/// owner, who announced for it; the words below the length are a log of what was put; and a row
+/// that is used again is cleared while nobody stands in a tenure of it. Whoever remembers to whom it
+/// lost its tenure has seen the election of that tenure end with this sender, and is not this
+/// sender. No sender takes more steps towards the page of a tenure than an election has turns, or,
+/// where rows are used again, more than three of its pin.
+pub fn tables_are_machines<Q: Ratifier>()
+    ensures { let X = election_of Q.Ratifier in
+        (plan : Plan) (s : State (Option Page) (View (Sender (Elector Q))))
+        → TableInvariant (process_by Q.Ratifier) (automaton_by Q.Ratifier plan) s
+        → HasHistory X (layout_of Q.protocol plan.shape plan.reuse) plan.reuse
+        (election_bound Q.protocol.steps) s }
+{
+    machine_keeps_promise::<Q>();
+    steps_are_bounded::<Q>();
+}
+
+/// The log below the length grows with no step of a sender but the one that stores the length, and
+/// with that by the frame of this sender and no other word.
+pub fn the_log_grows_by_frames<Q: Ratifier>()
+    ensures { let X = election_of Q.Ratifier in let P = process_by Q.Ratifier in
+        let A = automaton_by Q.Ratifier in
+        (plan : Plan) (s : State (Option Page) (View (Sender (Elector Q)))) (seat : ℕ)
+        (m : Sat (Sender (Elector Q))) (d : Sender (Elector Q)) (word many : ℕ) (o : Op)
+        → TableInvariant P (A plan) s → get_elem? s.views seat ≡ some m.0
+        → IsDue P d word m many o
+        → log_below (A plan).table_layout (words_after s.words (Some o))
+        ≡ log_below (A plan).table_layout s.words ++ words_of_frame (line_now X d).publishes }
+{
+    threads_may_go_by::<Q>();
+    events_keep_promise::<Q>();
 }
 
 /// While a tenure is open the stage is twice its number, and but one step of a sender leaves that:
 /// the one that takes the page, by the sender that the tenure's election chose. Receivers load.
-/// This is of a bus with a row of words for each tenure.
 pub fn only_owners_leave_the_stage<Q: Ratifier>()
-    ensures { let X = election_of Q.Ratifier in (shape : Shape)
-        (s : State (Option Page) (View (Core (Elector Q)))) (seat : ℕ) (m : Sat (Core (Elector Q)))
-        (d : Core (Elector Q)) (word many t : ℕ) (o : Op)
-        → TableInvariant (process_apart X) (bus_apart X (layout_of Q.protocol shape)) s
-        → get_elem? s.views seat ≡ some m.0
-        → IsDue (process_apart X) d word m many o → slice_index s.words 1 ≡ 2 * t
-        → (slice_index (words_after s.words (Some o)) 1 ≡ 2 * t → ⊥) → TakesPageOf X d t o }
+    ensures { let X = election_of Q.Ratifier in let P = process_by Q.Ratifier in
+        (plan : Plan) (s : State (Option Page) (View (Sender (Elector Q)))) (seat : ℕ)
+        (m : Sat (Sender (Elector Q))) (d : Sender (Elector Q)) (word many t : ℕ) (o : Op)
+        → TableInvariant P (automaton_by Q.Ratifier plan) s → get_elem? s.views seat ≡ some m.0
+        → IsDue P d word m many o → slice_index s.words 1 ≡ 2 * t
+        → slice_index (words_after s.words (Some o)) 1 ≢ 2 * t → TakesPageOf X d t o }
 {
     election_is_lawful::<Q>();
+    threads_may_go_by::<Q>();
+    events_keep_promise::<Q>();
 }
 
-/// Where rows of words are used again, the history of steps that the rule shows is a safe one:
-/// a row is cleared while nobody stands in a tenure of it, who steps in a tenure's row stands in
-/// that tenure, each tenure has at most one owner, who announced for it, and the words below the
-/// length are a log of what was put. Whoever remembers to whom it lost its tenure has seen the
-/// election of that tenure end with this sender, and is not this sender. And the seats show it:
-/// by the steps of its pins that its seat shows, whose election runs stands in its tenure, whose
-/// row has not gone on; and once all presences have passed that a holder scans, nobody stands in a
-/// tenure of the next row.
+/// Whatever a step of a sender answers is so of all that happened until then, with this step. Lost
+/// names the owner with which the sender saw that election end, and which is another sender. Own is
+/// of a tenure whose election chose the sender, and whose page it took. What is Delivered stands in
+/// the order, with these numbers, and is its last frame. The log is Full where the sender's frame
+/// does not fit behind it. Behind is answered only where rows of words are used again.
+pub fn answers_are_true<Q: Ratifier>()
+    ensures { let P = process_by Q.Ratifier in
+        (plan : Plan) (s : State (Option Page) (View (Sender (Elector Q)))) (seat : ℕ)
+        (m : Sat (Sender (Elector Q))) (d : Sender (Elector Q)) (word many : ℕ) (o : Op)
+        → TableInvariant P (automaton_by Q.Ratifier plan) s → get_elem? s.views seat ≡ some m.0
+        → IsDue P d word m many o → let got = slice_index s.words (register o) in
+        IsTrueAnswer (layout_of Q.protocol plan.shape plan.reuse) plan.reuse s d
+        (with_sender_trail (all_in P m.0 d) (P.adds d got word)).actions (P.answer d got word) }
+{
+    threads_may_go_by::<Q>();
+    events_keep_promise::<Q>();
+}
+
+/// Where rows of words are used again the seats show that this is safe: by the steps of its pins
+/// that its seat shows, whose election runs stands in its tenure, whose row has not gone on; and
+/// once all presences have passed that a holder scans, nobody stands in a tenure of the next row.
 pub fn rows_used_again_are_safe<Q: Ratifier>()
-    ensures kept { let X = election_of Q.Ratifier in (shape : Shape)
-        (s : State (Option Page) (View (Visitor (Elector Q))))
-        → (r : TableInvariant (process_again X)
-        (bus_again X (cyclic.layout_of Q.protocol shape) shape.rows) s)
-        → IsKeptRing X r.state.ring r.state.trails }
-    ensures losses { let X = election_of Q.Ratifier in (shape : Shape)
-        (s : State (Option Page) (View (Visitor (Elector Q))))
-        → (r : TableInvariant (process_again X)
-        (bus_again X (cyclic.layout_of Q.protocol shape) shape.rows) s)
-        → LossesAreSeen r.state.ring r.state.trails.actions }
-    ensures seats { let X = election_of Q.Ratifier in
-        let x = cyclic.layout_of Q.protocol in (shape : Shape)
-        (s : State (Option Page) (View (Visitor (Elector Q))))
-        → TableInvariant (process_again X) (bus_again X (x shape) shape.rows) s
-        → AreSafe (sizes_with (x shape) shape.rows) s }
+    ensures { (plan : Plan) (rows : ℕ) (s : State (Option Page) (View (Sender (Elector Q))))
+        → plan.reuse ≡ Some rows
+        → TableInvariant (process_by Q.Ratifier) (automaton_by Q.Ratifier plan) s
+        → AreSafe (sizes_with (layout_of Q.protocol plan.shape plan.reuse) rows) s }
 {
-    election_is_lawful::<Q>();
+    tables_are_machines::<Q>();
 }
 
-/// Where rows of words are used again, no step of a sender lowers the stage, and none is an action
+/// No step of a sender lowers the stage; and where rows of words are used again, none is an action
 /// in a tenure whose row has gone on to a later one: so who announced itself there, whom its
 /// election chose and who took its page stays as it is. Receivers load.
 pub fn past_tenures_are_left<Q: Ratifier>()
-    ensures { let X = election_of Q.Ratifier in let P = process_again X in
-        let x = cyclic.layout_of Q.protocol in (shape : Shape)
-        (s : State (Option Page) (View (Visitor (Elector Q)))) (seat : ℕ)
-        (m : Sat (Visitor (Elector Q))) (d : Visitor (Elector Q)) (word many : ℕ) (o : Op)
-        → TableInvariant P (bus_again X (x shape) shape.rows) s → get_elem? s.views seat ≡ some m.0
-        → IsDue P d word m many o → LeavesPast X shape.rows s.words d word o }
+    ensures { let P = process_by Q.Ratifier in
+        (plan : Plan) (s : State (Option Page) (View (Sender (Elector Q)))) (seat : ℕ)
+        (m : Sat (Sender (Elector Q))) (d : Sender (Elector Q)) (word many : ℕ) (o : Op)
+        → TableInvariant P (automaton_by Q.Ratifier plan) s → get_elem? s.views seat ≡ some m.0
+        → IsDue P d word m many o → LeavesPast P plan.reuse s.words d word o }
 {
-    election_is_lawful::<Q>();
+    threads_may_go_by::<Q>();
+    events_keep_promise::<Q>();
 }
 
-/// Where rows of words are used again, a sender that answers Behind has loaded the presence of the
-/// sender for which it waits, and has found in it the tenure that it names: its seat shows that
-/// load behind the steps of its reclamations before it.
+/// A sender that answers Behind is one of a bus whose rows are used again: it has loaded the
+/// presence of the sender for which it waits, and has found in it the tenure that it names. Its seat
+/// shows that load behind the steps of its reclamations before it.
 pub fn behind_shows_its_load<Q: Ratifier>()
-    ensures { let X = election_of Q.Ratifier in let P = process_again X in
-        (old new : SenderSeat (Visitor (Elector Q))) (word t : ℕ) (p : SenderNo)
+    ensures { let X = election_of Q.Ratifier in let P = process_by Q.Ratifier in
+        (old new : SenderSeat (Sender (Elector Q))) (word t : ℕ) (p : SenderNo)
         → TookAndTold P (FeedTells X) old word (Behind t p) new
-        → (sender_trail_of P new).reclaims ≡ (sender_trail_of P old).reclaims ++ record {
-          op = Load (record { 0 = presence_at (sizes_of old.core) p.0 });
+        → IsSomeAnd old.core.reuse (λ r. (sender_trail_of P new).reclaims
+        ≡ (sender_trail_of P old).reclaims ++ record {
+          op = Load (record { 0 = presence_at (sizes_with old.core.core.layout r.rows) p.0 });
           got = 1 + t;
-        } ∷ [] }
+        } ∷ []) }
 {}
 
 /// No turn of a receiver, but after the end, leaves its seat as it was: so none answers without a
 /// step on the table.
-pub fn no_turn_without_a_load<S: Seatable>()
+pub fn no_turn_without_a_load<Q: Ratifier>()
     ensures { (x : TableLayout) (e : ReceiverView) (answer : RecvTurn) → e.ended ≡ false
         → e.place ≤ length e.known
-        → ¬ Hears {C = S} (Tap x e, []) answer (Tap x e, []) }
+        → ¬ Hears {C = Sender (Elector Q)} (view.Tap x e, []) answer (view.Tap x e, []) }
 {}

@@ -18,25 +18,19 @@
 //! ```
 #![tactic(auto)]
 
-mod again;
-mod apart;
 mod buses;
 pub mod laws;
 mod listening;
 mod meetings;
 mod outcomes;
 mod rule;
-mod seatables;
 mod seating;
 mod seats;
 mod steps;
 mod taps;
 
-pub use again::{CyclicBus, CyclicSender, CyclicTap};
-pub use apart::{Bus, Sender, Tap};
-pub use buses::BusOf;
+pub use buses::Bus;
 pub use outcomes::{EndFault, Ended};
 pub use rule::{BusRule, OfBus, ReceiverView, SenderTrail, TableLayout, Told, View};
-pub use seatables::Seatable;
-pub use seats::{SendFault, SenderOf, Unsent};
-pub use taps::TapOf;
+pub use seats::{SendFault, Sender, Unsent};
+pub use taps::Tap;

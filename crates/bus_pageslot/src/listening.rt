@@ -8,7 +8,8 @@ ghost use Rattle.bus_deliverylog.specs.Receiving.{HasReceived, TakesWord};
 ghost use Rattle.bus_pageslot.specs.Listening.{Hears, HearsLength, HearsWord, answer_of};
 
 use crate::rule::{BusSeat, LoadsLengthInTurn, LoadsWordInTurn, SharedTable};
-use crate::seatables::Seatable;
+use bus_adoptcommit::Ratifier;
+use bus_automaton::laws::threads_may_go_by;
 use bus_deliverylog::{Reader, RecvTurn};
 
 /// A reader that has read all that it knows is told the length that its seat knows.
@@ -28,9 +29,9 @@ fn catch_up(reader: &mut Reader, known: u64)
 
 /// The length is loaded, and the answer is written.
 #[inline(never)]
-fn hear_length<S: Seatable + Drop>(
-    shared: &SharedTable<S>,
-    seat: &mut BusSeat<S>,
+fn hear_length<Q: Ratifier + Drop>(
+    shared: &SharedTable<Q>,
+    seat: &mut BusSeat<Q>,
     reader: &mut Reader,
     answer: &mut RecvTurn,
 )
@@ -47,8 +48,8 @@ fn hear_length<S: Seatable + Drop>(
     ensures known { reader.new.known ≡ length (known_in seat.new.me.0) }
     ensures hears { HearsLength seat.old.me answer.new seat.new.me }
 {
-    S::is_lawful();
-    let length = shared.load::<LoadsLengthInTurn<S>>(seat, 0);
+    threads_may_go_by::<Q>();
+    let length = shared.load::<LoadsLengthInTurn<Q>>(seat, 0);
     *answer = reader.feed(length);
 }
 
@@ -70,9 +71,9 @@ fn take_word(reader: &mut Reader, word: u64, answer: &mut RecvTurn)
 /// The word at the reader's place is loaded. Says whether that says nothing by itself; else the
 /// answer is written.
 #[inline(always)]
-fn hear_word<S: Seatable + Drop>(
-    shared: &SharedTable<S>,
-    seat: &mut BusSeat<S>,
+fn hear_word<Q: Ratifier + Drop>(
+    shared: &SharedTable<Q>,
+    seat: &mut BusSeat<Q>,
     log: u64,
     reader: &mut Reader,
     answer: &mut RecvTurn,
@@ -86,7 +87,7 @@ fn hear_word<S: Seatable + Drop>(
     ensures known { known_in seat.new.me.0 ≡ known_in seat.old.me.0 }
     ensures hears { HearsWord seat.old.me (answer_of result answer.new) seat.new.me }
 {
-    let word = shared.load::<LoadsWordInTurn<S>>(seat, (log + reader.place()) as usize);
+    let word = shared.load::<LoadsWordInTurn<Q>>(seat, (log + reader.place()) as usize);
     if reader.take_plain(word) {
         return true;
     }
@@ -98,9 +99,9 @@ fn hear_word<S: Seatable + Drop>(
 /// `known` is how many words of it the receiver knows. Says whether it took a word that says
 /// nothing by itself; else the answer is written.
 #[inline(always)]
-pub(crate) fn hear<S: Seatable + Drop>(
-    shared: &SharedTable<S>,
-    seat: &mut BusSeat<S>,
+pub(crate) fn hear<Q: Ratifier + Drop>(
+    shared: &SharedTable<Q>,
+    seat: &mut BusSeat<Q>,
     log: u64,
     known: &mut u64,
     reader: &mut Reader,

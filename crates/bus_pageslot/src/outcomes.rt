@@ -9,13 +9,15 @@ ghost use Rattle.bus_register.specs.declared.registers.SenderNo.{SenderNo as Num
 ghost use Rattle.bus_batch.specs.Frames.{Order, Spells};
 ghost use Rattle.bus_deliverylog.specs.Orders.{of_sender};
 ghost use Rattle.bus_world.specs.Log.{words_read_from};
+ghost use Rattle.bus_automaton.specs.Buses.{process_by, automaton_by};
 ghost use Rattle.bus_pageslot.specs.declared.rule.View.TheVariants.{Tap};
 ghost use Rattle.bus_pageslot.specs.ReceiverViews.{ReceiverView};
 ghost use Rattle.bus_pageslot.specs.Endings.{IsLeft};
 
 use crate::rule::{BusSeat, BusTable};
-use crate::seatables::Seatable;
 use atomic_table::Closed;
+use bus_adoptcommit::Ratifier;
+use bus_automaton::laws::threads_may_go_by;
 use bus_batch::laws::spells_one;
 use bus_register::SenderNo;
 use bus_register::limits::MOST_SENDERS;
@@ -100,9 +102,9 @@ impl Ended {
 }
 
 /// What this table, of which this is the seat of a receiver, leaves behind.
-pub(crate) fn leave<S: Seatable + Drop>(
-    table: BusTable<S>,
-    seat: BusSeat<S>,
+pub(crate) fn leave<Q: Ratifier + Drop>(
+    table: BusTable<Q>,
+    seat: BusSeat<Q>,
     senders: u64,
     log: u64,
     log_words: u64,
@@ -111,18 +113,20 @@ pub(crate) fn leave<S: Seatable + Drop>(
     requires table { seat.table_id ≡ table.shared.table_id }
     requires tap { (d : _) × (e : ReceiverView) × (seat.me ≡ (Tap d e, [])) }
     requires empty { (room.items ≡ []) × (vec_len room ≡ 0) }
-    requires senders { senders ≡ (S.automaton table.shared.key).table_layout.senders }
-    requires log { log ≡ (S.automaton table.shared.key).table_layout.log }
-    requires log_words { log_words ≡ (S.automaton table.shared.key).table_layout.capacity }
+    requires senders { senders ≡ (automaton_by Q.Ratifier table.shared.key).table_layout.senders }
+    requires log { log ≡ (automaton_by Q.Ratifier table.shared.key).table_layout.log }
+    requires log_words { log_words
+        ≡ (automaton_by Q.Ratifier table.shared.key).table_layout.capacity }
     requires roomy { log_words ≤ vec_capacity room }
     ensures ended { IfOk result
-        (λ left. IsLeft S.process (S.automaton table.shared.key) seat.me.0
-        left.log (Some left.page)) }
+        (λ left. IsLeft (process_by Q.Ratifier) (automaton_by Q.Ratifier table.shared.key)
+        seat.me.0 left.log (Some left.page)) }
     ensures senders { IfOk result (λ left. left.senders ≡ senders) }
     ensures out { OnErr result ((log : List ℕ)
-        × IsLeft S.process (S.automaton table.shared.key) seat.me.0 log None) }
+        × IsLeft (process_by Q.Ratifier) (automaton_by Q.Ratifier table.shared.key)
+        seat.me.0 log None) }
 {
-    S::is_lawful();
+    threads_may_go_by::<Q>();
     let mut closed = table.close_with(seat);
     let stage = closed.word(1);
     let length = closed.word(0);

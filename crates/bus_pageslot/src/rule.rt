@@ -1,9 +1,10 @@
 //! The rule of the table: its words, its slot and the views of its seats are a run of the machine.
 
-use crate::seatables::Seatable;
 use atomic_table::{Join, Play, Seat, Shared, Split, Table, TableRule};
+use bus_adoptcommit::Ratifier;
+use bus_automaton::Plan;
+use bus_core::SenderCore;
 use bus_tenure::Page;
-use bus_world::Shape;
 use std::alloc::Global;
 use std::marker::{Brand, Model, PhantomData};
 
@@ -13,7 +14,7 @@ pub struct SenderTrail {
 }
 
 impl Model for SenderTrail {
-    ghost use Rattle.bus_pageslot.specs.SenderTrails.{SenderTrail, no_sender_trail};
+    ghost use Rattle.bus_automaton.specs.SenderTrails.{SenderTrail, no_sender_trail};
 
     ghost Value = { SenderTrail };
 
@@ -26,7 +27,7 @@ pub struct TableLayout {
 }
 
 impl Model for TableLayout {
-    ghost use Rattle.bus_pageslot.specs.Processes.{TableLayout, no_table_layout};
+    ghost use Rattle.bus_automaton.specs.Processes.{TableLayout, no_table_layout};
 
     ghost Value = { TableLayout };
 
@@ -65,17 +66,20 @@ pub enum View<C> {
 }
 
 /// The rule: executions lead to the bus that the table is, with the actions that its seats show.
-pub struct BusRule<S> {
-    of: PhantomData<S>,
+pub struct BusRule<Q> {
+    of: PhantomData<Q>,
 }
 
-impl<S: Seatable> TableRule<Option<Page>, View<S>, Shape> for BusRule<S> {
+impl<Q: Ratifier> TableRule<Option<Page>, View<SenderCore<Q>>, Plan> for BusRule<Q> {
+    ghost use Rattle.bus_automaton.specs.Buses.{process_with, automaton_with};
     ghost use Rattle.bus_pageslot.specs.declared.rule.View.TheVariants.{Maker};
     ghost use Rattle.bus_pageslot.specs.Rule.{TableInvariant};
 
-    ghost holds = { λ key. TableInvariant S.process (S.automaton key) };
+    ghost holds = { λ key. TableInvariant (process_with Q.kind_of Q.op Q.fed Q.protocol)
+        (automaton_with Q.kind_of Q.op Q.fed Q.protocol key) };
 
-    ghost first = { λ key. Maker ((S.automaton key).started 0) };
+    ghost first = { λ key.
+        Maker ((automaton_with Q.kind_of Q.op Q.fed Q.protocol key).started 0) };
 }
 
 /// Which bus it is: the table of one, which whoever makes it picks. A struct that is generic in it
@@ -110,92 +114,96 @@ impl<C> Told<C> for Brand {
 }
 
 /// The seat shows the sender that was picked, with the turn that it took.
-pub(crate) struct Goes<S, K> {
-    of: PhantomData<(S, K)>,
+pub(crate) struct Goes<Q, K> {
+    of: PhantomData<(Q, K)>,
 }
 
-impl<S: Seatable, K: Told<S>> Play<Option<Page>, View<S>> for Goes<S, K> {
+impl<Q: Ratifier, K: Told<SenderCore<Q>>> Play<Option<Page>, View<SenderCore<Q>>> for Goes<Q, K> {
+    ghost use Rattle.bus_automaton.specs.Buses.{process_with};
     ghost use Rattle.bus_pageslot.specs.Steps.{GoesOn};
 
-    ghost then = { λ _ m got m'. GoesOn S.process K.core K.word m got m' };
+    ghost then = { λ _ m got m'. GoesOn (process_with Q.kind_of Q.op Q.fed Q.protocol)
+        K.core K.word m got m' };
 }
 
 /// The next sender's seat is made.
-pub(crate) struct Cut<S> {
-    of: PhantomData<S>,
+pub(crate) struct Cut<Q> {
+    of: PhantomData<Q>,
 }
 
-impl<S: Seatable> Split<View<S>> for Cut<S> {
+impl<Q: Ratifier> Split<View<SenderCore<Q>>> for Cut<Q> {
+    ghost use Rattle.bus_automaton.specs.Buses.{process_with};
     ghost use Rattle.bus_pageslot.specs.Rule.{cut_left, cut_right};
 
-    ghost left = { cut_left S.process };
+    ghost left = { cut_left (process_with Q.kind_of Q.op Q.fed Q.protocol) };
 
     ghost right = { cut_right };
 }
 
 /// A receiver's seat is made.
-pub(crate) struct CutTap<S> {
-    of: PhantomData<S>,
+pub(crate) struct CutTap<Q> {
+    of: PhantomData<Q>,
 }
 
-impl<S: Seatable> Split<View<S>> for CutTap<S> {
+impl<Q: Ratifier> Split<View<SenderCore<Q>>> for CutTap<Q> {
+    ghost use Rattle.bus_automaton.specs.Buses.{process_with};
     ghost use Rattle.bus_pageslot.specs.Rule.{tap_left, tap_right};
 
     ghost left = { tap_left };
 
-    ghost right = { tap_right S.process };
+    ghost right = { tap_right (process_with Q.kind_of Q.op Q.fed Q.protocol) };
 }
 
 /// A receiver's seat loaded the length.
-pub(crate) struct LoadsLength<S> {
-    of: PhantomData<S>,
+pub(crate) struct LoadsLength<Q> {
+    of: PhantomData<Q>,
 }
 
-impl<S: Seatable> Play<Option<Page>, View<S>> for LoadsLength<S> {
+impl<Q: Ratifier> Play<Option<Page>, View<SenderCore<Q>>> for LoadsLength<Q> {
     ghost use Rattle.bus_pageslot.specs.Steps.{Learns};
 
     ghost then = { λ _ m got m'. Learns m got m' };
 }
 
 /// A receiver's seat loaded a word that it knows.
-pub(crate) struct LoadsWord<S> {
-    of: PhantomData<S>,
+pub(crate) struct LoadsWord<Q> {
+    of: PhantomData<Q>,
 }
 
-impl<S: Seatable> Play<Option<Page>, View<S>> for LoadsWord<S> {
+impl<Q: Ratifier> Play<Option<Page>, View<SenderCore<Q>>> for LoadsWord<Q> {
     ghost use Rattle.bus_pageslot.specs.Steps.{Reads};
 
     ghost then = { λ step m got m'. Reads m step.word got m' };
 }
 
 /// By a turn of it a receiver's seat loaded the length.
-pub(crate) struct LoadsLengthInTurn<S> {
-    of: PhantomData<S>,
+pub(crate) struct LoadsLengthInTurn<Q> {
+    of: PhantomData<Q>,
 }
 
-impl<S: Seatable> Play<Option<Page>, View<S>> for LoadsLengthInTurn<S> {
+impl<Q: Ratifier> Play<Option<Page>, View<SenderCore<Q>>> for LoadsLengthInTurn<Q> {
     ghost use Rattle.bus_pageslot.specs.Listening.{FindsLength};
 
     ghost then = { λ _ m got m'. FindsLength m got m' };
 }
 
 /// By a turn of it a receiver's seat loaded the word at its place.
-pub(crate) struct LoadsWordInTurn<S> {
-    of: PhantomData<S>,
+pub(crate) struct LoadsWordInTurn<Q> {
+    of: PhantomData<Q>,
 }
 
-impl<S: Seatable> Play<Option<Page>, View<S>> for LoadsWordInTurn<S> {
+impl<Q: Ratifier> Play<Option<Page>, View<SenderCore<Q>>> for LoadsWordInTurn<Q> {
     ghost use Rattle.bus_pageslot.specs.Listening.{FindsWord};
 
     ghost then = { λ _ m got m'. FindsWord m got m' };
 }
 
 /// A receiver's seat goes into another seat.
-pub(crate) struct Meet<S> {
-    of: PhantomData<S>,
+pub(crate) struct Meet<Q> {
+    of: PhantomData<Q>,
 }
 
-impl<S: Seatable> Join<View<S>> for Meet<S> {
+impl<Q: Ratifier> Join<View<SenderCore<Q>>> for Meet<Q> {
     ghost use Rattle.bus_pageslot.specs.declared.rule.View.TheVariants.{Spent};
     ghost use Rattle.bus_pageslot.specs.Rule.{views_joined};
 
@@ -205,11 +213,11 @@ impl<S: Seatable> Join<View<S>> for Meet<S> {
 }
 
 /// It comes out of it again.
-pub(crate) struct Part<S> {
-    of: PhantomData<S>,
+pub(crate) struct Part<Q> {
+    of: PhantomData<Q>,
 }
 
-impl<S: Seatable> Split<View<S>> for Part<S> {
+impl<Q: Ratifier> Split<View<SenderCore<Q>>> for Part<Q> {
     ghost use Rattle.bus_pageslot.specs.Rule.{first_of, second_of};
 
     ghost left = { first_of };
@@ -218,18 +226,19 @@ impl<S: Seatable> Split<View<S>> for Part<S> {
 }
 
 /// Two joined seats loaded the length.
-pub(crate) struct LoadsJoined<S> {
-    of: PhantomData<S>,
+pub(crate) struct LoadsJoined<Q> {
+    of: PhantomData<Q>,
 }
 
-impl<S: Seatable> Play<Option<Page>, View<S>> for LoadsJoined<S> {
+impl<Q: Ratifier> Play<Option<Page>, View<SenderCore<Q>>> for LoadsJoined<Q> {
+    ghost use Rattle.bus_automaton.specs.Buses.{process_with};
     ghost use Rattle.bus_pageslot.specs.Steps.{Meets};
 
-    ghost then = { λ _ m got m'. Meets S.process m got m' };
+    ghost then = { λ _ m got m'. Meets (process_with Q.kind_of Q.op Q.fed Q.protocol) m got m' };
 }
 
-pub(crate) type BusTable<S> = Table<Option<Page>, View<S>, Shape, BusRule<S>, Global>;
+pub(crate) type BusTable<Q> = Table<Option<Page>, View<SenderCore<Q>>, Plan, BusRule<Q>, Global>;
 
-pub(crate) type SharedTable<S> = Shared<Option<Page>, View<S>, Shape, BusRule<S>>;
+pub(crate) type SharedTable<Q> = Shared<Option<Page>, View<SenderCore<Q>>, Plan, BusRule<Q>>;
 
-pub(crate) type BusSeat<S> = Seat<Option<Page>, View<S>>;
+pub(crate) type BusSeat<Q> = Seat<Option<Page>, View<SenderCore<Q>>>;

@@ -2,135 +2,171 @@
 
 ghost use Rattle.std.specs.Prelude.{◌≡◌, ℕ, ◌+◌, ◌<◌, ◌≤◌, ◌^◌, List, []};
 ghost use Rattle.std.specs.Prelude.{IfOk};
+ghost use Rattle.bus_automaton.specs.Buses.{process_by, automaton_by, Serves};
 ghost use Rattle.bus_pageslot.specs.declared.rule.View.TheVariants.{Maker};
 ghost use Rattle.bus_pageslot.specs.Buses.{IsBusTable, IsNewSeat, AreNewSeats};
 ghost use Rattle.bus_pageslot.specs.Buses.{IsNewTap, AreNewTaps};
 
 use crate::rule::{BusSeat, BusTable, Cut, CutTap, SharedTable};
-use crate::seatables::Seatable;
-use crate::seats::SenderOf;
-use crate::taps::TapOf;
+use crate::seats::Sender;
+use crate::taps::Tap;
 use atomic_table::Table;
+use bus_adoptcommit::Ratifier;
+use bus_automaton::Plan;
+use bus_automaton::laws::threads_may_go_by;
+use bus_core::SenderCore;
+use bus_machine::shapes::log_word;
+use bus_ownerbits::Election;
 use bus_register::{NoMemory, SenderNo};
-use bus_world::Shape;
 use bus_world::starts::NEW_PAGE;
 use std::alloc::Global;
 
-/// The table of a new bus, and the seat that the senders' seats are cut from.
-pub(crate) fn bus_table<S: Seatable + Drop>(
-    alloc: Global,
-    shape: Shape,
-) -> Result<(BusTable<S>, BusSeat<S>), NoMemory>
-    requires { S.Serves shape }
-    ensures bus_table { IfOk result
-        (λ made. IsBusTable (S.automaton shape) made.0.shared.table_id made.1) }
-    ensures shape { IfOk result (λ made. made.0.shared.key ≡ shape) }
+/// The place of the first word of the log, which comes last.
+pub(crate) fn log_at<Q: Ratifier + Drop>(plan: Plan) -> u64
+    requires { Serves plan }
+    ensures log { result ≡ (automaton_by Q.Ratifier plan).table_layout.log }
+    ensures words { result + plan.shape.log_words
+        ≡ (automaton_by Q.Ratifier plan).table_layout.words }
+    ensures capacity { plan.shape.log_words
+        ≡ (automaton_by Q.Ratifier plan).table_layout.capacity }
+    ensures senders { plan.shape.senders
+        ≡ (automaton_by Q.Ratifier plan).table_layout.senders }
+    ensures few { result + plan.shape.log_words ≤ 2 ^ 63 }
 {
-    S::is_lawful();
-    let words = vec![in alloc; 0u64; (S::log_at(shape) + shape.log_words) as usize]?;
+    let width = Election::<Q>::width(plan.shape.senders, plan.shape.rounds);
+    log_word(plan.shape, plan.reuse, width)
+}
+
+/// Sender `me` of a bus of this plan, at its start.
+fn start<Q: Ratifier + Drop>(plan: Plan, me: SenderNo) -> SenderCore<Q>
+    requires served { Serves plan }
+    requires below { me.0 < plan.shape.senders }
+    requires room { (automaton_by Q.Ratifier plan).table_layout.words ≤ 2 ^ 63 }
+    ensures { result ≡ (automaton_by Q.Ratifier plan).started me.0 }
+{
+    let shape = plan.shape;
+    let (senders, rounds, words) = (shape.senders, shape.rounds, shape.log_words);
+    match plan.reuse {
+        None => SenderCore::new(senders, me, rounds, shape.rows, words),
+        Some(rows) => SenderCore::cyclic(senders, me, rounds, rows, words),
+    }
+}
+
+/// The table of a new bus, and the seat that the senders' seats are cut from.
+pub(crate) fn bus_table<Q: Ratifier + Drop>(
+    alloc: Global,
+    plan: Plan,
+) -> Result<(BusTable<Q>, BusSeat<Q>), NoMemory>
+    requires { Serves plan }
+    ensures bus_table { IfOk result
+        (λ made. IsBusTable (automaton_by Q.Ratifier plan) made.0.shared.table_id made.1) }
+    ensures plan { IfOk result (λ made. made.0.shared.key ≡ plan) }
+{
+    threads_may_go_by::<Q>();
+    let words = vec![in alloc; 0u64; (log_at::<Q>(plan) + plan.shape.log_words) as usize]?;
     let mut slots = Vec::with_capacity(alloc, 1)?;
     slots.push(Some(NEW_PAGE))?;
-    match Table::new(alloc, words.as_slice(), slots, &shape) {
+    match Table::new(alloc, words.as_slice(), slots, &plan) {
         Ok(made) => Ok(made),
         Err(_) => Err(NoMemory),
     }
 }
 
 /// The next sender, with its seat.
-fn seat_next<S: Seatable + Drop>(
-    shared: &SharedTable<S>,
-    maker: &mut BusSeat<S>,
-    shape: Shape,
+fn seat_next<Q: Ratifier + Drop>(
+    shared: &SharedTable<Q>,
+    maker: &mut BusSeat<Q>,
+    plan: Plan,
     me: u64,
-) -> SenderOf<S>
+) -> Sender<Q>
     requires table { maker.old.table_id ≡ shared.now.table_id }
-    requires served { S.Serves shape }
-    requires room { (S.automaton shape).table_layout.words ≤ 2 ^ 63 }
-    requires wide { (maker.old.table_id.words ≡ (S.automaton shape).table_layout.words)
+    requires served { Serves plan }
+    requires room { (automaton_by Q.Ratifier plan).table_layout.words ≤ 2 ^ 63 }
+    requires wide { (maker.old.table_id.words ≡ (automaton_by Q.Ratifier plan).table_layout.words)
         × (maker.old.table_id.slots ≡ 1) }
-    requires below { me < shape.senders }
-    requires senders { shape.senders ≡ (S.automaton shape).table_layout.senders }
-    requires maker { maker.old.me ≡ (Maker ((S.automaton shape).started me), []) }
+    requires below { me < plan.shape.senders }
+    requires senders { plan.shape.senders ≡ (automaton_by Q.Ratifier plan).table_layout.senders }
+    requires maker { maker.old.me ≡ (Maker ((automaton_by Q.Ratifier plan).started me), []) }
     ensures table { maker.new.table_id ≡ maker.old.table_id }
-    ensures maker { maker.new.me ≡ (Maker ((S.automaton shape).started (me + 1)), []) }
-    ensures seat { IsNewSeat S.process (S.automaton shape) maker.old.table_id me result }
+    ensures maker { maker.new.me ≡ (Maker ((automaton_by Q.Ratifier plan).started (me + 1)), []) }
+    ensures seat { let P = process_by Q.Ratifier in let A = automaton_by Q.Ratifier plan in
+        IsNewSeat P A maker.old.table_id me result }
 {
-    S::is_lawful();
-    let seat = shared.split_seat::<Cut<S>>(maker);
-    let core = S::start(shape, SenderNo(me as u8));
-    SenderOf::seated(core, seat)
+    threads_may_go_by::<Q>();
+    let seat = shared.split_seat::<Cut<Q>>(maker);
+    let core = start(plan, SenderNo(me as u8));
+    Sender::seated(core, seat)
 }
 
 /// All senders, in order.
-pub(crate) fn seat_all<S: Seatable + Drop>(
+pub(crate) fn seat_all<Q: Ratifier + Drop>(
     alloc: Global,
-    shape: Shape,
-    shared: &SharedTable<S>,
-    mut maker: BusSeat<S>,
-) -> Result<(Vec<SenderOf<S>>, BusSeat<S>), NoMemory>
-    requires served { S.Serves shape }
-    requires bus_table { IsBusTable (S.automaton shape) shared.now.table_id maker }
-    requires senders { shape.senders ≡ (S.automaton shape).table_layout.senders }
-    ensures senders { IfOk result
-        (λ made. AreNewSeats S.process (S.automaton shape) shared.now.table_id shape.senders
-        made.0.items) }
+    plan: Plan,
+    shared: &SharedTable<Q>,
+    mut maker: BusSeat<Q>,
+) -> Result<(Vec<Sender<Q>>, BusSeat<Q>), NoMemory>
+    requires served { Serves plan }
+    requires bus_table { IsBusTable (automaton_by Q.Ratifier plan) shared.now.table_id maker }
+    requires senders { plan.shape.senders ≡ (automaton_by Q.Ratifier plan).table_layout.senders }
+    ensures senders { let P = process_by Q.Ratifier in let A = automaton_by Q.Ratifier plan in
+        IfOk result (λ made. AreNewSeats P A shared.now.table_id plan.shape.senders made.0.items) }
     ensures maker { IfOk result (λ made. (made.1.table_id ≡ shared.now.table_id)
-        × (made.1.me ≡ (Maker ((S.automaton shape).started shape.senders), []))) }
+        × (made.1.me ≡ (Maker ((automaton_by Q.Ratifier plan).started plan.shape.senders), []))) }
 {
     let mut senders = Vec::new(alloc);
-    for me in 0..shape.senders {
-        let sender = seat_next(shared, &mut maker, shape, me);
+    for me in 0..plan.shape.senders {
+        let sender = seat_next(shared, &mut maker, plan, me);
         senders.push(sender)?;
     }
     Ok((senders, maker))
 }
 
 /// The next receiver, with its seat, of a maker that has made the seats of so many senders.
-fn tap_next<S: Seatable + Drop>(
-    shared: &SharedTable<S>,
-    maker: &mut BusSeat<S>,
-    shape: Shape,
+fn tap_next<Q: Ratifier + Drop>(
+    shared: &SharedTable<Q>,
+    maker: &mut BusSeat<Q>,
+    plan: Plan,
     made: u64,
     log: u64,
-) -> TapOf<S>
+) -> Tap<Q>
     requires table { maker.old.table_id ≡ shared.now.table_id }
-    requires room { (S.automaton shape).table_layout.words ≤ 2 ^ 63 }
-    requires wide { maker.old.table_id.words ≡ (S.automaton shape).table_layout.words }
-    requires log { log ≡ (S.automaton shape).table_layout.log }
-    requires senders { shape.senders ≡ (S.automaton shape).table_layout.senders }
-    requires maker { maker.old.me ≡ (Maker ((S.automaton shape).started made), []) }
+    requires room { (automaton_by Q.Ratifier plan).table_layout.words ≤ 2 ^ 63 }
+    requires wide { maker.old.table_id.words ≡ (automaton_by Q.Ratifier plan).table_layout.words }
+    requires log { log ≡ (automaton_by Q.Ratifier plan).table_layout.log }
+    requires senders { plan.shape.senders ≡ (automaton_by Q.Ratifier plan).table_layout.senders }
+    requires maker { maker.old.me ≡ (Maker ((automaton_by Q.Ratifier plan).started made), []) }
     ensures table { maker.new.table_id ≡ maker.old.table_id }
     ensures maker { maker.new.me ≡ maker.old.me }
-    ensures tap { IsNewTap (S.automaton shape).table_layout maker.old.table_id result }
+    ensures tap { IsNewTap (automaton_by Q.Ratifier plan).table_layout maker.old.table_id result }
 {
     let _ = made;
-    S::is_lawful();
-    let seat = shared.split_seat::<CutTap<S>>(maker);
-    TapOf::seated(seat, log, shape.senders)
+    threads_may_go_by::<Q>();
+    let seat = shared.split_seat::<CutTap<Q>>(maker);
+    Tap::seated(seat, log, plan.shape.senders)
 }
 
 /// All receivers, in order. `log` is the place of the log's first word.
-pub(crate) fn tap_all<S: Seatable + Drop>(
+pub(crate) fn tap_all<Q: Ratifier + Drop>(
     alloc: Global,
-    shape: Shape,
-    shared: &SharedTable<S>,
-    mut maker: BusSeat<S>,
+    plan: Plan,
+    shared: &SharedTable<Q>,
+    mut maker: BusSeat<Q>,
     log: u64,
-) -> Result<Vec<TapOf<S>>, NoMemory>
+) -> Result<Vec<Tap<Q>>, NoMemory>
     requires table { maker.table_id ≡ shared.now.table_id }
-    requires room { (S.automaton shape).table_layout.words ≤ 2 ^ 63 }
-    requires wide { shared.now.table_id.words ≡ (S.automaton shape).table_layout.words }
-    requires log { log ≡ (S.automaton shape).table_layout.log }
-    requires senders { shape.senders ≡ (S.automaton shape).table_layout.senders }
+    requires room { (automaton_by Q.Ratifier plan).table_layout.words ≤ 2 ^ 63 }
+    requires wide { shared.now.table_id.words ≡ (automaton_by Q.Ratifier plan).table_layout.words }
+    requires log { log ≡ (automaton_by Q.Ratifier plan).table_layout.log }
+    requires senders { plan.shape.senders ≡ (automaton_by Q.Ratifier plan).table_layout.senders }
     requires maker { maker.me
-        ≡ (Maker ((S.automaton shape).started shape.senders), []) }
-    ensures { IfOk result
-        (λ taps. AreNewTaps (S.automaton shape).table_layout shared.now.table_id shape.receivers
+        ≡ (Maker ((automaton_by Q.Ratifier plan).started plan.shape.senders), []) }
+    ensures { let A = automaton_by Q.Ratifier plan in
+        IfOk result (λ taps. AreNewTaps A.table_layout shared.now.table_id plan.shape.receivers
         taps.items) }
 {
     let mut taps = Vec::new(alloc);
-    for _ in 0..shape.receivers {
-        let tap = tap_next(shared, &mut maker, shape, shape.senders, log);
+    for _ in 0..plan.shape.receivers {
+        let tap = tap_next(shared, &mut maker, plan, plan.shape.senders, log);
         taps.push(tap)?;
     }
     Ok(taps)

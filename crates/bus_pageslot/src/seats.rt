@@ -4,7 +4,10 @@ ghost use Rattle.std.specs.Prelude.{◌≡◌, ℕ, ◌<◌, List, [], ◌∷◌
 ghost use Rattle.std.specs.Prelude.{Some, IfSome, IfNone, IfOk, IfErr};
 ghost use Rattle.std.specs.Prelude.{OnOk, OnErr, length, ◌-◌, ◌≤◌};
 ghost use Rattle.bus_batch.specs.Batches.{next_of, CanPut, IsPutFault, CanClose, IsCloseFault};
+ghost use Rattle.bus_core.specs.Causes.{HasCause};
+ghost use Rattle.bus_core.specs.Telling.{FeedTells};
 ghost use Rattle.bus_tenure.specs.Core.{is_closed};
+ghost use Rattle.bus_tenure.specs.Elections.{election_of};
 ghost use Rattle.bus_register.specs.declared.registers.Op.{Op};
 ghost use Rattle.bus_world.specs.Headline.{HasPut, HasClosed, puts};
 ghost use Rattle.bus_pageslot.specs.declared.rule.View.TheVariants.{Tap};
@@ -12,17 +15,21 @@ ghost use Rattle.bus_pageslot.specs.ReceiverViews.{ReceiverView};
 ghost use Rattle.bus_pageslot.specs.Rule.{known_in, stored_in};
 ghost use Rattle.bus_pageslot.specs.Steps.{Learns, KnowsSent};
 ghost use Rattle.bus_pageslot.specs.Seats.{Shows, TookAndTold, table_of, actions_of, stored_of};
-ghost use Rattle.bus_pageslot.specs.Turns.{Sends, is_last, is_waiting, SendsAsking, StopsWaiting};
+ghost use Rattle.bus_pageslot.specs.Turns.{Sends, is_waiting, SendsAsking, StopsWaiting};
+ghost use Rattle.bus_automaton.specs.Buses.{process_by};
+ghost use Rattle.bus_automaton.specs.LastAnswers.{is_last};
 ghost use Rattle.bus_pageslot.specs.Sendings.{waiting_of, SendsOff, KeepsFor, FillsBatches};
 ghost use Rattle.bus_pageslot.specs.Sendings.{HasSent, StopsAt, HasSentPart};
 ghost use Rattle.bus_pageslot.specs.SendFaults.{send_fault_text};
 
-use crate::buses::BusOf;
+use crate::buses::Bus;
 use crate::meetings::meeting;
 use crate::rule::BusSeat;
-use crate::seatables::Seatable;
 use crate::steps::{length_after, walk};
+use bus_adoptcommit::{Ratifier, ThreeWord};
+use bus_automaton::laws::threads_may_go_by;
 use bus_batch::{CloseFault, Message, PutFault};
+use bus_core::SenderCore;
 use bus_register::limits::MOST_MESSAGES;
 use bus_register::{Kind, SenderNo};
 use bus_tenure::Turn;
@@ -80,31 +87,35 @@ impl fmt::Display for Unsent {
 ///
 /// `put` and `close` take no step on the bus. `turn` takes at most one, and waits for nothing.
 #[derive(Drop)]
-pub struct SenderOf<S: Seatable> {
-    core: S,
-    seat: BusSeat<S>,
+pub struct Sender<Q: Ratifier = ThreeWord> {
+    core: SenderCore<Q>,
+    seat: BusSeat<Q>,
     stored: u64,
 }
 
-impl<S: Seatable> Model for SenderOf<S> {
+impl<Q: Ratifier> Model for Sender<Q> {
     ghost use Rattle.std.specs.Prelude.{◌≡◌};
+    ghost use Rattle.bus_automaton.specs.Buses.{process_with};
+    ghost use Rattle.bus_core.specs.Senders.{Sender};
     ghost use Rattle.bus_pageslot.specs.Rule.{stored_in};
     ghost use Rattle.bus_pageslot.specs.Seats.{SenderSeat, Shows};
+    ghost use Rattle.bus_tenure.specs.Elections.{Elector};
 
-    ghost Value = { SenderSeat S };
+    ghost Value = { SenderSeat (Sender (Elector Q)) };
 
     ghost view = { λ s. record { core = s.core; seat = s.seat } };
 
-    ghost invariant = { λ s. Shows S.process s.core s.seat × (s.stored ≡ stored_in s.seat.me.0) };
+    ghost invariant = { λ s. Shows (process_with Q.kind_of Q.op Q.fed Q.protocol) s.core s.seat
+        × (s.stored ≡ stored_in s.seat.me.0) };
 }
 
-impl<S: Seatable + Drop> SenderOf<S> {
-    pub(crate) fn seated(core: S, seat: BusSeat<S>) -> SenderOf<S>
-        requires shows { Shows S.process core seat }
+impl<Q: Ratifier + Drop> Sender<Q> {
+    pub(crate) fn seated(core: SenderCore<Q>, seat: BusSeat<Q>) -> Sender<Q>
+        requires shows { Shows (process_by Q.Ratifier) core seat }
         requires stored { stored_in seat.me.0 ≡ 0 }
         ensures { result ≡ record { core = core; seat = seat } }
     {
-        SenderOf {
+        Sender {
             core,
             seat,
             stored: 0,
@@ -113,21 +124,21 @@ impl<S: Seatable + Drop> SenderOf<S> {
 
     /// The sender's number, from 0 on.
     pub fn number(&self) -> SenderNo
-        ensures { result.0 ≡ S.process.me self.now.core }
+        ensures { result.0 ≡ (process_by Q.Ratifier).me self.now.core }
     {
         self.core.number()
     }
 
     /// How many messages wait in its batch, at most 16.
     pub fn pending(&self) -> u64
-        ensures { result ≡ length (waiting_of S.process self.now) }
+        ensures { result ≡ length (waiting_of (process_by Q.Ratifier) self.now) }
     {
         self.core.pending()
     }
 
     /// The number that the next message gets.
     pub fn next_number(&self) -> u64
-        ensures { result ≡ next_of (S.process.queue self.now.core) }
+        ensures { result ≡ next_of ((process_by Q.Ratifier).queue self.now.core) }
     {
         self.core.next_number()
     }
@@ -135,7 +146,7 @@ impl<S: Seatable + Drop> SenderOf<S> {
     /// It sends nothing more: it has closed the order, or has learned that the order has ended.
     /// False as long as its close waits to be sent.
     pub fn is_closed(&self) -> bool
-        ensures { result ≡ is_closed (S.process.queue self.now.core).phase }
+        ensures { result ≡ is_closed ((process_by Q.Ratifier).queue self.now.core).phase }
     {
         self.core.is_closed()
     }
@@ -149,15 +160,15 @@ impl<S: Seatable + Drop> SenderOf<S> {
 
     /// What its next step is for; none where none is due.
     pub fn kind(&self) -> Option<Kind>
-        ensures kind { result ≡ S.process.kind self.now.core }
-        ensures cause { IfSome result (S.HasCause self.now.core) }
+        ensures kind { result ≡ (process_by Q.Ratifier).kind self.now.core }
+        ensures cause { IfSome result (HasCause Q.protocol self.now.core) }
     {
         self.core.kind()
     }
 
     /// Its next step asks for a random word.
     pub fn wants_word(&self) -> bool
-        ensures { result ≡ S.process.wants_word self.now.core }
+        ensures { result ≡ (process_by Q.Ratifier).wants_word self.now.core }
     {
         self.core.wants_word()
     }
@@ -165,7 +176,7 @@ impl<S: Seatable + Drop> SenderOf<S> {
     /// How many turns its election takes at most, with the one that takes the page; 0 where none
     /// is begun.
     pub fn turns_left(&self) -> u64
-        ensures { result ≡ S.process.turns_left self.now.core }
+        ensures { result ≡ (process_by Q.Ratifier).turns_left self.now.core }
     {
         self.core.turns_left()
     }
@@ -173,19 +184,21 @@ impl<S: Seatable + Drop> SenderOf<S> {
     /// Appends a message of at most 56 bytes to its batch of at most 16, and gives its number,
     /// which counts the messages of this sender from 0 on. Takes no step. A fault changes nothing.
     pub fn put(&mut self, bytes: &[u8]) -> Result<u64, PutFault>
-        ensures number { IfOk result (λ number. number ≡ next_of (S.process.queue self.old.core)) }
+        ensures number { let P = process_by Q.Ratifier in
+            IfOk result (λ number. number ≡ next_of (P.queue self.old.core)) }
         ensures taken { OnOk result
-            (self.new.core ≡ S.process.with_message self.old.core bytes.now) }
-        ensures action { IfOk result
-            (λ number. actions_of S.process self.new
-            ≡ actions_of S.process self.old ++ HasPut number bytes.now ∷ []) }
-        ensures could { OnOk result (CanPut (S.process.queue self.old.core) (length bytes.now)) }
+            (self.new.core ≡ (process_by Q.Ratifier).with_message self.old.core bytes.now) }
+        ensures action { let P = process_by Q.Ratifier in
+            IfOk result (λ number. actions_of P self.new ≡ actions_of P self.old ++ HasPut number
+            bytes.now ∷ []) }
+        ensures could { let P = process_by Q.Ratifier in
+            OnOk result (CanPut (P.queue self.old.core) (length bytes.now)) }
         ensures fault { IfErr result
-            (IsPutFault (S.process.queue self.old.core) (length bytes.now)) }
+            (IsPutFault ((process_by Q.Ratifier).queue self.old.core) (length bytes.now)) }
         ensures refused { OnErr result (self.new.core ≡ self.old.core) }
         ensures seat { self.new.seat ≡ self.old.seat }
     {
-        S::is_lawful();
+        threads_may_go_by::<Q>();
         self.core.put(bytes)
     }
 
@@ -193,44 +206,49 @@ impl<S: Seatable + Drop> SenderOf<S> {
     /// in its batch or on their way, and where it is closing or closed. Takes no step. A fault
     /// changes nothing.
     pub fn close(&mut self) -> Result<(), CloseFault>
-        ensures taken { OnOk result (self.new.core ≡ S.process.with_close self.old.core) }
-        ensures action { OnOk result
-            (actions_of S.process self.new ≡ actions_of S.process self.old ++ HasClosed ∷ []) }
-        ensures could { OnOk result (CanClose (S.process.queue self.old.core)) }
-        ensures fault { IfErr result (IsCloseFault (S.process.queue self.old.core)) }
+        ensures taken { let P = process_by Q.Ratifier in
+            OnOk result (self.new.core ≡ P.with_close self.old.core) }
+        ensures action { let P = process_by Q.Ratifier in
+            OnOk result (actions_of P self.new ≡ actions_of P self.old ++ HasClosed ∷ []) }
+        ensures could { OnOk result (CanClose ((process_by Q.Ratifier).queue self.old.core)) }
+        ensures fault { IfErr result (IsCloseFault ((process_by Q.Ratifier).queue self.old.core)) }
         ensures refused { OnErr result (self.new.core ≡ self.old.core) }
         ensures seat { self.new.seat ≡ self.old.seat }
     {
-        S::is_lawful();
+        threads_may_go_by::<Q>();
         self.core.close()
     }
 
     /// One turn: at most one step on one word of the bus that it is a sender of. `word` is the
     /// random word of a vote; other steps do not look at it.
-    pub fn turn(&mut self, bus: &BusOf<S>, word: u32) -> Turn
+    pub fn turn(&mut self, bus: &Bus<Q>, word: u32) -> Turn
         requires { table_of self.old ≡ bus.now.table }
         ensures table { table_of self.new ≡ table_of self.old }
-        ensures rests { S.process.op self.old.core word ≡ None
-            → (self.new ≡ self.old) × (result ≡ S.process.rest self.old.core) }
-        ensures steps { (op : Op) → S.process.op self.old.core word ≡ Some op
-            → TookAndTold S.process S.AnswerTells self.old word result self.new }
+        ensures rests { let P = process_by Q.Ratifier in
+            P.op self.old.core word ≡ None → (self.new ≡ self.old) × (result ≡ P.rest
+            self.old.core) }
+        ensures steps { let P = process_by Q.Ratifier in
+            (op : Op) → P.op self.old.core word ≡ Some op → TookAndTold P (FeedTells (election_of
+            Q.Ratifier)) self.old word result self.new }
     {
         let shared = &bus.table.shared;
-        let Some(op) = self.core.next(word) else {
-            return self.core.rest();
+        let next = self.core.step();
+        let Some(op) = self.core.next_of(next, word) else {
+            return self.core.rest_of(next);
         };
         self.stored = length_after(op, self.stored);
-        walk::<S, Brand>(shared, &mut self.seat, &mut self.core, op, word)
+        walk::<Q, Brand>(shared, &mut self.seat, &mut self.core, next, op, word)
     }
 
     /// Turns, until there is nothing more to do, or nothing more that can be done: Idle, Delivered,
     /// Full, Closed or Spent. Each vote takes one word of `rng`. It waits for nothing but its own
     /// next turn, and that it ends is not promised.
-    pub fn send<W: Wait, R: Rng>(&mut self, wait: &W, bus: &BusOf<S>, rng: &mut R) -> Turn
+    pub fn send<W: Wait, R: Rng>(&mut self, wait: &W, bus: &Bus<Q>, rng: &mut R) -> Turn
         requires { table_of self.old ≡ bus.now.table }
         ensures table { table_of self.new ≡ table_of self.old }
-        ensures sends { Sends S.process self.old result self.new }
-        ensures puts { puts (actions_of S.process self.new) ≡ puts (actions_of S.process self.old) }
+        ensures sends { Sends (process_by Q.Ratifier) self.old result self.new }
+        ensures puts { let P = process_by Q.Ratifier in
+            puts (actions_of P self.new) ≡ puts (actions_of P self.old) }
     {
         self.send_while(wait, bus, rng, || true).unwrap()
     }
@@ -242,7 +260,7 @@ impl<S: Seatable + Drop> SenderOf<S> {
     pub fn send_while<W: Wait, R: Rng, F: FnMut() -> bool>(
         &mut self,
         wait: &W,
-        bus: &BusOf<S>,
+        bus: &Bus<Q>,
         rng: &mut R,
         mut go_on: F,
     ) -> Option<Turn>
@@ -250,11 +268,13 @@ impl<S: Seatable + Drop> SenderOf<S> {
         requires callable { F.IsAlwaysCallable go_on }
         ensures table { table_of self.new ≡ table_of self.old }
         ensures sends { IfSome result
-            (λ turn. SendsAsking S.process F.step self.old go_on turn self.new) }
-        ensures stops { IfNone result (StopsWaiting S.process F.step self.old go_on self.new) }
-        ensures puts { puts (actions_of S.process self.new) ≡ puts (actions_of S.process self.old) }
+            (λ turn. SendsAsking (process_by Q.Ratifier) F.step self.old go_on turn self.new) }
+        ensures stops { let P = process_by Q.Ratifier in
+            IfNone result (StopsWaiting P F.step self.old go_on self.new) }
+        ensures puts { let P = process_by Q.Ratifier in
+            puts (actions_of P self.new) ≡ puts (actions_of P self.old) }
     {
-        S::is_lawful();
+        threads_may_go_by::<Q>();
         let backoff = Backoff::new();
         for _ in wait.forever() {
             let word = if self.wants_word() { rng.next_u32() } else { 0 };
@@ -281,17 +301,17 @@ impl<S: Seatable + Drop> SenderOf<S> {
     pub fn send_all<W: Wait, R: Rng>(
         &mut self,
         wait: &W,
-        bus: &BusOf<S>,
+        bus: &Bus<Q>,
         rng: &mut R,
         messages: &[Message],
     ) -> Result<(), Unsent>
         requires { table_of self.old ≡ bus.now.table }
         ensures table { table_of self.new ≡ table_of self.old }
-        ensures all { OnOk result (HasSent S.process self.old messages.now self.new) }
+        ensures all { OnOk result (HasSent (process_by Q.Ratifier) self.old messages.now self.new) }
         ensures part { IfErr result
-            (λ unsent. HasSentPart S.process self.old messages.now unsent self.new) }
+            (λ unsent. HasSentPart (process_by Q.Ratifier) self.old messages.now unsent self.new) }
     {
-        S::is_lawful();
+        threads_may_go_by::<Q>();
         let before = self.send_off(wait, bus, rng);
         if let Err(fault) = before {
             return Err(self.unsent(0, fault));
@@ -311,7 +331,7 @@ impl<S: Seatable + Drop> SenderOf<S> {
     /// So many messages were put, and then this came up.
     fn unsent(&self, put: usize, fault: SendFault) -> Unsent
         ensures put { (result.put ≡ put) × (result.fault ≡ fault) }
-        ensures sent { result.sent ≡ put - length (waiting_of S.process self.now) }
+        ensures sent { result.sent ≡ put - length (waiting_of (process_by Q.Ratifier) self.now) }
     {
         Unsent {
             put,
@@ -324,20 +344,20 @@ impl<S: Seatable + Drop> SenderOf<S> {
     fn put_or_send<W: Wait, R: Rng>(
         &mut self,
         wait: &W,
-        bus: &BusOf<S>,
+        bus: &Bus<Q>,
         rng: &mut R,
         message: &Message,
     ) -> Result<(), SendFault>
         requires { table_of self.old ≡ bus.now.table }
         ensures table { table_of self.new ≡ table_of self.old }
-        ensures taken { OnOk result ((first : _)
-            (messages : List (List ℕ)) → FillsBatches S.process first messages self.old
-            → FillsBatches S.process first (messages ++ message.now ∷ []) self.new) }
-        ensures stops { IfErr result (λ fault. (first : _)
-            (messages : List (List ℕ)) → FillsBatches S.process first messages self.old
-            → StopsAt S.process first messages (Some message.now) fault self.new) }
+        ensures taken { let P = process_by Q.Ratifier in
+            OnOk result ((first : _) (messages : List (List ℕ)) → FillsBatches P first messages
+            self.old → FillsBatches P first (messages ++ message.now ∷ []) self.new) }
+        ensures stops { let P = process_by Q.Ratifier in
+            IfErr result (λ fault. (first : _) (messages : List (List ℕ)) → FillsBatches P first
+            messages self.old → StopsAt P first messages (Some message.now) fault self.new) }
     {
-        S::is_lawful();
+        threads_may_go_by::<Q>();
         if let Err(fault) = self.make_room(wait, bus, rng) {
             return Err(fault);
         }
@@ -351,20 +371,21 @@ impl<S: Seatable + Drop> SenderOf<S> {
     fn make_room<W: Wait, R: Rng>(
         &mut self,
         wait: &W,
-        bus: &BusOf<S>,
+        bus: &Bus<Q>,
         rng: &mut R,
     ) -> Result<(), SendFault>
         requires { table_of self.old ≡ bus.now.table }
         ensures table { table_of self.new ≡ table_of self.old }
-        ensures room { OnOk result (length (waiting_of S.process self.new) < MOST_MESSAGES) }
-        ensures sends { OnOk result ((first : _)
-            (messages : List (List ℕ)) → FillsBatches S.process first messages self.old
-            → FillsBatches S.process first messages self.new) }
-        ensures keeps { IfErr result (λ fault.
-            (MOST_MESSAGES ≤ length (waiting_of S.process self.old))
-            × KeepsFor S.process self.old fault self.new) }
+        ensures room { let P = process_by Q.Ratifier in
+            OnOk result (length (waiting_of P self.new) < MOST_MESSAGES) }
+        ensures sends { let P = process_by Q.Ratifier in
+            OnOk result ((first : _) (messages : List (List ℕ)) → FillsBatches P first messages
+            self.old → FillsBatches P first messages self.new) }
+        ensures keeps { let P = process_by Q.Ratifier in
+            IfErr result (λ fault. (MOST_MESSAGES ≤ length (waiting_of P self.old)) × KeepsFor P
+            self.old fault self.new) }
     {
-        S::is_lawful();
+        threads_may_go_by::<Q>();
         if self.pending() < MOST_MESSAGES as u64 {
             return Ok(());
         }
@@ -375,15 +396,16 @@ impl<S: Seatable + Drop> SenderOf<S> {
     fn send_off<W: Wait, R: Rng>(
         &mut self,
         wait: &W,
-        bus: &BusOf<S>,
+        bus: &Bus<Q>,
         rng: &mut R,
     ) -> Result<(), SendFault>
         requires { table_of self.old ≡ bus.now.table }
         ensures table { table_of self.new ≡ table_of self.old }
-        ensures sends { OnOk result (SendsOff S.process self.old self.new) }
-        ensures keeps { IfErr result (λ fault. KeepsFor S.process self.old fault self.new) }
+        ensures sends { OnOk result (SendsOff (process_by Q.Ratifier) self.old self.new) }
+        ensures keeps { let P = process_by Q.Ratifier in
+            IfErr result (λ fault. KeepsFor P self.old fault self.new) }
     {
-        S::is_lawful();
+        threads_may_go_by::<Q>();
         let turn = self.send(wait, bus, rng);
         if self.pending() > 0 {
             return Err(SendFault::Turn(turn));
@@ -393,7 +415,7 @@ impl<S: Seatable + Drop> SenderOf<S> {
 
     /// A receiver's seat is joined to its own, which then loads the length; and the two are cut
     /// apart again.
-    pub(crate) fn tell(&mut self, bus: &BusOf<S>, tap: BusSeat<S>) -> (u64, BusSeat<S>)
+    pub(crate) fn tell(&mut self, bus: &Bus<Q>, tap: BusSeat<Q>) -> (u64, BusSeat<Q>)
         requires table { (table_of self.old ≡ bus.now.table) × (tap.table_id ≡ bus.now.table) }
         requires tap { (d : _) × (e : ReceiverView) × (tap.me ≡ (Tap d e, [])) }
         ensures table { (table_of self.new ≡ table_of self.old)
@@ -401,11 +423,11 @@ impl<S: Seatable + Drop> SenderOf<S> {
         ensures same { (self.new.core ≡ self.old.core)
             × (self.new.seat.me ≡ self.old.seat.me) }
         ensures learns { Learns tap.me result.0 result.1.me }
-        ensures sent { KnowsSent S.process self.old.core (actions_of S.process self.old)
-            (stored_of self.old)
-            (known_in result.1.me.0) }
+        ensures sent { let P = process_by Q.Ratifier in
+            KnowsSent P self.old.core (actions_of P self.old) (stored_of self.old) (known_in
+            result.1.me.0) }
     {
-        S::is_lawful();
+        threads_may_go_by::<Q>();
         meeting(&bus.table.shared, &mut self.seat, tap)
     }
 }

@@ -2,65 +2,85 @@
 
 ghost use Rattle.std.specs.Prelude.{◌≡◌, ◌<◌, ◌∷◌, true, [], Some};
 ghost use Rattle.bus_register.specs.Words.{register};
+ghost use Rattle.bus_tenure.specs.Elections.{election_of};
+ghost use Rattle.bus_core.specs.Doings.{step_of};
+ghost use Rattle.bus_core.specs.Senders.{situation};
+ghost use Rattle.bus_core.specs.Telling.{FeedTells};
+ghost use Rattle.bus_automaton.specs.Buses.{process_by};
 ghost use Rattle.bus_pageslot.specs.Steps.{laid_at, carried_of, out_with, stored_by};
 ghost use Rattle.bus_pageslot.specs.Steps.{GoesOn, Due, slot_in, slots_emptied};
 ghost use Rattle.bus_pageslot.specs.Seats.{Shows, TookAndTold};
 
 use crate::rule::{BusSeat, Goes, SharedTable, Told};
-use crate::seatables::Seatable;
+use bus_adoptcommit::Ratifier;
+use bus_automaton::laws::threads_may_go_by;
+use bus_core::{SenderCore, Step};
 use bus_register::{Op, Reg};
 use bus_tenure::Turn;
 
-/// A sender that is to give the page back puts it into its slot.
-fn put_out<S: Seatable + Drop>(shared: &SharedTable<S>, seat: &mut BusSeat<S>, core: &mut S)
+/// A sender that is to give the page back puts it into its slot. What it does next becomes what it
+/// does with the page out of its hands.
+fn put_out<Q: Ratifier + Drop>(
+    shared: &SharedTable<Q>,
+    seat: &mut BusSeat<Q>,
+    core: &mut SenderCore<Q>,
+    next: &mut Step,
+)
     requires table { seat.old.table_id ≡ shared.now.table_id }
-    requires carried { seat.old.me.1 ≡ carried_of (S.process.holds core.old) }
-    ensures core { core.new ≡ S.process.handed core.old }
+    requires next { let X = election_of Q.Ratifier in step_of (situation X core.old) ≡ next.old }
+    requires carried { seat.old.me.1 ≡ carried_of ((process_by Q.Ratifier).holds core.old) }
+    ensures core { core.new ≡ (process_by Q.Ratifier).handed core.old }
+    ensures next { let X = election_of Q.Ratifier in step_of (situation X core.new) ≡ next.new }
     ensures table { (seat.new.table_id ≡ seat.old.table_id) × (seat.new.id ≡ seat.old.id) }
     ensures me { seat.new.me
-        ≡ (seat.old.me.0, out_with (S.process.move core.old) seat.old.me.1) }
+        ≡ (seat.old.me.0, out_with ((process_by Q.Ratifier).move core.old) seat.old.me.1) }
 {
-    S::is_lawful();
-    if let Some(page) = core.put_out() {
+    threads_may_go_by::<Q>();
+    if let Some(page) = core.take_out_of(next) {
         let _none = shared.exchange(seat, 0, Some(page));
     }
 }
 
 /// The step itself. At a store it gives what was stored.
-fn step<S: Seatable + Drop, K: Told<S>>(
-    shared: &SharedTable<S>,
-    seat: &mut BusSeat<S>,
+fn take_step<Q: Ratifier + Drop, K: Told<SenderCore<Q>>>(
+    shared: &SharedTable<Q>,
+    seat: &mut BusSeat<Q>,
     op: Op,
 ) -> u64
     requires table { seat.old.table_id ≡ shared.now.table_id }
-    requires due { Due S.process K.core K.word seat.old.me seat.old.table_id.words op }
+    requires due { Due (process_by Q.Ratifier) K.core K.word seat.old.me seat.old.table_id.words
+        op }
     ensures table { (seat.new.table_id ≡ seat.old.table_id) × (seat.new.id ≡ seat.old.id) }
-    ensures goes { GoesOn S.process K.core K.word seat.old.me result seat.new.me }
+    ensures goes { GoesOn (process_by Q.Ratifier) K.core K.word seat.old.me result seat.new.me }
 {
-    S::is_lawful();
+    threads_may_go_by::<Q>();
     match op {
-        Op::Load(at) => shared.load::<Goes<S, K>>(seat, at.0 as usize),
+        Op::Load(at) => shared.load::<Goes<Q, K>>(seat, at.0 as usize),
         Op::Store(at, value) => {
-            shared.store::<Goes<S, K>>(seat, at.0 as usize, value);
+            shared.store::<Goes<Q, K>>(seat, at.0 as usize, value);
             value
         }
-        Op::Add(at, value) => shared.fetch_add::<Goes<S, K>>(seat, at.0 as usize, value),
+        Op::Add(at, value) => shared.fetch_add::<Goes<Q, K>>(seat, at.0 as usize, value),
         Op::Cas(at, expected, value) => {
-            shared.compare_exchange::<Goes<S, K>>(seat, at.0 as usize, expected, value)
+            shared.compare_exchange::<Goes<Q, K>>(seat, at.0 as usize, expected, value)
         }
     }
 }
 
 /// A sender that has taken the page takes it out of its slot.
-fn take_in<S: Seatable + Drop>(shared: &SharedTable<S>, seat: &mut BusSeat<S>, core: &mut S)
+fn take_in<Q: Ratifier + Drop>(
+    shared: &SharedTable<Q>,
+    seat: &mut BusSeat<Q>,
+    core: &mut SenderCore<Q>,
+)
     requires table { seat.old.table_id ≡ shared.now.table_id }
-    requires page { S.process.awaits core.old ≡ true → (page : _)
+    requires page { (process_by Q.Ratifier).awaits core.old ≡ true → (page : _)
         × (seat.old.me.1 ≡ (0, Some page) ∷ []) }
-    ensures core { core.new
-        ≡ laid_at S.process core.old (S.process.awaits core.old) (slot_in seat.old.me.1) }
+    ensures core { let P = process_by Q.Ratifier in
+        core.new ≡ laid_at P core.old (P.awaits core.old) (slot_in seat.old.me.1) }
     ensures table { (seat.new.table_id ≡ seat.old.table_id) × (seat.new.id ≡ seat.old.id) }
     ensures me { seat.new.me
-        ≡ (seat.old.me.0, slots_emptied (S.process.awaits core.old) seat.old.me.1) }
+        ≡ (seat.old.me.0, slots_emptied ((process_by Q.Ratifier).awaits core.old) seat.old.me.1) }
 {
     if core.awaits_page() {
         let page = shared.exchange(seat, 0, None).unwrap();
@@ -69,30 +89,32 @@ fn take_in<S: Seatable + Drop>(shared: &SharedTable<S>, seat: &mut BusSeat<S>, c
 }
 
 /// The turn of a sender of which a step is due.
-pub(crate) fn walk<S: Seatable + Drop, K: Told<S>>(
-    shared: &SharedTable<S>,
-    seat: &mut BusSeat<S>,
-    core: &mut S,
+pub(crate) fn walk<Q: Ratifier + Drop, K: Told<SenderCore<Q>>>(
+    shared: &SharedTable<Q>,
+    seat: &mut BusSeat<Q>,
+    core: &mut SenderCore<Q>,
+    mut next: Step,
     op: Op,
     word: u32,
 ) -> Turn
     requires table { seat.old.table_id ≡ shared.now.table_id }
     requires told { (K.core ≡ Some core.old) × (K.word ≡ word) }
-    requires shows { Shows S.process core.old seat.old }
-    requires due { S.process.op core.old word ≡ Some op }
-    requires below { register op < (S.process.table_layout core.old).words }
+    requires shows { Shows (process_by Q.Ratifier) core.old seat.old }
+    requires next { let X = election_of Q.Ratifier in step_of (situation X core.old) ≡ next }
+    requires due { (process_by Q.Ratifier).op core.old word ≡ Some op }
+    requires below { register op < ((process_by Q.Ratifier).table_layout core.old).words }
     ensures table { (seat.new.table_id ≡ seat.old.table_id) × (seat.new.id ≡ seat.old.id) }
-    ensures shows { Shows S.process core.new seat.new }
-    ensures took { TookAndTold S.process S.AnswerTells
+    ensures shows { Shows (process_by Q.Ratifier) core.new seat.new }
+    ensures took { TookAndTold (process_by Q.Ratifier) (FeedTells (election_of Q.Ratifier))
         (record { core = core.old; seat = seat.old }) word result (record {
           core = core.new;
           seat = seat.new;
         }) }
 {
-    S::is_lawful();
-    put_out(shared, seat, core);
-    let got = step::<S, K>(shared, seat, op);
-    let turn = core.feed(got, word);
+    threads_may_go_by::<Q>();
+    put_out(shared, seat, core, &mut next);
+    let got = take_step::<Q, K>(shared, seat, op);
+    let turn = core.feed_of(next, got, word);
     take_in(shared, seat, core);
     turn
 }

@@ -1,6 +1,7 @@
 //! A receiver's seat, and its loads.
 
 ghost use Rattle.std.specs.Prelude.{◌≡◌, ◌<◌, ◌≤◌, [], length, slice_index};
+ghost use Rattle.bus_automaton.specs.Buses.{process_by};
 ghost use Rattle.bus_pageslot.specs.ReceiverViews.{ReceiverView, Agree, receiver_view_after_load};
 ghost use Rattle.bus_pageslot.specs.declared.rule.View.TheVariants as View;
 ghost use Rattle.bus_pageslot.specs.Rule.{receiver_view_in, known_in, with_receiver_view};
@@ -8,12 +9,13 @@ ghost use Rattle.bus_pageslot.specs.Steps.{Learns, KnowsSent};
 ghost use Rattle.bus_pageslot.specs.Seats.{IsFresh, receiver_seat, table_of, actions_of, stored_of};
 ghost use Rattle.bus_pageslot.specs.Listening.{Hears, answer_of};
 
-use crate::buses::BusOf;
+use crate::buses::Bus;
 use crate::listening::hear;
 use crate::meetings::meeting;
 use crate::rule::{BusSeat, LoadsLength, LoadsWord};
-use crate::seatables::Seatable;
-use crate::seats::SenderOf;
+use crate::seats::Sender;
+use bus_adoptcommit::{Ratifier, ThreeWord};
+use bus_automaton::laws::threads_may_go_by;
 use bus_deliverylog::{Reader, RecvTurn};
 use bus_register::Reg;
 use std::marker::Model;
@@ -24,30 +26,32 @@ use std::marker::Model;
 /// Its seat shows what its turns have answered, and counts a load for each call that loads; only a
 /// step on the table adds to either.
 #[derive(Drop)]
-pub struct TapOf<S: Seatable> {
-    seat: Option<BusSeat<S>>,
+pub struct Tap<Q: Ratifier = ThreeWord> {
+    seat: Option<BusSeat<Q>>,
     log: u64,
     known: u64,
     /// It may know a shorter length than the seat.
     reader: Reader,
 }
 
-impl<S: Seatable> Model for TapOf<S> {
+impl<Q: Ratifier> Model for Tap<Q> {
+    ghost use Rattle.bus_core.specs.Senders.{Sender};
     ghost use Rattle.bus_pageslot.specs.Seats.{ReceiverSeat, receiver_seat_of, IsTap};
+    ghost use Rattle.bus_tenure.specs.Elections.{Elector};
 
-    ghost Value = { ReceiverSeat S };
+    ghost Value = { ReceiverSeat (Sender (Elector Q)) };
 
     ghost view = { λ t. receiver_seat_of t.seat };
 
     ghost invariant = { λ t. IsTap (receiver_seat_of t.seat) t.log t.known t.reader };
 }
 
-impl<S: Seatable + Drop> TapOf<S> {
-    pub(crate) fn seated(seat: BusSeat<S>, log: u64, senders: u64) -> TapOf<S>
+impl<Q: Ratifier + Drop> Tap<Q> {
+    pub(crate) fn seated(seat: BusSeat<Q>, log: u64, senders: u64) -> Tap<Q>
         requires { IsFresh (receiver_seat seat) log senders }
         ensures { result ≡ receiver_seat seat }
     {
-        TapOf {
+        Tap {
             seat: Some(seat),
             log,
             known: 0,
@@ -56,11 +60,11 @@ impl<S: Seatable + Drop> TapOf<S> {
     }
 
     /// Its seat.
-    pub(crate) fn into_seat(self) -> BusSeat<S>
+    pub(crate) fn into_seat(self) -> BusSeat<Q>
         ensures receiver_seat { receiver_seat result ≡ self }
         ensures tap { (d : _) × (e : ReceiverView) × (result.me ≡ (View.Tap d e, [])) }
     {
-        let TapOf { seat, .. } = self;
+        let Tap { seat, .. } = self;
         seat.unwrap()
     }
 
@@ -89,7 +93,7 @@ impl<S: Seatable + Drop> TapOf<S> {
     /// One turn: a load of the length where it has read all that it knows, else a load of the word
     /// at its place. After the end it takes no step.
     #[inline(always)]
-    pub fn turn(&mut self, bus: &BusOf<S>) -> RecvTurn
+    pub fn turn(&mut self, bus: &Bus<Q>) -> RecvTurn
         requires { self.old.table_id ≡ bus.now.table }
         ensures table { self.new.table_id ≡ self.old.table_id }
         ensures hears { Hears self.old.me result self.new.me }
@@ -104,7 +108,7 @@ impl<S: Seatable + Drop> TapOf<S> {
     /// One turn, as `turn`. It says whether it took a word that says nothing by itself, so that the
     /// answer is Going; else it writes the answer.
     #[inline(always)]
-    pub fn quick_turn(&mut self, bus: &BusOf<S>, answer: &mut RecvTurn) -> bool
+    pub fn quick_turn(&mut self, bus: &Bus<Q>, answer: &mut RecvTurn) -> bool
         requires { self.old.table_id ≡ bus.now.table }
         ensures table { self.new.table_id ≡ self.old.table_id }
         ensures hears { Hears self.old.me (answer_of result answer.new) self.new.me }
@@ -128,21 +132,21 @@ impl<S: Seatable + Drop> TapOf<S> {
     }
 
     /// Loads the length, in words, and gives it: it knows the log up to it from then on.
-    pub fn load_length(&mut self, bus: &BusOf<S>) -> u64
+    pub fn load_length(&mut self, bus: &Bus<Q>) -> u64
         requires { self.old.table_id ≡ bus.now.table }
         ensures table { self.new.table_id ≡ self.old.table_id }
         ensures learns { Learns self.old.me result self.new.me }
     {
-        S::is_lawful();
+        threads_may_go_by::<Q>();
         let mut seat = self.seat.take().unwrap();
-        let length = bus.table.shared.load::<LoadsLength<S>>(&mut seat, 0);
+        let length = bus.table.shared.load::<LoadsLength<Q>>(&mut seat, 0);
         self.seat = Some(seat);
         self.known = length;
         length
     }
 
     /// Loads a word of the log that it knows; `place` counts the words of the log from 0 on.
-    pub fn load_word(&mut self, bus: &BusOf<S>, place: u64) -> u64
+    pub fn load_word(&mut self, bus: &Bus<Q>, place: u64) -> u64
         requires table { self.old.table_id ≡ bus.now.table }
         requires below { place < length (known_in self.old.me.0) }
         ensures table { self.new.table_id ≡ self.old.table_id }
@@ -158,7 +162,7 @@ impl<S: Seatable + Drop> TapOf<S> {
         let word = bus
             .table
             .shared
-            .load::<LoadsWord<S>>(&mut seat, (self.log + place) as usize);
+            .load::<LoadsWord<Q>>(&mut seat, (self.log + place) as usize);
         self.seat = Some(seat);
         word
     }
@@ -166,7 +170,7 @@ impl<S: Seatable + Drop> TapOf<S> {
     /// Two receivers of one bus meet: from then on each knows the log up to the length that is
     /// loaded, which is given. What the one that had read less was answered begins what the other
     /// was answered.
-    pub fn meet(&mut self, other: &mut TapOf<S>, bus: &BusOf<S>) -> u64
+    pub fn meet(&mut self, other: &mut Tap<Q>, bus: &Bus<Q>) -> u64
         requires table { (self.old.table_id ≡ bus.now.table)
             × (other.old.table_id ≡ bus.now.table) }
         ensures table { (self.new.table_id ≡ self.old.table_id)
@@ -190,7 +194,7 @@ impl<S: Seatable + Drop> TapOf<S> {
     /// the receiver knows the log up to it. Of this sender that has exactly the messages that it
     /// has put, but for those in its batch: these are there once the sender has taken the step that
     /// stores the length, and not before.
-    pub fn told(&mut self, sender: &mut SenderOf<S>, bus: &BusOf<S>) -> u64
+    pub fn told(&mut self, sender: &mut Sender<Q>, bus: &Bus<Q>) -> u64
         requires table { (self.old.table_id ≡ bus.now.table)
             × (table_of sender.old ≡ bus.now.table) }
         ensures table { (self.new.table_id ≡ self.old.table_id)
@@ -198,8 +202,9 @@ impl<S: Seatable + Drop> TapOf<S> {
         ensures sender { (sender.new.core ≡ sender.old.core)
             × (sender.new.seat.me ≡ sender.old.seat.me) }
         ensures learns { Learns self.old.me result self.new.me }
-        ensures sent { KnowsSent S.process sender.old.core (actions_of S.process sender.old)
-            (stored_of sender.old) (known_in self.new.me.0) }
+        ensures sent { let P = process_by Q.Ratifier in
+            KnowsSent P sender.old.core (actions_of P sender.old) (stored_of sender.old) (known_in
+            self.new.me.0) }
     {
         let mine = self.seat.take().unwrap();
         let (length, mine) = sender.tell(bus, mine);

@@ -7,7 +7,7 @@ use Rattle.bus_deliverylog.specs.declared.receiving.RecvTurn.TheVariants as turn
 use Rattle.bus_world.specs.Headline.{Action}
 use Rattle.bus_pageslot.specs.ReceiverViews.{Agree}
 use Rattle.bus_pageslot.specs.Listening.{Hears}
-use Rattle.bus_pageslot.specs.Processes.{Process}
+use Rattle.bus_automaton.specs.Processes.{Process}
 use Rattle.bus_pageslot.specs.Rule.{Sat, receiver_view_in, known_in}
 use Rattle.bus_pageslot.specs.Seats.{ReceiverSeat}
 use Rattle.bus_pageslot.specs.Steps.{Learns, KnowsSent}

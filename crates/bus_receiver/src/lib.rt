@@ -16,12 +16,9 @@ mod sizes;
 
 pub use bus_adoptcommit::{ThreeWord, TwoCollect};
 pub use bus_batch::{CloseFault, Item, Message, PutFault};
+pub use bus_core::limits::{LEAST_ROWS_AGAIN, MOST_ROWS_AGAIN};
 pub use bus_deliverylog::{LogFault, LogRead, Order, RecvTurn, read_log};
-pub use bus_guest::limits::{LEAST_ROWS_AGAIN, MOST_ROWS_AGAIN};
-pub use bus_pageslot::{
-    Bus, BusOf, CyclicBus, CyclicSender, CyclicTap, EndFault, Ended, OfBus, Seatable, SendFault,
-    Sender, SenderOf, Tap, TapOf, Unsent,
-};
+pub use bus_pageslot::{Bus, EndFault, Ended, OfBus, SendFault, Sender, Tap, Unsent};
 pub use bus_register::limits::{
     LEAST_LOG_WORDS, MOST_BYTES, MOST_LOG_WORDS, MOST_MESSAGES, MOST_RECEIVERS, MOST_ROUNDS,
     MOST_ROWS, MOST_SENDERS,
@@ -30,5 +27,5 @@ pub use bus_register::{Kind, SenderNo};
 pub use bus_tenure::{Page, Turn};
 pub use bus_world::{MakeFault, Shape};
 pub use hearing::Heard;
-pub use receivers::{CyclicReceiver, Next, Receiver, ReceiverOf};
+pub use receivers::{Next, Receiver};
 pub use sizes::{tenures_needed, tenures_of_sitting, words_needed, words_of_sitting};

@@ -3,6 +3,7 @@
 ghost use Rattle.std.specs.Prelude.{◌≡◌, ℕ, ◌≤◌, List, length, Some, None, IfOk};
 ghost use Rattle.std.specs.Prelude.{OnErr, true, false};
 ghost use Rattle.std.specs.Ordering.{nat_cmp};
+ghost use Rattle.bus_automaton.specs.Buses.{process_by, automaton_by};
 ghost use Rattle.bus_pageslot.specs.Endings.{IsLeft};
 ghost use Rattle.bus_pageslot.specs.Rule.{receiver_view_in, known_in};
 ghost use Rattle.bus_pageslot.specs.Listening.{Hears, answer_of};
@@ -10,11 +11,10 @@ ghost use Rattle.bus_pageslot.specs.Seats.{table_of, actions_of, stored_of};
 ghost use Rattle.bus_receiver.specs.Listening.{bus_of, is_found, Takes, HaveMet, IsTold};
 ghost use Rattle.bus_receiver.specs.Listening.{PassesTo, PassesWhile, item_or_end};
 
+use bus_adoptcommit::{Ratifier, ThreeWord};
 use bus_batch::Item;
 use bus_deliverylog::RecvTurn;
-use bus_guest::Guest;
-use bus_pageslot::{BusOf, EndFault, Ended, Seatable, SenderOf, TapOf};
-use bus_tenure::SenderCore;
+use bus_pageslot::{Bus, EndFault, Ended, Sender, Tap};
 use crossbeam_utils::Backoff;
 use std::cmp::Ordering;
 use std::marker::Model;
@@ -35,30 +35,26 @@ pub enum Next {
 /// has it. No call of it takes memory, and none but `take`, `next_item` and `next_item_while`
 /// waits.
 #[derive(Drop)]
-pub struct ReceiverOf<S: Seatable> {
-    tap: TapOf<S>,
+pub struct Receiver<Q: Ratifier = ThreeWord> {
+    tap: Tap<Q>,
 }
 
-impl<S: Seatable> Model for ReceiverOf<S> {
+impl<Q: Ratifier> Model for Receiver<Q> {
+    ghost use Rattle.bus_tenure.specs.Elections.{Elector};
+    ghost use Rattle.bus_core.specs.Senders.{Sender as Held};
     ghost use Rattle.bus_pageslot.specs.Seats.{ReceiverSeat};
 
-    ghost Value = { ReceiverSeat S };
+    ghost Value = { ReceiverSeat (Held (Elector Q)) };
 
     ghost view = { λ r. r.tap };
 }
 
-/// A receiver of a bus with a row of words for each of its tenures.
-pub type Receiver<Q> = ReceiverOf<SenderCore<Q>>;
-
-/// A receiver of a bus whose rows of words are used again.
-pub type CyclicReceiver<Q> = ReceiverOf<Guest<Q>>;
-
-impl<S: Seatable + Drop> ReceiverOf<S> {
+impl<Q: Ratifier + Drop> Receiver<Q> {
     /// The receiver with this seat.
-    pub fn new(tap: TapOf<S>) -> ReceiverOf<S>
+    pub fn new(tap: Tap<Q>) -> Receiver<Q>
         ensures { result ≡ tap }
     {
-        ReceiverOf { tap }
+        Receiver { tap }
     }
 
     /// How many words it has read.
@@ -79,7 +75,7 @@ impl<S: Seatable + Drop> ReceiverOf<S> {
     /// One turn: a load of the length where it has read all that it knows, else a load of the word
     /// at its place. After the end it takes no step.
     #[inline(always)]
-    pub fn turn(&mut self, bus: &BusOf<S>) -> RecvTurn
+    pub fn turn(&mut self, bus: &Bus<Q>) -> RecvTurn
         requires { bus_of self.old ≡ bus.now.table }
         ensures table { bus_of self.new ≡ bus_of self.old }
         ensures hears { Hears self.old.me result self.new.me }
@@ -89,7 +85,7 @@ impl<S: Seatable + Drop> ReceiverOf<S> {
 
     /// One turn, as the tap's.
     #[inline(always)]
-    fn quick_turn(&mut self, bus: &BusOf<S>, answer: &mut RecvTurn) -> bool
+    fn quick_turn(&mut self, bus: &Bus<Q>, answer: &mut RecvTurn) -> bool
         requires { bus_of self.old ≡ bus.now.table }
         ensures table { bus_of self.new ≡ bus_of self.old }
         ensures hears { Hears self.old.me (answer_of result answer.new) self.new.me }
@@ -98,7 +94,7 @@ impl<S: Seatable + Drop> ReceiverOf<S> {
     }
 
     /// Turns, until one finds a head, an item or the end. That it ends is not promised.
-    pub fn take<W: Wait>(&mut self, wait: &W, bus: &BusOf<S>) -> RecvTurn
+    pub fn take<W: Wait>(&mut self, wait: &W, bus: &Bus<Q>) -> RecvTurn
         requires { bus_of self.old ≡ bus.now.table }
         ensures table { bus_of self.new ≡ bus_of self.old }
         ensures takes { Takes self.old.me result self.new.me }
@@ -120,7 +116,7 @@ impl<S: Seatable + Drop> ReceiverOf<S> {
 
     /// Turns, until one finds an item or the end: the item, and none at the end and ever after. It
     /// waits as `take` does, and that it ends is not promised.
-    pub fn next_item<W: Wait>(&mut self, wait: &W, bus: &BusOf<S>) -> Option<Item>
+    pub fn next_item<W: Wait>(&mut self, wait: &W, bus: &Bus<Q>) -> Option<Item>
         requires { bus_of self.old ≡ bus.now.table }
         ensures table { bus_of self.new ≡ bus_of self.old }
         ensures passes { PassesTo self.old.me (item_or_end result) self.new.me }
@@ -138,7 +134,7 @@ impl<S: Seatable + Drop> ReceiverOf<S> {
     pub fn next_item_while<W: Wait, F: FnMut() -> bool>(
         &mut self,
         wait: &W,
-        bus: &BusOf<S>,
+        bus: &Bus<Q>,
         mut go_on: F,
     ) -> Next
         requires table { bus_of self.old ≡ bus.now.table }
@@ -176,13 +172,14 @@ impl<S: Seatable + Drop> ReceiverOf<S> {
     }
 
     /// A sender tells it of the log: it knows from then on all that the sender has published.
-    pub fn told(&mut self, sender: &mut SenderOf<S>, bus: &BusOf<S>)
+    pub fn told(&mut self, sender: &mut Sender<Q>, bus: &Bus<Q>)
         requires table { (bus_of self.old ≡ bus.now.table)
             × (table_of sender.old ≡ bus.now.table) }
         ensures table { (bus_of self.new ≡ bus_of self.old)
             × (table_of sender.new ≡ table_of sender.old) }
-        ensures told { IsTold S.process sender.old.core (actions_of S.process sender.old)
-            (stored_of sender.old) self.old.me self.new.me }
+        ensures told { let P = process_by Q.Ratifier in
+            IsTold P sender.old.core (actions_of P sender.old) (stored_of sender.old)
+            self.old.me self.new.me }
         ensures sender { (sender.new.core ≡ sender.old.core)
             × (sender.new.seat.me ≡ sender.old.seat.me) }
     {
@@ -191,7 +188,7 @@ impl<S: Seatable + Drop> ReceiverOf<S> {
 
     /// Two receivers meet: from then on both know the log up to the length that is loaded. Answers
     /// how its place compares with the other's: Less where it has read fewer words.
-    pub fn meet(&mut self, other: &mut ReceiverOf<S>, bus: &BusOf<S>) -> Ordering
+    pub fn meet(&mut self, other: &mut Receiver<Q>, bus: &Bus<Q>) -> Ordering
         requires table { (bus_of self.old ≡ bus.now.table)
             × (bus_of other.old ≡ bus.now.table) }
         ensures table { (bus_of self.new ≡ bus_of self.old)
@@ -208,14 +205,15 @@ impl<S: Seatable + Drop> ReceiverOf<S> {
     /// Ends the bus, by a receiver of it: its log and its page, where the page is at home, and
     /// PageOut where a sender that took it has not given it back. Bus and receiver are gone in
     /// either case.
-    pub fn end(bus: BusOf<S>, receiver: ReceiverOf<S>) -> Result<Ended, EndFault>
+    pub fn end(bus: Bus<Q>, receiver: Receiver<Q>) -> Result<Ended, EndFault>
         requires { bus_of receiver ≡ bus.table }
         ensures ended { IfOk result
-            (λ left. IsLeft S.process (S.automaton bus.shape) receiver.me.0 left.log
-            (Some left.page)) }
-        ensures senders { IfOk result (λ left. left.senders ≡ bus.shape.senders) }
+            (λ left. IsLeft (process_by Q.Ratifier) (automaton_by Q.Ratifier bus.plan)
+            receiver.me.0 left.log (Some left.page)) }
+        ensures senders { IfOk result (λ left. left.senders ≡ bus.plan.shape.senders) }
         ensures out { OnErr result ((log : List ℕ)
-            × IsLeft S.process (S.automaton bus.shape) receiver.me.0 log None) }
+            × IsLeft (process_by Q.Ratifier) (automaton_by Q.Ratifier bus.plan)
+            receiver.me.0 log None) }
     {
         bus.end(receiver.tap)
     }

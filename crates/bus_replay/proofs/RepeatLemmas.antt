@@ -1,34 +1,79 @@
--- An event that is repeated while it goes on.
-use Rattle.std.proofs.Common.{◌≡◌, ℕ, zero, suc, ◌-◌, ◌<◌, true, false, subst, ◌⊎◌, inl, inr, arith}
-use Rattle.bus_world.specs.World.{Event}
+-- An event that is repeated while it goes on: behind an answer with which it goes on it is not refused.
+use Rattle.std.proofs.Common.{◌≡◌, ℕ, zero, suc, ◌-◌, ◌<◌, Bool, true, false, cond, Option, Some, None, slice_get, refl, sym, ap, subst, ◌∙◌, ◌⊎◌, inl, inr, arith}
+use Rattle.std.proofs.lemmas.Bool.{true≢false}
+use Rattle.std.proofs.lemmas.Option.{slice_get_within}
+use Rattle.bus_register.specs.Protocol.{Protocol}
+use Rattle.bus_register.specs.Proved.TableLaws.{get_set_same}
+use Rattle.bus_adoptcommit.specs.declared.verdicts.Verdict.{Verdict}
+use Rattle.bus_core.specs.Senders.{Sender}
+use Rattle.bus_tenure.specs.Core.{Election}
+use Rattle.bus_tenure.specs.Elections.{Elector}
+use Rattle.bus_world.specs.Playing.{RecvRefused}
+use Rattle.bus_world.specs.World.{Event, Put, Close, Turn, Recv, Stop, is_set}
 use Rattle.bus_world.specs.declared.events.Answer.{Answer}
-use Rattle.bus_replay.specs.declared.machines.Playable.{Ghosts as Moves}
+use Rattle.bus_world.specs.declared.events.Answer.TheVariants as answer
+use Rattle.bus_world.specs.declared.events.StepFault.{StepFault}
+use Rattle.bus_machine.specs.Machine.{Machine, Happens, has_stopped}
+use Rattle.bus_machine.specs.Playing.{Answers, Refused, SenderRefused}
 use Rattle.bus_replay.specs.GoingOn.{goes_on}
 use Rattle.bus_replay.specs.Answers.{Repeats}
 
--- the last answer so far, from the bus before it, and how what is behind it goes on from the first
-pub record Repeated {Z : Type 0} (M : Moves Z) (e : Event) (old : Z) (all left : ℕ) (last : Answer) (new : Z) : Type 0 where
-  pub before : Z
-  pub happened : M.happens before e new
-  pub answered : M.answers before e last new
-  pub from_first : (final : Answer) (end : Z) → Repeats M before e left final end → Repeats M old e all final end
+-- ---- what is not refused
+stops_so : (a b : Answer) → a ≡ b → goes_on b ≡ false → goes_on a ≡ true → ⊥
+stops_so a b e stops goes = true≢false (sym goes ∙ ap goes_on e ∙ stops)
 
-pub once : {Z : Type 0} (M : Moves Z) (e : Event) (old : Z) (all : ℕ) (last : Answer) (new : Z) → M.happens old e new → M.answers old e last new → Repeated M e old all all last new
-once M e old all last new happened answered = record { before = old; happened = happened; answered = answered; from_first = λ final end r. r }
+-- who goes on is there, and has not stopped
+there : {E : Type 0} (stopped : Bool) (o : Option (Sender E)) (v : Sender E) → cond stopped None o ≡ Some v → (stopped ≡ false)
+    × (o ≡ Some v)
+there true o v e = absurd cc
+there false o v e = (refl, e)
 
-pub once_more : {Z : Type 0} (M : Moves Z) (e : Event) (old : Z) (all left : ℕ) (first last : Answer) (mid new : Z) → Repeated M e old all left first mid → 0 < left → goes_on first ≡ true
-    → M.happens mid e new → M.answers mid e last new → Repeated M e old all (left - 1) last new
-once_more M e old all zero first last mid new h some goes happened answered = absurd (omega arith)
-once_more M e old all (suc left) first last mid new h some goes happened answered =
-    let less : left ≡ suc left - 1 = omega arith in
-    subst (λ k. Repeated M e old all k last new) less record {
-      before = mid;
-      happened = happened;
-      answered = answered;
-      from_first = λ final end r. h.from_first final end (inr (mid, first, h.happened, h.answered, goes, r));
-    }
+-- no turn of such a sender is refused
+turns : {E : Type 0} (o : Option (Sender E)) (v : Sender E) (stopped : Bool) (why : StepFault) → o ≡ Some v → stopped ≡ false
+    → SenderRefused o stopped why (λ v. ⊥) → ⊥
+turns None v stopped why at goes refused = absurd cc
+turns (Some w) v true why at goes refused = absurd cc
+turns (Some w) v false why at goes refused = refused
 
-pub at_last : {Z : Type 0} (M : Moves Z) (e : Event) (old : Z) (all left : ℕ) (last : Answer) (new : Z) → Repeated M e old all left last new → (left ≡ 0) ⊎ (goes_on last ≡ false) → Repeats M old e all last new
-at_last M e old all zero last new h stops = h.from_first last new (h.happened, h.answered)
-at_last M e old all (suc left) last new h (inl none) = absurd (omega arith)
-at_last M e old all (suc left) last new h (inr stops) = h.from_first last new (inl (h.happened, h.answered, stops))
+pub not_refused : {E : Type 0} (X : Election E) (old new : Machine E) (e : Event) (a : Answer) (why : StepFault) → Happens X old e a new
+    → goes_on a ≡ true → Refused new e why → ⊥
+not_refused X old new (Put s bytes) a why h goes refused = stops_so a (answer.Number _) h.answered refl goes
+not_refused X old new (Close s) a why h goes refused = stops_so a answer.Closing h.answered refl goes
+not_refused {E} X old new (Turn s word) a why h goes refused =
+    let here = there (has_stopped old s) (slice_get old.senders s) h.sender h.goes in
+    let unset : has_stopped new s ≡ false = ap (λ (y : Machine E). is_set (slice_get y.stopped s)) h.after ∙ here.0 in
+    let at = ap (λ (y : Machine E). slice_get y.senders s) h.after ∙ get_set_same old.senders s _ (slice_get_within old.senders s h.sender
+    here.1) in
+    turns (slice_get new.senders s) _ (has_stopped new s) why at unset refused
+not_refused {E} X old new (Recv r) a why h goes refused =
+    subst (λ o. RecvRefused o why) (ap (λ (y : Machine E). slice_get y.receivers r) h.after ∙ get_set_same old.receivers r h.next
+    (slice_get_within old.receivers r h.receiver h.there)) refused
+not_refused X old new (Stop s) a why h goes refused = stops_so a answer.Stopped h.answered refl goes
+
+-- ---- an event again and again
+module _ {S : Type 0} (X : Election (Elector S)) (P : Protocol S Bool Verdict) (e : Event) (old : Machine (Elector S)) (all : ℕ) where
+  -- the last answer so far, from the bus before it, and how what is behind it goes on from the first
+  pub record Repeated (left : ℕ) (last : Answer) (new : Machine (Elector S)) : Type 0 where
+    pub before : Machine (Elector S)
+    pub answered : Answers X P before e last new
+    pub from_first : (final : Answer) (end : Machine (Elector S)) → Repeats X P before e left final end → Repeats X P old e all final end
+
+  pub once : (last : Answer) (new : Machine (Elector S)) → Answers X P old e last new → Repeated all last new
+  once last new answered = record { before = old; answered = answered; from_first = λ final end r. r }
+
+  pub once_more : (left : ℕ) (first last : Answer) (mid new : Machine (Elector S)) → Repeated left first mid → 0 < left
+      → goes_on first ≡ true → Answers X P mid e last new → Repeated (left - 1) last new
+  once_more zero first last mid new h some goes answered = absurd (omega arith)
+  once_more (suc left) first last mid new h some goes answered =
+      let less : left ≡ suc left - 1 = omega arith in
+      subst (λ k. Repeated k last new) less record {
+        before = mid;
+        answered = answered;
+        from_first = λ final end r. h.from_first final end (inr (mid, first, h.answered, goes, r));
+      }
+
+  pub at_last : (left : ℕ) (last : Answer) (new : Machine (Elector S)) → Repeated left last new → (left ≡ 0) ⊎ (goes_on last ≡ false)
+      → Repeats X P old e all last new
+  at_last zero last new h stops = h.from_first last new h.answered
+  at_last (suc left) last new h (inl none) = absurd (omega arith)
+  at_last (suc left) last new h (inr stops) = h.from_first last new (inl (h.answered, stops))

@@ -61,6 +61,15 @@ shape_of line = option_and_then shape_from (numbers_behind (codes "shape") line)
 abbrev pub cycle_of : List ℕ → Option Shape
 cycle_of line = option_and_then shape_from (numbers_behind (codes "cycle") line)
 
+-- the shape of the bus that the first line asks for, and how many of its rows are used again: none where each tenure has one
+abbrev pub shape_in : FirstLine → Shape
+shape_in (Shaped shape) = shape
+shape_in (Cycled shape) = shape
+
+abbrev pub reuse_in : FirstLine → Option ℕ
+reuse_in (Shaped shape) = None
+reuse_in (Cycled shape) = Some shape.rows
+
 -- what the first line asks for
 abbrev pub first_of : List ℕ → Option FirstLine
 first_of line = or_else (option_map Shaped (shape_of line)) (option_map Cycled (cycle_of line))

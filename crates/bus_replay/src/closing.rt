@@ -1,14 +1,16 @@
 //! What `replay` prints behind the answers to a script.
 
-ghost use Rattle.std.specs.Prelude.{◌≡◌, ◌++◌, ℕ, List, map, OnOk, IfErr, string_bytes};
+ghost use Rattle.std.specs.Prelude.{◌≡◌, ◌++◌, ℕ, List, map, length, OnOk, string_bytes};
 ghost use Rattle.bus_deliverylog.specs.Orders.{order_held};
-ghost use Rattle.bus_world.specs.Trails.{Trails};
+ghost use Rattle.bus_tenure.specs.Elections.{election_of};
+ghost use Rattle.bus_machine.specs.Machine.{Trails, Reached};
 ghost use Rattle.bus_replay.specs.Text.{owners_line, order_text, given_line, given_text};
 ghost use Rattle.bus_replay.specs.Answers.{Closes, given_by};
 
-use crate::machines::Playable;
+use bus_adoptcommit::Ratifier;
 use bus_deliverylog::Order;
 use bus_deliverylog::texts::ItemText;
+use bus_machine::World;
 use bus_register::{NoMemory, SenderNo};
 use std::alloc::{AllocError, Global};
 
@@ -54,10 +56,15 @@ fn push_given(text: &mut String, receiver: u64, order: &Order) -> Result<(), All
 }
 
 /// Puts the lines of all receivers at the end of a text.
-fn push_all_given<M: Playable>(alloc: Global, bus: &M, text: &mut String) -> Result<(), NoMemory>
-    ensures { OnOk result ((trails : Trails) → M.reached bus.now trails
+fn push_all_given<Q: Ratifier + Drop>(
+    alloc: Global,
+    bus: &World<Q>,
+    text: &mut String,
+) -> Result<(), NoMemory>
+    ensures { let X = election_of Q.Ratifier in
+        OnOk result ((trails : Trails) → Reached X bus.now trails
         → string_bytes text.new ≡ string_bytes text.old ++ given_text
-        (given_by trails (M.receivers bus.now))) }
+        (given_by trails (length bus.now.receivers))) }
 {
     for receiver in 0..bus.receivers() {
         let given = bus.given(alloc, receiver)?;
@@ -67,11 +74,16 @@ fn push_all_given<M: Playable>(alloc: Global, bus: &M, text: &mut String) -> Res
 }
 
 /// Puts the closing lines at the end of a text.
-pub fn push_closing<M: Playable>(alloc: Global, bus: &M, text: &mut String) -> Result<(), NoMemory>
-    ensures { OnOk result ((closing : List ℕ) × Closes M.Playable bus.now closing
+pub fn push_closing<Q: Ratifier + Drop>(
+    alloc: Global,
+    bus: &World<Q>,
+    text: &mut String,
+) -> Result<(), NoMemory>
+    ensures { let X = election_of Q.Ratifier in
+        OnOk result ((closing : List ℕ) × Closes X Q.protocol bus.now closing
         × (string_bytes text.new ≡ string_bytes text.old ++ closing)) }
 {
-    bus.reached();
+    bus.promises();
     let order = bus.order(alloc)?;
     push_owners(text, bus.owners())?;
     push_order(text, &order)?;

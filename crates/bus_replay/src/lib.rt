@@ -20,14 +20,10 @@
 pub mod answers;
 pub mod closing;
 pub mod commands;
-pub mod cycles;
 pub mod hex;
 pub mod lines;
-pub mod machines;
 pub mod names;
 pub mod playing;
 pub mod text;
-pub mod worlds;
 
 pub use answers::answer_to;
-pub use machines::Playable;

@@ -2,7 +2,9 @@
 
 ghost use Rattle.std.specs.Prelude.{◌≡◌, ◌++◌, ◌-◌, ℕ, ◌<◌, List, IfOk, IfErr};
 ghost use Rattle.std.specs.Prelude.{OnOk, string_bytes};
+ghost use Rattle.bus_tenure.specs.Elections.{election_of};
 ghost use Rattle.bus_world.specs.Playing.{event_told};
+ghost use Rattle.bus_machine.specs.Playing.{Refused};
 ghost use Rattle.bus_script.specs.declared.line_numbers.LineNumber.TheVariants.{AtLine};
 ghost use Rattle.bus_script.specs.LineNumbers.{refusal_line};
 ghost use Rattle.bus_replay.specs.Answers.{Repeats};
@@ -10,10 +12,11 @@ ghost use Rattle.bus_replay.specs.GoingOn.{turn_goes_on, recv_goes_on, goes_on};
 ghost use Rattle.bus_replay.specs.Told.{IsObeyed, ArePlayed};
 
 use crate::lines::command_of;
-use crate::machines::Playable;
 use crate::names::step_fault_name;
 use crate::text::push_answer_line;
+use bus_adoptcommit::Ratifier;
 use bus_deliverylog::RecvTurn;
+use bus_machine::World;
 use bus_register::NoMemory;
 use bus_script::{Line, LineNumber, Lines, Outcome, refusal_line};
 use bus_tenure::Turn;
@@ -47,11 +50,16 @@ pub fn goes_on(answer: &Answer) -> bool
 }
 
 /// An event once, and more while it goes on, up to so many times. The answer is the last one.
-fn repeat<M: Playable>(bus: &mut M, event: &Event, times: u64) -> Result<Answer, StepFault>
+fn repeat<Q: Ratifier + Drop>(
+    bus: &mut World<Q>,
+    event: &Event,
+    times: u64,
+) -> Result<Answer, StepFault>
     requires { 0 < times }
-    ensures last { IfOk result
-        (λ last. Repeats M.Playable bus.old (event_told event.now) (times - 1) last bus.new) }
-    ensures fault { IfErr result (M.refused bus.old (event_told event.now)) }
+    ensures last { let X = election_of Q.Ratifier in
+        IfOk result (λ last. Repeats X Q.protocol bus.old (event_told event.now) (times - 1) last
+        bus.new) }
+    ensures fault { IfErr result (Refused bus.old (event_told event.now)) }
 {
     let mut last = bus.step(event)?;
     let mut more = times - 1;
@@ -77,14 +85,15 @@ pub fn push_refusal(
 }
 
 /// Does what a line asks for, and puts its answer or its refusal at the end of a text.
-fn obey<M: Playable>(
+fn obey<Q: Ratifier + Drop>(
     alloc: Global,
-    bus: &mut M,
+    bus: &mut World<Q>,
     line: Line<'_>,
     text: &mut String,
 ) -> Result<Outcome, NoMemory>
-    ensures { IfOk result (λ outcome. (added : List ℕ)
-        × IsObeyed M.Playable bus.old (line.entry.number, line.entry.bytes.now) outcome added
+    ensures { let X = election_of Q.Ratifier in
+        IfOk result (λ outcome. (added : List ℕ)
+        × IsObeyed X Q.protocol bus.old (line.entry.number, line.entry.bytes.now) outcome added
         bus.new × (string_bytes text.new ≡ string_bytes text.old ++ added)) }
 {
     let Some(command) = command_of(alloc, line.bytes)? else {
@@ -104,14 +113,15 @@ fn obey<M: Playable>(
 }
 
 /// Obeys lines, and puts the answers at the end of a text, up to the first refusal.
-pub fn play<M: Playable>(
+pub fn play<Q: Ratifier + Drop>(
     alloc: Global,
-    bus: &mut M,
+    bus: &mut World<Q>,
     mut lines: Lines<'_>,
     text: &mut String,
 ) -> Result<Outcome, NoMemory>
-    ensures { IfOk result (λ outcome. (added : List ℕ)
-        × ArePlayed M.Playable bus.old lines.entry outcome added bus.new
+    ensures { let X = election_of Q.Ratifier in
+        IfOk result (λ outcome. (added : List ℕ)
+        × ArePlayed X Q.protocol bus.old lines.entry outcome added bus.new
         × (string_bytes text.new ≡ string_bytes text.old ++ added)) }
 {
     while let Some(line) = lines.next_line() {

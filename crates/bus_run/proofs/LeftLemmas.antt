@@ -3,13 +3,15 @@ use Rattle.std.proofs.Common.{◌≡◌, ℕ, List, [], ◌∷◌, ◌++◌, ◌
 use Rattle.std.specs.Prelude.{slice_get, IfSome}
 use Rattle.bus_batch.specs.Frames.{Order, Spells}
 use Rattle.bus_world.specs.Headline.{IsPrefix}
+use Rattle.bus_automaton.specs.Buses.{automaton_with}
+use Rattle.bus_automaton.specs.declared.plans.Plan.{Plan}
 use Rattle.bus_world.specs.declared.shapes.Shape.{Shape}
 use Rattle.bus_pageslot.specs.declared.rule.View.TheVariants.{Maker, Sender, Tap, Meeting, Telling, Spent}
 use Rattle.bus_pageslot.specs.Outcomes.{Outcome}
 use Rattle.bus_pageslot.specs.Rule.{Sat, receiver_view_in, known_in, with_receiver_view}
 use Rattle.bus_pageslot.specs.Steps.{Learns}
 use Rattle.bus_run.specs.Audit.{IsSpelled, OfOrder}
-use Rattle.bus_run.specs.Left.{Held, Shown, IsLeftBy, IsLeftBehind, HasLearnt}
+use Rattle.bus_run.specs.Left.{Held, Shown, run_automaton, IsLeftBy, IsLeftBehind, HasLearnt}
 use Rattle.bus_run.specs.Stops.{LeavesNoPage, LeavesOrder, IsOpen}
 
 -- ---- what a seat has learnt
@@ -67,21 +69,27 @@ pub one_learnt : (m : Sat Held) (got : ℕ) (m' : Sat Held) → Learns m got m' 
 one_learnt m got m' h = record { known = h.known; now = ap (λ (z : Sat Held). z.0) h.now; grows = h.grows }
 
 -- ---- what is left
+-- how many senders the bus of a plan has
+senders_of : (shape : Shape) (reuse : Option ℕ) → (run_automaton (record { shape = shape; reuse = reuse })).table_layout.senders ≡ shape.senders
+unfolding automaton_with
+senders_of shape None = refl
+senders_of shape (Some rows) = refl
+
 -- the words that were left spell an order
-pub spelled_behind : (shape : Shape) (left : Outcome) → IsLeftBehind shape left → left.senders ≡ shape.senders → IsSpelled left
-spelled_behind shape left h of =
+pub spelled_behind : (plan : Plan) (left : Outcome) → IsLeftBehind plan left → left.senders ≡ plan.shape.senders → IsSpelled left
+spelled_behind plan left h of =
     let promised = h.left.promised in
-    (promised.order, promised.owners, subst (λ n. Spells n left.log promised.order promised.owners) (sym of) (subst (λ ws. Spells shape.senders ws promised.order promised.owners) h.left.log_is promised.spelled))
+    (promised.order, promised.owners, subst (λ n. Spells n left.log promised.order promised.owners) (sym of) (subst (λ (z : ℕ × List ℕ). Spells z.0 z.1 promised.order promised.owners) (λ k. (senders_of plan.shape plan.reuse k, h.left.log_is k)) promised.spelled))
 
 -- a bus that a seat has ended with its page at home leaves an order
-pub leaves : (a b : Shape) → a ≡ b → (Ends : Shown → Type 0) (last : Shown) (left : Outcome) (P : Order → Type 0) → Ends last → left.senders ≡ a.senders → IsLeftBy a last left.log (Some left.page) → OfOrder left P → LeavesOrder b Ends P
+pub leaves : (a b : Plan) → a ≡ b → (Ends : Shown → Type 0) (last : Shown) (left : Outcome) (P : Order → Type 0) → Ends last → left.senders ≡ a.shape.senders → IsLeftBy a last left.log (Some left.page) → OfOrder left P → LeavesOrder b Ends P
 leaves a b same Ends last left P ends of by holds =
     let behind : IsLeftBehind b left = record { seen = last; left = subst (λ x. IsLeftBy x last left.log (Some left.page)) same by } in
-    let senders : left.senders ≡ b.senders = of ∙ ap (λ (x : Shape). x.senders) same in
+    let senders : left.senders ≡ b.shape.senders = of ∙ ap (λ (x : Plan). x.shape.senders) same in
     record { left = left; senders = senders; behind = behind; ends = ends; spelled = spelled_behind b left behind senders; holds = holds }
 
 -- what is true of the seat that ended a bus which was left open
-pub left_open : (a b : Shape) → a ≡ b → (Ends : Shown → Type 0) (last : Shown) → Ends last → LeavesNoPage a (λ seen. seen ≡ last) ⊎ LeavesOrder a (λ seen. seen ≡ last) IsOpen → LeavesNoPage b Ends ⊎ LeavesOrder b Ends IsOpen
+pub left_open : (a b : Plan) → a ≡ b → (Ends : Shown → Type 0) (last : Shown) → Ends last → LeavesNoPage a (λ seen. seen ≡ last) ⊎ LeavesOrder a (λ seen. seen ≡ last) IsOpen → LeavesNoPage b Ends ⊎ LeavesOrder b Ends IsOpen
 left_open a b same Ends last ends (inl h) = inl (record { seen = h.seen; ends = subst Ends (sym h.ends) ends; log = h.log; left = subst (λ x. IsLeftBy x h.seen h.log None) same h.left })
 left_open a b same Ends last ends (inr h) = inr (leaves a b same Ends h.behind.seen h.left IsOpen (subst Ends (sym h.ends) ends) h.senders h.behind.left h.holds)
 

@@ -7,9 +7,9 @@ use Rattle.std.proofs.lemmas.Option.{slice_get-get_or}
 use Rattle.atomic_table.specs.Seated.{TableId}
 use Rattle.bus_world.specs.Headline.{Action, HasPut, put_of, puts}
 use Rattle.bus_pageslot.specs.Buses.{AreNewSeats}
-use Rattle.bus_pageslot.specs.Processes.{Process, Automaton}
+use Rattle.bus_automaton.specs.Processes.{Process, Automaton}
 use Rattle.bus_pageslot.specs.Seats.{SenderSeat, actions_of}
-use Rattle.bus_pageslot.specs.SenderTrails.{SenderTrail}
+use Rattle.bus_automaton.specs.SenderTrails.{SenderTrail}
 use Rattle.bus_run.specs.Numbers.{numbers_below}
 
 -- a put adds its message

@@ -12,7 +12,7 @@ use Rattle.bus_batch.specs.Frames.{Frame, IsFrame, AreFramesFrom, Order, Spells,
 use Rattle.bus_batch.proofs.FrameLaws.{same_frame}
 use Rattle.bus_deliverylog.specs.Orders.{of_sender}
 use Rattle.bus_world.specs.Headline.{Action, IsPrefix, puts}
-use Rattle.bus_pageslot.specs.Processes.{Process}
+use Rattle.bus_automaton.specs.Processes.{Process}
 use Rattle.bus_pageslot.specs.Steps.{KnowsSent}
 use Rattle.bus_run.specs.Numbers.{numbers_below}
 use Rattle.bus_run.specs.Told.{HasTold}

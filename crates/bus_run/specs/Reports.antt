@@ -5,7 +5,7 @@ use Rattle.bus_world.specs.declared.shapes.Shape.{Shape}
 use Rattle.bus_pageslot.specs.Outcomes.{Outcome}
 use Rattle.bus_receiver.specs.Hearing.{Hearing}
 use Rattle.bus_run.specs.Audit.{OfOrder, IsSpelled, IsFair, CountsAll, SendsEach, CarriesNumbers, IsClosed}
-use Rattle.bus_run.specs.Left.{IsLeftBehind}
+use Rattle.bus_run.specs.Left.{run_plan, IsLeftBehind}
 
 -- The order has so many items of each of so many senders, which carry the numbers from 0 on, and has ended; and each note has counted all
 -- of it and the end, with the total of all its items.
@@ -20,7 +20,7 @@ pub record IsHeardWhole (senders messages : ℕ) (heards : List Hearing) (order 
 -- spell an order, which is heard whole; and there is a note of each receiver.
 pub record IsRunReport (shape : Shape) (messages : ℕ) (left : Outcome) (heards : List Hearing) : Type 0 where
   pub senders_are : left.senders ≡ shape.senders
-  pub left_behind : IsLeftBehind shape left
+  pub left_behind : IsLeftBehind (run_plan shape) left
   pub words : left.page.words ≡ length left.log
   pub spelled : IsSpelled left
   pub heard : OfOrder left (IsHeardWhole shape.senders messages heards)

@@ -8,10 +8,11 @@ use Rattle.bus_pageslot.specs.Seats.{SenderSeat, actions_of}
 use Rattle.bus_pageslot.specs.Outcomes.{Outcome}
 use Rattle.bus_receiver.specs.Hearing.{Hearing}
 use Rattle.bus_world.specs.Headline.{puts}
+use Rattle.bus_automaton.specs.declared.plans.Plan.{Plan}
 use Rattle.bus_world.specs.declared.shapes.MakeFault.{MakeFault}
 use Rattle.bus_world.specs.declared.shapes.Shape.{Shape}
 use Rattle.bus_run.specs.Audit.{shape_of_run, OfOrder, IsSpelled, SendsEach, IsClosed, IsFirstFault}
-use Rattle.bus_run.specs.Left.{Held, run_process, RunServes, RunRefuses, batch_of, Shown, IsLeftBy, IsLeftBehind, IsToldByAll}
+use Rattle.bus_run.specs.Left.{Held, run_process, run_plan, RunServes, RunRefuses, batch_of, Shown, IsLeftBy, IsLeftBehind, IsToldByAll}
 use Rattle.bus_run.specs.Numbers.{numbers_below}
 use Rattle.bus_run.specs.declared.audits.AuditFault.{AuditFault}
 use Rattle.bus_run.specs.declared.audits.AuditFault.TheVariants.{Count, NotEnded}
@@ -60,18 +61,18 @@ HasSent messages s = (length (batch_of s).messages ≡ 0) × (puts (actions_of r
 abbrev pub IsFirstUnsent : {D : Type 0} → (D → Type 0) → List D → ℕ → Type 0
 IsFirstUnsent {D} Sent send_workers s = All Sent (take s send_workers) × (d : D) × (slice_get send_workers s ≡ Some d) × (Sent d → ⊥)
 
--- A bus of this shape was ended by a seat of which this is true, and its page was not at home.
-pub record LeavesNoPage (shape : Shape) (Ends : Shown → Type 0) : Type 0 where
+-- A bus of this plan was ended by a seat of which this is true, and its page was not at home.
+pub record LeavesNoPage (plan : Plan) (Ends : Shown → Type 0) : Type 0 where
   pub seen : Shown
   pub ends : Ends seen
   pub log : List ℕ
-  pub left : IsLeftBy shape seen log None
+  pub left : IsLeftBy plan seen log None
 
 -- It was ended by such a seat, with its page at home, and left words that spell an order, of which this is true.
-pub record LeavesOrder (shape : Shape) (Ends : Shown → Type 0) (P : Order → Type 0) : Type 0 where
+pub record LeavesOrder (plan : Plan) (Ends : Shown → Type 0) (P : Order → Type 0) : Type 0 where
   pub left : Outcome
-  pub senders : left.senders ≡ shape.senders
-  pub behind : IsLeftBehind shape left
+  pub senders : left.senders ≡ plan.shape.senders
+  pub behind : IsLeftBehind plan left
   pub ends : Ends behind.seen
   pub spelled : IsSpelled left
   pub holds : OfOrder left P
@@ -105,9 +106,9 @@ module _ {D : Type 0} (sender : D → SenderSeat Held) (shape : Shape) (messages
   abbrev pub IsLate : RunFault → Type 0
   IsLate run.NoMemory = All Sent send_workers × (room < length heards)
   IsLate (run.Stopped s) = (s < shape.senders) × (IsFirstUnsent Sent send_workers s
-      ⊎ (IsSentAndNoted × (s ≡ 0) × (LeavesNoPage shape Ends ⊎ LeavesOrder shape Ends IsOpen))
-      ⊎ (IsSentAndNoted × LeavesOrder shape Ends (IsFirstMiscount s messages)))
-  IsLate (run.Audit why) = IsSentAndNoted × LeavesOrder shape Ends (IsFirstUnfair shape.senders messages heards why)
+      ⊎ (IsSentAndNoted × (s ≡ 0) × (LeavesNoPage (run_plan shape) Ends ⊎ LeavesOrder (run_plan shape) Ends IsOpen))
+      ⊎ (IsSentAndNoted × LeavesOrder (run_plan shape) Ends (IsFirstMiscount s messages)))
+  IsLate (run.Audit why) = IsSentAndNoted × LeavesOrder (run_plan shape) Ends (IsFirstUnfair shape.senders messages heards why)
   IsLate other = ⊥
 
 -- why the text of a report is not made

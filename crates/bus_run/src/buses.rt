@@ -3,29 +3,24 @@
 ghost use Rattle.std.specs.Prelude.{◌≡◌};
 
 use bus_adoptcommit::ThreeWord;
-use bus_guest::Guest;
-use bus_pageslot::{BusOf, OfBus, SenderOf, TapOf};
-use bus_receiver::ReceiverOf;
+use bus_pageslot::OfBus;
 use std::marker::PhantomData;
 
-/// What its elections are decided by.
+/// What its elections are decided by: this says which bus a run goes by, with the definitions of
+/// specs/Left.
 pub type Ratified = ThreeWord;
 
-/// What a sender of it holds: this says which bus a run goes by, with the definitions of
-/// specs/Left.
-pub type Held = Guest<Ratified>;
-
 /// The bus.
-pub type Bus = BusOf<Held>;
+pub type Bus = bus_pageslot::Bus<Ratified>;
 
 /// A sender of it.
-pub type Sender = SenderOf<Held>;
+pub type Sender = bus_pageslot::Sender<Ratified>;
 
 /// A receiver's right to load from it.
-pub type Tap = TapOf<Held>;
+pub type Tap = bus_pageslot::Tap<Ratified>;
 
 /// A receiver of it.
-pub type Receiver = ReceiverOf<Held>;
+pub type Receiver = bus_receiver::Receiver<Ratified>;
 
 /// The bus B: that a worker is of it stands in the worker's type.
 #[derive(Drop)]

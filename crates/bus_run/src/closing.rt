@@ -6,7 +6,7 @@ ghost use Rattle.std.specs.Prelude.{None, IfOk, OnOk, IfErr, IfSome, true, false
 ghost use Rattle.std.specs.Vec.{vec_capacity};
 ghost use Rattle.bus_run.specs.Audit.{OfOrder, IsSpelled, SendsEach, IsClosed, IsSummed};
 ghost use Rattle.bus_run.specs.Reports.{IsRunReport};
-ghost use Rattle.bus_run.specs.Left.{IsLeftBy, IsEndedBy, IsToldByAll};
+ghost use Rattle.bus_run.specs.Left.{run_plan, IsLeftBy, IsEndedBy, IsToldByAll};
 ghost use Rattle.bus_run.specs.Left.{Shown, HasLearnt, number_of};
 ghost use Rattle.bus_run.specs.Told.{HasTold};
 ghost use Rattle.bus_pageslot.specs.Rule.{known_in};
@@ -40,7 +40,7 @@ pub fn end_and_audit<B: OfBus>(
     messages: u64,
 ) -> Result<Report, RunFault>
     requires senders { shape.senders ≤ MOST_SENDERS }
-    requires bus { the.bus.shape ≡ shape }
+    requires bus { the.bus.plan ≡ run_plan shape }
     ensures whole { OnOk result
         (IsWhole (λ send_worker. number_of send_worker.sender) shape workers.send_workers.items
         workers.receive_workers.items) }
@@ -51,7 +51,7 @@ pub fn end_and_audit<B: OfBus>(
     ensures by { let Ends = IsToldByAll (λ send_worker. send_worker.sender) messages
         workers.send_workers.items
         (map (λ receive_worker. receive_worker.receiver.me.0) workers.receive_workers.items) in
-        IfOk result (λ report. IsEndedBy shape Ends report.ended) }
+        IfOk result (λ report. IsEndedBy (run_plan shape) Ends report.ended) }
     ensures notes { IfOk result
         (λ report. report.heards.items
         ≡ map (λ receive_worker. receive_worker.heard) workers.receive_workers.items) }
@@ -155,7 +155,7 @@ fn end_whole<B: OfBus>(
     messages: u64,
 ) -> Result<Report, RunFault>
     requires senders { shape.senders ≤ MOST_SENDERS }
-    requires bus { the.bus.shape ≡ shape }
+    requires bus { the.bus.plan ≡ run_plan shape }
     requires whole { IsWhole (λ send_worker. number_of send_worker.sender) shape send_workers.items
         receive_workers.items }
     ensures report { IfOk result
@@ -163,7 +163,7 @@ fn end_whole<B: OfBus>(
     ensures by { let Ends = IsToldByAll (λ send_worker. send_worker.sender) messages
         send_workers.items
         (map (λ receive_worker. receive_worker.receiver.me.0) receive_workers.items) in
-        IfOk result (λ report. IsEndedBy shape Ends report.ended) }
+        IfOk result (λ report. IsEndedBy (run_plan shape) Ends report.ended) }
     ensures notes { IfOk result
         (λ report. report.heards.items
         ≡ map (λ receive_worker. receive_worker.heard) receive_workers.items) }
@@ -283,15 +283,15 @@ fn tell<B: OfBus>(
 /// Ends the bus by its receiver. Its order has to have ended, for which the first sender answers.
 fn end_closed<B: OfBus>(the: TheBus<B>, first: Receiver) -> Result<Ended, RunFault>
     requires { bus_of first ≡ B.table }
-    ensures of { IfOk result (λ ended. ended.senders ≡ the.bus.shape.senders) }
+    ensures of { IfOk result (λ ended. ended.senders ≡ the.bus.plan.shape.senders) }
     ensures left { IfOk result
-        (λ ended. IsLeftBy the.bus.shape first.me.0 ended.log (Some ended.page)) }
+        (λ ended. IsLeftBy the.bus.plan first.me.0 ended.log (Some ended.page)) }
     ensures words { IfOk result (λ ended. ended.page.words ≡ length ended.log) }
     ensures closed { IfOk result (λ ended. OfOrder ended IsClosed) }
     ensures front { IfOk result (λ ended. IsPrefix (known_in first.me.0) ended.log) }
     ensures open { let Ends : Shown → Type 0 = λ seen. seen ≡ first.me.0 in
-        IfErr result (λ fault. (fault ≡ stopped 0) × (LeavesNoPage the.bus.shape Ends
-        ⊎ LeavesOrder the.bus.shape Ends IsOpen)) }
+        IfErr result (λ fault. (fault ≡ stopped 0) × (LeavesNoPage the.bus.plan Ends
+        ⊎ LeavesOrder the.bus.plan Ends IsOpen)) }
 {
     let Ok(ended) = Receiver::end(the.into_bus(), first) else {
         return Err(RunFault::Stopped { sender: 0 });

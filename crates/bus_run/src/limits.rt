@@ -1,6 +1,6 @@
 //! The sizes of a run.
 
-use bus_guest::limits::MOST_ROWS_AGAIN;
+use bus_core::limits::MOST_ROWS_AGAIN;
 
 /// Messages that each sender of a run sends: at most 400.
 pub const MOST_MESSAGES_EACH: u64 = 400;

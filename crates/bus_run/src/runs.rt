@@ -2,7 +2,7 @@
 
 ghost use Rattle.std.specs.Prelude.{◌≡◌, ◌≤◌, [], All, IfOk, OnOk, IfErr};
 ghost use Rattle.bus_run.specs.Audit.{shape_of_run};
-ghost use Rattle.bus_run.specs.Left.{run_process, RunServes};
+ghost use Rattle.bus_run.specs.Left.{run_process, run_plan, RunServes};
 ghost use Rattle.bus_run.specs.Reports.{IsRunReport};
 ghost use Rattle.bus_run.specs.Stops.{IsStop, IsRunFault};
 ghost use Rattle.bus_pageslot.specs.Seats.{table_of, actions_of};
@@ -52,7 +52,7 @@ pub fn run<R: Threads + Wait + Sync, G: Gate + Sync>(
         rows: ROWS,
         log_words: MOST_LOG_WORDS,
     };
-    let made = Bus::new(alloc, shape)?;
+    let made = Bus::cyclic(alloc, shape)?;
     run_on::<Brand, R, G>(rt, alloc, made, shape, Load { messages, seed }, gate)
 }
 
@@ -65,7 +65,7 @@ fn run_on<B: OfBus + Send + Sync, R: Threads + Wait + Sync, G: Gate + Sync>(
     load: Load,
     gate: &G,
 ) -> Result<Report, RunFault>
-    requires bus { (made.0.table ≡ B.table) × (made.0.shape ≡ shape) }
+    requires bus { (made.0.table ≡ B.table) × (made.0.plan ≡ run_plan shape) }
     requires senders { All (λ sender. table_of sender ≡ B.table) made.1.items }
     requires put { All (λ sender. puts (actions_of run_process sender) ≡ []) made.1.items }
     requires taps { All (λ tap. tap.table_id ≡ B.table) made.2.items }

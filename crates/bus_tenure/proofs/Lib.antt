@@ -1,5 +1,8 @@
 pub mod Lawful
-pub mod Turning
+pub mod ElectionTurns
 pub mod Caused
 pub mod Refused
 pub mod Situated
+mod Electing
+mod Inverted
+pub mod Rows

@@ -7,3 +7,4 @@ pub mod Keeping
 pub mod Seen
 pub mod Bounds
 pub mod Text
+pub mod Doings

@@ -1,13 +1,8 @@
 -- What is seen of a sender from outside, beside its steps and answers.
 use Rattle.std.specs.Prelude.{◌≡◌, ℕ, Option, Some, None}
-use Rattle.bus_tenure.specs.declared.pages.Page.{Page}
-use Rattle.bus_tenure.specs.declared.phases.Reason.{Reason}
 use Rattle.bus_tenure.specs.declared.phases.Phase.{Phase}
 use Rattle.bus_tenure.specs.declared.phases.Phase.TheVariants.{Resting, Electing, Taken, Holding, Giving}
-use Rattle.bus_tenure.specs.declared.holds.Hold.{Hold}
-use Rattle.bus_tenure.specs.declared.holds.Hold.TheVariants.{Word, Length, Back}
 use Rattle.bus_tenure.specs.Core.{Election}
-use Rattle.bus_tenure.specs.Situations.{Situation, StoresWord, StoresLength, GivesBack}
 
 -- the turns that are left, at most, until the page is taken: 0 where no election is begun
 abbrev pub turns_of : {E : Type 0} → Election E → Phase E → ℕ
@@ -35,16 +30,3 @@ pub record HasElection {E : Type 0} (phase : Phase E) : Type 0 where
 pub record AwaitsItsPage {E : Type 0} (phase : Phase E) : Type 0 where
   pub tenure : ℕ
   pub is : phase ≡ Taken tenure
-
--- the page is to be given back
-pub record GivesItBack {E : Type 0} (z : Situation E) : Type 0 where
-  pub tenure : ℕ
-  pub page : Page
-  pub reason : Reason
-  pub is : z ≡ GivesBack tenure page reason
-
--- the situation of a holder of the page that goes on so
-abbrev pub held_by : {E : Type 0} → Hold → ℕ → Page → ℕ → Situation E
-held_by Word t page stored = StoresWord t page stored
-held_by Length t page stored = StoresLength t page stored
-held_by (Back reason) t page stored = GivesBack t page reason

@@ -1,7 +1,8 @@
 pub mod RowLemmas
+pub mod StepLemmas
+pub mod SizeLemmas
 pub mod RepeatRows
 pub mod PlayRows
-pub mod WatchLemmas
-pub mod RingRows
+mod ShowLemmas
 mod LineLaws
 mod AllLinesLaws

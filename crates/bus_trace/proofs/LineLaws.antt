@@ -6,22 +6,21 @@ use Rattle.bus_register.specs.declared.kinds.Kind.TheVariants as kind
 use Rattle.bus_register.specs.declared.registers.Op.{Op}
 use Rattle.bus_register.specs.Names.{kind_name}
 use Rattle.bus_register.specs.Words.{register, after}
-use Rattle.bus_cyclic.specs.Cyclic.{CyclicBus}
+use Rattle.bus_core.specs.Senders.{Sender as OneSender}
+use Rattle.bus_core.specs.Table.{line_now}
 use Rattle.bus_deliverylog.specs.Receiving.{Receiving, receiving_kind, receiving_op}
 use Rattle.bus_deliverylog.specs.Text.{hex_digit, hex_pair, hex_text, item_text, recv_text}
 use Rattle.bus_deliverylog.specs.declared.receiving.RecvTurn.{RecvTurn}
 use Rattle.bus_deliverylog.specs.declared.receiving.RecvTurn.TheVariants as recv
 use Rattle.bus_batch.specs.declared.messages.Item.{Item}
-use Rattle.bus_guest.specs.Turns.{Visitor, due, kind_due, op_next, tenure_begun_by}
+use Rattle.bus_machine.specs.Machine.{Machine, going}
 use Rattle.bus_tenure.specs.Core.{Election}
 use Rattle.bus_tenure.specs.Text.{turn_text}
 use Rattle.bus_tenure.specs.declared.turns.Turn.{Turn as Turned}
 use Rattle.bus_tenure.specs.declared.turns.Turn.TheVariants as turn
 use Rattle.bus_world.specs.Headline.{Action, HasPut, HasClosed, Stepped}
-use Rattle.bus_world.specs.Rings.{guest_going}
-use Rattle.bus_world.specs.Trails.{actions_of, put_actions, close_actions}
-use Rattle.bus_world.specs.World.{Event, Put, Close, Turn, Recv, Stop, going}
-use Rattle.bus_world.specs.Playing.{SizedBus}
+use Rattle.bus_world.specs.Trails.{put_actions, close_actions}
+use Rattle.bus_world.specs.World.{Event, Put, Close, Turn, Recv, Stop}
 use Rattle.bus_world.specs.declared.events.Answer.{Answer}
 use Rattle.bus_world.specs.declared.events.Answer.TheVariants as answer
 use Rattle.bus_replay.specs.Text.{behind, answer_text}
@@ -33,7 +32,7 @@ use Rattle.bus_picture.proofs.FamilyLaws.{has_family}
 use Rattle.bus_picture.proofs.PlainTexts.{IsPlain, plain_by, plain_append, plain_cons, plain_cond, plain_decimal}
 use Rattle.bus_picture.proofs.ReadingLaws.{IsMiddle, IsWho, IsReadable, readable, sender_known, receiver_known}
 use Rattle.bus_trace.specs.Words.{TraceSizes, ratifier_word, round_word, decision_word, row_word, word_name}
-use Rattle.bus_trace.specs.Rows.{tenure_text, no_step, step_text, action_text, actions_text, turning_op, due_text, receiving_text, action_columns, row_text, visitor_text, ring_columns, ring_row_text}
+use Rattle.bus_trace.specs.Rows.{tenure_text, no_step, step_text, action_text, actions_text, due_text, receiving_text, sender_text, columns, row_text}
 
 -- ---- texts
 plain_behind : (n : ℕ) → IsPlain (behind n)
@@ -213,9 +212,10 @@ of_receiving : (p : TraceSizes) (words : ℕ → ℕ) (v : Option Receiving) →
 of_receiving p words None = nothing_done
 of_receiving p words (Some v) = of_due p words None (receiving_kind v) (receiving_op v)
 
-of_visitor : {E : Type 0} (p : TraceSizes) (X : Election E) (words : ℕ → ℕ) (v : Option (Visitor E)) (word : ℕ) → IsMiddle (visitor_text p X words v word)
-of_visitor p X words None word = nothing_done
-of_visitor p X words (Some v) word = of_due p words (tenure_begun_by v.core v.pin) (kind_due X v (due X v)) (op_next X v word)
+of_sender : {E : Type 0} (p : TraceSizes) (X : Election E) (words : ℕ → ℕ) (v : Option (OneSender E)) (word : ℕ)
+    → IsMiddle (sender_text p X words v word)
+of_sender p X words None word = nothing_done
+of_sender p X words (Some v) word = of_due p words (line_now X v).tenure (line_now X v).kind ((line_now X v).op word)
 
 a_stop : IsMiddle (no_step (codes "stop"))
 a_stop = without_step (codes "stop") family.Call refl (plain_by (codes "stop") refl)
@@ -235,16 +235,15 @@ a_receiver : (r : ℕ) → r < 8 → IsWho (codes "receiver" ++ behind r)
 a_receiver r few = record { process = Receiver r; known = receiver_known r few; plain = numbered_word (codes "receiver") r (plain_by (codes "receiver") refl) }
 
 -- ---- lines
-pub line_read : {E : Type 0} (p : TraceSizes) (X : Election E) (line : ℕ) (z : SizedBus E) (e : Event) (a : Answer) → AsksFew e → IsReadable (row_text p X line z e a)
-line_read p X line z (Put s bytes) a few = readable (decimal line) (codes "sender" ++ behind s) (action_columns p X z.bus (Put s bytes) a) (answer_text a) (plain_decimal line) (a_sender s few) (of_actions p None (actions_of X z.bus (Put s bytes) a s)) (plain_answer a)
-line_read p X line z (Close s) a few = readable (decimal line) (codes "sender" ++ behind s) (action_columns p X z.bus (Close s) a) (answer_text a) (plain_decimal line) (a_sender s few) (of_actions p None (actions_of X z.bus (Close s) a s)) (plain_answer a)
-line_read p X line z (Turn s word) a few = readable (decimal line) (codes "sender" ++ behind s) (action_columns p X z.bus (Turn s word) a) (answer_text a) (plain_decimal line) (a_sender s few) (of_actions p (turning_op X (going z.bus s) word) (actions_of X z.bus (Turn s word) a s)) (plain_answer a)
-line_read p X line z (Recv r) a few = readable (decimal line) (codes "receiver" ++ behind r) (action_columns p X z.bus (Recv r) a) (answer_text a) (plain_decimal line) (a_receiver r few) (of_receiving p (slice_index z.bus.side.words) (slice_get z.bus.receivers r)) (plain_answer a)
-line_read p X line z (Stop s) a few = readable (decimal line) (codes "sender" ++ behind s) (action_columns p X z.bus (Stop s) a) (answer_text a) (plain_decimal line) (a_sender s few) a_stop (plain_answer a)
-
-pub ring_line_read : {E : Type 0} (p : TraceSizes) (X : Election E) (line : ℕ) (z : CyclicBus E) (e : Event) (a : Answer) → AsksFew e → IsReadable (ring_row_text p X line z e a)
-ring_line_read p X line z (Put s bytes) a few = readable (decimal line) (codes "sender" ++ behind s) (ring_columns p X z.ring (Put s bytes) a) (answer_text a) (plain_decimal line) (a_sender s few) (of_actions p None (put_actions bytes a)) (plain_answer a)
-ring_line_read p X line z (Close s) a few = readable (decimal line) (codes "sender" ++ behind s) (ring_columns p X z.ring (Close s) a) (answer_text a) (plain_decimal line) (a_sender s few) (of_actions p None (close_actions a)) (plain_answer a)
-ring_line_read p X line z (Turn s word) a few = readable (decimal line) (codes "sender" ++ behind s) (ring_columns p X z.ring (Turn s word) a) (answer_text a) (plain_decimal line) (a_sender s few) (of_visitor p X (slice_index z.ring.words) (guest_going z.ring s) word) (plain_answer a)
-ring_line_read p X line z (Recv r) a few = readable (decimal line) (codes "receiver" ++ behind r) (ring_columns p X z.ring (Recv r) a) (answer_text a) (plain_decimal line) (a_receiver r few) (of_receiving p (slice_index z.ring.words) (slice_get z.ring.receivers r)) (plain_answer a)
-ring_line_read p X line z (Stop s) a few = readable (decimal line) (codes "sender" ++ behind s) (ring_columns p X z.ring (Stop s) a) (answer_text a) (plain_decimal line) (a_sender s few) a_stop (plain_answer a)
+pub line_read : {E : Type 0} (p : TraceSizes) (X : Election E) (line : ℕ) (m : Machine E) (e : Event) (a : Answer) → AsksFew e
+    → IsReadable (row_text p X line m e a)
+line_read p X line m (Put s bytes) a few = readable (decimal line) (codes "sender" ++ behind s) (columns p X m (Put s bytes) a)
+    (answer_text a) (plain_decimal line) (a_sender s few) (of_actions p None (put_actions bytes a)) (plain_answer a)
+line_read p X line m (Close s) a few = readable (decimal line) (codes "sender" ++ behind s) (columns p X m (Close s) a) (answer_text a)
+    (plain_decimal line) (a_sender s few) (of_actions p None (close_actions a)) (plain_answer a)
+line_read p X line m (Turn s word) a few = readable (decimal line) (codes "sender" ++ behind s) (columns p X m (Turn s word) a)
+    (answer_text a) (plain_decimal line) (a_sender s few) (of_sender p X (slice_index m.words) (going m s) word) (plain_answer a)
+line_read p X line m (Recv r) a few = readable (decimal line) (codes "receiver" ++ behind r) (columns p X m (Recv r) a) (answer_text a)
+    (plain_decimal line) (a_receiver r few) (of_receiving p (slice_index m.words) (slice_get m.receivers r)) (plain_answer a)
+line_read p X line m (Stop s) a few = readable (decimal line) (codes "sender" ++ behind s) (columns p X m (Stop s) a) (answer_text a)
+    (plain_decimal line) (a_sender s few) a_stop (plain_answer a)

@@ -1,74 +1,64 @@
 -- The line of an event, made of the step that was seen.
-use Rattle.std.proofs.Common.{◌≡◌, ℕ, ◌+◌, ◌==◌, cond, Option, Some, None, List, [], ◌∷◌, ◌++◌, length, slice_get, slice_index, refl, sym, ap, ◌∙◌, append_assoc, arith}
+use Rattle.std.proofs.Common.{◌≡◌, ℕ, ◌+◌, Bool, false, true, cond, Option, Some, None, List, [], ◌∷◌, ◌++◌, length, slice_get, slice_index, refl, sym, ap, ◌∙◌, append_assoc, arith}
 use Rattle.std.specs.Prelude.{codes, decimal}
-use Rattle.std.proofs.lemmas.Bool.{eq-eqb}
 use Rattle.std.proofs.lemmas.List.{append-nil, length-append}
 use Rattle.bus_register.specs.declared.kinds.Kind.{Kind}
 use Rattle.bus_register.specs.declared.registers.Op.{Op}
+use Rattle.bus_core.specs.Senders.{Sender}
+use Rattle.bus_core.specs.Table.{line_now}
 use Rattle.bus_deliverylog.specs.Receiving.{Receiving, receiving_kind, receiving_op}
-use Rattle.bus_tenure.specs.Core.{Core, Election}
-use Rattle.bus_tenure.specs.Situations.{situation_of, tenure_at, kind_at, op_at, chosen_at}
-use Rattle.bus_tenure.specs.declared.turns.Turn.{Turn as Answered}
-use Rattle.bus_world.specs.Headline.{Action}
-use Rattle.bus_world.specs.Trails.{turning_actions, put_actions, close_actions, step_action}
-use Rattle.bus_world.specs.Turning.{number_found}
-use Rattle.bus_trace.proofs.WatchLemmas.{turner_there}
-use Rattle.bus_world.specs.World.{Bus, Event, Put, Close, Turn, Recv, Stop, going}
-use Rattle.bus_world.specs.Playing.{SizedBus, Answers, TurnAnswers}
+use Rattle.bus_machine.specs.Machine.{Machine, Happens, has_stopped}
+use Rattle.bus_tenure.specs.Core.{Election}
+use Rattle.bus_world.specs.Trails.{put_actions, close_actions}
+use Rattle.bus_world.specs.World.{Event, Put, Close, Turn, Recv, Stop}
 use Rattle.bus_world.specs.declared.events.Answer.{Answer}
 use Rattle.bus_replay.specs.Text.{answer_text}
 use Rattle.bus_register.specs.Words.{register}
 use Rattle.bus_trace.specs.declared.seen.Seen.{Seen}
 use Rattle.bus_trace.specs.Words.{TraceSizes, word_name}
 use Rattle.bus_register.specs.Names.{kind_name}
-use Rattle.bus_trace.specs.Rows.{column, tenure_text, no_step, actions_text, due_text, receiving_text, turning_op, who_text, action_columns, row_text}
-use Rattle.bus_trace.specs.Watching.{step_of, sender_due, receiver_due, due_by, seen_in}
+use Rattle.bus_trace.specs.Rows.{column, tenure_text, no_step, actions_text, due_text, receiving_text, sender_text, who_text, columns, row_text}
+use Rattle.bus_trace.specs.Steps.{step_of, sender_due, receiver_due, due_by, seen_in}
 use Rattle.bus_trace.specs.Told.{name_told, seen_columns, seen_told, row_told, numbered_row}
 use Rattle.bus_trace.specs.Traces.{numbered_rows}
 use Rattle.bus_trace.specs.Obeying.{Grows}
 
-own : (s : ℕ) (actions : List Action) → cond (s == s) actions [] ≡ actions
-own s actions = ap (λ b. cond b actions []) (eq-eqb s s refl)
-
--- of a turn of a sender
-step_told : (p : TraceSizes) (words : ℕ → ℕ) (s word : ℕ) (tenure : Option ℕ) (k : Option Kind) (o : Option Op) (chose : Option ℕ) (t : Answered) → actions_text p o (step_action k tenure (number_found words o) chose t) ≡ seen_told p (Turn s word) (seen_in words (step_of tenure k o))
-step_told p words s word tenure None o chose t = refl
-step_told p words s word tenure (Some k) None chose t = refl
-step_told p words s word tenure (Some k) (Some o) chose t = refl
-
-sender_told : {E : Type 0} (p : TraceSizes) (X : Election E) (words : List ℕ) (s word : ℕ) (o : Option (Core E)) (a : Answer) → TurnAnswers X words o word a
-    → actions_text p (turning_op X o word) (turning_actions X words o word a) ≡ seen_told p (Turn s word) (seen_in (slice_index words) (sender_due X o word))
-sender_told p X words s word None a h = absurd h
-sender_told {E} p X words s word (Some c) a h =
-    let z = situation_of X c in
-    let found = number_found (slice_index words) (op_at X c z word) in
-    ap (λ (b : Answer). actions_text p (op_at X c z word) (turning_actions X words (Some c) word b)) h
-    ∙ step_told p (slice_index words) s word (tenure_at X c z) (kind_at X c z) (op_at X c z word) (chosen_at X c z found word) _
+-- who goes on is there
+pub there : {E : Type 0} (stopped : Bool) (o : Option (Sender E)) (v : Sender E) → cond stopped None o ≡ Some v → o ≡ Some v
+there true o v e = absurd cc
+there false o v e = e
 
 -- of a step that is due, of an event whose kind stands nowhere but in its step
-pub due_told : (p : TraceSizes) (words : ℕ → ℕ) (e : Event) → name_told e ≡ codes "-" → (tenure : Option ℕ) (k : Option Kind) (o : Option Op) → due_text p words tenure k o ≡ seen_told p e (seen_in words (step_of tenure k o))
+due_told : (p : TraceSizes) (words : ℕ → ℕ) (e : Event) → name_told e ≡ codes "-" → (tenure : Option ℕ) (k : Option Kind) (o : Option Op)
+    → due_text p words tenure k o ≡ seen_told p e (seen_in words (step_of tenure k o))
 due_told p words e plain tenure None o = ap no_step (sym plain)
 due_told p words e plain tenure (Some k) None = ap no_step (sym plain)
 due_told p words e plain tenure (Some k) (Some o) = refl
 
 -- of a load of a receiver
-pub receiver_told : (p : TraceSizes) (words : ℕ → ℕ) (r : ℕ) (o : Option Receiving) → receiving_text p words o ≡ seen_told p (Recv r) (seen_in words (receiver_due o))
+receiver_told : (p : TraceSizes) (words : ℕ → ℕ) (r : ℕ) (o : Option Receiving) → receiving_text p words o ≡ seen_told p (Recv r)
+    (seen_in words (receiver_due o))
 receiver_told p words r None = refl
 receiver_told p words r (Some v) = due_told p words (Recv r) refl None (receiving_kind v) (receiving_op v)
 
-columns_told : {E : Type 0} (p : TraceSizes) (X : Election E) (b b' : Bus E) (e : Event) (a : Answer) → Answers X b e a b' → action_columns p X b e a ≡ seen_told p e (seen_in (slice_index b.side.words) (due_by X b e))
-columns_told p X b b' (Put s bytes) a h = ap (actions_text p None) (own s (put_actions bytes a) ∙ ap (put_actions bytes) h.2)
-columns_told p X b b' (Close s) a h = ap (actions_text p None) (own s (close_actions a) ∙ ap close_actions h.1)
-columns_told p X b b' (Turn s word) a h =
-    let c = going b s in
-    ap (actions_text p (turning_op X c word)) (own s (turning_actions X b.side.words c word a)) ∙ sender_told p X b.side.words s word c a h
-    ∙ ap (λ o. seen_told p (Turn s word) (seen_in (slice_index b.side.words) (sender_due X o word))) (turner_there X b s word c refl a h)
-columns_told p X b b' (Recv r) a h = receiver_told p (slice_index b.side.words) r (slice_get b.receivers r)
-columns_told p X b b' (Stop s) a h = refl
+columns_told : {E : Type 0} (p : TraceSizes) (X : Election E) (m m' : Machine E) (e : Event) (a : Answer) → Happens X m e a m'
+    → columns p X m e a ≡ seen_told p e (seen_in (slice_index m.words) (due_by X m e))
+columns_told p X m m' (Put s bytes) a h = ap (λ (z : Answer). actions_text p None (put_actions bytes z)) h.answered
+columns_told p X m m' (Close s) a h = ap (λ (z : Answer). actions_text p None (close_actions z)) h.answered
+columns_told p X m m' (Turn s word) a h =
+    let l = line_now X h.sender in
+    ap (λ o. sender_text p X (slice_index m.words) o word) h.goes ∙ due_told p (slice_index m.words) (Turn s word) refl l.tenure l.kind
+    (l.op word)
+    ∙ ap (λ o. seen_told p (Turn s word) (seen_in (slice_index m.words) (sender_due X o word)))
+    (sym (there (has_stopped m s) (slice_get m.senders s) h.sender h.goes))
+columns_told p X m m' (Recv r) a h = receiver_told p (slice_index m.words) r (slice_get m.receivers r)
+columns_told p X m m' (Stop s) a h = refl
 
 -- the whole line
-pub row_is : {E : Type 0} (p : TraceSizes) (X : Election E) (line : ℕ) (z z' : SizedBus E) (e : Event) (a : Answer) → Answers X z.bus e a z'.bus → (seen : Option Seen) → seen ≡ seen_in (slice_index z.bus.side.words) (due_by X z.bus e) → row_told p line e seen a ≡ row_text p X line z e a
-row_is p X line z z' e a h seen is = ap (λ k. row_told p line e k a) is ∙ ap (λ (l : List ℕ). column (decimal line) ++ who_text e ++ l ++ answer_text a) (sym (columns_told p X z.bus z'.bus e a h))
+pub row_is : {E : Type 0} (p : TraceSizes) (X : Election E) (line : ℕ) (m m' : Machine E) (e : Event) (a : Answer) → Happens X m e a m'
+    → (seen : Option Seen) → seen ≡ seen_in (slice_index m.words) (due_by X m e) → row_told p line e seen a ≡ row_text p X line m e a
+row_is p X line m m' e a h seen is = ap (λ k. row_told p line e k a) is ∙ ap (λ (l : List ℕ). column (decimal line) ++ who_text e ++ l ++
+    answer_text a) (sym (columns_told p X m m' e a h))
 
 -- ---- lines one after another
 numbered_more : (from : ℕ) (rows more : List (List ℕ)) → numbered_rows from (rows ++ more) ≡ numbered_rows from rows ++ numbered_rows (from + length rows) more

@@ -1,6 +1,7 @@
 pub mod Words
 pub mod Rows
 pub mod Told
-pub mod Watching
+pub mod Steps
 pub mod Traces
 pub mod Obeying
+pub mod Showing

@@ -1,13 +1,19 @@
 -- How a program that goes through the lines of a script extends a trace.
-use Rattle.std.specs.Prelude.{◌≡◌, ◌+◌, ◌*◌, ◌≤◌, ℕ, Option, Some, None, List, [], ◌∷◌, ◌++◌, length}
+use Rattle.std.specs.Prelude.{◌≡◌, ◌+◌, ◌*◌, ◌≤◌, ℕ, Bool, Option, Some, None, List, [], ◌∷◌, ◌++◌, length}
+use Rattle.bus_register.specs.Protocol.{Protocol}
+use Rattle.bus_adoptcommit.specs.declared.verdicts.Verdict.{Verdict}
+use Rattle.bus_tenure.specs.Core.{Election}
+use Rattle.bus_tenure.specs.Elections.{Elector}
 use Rattle.bus_world.specs.World.{Event}
 use Rattle.bus_world.specs.declared.events.Answer.{Answer}
 use Rattle.bus_world.specs.declared.events.StepFault.{StepFault}
+use Rattle.bus_machine.specs.Machine.{Machine}
+use Rattle.bus_machine.specs.Playing.{Refused as RefusedBy}
 use Rattle.bus_script.specs.declared.answers.Outcome.{Outcome}
 use Rattle.bus_script.specs.declared.answers.Outcome.TheVariants.{Done, Refused}
-use Rattle.bus_replay.specs.declared.machines.Playable.{Ghosts as Moves}
 use Rattle.bus_replay.specs.Answers.{End, Left, Stopped, Repeats, Prints}
-use Rattle.bus_trace.specs.Traces.{Row, repeat_rows, printed_rows, numbered_rows}
+use Rattle.bus_trace.specs.Traces.{repeat_rows, printed_rows, numbered_rows}
+use Rattle.bus_trace.specs.Words.{TraceSizes}
 
 -- so many lines stand in a text: each has two bytes and more, so their number is one that a program can hold
 abbrev pub IsCounted : List ℕ → ℕ → Type 0
@@ -18,22 +24,32 @@ pub record Grows (old : List ℕ) (before : ℕ) (new : List ℕ) (after : ℕ) 
   pub text_is : new ≡ old ++ numbered_rows (before + 1) rows
   pub lines_are : after ≡ before + length rows
 
--- an event was repeated, and the lines of that were put; or it was refused at once
-abbrev pub IsRepeated : {Z : Type 0} → Moves Z → Row Z → ℕ → Z → Event → ℕ → (old : List ℕ) (before : ℕ) (new : List ℕ) (after : ℕ) → Option StepFault → Z → Type 0
-IsRepeated M row line b e more old before new after None b' = (last : Answer) × (run : Repeats M b e more last b') × Grows old before new after (repeat_rows M row line b e more last b' run)
-IsRepeated M row line b e more old before new after (Some why) b' = M.refused b e why × (new ≡ old)
+module _ {S : Type 0} (X : Election (Elector S)) (P : Protocol S Bool Verdict) (p : TraceSizes) where
+  -- an event was repeated, and the lines of that were put; or it was refused at once
+  abbrev pub IsRepeated : ℕ → Machine (Elector S) → Event → ℕ → (old : List ℕ) (before : ℕ) (new : List ℕ) (after : ℕ) → Option StepFault
+      → Machine (Elector S) → Type 0
+  IsRepeated line m e more old before new after None m' = (last : Answer) × (run : Repeats X P m e more last m')
+      × Grows old before new after (repeat_rows X P p line m e more last m' run)
+  IsRepeated line m e more old before new after (Some why) m' = RefusedBy m e why × (new ≡ old)
 
--- A line was obeyed, and whatever is played behind it, its lines stand before those of that; or it was refused, and this is its refusal.
-abbrev pub IsObeyed : {Z : Type 0} → Moves Z → Row Z → Z → ℕ × List ℕ → (old : List ℕ) (before : ℕ) (new : List ℕ) (after : ℕ) → Outcome → Z → Type 0
-IsObeyed {Z} M row b line old before new after Done b' =
-    (printed : List ℕ) × (rows : List (List ℕ)) × Grows old before new after rows
-    × ((lines : List (ℕ × List ℕ)) (rest : List ℕ) (end : End Z) (run : Prints M b' lines rest end) → (whole : Prints M b (line ∷ lines) (printed ++ rest) end) × (printed_rows M row b (line ∷ lines) (printed ++ rest) end whole ≡ rows ++ printed_rows M row b' lines rest end run))
-IsObeyed {Z} M row b line old before new after Refused b' =
-    (refusal : List ℕ) × (new ≡ old ++ refusal)
-    × ((lines : List (ℕ × List ℕ)) → (whole : Prints M b (line ∷ lines) [] (Stopped refusal)) × (printed_rows M row b (line ∷ lines) [] (Stopped refusal) whole ≡ []))
+  -- A line was obeyed, and whatever is played behind it, its lines stand before those of that; or it was refused, and this is its refusal.
+  abbrev pub IsObeyed : Machine (Elector S) → ℕ × List ℕ → (old : List ℕ) (before : ℕ) (new : List ℕ) (after : ℕ) → Outcome
+      → Machine (Elector S) → Type 0
+  IsObeyed m line old before new after Done m' =
+      (printed : List ℕ) × (rows : List (List ℕ)) × Grows old before new after rows
+      × ((lines : List (ℕ × List ℕ)) (rest : List ℕ) (end : End (Elector S)) (run : Prints X P m' lines rest end)
+      → (whole : Prints X P m (line ∷ lines) (printed ++ rest) end)
+      × (printed_rows X P p m (line ∷ lines) (printed ++ rest) end whole ≡ rows ++ printed_rows X P p m' lines rest end run))
+  IsObeyed m line old before new after Refused m' =
+      (refusal : List ℕ) × (new ≡ old ++ refusal)
+      × ((lines : List (ℕ × List ℕ)) → (whole : Prints X P m (line ∷ lines) [] (Stopped refusal))
+      × (printed_rows X P p m (line ∷ lines) [] (Stopped refusal) whole ≡ []))
 
--- lines were obeyed; or one was refused, and the text ends with its refusal
-abbrev pub ArePlayed : {Z : Type 0} → Moves Z → Row Z → Z → List (ℕ × List ℕ) → (old : List ℕ) (before : ℕ) (new : List ℕ) → Outcome → Z → Type 0
-ArePlayed M row b lines old before new Done b' = (answers : List ℕ) × (run : Prints M b lines answers (Left b')) × (new ≡ old ++ numbered_rows (before + 1) (printed_rows M row b lines answers (Left b') run))
-ArePlayed M row b lines old before new Refused b' =
-    (refusal : List ℕ) × (answers : List ℕ) × (run : Prints M b lines answers (Stopped refusal)) × (new ≡ old ++ numbered_rows (before + 1) (printed_rows M row b lines answers (Stopped refusal) run) ++ refusal)
+  -- lines were obeyed; or one was refused, and the text ends with its refusal
+  abbrev pub ArePlayed : Machine (Elector S) → List (ℕ × List ℕ) → (old : List ℕ) (before : ℕ) (new : List ℕ) → Outcome
+      → Machine (Elector S) → Type 0
+  ArePlayed m lines old before new Done m' = (answers : List ℕ) × (run : Prints X P m lines answers (Left m'))
+      × (new ≡ old ++ numbered_rows (before + 1) (printed_rows X P p m lines answers (Left m') run))
+  ArePlayed m lines old before new Refused m' =
+      (refusal : List ℕ) × (answers : List ℕ) × (run : Prints X P m lines answers (Stopped refusal))
+      × (new ≡ old ++ numbered_rows (before + 1) (printed_rows X P p m lines answers (Stopped refusal) run) ++ refusal)

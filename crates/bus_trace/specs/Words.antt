@@ -1,12 +1,10 @@
 -- What the words of a bus are called, each by what it is.
-use Rattle.std.specs.Prelude.{ℕ, ◌+◌, ◌-◌, ◌/◌, ◌%◌, ◌==◌, Bool, List, ◌∷◌, ◌++◌, codes, nat_lt, nat_le, if◌then◌else◌}
+use Rattle.std.specs.Prelude.{ℕ, ◌+◌, ◌-◌, ◌/◌, ◌%◌, ◌==◌, Bool, Option, Some, None, List, ◌∷◌, ◌++◌, codes, nat_lt, nat_le, if◌then◌else◌}
 use Rattle.bus_register.specs.Protocol.{Protocol}
 use Rattle.bus_adoptcommit.specs.declared.verdicts.Verdict.{Verdict}
 use Rattle.bus_binconsensus.specs.Decisions.{decisions}
-use Rattle.bus_cyclic.specs.Cyclic as cyclic
-use Rattle.bus_guest.specs.Guests.{log_from}
-use Rattle.bus_tenure.specs.Core.{log_at}
-use Rattle.bus_world.specs.Playing.{layout_of}
+use Rattle.bus_machine.specs.Machine.{log_place}
+use Rattle.bus_machine.specs.Playing.{layout_of}
 use Rattle.bus_world.specs.declared.shapes.Shape.{Shape}
 use Rattle.bus_replay.specs.Text.{behind}
 use Rattle.bus_trace.specs.declared.memory_maps.MemoryMap.{MemoryMap}
@@ -29,28 +27,21 @@ pub record TraceSizes : Type 0 where
 abbrev pub sizes_told : MemoryMap → TraceSizes
 sizes_told p = record { senders = p.senders; presences = p.presences; rounds = p.rounds; ratifier = p.ratifier; decision = p.decision; row = p.row; log = p.log }
 
--- the sizes of a bus of this shape that has a row for each tenure, over such ratifiers
-abbrev pub sizes_of : {S : Type 0} → Protocol S Bool Verdict → Shape → TraceSizes
-sizes_of P shape = record {
-  senders = shape.senders;
-  presences = 0;
-  rounds = shape.rounds;
-  ratifier = P.width shape.senders;
-  decision = (decisions P shape.rounds).width shape.senders;
-  row = (layout_of P shape).width;
-  log = log_at (layout_of P shape);
-}
+-- a presence for each sender where rows are used again
+abbrev pub presences_of : Shape → Option ℕ → ℕ
+presences_of shape None = 0
+presences_of shape (Some rows) = shape.senders
 
--- and of one whose rows are used again: it has a presence for each sender
-abbrev pub ring_sizes_of : {S : Type 0} → Protocol S Bool Verdict → Shape → TraceSizes
-ring_sizes_of P shape = record {
+-- the sizes of a bus of this shape, over such ratifiers: it has a row for each tenure, or so many rows are used again
+abbrev pub sizes_of : {S : Type 0} → Protocol S Bool Verdict → Shape → Option ℕ → TraceSizes
+sizes_of P shape reuse = record {
   senders = shape.senders;
-  presences = shape.senders;
+  presences = presences_of shape reuse;
   rounds = shape.rounds;
   ratifier = P.width shape.senders;
   decision = (decisions P shape.rounds).width shape.senders;
-  row = (cyclic.layout_of P shape).width;
-  log = log_from (cyclic.layout_of P shape) shape.rows;
+  row = (layout_of P shape reuse).width;
+  log = log_place (layout_of P shape reuse) reuse;
 }
 
 -- a ratifier of three words has two inputs and a proposal; the words of another one are numbered

@@ -1,10 +1,16 @@
-//! What holds of all traces: the function does nothing, and its contract is the law.
+//! What holds of all traces: the functions do nothing, and their contracts are the laws.
 
 ghost use Rattle.std.specs.Prelude.{◌≡◌, ℕ, List};
 ghost use Rattle.bus_picture.specs.AllLines.{HasAllLines};
 ghost use Rattle.bus_script.specs.declared.answers.Outcome.{Outcome};
-ghost use Rattle.bus_tenure.specs.Elections.{election_of};
+ghost use Rattle.bus_machine.specs.Machine.{Machine};
+ghost use Rattle.bus_machine.specs.Playing.{Answers};
+ghost use Rattle.bus_tenure.specs.Elections.{Elector, election_of};
+ghost use Rattle.bus_world.specs.World.{Event};
+ghost use Rattle.bus_world.specs.declared.events.Answer.{Answer};
+ghost use Rattle.bus_trace.specs.Showing.{Shows};
 ghost use Rattle.bus_trace.specs.Traces.{IsTrace};
+ghost use Rattle.bus_trace.specs.Words.{TraceSizes};
 
 use bus_adoptcommit::Ratifier;
 
@@ -14,4 +20,14 @@ pub fn traces_are_drawn_whole<Q: Ratifier>()
     ensures { let X = election_of Q.Ratifier in
         (input : List ℕ) (outcome : Outcome) (trace : List ℕ)
         → IsTrace X Q.protocol input outcome trace → HasAllLines trace }
+{}
+
+/// What the line of an event shows is what the event adds to the trails: the action of its sender,
+/// or the step of its pin or of its reclamation, with what that found, and the tenure that it has
+/// begun. A stop adds nothing.
+pub fn rows_show_what_happens<Q: Ratifier>()
+    ensures { let X = election_of Q.Ratifier in
+        (sizes : TraceSizes) (old : Machine (Elector Q)) (event : Event) (given : Answer)
+        → (new : Machine (Elector Q)) → Answers X Q.protocol old event given new
+        → Shows sizes X old event given }
 {}

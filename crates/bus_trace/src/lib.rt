@@ -15,18 +15,14 @@
 #![tactic(auto)]
 
 pub mod answers;
-pub mod cycles;
-pub mod dues;
 pub mod laws;
-pub mod machines;
 pub mod memory_maps;
 pub mod playing;
 pub mod rows;
 pub mod seen;
 pub mod sheets;
+pub mod steps;
 pub mod traces;
-pub mod watching;
 pub mod words;
-pub mod worlds;
 
 pub use traces::trace_of;

@@ -1,14 +1,17 @@
 //! How the lines of a script move the bus, and what is put on a sheet of each step.
 
 ghost use Rattle.std.specs.Prelude.{◌≡◌, ◌-◌, ◌<◌, None, IfOk, string_bytes};
+ghost use Rattle.bus_tenure.specs.Elections.{election_of};
 ghost use Rattle.bus_world.specs.Playing.{event_told};
 ghost use Rattle.bus_trace.specs.Words.{sizes_told};
 ghost use Rattle.bus_trace.specs.Obeying.{IsCounted, IsRepeated, IsObeyed, ArePlayed};
 
-use crate::machines::Traceable;
 use crate::memory_maps::MemoryMap;
 use crate::rows::push_row;
 use crate::sheets::Sheet;
+use crate::steps::step_shown;
+use bus_adoptcommit::Ratifier;
+use bus_machine::World;
 use bus_register::NoMemory;
 use bus_replay::lines::command_of;
 use bus_replay::names::step_fault_name;
@@ -18,8 +21,8 @@ use bus_world::{Event, StepFault};
 use std::alloc::{AllocError, Global};
 
 /// An event once, and more while it goes on, up to so many times. Each has its line.
-fn repeat<W: Traceable>(
-    bus: &mut W,
+fn repeat<Q: Ratifier + Drop>(
+    bus: &mut World<Q>,
     sheet: &mut Sheet,
     memory_map: MemoryMap,
     line: u64,
@@ -28,21 +31,21 @@ fn repeat<W: Traceable>(
 ) -> Result<Option<StepFault>, AllocError>
     requires some { 0 < times }
     requires counted { IsCounted (string_bytes sheet.old.text) sheet.old.lines }
-    ensures repeated { IfOk result
-        (λ fault. IsRepeated W.moves (W.shows (sizes_told memory_map)) line
+    ensures repeated { let X = election_of Q.Ratifier in
+        IfOk result (λ fault. IsRepeated X Q.protocol (sizes_told memory_map) line
         bus.old (event_told event.now) (times - 1) (string_bytes sheet.old.text) sheet.old.lines
         (string_bytes sheet.new.text) sheet.new.lines fault bus.new) }
     ensures counts { IfOk result (λ fault. fault ≡ None
         → IsCounted (string_bytes sheet.new.text) sheet.new.lines) }
 {
-    let (seen, mut last) = match bus.step(event) {
+    let (seen, mut last) = match step_shown(bus, event) {
         Ok(told) => told,
         Err(fault) => return Ok(Some(fault)),
     };
     push_row(sheet, memory_map, line, event, seen, &last)?;
     let mut more = times - 1;
     while more > 0 && goes_on(&last) {
-        let (seen, next) = match bus.step(event) {
+        let (seen, next) = match step_shown(bus, event) {
             Ok(told) => told,
             Err(fault) => return Ok(Some(fault)),
         };
@@ -54,16 +57,16 @@ fn repeat<W: Traceable>(
 }
 
 /// Does what a line asks for, and puts a line for each event of it, or its refusal, on a sheet.
-fn obey<W: Traceable>(
+fn obey<Q: Ratifier + Drop>(
     alloc: Global,
-    bus: &mut W,
+    bus: &mut World<Q>,
     sheet: &mut Sheet,
     memory_map: MemoryMap,
     line: Line<'_>,
 ) -> Result<Outcome, NoMemory>
     requires { IsCounted (string_bytes sheet.old.text) sheet.old.lines }
-    ensures obeyed { IfOk result
-        (λ outcome. IsObeyed W.moves (W.shows (sizes_told memory_map)) bus.old
+    ensures obeyed { let X = election_of Q.Ratifier in
+        IfOk result (λ outcome. IsObeyed X Q.protocol (sizes_told memory_map) bus.old
         (line.entry.number, line.entry.bytes.now) (string_bytes sheet.old.text) sheet.old.lines
         (string_bytes sheet.new.text) sheet.new.lines outcome bus.new) }
     ensures counts { IfOk result (λ outcome. outcome ≡ Outcome.Done
@@ -91,15 +94,16 @@ fn obey<W: Traceable>(
 }
 
 /// Obeys lines up to the first that is refused.
-pub fn play<W: Traceable>(
+pub fn play<Q: Ratifier + Drop>(
     alloc: Global,
-    bus: &mut W,
+    bus: &mut World<Q>,
     sheet: &mut Sheet,
     memory_map: MemoryMap,
     mut lines: Lines<'_>,
 ) -> Result<Outcome, NoMemory>
     requires { IsCounted (string_bytes sheet.old.text) sheet.old.lines }
-    ensures { IfOk result (λ outcome. ArePlayed W.moves (W.shows (sizes_told memory_map)) bus.old
+    ensures { let X = election_of Q.Ratifier in
+        IfOk result (λ outcome. ArePlayed X Q.protocol (sizes_told memory_map) bus.old
         lines.entry (string_bytes sheet.old.text) sheet.old.lines (string_bytes sheet.new.text)
         outcome bus.new) }
 {

@@ -1,4 +1,4 @@
-//! Steps, and how far receivers are.
+//! Steps, as they are seen.
 
 ghost use Rattle.std.specs.Prelude.{◌≡◌};
 ghost use Rattle.bus_register.specs.Words.{register};
@@ -24,17 +24,6 @@ pub struct Seen {
     pub found: u64,
     /// What stands there after it.
     pub left: u64,
-}
-
-/// How far a receiver has read the log.
-#[derive(Clone, Copy, Debug, PartialEq, Eq)]
-pub struct Cursor {
-    /// The length that it knows.
-    pub known: u64,
-    /// How many words it has read.
-    pub place: u64,
-    /// It has read the end.
-    pub ended: bool,
 }
 
 /// The word that a step is on.

@@ -8,19 +8,18 @@ ghost use Rattle.bus_trace.specs.Rows.{header};
 ghost use Rattle.bus_trace.specs.Words.{sizes_told};
 ghost use Rattle.bus_trace.specs.Traces.{ArePrinted, Begins, IsTrace};
 
-use crate::machines::Traceable;
 use crate::memory_maps::MemoryMap;
 use crate::playing::play;
 use crate::rows::new_sheet;
-use crate::watching::Watch;
-use crate::words::{memory_map_of, ring_memory_map_of};
+use crate::words::memory_map_of;
 use bus_adoptcommit::Ratifier;
-use bus_cyclic::CyclicWorld;
+use bus_machine::World;
 use bus_register::NoMemory;
+use bus_replay::answers::new_bus;
 use bus_replay::lines::{FirstLine, first_of};
 use bus_replay::names::make_fault_name;
 use bus_script::{Answer, LineNumber, Lines, Outcome, refusal_line};
-use bus_world::{MakeFault, Shape};
+use bus_world::MakeFault;
 use std::alloc::Global;
 
 /// The answer to a script that was refused before there was a bus.
@@ -39,14 +38,15 @@ fn refused(alloc: Global, line_number: LineNumber, name: &str) -> Result<Answer,
 }
 
 /// What is written of the lines behind the first one, which move a new bus.
-fn trace_from<W: Traceable + Drop>(
+fn trace_from<Q: Ratifier + Drop>(
     alloc: Global,
-    mut bus: W,
+    mut bus: World<Q>,
     memory_map: MemoryMap,
     lines: Lines<'_>,
 ) -> Result<Answer, NoMemory>
-    ensures { IfOk result (λ answer. ArePrinted W.moves (W.shows (sizes_told memory_map)) bus
-        lines.entry answer.outcome (string_bytes answer.text)) }
+    ensures { let X = election_of Q.Ratifier in
+        IfOk result (λ answer. ArePrinted X Q.protocol (sizes_told memory_map) bus lines.entry
+        answer.outcome (string_bytes answer.text)) }
 {
     let mut sheet = new_sheet(alloc)?;
     let outcome = play(alloc, &mut bus, &mut sheet, memory_map, lines)?;
@@ -56,37 +56,19 @@ fn trace_from<W: Traceable + Drop>(
     })
 }
 
-/// What is written behind a first line that asks for a bus with a row for each tenure.
-fn trace_of_shape<Q: Ratifier + Drop>(
+/// What is written behind a first line that asks for a bus.
+fn trace_behind<Q: Ratifier + Drop>(
     alloc: Global,
-    shape: Shape,
+    first: FirstLine,
     number: u64,
     lines: Lines<'_>,
 ) -> Result<Answer, NoMemory>
     ensures { let X = election_of Q.Ratifier in
-        IfOk result (λ answer. Begins X Q.protocol number (Some (FirstLine.Shape shape))
-        lines.entry answer.outcome (string_bytes answer.text)) }
+        IfOk result (λ answer. Begins X Q.protocol number (Some first) lines.entry answer.outcome
+        (string_bytes answer.text)) }
 {
-    match Watch::<Q>::new(alloc, shape) {
-        Ok(watch) => trace_from(alloc, watch, memory_map_of::<Q>(shape), lines),
-        Err(MakeFault::NoMemory) => Err(NoMemory),
-        Err(fault) => refused(alloc, LineNumber::AtLine(number), make_fault_name(fault)),
-    }
-}
-
-/// What is written behind a first line that asks for a bus whose rows are used again.
-fn trace_of_cycle<Q: Ratifier + Drop>(
-    alloc: Global,
-    shape: Shape,
-    number: u64,
-    lines: Lines<'_>,
-) -> Result<Answer, NoMemory>
-    ensures { let X = election_of Q.Ratifier in
-        IfOk result (λ answer. Begins X Q.protocol number (Some (FirstLine.Cycle shape))
-        lines.entry answer.outcome (string_bytes answer.text)) }
-{
-    match CyclicWorld::<Q>::new(alloc, shape) {
-        Ok(world) => trace_from(alloc, world, ring_memory_map_of::<Q>(shape), lines),
+    match new_bus::<Q>(alloc, first) {
+        Ok(bus) => trace_from(alloc, bus, memory_map_of::<Q>(first), lines),
         Err(MakeFault::NoMemory) => Err(NoMemory),
         Err(fault) => refused(alloc, LineNumber::AtLine(number), make_fault_name(fault)),
     }
@@ -105,8 +87,7 @@ pub fn trace_of<Q: Ratifier + Drop>(alloc: Global, input: &[u8]) -> Result<Answe
         return refused(alloc, LineNumber::AtEnd, "BadLine");
     };
     match first_of(first.bytes) {
-        Some(FirstLine::Shape(shape)) => trace_of_shape::<Q>(alloc, shape, first.number, lines),
-        Some(FirstLine::Cycle(shape)) => trace_of_cycle::<Q>(alloc, shape, first.number, lines),
+        Some(bus) => trace_behind::<Q>(alloc, bus, first.number, lines),
         None => refused(alloc, LineNumber::AtLine(first.number), "BadLine"),
     }
 }

@@ -1,49 +1,36 @@
 //! What the words of a bus are called.
 
 ghost use Rattle.std.specs.Prelude.{◌≡◌, ◌++◌, ◌<◌, OnOk, string_bytes};
-ghost use Rattle.bus_cyclic.specs.Cyclic.{IsServed as IsServedRing};
-ghost use Rattle.bus_world.specs.Playing.{IsServed};
+ghost use Rattle.bus_machine.specs.Playing.{IsServed};
+ghost use Rattle.bus_replay.specs.Lines.{shape_in, reuse_in};
 ghost use Rattle.bus_trace.specs.Words.{ratifier_word, round_word, decision_word, row_word};
-ghost use Rattle.bus_trace.specs.Words.{word_name, sizes_told, sizes_of, ring_sizes_of};
+ghost use Rattle.bus_trace.specs.Words.{word_name, sizes_told, sizes_of};
 
 use crate::memory_maps::MemoryMap;
 use bus_adoptcommit::Ratifier;
 use bus_binconsensus::Decide;
 use bus_ownerbits::Election;
-use bus_world::Shape;
+use bus_replay::lines::FirstLine;
 use std::alloc::AllocError;
 
-/// The memory map of a bus of this shape that has a row for each tenure.
-pub fn memory_map_of<Q: Ratifier + Drop>(shape: Shape) -> MemoryMap
-    requires { IsServed shape }
-    ensures { sizes_told result ≡ sizes_of Q.protocol shape }
+/// The memory map of a bus such as the first line of a script asks for.
+pub fn memory_map_of<Q: Ratifier + Drop>(first: FirstLine) -> MemoryMap
+    requires { IsServed (shape_in first) (reuse_in first) }
+    ensures { sizes_told result ≡ sizes_of Q.protocol (shape_in first) (reuse_in first) }
 {
+    let (shape, presences) = match first {
+        FirstLine::Shape(shape) => (shape, 0),
+        FirstLine::Cycle(shape) => (shape, shape.senders),
+    };
     let row = Election::<Q>::width(shape.senders, shape.rounds);
     MemoryMap {
         senders: shape.senders,
-        presences: 0,
+        presences,
         rounds: shape.rounds,
         ratifier: Q::width(shape.senders),
         decision: Decide::<Q>::width(shape.senders, shape.rounds),
         row,
-        log: 2 + shape.rows * row,
-    }
-}
-
-/// The memory map of a bus of this shape whose rows are used again.
-pub fn ring_memory_map_of<Q: Ratifier + Drop>(shape: Shape) -> MemoryMap
-    requires { IsServedRing shape }
-    ensures { sizes_told result ≡ ring_sizes_of Q.protocol shape }
-{
-    let row = Election::<Q>::width(shape.senders, shape.rounds);
-    MemoryMap {
-        senders: shape.senders,
-        presences: shape.senders,
-        rounds: shape.rounds,
-        ratifier: Q::width(shape.senders),
-        decision: Decide::<Q>::width(shape.senders, shape.rounds),
-        row,
-        log: 2 + shape.senders + shape.rows * row,
+        log: 2 + presences + shape.rows * row,
     }
 }
 

@@ -11,7 +11,6 @@ pub mod Faults
 pub mod Trails
 pub mod Telling
 pub mod Refusals
-pub mod Stopping
 pub mod Waiting
-pub mod Yards
-pub mod Rings
+pub mod CyclicProtocols
+pub mod CyclicMachines

@@ -1,14 +1,10 @@
 //! The sizes of a bus.
 
-ghost use Rattle.std.specs.Prelude.{◌≡◌, IfSome, None, ◌≢◌};
-ghost use Rattle.bus_world.specs.Playing.{IsServed, MakeRefused};
+ghost use Rattle.std.specs.Prelude.{◌≡◌};
 
 use bus_register::NoMemory;
-use bus_register::limits::{
-    LEAST_LOG_WORDS, MOST_LOG_WORDS, MOST_RECEIVERS, MOST_ROUNDS, MOST_ROWS, MOST_SENDERS,
-};
 
-/// The sizes of a bus. `World::new` refuses all others than those named here.
+/// The sizes of a bus. All others than those named here are refused.
 #[derive(Clone, Copy, Debug, PartialEq, Eq)]
 pub struct Shape {
     /// 1 to 8.
@@ -33,29 +29,6 @@ pub enum MakeFault {
     LogWords,
     /// Memory was refused.
     NoMemory,
-}
-
-impl Shape {
-    /// Why it is not served; none where it is.
-    pub fn fault(self) -> Option<MakeFault>
-        ensures fault { IfSome result (MakeRefused self) }
-        ensures served { result ≡ None → IsServed self }
-        ensures no_memory { IfSome result (λ why. why ≢ MakeFault.NoMemory) }
-    {
-        if self.senders < 1 || self.senders > MOST_SENDERS as u64 {
-            Some(MakeFault::Senders)
-        } else if self.receivers < 1 || self.receivers > MOST_RECEIVERS {
-            Some(MakeFault::Receivers)
-        } else if self.rounds < 1 || self.rounds > MOST_ROUNDS {
-            Some(MakeFault::Rounds)
-        } else if self.rows < 1 || self.rows > MOST_ROWS as u64 {
-            Some(MakeFault::Rows)
-        } else if self.log_words < LEAST_LOG_WORDS || self.log_words > MOST_LOG_WORDS {
-            Some(MakeFault::LogWords)
-        } else {
-            None
-        }
-    }
 }
 
 impl From<NoMemory> for MakeFault {

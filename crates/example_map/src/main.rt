@@ -5,8 +5,7 @@
 
 use anyhow::{Context, bail, ensure};
 use bus_handles::{
-    CyclicReceiverHandle, CyclicSenderHandle, Next, SenderNo, Shape, ThreeWord, Turn, open_cyclic,
-    words_needed,
+    Next, ReceiverHandle, SenderHandle, SenderNo, Shape, ThreeWord, Turn, open_cyclic, words_needed,
 };
 use std::collections::BTreeMap;
 use std::sync::Wait;
@@ -16,8 +15,8 @@ use std::thread;
 /// A worker: a sender, a receiver, and its map of values by key.
 #[derive(Drop)]
 struct Worker {
-    sender: CyclicSenderHandle<ThreeWord>,
-    receiver: CyclicReceiverHandle<ThreeWord>,
+    sender: SenderHandle<ThreeWord>,
+    receiver: ReceiverHandle<ThreeWord>,
     map: BTreeMap<u64, [u8; 32]>,
 }
 

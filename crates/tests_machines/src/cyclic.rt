@@ -2,8 +2,8 @@
 
 use bus_adoptcommit::ThreeWord;
 use bus_batch::PutFault;
-use bus_cyclic::CyclicWorld;
 use bus_deliverylog::RecvTurn;
+use bus_machine::World;
 use bus_register::{Reg, SenderNo};
 use bus_tenure::Turn;
 use bus_world::{Answer, Event, MakeFault, PlayFault, Shape, StepFault};
@@ -22,15 +22,15 @@ fn shape(senders: u64, rows: u64, log_words: u64) -> Shape {
 }
 
 /// Wants that this bus is made.
-fn made<R: Abort + AllocGlobal>(rt: &R, shape: Shape) -> CyclicWorld<ThreeWord> {
-    match CyclicWorld::new(rt.alloc(), shape) {
+fn made<R: Abort + AllocGlobal>(rt: &R, shape: Shape) -> World<ThreeWord> {
+    match World::cyclic(rt.alloc(), shape) {
         Ok(world) => world,
         Err(_) => panic!(rt; "a bus of this shape"),
     }
 }
 
 /// The last of so many turns of a sender at most, of which all but the last are going.
-fn turns(rt: &impl Abort, world: &mut CyclicWorld<ThreeWord>, sender: u64, most: u64) -> Turn {
+fn turns(rt: &impl Abort, world: &mut World<ThreeWord>, sender: u64, most: u64) -> Turn {
     for _ in 0..most {
         match world.step(&Event::Turn { sender, word: 0 }) {
             Ok(Answer::Turn(Turn::Going)) => {}
@@ -42,7 +42,7 @@ fn turns(rt: &impl Abort, world: &mut CyclicWorld<ThreeWord>, sender: u64, most:
 }
 
 /// The last answer of receiver 0, which goes on until it finds nothing or the end.
-fn hear(rt: &impl Abort, world: &mut CyclicWorld<ThreeWord>) -> RecvTurn {
+fn hear(rt: &impl Abort, world: &mut World<ThreeWord>) -> RecvTurn {
     for _ in 0..99 {
         match world.step(&Event::Recv(0)) {
             Ok(Answer::Recv(RecvTurn::Empty)) => return RecvTurn::Empty,
@@ -57,7 +57,7 @@ fn hear(rt: &impl Abort, world: &mut CyclicWorld<ThreeWord>) -> RecvTurn {
 /// Wants that a put is answered so.
 fn puts(
     rt: &impl Abort,
-    world: &mut CyclicWorld<ThreeWord>,
+    world: &mut World<ThreeWord>,
     sender: u8,
     bytes: &[u8],
     want: Result<u64, StepFault>,
@@ -66,7 +66,7 @@ fn puts(
 }
 
 /// Wants that the last of at most 99 turns of a sender is answered so.
-fn comes_to(rt: &impl Abort, world: &mut CyclicWorld<ThreeWord>, sender: u64, want: Turn) {
+fn comes_to(rt: &impl Abort, world: &mut World<ThreeWord>, sender: u64, want: Turn) {
     assert_eq!(rt; turns(rt, world, sender, 99), want);
 }
 
@@ -80,13 +80,7 @@ fn delivered(tenure: u64, number: u64) -> Turn {
 }
 
 /// Wants that a sender owns this tenure, and sends the message with this number in it.
-fn sends(
-    rt: &impl Abort,
-    world: &mut CyclicWorld<ThreeWord>,
-    sender: u64,
-    tenure: u64,
-    number: u64,
-) {
+fn sends(rt: &impl Abort, world: &mut World<ThreeWord>, sender: u64, tenure: u64, number: u64) {
     comes_to(rt, world, sender, Turn::Own { tenure });
     comes_to(rt, world, sender, delivered(tenure, number));
 }
@@ -95,7 +89,7 @@ fn sends(
 /// by its sender and its number.
 fn holds<R: Abort + AllocGlobal>(
     rt: &R,
-    world: &CyclicWorld<ThreeWord>,
+    world: &World<ThreeWord>,
     given: usize,
     items: &[(u8, u64)],
 ) -> Result<(), Fail> {
@@ -155,11 +149,11 @@ fn rows_come_round(rt: HostRuntime) -> Result<(), Fail> {
 
 #[test]
 fn cyclic_limits(rt: HostRuntime) {
-    let one = CyclicWorld::<ThreeWord>::new(rt.alloc(), shape(1, 1, 16)).err();
+    let one = World::<ThreeWord>::cyclic(rt.alloc(), shape(1, 1, 16)).err();
     assert_eq!(rt; one, Some(MakeFault::Rows));
-    let nine = CyclicWorld::<ThreeWord>::new(rt.alloc(), shape(1, 9, 16)).err();
+    let nine = World::<ThreeWord>::cyclic(rt.alloc(), shape(1, 9, 16)).err();
     assert_eq!(rt; nine, Some(MakeFault::Rows));
-    let crowd = CyclicWorld::<ThreeWord>::new(rt.alloc(), shape(9, 9, 0)).err();
+    let crowd = World::<ThreeWord>::cyclic(rt.alloc(), shape(9, 9, 0)).err();
     assert_eq!(rt; crowd, Some(MakeFault::Senders));
 }
 
@@ -174,8 +168,8 @@ fn who_stops_is_refused(rt: HostRuntime) {
     assert_eq!(rt; world.stop(SenderNo(0)), Ok(()));
     assert_eq!(rt; world.stop(SenderNo(0)), Err(StepFault::Stopped));
     assert_eq!(rt; world.stop(SenderNo(2)), Err(StepFault::NoSuchSender));
-    assert!(rt; world.guest(SenderNo(1)).is_some());
-    assert!(rt; world.guest(SenderNo(2)).is_none());
+    assert!(rt; world.sender(SenderNo(1)).is_some());
+    assert!(rt; world.sender(SenderNo(2)).is_none());
     assert_eq!(rt; world.senders(), 2);
     assert_eq!(rt; world.word(Reg(1)), Some(2));
     assert!(rt; world.word(Reg(1000)).is_none());

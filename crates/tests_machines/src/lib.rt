@@ -1,13 +1,14 @@
-//! Tests of the machines: guests, both worlds, what replays and traces write. They stand above the
-//! crates that they test, so that none of those is proved once more for its tests.
+//! Tests of the machine: senders by themselves, the world with both kinds of rows, what replays and
+//! traces write. They stand above the crates that they test, so that none of those is proved once
+//! more for its tests.
 #![tactic(auto)]
 
 #[cfg(test)]
 mod cyclic;
 #[cfg(test)]
-mod guests;
-#[cfg(test)]
 mod replays;
+#[cfg(test)]
+mod senders;
 #[cfg(test)]
 mod traces;
 #[cfg(test)]

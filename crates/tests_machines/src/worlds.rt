@@ -5,9 +5,10 @@ mod stops;
 use bus_adoptcommit::ThreeWord;
 use bus_batch::{CloseFault, Item, PutFault};
 use bus_deliverylog::RecvTurn;
+use bus_machine::World;
 use bus_register::SenderNo;
 use bus_tenure::Turn;
-use bus_world::{Answer, Event, MakeFault, PlayFault, Shape, StepFault, World};
+use bus_world::{Answer, Event, MakeFault, PlayFault, Shape, StepFault};
 use std::process::Abort;
 use std::test::Fail;
 
@@ -144,8 +145,8 @@ fn what_is_refused(rt: HostRuntime) {
         Err(StepFault::Close(CloseFault::Pending))
     );
     assert_eq!(rt; world.close(SenderNo(0)), Ok(()));
-    assert!(rt; world.core(SenderNo(1)).is_some());
-    assert!(rt; world.core(SenderNo(2)).is_none());
+    assert!(rt; world.sender(SenderNo(1)).is_some());
+    assert!(rt; world.sender(SenderNo(2)).is_none());
     let events = [
         Event::Turn { sender: 0, word: 7 },
         Event::Recv(0),

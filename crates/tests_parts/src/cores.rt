@@ -1,8 +1,10 @@
 //! Turns of one sender over words of its own.
 
 use bus_adoptcommit::ThreeWord;
+use bus_core::SenderCore;
+use bus_presence::Pin;
 use bus_register::{Cells, Kind, Op, Reg, SenderNo};
-use bus_tenure::{Page, SenderCore, Turn};
+use bus_tenure::{Page, Turn};
 use std::process::Abort;
 use std::test::Fail;
 
@@ -81,8 +83,7 @@ fn alone_in_the_first_tenure(rt: HostRuntime) -> Result<(), Fail> {
     assert_eq!(rt; core.kind(), Some(Kind::StoreLength));
     assert_eq!(rt; step(&rt, &mut core, &mut cells), Turn::Going);
     assert_eq!(rt; word(&rt, &cells, LENGTH), 3);
-    assert!(rt; core.gives_back());
-    let page = core.hand();
+    let page = core.take_out().expect(&rt, "the page");
     assert_eq!(rt; page.next, [1, 0, 0, 0, 0, 0, 0, 0]);
     assert_eq!(rt; page.tenures, 1);
     assert_eq!(rt; page.words, 3);
@@ -185,5 +186,22 @@ fn an_ended_page_closes_it(rt: HostRuntime) -> Result<(), Fail> {
     assert_eq!(rt; turns(&rt, &mut core, &mut cells), Turn::Closed);
     assert!(rt; core.is_closed());
     assert_eq!(rt; core.pending(), 1);
+    Ok(())
+}
+
+#[test]
+fn where_rows_are_used_again_it_pins_its_tenure(rt: HostRuntime) -> Result<(), Fail> {
+    let mut cells = Cells::new(rt.alloc(), 40)?;
+    let mut core = SenderCore::<ThreeWord>::cyclic(2, SenderNo(1), 1, 2, 16);
+    assert_eq!(rt; core.may_begin(0), Some(0));
+    assert!(rt; core.put(b"a").is_ok());
+    assert_eq!(rt; core.pin(), Some(Pin::Away));
+    assert_eq!(rt; turns(&rt, &mut core, &mut cells), Turn::Own { tenure: 0 });
+    assert_eq!(rt; core.pin(), Some(Pin::Unpinning { tenure: 0 }));
+    assert!(rt; core.awaits_page());
+    core.lay(first_page());
+    assert_eq!(rt; core.kind(), Some(Kind::Withdraw));
+    assert_eq!(rt; step(&rt, &mut core, &mut cells), Turn::Going);
+    assert_eq!(rt; core.pin(), Some(Pin::Away));
     Ok(())
 }

@@ -5,8 +5,8 @@ ghost use Rattle.bus_pageslot.specs.Seats.{table_of};
 ghost use Rattle.bus_receiver.specs.Listening.{bus_of};
 
 use bus_adoptcommit::ThreeWord;
-use bus_pageslot::{CyclicBus, CyclicSender};
-use bus_receiver::CyclicReceiver;
+use bus_pageslot::{Bus, Sender};
+use bus_receiver::Receiver;
 use bus_register::SenderNo;
 use bus_tenure::Turn;
 use bus_world::Shape;
@@ -27,9 +27,9 @@ const TWO_ROWS: Shape = Shape {
 /// The number-th message is sent in a tenure of its own, and comes to the receiver.
 fn passes<R: Wait + Abort>(
     rt: &R,
-    bus: &CyclicBus<ThreeWord>,
-    sender: &mut CyclicSender<ThreeWord>,
-    receiver: &mut CyclicReceiver<ThreeWord>,
+    bus: &Bus<ThreeWord>,
+    sender: &mut Sender<ThreeWord>,
+    receiver: &mut Receiver<ThreeWord>,
     number: u64,
 )
     requires sender { table_of sender.old ≡ bus.now.table }
@@ -50,20 +50,13 @@ fn passes<R: Wait + Abort>(
 }
 
 /// The bus with its sender and its receiver.
-fn made(
-    rt: &impl Abort,
-    alloc: Global,
-) -> (
-    CyclicBus<ThreeWord>,
-    CyclicSender<ThreeWord>,
-    CyclicReceiver<ThreeWord>,
-)
+fn made(rt: &impl Abort, alloc: Global) -> (Bus<ThreeWord>, Sender<ThreeWord>, Receiver<ThreeWord>)
     ensures sender { table_of result.1 ≡ result.0.table }
     ensures receiver { bus_of result.2 ≡ result.0.table }
 {
-    let made = CyclicBus::new(alloc, TWO_ROWS);
+    let made = Bus::cyclic(alloc, TWO_ROWS);
     let (bus, mut senders, mut taps) = made.expect(rt, "memory");
-    let receiver = CyclicReceiver::new(taps.pop().expect(rt, "a seat"));
+    let receiver = Receiver::new(taps.pop().expect(rt, "a seat"));
     (bus, senders.pop().expect(rt, "a sender"), receiver)
 }
 

@@ -6,10 +6,11 @@ ghost use Rattle.bus_receiver.specs.Listening.{bus_of};
 
 use bus_adoptcommit::ThreeWord;
 use bus_deliverylog::read_log;
+use bus_machine::World;
 use bus_pageslot::{Bus, Ended, Sender, Tap};
 use bus_receiver::Receiver;
 use bus_tenure::Turn;
-use bus_world::{Answer, Event, Shape, StepFault, World};
+use bus_world::{Answer, Event, Shape, StepFault};
 use rand_core::Rng;
 use rand_pcg::Pcg32;
 use std::marker::Model;

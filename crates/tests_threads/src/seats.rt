@@ -1,4 +1,6 @@
-//! A bus as its callers use it, in one thread and in two.
+//! A bus as its callers use it, in one thread and in two. It has a row for each tenure, but in
+//! `cyclic`. What a test does is written over any ratifier and proved once; the test names the one
+//! at work.
 
 ghost use Rattle.std.specs.Prelude.{◌≡◌, ◌<◌, All};
 ghost use Rattle.bus_pageslot.specs.Seats.{table_of};
@@ -8,19 +10,21 @@ mod elections;
 mod making;
 mod stops;
 
-use self::making::{has_page_out, last_tap, left, made, one_and_four, pair, small, three};
-use bus_adoptcommit::ThreeWord;
+use self::making::{
+    has_page_out, last_of, last_tap, left, made, one_and_four, pair, pair_of, small, three,
+};
+use bus_adoptcommit::{Ratifier, ThreeWord};
 use bus_batch::{CloseFault, Item, Message, PutFault};
 use bus_deliverylog::read_log;
-use bus_pageslot::{BusOf, EndFault, Ended, Seatable, SenderOf, TapOf};
+use bus_pageslot::{Bus, EndFault, Ended, Sender, Tap};
 use bus_register::{Kind, SenderNo};
-use bus_tenure::{SenderCore, Turn};
+use bus_tenure::Turn;
 use bus_world::{MakeFault, Shape};
 use rand_pcg::Pcg32;
 use std::alloc::Global;
 use std::process::Abort;
 use std::sync::Wait;
-use std::thread::{Threads, join, map_vec};
+use std::thread::{Threads, join};
 
 /// One sender, two receivers, two tenures.
 const SMALL: Shape = Shape {
@@ -31,14 +35,10 @@ const SMALL: Shape = Shape {
     log_words: 64,
 };
 
-/// A sender of a bus with a row for each tenure, over the ratifier at work. What a test does is
-/// written of any sender and proved once, from what any promises; the test names the sender alone.
-type Apart = SenderCore<ThreeWord>;
-
 /// Puts a message, which is answered so.
-fn puts<S: Seatable + Drop>(
+fn puts<Q: Ratifier + Drop>(
     rt: &impl Abort,
-    sender: &mut SenderOf<S>,
+    sender: &mut Sender<Q>,
     bytes: &[u8],
     want: Result<u64, PutFault>,
 )
@@ -48,28 +48,24 @@ fn puts<S: Seatable + Drop>(
 }
 
 /// Closes, which is answered so.
-fn closes<S: Seatable + Drop>(
-    rt: &impl Abort,
-    sender: &mut SenderOf<S>,
-    want: Result<(), CloseFault>,
-)
+fn closes<Q: Ratifier + Drop>(rt: &impl Abort, sender: &mut Sender<Q>, want: Result<(), CloseFault>)
     ensures { table_of sender.new ≡ table_of sender.old }
 {
     assert_eq!(rt; sender.close(), want);
 }
 
 /// The next step is for this.
-fn is_due<S: Seatable + Drop>(rt: &impl Abort, sender: &SenderOf<S>, want: Kind) {
+fn is_due<Q: Ratifier + Drop>(rt: &impl Abort, sender: &Sender<Q>, want: Kind) {
     assert_eq!(rt; sender.kind(), Some(want));
 }
 
 /// So many messages wait, and the next one gets this number.
-fn has<S: Seatable + Drop>(rt: &impl Abort, sender: &SenderOf<S>, pending: u64, next: u64) {
+fn has<Q: Ratifier + Drop>(rt: &impl Abort, sender: &Sender<Q>, pending: u64, next: u64) {
     assert_eq!(rt; (sender.pending(), sender.next_number()), (pending, next));
 }
 
 /// One turn. Nothing is proved here of its answer, nor of what it did: runs see that.
-fn take_turn<S: Seatable + Drop>(bus: &BusOf<S>, sender: &mut SenderOf<S>, word: u32) -> Turn
+fn take_turn<Q: Ratifier + Drop>(bus: &Bus<Q>, sender: &mut Sender<Q>, word: u32) -> Turn
     requires { table_of sender.old ≡ bus.now.table }
     ensures { table_of sender.new ≡ bus.now.table }
 {
@@ -78,9 +74,9 @@ fn take_turn<S: Seatable + Drop>(bus: &BusOf<S>, sender: &mut SenderOf<S>, word:
 
 /// Turns, at most so many, up to the first answer that is not Going. Their words go from 0 up to
 /// below `words` and round again.
-fn first_answer<S: Seatable + Drop>(
-    bus: &BusOf<S>,
-    sender: &mut SenderOf<S>,
+fn first_answer<Q: Ratifier + Drop>(
+    bus: &Bus<Q>,
+    sender: &mut Sender<Q>,
     most: u32,
     words: u32,
 ) -> Turn
@@ -103,12 +99,7 @@ fn is_answer(rt: &impl Abort, found: Turn, want: Turn) {
 }
 
 /// Turns, each of which is to be answered so.
-fn turns<S: Seatable + Drop>(
-    rt: &impl Abort,
-    bus: &BusOf<S>,
-    sender: &mut SenderOf<S>,
-    want: &[Turn],
-)
+fn turns<Q: Ratifier + Drop>(rt: &impl Abort, bus: &Bus<Q>, sender: &mut Sender<Q>, want: &[Turn])
     requires { table_of sender.old ≡ bus.now.table }
     ensures { table_of sender.new ≡ bus.now.table }
 {
@@ -119,10 +110,10 @@ fn turns<S: Seatable + Drop>(
 }
 
 /// Loads one word below the length.
-fn loads_one<S: Seatable + Drop>(
+fn loads_one<Q: Ratifier + Drop>(
     rt: &impl Abort,
-    bus: &BusOf<S>,
-    tap: &mut TapOf<S>,
+    bus: &Bus<Q>,
+    tap: &mut Tap<Q>,
     place: u64,
     want: u64,
 )
@@ -135,7 +126,7 @@ fn loads_one<S: Seatable + Drop>(
 }
 
 /// Loads the length, and then the words below it.
-fn loads<S: Seatable + Drop>(rt: &impl Abort, bus: &BusOf<S>, tap: &mut TapOf<S>, want: &[u64])
+fn loads<Q: Ratifier + Drop>(rt: &impl Abort, bus: &Bus<Q>, tap: &mut Tap<Q>, want: &[u64])
     requires { tap.old.table_id ≡ bus.now.table }
     ensures { tap.new.table_id ≡ bus.now.table }
 {
@@ -171,8 +162,8 @@ const DELIVERED: Turn = Turn::Delivered {
 };
 
 /// A receiver that is told of a message, and one that it meets.
-fn tells_and_meets<S: Seatable + Drop, R: Abort>(rt: &R, alloc: Global) {
-    let (bus, mut sender, mut first, mut second) = small::<S>(rt, alloc);
+fn tells_and_meets<Q: Ratifier + Drop, R: Abort>(rt: &R, alloc: Global) {
+    let (bus, mut sender, mut first, mut second) = small::<Q>(rt, alloc);
     puts(rt, &mut sender, b"a", Ok(0));
     turns(rt, &bus, &mut sender, &[Turn::Going]);
     turns(rt, &bus, &mut sender, &TO_LAST_WORD);
@@ -191,12 +182,12 @@ fn tells_and_meets<S: Seatable + Drop, R: Abort>(rt: &R, alloc: Global) {
 
 #[test]
 fn told_and_meet(rt: HostRuntime) {
-    tells_and_meets::<Apart, HostRuntime>(&rt, rt.alloc());
+    tells_and_meets::<ThreeWord, HostRuntime>(&rt, rt.alloc());
 }
 
 /// In a tenure nothing more is put, and no close.
-fn is_busy<S: Seatable + Drop, R: Abort>(rt: &R, alloc: Global) {
-    let (bus, mut sender, _, _) = small::<S>(rt, alloc);
+fn is_busy<Q: Ratifier + Drop, R: Abort>(rt: &R, alloc: Global) {
+    let (bus, mut sender, _, _) = small::<Q>(rt, alloc);
     assert_eq!(rt; sender.number(), SenderNo(0));
     turns(rt, &bus, &mut sender, &[Turn::Idle]);
     puts(rt, &mut sender, b"a", Ok(0));
@@ -211,15 +202,15 @@ fn is_busy<S: Seatable + Drop, R: Abort>(rt: &R, alloc: Global) {
 
 #[test]
 fn busy_in_a_tenure(rt: HostRuntime) {
-    is_busy::<Apart, HostRuntime>(&rt, rt.alloc());
+    is_busy::<ThreeWord, HostRuntime>(&rt, rt.alloc());
 }
 
 /// Turns up to the first that is not going, at most so many, and sees what it answers. The words
 /// of its votes go from 0 to 4 and round again.
-fn goes<S: Seatable + Drop>(
+fn goes<Q: Ratifier + Drop>(
     rt: &impl Abort,
-    bus: &BusOf<S>,
-    sender: &mut SenderOf<S>,
+    bus: &Bus<Q>,
+    sender: &mut Sender<Q>,
     most: u32,
     want: Turn,
 )
@@ -245,11 +236,11 @@ fn ends_closed(rt: &impl Abort, ended: &Ended) {
 }
 
 /// Two receivers meet, from when on both know so many words.
-fn meet<S: Seatable + Drop>(
+fn meet<Q: Ratifier + Drop>(
     rt: &impl Abort,
-    bus: &BusOf<S>,
-    first: &mut TapOf<S>,
-    second: &mut TapOf<S>,
+    bus: &Bus<Q>,
+    first: &mut Tap<Q>,
+    second: &mut Tap<Q>,
     words: u64,
 )
     requires { (first.old.table_id ≡ bus.now.table) × (second.old.table_id ≡ bus.now.table) }
@@ -260,11 +251,11 @@ fn meet<S: Seatable + Drop>(
 }
 
 /// A sender tells a receiver, which knows so many words from then on.
-fn tells<S: Seatable + Drop>(
+fn tells<Q: Ratifier + Drop>(
     rt: &impl Abort,
-    bus: &BusOf<S>,
-    sender: &mut SenderOf<S>,
-    tap: &mut TapOf<S>,
+    bus: &Bus<Q>,
+    sender: &mut Sender<Q>,
+    tap: &mut Tap<Q>,
     words: u64,
 )
     requires { (table_of sender.old ≡ bus.now.table) × (tap.old.table_id ≡ bus.now.table) }
@@ -275,8 +266,8 @@ fn tells<S: Seatable + Drop>(
 }
 
 /// A message and a close, and what they leave behind.
-fn closes_and_ends<S: Seatable + Drop, R: Abort>(rt: &R, alloc: Global) {
-    let (bus, mut sender, mut first, mut second) = small::<S>(rt, alloc);
+fn closes_and_ends<Q: Ratifier + Drop, R: Abort>(rt: &R, alloc: Global) {
+    let (bus, mut sender, mut first, mut second) = small::<Q>(rt, alloc);
     puts(rt, &mut sender, b"a", Ok(0));
     goes(rt, &bus, &mut sender, 20, Turn::Own { tenure: 0 });
     goes(rt, &bus, &mut sender, 20, DELIVERED);
@@ -290,11 +281,11 @@ fn closes_and_ends<S: Seatable + Drop, R: Abort>(rt: &R, alloc: Global) {
 
 #[test]
 fn closed_and_ended(rt: HostRuntime) {
-    closes_and_ends::<Apart, HostRuntime>(&rt, rt.alloc());
+    closes_and_ends::<ThreeWord, HostRuntime>(&rt, rt.alloc());
 }
 
 /// A sender is dropped with the page.
-fn ends_with_page_out<S: Seatable + Drop, R: Abort>(rt: &R, alloc: Global) {
+fn ends_with_page_out<Q: Ratifier + Drop, R: Abort>(rt: &R, alloc: Global) {
     let shape = Shape {
         senders: 2,
         receivers: 1,
@@ -302,7 +293,7 @@ fn ends_with_page_out<S: Seatable + Drop, R: Abort>(rt: &R, alloc: Global) {
         rows: 256,
         log_words: 65536,
     };
-    let (bus, _, mut sender, tap) = pair::<S>(rt, alloc, shape);
+    let (bus, _, mut sender, tap) = pair::<Q>(rt, alloc, shape);
     puts(rt, &mut sender, b"a", Ok(0));
     goes(rt, &bus, &mut sender, 1000, Turn::Own { tenure: 0 });
     drop(sender);
@@ -311,7 +302,7 @@ fn ends_with_page_out<S: Seatable + Drop, R: Abort>(rt: &R, alloc: Global) {
 
 #[test]
 fn end_with_page_out(rt: HostRuntime) {
-    ends_with_page_out::<Apart, HostRuntime>(&rt, rt.alloc());
+    ends_with_page_out::<ThreeWord, HostRuntime>(&rt, rt.alloc());
 }
 
 /// So many items of senders 0 and 1, and so many words.
@@ -321,10 +312,10 @@ fn has_numbers(rt: &impl Abort, ended: &Ended, want: (u64, u64, usize)) {
 }
 
 /// Each takes 400 turns, one after one of the other. Says which of them delivered.
-fn alternate<S: Seatable + Drop>(
-    bus: &BusOf<S>,
-    first: &mut SenderOf<S>,
-    second: &mut SenderOf<S>,
+fn alternate<Q: Ratifier + Drop>(
+    bus: &Bus<Q>,
+    first: &mut Sender<Q>,
+    second: &mut Sender<Q>,
 ) -> (bool, bool)
     requires { (table_of first.old ≡ bus.now.table) × (table_of second.old ≡ bus.now.table) }
 {
@@ -341,7 +332,7 @@ fn alternate<S: Seatable + Drop>(
 }
 
 /// Two senders, of which the first takes one turn for each of the second's.
-fn take_turns<S: Seatable + Drop, R: Abort>(rt: &R, alloc: Global) {
+fn take_turns<Q: Ratifier + Drop, R: Abort>(rt: &R, alloc: Global) {
     let shape = Shape {
         senders: 2,
         receivers: 1,
@@ -349,7 +340,7 @@ fn take_turns<S: Seatable + Drop, R: Abort>(rt: &R, alloc: Global) {
         rows: 4,
         log_words: 64,
     };
-    let (bus, mut first, mut second, tap) = pair::<S>(rt, alloc, shape);
+    let (bus, mut first, mut second, tap) = pair::<Q>(rt, alloc, shape);
     puts(rt, &mut first, b"a", Ok(0));
     puts(rt, &mut second, b"b", Ok(0));
     let sent = alternate(&bus, &mut first, &mut second);
@@ -359,11 +350,11 @@ fn take_turns<S: Seatable + Drop, R: Abort>(rt: &R, alloc: Global) {
 
 #[test]
 fn two_senders_take_turns(rt: HostRuntime) {
-    take_turns::<Apart, HostRuntime>(&rt, rt.alloc());
+    take_turns::<ThreeWord, HostRuntime>(&rt, rt.alloc());
 }
 
 /// Sends three messages, one after another, and says whether all were delivered.
-fn sends_three<S: Seatable + Drop>(bus: &BusOf<S>, mut sender: SenderOf<S>) -> bool
+fn sends_three<Q: Ratifier + Drop>(bus: &Bus<Q>, mut sender: Sender<Q>) -> bool
     requires { table_of sender ≡ bus.now.table }
 {
     let first = sends(bus, &mut sender);
@@ -373,7 +364,7 @@ fn sends_three<S: Seatable + Drop>(bus: &BusOf<S>, mut sender: SenderOf<S>) -> b
 }
 
 /// Sends one message, and says whether it was delivered.
-fn sends<S: Seatable + Drop>(bus: &BusOf<S>, sender: &mut SenderOf<S>) -> bool
+fn sends<Q: Ratifier + Drop>(bus: &Bus<Q>, sender: &mut Sender<Q>) -> bool
     requires { table_of sender.old ≡ bus.now.table }
     ensures { table_of sender.new ≡ bus.now.table }
 {
@@ -383,7 +374,7 @@ fn sends<S: Seatable + Drop>(bus: &BusOf<S>, sender: &mut SenderOf<S>) -> bool
 }
 
 /// Turns until what waits is delivered.
-fn is_sent<S: Seatable + Drop>(bus: &BusOf<S>, sender: &mut SenderOf<S>) -> bool
+fn is_sent<Q: Ratifier + Drop>(bus: &Bus<Q>, sender: &mut Sender<Q>) -> bool
     requires { table_of sender.old ≡ bus.now.table }
     ensures { table_of sender.new ≡ bus.now.table }
 {
@@ -396,11 +387,11 @@ fn is_sent<S: Seatable + Drop>(bus: &BusOf<S>, sender: &mut SenderOf<S>) -> bool
 }
 
 /// Each of these two sends three messages in a thread of its own.
-fn both_send<S: Seatable + Drop + Send + Sync, R: Threads>(
+fn both_send<Q: Ratifier + Drop + Send + Sync, R: Threads>(
     rt: &R,
-    bus: &BusOf<S>,
-    first: SenderOf<S>,
-    second: SenderOf<S>,
+    bus: &Bus<Q>,
+    first: Sender<Q>,
+    second: Sender<Q>,
 ) -> (bool, bool)
     requires { (table_of first ≡ bus.now.table) × (table_of second ≡ bus.now.table) }
 {
@@ -412,7 +403,7 @@ fn both_send<S: Seatable + Drop + Send + Sync, R: Threads>(
 }
 
 /// Two senders, each in a thread of its own.
-fn threads_send<S: Seatable + Drop + Send + Sync, R: Threads + Abort + AllocGlobal>(rt: &R) {
+fn threads_send<Q: Ratifier + Drop + Send + Sync, R: Threads + Abort + AllocGlobal>(rt: &R) {
     let shape = Shape {
         senders: 2,
         receivers: 1,
@@ -420,22 +411,18 @@ fn threads_send<S: Seatable + Drop + Send + Sync, R: Threads + Abort + AllocGlob
         rows: 256,
         log_words: 1024,
     };
-    let (bus, first, second, tap) = pair::<S>(rt, rt.alloc(), shape);
+    let (bus, first, second, tap) = pair::<Q>(rt, rt.alloc(), shape);
     assert_eq!(rt; both_send(rt, &bus, first, second), (true, true));
     has_numbers(rt, &left(rt, bus, tap), (3, 3, 18));
 }
 
 #[test]
 fn two_threads_send(rt: HostRuntime) {
-    threads_send::<Apart, HostRuntime>(&rt);
+    threads_send::<ThreeWord, HostRuntime>(&rt);
 }
 
 /// Sends 20 messages, each in a tenure of its own, and says how many were delivered.
-fn sends_twenty<S: Seatable + Drop>(
-    wait: &impl Wait,
-    bus: &BusOf<S>,
-    mut sender: SenderOf<S>,
-) -> u32
+fn sends_twenty<Q: Ratifier + Drop>(wait: &impl Wait, bus: &Bus<Q>, mut sender: Sender<Q>) -> u32
     requires { table_of sender ≡ bus.now.table }
 {
     let mut rng = Pcg32::new(0, u64::from(sender.number().0));
@@ -450,15 +437,20 @@ fn sends_twenty<S: Seatable + Drop>(
     delivered
 }
 
-/// Each of these senders sends so in a thread of its own.
-fn send_at_once<S: Seatable + Drop + Send + Sync, R: Threads + Wait + Abort + Sync>(
+/// Each of these two sends so in a thread of its own.
+fn two_send_twenty<Q: Ratifier + Drop + Send + Sync, R: Threads + Wait + Sync>(
     rt: &R,
-    bus: &BusOf<S>,
-    senders: Vec<SenderOf<S>>,
-) -> Vec<u32>
-    requires { All (λ s. table_of s ≡ bus.now.table) senders.items }
+    bus: &Bus<Q>,
+    first: Sender<Q>,
+    second: Sender<Q>,
+) -> (u32, u32)
+    requires { (table_of first ≡ bus.now.table) × (table_of second ≡ bus.now.table) }
 {
-    map_vec(rt, senders, &|sender| sends_twenty(rt, bus, sender)).expect(rt, "memory")
+    join(
+        rt,
+        move || sends_twenty(rt, bus, first),
+        move || sends_twenty(rt, bus, second),
+    )
 }
 
 /// Twenty items of each of three senders, each in a tenure of its own.
@@ -472,10 +464,11 @@ fn has_sixty(rt: &impl Abort, ended: &Ended) {
     assert_eq!(rt; ended.log().len(), 180);
 }
 
-/// Three senders, each in a thread of its own.
-fn three_at_once<S: Seatable + Drop + Send + Sync, R: Threads + Wait + Abort + AllocGlobal + Sync>(
-    rt: &R,
-) {
+/// Two senders, each in a thread of its own, and a third one behind them.
+fn two_and_a_third<
+    Q: Ratifier + Drop + Send + Sync,
+    R: Threads + Wait + Abort + AllocGlobal + Sync,
+>(rt: &R) {
     let shape = Shape {
         senders: 3,
         receivers: 1,
@@ -483,23 +476,26 @@ fn three_at_once<S: Seatable + Drop + Send + Sync, R: Threads + Wait + Abort + A
         rows: 60,
         log_words: 1024,
     };
-    let (bus, senders, mut taps) = made::<S>(rt, rt.alloc(), shape);
+    let (bus, mut senders, mut taps) = made::<Q>(rt, rt.alloc(), shape);
     let tap = last_tap(rt, &bus, &mut taps);
-    let sent = send_at_once(rt, &bus, senders);
-    assert_eq!(rt; sent.as_slice(), [20, 20, 20].as_slice());
+    let third = last_of(rt, &bus, &mut senders);
+    let second = last_of(rt, &bus, &mut senders);
+    let first = last_of(rt, &bus, &mut senders);
+    assert_eq!(rt; two_send_twenty(rt, &bus, first, second), (20, 20));
+    assert_eq!(rt; sends_twenty(rt, &bus, third), 20);
     has_sixty(rt, &left(rt, bus, tap));
 }
 
 #[test]
-fn three_threads(rt: HostRuntime) {
-    three_at_once::<Apart, HostRuntime>(&rt);
+fn two_threads_and_a_third(rt: HostRuntime) {
+    two_and_a_third::<ThreeWord, HostRuntime>(&rt);
 }
 
 /// Turns at word 0 up to the first that is not going, at most so many, and sees what it answers.
-fn ends_in<S: Seatable + Drop>(
+fn ends_in<Q: Ratifier + Drop>(
     rt: &impl Abort,
-    bus: &BusOf<S>,
-    sender: &mut SenderOf<S>,
+    bus: &Bus<Q>,
+    sender: &mut Sender<Q>,
     most: u32,
     want: Turn,
 )
@@ -542,10 +538,10 @@ fn delivered(tenure: u64, number: u64) -> Turn {
 }
 
 /// The tenure is this sender's, which delivers the one message that waits, of this number.
-fn delivers<S: Seatable + Drop>(
+fn delivers<Q: Ratifier + Drop>(
     rt: &impl Abort,
-    bus: &BusOf<S>,
-    sender: &mut SenderOf<S>,
+    bus: &Bus<Q>,
+    sender: &mut Sender<Q>,
     tenure: u64,
     number: u64,
 )
@@ -565,8 +561,8 @@ fn lost(owner: u8) -> Turn {
 }
 
 /// A candidate changes while it is voted on.
-fn changes_candidate<S: Seatable + Drop, R: Abort + AllocGlobal>(rt: &R) {
-    let (bus, mut one, mut four, tap) = one_and_four::<S>(rt, rt.alloc());
+fn changes_candidate<Q: Ratifier + Drop, R: Abort + AllocGlobal>(rt: &R) {
+    let (bus, mut one, mut four, tap) = one_and_four::<Q>(rt, rt.alloc());
     assert_eq!(rt; (one.number(), four.number()), (SenderNo(1), SenderNo(4)));
     puts(rt, &mut one, b"a", Ok(0));
     puts(rt, &mut four, b"b", Ok(0));
@@ -579,7 +575,7 @@ fn changes_candidate<S: Seatable + Drop, R: Abort + AllocGlobal>(rt: &R) {
 
 #[test]
 fn candidate_changes(rt: HostRuntime) {
-    changes_candidate::<Apart, HostRuntime>(&rt);
+    changes_candidate::<ThreeWord, HostRuntime>(&rt);
 }
 
 /// Two items of sender 0, and then one of sender 1.
@@ -594,14 +590,14 @@ fn leaves_three<R: Abort + AllocGlobal>(rt: &R, ended: &Ended) {
 }
 
 /// A sender that comes late to an old tenure.
-fn comes_late<S: Seatable + Drop, R: Abort + AllocGlobal>(rt: &R) {
+fn comes_late<Q: Ratifier + Drop, R: Abort + AllocGlobal>(rt: &R) {
     let shape = Shape {
         senders: 2,
         receivers: 1,
         rows: 4,
         ..SMALL
     };
-    let (bus, mut zero, mut one, tap) = pair::<S>(rt, rt.alloc(), shape);
+    let (bus, mut zero, mut one, tap) = pair::<Q>(rt, rt.alloc(), shape);
     puts(rt, &mut zero, b"a", Ok(0));
     puts(rt, &mut one, b"b", Ok(0));
     ends_in(rt, &bus, &mut one, 1, Turn::Going);
@@ -615,12 +611,12 @@ fn comes_late<S: Seatable + Drop, R: Abort + AllocGlobal>(rt: &R) {
 
 #[test]
 fn late_to_an_old_tenure(rt: HostRuntime) {
-    comes_late::<Apart, HostRuntime>(&rt);
+    comes_late::<ThreeWord, HostRuntime>(&rt);
 }
 
 /// As many senders and receivers as the shape says, or no memory.
-fn makes_as_many<S: Seatable + Drop, R: Abort>(rt: &R, alloc: Global) {
-    match BusOf::<S>::new(alloc, SMALL) {
+fn makes_as_many<Q: Ratifier + Drop, R: Abort>(rt: &R, alloc: Global) {
+    match Bus::<Q>::new(alloc, SMALL) {
         Ok((_, senders, taps)) => assert_eq!(rt; (senders.len(), taps.len()), (1, 2)),
         Err(fault) => assert_eq!(rt; fault, MakeFault::NoMemory),
     }
@@ -628,12 +624,12 @@ fn makes_as_many<S: Seatable + Drop, R: Abort>(rt: &R, alloc: Global) {
 
 #[test]
 fn as_many_as_the_shape_says_unless_memory_is_refused(rt: HostRuntime) {
-    makes_as_many::<Apart, HostRuntime>(&rt, rt.alloc());
+    makes_as_many::<ThreeWord, HostRuntime>(&rt, rt.alloc());
 }
 
 /// A bus of this shape is refused so.
-fn refuses<S: Seatable + Drop, R: Abort>(rt: &R, alloc: Global, shape: Shape, fault: MakeFault) {
-    assert_eq!(rt; BusOf::<S>::new(alloc, shape).err(), Some(fault));
+fn refuses<Q: Ratifier + Drop, R: Abort>(rt: &R, alloc: Global, shape: Shape, fault: MakeFault) {
+    assert_eq!(rt; Bus::<Q>::new(alloc, shape).err(), Some(fault));
 }
 
 #[test]
@@ -642,5 +638,5 @@ fn shapes_that_are_refused(rt: HostRuntime) {
         receivers: 9,
         ..SMALL
     };
-    refuses::<Apart, HostRuntime>(&rt, rt.alloc(), shape, MakeFault::Receivers);
+    refuses::<ThreeWord, HostRuntime>(&rt, rt.alloc(), shape, MakeFault::Receivers);
 }

@@ -3,10 +3,11 @@
 
 use bus_adoptcommit::ThreeWord;
 use bus_deliverylog::RecvTurn;
+use bus_machine::World;
 use bus_replay::answer_to;
 use bus_script::{Lines, Outcome, Words, number_of};
 use bus_tenure::Turn;
-use bus_world::{Answer, Event, Shape, World};
+use bus_world::{Answer, Event, Shape};
 use std::process::Abort;
 
 /// What was put: for each sender the numbers that its messages carry, in 16 digits.

@@ -3,9 +3,10 @@
 use super::{made, recv, shape, turns};
 use bus_adoptcommit::ThreeWord;
 use bus_deliverylog::{RecvTurn, read_log};
+use bus_machine::World;
 use bus_register::SenderNo;
 use bus_tenure::Turn;
-use bus_world::{Answer, Event, World};
+use bus_world::{Answer, Event};
 use std::process::Abort;
 
 /// More turns than three senders have.
@@ -173,7 +174,7 @@ fn zero_stops(
             assert_eq!(rt; world.stop(SenderNo(0)), Ok(()));
             return true;
         }
-        let zero = world.core(SenderNo(0)).expect(rt, "sender 0");
+        let zero = world.sender(SenderNo(0)).expect(rt, "sender 0");
         if zero.kind().is_none() {
             return false;
         }

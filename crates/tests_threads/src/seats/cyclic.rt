@@ -5,7 +5,6 @@ ghost use Rattle.bus_pageslot.specs.Seats.{table_of};
 
 use super::*;
 use bus_deliverylog::RecvTurn;
-use bus_guest::Guest;
 
 /// Two senders and a receiver over two rows.
 const TWO_ROWS: Shape = Shape {
@@ -16,14 +15,34 @@ const TWO_ROWS: Shape = Shape {
     log_words: 64,
 };
 
-/// A sender of a bus whose rows are used again, over the ratifier at work.
-type Again = Guest<ThreeWord>;
+/// A bus of two senders and a receiver, whose rows are used again.
+fn pair_again<Q: Ratifier + Drop>(
+    rt: &impl Abort,
+    alloc: Global,
+    shape: Shape,
+) -> (Bus<Q>, Sender<Q>, Sender<Q>, Tap<Q>)
+    ensures senders { (table_of result.1 ≡ result.0.table)
+        × (table_of result.2 ≡ result.0.table) }
+    ensures tap { result.3.table_id ≡ result.0.table }
+{
+    pair_of(rt, Bus::cyclic(alloc, shape).expect(rt, "memory"))
+}
+
+/// A bus of this shape, whose rows are to be used again, is refused so.
+fn refuses_again<Q: Ratifier + Drop, R: Abort>(
+    rt: &R,
+    alloc: Global,
+    shape: Shape,
+    fault: MakeFault,
+) {
+    assert_eq!(rt; Bus::<Q>::cyclic(alloc, shape).err(), Some(fault));
+}
 
 /// So many turns of a receiver are answered with so many items.
-fn hears_items<S: Seatable + Drop>(
+fn hears_items<Q: Ratifier + Drop>(
     rt: &impl Abort,
-    bus: &BusOf<S>,
-    tap: &mut TapOf<S>,
+    bus: &Bus<Q>,
+    tap: &mut Tap<Q>,
     turns: u32,
     want: u32,
 )
@@ -52,8 +71,8 @@ const BEHIND: Turn = Turn::Behind {
 };
 
 /// A holder waits for a sender that pins an old tenure, and goes on once that has seen it.
-fn waits_behind<S: Seatable + Drop, R: Abort>(rt: &R, alloc: Global) {
-    let (bus, mut first, mut second, mut tap) = pair::<S>(rt, alloc, TWO_ROWS);
+fn waits_behind<Q: Ratifier + Drop, R: Abort>(rt: &R, alloc: Global) {
+    let (bus, mut first, mut second, mut tap) = pair_again::<Q>(rt, alloc, TWO_ROWS);
     puts(rt, &mut first, b"a", Ok(0));
     puts(rt, &mut second, b"b", Ok(0));
     ends_in(rt, &bus, &mut second, 3, Turn::Going);
@@ -74,12 +93,12 @@ fn waits_behind<S: Seatable + Drop, R: Abort>(rt: &R, alloc: Global) {
 
 #[test]
 fn holder_waits_behind(rt: HostRuntime) {
-    waits_behind::<Again, HostRuntime>(&rt, rt.alloc());
+    waits_behind::<ThreeWord, HostRuntime>(&rt, rt.alloc());
 }
 
 /// The row of tenure 0 is used again in tenure 2.
-fn comes_round<S: Seatable + Drop, R: Abort>(rt: &R, alloc: Global) {
-    let (bus, mut first, mut second, tap) = pair::<S>(rt, alloc, TWO_ROWS);
+fn comes_round<Q: Ratifier + Drop, R: Abort>(rt: &R, alloc: Global) {
+    let (bus, mut first, mut second, tap) = pair_again::<Q>(rt, alloc, TWO_ROWS);
     puts(rt, &mut first, b"a", Ok(0));
     puts(rt, &mut second, b"b", Ok(0));
     ends_in(rt, &bus, &mut second, 1, Turn::Going);
@@ -94,12 +113,12 @@ fn comes_round<S: Seatable + Drop, R: Abort>(rt: &R, alloc: Global) {
 
 #[test]
 fn rows_come_round(rt: HostRuntime) {
-    comes_round::<Again, HostRuntime>(&rt, rt.alloc());
+    comes_round::<ThreeWord, HostRuntime>(&rt, rt.alloc());
 }
 
 /// A holder that waits for a sender which is gone has the page for good.
-fn waits_for_good<S: Seatable + Drop, R: Abort>(rt: &R, alloc: Global) {
-    let (bus, mut first, mut second, tap) = pair::<S>(rt, alloc, TWO_ROWS);
+fn waits_for_good<Q: Ratifier + Drop, R: Abort>(rt: &R, alloc: Global) {
+    let (bus, mut first, mut second, tap) = pair_again::<Q>(rt, alloc, TWO_ROWS);
     puts(rt, &mut second, b"b", Ok(0));
     ends_in(rt, &bus, &mut second, 2, Turn::Going);
     drop(second);
@@ -113,8 +132,8 @@ fn waits_for_good<S: Seatable + Drop, R: Abort>(rt: &R, alloc: Global) {
 }
 
 #[test]
-fn stopped_visitor_keeps_the_page_out(rt: HostRuntime) {
-    waits_for_good::<Again, HostRuntime>(&rt, rt.alloc());
+fn stopped_participant_keeps_the_page_out(rt: HostRuntime) {
+    waits_for_good::<ThreeWord, HostRuntime>(&rt, rt.alloc());
 }
 
 #[test]
@@ -124,12 +143,12 @@ fn cyclic_limits(rt: HostRuntime) {
             rows: many,
             ..TWO_ROWS
         };
-        refuses::<Again, HostRuntime>(&rt, rt.alloc(), shape, MakeFault::Rows);
+        refuses_again::<ThreeWord, HostRuntime>(&rt, rt.alloc(), shape, MakeFault::Rows);
     }
 }
 
 /// Sends twenty messages one by one, and says how many of the answers were Delivered.
-fn sends_each<S: Seatable + Drop>(wait: &impl Wait, bus: &BusOf<S>, mut sender: SenderOf<S>) -> u32
+fn sends_each<Q: Ratifier + Drop>(wait: &impl Wait, bus: &Bus<Q>, mut sender: Sender<Q>) -> u32
     requires { table_of sender ≡ bus.now.table }
 {
     let mut rng = Pcg32::new(7, 7);
@@ -145,11 +164,11 @@ fn sends_each<S: Seatable + Drop>(wait: &impl Wait, bus: &BusOf<S>, mut sender: 
 }
 
 /// Each of these two sends twenty messages in a thread of its own.
-fn both_send_each<S: Seatable + Drop + Send + Sync, R: Threads + Wait + Sync>(
+fn both_send_each<Q: Ratifier + Drop + Send + Sync, R: Threads + Wait + Sync>(
     rt: &R,
-    bus: &BusOf<S>,
-    first: SenderOf<S>,
-    second: SenderOf<S>,
+    bus: &Bus<Q>,
+    first: Sender<Q>,
+    second: Sender<Q>,
 ) -> (u32, u32)
     requires { (table_of first ≡ bus.now.table) × (table_of second ≡ bus.now.table) }
 {
@@ -162,14 +181,14 @@ fn both_send_each<S: Seatable + Drop + Send + Sync, R: Threads + Wait + Sync>(
 
 /// Two senders, each in a thread of its own, use two rows again and again.
 fn threads_use_rows_again<
-    S: Seatable + Drop + Send + Sync,
+    Q: Ratifier + Drop + Send + Sync,
     R: Threads + Wait + Abort + AllocGlobal + Sync,
 >(rt: &R) {
     let shape = Shape {
         log_words: 256,
         ..TWO_ROWS
     };
-    let (bus, first, second, tap) = pair::<S>(rt, rt.alloc(), shape);
+    let (bus, first, second, tap) = pair_again::<Q>(rt, rt.alloc(), shape);
     assert_eq!(rt; both_send_each(rt, &bus, first, second), (20, 20));
     let ended = left(rt, bus, tap);
     has_items(rt, &ended, (20, 20));
@@ -178,5 +197,5 @@ fn threads_use_rows_again<
 
 #[test]
 fn two_threads_use_rows_again(rt: HostRuntime) {
-    threads_use_rows_again::<Again, HostRuntime>(&rt);
+    threads_use_rows_again::<ThreeWord, HostRuntime>(&rt);
 }

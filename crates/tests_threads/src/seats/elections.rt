@@ -6,10 +6,10 @@ ghost use Rattle.bus_pageslot.specs.Seats.{table_of};
 use super::*;
 
 /// So many turns with this word, each of which is answered Going.
-fn goes_on<S: Seatable + Drop>(
+fn goes_on<Q: Ratifier + Drop>(
     rt: &impl Abort,
-    bus: &BusOf<S>,
-    sender: &mut SenderOf<S>,
+    bus: &Bus<Q>,
+    sender: &mut Sender<Q>,
     turns: u32,
     word: u32,
 )
@@ -23,10 +23,10 @@ fn goes_on<S: Seatable + Drop>(
 }
 
 /// One turn with this word, which is answered so.
-fn answers<S: Seatable + Drop>(
+fn answers<Q: Ratifier + Drop>(
     rt: &impl Abort,
-    bus: &BusOf<S>,
-    sender: &mut SenderOf<S>,
+    bus: &Bus<Q>,
+    sender: &mut Sender<Q>,
     word: u32,
     want: Turn,
 )
@@ -41,11 +41,11 @@ const OWN: Turn = Turn::Own { tenure: 0 };
 
 /// A bus of two senders with one tenure, which both have begun, and where both have announced
 /// themselves: from now on they vote on one bit, sender 0 for 0 and sender 1 for 1.
-fn voters<S: Seatable + Drop>(
+fn voters<Q: Ratifier + Drop>(
     rt: &impl Abort,
     alloc: Global,
     rounds: u64,
-) -> (BusOf<S>, SenderOf<S>, SenderOf<S>)
+) -> (Bus<Q>, Sender<Q>, Sender<Q>)
     ensures { (table_of result.1 ≡ result.0.table) × (table_of result.2 ≡ result.0.table) }
 {
     let shape = Shape {
@@ -55,7 +55,7 @@ fn voters<S: Seatable + Drop>(
         rows: 1,
         log_words: 64,
     };
-    let (bus, mut zero, mut one, _) = pair::<S>(rt, alloc, shape);
+    let (bus, mut zero, mut one, _) = pair::<Q>(rt, alloc, shape);
     puts(rt, &mut zero, b"a", Ok(0));
     puts(rt, &mut one, b"b", Ok(0));
     goes_on(rt, &bus, &mut zero, 2, 0);
@@ -65,8 +65,8 @@ fn voters<S: Seatable + Drop>(
 
 /// A ratifier takes four steps, and decides where nobody else has begun it. Who comes after finds
 /// its proposal, so it takes three and the fallback.
-fn one_before_the_other<S: Seatable + Drop, R: Abort>(rt: &R, alloc: Global) {
-    let (bus, mut zero, mut one) = voters::<S>(rt, alloc, 1);
+fn one_before_the_other<Q: Ratifier + Drop, R: Abort>(rt: &R, alloc: Global) {
+    let (bus, mut zero, mut one) = voters::<Q>(rt, alloc, 1);
     goes_on(rt, &bus, &mut zero, 4, 0);
     is_due(rt, &zero, Kind::TakePage);
     goes_on(rt, &bus, &mut one, 3, 0);
@@ -77,8 +77,8 @@ fn one_before_the_other<S: Seatable + Drop, R: Abort>(rt: &R, alloc: Global) {
 
 /// Both have found no proposal before either stores one: neither commits, and the first at the
 /// fallback decides.
-fn by_the_fallback<S: Seatable + Drop, R: Abort>(rt: &R, alloc: Global) {
-    let (bus, mut zero, mut one) = voters::<S>(rt, alloc, 1);
+fn by_the_fallback<Q: Ratifier + Drop, R: Abort>(rt: &R, alloc: Global) {
+    let (bus, mut zero, mut one) = voters::<Q>(rt, alloc, 1);
     goes_on(rt, &bus, &mut zero, 2, 0);
     goes_on(rt, &bus, &mut one, 2, 0);
     goes_on(rt, &bus, &mut zero, 2, 0);
@@ -93,8 +93,8 @@ fn by_the_fallback<S: Seatable + Drop, R: Abort>(rt: &R, alloc: Global) {
 /// says 1, and its second ratifier commits that. Sender 1 votes tails alone: eight votes later the
 /// coin says 0, but it finds 1 proposed in the ratifier, adopts that, and brings it to the
 /// fallback.
-fn by_coins_that_disagree<S: Seatable + Drop, R: Abort>(rt: &R, alloc: Global) {
-    let (bus, mut zero, mut one) = voters::<S>(rt, alloc, 2);
+fn by_coins_that_disagree<Q: Ratifier + Drop, R: Abort>(rt: &R, alloc: Global) {
+    let (bus, mut zero, mut one) = voters::<Q>(rt, alloc, 2);
     goes_on(rt, &bus, &mut zero, 2, 0);
     goes_on(rt, &bus, &mut one, 2, 0);
     goes_on(rt, &bus, &mut zero, 2, 0);
@@ -112,28 +112,28 @@ fn by_coins_that_disagree<S: Seatable + Drop, R: Abort>(rt: &R, alloc: Global) {
 
 #[test]
 fn ballot_schedules(rt: HostRuntime) {
-    one_before_the_other::<Apart, HostRuntime>(&rt, rt.alloc());
-    by_the_fallback::<Apart, HostRuntime>(&rt, rt.alloc());
-    by_coins_that_disagree::<Apart, HostRuntime>(&rt, rt.alloc());
+    one_before_the_other::<ThreeWord, HostRuntime>(&rt, rt.alloc());
+    by_the_fallback::<ThreeWord, HostRuntime>(&rt, rt.alloc());
+    by_coins_that_disagree::<ThreeWord, HostRuntime>(&rt, rt.alloc());
     let nine = Shape {
         senders: 9,
         ..SMALL
     };
-    refuses::<Apart, HostRuntime>(&rt, rt.alloc(), nine, MakeFault::Senders);
+    refuses::<ThreeWord, HostRuntime>(&rt, rt.alloc(), nine, MakeFault::Senders);
     let no_rounds = Shape { rounds: 0, ..SMALL };
-    refuses::<Apart, HostRuntime>(&rt, rt.alloc(), no_rounds, MakeFault::Rounds);
+    refuses::<ThreeWord, HostRuntime>(&rt, rt.alloc(), no_rounds, MakeFault::Rounds);
 }
 
 /// Senders 1 and 4 of five, each of which always has something to send, up to where 4 has the page.
-fn claims<S: Seatable + Drop>(
+fn claims<Q: Ratifier + Drop>(
     rt: &impl Abort,
     alloc: Global,
-) -> (BusOf<S>, SenderOf<S>, SenderOf<S>, TapOf<S>)
+) -> (Bus<Q>, Sender<Q>, Sender<Q>, Tap<Q>)
     ensures senders { (table_of result.1 ≡ result.0.table)
         × (table_of result.2 ≡ result.0.table) }
     ensures tap { result.3.table_id ≡ result.0.table }
 {
-    let (bus, mut one, mut four, tap) = one_and_four::<S>(rt, alloc);
+    let (bus, mut one, mut four, tap) = one_and_four::<Q>(rt, alloc);
     puts(rt, &mut one, b"a", Ok(0));
     puts(rt, &mut four, b"b", Ok(0));
     goes_on(rt, &bus, &mut four, 14, 0);
@@ -143,8 +143,8 @@ fn claims<S: Seatable + Drop>(
 }
 
 /// Sender 4 gives the page back after one message, and has no tenure left for the next.
-fn gives_back<S: Seatable + Drop, R: Abort>(rt: &R, alloc: Global) {
-    let (bus, _, mut four, tap) = claims::<S>(rt, alloc);
+fn gives_back<Q: Ratifier + Drop, R: Abort>(rt: &R, alloc: Global) {
+    let (bus, _, mut four, tap) = claims::<Q>(rt, alloc);
     ends_in(rt, &bus, &mut four, 99, delivered(0, 0));
     puts(rt, &mut four, b"c", Ok(1));
     answers(rt, &bus, &mut four, 0, Turn::Spent);
@@ -154,16 +154,16 @@ fn gives_back<S: Seatable + Drop, R: Abort>(rt: &R, alloc: Global) {
 }
 
 /// Sender 4 is dropped with the page.
-fn keeps_the_page<S: Seatable + Drop, R: Abort>(rt: &R, alloc: Global) {
-    let (bus, _, four, tap) = claims::<S>(rt, alloc);
+fn keeps_the_page<Q: Ratifier + Drop, R: Abort>(rt: &R, alloc: Global) {
+    let (bus, _, four, tap) = claims::<Q>(rt, alloc);
     drop(four);
     has_page_out(rt, bus, tap);
 }
 
 #[test]
 fn claimants(rt: HostRuntime) {
-    gives_back::<Apart, HostRuntime>(&rt, rt.alloc());
-    keeps_the_page::<Apart, HostRuntime>(&rt, rt.alloc());
+    gives_back::<ThreeWord, HostRuntime>(&rt, rt.alloc());
+    keeps_the_page::<ThreeWord, HostRuntime>(&rt, rt.alloc());
     let no_rows = Shape { rows: 0, ..SMALL };
-    refuses::<Apart, HostRuntime>(&rt, rt.alloc(), no_rows, MakeFault::Rows);
+    refuses::<ThreeWord, HostRuntime>(&rt, rt.alloc(), no_rows, MakeFault::Rows);
 }

@@ -6,23 +6,23 @@ ghost use Rattle.bus_pageslot.specs.Seats.{table_of};
 use super::*;
 
 /// A bus of this shape with its senders and its receivers.
-pub(super) fn made<S: Seatable + Drop>(
+pub(super) fn made<Q: Ratifier + Drop>(
     rt: &impl Abort,
     alloc: Global,
     shape: Shape,
-) -> (BusOf<S>, Vec<SenderOf<S>>, Vec<TapOf<S>>)
+) -> (Bus<Q>, Vec<Sender<Q>>, Vec<Tap<Q>>)
     ensures senders { All (λ s. table_of s ≡ result.0.table) result.1.items }
     ensures taps { All (λ t. t.table_id ≡ result.0.table) result.2.items }
 {
-    BusOf::new(alloc, shape).expect(rt, "memory")
+    Bus::new(alloc, shape).expect(rt, "memory")
 }
 
 /// Takes the last sender off.
-pub(super) fn last_of<S: Seatable + Drop>(
+pub(super) fn last_of<Q: Ratifier + Drop>(
     rt: &impl Abort,
-    bus: &BusOf<S>,
-    senders: &mut Vec<SenderOf<S>>,
-) -> SenderOf<S>
+    bus: &Bus<Q>,
+    senders: &mut Vec<Sender<Q>>,
+) -> Sender<Q>
     requires { All (λ s. table_of s ≡ bus.now.table) senders.old.items }
     ensures sender { table_of result ≡ bus.now.table }
     ensures rest { All (λ s. table_of s ≡ bus.now.table) senders.new.items }
@@ -32,11 +32,11 @@ pub(super) fn last_of<S: Seatable + Drop>(
 }
 
 /// Takes the last receiver off.
-pub(super) fn last_tap<S: Seatable + Drop>(
+pub(super) fn last_tap<Q: Ratifier + Drop>(
     rt: &impl Abort,
-    bus: &BusOf<S>,
-    taps: &mut Vec<TapOf<S>>,
-) -> TapOf<S>
+    bus: &Bus<Q>,
+    taps: &mut Vec<Tap<Q>>,
+) -> Tap<Q>
     requires { All (λ t. t.table_id ≡ bus.now.table) taps.old.items }
     ensures tap { result.table_id ≡ bus.now.table }
     ensures rest { All (λ t. t.table_id ≡ bus.now.table) taps.new.items }
@@ -46,10 +46,10 @@ pub(super) fn last_tap<S: Seatable + Drop>(
 }
 
 /// The small bus with its sender and its receivers.
-pub(super) fn small<S: Seatable + Drop>(
+pub(super) fn small<Q: Ratifier + Drop>(
     rt: &impl Abort,
     alloc: Global,
-) -> (BusOf<S>, SenderOf<S>, TapOf<S>, TapOf<S>)
+) -> (Bus<Q>, Sender<Q>, Tap<Q>, Tap<Q>)
     ensures sender { table_of result.1 ≡ result.0.table }
     ensures taps { (result.2.table_id ≡ result.0.table)
         × (result.3.table_id ≡ result.0.table) }
@@ -63,16 +63,30 @@ pub(super) fn small<S: Seatable + Drop>(
 }
 
 /// A bus of two senders and a receiver.
-pub(super) fn pair<S: Seatable + Drop>(
+pub(super) fn pair<Q: Ratifier + Drop>(
     rt: &impl Abort,
     alloc: Global,
     shape: Shape,
-) -> (BusOf<S>, SenderOf<S>, SenderOf<S>, TapOf<S>)
+) -> (Bus<Q>, Sender<Q>, Sender<Q>, Tap<Q>)
     ensures senders { (table_of result.1 ≡ result.0.table)
         × (table_of result.2 ≡ result.0.table) }
     ensures tap { result.3.table_id ≡ result.0.table }
 {
-    let (bus, mut senders, mut taps) = made(rt, alloc, shape);
+    pair_of(rt, made(rt, alloc, shape))
+}
+
+/// Of such a bus, its last two senders and its last receiver.
+pub(super) fn pair_of<Q: Ratifier + Drop>(
+    rt: &impl Abort,
+    made: (Bus<Q>, Vec<Sender<Q>>, Vec<Tap<Q>>),
+) -> (Bus<Q>, Sender<Q>, Sender<Q>, Tap<Q>)
+    requires senders { All (λ s. table_of s ≡ made.0.table) made.1.items }
+    requires taps { All (λ t. t.table_id ≡ made.0.table) made.2.items }
+    ensures senders { (table_of result.1 ≡ result.0.table)
+        × (table_of result.2 ≡ result.0.table) }
+    ensures tap { result.3.table_id ≡ result.0.table }
+{
+    let (bus, mut senders, mut taps) = made;
     let second = last_of(rt, &bus, &mut senders);
     let first = last_of(rt, &bus, &mut senders);
     let tap = last_tap(rt, &bus, &mut taps);
@@ -80,10 +94,10 @@ pub(super) fn pair<S: Seatable + Drop>(
 }
 
 /// A bus of five senders with one tenure, its senders 1 and 4, and a receiver.
-pub(super) fn one_and_four<S: Seatable + Drop>(
+pub(super) fn one_and_four<Q: Ratifier + Drop>(
     rt: &impl Abort,
     alloc: Global,
-) -> (BusOf<S>, SenderOf<S>, SenderOf<S>, TapOf<S>)
+) -> (Bus<Q>, Sender<Q>, Sender<Q>, Tap<Q>)
     ensures senders { (table_of result.1 ≡ result.0.table)
         × (table_of result.2 ≡ result.0.table) }
     ensures tap { result.3.table_id ≡ result.0.table }
@@ -104,10 +118,10 @@ pub(super) fn one_and_four<S: Seatable + Drop>(
 }
 
 /// A bus of three senders and a receiver.
-pub(super) fn three<S: Seatable + Drop>(
+pub(super) fn three<Q: Ratifier + Drop>(
     rt: &impl Abort,
     alloc: Global,
-) -> (BusOf<S>, SenderOf<S>, SenderOf<S>, SenderOf<S>, TapOf<S>)
+) -> (Bus<Q>, Sender<Q>, Sender<Q>, Sender<Q>, Tap<Q>)
     ensures senders { (table_of result.1 ≡ result.0.table)
         × (table_of result.2 ≡ result.0.table) × (table_of result.3 ≡ result.0.table) }
     ensures tap { result.4.table_id ≡ result.0.table }
@@ -128,14 +142,14 @@ pub(super) fn three<S: Seatable + Drop>(
 }
 
 /// What the bus leaves behind, whose page is at home.
-pub(super) fn left<S: Seatable + Drop>(rt: &impl Abort, bus: BusOf<S>, tap: TapOf<S>) -> Ended
+pub(super) fn left<Q: Ratifier + Drop>(rt: &impl Abort, bus: Bus<Q>, tap: Tap<Q>) -> Ended
     requires { tap.table_id ≡ bus.table }
 {
     bus.end(tap).expect(rt, "the page is home")
 }
 
 /// The bus leaves nothing behind, since its page is out.
-pub(super) fn has_page_out<S: Seatable + Drop>(rt: &impl Abort, bus: BusOf<S>, tap: TapOf<S>)
+pub(super) fn has_page_out<Q: Ratifier + Drop>(rt: &impl Abort, bus: Bus<Q>, tap: Tap<Q>)
     requires { tap.table_id ≡ bus.table }
 {
     assert_eq!(rt; bus.end(tap).err(), Some(EndFault::PageOut));

@@ -71,7 +71,7 @@ const FOLLOWS: Seen = Seen {
 };
 
 /// Takes so many steps, and is dropped.
-fn stops<S: Seatable + Drop>(rt: &impl Abort, bus: &BusOf<S>, mut sender: SenderOf<S>, steps: u32)
+fn stops<Q: Ratifier + Drop>(rt: &impl Abort, bus: &Bus<Q>, mut sender: Sender<Q>, steps: u32)
     requires { table_of sender ≡ bus.now.table }
 {
     for _ in 0..steps {
@@ -85,7 +85,7 @@ fn stops<S: Seatable + Drop>(rt: &impl Abort, bus: &BusOf<S>, mut sender: Sender
 }
 
 /// Turns until one of them finds nothing more, and sees the messages that they give.
-fn hears<S: Seatable + Drop>(rt: &impl Abort, bus: &BusOf<S>, tap: &mut TapOf<S>, want: &[u8])
+fn hears<Q: Ratifier + Drop>(rt: &impl Abort, bus: &Bus<Q>, tap: &mut Tap<Q>, want: &[u8])
     requires { tap.old.table_id ≡ bus.now.table }
     ensures { tap.new.table_id ≡ bus.now.table }
 {
@@ -105,12 +105,7 @@ fn hears<S: Seatable + Drop>(rt: &impl Abort, bus: &BusOf<S>, tap: &mut TapOf<S>
 }
 
 /// Ends the bus, and sees the items of both senders, or that the page is out.
-fn ends<S: Seatable + Drop>(
-    rt: &impl Abort,
-    bus: BusOf<S>,
-    tap: TapOf<S>,
-    counts: Option<(u64, u64)>,
-)
+fn ends<Q: Ratifier + Drop>(rt: &impl Abort, bus: Bus<Q>, tap: Tap<Q>, counts: Option<(u64, u64)>)
     requires { tap.table_id ≡ bus.table }
 {
     match (bus.end(tap), counts) {
@@ -127,14 +122,14 @@ fn ends<S: Seatable + Drop>(
 }
 
 /// Sender 0 takes so many steps and is dropped, and sender 1 and the receiver go on.
-fn stops_after<S: Seatable + Drop, R: Abort>(rt: &R, alloc: Global, steps: u32, seen: &Seen) {
+fn stops_after<Q: Ratifier + Drop, R: Abort>(rt: &R, alloc: Global, steps: u32, seen: &Seen) {
     let shape = Shape {
         senders: 2,
         receivers: 1,
         rows: 4,
         ..SMALL
     };
-    let (bus, mut zero, mut one, mut tap) = pair::<S>(rt, alloc, shape);
+    let (bus, mut zero, mut one, mut tap) = pair::<Q>(rt, alloc, shape);
     puts(rt, &mut zero, b"a", Ok(0));
     puts(rt, &mut one, b"b", Ok(0));
     stops(rt, &bus, zero, steps);
@@ -155,7 +150,7 @@ fn sender_stops_after_each_step(rt: HostRuntime) {
             11 => WAITS_AND_HEARS,
             _ => FOLLOWS,
         };
-        stops_after::<Apart, HostRuntime>(&rt, rt.alloc(), steps, &seen);
+        stops_after::<ThreeWord, HostRuntime>(&rt, rt.alloc(), steps, &seen);
     }
 }
 
@@ -185,10 +180,10 @@ fn chooses(rt: &impl Abort, story: &mut Story, tenure: u64, owner: SenderNo) {
 }
 
 /// A turn of a sender, whose answer goes with all before it.
-fn goes_with<S: Seatable + Drop>(
+fn goes_with<Q: Ratifier + Drop>(
     rt: &impl Abort,
-    bus: &BusOf<S>,
-    sender: &mut SenderOf<S>,
+    bus: &Bus<Q>,
+    sender: &mut Sender<Q>,
     story: &mut Story,
 )
     requires { table_of sender.old ≡ bus.now.table }
@@ -212,12 +207,12 @@ fn goes_with<S: Seatable + Drop>(
 
 /// The three take turns until the first has taken so many steps, and it is dropped. Says whether
 /// it has: else no step was left for it.
-fn one_stops<S: Seatable + Drop>(
+fn one_stops<Q: Ratifier + Drop>(
     rt: &impl Abort,
-    bus: &BusOf<S>,
-    mut zero: SenderOf<S>,
-    one: &mut SenderOf<S>,
-    two: &mut SenderOf<S>,
+    bus: &Bus<Q>,
+    mut zero: Sender<Q>,
+    one: &mut Sender<Q>,
+    two: &mut Sender<Q>,
     steps: u32,
     story: &mut Story,
 ) -> bool
@@ -243,11 +238,11 @@ fn one_stops<S: Seatable + Drop>(
 }
 
 /// The other two go on.
-fn two_go_on<S: Seatable + Drop>(
+fn two_go_on<Q: Ratifier + Drop>(
     rt: &impl Abort,
-    bus: &BusOf<S>,
-    one: &mut SenderOf<S>,
-    two: &mut SenderOf<S>,
+    bus: &Bus<Q>,
+    one: &mut Sender<Q>,
+    two: &mut Sender<Q>,
     story: &mut Story,
 )
     requires { (table_of one.old ≡ bus.now.table) × (table_of two.old ≡ bus.now.table) }
@@ -262,11 +257,11 @@ fn two_go_on<S: Seatable + Drop>(
 }
 
 /// The words of the log, as a receiver loads them.
-fn words_of<S: Seatable + Drop>(
+fn words_of<Q: Ratifier + Drop>(
     rt: &impl Abort,
     alloc: Global,
-    bus: &BusOf<S>,
-    tap: &mut TapOf<S>,
+    bus: &Bus<Q>,
+    tap: &mut Tap<Q>,
 ) -> Vec<u64>
     requires { tap.old.table_id ≡ bus.now.table }
     ensures { tap.new.table_id ≡ bus.now.table }
@@ -289,10 +284,10 @@ fn are_whole(rt: &impl Abort, alloc: Global, words: &[u64], story: &Story) {
 }
 
 /// The bus ends with this log, unless somebody has the page.
-fn ends_as_told<S: Seatable + Drop>(
+fn ends_as_told<Q: Ratifier + Drop>(
     rt: &impl Abort,
-    bus: BusOf<S>,
-    tap: TapOf<S>,
+    bus: Bus<Q>,
+    tap: Tap<Q>,
     words: &[u64],
     story: &Story,
 )
@@ -309,13 +304,13 @@ fn ends_as_told<S: Seatable + Drop>(
 
 /// Under this schedule sender 0 stops after so many steps. Says who then has the page at the end;
 /// none where it never takes so many.
-fn plays<S: Seatable + Drop, R: Abort>(
+fn plays<Q: Ratifier + Drop, R: Abort>(
     rt: &R,
     alloc: Global,
     seed: u64,
     steps: u32,
 ) -> Option<Option<SenderNo>> {
-    let (bus, mut zero, mut one, mut two, mut tap) = three::<S>(rt, alloc);
+    let (bus, mut zero, mut one, mut two, mut tap) = three::<Q>(rt, alloc);
     puts(rt, &mut zero, b"a", Ok(0));
     puts(rt, &mut one, b"b", Ok(0));
     puts(rt, &mut two, b"c", Ok(0));
@@ -339,7 +334,7 @@ fn one_of_three_stops_after_each_step(rt: HostRuntime) {
     let (mut out, mut home) = (0u32, 0u32);
     for seed in 0..100 {
         for steps in 1..MOST_TURNS {
-            match plays::<Apart, HostRuntime>(&rt, rt.alloc(), seed, steps) {
+            match plays::<ThreeWord, HostRuntime>(&rt, rt.alloc(), seed, steps) {
                 Some(Some(_)) => out = out.saturating_add(1),
                 Some(None) => home = home.saturating_add(1),
                 None => break,

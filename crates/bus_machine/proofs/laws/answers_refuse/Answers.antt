@@ -1,5 +1,8 @@
-use Rattle.bus_machine.proofs.RefusalLaws.{answers_refused}
+use Rattle.bus_machine.proofs.RefusalLaws.{answers_refused, numbers_refused}
 use Rattle.bus_machine.proofs.laws.answers_refuse.Goals as goal
 
-pub returns : goal.returns
-returns g c machine number sender actions = answers_refused machine number sender actions
+pub returns-clause-turns : goal.returns-clause-turns
+returns-clause-turns g c machine number sender actions = answers_refused machine number sender actions
+
+pub returns-clause-numbers : goal.returns-clause-numbers
+returns-clause-numbers g c actions = numbers_refused actions

@@ -1,8 +1,13 @@
+use Rattle.bus_automaton.specs.Buses.{process_with, automaton_with}
 use Rattle.bus_pageslot.proofs.OnePage.{no_bus, no_page}
 use Rattle.bus_pageslot.proofs.laws.no_page_without_each_sender.Goals as goal
 
 pub returns-clause-shown : goal.returns-clause-shown
-returns-clause-shown g c shape s d sender_trail stored many me is = no_bus g.S.Seatable.process (g.S.Seatable.automaton shape) s many d sender_trail stored me is
+returns-clause-shown g c plan s v sender_trail stored many me is =
+    let P = process_with g.Q.Machine.kind_of g.Q.Machine.op g.Q.Machine.fed g.Q.Ratifier.protocol in
+    let A = automaton_with g.Q.Machine.kind_of g.Q.Machine.op g.Q.Machine.fed g.Q.Ratifier.protocol plan in
+    no_bus P A s many v sender_trail stored me is
 
 pub returns-clause-promised : goal.returns-clause-promised
-returns-clause-promised g c x s d sender_trail stored many me is = no_page g.S.Seatable.process x s many d sender_trail stored me is
+returns-clause-promised g c x s v sender_trail stored many me is =
+    no_page (process_with g.Q.Machine.kind_of g.Q.Machine.op g.Q.Machine.fed g.Q.Ratifier.protocol) x s many v sender_trail stored me is

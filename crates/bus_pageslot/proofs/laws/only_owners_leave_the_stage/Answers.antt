@@ -1,11 +1,22 @@
-use Rattle.bus_tenure.specs.Elections.{elections, election_with, layout_with}
-use Rattle.bus_world.proofs.Serving.{serves}
+use Rattle.bus_machine.proofs.Served.{served}
+use Rattle.bus_machine.specs.Telling.{OpensOnly}
+use Rattle.bus_tenure.specs.Elections.{elections}
+use Rattle.bus_automaton.specs.Buses.{process_with}
+use Rattle.bus_pageslot.proofs.Histories.{elector, sizes, rule_is, laws_are, sized}
 use Rattle.bus_pageslot.proofs.Staging.{owners_leave}
+use Rattle.bus_pageslot.proofs.Stepping.{OfEvents}
 use Rattle.bus_pageslot.proofs.laws.only_owners_leave_the_stage.Goals as goal
 
 pub returns : goal.returns
-returns g c shape s id m d word many t o r at due is_open leaves =
+unfolding process_with
+returns g c plan s id m d word many t o r at due is_open leaves =
     let Q = g.Q.Ratifier.protocol in
-    let X = election_with g.Q.Machine.kind_of g.Q.Machine.op g.Q.Machine.fed Q in
-    let y = serves g.Q.Machine.kind_of g.Q.Machine.op g.Q.Machine.fed Q g.met.Q.Machine.names_each_step g.met.Q.Ratifier.own_kinds shape.senders shape.rounds shape.rows shape.log_words (c.election_is_lawful.ensures.lawful.laws shape.rounds) in
-    owners_leave X (elections Q shape.rounds) (layout_with Q shape.senders shape.rounds shape.rows shape.log_words) y s r id m at d word many t o due is_open leaves
+    let X = elector g.Q.Machine.kind_of g.Q.Machine.op g.Q.Machine.fed Q plan in
+    let y = served g.Q.Machine.kind_of g.Q.Machine.op g.Q.Machine.fed Q g.met.Q.Machine.names_each_step g.met.Q.Ratifier.own_kinds plan.shape
+    (c.election_is_lawful.ensures.lawful.laws plan.shape.rounds) plan.reuse in
+    owners_leave X (elections Q plan.shape.rounds) (sizes g.Q.Machine.kind_of g.Q.Machine.op g.Q.Machine.fed Q plan) y plan.reuse
+    (laws_are g.Q.Machine.kind_of g.Q.Machine.op g.Q.Machine.fed Q plan (c.threads_may_go_by.ensures.automaton plan)) s
+    (rule_is g.Q.Machine.kind_of g.Q.Machine.op g.Q.Machine.fed Q plan s r) id m at d word many o due
+    (sized Q (OfEvents X (OpensOnly X)) (λ a b d e ok old T same rows reached event given new happens.
+    (c.events_keep_promise.ensures a b d e ok old T same rows reached event given new happens).2)
+    plan.shape plan.reuse) t is_open leaves

@@ -1,14 +1,15 @@
 use Rattle.std.proofs.Common.{◌<◌, ◌^◌, arith, subst, sym, ◌∙◌, ap}
 use Rattle.atomic_table.specs.Seated.{TableId}
+use Rattle.bus_automaton.specs.Buses.{process_with, automaton_with}
 use Rattle.bus_pageslot.proofs.Loads.{length_heard_allowed}
 use Rattle.bus_pageslot.proofs.ReaderLaws.{length_receiver_view, length_known, length_is_heard}
 use Rattle.bus_pageslot.proofs.listening.hear_length.Goals as goal
 
 pub load-length-requires : goal.load-length-requires
 load-length-requires g c =
-    let P = g.S.Seatable.process in
-    let A = g.S.Seatable.automaton c.args.shared.now.key in
-    let L = c.is_lawful.ensures.automaton c.args.shared.now.key in
+    let P = process_with g.Q.Machine.kind_of g.Q.Machine.op g.Q.Machine.fed g.Q.Ratifier.protocol in
+    let A = automaton_with g.Q.Machine.kind_of g.Q.Machine.op g.Q.Machine.fed g.Q.Ratifier.protocol c.args.shared.now.key in
+    let L = c.threads_may_go_by.ensures.automaton c.args.shared.now.key in
     let h = c.requires.receiver_view.1 in (
       c.requires.table,
       subst (λ (z : TableId). 0 < z.words) c.requires.table (let w = h.wide in let room = h.room in let behind = h.behind in omega arith),

@@ -3,6 +3,7 @@ use Rattle.atomic_table.specs.Seated.{TableId}
 use Rattle.atomic_table.specs.Table.{Allows}
 use Rattle.bus_deliverylog.specs.declared.receiving.RecvTurn.TheVariants as RecvTurn
 use Rattle.bus_deliverylog.specs.Receiving.{Receiving}
+use Rattle.bus_automaton.specs.Buses.{process_with, automaton_with}
 use Rattle.bus_pageslot.specs.Rule.{TableInvariant}
 use Rattle.bus_pageslot.specs.Seats.{IsReceiverView}
 use Rattle.bus_pageslot.specs.Listening.{FindsWord}
@@ -12,8 +13,8 @@ use Rattle.bus_pageslot.proofs.listening.hear_word.Goals as goal
 
 pub load-word-requires : goal.load-word-requires
 load-word-requires g c =
-    let P = g.S.Seatable.process in
-    let A = g.S.Seatable.automaton c.args.shared.now.key in
+    let P = process_with g.Q.Machine.kind_of g.Q.Machine.op g.Q.Machine.fed g.Q.Ratifier.protocol in
+    let A = automaton_with g.Q.Machine.kind_of g.Q.Machine.op g.Q.Machine.fed g.Q.Ratifier.protocol c.args.shared.now.key in
     let h = c.requires.receiver_view in
     let seat = c.args.seat.now in
     let place : c.place.result ≡ h.receiver_view.place = c.place.ensures.place ∙ h.fit.place in

@@ -1,5 +1,8 @@
 use Rattle.std.proofs.Common.{sym, ◌∙◌, ap, subst}
 use Rattle.atomic_table.specs.Table.{Joins}
+use Rattle.bus_core.specs.Senders.{Sender}
+use Rattle.bus_tenure.specs.Elections.{Elector}
+use Rattle.bus_automaton.specs.Buses.{process_with, automaton_with}
 use Rattle.bus_pageslot.specs.declared.rule.View.{View}
 use Rattle.bus_pageslot.specs.declared.rule.View.TheVariants.{Spent}
 use Rattle.bus_pageslot.specs.Rule.{TableInvariant, views_joined}
@@ -8,10 +11,10 @@ use Rattle.bus_pageslot.proofs.meetings.meeting.Goals as goal
 
 pub join_seat-requires : goal.join_seat-requires
 join_seat-requires g c =
-    let P = g.S.Seatable.process in
-    let A = g.S.Seatable.automaton c.args.shared.now.key in
-    let L = c.is_lawful.ensures.automaton c.args.shared.now.key in
-    let V : Type 0 = View g.row.S.Denot in
+    let P = process_with g.Q.Machine.kind_of g.Q.Machine.op g.Q.Machine.fed g.Q.Ratifier.protocol in
+    let A = automaton_with g.Q.Machine.kind_of g.Q.Machine.op g.Q.Machine.fed g.Q.Ratifier.protocol c.args.shared.now.key in
+    let L = c.threads_may_go_by.ensures.automaton c.args.shared.now.key in
+    let V : Type 0 = View (Sender (Elector g.row.Q.Denot)) in
     let n = c.requires.second in
     let v : V = c.args.seat.now.me.0 in (
       c.requires.table.0,
@@ -23,10 +26,10 @@ join_seat-requires g c =
 
 pub load-length-requires : goal.load-length-requires
 load-length-requires g c =
-    let P = g.S.Seatable.process in
-    let A = g.S.Seatable.automaton c.args.shared.now.key in
-    let L = c.is_lawful.ensures.automaton c.args.shared.now.key in
-    let V : Type 0 = View g.row.S.Denot in
+    let P = process_with g.Q.Machine.kind_of g.Q.Machine.op g.Q.Machine.fed g.Q.Ratifier.protocol in
+    let A = automaton_with g.Q.Machine.kind_of g.Q.Machine.op g.Q.Machine.fed g.Q.Ratifier.protocol c.args.shared.now.key in
+    let L = c.threads_may_go_by.ensures.automaton c.args.shared.now.key in
+    let V : Type 0 = View (Sender (Elector g.row.Q.Denot)) in
     let n = c.requires.second in
     let v : V = c.args.seat.now.me.0 in
     let m = c.join_seat.new.seat.me in
@@ -38,10 +41,10 @@ load-length-requires g c =
 
 pub split_seat-part-requires : goal.split_seat-part-requires
 split_seat-part-requires g c =
-    let P = g.S.Seatable.process in
-    let A = g.S.Seatable.automaton c.args.shared.now.key in
-    let L = c.is_lawful.ensures.automaton c.args.shared.now.key in
-    let V : Type 0 = View g.row.S.Denot in
+    let P = process_with g.Q.Machine.kind_of g.Q.Machine.op g.Q.Machine.fed g.Q.Ratifier.protocol in
+    let A = automaton_with g.Q.Machine.kind_of g.Q.Machine.op g.Q.Machine.fed g.Q.Ratifier.protocol c.args.shared.now.key in
+    let L = c.threads_may_go_by.ensures.automaton c.args.shared.now.key in
+    let V : Type 0 = View (Sender (Elector g.row.Q.Denot)) in
     let n = c.requires.second in
     let v : V = c.args.seat.now.me.0 in
     let m = c.join_seat.new.seat.me in

@@ -3,6 +3,7 @@ use Rattle.std.proofs.lemmas.Option.{same_Some}
 use Rattle.std.specs.Prelude.{IsSome}
 use Rattle.std.specs.Slots.{slots_items, slots_counts}
 use Rattle.bus_world.specs.Log.{words_read_from}
+use Rattle.bus_automaton.specs.Buses.{process_with, automaton_with}
 use Rattle.bus_pageslot.specs.Endings.{IsLeft}
 use Rattle.bus_pageslot.specs.Outcomes.{IsOutcome}
 use Rattle.bus_pageslot.proofs.Endings.{word_at, wide, fits, left_out, left_home, outcome_of}
@@ -10,9 +11,9 @@ use Rattle.bus_pageslot.proofs.outcomes.leave.Goals as goal
 
 pub word-stage-requires : goal.word-stage-requires
 word-stage-requires g c =
-    let P = g.S.Seatable.process in
-    let A = g.S.Seatable.automaton c.args.table.shared.key in
-    let L = c.is_lawful.ensures.automaton c.args.table.shared.key in
+    let P = process_with g.Q.Machine.kind_of g.Q.Machine.op g.Q.Machine.fed g.Q.Ratifier.protocol in
+    let A = automaton_with g.Q.Machine.kind_of g.Q.Machine.op g.Q.Machine.fed g.Q.Ratifier.protocol c.args.table.shared.key in
+    let L = c.threads_may_go_by.ensures.automaton c.args.table.shared.key in
     let n = c.requires.tap in
     let seat = c.args.seat in
     let ws = slots_items c.close_with-closed.result.words in
@@ -24,9 +25,9 @@ word-stage-requires g c =
 
 pub words_from-words-requires-clause-within : goal.words_from-words-requires-clause-within
 words_from-words-requires-clause-within g c =
-    let P = g.S.Seatable.process in
-    let A = g.S.Seatable.automaton c.args.table.shared.key in
-    let L = c.is_lawful.ensures.automaton c.args.table.shared.key in
+    let P = process_with g.Q.Machine.kind_of g.Q.Machine.op g.Q.Machine.fed g.Q.Ratifier.protocol in
+    let A = automaton_with g.Q.Machine.kind_of g.Q.Machine.op g.Q.Machine.fed g.Q.Ratifier.protocol c.args.table.shared.key in
+    let L = c.threads_may_go_by.ensures.automaton c.args.table.shared.key in
     let n = c.requires.tap in
     let seat = c.args.seat in
     let ws = slots_items c.close_with-closed.result.words in
@@ -40,9 +41,9 @@ words_from-words-requires-clause-within g c =
 
 pub words_from-words-requires-clause-roomy : goal.words_from-words-requires-clause-roomy
 words_from-words-requires-clause-roomy g c =
-    let P = g.S.Seatable.process in
-    let A = g.S.Seatable.automaton c.args.table.shared.key in
-    let L = c.is_lawful.ensures.automaton c.args.table.shared.key in
+    let P = process_with g.Q.Machine.kind_of g.Q.Machine.op g.Q.Machine.fed g.Q.Ratifier.protocol in
+    let A = automaton_with g.Q.Machine.kind_of g.Q.Machine.op g.Q.Machine.fed g.Q.Ratifier.protocol c.args.table.shared.key in
+    let L = c.threads_may_go_by.ensures.automaton c.args.table.shared.key in
     let n = c.requires.tap in
     let seat = c.args.seat in
     let ws = slots_items c.close_with-closed.result.words in
@@ -55,9 +56,9 @@ words_from-words-requires-clause-roomy g c =
 
 pub returns-then-stage-eq1-clause-out : goal.returns-then-stage-eq1-clause-out
 returns-then-stage-eq1-clause-out g c =
-    let P = g.S.Seatable.process in
-    let A = g.S.Seatable.automaton c.args.table.shared.key in
-    let L = c.is_lawful.ensures.automaton c.args.table.shared.key in
+    let P = process_with g.Q.Machine.kind_of g.Q.Machine.op g.Q.Machine.fed g.Q.Ratifier.protocol in
+    let A = automaton_with g.Q.Machine.kind_of g.Q.Machine.op g.Q.Machine.fed g.Q.Ratifier.protocol c.args.table.shared.key in
+    let L = c.threads_may_go_by.ensures.automaton c.args.table.shared.key in
     let n = c.requires.tap in
     let seat = c.args.seat in
     let ws = slots_items c.close_with-closed.result.words in
@@ -68,9 +69,9 @@ returns-then-stage-eq1-clause-out g c =
 
 pub unwrap-requires : goal.unwrap-requires
 unwrap-requires g c =
-    let P = g.S.Seatable.process in
-    let A = g.S.Seatable.automaton c.args.table.shared.key in
-    let L = c.is_lawful.ensures.automaton c.args.table.shared.key in
+    let P = process_with g.Q.Machine.kind_of g.Q.Machine.op g.Q.Machine.fed g.Q.Ratifier.protocol in
+    let A = automaton_with g.Q.Machine.kind_of g.Q.Machine.op g.Q.Machine.fed g.Q.Ratifier.protocol c.args.table.shared.key in
+    let L = c.threads_may_go_by.ensures.automaton c.args.table.shared.key in
     let n = c.requires.tap in
     let seat = c.args.seat in
     let ws = slots_items c.close_with-closed.result.words in
@@ -84,9 +85,9 @@ unwrap-requires g c =
 
 pub returns-clause-ended : goal.returns-clause-ended
 returns-clause-ended g c =
-    let P = g.S.Seatable.process in
-    let A = g.S.Seatable.automaton c.args.table.shared.key in
-    let L = c.is_lawful.ensures.automaton c.args.table.shared.key in
+    let P = process_with g.Q.Machine.kind_of g.Q.Machine.op g.Q.Machine.fed g.Q.Ratifier.protocol in
+    let A = automaton_with g.Q.Machine.kind_of g.Q.Machine.op g.Q.Machine.fed g.Q.Ratifier.protocol c.args.table.shared.key in
+    let L = c.threads_may_go_by.ensures.automaton c.args.table.shared.key in
     let n = c.requires.tap in
     let seat = c.args.seat in
     let ws = slots_items c.close_with-closed.result.words in
@@ -100,9 +101,9 @@ returns-clause-ended g c =
 
 pub invariant_of-result : goal.invariant_of-result
 invariant_of-result g c =
-    let P = g.S.Seatable.process in
-    let A = g.S.Seatable.automaton c.args.table.shared.key in
-    let L = c.is_lawful.ensures.automaton c.args.table.shared.key in
+    let P = process_with g.Q.Machine.kind_of g.Q.Machine.op g.Q.Machine.fed g.Q.Ratifier.protocol in
+    let A = automaton_with g.Q.Machine.kind_of g.Q.Machine.op g.Q.Machine.fed g.Q.Ratifier.protocol c.args.table.shared.key in
+    let L = c.threads_may_go_by.ensures.automaton c.args.table.shared.key in
     let n = c.requires.tap in
     let seat = c.args.seat in
     let ws = slots_items c.close_with-closed.result.words in

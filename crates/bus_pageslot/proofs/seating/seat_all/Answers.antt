@@ -1,5 +1,6 @@
 use Rattle.std.proofs.Common.{◌≡◌, [], ◌+◌, arith, subst, sym, ◌∙◌, ap}
 use Rattle.atomic_table.specs.Seated.{TableId}
+use Rattle.bus_automaton.specs.Buses.{process_with, automaton_with}
 use Rattle.bus_pageslot.specs.declared.rule.View.TheVariants.{Maker}
 use Rattle.bus_pageslot.specs.Buses.{IsNewSeat, AreNewSeats}
 use Rattle.bus_pageslot.proofs.Openings.{one_more}
@@ -10,8 +11,8 @@ seat_next-sender-requires-clause-wide g c = (ap (λ (z : TableId). z.words) c.lo
 
 pub loop-me-preserved : goal.loop-me-preserved
 loop-me-preserved g c =
-    let P = g.S.Seatable.process in
-    let A = g.S.Seatable.automaton c.args.shape in
+    let P = process_with g.Q.Machine.kind_of g.Q.Machine.op g.Q.Machine.fed g.Q.Ratifier.protocol in
+    let A = automaton_with g.Q.Machine.kind_of g.Q.Machine.op g.Q.Machine.fed g.Q.Ratifier.protocol c.args.plan in
     let table = c.args.shared.now.table_id in
     record {
       below = omega arith;
@@ -23,14 +24,14 @@ loop-me-preserved g c =
 
 pub returns-clause-senders : goal.returns-clause-senders
 returns-clause-senders g c =
-    let P = g.S.Seatable.process in
-    let A = g.S.Seatable.automaton c.args.shape in
-    let all : c.loop-me.me ≡ c.args.shape.senders = let b = c.loop-me.invariant.below in omega arith in
+    let P = process_with g.Q.Machine.kind_of g.Q.Machine.op g.Q.Machine.fed g.Q.Ratifier.protocol in
+    let A = automaton_with g.Q.Machine.kind_of g.Q.Machine.op g.Q.Machine.fed g.Q.Ratifier.protocol c.args.plan in
+    let all : c.loop-me.me ≡ c.args.plan.shape.senders = let b = c.loop-me.invariant.below in omega arith in
     subst (λ n. AreNewSeats P A c.args.shared.now.table_id n c.loop-me.senders.items) all c.loop-me.invariant.senders
 
 pub returns-clause-maker : goal.returns-clause-maker
 returns-clause-maker g c =
-    let P = g.S.Seatable.process in
-    let A = g.S.Seatable.automaton c.args.shape in
-    let all : c.loop-me.me ≡ c.args.shape.senders = let b = c.loop-me.invariant.below in omega arith in
+    let P = process_with g.Q.Machine.kind_of g.Q.Machine.op g.Q.Machine.fed g.Q.Ratifier.protocol in
+    let A = automaton_with g.Q.Machine.kind_of g.Q.Machine.op g.Q.Machine.fed g.Q.Ratifier.protocol c.args.plan in
+    let all : c.loop-me.me ≡ c.args.plan.shape.senders = let b = c.loop-me.invariant.below in omega arith in
     (c.loop-me.invariant.table, c.loop-me.invariant.maker ∙ ap (λ k. (Maker (A.started k), [])) all)

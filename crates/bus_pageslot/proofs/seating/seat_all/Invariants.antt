@@ -1,12 +1,13 @@
 use Rattle.std.proofs.Common.{◌≡◌, ◌≤◌, []}
+use Rattle.bus_automaton.specs.Buses.{process_with, automaton_with}
 use Rattle.bus_pageslot.specs.Buses.{AreNewSeats}
 use Rattle.bus_pageslot.specs.declared.rule.View.TheVariants.{Maker}
 use Rattle.bus_pageslot.proofs.seating.seat_all.Given as goal
 
 abbrev pub invariant-loop-me : goal.invariant-loop-me
 invariant-loop-me g l = record {
-  below : l.me ≤ l.shape.senders;
-  senders : AreNewSeats g.S.Seatable.process (g.S.Seatable.automaton l.shape) l.shared.table_id l.me l.senders.items;
+  below : l.me ≤ l.plan.shape.senders;
+  senders : AreNewSeats (process_with g.Q.Machine.kind_of g.Q.Machine.op g.Q.Machine.fed g.Q.Ratifier.protocol) (automaton_with g.Q.Machine.kind_of g.Q.Machine.op g.Q.Machine.fed g.Q.Ratifier.protocol l.plan) l.shared.table_id l.me l.senders.items;
   table : l.maker.table_id ≡ l.shared.table_id;
-  maker : l.maker.me ≡ (Maker ((g.S.Seatable.automaton l.shape).started l.me), []);
+  maker : l.maker.me ≡ (Maker ((automaton_with g.Q.Machine.kind_of g.Q.Machine.op g.Q.Machine.fed g.Q.Ratifier.protocol l.plan).started l.me), []);
 }

@@ -1,5 +1,6 @@
 use Rattle.std.proofs.Common.{◌≡◌, ◌+◌, arith, subst, sym, ◌∙◌, ap}
 use Rattle.atomic_table.specs.Seated.{TableId}
+use Rattle.bus_automaton.specs.Buses.{automaton_with}
 use Rattle.bus_pageslot.specs.Buses.{IsNewTap, AreNewTaps}
 use Rattle.bus_pageslot.proofs.Openings.{one_more_tap}
 use Rattle.bus_pageslot.proofs.seating.tap_all.Goals as goal
@@ -9,7 +10,7 @@ tap_next-tap-requires-clause-wide g c = ap (λ (z : TableId). z.words) c.loop.in
 
 pub loop-preserved : goal.loop-preserved
 loop-preserved g c =
-    let n = (g.S.Seatable.automaton c.args.shape).table_layout in
+    let n = (automaton_with g.Q.Machine.kind_of g.Q.Machine.op g.Q.Machine.fed g.Q.Ratifier.protocol c.args.plan).table_layout in
     let table = c.args.shared.now.table_id in
     record {
       below = omega arith;
@@ -21,5 +22,5 @@ loop-preserved g c =
 
 pub returns : goal.returns
 returns g c =
-    let all : c.loop.counter ≡ c.args.shape.receivers = let b = c.loop.invariant.below in omega arith in
-    subst (λ n. AreNewTaps (g.S.Seatable.automaton c.args.shape).table_layout c.args.shared.now.table_id n c.loop.taps.items) all c.loop.invariant.taps
+    let all : c.loop.counter ≡ c.args.plan.shape.receivers = let b = c.loop.invariant.below in omega arith in
+    subst (λ n. AreNewTaps (automaton_with g.Q.Machine.kind_of g.Q.Machine.op g.Q.Machine.fed g.Q.Ratifier.protocol c.args.plan).table_layout c.args.shared.now.table_id n c.loop.taps.items) all c.loop.invariant.taps

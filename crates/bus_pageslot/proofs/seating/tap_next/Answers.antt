@@ -1,6 +1,9 @@
 use Rattle.std.proofs.Common.{◌<◌, [], arith, subst, sym, ◌∙◌, ap}
 use Rattle.atomic_table.specs.Seated.{TableId}
 use Rattle.atomic_table.specs.Table.{Splits}
+use Rattle.bus_core.specs.Senders.{Sender}
+use Rattle.bus_tenure.specs.Elections.{Elector}
+use Rattle.bus_automaton.specs.Buses.{process_with, automaton_with}
 use Rattle.bus_pageslot.specs.declared.rule.View.{View}
 use Rattle.bus_pageslot.specs.declared.rule.View.TheVariants.{Tap}
 use Rattle.bus_pageslot.specs.ReceiverViews.{new_receiver_view}
@@ -10,22 +13,22 @@ use Rattle.bus_pageslot.proofs.seating.tap_next.Goals as goal
 
 pub split_seat-seat-requires : goal.split_seat-seat-requires
 split_seat-seat-requires g c =
-    let P = g.S.Seatable.process in
-    let M = c.is_lawful.ensures.automaton c.args.shape in
-    let A = g.S.Seatable.automaton c.args.shared.now.key in
+    let P = process_with g.Q.Machine.kind_of g.Q.Machine.op g.Q.Machine.fed g.Q.Ratifier.protocol in
+    let M = c.threads_may_go_by.ensures.automaton c.args.plan in
+    let A = automaton_with g.Q.Machine.kind_of g.Q.Machine.op g.Q.Machine.fed g.Q.Ratifier.protocol c.args.shared.now.key in
     let room = M.room in
     let behind = M.behind in (
       c.requires.table,
       subst (λ (t : TableId). 0 < t.words) c.requires.table (let w = c.requires.wide in omega arith),
-      subst (λ (v : View g.row.S.Denot). Splits (TableInvariant P A) c.args.maker.now.id v (tap_left v) (tap_right P v)) (sym (ap (λ m. m.0) c.requires.maker))
-          (tap_allowed P A (c.is_lawful.ensures.automaton c.args.shared.now.key) c.args.maker.now.id ((g.S.Seatable.automaton c.args.shape).started c.args.made)),
+      subst (λ (v : View (Sender (Elector g.row.Q.Denot))). Splits (TableInvariant P A) c.args.maker.now.id v (tap_left v) (tap_right P v)) (sym (ap (λ m. m.0) c.requires.maker))
+          (tap_allowed P A (c.threads_may_go_by.ensures.automaton c.args.shared.now.key) c.args.maker.now.id ((automaton_with g.Q.Machine.kind_of g.Q.Machine.op g.Q.Machine.fed g.Q.Ratifier.protocol c.args.plan).started c.args.made)),
     )
 
 pub seated-requires : goal.seated-requires
 seated-requires g c =
-    let P = g.S.Seatable.process in
-    let A = g.S.Seatable.automaton c.args.shape in
-    let M = c.is_lawful.ensures.automaton c.args.shape in
+    let P = process_with g.Q.Machine.kind_of g.Q.Machine.op g.Q.Machine.fed g.Q.Ratifier.protocol in
+    let A = automaton_with g.Q.Machine.kind_of g.Q.Machine.op g.Q.Machine.fed g.Q.Ratifier.protocol c.args.plan in
+    let M = c.threads_may_go_by.ensures.automaton c.args.plan in
     let split = c.split_seat-seat.ensures in
     record {
       table_layout = A.table_layout;
@@ -40,8 +43,8 @@ seated-requires g c =
 
 pub returns-clause-tap : goal.returns-clause-tap
 returns-clause-tap g c =
-    let P = g.S.Seatable.process in
-    let M = c.is_lawful.ensures.automaton c.args.shape in
+    let P = process_with g.Q.Machine.kind_of g.Q.Machine.op g.Q.Machine.fed g.Q.Ratifier.protocol in
+    let M = c.threads_may_go_by.ensures.automaton c.args.plan in
     let split = c.split_seat-seat.ensures in
     record {
       table_is = ap (λ s. s.table_id) c.seated.ensures ∙ split.3;

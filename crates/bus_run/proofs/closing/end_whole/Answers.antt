@@ -4,9 +4,9 @@ use Rattle.std.proofs.lemmas.List.{length-map}
 use Rattle.std.proofs.lemmas.Option.{slice_get_within}
 use Rattle.bus_deliverylog.specs.Orders.{of_sender}
 use Rattle.bus_pageslot.specs.Rule.{known_in}
-use Rattle.bus_world.specs.declared.shapes.Shape.{Shape}
+use Rattle.bus_automaton.specs.declared.plans.Plan.{Plan}
 use Rattle.bus_run.specs.Audit.{IsFair, IsFirstFault}
-use Rattle.bus_run.specs.Left.{Shown, IsLeftBy, IsToldByAll, number_of}
+use Rattle.bus_run.specs.Left.{Shown, run_plan, IsLeftBy, IsToldByAll, number_of}
 use Rattle.bus_run.specs.Stops.{HasSent, IsFirstUnsent, IsFirstMiscount, IsFirstUnfair, IsLate}
 use Rattle.bus_run.specs.Told.{HasTold}
 use Rattle.bus_run.specs.declared.faults.RunFault.{RunFault}
@@ -43,7 +43,7 @@ returns-in_err-ended-clause-late g c =
     let stays = c.in_err-ended.ensures.open in
     passed_up _ _ Late c.from_residual-in_err-ended.ensures (subst Late (sym stays.0) (
       c.requires.whole.one_sends,
-      inr (inl ((sent, room), refl, left_open _ c.args.shape c.requires.bus Ends last told stays.1)),
+      inr (inl ((sent, room), refl, left_open _ (run_plan c.args.shape) c.requires.bus Ends last told stays.1)),
     ))
 
 pub returns-in_err-all_sent-clause-late : goal.returns-in_err-all_sent-clause-late
@@ -62,7 +62,7 @@ returns-in_err-all_sent-clause-late g c =
       short.2,
       inr (inr (
         (sent, room),
-        leaves _ c.args.shape c.requires.bus Ends last ended.ended (IsFirstMiscount short.0 c.args.messages) told ended.ensures.of ended.ensures.left (λ order owners spells. (ended.ensures.closed order owners spells, (short.4 order owners spells).0, (short.4 order owners spells).1)),
+        leaves _ (run_plan c.args.shape) c.requires.bus Ends last ended.ended (IsFirstMiscount short.0 c.args.messages) told ended.ensures.of ended.ensures.left (λ order owners spells. (ended.ensures.closed order owners spells, (short.4 order owners spells).0, (short.4 order owners spells).1)),
       )),
     ))
 
@@ -81,7 +81,7 @@ returns-in_err-audit-clause-late g c =
     let notes = c.as_slice-2.ensures.value ∙ c.in_ok-first.ensures.notes in
     passed_up _ _ Late c.from_residual-in_err-audit.ensures (
       (sent, room),
-      leaves _ c.args.shape c.requires.bus Ends last ended.ended (IsFirstUnfair c.args.shape.senders c.args.messages heards why) told ended.ensures.of ended.ensures.left (λ order owners spells. (
+      leaves _ (run_plan c.args.shape) c.requires.bus Ends last ended.ended (IsFirstUnfair c.args.shape.senders c.args.messages heards why) told ended.ensures.of ended.ensures.left (λ order owners spells. (
         ended.ensures.closed order owners spells,
         c.in_ok-all_sent.ensures.ok order owners spells,
         subst (λ hs. IsFirstFault order hs why) notes (c.in_err-audit.ensures.fault order owners spells),
@@ -93,7 +93,7 @@ returns-clause-report g c =
     let left = c.in_ok-ended.ended in
     let many = c.args.messages in
     let known = known_in c.tell_all-told.result.me.0 in
-    let senders_are = c.in_ok-ended.ensures.of ∙ ap (λ (x : Shape). x.senders) c.requires.bus in
+    let senders_are = c.in_ok-ended.ensures.of ∙ ap (λ (x : Plan). x.shape.senders) c.requires.bus in
     record {
       senders_are = senders_are;
       left_behind = record {

@@ -1,5 +1,6 @@
 use Rattle.std.proofs.Common.{◌-◌, ◌++◌, ◌∙◌, string_bytes, sym, ap, subst}
 use Rattle.std.specs.Option.{option_map}
+use Rattle.bus_tenure.specs.Elections.{election_with}
 use Rattle.bus_script.specs.declared.line_numbers.LineNumber.TheVariants.{AtLine}
 use Rattle.bus_script.specs.LineNumbers.{refusal_line}
 use Rattle.bus_replay.specs.Told.{command_told}
@@ -10,21 +11,27 @@ use Rattle.bus_trace.proofs.playing.obey.Goals as goal
 
 pub returns-in-None-clause-obeyed : goal.returns-in-None-clause-obeyed
 returns-in-None-clause-obeyed g c =
-    let M = g.W.Traceable.moves in
-    let row = g.W.Traceable.shows (sizes_told c.args.memory_map) in
+    let P = g.Q.Ratifier.protocol in
+    let X = election_with g.Q.Machine.kind_of g.Q.Machine.op g.Q.Machine.fed P in
+    let p = sizes_told c.args.memory_map in
     let command = command_told c.in-Some.command in
     let old = string_bytes c.args.sheet.now.text in
     let new = string_bytes c.repeat.new.sheet.text in
-    answered M row c.args.bus.now (c.args.line.number, c.args.line.bytes.now) command c.repeat.new.bus old c.args.sheet.now.lines new c.repeat.new.sheet.lines (sym (ap (option_map command_told) c.in-Some.is) ∙ c.in_ok-command.ensures)
-    (subst (λ f. IsRepeated M row c.args.line.number c.args.bus.now command.event (command.times - 1) old c.args.sheet.now.lines new c.repeat.new.sheet.lines f c.repeat.new.bus) c.in-None.is c.in_ok-repeat.ensures.repeated)
+    answered X P p c.args.bus.now (c.args.line.number, c.args.line.bytes.now) c.repeat.new.bus old c.args.sheet.now.lines command new
+    c.repeat.new.sheet.lines (sym (ap (option_map command_told) c.in-Some.is) ∙ c.in_ok-command.ensures)
+    (subst (λ f. IsRepeated X P p c.args.line.number c.args.bus.now command.event (command.times - 1) old c.args.sheet.now.lines new
+    c.repeat.new.sheet.lines f c.repeat.new.bus) c.in-None.is c.in_ok-repeat.ensures.repeated)
 
 pub returns-clause-obeyed : goal.returns-clause-obeyed
 returns-clause-obeyed g c =
-    let M = g.W.Traceable.moves in
-    let row = g.W.Traceable.shows (sizes_told c.args.memory_map) in
+    let P = g.Q.Ratifier.protocol in
+    let X = election_with g.Q.Machine.kind_of g.Q.Machine.op g.Q.Machine.fed P in
+    let p = sizes_told c.args.memory_map in
     let command = command_told c.in-Some.command in
     let old = string_bytes c.args.sheet.now.text in
     let new = string_bytes c.repeat.new.sheet.text in
-    let stopped = subst (λ f. IsRepeated M row c.args.line.number c.args.bus.now command.event (command.times - 1) old c.args.sheet.now.lines new c.repeat.new.sheet.lines f c.repeat.new.bus) c.in-Some-2.is c.in_ok-repeat.ensures.repeated in
-    refused M row c.args.bus.now (c.args.line.number, c.args.line.bytes.now) command c.in-Some-2.fault c.repeat.new.bus old c.args.sheet.now.lines new (string_bytes c.push_refusal-in-Some-2.new.text) c.repeat.new.sheet.lines
+    let stopped = subst (λ f. IsRepeated X P p c.args.line.number c.args.bus.now command.event (command.times - 1) old
+    c.args.sheet.now.lines new c.repeat.new.sheet.lines f c.repeat.new.bus) c.in-Some-2.is c.in_ok-repeat.ensures.repeated in
+    refused X P p c.args.bus.now (c.args.line.number, c.args.line.bytes.now) c.repeat.new.bus old c.args.sheet.now.lines command
+    c.in-Some-2.fault new (string_bytes c.push_refusal-in-Some-2.new.text) c.repeat.new.sheet.lines
     (sym (ap (option_map command_told) c.in-Some.is) ∙ c.in_ok-command.ensures) stopped.0 stopped.1 (c.in_ok-push_refusal-in-Some-2.ensures ∙ ap (λ n. new ++ refusal_line (AtLine c.args.line.number) n) c.step_fault_name-name.ensures)

@@ -1,17 +1,27 @@
-use Rattle.std.proofs.Common.{◌*◌, arith, ap}
-use Rattle.bus_world.proofs.ViewingLaws.{few_words}
+use Rattle.std.proofs.Common.{sym, subst, arith}
+use Rattle.bus_trace.proofs.SizeLemmas.{AreFew, few_apart, few_again, rows_fit}
 use Rattle.bus_trace.proofs.words.memory_map_of.Goals as goal
+use Rattle.bus_trace.proofs.words.memory_map_of.Goals.{in-Shape, in-Cycle}
 
 pub overflow_mul-result : goal.overflow_mul-result
 overflow_mul-result g c =
-    let shape = c.args.shape in let served = c.requires in
-    let few = few_words shape.senders shape.rounds (g.Q.Ratifier.protocol.width shape.senders) shape.rows shape.log_words served.senders.1 served.rounds.1 (g.met.Q.Ratifier.narrow shape.senders (let z = served.senders.1 in omega arith)) served.rows.1 served.log_words.1 in
-    let words = ap (λ w. shape.rows * w) c.width-row.ensures.words in
+    let q = c.match-first.presences in
+    let few : AreFew q.0 q.1 = elim c.match-first.branch [
+      | in-Shape w ↦ subst (λ z. AreFew z.0 z.1) (sym w.presences-is) (few_apart c.args.first w.in-Shape.shape w.in-Shape.is c.requires)
+      | in-Cycle w ↦ subst (λ z. AreFew z.0 z.1) (sym w.presences-is) (few_again c.args.first w.in-Cycle.shape w.in-Cycle.is c.requires)
+    ] in
+    let all = rows_fit q.0 q.1 (g.Q.Ratifier.protocol.width q.0.senders) c.width-row.result few (g.met.Q.Ratifier.narrow q.0.senders
+    (let z = few.senders in omega arith)) c.width-row.ensures.words in
     omega arith
 
-pub overflow_add-result : goal.overflow_add-result
-overflow_add-result g c =
-    let shape = c.args.shape in let served = c.requires in
-    let few = few_words shape.senders shape.rounds (g.Q.Ratifier.protocol.width shape.senders) shape.rows shape.log_words served.senders.1 served.rounds.1 (g.met.Q.Ratifier.narrow shape.senders (let z = served.senders.1 in omega arith)) served.rows.1 served.log_words.1 in
-    let words = ap (λ w. shape.rows * w) c.width-row.ensures.words in
+pub overflow_add-result-2 : goal.overflow_add-result-2
+overflow_add-result-2 g c =
+    let q = c.match-first.presences in
+    let few : AreFew q.0 q.1 = elim c.match-first.branch [
+      | in-Shape w ↦ subst (λ z. AreFew z.0 z.1) (sym w.presences-is) (few_apart c.args.first w.in-Shape.shape w.in-Shape.is c.requires)
+      | in-Cycle w ↦ subst (λ z. AreFew z.0 z.1) (sym w.presences-is) (few_again c.args.first w.in-Cycle.shape w.in-Cycle.is c.requires)
+    ] in
+    let all = rows_fit q.0 q.1 (g.Q.Ratifier.protocol.width q.0.senders) c.width-row.result few (g.met.Q.Ratifier.narrow q.0.senders
+    (let z = few.senders in omega arith)) c.width-row.ensures.words in
+    let some = few.presences_few in
     omega arith

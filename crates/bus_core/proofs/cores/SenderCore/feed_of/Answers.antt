@@ -3,7 +3,7 @@ use Rattle.bus_tenure.specs.Elections.{election_with, elections}
 use Rattle.bus_core.specs.Table.{line_now}
 use Rattle.bus_core.specs.Telling.{FeedTells}
 use Rattle.bus_core.proofs.Kept.{keeps_line, Keeps}
-use Rattle.bus_guest.proofs.Laws.{elections_keep}
+use Rattle.bus_core.proofs.Reusing.Laws.{elections_keep}
 use Rattle.bus_core.proofs.cores.SenderCore.feed_of.Goals as goal
 
 pub invariant_of-self : goal.invariant_of-self

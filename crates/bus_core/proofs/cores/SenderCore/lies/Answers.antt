@@ -5,7 +5,7 @@ use Rattle.bus_core.specs.Places.{LiesAt}
 use Rattle.bus_core.specs.Senders.{Sender, situation}
 use Rattle.bus_core.specs.Table.{line_now}
 use Rattle.bus_core.proofs.Lying.{line_lies}
-use Rattle.bus_turning.proofs.Rows.{place_lies}
+use Rattle.bus_tenure.proofs.Rows.{place_lies}
 use Rattle.bus_core.proofs.cores.SenderCore.lies.Goals as goal
 
 pub returns : goal.returns

@@ -6,7 +6,7 @@ use Rattle.bus_core.specs.Senders.{Sender, situation}
 use Rattle.bus_core.specs.Table.{line}
 use Rattle.bus_core.proofs.Kept.{keeps_out, Keeps}
 use Rattle.bus_core.proofs.Stepped.{none_out, some_out, handed_step}
-use Rattle.bus_guest.proofs.Laws.{elections_keep}
+use Rattle.bus_core.proofs.Reusing.Laws.{elections_keep}
 use Rattle.bus_core.proofs.cores.SenderCore.take_out_of.Goals as goal
 
 pub returns-in-None-clause-page : goal.returns-in-None-clause-page

@@ -1,5 +1,5 @@
 use Rattle.std.proofs.Common.{map, refl, arith, ap}
-use Rattle.bus_guest.proofs.Widths.{few_words}
+use Rattle.bus_core.proofs.Reusing.Widths.{few_words}
 use Rattle.bus_machine.proofs.NewSenders.{made_new, made_held}
 use Rattle.bus_machine.specs.Machine.{New}
 use Rattle.bus_tenure.specs.Elections.{election_with}

@@ -1,0 +1,39 @@
+-- A bus of no plan is refused for two causes, and one that is served has sizes that an automaton begins with.
+use Rattle.std.proofs.Common.{◌≡◌, ℕ, ◌≤◌, Bool, Option, Some, None, refl, sym, subst, arith}
+use Rattle.bus_adoptcommit.specs.declared.verdicts.Verdict.{Verdict}
+use Rattle.bus_core.specs.declared.limits.TheConstants.{LEAST_ROWS_AGAIN}
+use Rattle.bus_machine.specs.Playing.{layout_of, IsServed, ShapeOf, MakeRefused}
+use Rattle.bus_machine.specs.Promise.{HasRows}
+use Rattle.bus_register.specs.Protocol.{Protocol}
+use Rattle.bus_world.specs.Bus.{IsLayout}
+use Rattle.bus_world.specs.declared.shapes.MakeFault.{MakeFault}
+use Rattle.bus_world.specs.declared.shapes.MakeFault.TheVariants as make
+use Rattle.bus_world.specs.declared.shapes.Shape.{Shape}
+
+-- of two causes that differ, one says that a size is within its range, and the other that it is beyond
+pub one_cause : (shape : Shape) (reuse : Option ℕ) (why other : MakeFault) → MakeRefused shape reuse why
+    → MakeRefused shape reuse other → why ≡ other
+one_cause shape reuse make.Senders make.Senders r s = refl
+one_cause shape reuse make.Receivers make.Receivers r s = refl
+one_cause shape reuse make.Rounds make.Rounds r s = refl
+one_cause shape reuse make.Rows make.Rows r s = refl
+one_cause shape reuse make.LogWords make.LogWords r s = refl
+one_cause shape reuse make.NoMemory make.NoMemory r s = refl
+one_cause shape reuse why other r s = absurd (omega arith)
+
+pub is_layout : {S : Type 0} (P : Protocol S Bool Verdict) (shape : Shape) (reuse : Option ℕ) → IsServed shape reuse
+    → IsLayout (layout_of P shape reuse)
+is_layout P shape None h = record {
+  senders = h.senders.1;
+  rows = (let z = h.rows.1 in omega arith);
+  capacity = (let z = h.log_words.1 in omega arith);
+}
+is_layout P shape (Some rows) h = record {
+  senders = h.senders.1;
+  rows = omega arith;
+  capacity = (let z = h.log_words.1 in omega arith);
+}
+
+pub has_rows : (shape : Shape) (reuse : Option ℕ) → IsServed shape reuse → ShapeOf shape reuse → HasRows reuse
+has_rows shape None h k = tt
+has_rows shape (Some rows) h k = subst (λ n. LEAST_ROWS_AGAIN ≤ n) (sym k) h.rows.0

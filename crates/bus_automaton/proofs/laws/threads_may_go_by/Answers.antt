@@ -1,0 +1,43 @@
+use Rattle.bus_machine.proofs.Served.{served}
+use Rattle.bus_machine.specs.Playing.{layout_of}
+use Rattle.bus_tenure.specs.Elections.{elections, election_with}
+use Rattle.bus_world.proofs.Serving.{serves}
+use Rattle.bus_automaton.specs.Buses.{process_with, automaton_with}
+use Rattle.bus_automaton.proofs.Beginning.{opens}
+use Rattle.bus_automaton.proofs.HandedTells.{handed_tells}
+use Rattle.bus_automaton.proofs.Lawful.{process_laws, automaton_laws}
+use Rattle.bus_automaton.proofs.ServedPlans.{one_cause, is_layout, has_rows}
+use Rattle.bus_automaton.proofs.laws.threads_may_go_by.Goals as goal
+
+pub returns-clause-process : goal.returns-clause-process
+unfolding process_with
+returns-clause-process g c =
+    let P = g.Q.Ratifier.protocol in
+    let X = election_with g.Q.Machine.kind_of g.Q.Machine.op g.Q.Machine.fed P in
+    let law = c.election_is_lawful.ensures.lawful.laws 0 in
+    process_laws X (elections P 0) law
+    (serves g.Q.Machine.kind_of g.Q.Machine.op g.Q.Machine.fed P g.met.Q.Machine.names_each_step g.met.Q.Ratifier.own_kinds 0 0 0 0 law).named
+
+pub returns-clause-tells : goal.returns-clause-tells
+unfolding process_with
+returns-clause-tells g c v got word answer w =
+    handed_tells (election_with g.Q.Machine.kind_of g.Q.Machine.op g.Q.Machine.fed g.Q.Ratifier.protocol) v got word answer w
+
+pub returns-clause-one_cause : goal.returns-clause-one_cause
+returns-clause-one_cause g c plan why other r s = one_cause plan.shape plan.reuse why other r s
+
+pub returns-clause-automaton : goal.returns-clause-automaton
+unfolding process_with automaton_with
+returns-clause-automaton g c plan =
+    let P = g.Q.Ratifier.protocol in
+    let X = election_with g.Q.Machine.kind_of g.Q.Machine.op g.Q.Machine.fed P in
+    automaton_laws X (elections P plan.shape.rounds) (layout_of P plan.shape plan.reuse)
+    (served g.Q.Machine.kind_of g.Q.Machine.op g.Q.Machine.fed P g.met.Q.Machine.names_each_step g.met.Q.Ratifier.own_kinds plan.shape
+    (c.election_is_lawful.ensures.lawful.laws plan.shape.rounds) plan.reuse) plan.reuse
+
+pub returns-clause-opens : goal.returns-clause-opens
+unfolding process_with automaton_with
+returns-clause-opens g c plan h =
+    let P = g.Q.Ratifier.protocol in
+    let X = election_with g.Q.Machine.kind_of g.Q.Machine.op g.Q.Machine.fed P in
+    opens X (layout_of P plan.shape plan.reuse) plan.reuse (is_layout P plan.shape plan.reuse h.0) (has_rows plan.shape plan.reuse h.0 h.1)

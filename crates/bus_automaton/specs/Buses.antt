@@ -1,0 +1,40 @@
+-- A sender of any ratifier as a process, and a bus of any plan that has such senders as an automaton. Neither unfolds of itself, so that what
+-- threads do is said, and proved, by their laws alone.
+use Rattle.std.specs.Prelude.{ℕ, Bool, Option}
+use Rattle.bus_register.specs.declared.kinds.Kind.{Kind}
+use Rattle.bus_register.specs.declared.registers.Op.{Op}
+use Rattle.bus_register.specs.Protocol.{Protocol}
+use Rattle.bus_adoptcommit.specs.declared.verdicts.Verdict.{Verdict}
+use Rattle.bus_core.specs.Senders.{Sender}
+use Rattle.bus_machine.specs.Playing.{layout_of, IsServed, ShapeOf, MakeRefused}
+use Rattle.bus_tenure.specs.Elections.{Elector, Ratifying, election_with}
+use Rattle.bus_world.specs.declared.shapes.MakeFault.{MakeFault}
+use Rattle.bus_automaton.specs.declared.plans.Plan.{Plan}
+use Rattle.bus_automaton.specs.Processes.{Process, Automaton}
+use Rattle.bus_automaton.specs.OneProcess.{process_of}
+use Rattle.bus_automaton.specs.OneAutomaton.{bus_of}
+
+-- a sender, made of a ratifier's members one by one
+unfoldable pub process_with : {S : Type 0} → (S → Option Kind) → (S → ℕ → Option Op) → (S → ℕ → ℕ → S)
+    → Protocol S Bool Verdict → Process (Sender (Elector S))
+process_with kind op fed P = process_of (election_with kind op fed P)
+
+-- and the bus of this plan
+unfoldable pub automaton_with : {S : Type 0} → (S → Option Kind) → (S → ℕ → Option Op) → (S → ℕ → ℕ → S)
+    → Protocol S Bool Verdict → Plan → Automaton (Sender (Elector S))
+automaton_with kind op fed P plan = bus_of (election_with kind op fed P) (layout_of P plan.shape plan.reuse) plan.reuse
+
+-- of all of them
+abbrev pub process_by : {S : Type 0} → Ratifying S → Process (Sender (Elector S))
+process_by q = process_with q.kind_of q.op q.fed q.protocol
+
+abbrev pub automaton_by : {S : Type 0} → Ratifying S → Plan → Automaton (Sender (Elector S))
+automaton_by q = automaton_with q.kind_of q.op q.fed q.protocol
+
+-- a bus of this plan is served: its sizes are, and rows that are used again are as many as its shape has
+abbrev pub Serves : Plan → Type 0
+Serves plan = IsServed plan.shape plan.reuse × ShapeOf plan.shape plan.reuse
+
+-- why no bus of this plan is made
+abbrev pub Refuses : Plan → MakeFault → Type 0
+Refuses plan why = MakeRefused plan.shape plan.reuse why

@@ -1,0 +1,164 @@
+-- What processes and automata owe, so that threads may go by them.
+use Rattle.std.specs.Prelude.{◌≡◌, ◌≢◌, ◌⊎◌, ℕ, ◌+◌, ◌%◌, ◌<◌, ◌≤◌, true, false, Option, Some, is_some, List, [], ◌∷◌, ◌++◌, All, length, map, replicate, slice_index}
+use Rattle.bus_register.specs.declared.kinds.Kind.{Kind}
+use Rattle.bus_register.specs.declared.registers.Op.{Op}
+use Rattle.bus_register.specs.declared.registers.Op.TheVariants.{Store}
+use Rattle.bus_register.specs.declared.registers.SenderNo.{SenderNo}
+use Rattle.bus_register.specs.Words.{register, SumFits}
+use Rattle.bus_batch.specs.Batches.{next_of, CanPut, CanClose}
+use Rattle.bus_batch.specs.declared.batches.Phase.TheVariants.{Closing}
+use Rattle.bus_batch.specs.declared.messages.Item.{Item}
+use Rattle.bus_batch.specs.Frames.{Frame, AreFrames, Order, Spells, log_words, order_of}
+use Rattle.bus_deliverylog.specs.Orders.{of_sender}
+use Rattle.bus_deliverylog.specs.declared.receiving.RecvTurn.{RecvTurn}
+use Rattle.bus_tenure.specs.Situations.{Comes}
+use Rattle.bus_tenure.specs.declared.pages.Page.{Page}
+use Rattle.bus_tenure.specs.declared.turns.Turn.{Turn}
+use Rattle.bus_world.specs.Headline.{Action, HasPut, HasClosed, Stepped, puts, Promises}
+use Rattle.bus_world.specs.Log.{Knows}
+use Rattle.bus_world.specs.Turning.{words_after, home_moved}
+use Rattle.bus_world.specs.World.{new_page}
+use Rattle.bus_automaton.specs.Processes.{Process, Automaton, IsCounted, actions_at, log_in, EndsBy, page_given}
+use Rattle.bus_automaton.specs.LastAnswers.{is_refusal, is_last}
+use Rattle.bus_automaton.specs.SenderTrails.{SenderTrail, no_sender_trail, with_actions, with_sender_trail}
+
+-- ---- a process
+-- what it accepts between its steps leaves the rest as it is
+pub record Keeps {C : Type 0} (P : Process C) (c d : C) : Type 0 where
+  pub me : P.me d ≡ P.me c
+  pub table_layout : P.table_layout d ≡ P.table_layout c
+  pub holds : P.holds d ≡ P.holds c
+
+-- these actions are one step, for this, that found this number and was answered so
+pub record IsOneStep (due : Option Kind) (got : ℕ) (answer : Turn) (actions : List Action) : Type 0 where
+  pub tenure : Option ℕ
+  pub kind : Kind
+  pub chose : Option ℕ
+  pub is_for : due ≡ Some kind
+  pub is : actions ≡ Stepped tenure kind got chose answer ∷ []
+
+pub record ProcessLaws {C : Type 0} (P : Process C) : Type 0 where
+  -- a bus has a word for its length, and one for its stage; and a step changes no bus's size
+  pub some_words : (c : C) → 2 ≤ (P.table_layout c).words
+  pub same_table_layout : (c : C) (home : Option Page) (got word : ℕ) → P.table_layout (P.after c home got word) ≡ P.table_layout c
+  -- a kind is named exactly where a step is due, whatever the random word
+  pub named : (c : C) (word : ℕ) → is_some (P.kind c) ≡ is_some (P.op c word)
+  -- a store does not look at what it found
+  pub blind : (c : C) (word r v : ℕ) → P.op c word ≡ Some (Store record { 0 = r } v) → (got got' : ℕ) (home : Option Page) → P.after c home got word ≡ P.after c home got' word
+  pub mute : (c : C) (word r v : ℕ) → P.op c word ≡ Some (Store record { 0 = r } v) → (got got' : ℕ) → P.answer c got word ≡ P.answer c got' word
+  -- its messages wait as before, or none does any more; and a last answer after which some wait is a refusal
+  pub leaves : (c : C) (home : Option Page) (got word : ℕ) → ((P.queue (P.after c home got word)).messages ≡ (P.queue c).messages) ⊎ ((P.queue (P.after c home got word)).messages ≡ [])
+  pub refuses : (c : C) (word : ℕ) (o : Op) → P.op c word ≡ Some o → (home : Option Page) (got : ℕ) → is_last (P.answer c got word) ≡ true → 0 < length (P.queue (P.after c home got word)).messages → is_refusal (P.answer c got word) ≡ true
+  pub refuses_at_rest : (c : C) → is_last (P.rest c) ≡ true → 0 < length (P.queue c).messages → is_refusal (P.rest c) ≡ true
+  -- of a sender with nothing in its batch nothing waits
+  pub none_hidden : (c : C) → (P.queue c).messages ≡ [] → P.waiting c ≡ []
+  -- a step is one action at most: what it was for, what it found and what it answered
+  pub one_action : (c : C) (got word : ℕ) → ((P.adds c got word).actions ≡ []) ⊎ IsOneStep (P.kind c) got (P.answer c got word) (P.adds c got word).actions
+  -- what it accepts joins its batch
+  pub message : (c : C) (bytes : List ℕ) → Keeps P c (P.with_message c bytes)
+  pub message_waits : (c : C) (bytes : List ℕ) → P.queue (P.with_message c bytes) ≡ record (P.queue c) { messages = (P.queue c).messages ++ bytes ∷ [] }
+  pub close : (c : C) → Keeps P c (P.with_close c)
+  pub close_waits : (c : C) → P.queue (P.with_close c) ≡ record (P.queue c) { phase = Closing }
+  -- with the page out of its hands its turn is the same ..
+  pub handed_op : (c : C) (word : ℕ) → P.op (P.handed c) word ≡ P.op c word
+  pub handed_answer : (c : C) (got word : ℕ) → P.answer (P.handed c) got word ≡ P.answer c got word
+  pub handed_fed : (c : C) (got word : ℕ) → P.fed (P.handed c) got word ≡ P.fed c got word
+  -- .. and a page that it gives back is out with it
+  pub gives_held : (c : C) (page : Page) → page_given (P.move c) ≡ Some page → P.holds c ≡ true
+
+-- ---- an automaton
+-- a sender of it
+pub record IsSender {C : Type 0} (P : Process C) (A : Automaton C) (p : ℕ) (c : C) : Type 0 where
+  pub me : P.me c ≡ p
+  pub below : p < A.table_layout.senders
+  pub table_layout : P.table_layout c ≡ A.table_layout
+  pub counted : IsCounted P c
+
+-- from one state to another sender p alone has changed, and has done all this by then
+pub record ChangesTo {C : Type 0} (A : Automaton C) (z : A.State) (p : ℕ) (d : C) (all : SenderTrail) (z' : A.State) : Type 0 where
+  pub reached : A.IsReached z'
+  pub here : A.sender z' p ≡ Some d
+  pub others : (q : ℕ) → q ≢ p → A.sender z' q ≡ A.sender z q
+  pub sender_trail : A.sender_trail z' p ≡ all
+  pub nothing_else : (q : ℕ) → q ≢ p → A.sender_trail z' q ≡ A.sender_trail z q
+
+-- it has accepted something: no word has changed
+pub record AcceptsIn {C : Type 0} (A : Automaton C) (z : A.State) (p : ℕ) (d : C) (more : List Action) : Type 0 where
+  pub state : A.State
+  pub changes : ChangesTo A z p d (with_actions (A.sender_trail z p) more) state
+  pub words : A.words state ≡ A.words z
+  pub home : A.home state ≡ A.home z
+
+-- the frames of the log, and those that it has become
+pub record LogGrows {C : Type 0} (A : Automaton C) (z z' : A.State) : Type 0 where
+  pub frames : List Frame
+  pub more : List Frame
+  pub lawful : AreFrames A.table_layout.senders frames
+  pub lawful_now : AreFrames A.table_layout.senders (frames ++ more)
+  pub words_are : log_words frames ≡ log_in A z
+  pub words_now : log_words (frames ++ more) ≡ log_in A z'
+
+-- it has taken a step: its word has changed, and the page may have moved
+pub record StepsIn {C : Type 0} (P : Process C) (A : Automaton C) (z : A.State) (p : ℕ) (d : C) (word : ℕ) (o : Op) : Type 0 where
+  pub state : A.State
+  pub changes : ChangesTo A z p (P.after d (A.home z) (slice_index (A.words z) (register o)) word) (with_sender_trail (A.sender_trail z p) (P.adds d (slice_index (A.words z) (register o)) word)) state
+  pub words : A.words state ≡ words_after (A.words z) (Some o)
+  pub home : A.home state ≡ home_moved (P.move d) (A.home z)
+  pub grows : LogGrows A z state
+
+-- the words of the log, below the length
+pub record HasLog {C : Type 0} (A : Automaton C) (z : A.State) : Type 0 where
+  pub frames : List Frame
+  pub lawful : AreFrames A.table_layout.senders frames
+  pub words_are : log_words frames ≡ log_in A z
+  pub fits : slice_index (A.words z) 0 ≤ A.table_layout.capacity
+
+abbrev pub no_answers : ℕ → List RecvTurn
+no_answers r = []
+
+-- the headline's page holds of what its senders did, of receivers that were answered nothing
+pub record IsPromisedOf {C : Type 0} (A : Automaton C) (z : A.State) : Type 0 where
+  pub order : Order
+  pub owners : List (ℕ × SenderNo)
+  pub spelled : Spells A.table_layout.senders (log_in A z) order owners
+  pub promises : Promises (actions_at A z) no_answers order owners
+
+pub record AutomatonLaws {C : Type 0} (P : Process C) (A : Automaton C) : Type 0 where
+  pub room : A.table_layout.log + A.table_layout.capacity ≤ A.table_layout.words
+  pub behind : 2 ≤ A.table_layout.log
+  -- a sender at its start
+  pub started_me : (p : ℕ) → P.me (A.started p) ≡ p
+  pub started_table_layout : (p : ℕ) → P.table_layout (A.started p) ≡ A.table_layout
+  pub started_next : (p : ℕ) → P.successor (A.started p) ≡ A.started (p + 1)
+  pub started_away : (p : ℕ) → P.holds (A.started p) ≡ false
+  pub wide : (z : A.State) → A.IsReached z → length (A.words z) ≡ A.table_layout.words
+  pub senders : (z : A.State) (p : ℕ) (c : C) → A.IsReached z → A.sender z p ≡ Some c → IsSender P A p c
+  pub nobody : (z : A.State) (q : ℕ) → A.IsReached z → A.table_layout.senders ≤ q → actions_at A z q ≡ []
+  -- what may happen leads on
+  pub message : (z : A.State) (p : ℕ) (c : C) (bytes : List ℕ) → A.IsReached z → A.sender z p ≡ Some c → CanPut (P.queue c) (length bytes) → All (λ byte. byte < 256) bytes → AcceptsIn A z p (P.with_message c bytes) (HasPut (next_of (P.queue c)) bytes ∷ [])
+  pub close : (z : A.State) (p : ℕ) (c : C) → A.IsReached z → A.sender z p ≡ Some c → CanClose (P.queue c) → AcceptsIn A z p (P.with_close c) (HasClosed ∷ [])
+  pub step : (z : A.State) (p : ℕ) (c : C) (word : ℕ) (o : Op) → A.IsReached z → A.sender z p ≡ Some c → P.op c word ≡ Some o → register o < A.table_layout.words → StepsIn P A z p c word o
+  -- the parts of a turn are the whole turn
+  pub ends : (z : A.State) (p : ℕ) (c : C) (word : ℕ) (o : Op) → A.IsReached z → A.sender z p ≡ Some c → P.op c word ≡ Some o → (home : Option Page) (got : ℕ) → EndsBy P c (P.fed c got word) (P.after c home got word) home (P.move c)
+  -- what a step adds to stays in range
+  pub fits : (z : A.State) (p : ℕ) (c : C) (word : ℕ) (o : Op) → A.IsReached z → A.sender z p ≡ Some c → P.op c word ≡ Some o → SumFits o (slice_index (A.words z) (register o))
+  -- the page is at home where it is taken; the stage is even just where it is at home; and there it knows the log
+  pub finds_home : (z : A.State) (p : ℕ) (c : C) (word : ℕ) (o : Op) (t : ℕ) → A.IsReached z → A.sender z p ≡ Some c → P.op c word ≡ Some o → P.move c ≡ Comes t → is_some (A.home z) ≡ true
+  pub even_at_home : (z : A.State) → A.IsReached z → slice_index (A.words z) 1 % 2 ≢ 1 → is_some (A.home z) ≡ true
+  pub odd_away : (z : A.State) → A.IsReached z → slice_index (A.words z) 1 % 2 ≡ 1 → is_some (A.home z) ≡ false
+  pub page_knows : (z : A.State) (page : Page) (frames : List Frame) → A.IsReached z → A.home z ≡ Some page → AreFrames A.table_layout.senders frames → log_words frames ≡ log_in A z → (past : ℕ) × Knows page frames past (slice_index (A.words z) 0)
+  pub log : (z : A.State) → A.IsReached z → HasLog A z
+  -- of each sender it has what that put, but for what waits
+  pub sent : (z : A.State) (p : ℕ) (c : C) (frames : List Frame) → A.IsReached z → A.sender z p ≡ Some c → AreFrames A.table_layout.senders frames → log_words frames ≡ log_in A z
+      → map (λ (i : Item). i.message) (of_sender p (order_of frames)) ++ P.waiting c ≡ puts (actions_at A z p)
+  pub promised : (z : A.State) → A.IsReached z → IsPromisedOf A z
+
+-- how it begins: with words of zero, its page at home and its senders at their starts, of which none has done anything
+pub record Opens {C : Type 0} (P : Process C) (A : Automaton C) : Type 0 where
+  pub state : A.State
+  pub reached : A.IsReached state
+  pub words : A.words state ≡ replicate A.table_layout.words 0
+  pub home : A.home state ≡ Some new_page
+  pub senders : (p : ℕ) → p < A.table_layout.senders → A.sender state p ≡ Some (A.started p)
+  pub sender_trail : (p : ℕ) → A.sender_trail state p ≡ no_sender_trail
+  pub counted : (p : ℕ) → IsCounted P (A.started p)

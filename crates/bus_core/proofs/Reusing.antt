@@ -1,0 +1,8 @@
+pub mod Widths
+pub mod Keeps
+pub mod Laws
+pub mod Lies
+pub mod Steps
+pub mod Tells
+pub mod Causing
+pub mod CausesRefuse

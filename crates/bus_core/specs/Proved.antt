@@ -1,0 +1,2 @@
+-- How the one table is that of a sender of either kind of rows: of proofs alone, to be passed over.
+pub mod Bridge

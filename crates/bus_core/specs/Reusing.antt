@@ -1,0 +1,10 @@
+-- What a sender holds and does beside its tenures where rows are used again.
+pub mod Participants
+pub mod Keeping
+pub mod Turns
+pub mod StepWords
+pub mod Besides
+pub mod Following
+pub mod Telling
+pub mod Causes
+pub mod CausesRefuse

@@ -1,9 +1,0 @@
-pub mod Widths
-pub mod Keeps
-pub mod Lies
-pub mod Laws
-pub mod Steps
-pub mod Tells
-pub mod Refused
-pub mod Causing
-pub mod CausesRefuse

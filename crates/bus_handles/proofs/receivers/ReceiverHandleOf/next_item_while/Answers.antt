@@ -1,4 +1,0 @@
-use Rattle.bus_handles.proofs.receivers.ReceiverHandleOf.next_item_while.Goals as goal
-
-pub returns-clause-passes : goal.returns-clause-passes
-returns-clause-passes g c = rw (← c.self.view_is) c.next_item_while.ensures.passes

@@ -1,0 +1,35 @@
+-- Each of the wrong behaviours is refused.
+use Rattle.std.proofs.Common.{◌≡◌, ℕ, ◌+◌, ◌*◌, ◌%◌, ◌≤◌, Option, Some, None, List, [], slice_get, arith, sym, ◌∙◌, ap, subst}
+use Rattle.bus_core.specs.Senders.{Sender}
+use Rattle.bus_tenure.specs.Core.{Election}
+use Rattle.bus_machine.specs.Machine.{Machine, Trails}
+use Rattle.bus_machine.specs.Promise.{IsPromised, ReusesRows, ReusesSafely}
+use Rattle.bus_machine.specs.PromiseRefusals.{OwnersRefuse, RowsRefuse, PromiseRefuses}
+
+nothing_at : {A : Type 0} (i : ℕ) (x : A) (l : List A) → l ≡ [] → slice_get l i ≡ Some x → ⊥
+nothing_at i x l none e = absurd (let bad : None ≡ Some x = sym (ap (λ w. slice_get w i) none) ∙ e in cc)
+
+reuses : {E : Type 0} (X : Election E) (m : Machine E) (T : Trails) (rows : ℕ) → m.reuse ≡ Some rows → IsPromised X m T → ReusesRows X m T rows
+reuses X m T rows some kept = subst (ReusesSafely X m T) some kept.by.reuse
+
+pub refused : {E : Type 0} (X : Election E) (m : Machine E) (T : Trails) → PromiseRefuses X m T
+refused {E} X m T = record {
+  owners = record {
+    two_owners = λ t s s' o o' e f apart kept. apart (kept.by.promises.one_owner t s s' o o' e f);
+    owner_without_page = λ t s none owns idle kept.
+        let told = kept.by.takers in
+        let all = sym (told.told ∙ ap (λ r. Rattle.bus_machine.specs.Machine.owners_told r told.all) none) in
+        let took = told.takers.took t s (ap (λ l. slice_get l t) all ∙ owns) in
+        nothing_at took.0 _ (T.actions s) idle took.1.at;
+  };
+  rows = λ rows some. record {
+    enters_without_presence = λ p v t e at elects none kept.
+        let s = (reuses X m T rows some kept).stands p v t e at elects in nothing_at s.entered _ (T.pins p) none s.enters;
+    two_tenures_of_a_row = λ p q v w t u e f at elects there runs row apart kept.
+        let k = reuses X m T rows some kept in
+        apart (k.safe.alone p q t u (k.stands p v t e at elects) (k.stands q w u f there runs) row);
+    holds_without_reclaimer = λ p v t at held stage used none kept.
+        let k = reuses X m T rows some kept in
+        let l = k.ready t stage (sym (k.holder p v t at held) ∙ none) in omega arith;
+  };
+}

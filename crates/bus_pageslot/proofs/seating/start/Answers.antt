@@ -1,0 +1,24 @@
+use Rattle.std.proofs.Common.{◌≤◌, ◌^◌, sym, ◌∙◌, ap, subst}
+use Rattle.bus_automaton.specs.Buses.{automaton_with}
+use Rattle.bus_automaton.specs.OneProcess.{table_layout_by}
+use Rattle.bus_core.specs.Keeping.{new_sender}
+use Rattle.bus_machine.specs.Playing.{layout_of}
+use Rattle.bus_pageslot.proofs.seating.start.Goals as goal
+
+pub new-requires-clause-room : goal.new-requires-clause-room
+unfolding automaton_with
+new-requires-clause-room g c =
+    let Q = g.Q.Ratifier.protocol in
+    subst (λ r. (table_layout_by (layout_of Q c.args.plan.shape r) r).words ≤ 2 ^ 63) c.in-None.is c.requires.room
+
+pub returns-in-None : goal.returns-in-None
+unfolding automaton_with
+returns-in-None g c =
+    let Q = g.Q.Ratifier.protocol in
+    c.new.ensures ∙ ap (λ r. new_sender (layout_of Q c.args.plan.shape r) c.args.me.0 r) (sym c.in-None.is)
+
+pub returns-in-Some : goal.returns-in-Some
+unfolding automaton_with
+returns-in-Some g c =
+    let Q = g.Q.Ratifier.protocol in
+    c.cyclic.ensures ∙ ap (λ r. new_sender (layout_of Q c.args.plan.shape r) c.args.me.0 r) (sym c.in-Some.is)

@@ -1,5 +1,0 @@
-use Rattle.bus_pageslot.proofs.Sending.{sends_if}
-use Rattle.bus_pageslot.proofs.seats.SenderOf.send.Goals as goal
-
-pub returns-clause-sends : goal.returns-clause-sends
-returns-clause-sends g c = sends_if _ _ _ _ _ _ c.send_while.ensures.sends _ c.unwrap.ensures

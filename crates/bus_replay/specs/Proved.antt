@@ -1,3 +1,0 @@
--- What an impl gives as its laws: proofs, to be passed over.
-pub mod WorldLaws
-pub mod CycleLaws

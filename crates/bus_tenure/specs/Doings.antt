@@ -1,0 +1,25 @@
+-- What code sees of a situation.
+use Rattle.std.specs.Prelude.{◌≡◌, ◌⊎◌, ℕ}
+use Rattle.bus_tenure.specs.Situations.{Situation as Own, IsClosed, IsIdle, IsSpent, LooksAtStage, Elects, TakesPage, AwaitsPage, StoresWord, StoresLength, GivesBack, HasHanded}
+use Rattle.bus_tenure.specs.declared.phases.Reason.{Reason}
+use Rattle.bus_tenure.specs.declared.turns.Turn.TheVariants as turn
+use Rattle.bus_tenure.specs.declared.doings.Doing.{Doing}
+use Rattle.bus_tenure.specs.declared.doings.Doing.TheVariants as doing
+
+-- without the page and the election that it does it with
+abbrev pub doing_of : {E : Type 0} → Own E → Doing
+doing_of IsClosed = doing.Rests turn.Closed
+doing_of IsIdle = doing.Rests turn.Idle
+doing_of IsSpent = doing.Rests turn.Spent
+doing_of LooksAtStage = doing.Looks
+doing_of (Elects t e) = doing.Elects t
+doing_of (TakesPage t) = doing.Takes t
+doing_of (AwaitsPage t) = doing.Awaits t
+doing_of (StoresWord t page stored) = doing.Word t page.words stored
+doing_of (StoresLength t page stored) = doing.Length t page.words
+doing_of (GivesBack t page reason) = doing.Back t reason
+doing_of (HasHanded t reason) = doing.Handed t reason
+
+-- it ends its tenure with its next step
+abbrev pub Ends : Doing → ℕ → Reason → Type 0
+Ends d t reason = (d ≡ doing.Back t reason) ⊎ (d ≡ doing.Handed t reason)

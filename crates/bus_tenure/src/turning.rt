@@ -1,0 +1,684 @@
+//! What a sender does in its tenures, whatever rows there are.
+
+ghost use Rattle.std.specs.Prelude.{◌≡◌, ℕ, ◌+◌, ◌*◌, ◌-◌, ◌<◌, ◌≤◌, ◌^◌, [], ◌∷◌, ◌++◌, length};
+ghost use Rattle.std.specs.Prelude.{slice_index, IfOk, IfErr, OnOk, OnErr, IfSome, IsSome, IsTrue};
+ghost use Rattle.std.specs.Prelude.{◌↔◌, false, true, Some};
+ghost use Rattle.bus_register.specs.Words.{register};
+ghost use Rattle.bus_batch.specs.Batches.{next_of, frame_of, HasSomething, CanPut, IsPutFault};
+ghost use Rattle.bus_batch.specs.Batches.{CanClose, IsCloseFault};
+ghost use Rattle.bus_batch.specs.Frames.{frame_words};
+ghost use Rattle.bus_batch.specs.declared.batches.Phase.TheVariants as queue_phase;
+ghost use Rattle.bus_tenure.specs.Core.{log_at, Core, row_at, words_of, is_closing, is_closed};
+ghost use Rattle.bus_tenure.specs.Core.{frame_len, has_room, page_after};
+ghost use Rattle.bus_tenure.specs.Elections.{election_of, elections, layout_with, ElectorKeeps};
+ghost use Rattle.bus_tenure.specs.Keeping.{SenderInvariant, IsInTenure};
+ghost use Rattle.bus_tenure.specs.Seen.{turns_of, tenure_of, HasElection, AwaitsItsPage};
+ghost use Rattle.bus_tenure.specs.Situations.{core_begun, LooksAtStage, GivesBack, resting};
+ghost use Rattle.bus_tenure.specs.Situations.{holding, situation_of, kind_at, op_at, core_at_rest};
+ghost use Rattle.bus_tenure.specs.Situations.{core_after_stage, tenure_begun, fed_at};
+ghost use Rattle.bus_tenure.specs.Situations.{answer_of_stage, answer_of_return, answer_at};
+ghost use Rattle.bus_tenure.specs.Situations.{wants_at};
+ghost use Rattle.bus_tenure.specs.declared.phases.Phase.TheVariants as phase;
+ghost use Rattle.bus_tenure.specs.Doings.{doing_of, Ends};
+ghost use Rattle.bus_tenure.specs.declared.doings.Doing.TheVariants as doing;
+
+use super::doings::Doing;
+use super::pages::Page;
+use super::phases::{Phase, Reason};
+use super::turns::Turn;
+use bus_adoptcommit::Ratifier;
+use bus_batch::{Batch, CloseFault, PutFault};
+use bus_ownerbits::Election;
+use bus_register::limits::{MOST_BODY_WORDS, MOST_ROUNDS, MOST_SENDERS, NUMBERS, TENURES};
+use bus_register::{Kind, Machine, Op, Reg, SenderNo};
+use std::marker::Model;
+
+/// The sizes of a bus, with how many words each row has.
+#[derive(Clone, Copy)]
+struct Sizes {
+    senders: u64,
+    rounds: u64,
+    rows: u64,
+    width: u64,
+    capacity: u64,
+}
+
+/// What a sender holds in its tenures: the batch that it fills, the tenure that it has begun, and
+/// the first that it may begin. `doing` tells what it does next, and there is one call for each.
+///
+/// Rows are counted and lie as on a bus with a row for each tenure.
+#[derive(Drop)]
+pub struct Turns<Q: Ratifier> {
+    sizes: Sizes,
+    me: SenderNo,
+    batch: Batch,
+    least: u64,
+    phase: Phase<Election<Q>>,
+}
+
+impl<Q: Ratifier> Model for Turns<Q> {
+    ghost use Rattle.bus_tenure.specs.Core.{Core};
+    ghost use Rattle.bus_tenure.specs.Elections.{Elector, ElectorKeeps, elections};
+    ghost use Rattle.bus_tenure.specs.Keeping.{SenderInvariant};
+
+    ghost Value = { Core (Elector Q) };
+
+    ghost view = { λ c. record {
+      layout = record {
+        senders = c.sizes.senders;
+        rounds = c.sizes.rounds;
+        rows = c.sizes.rows;
+        width = c.sizes.width;
+        capacity = c.sizes.capacity;
+      };
+      me = c.me.0;
+      queue = c.batch;
+      least = c.least;
+      phase = c.phase;
+    } };
+
+    ghost invariant = { λ c. SenderInvariant
+        ((elections Q.protocol c.sizes.rounds).width c.sizes.senders)
+        (ElectorKeeps Q.protocol c.sizes.rounds c.sizes.senders c.me.0)
+        (record {
+          layout = record {
+            senders = c.sizes.senders;
+            rounds = c.sizes.rounds;
+            rows = c.sizes.rows;
+            width = c.sizes.width;
+            capacity = c.sizes.capacity;
+          };
+          me = c.me.0;
+          queue = c.batch;
+          least = c.least;
+          phase = c.phase;
+        }) };
+}
+
+impl<Q: Ratifier + Drop> Turns<Q> {
+    /// Sender `me` of so many, with nothing pending, of a bus of so many rounds for each bit, rows
+    /// and log words.
+    pub fn new(senders: u64, me: SenderNo, rounds: u64, rows: u64, log_words: u64) -> Turns<Q>
+        requires me_below { me.0 < senders }
+        requires few { senders ≤ MOST_SENDERS }
+        requires rounds_some { 1 ≤ rounds }
+        requires rounds_few { rounds ≤ MOST_ROUNDS }
+        requires rows_few { rows ≤ TENURES }
+        requires log_few { log_words ≤ 2 ^ 20 }
+        requires room { words_of (layout_with Q.protocol senders rounds rows log_words) ≤ 2 ^ 63 }
+        ensures { result ≡ record {
+          layout = layout_with Q.protocol senders rounds rows log_words;
+          me = me.0;
+          queue = record {
+            sender = me;
+            first = 0;
+            messages = [];
+            phase = queue_phase.Open;
+            busy = false;
+          };
+          least = 0;
+          phase = phase.Resting;
+        } }
+    {
+        Turns {
+            sizes: Sizes {
+                senders,
+                rounds,
+                rows,
+                width: Election::<Q>::width(senders, rounds),
+                capacity: log_words,
+            },
+            me,
+            batch: Batch::new(me, 0),
+            least: 0,
+            phase: Phase::Resting,
+        }
+    }
+
+    /// Appends a message to the batch and gives its number.
+    pub fn put(&mut self, bytes: &[u8]) -> Result<u64, PutFault>
+        requires { next_of self.old.queue < NUMBERS }
+        ensures number { IfOk result (λ number. number ≡ next_of self.old.queue) }
+        ensures taken { OnOk result
+            (self.new ≡ record self.old {
+              queue = record self.old.queue {
+                messages = self.old.queue.messages
+                    ++ bytes.now ∷ [];
+              };
+            }) }
+        ensures could { OnOk result (CanPut self.old.queue (length bytes.now)) }
+        ensures fault { IfErr result (IsPutFault self.old.queue (length bytes.now)) }
+        ensures refused { OnErr result (self.new ≡ self.old) }
+    {
+        self.batch.put(bytes)
+    }
+
+    /// Lets an end mark wait in place of messages.
+    pub fn close(&mut self) -> Result<(), CloseFault>
+        ensures taken { OnOk result
+            (self.new ≡ record self.old {
+              queue = record self.old.queue { phase = queue_phase.Closing };
+            }) }
+        ensures could { OnOk result (CanClose self.old.queue) }
+        ensures fault { IfErr result (IsCloseFault self.old.queue) }
+        ensures refused { OnErr result (self.new ≡ self.old) }
+    {
+        self.batch.close()
+    }
+
+    /// The sender's number.
+    pub fn number(&self) -> SenderNo
+        ensures { result.0 ≡ self.now.me }
+    {
+        self.me
+    }
+
+    /// How many messages wait.
+    pub fn pending(&self) -> u64
+        ensures { result ≡ length self.now.queue.messages }
+    {
+        self.batch.len()
+    }
+
+    /// The number that the next message gets.
+    pub fn next_number(&self) -> u64
+        ensures { result ≡ next_of self.now.queue }
+    {
+        self.batch.next_number()
+    }
+
+    /// An end mark waits.
+    pub fn is_closing(&self) -> bool
+        ensures { result ≡ is_closing self.now.queue.phase }
+    {
+        self.batch.is_closing()
+    }
+
+    /// Nothing more is sent.
+    pub fn is_closed(&self) -> bool
+        ensures { result ≡ is_closed self.now.queue.phase }
+    {
+        self.batch.is_closed()
+    }
+
+    /// The tenure that it has begun.
+    pub fn tenure(&self) -> Option<u64>
+        ensures is { result ≡ tenure_of self.now.phase }
+        ensures below { IfSome result (λ t. t < self.now.layout.rows) }
+        ensures few { self.now.layout.rows ≤ TENURES }
+    {
+        match &self.phase {
+            Phase::Resting => None,
+            Phase::Electing { tenure, .. }
+            | Phase::Taken { tenure }
+            | Phase::Holding { tenure, .. }
+            | Phase::Giving { tenure, .. } => Some(*tenure),
+        }
+    }
+
+    /// Nothing is pending, and no end mark waits.
+    fn has_nothing(&self) -> bool
+        ensures { IsTrue result
+            ↔ ((self.now.queue.messages ≡ []) × (is_closing self.now.queue.phase ≡ false)) }
+    {
+        self.batch.is_empty() && !self.is_closing()
+    }
+
+    /// What it does where no tenure is begun.
+    fn at_rest(&self) -> Doing
+        ensures { result ≡ doing_of (resting self.now) }
+    {
+        if self.is_closed() {
+            Doing::Rests(Turn::Closed)
+        } else if self.has_nothing() {
+            Doing::Rests(Turn::Idle)
+        } else if self.least >= self.sizes.rows {
+            Doing::Rests(Turn::Spent)
+        } else {
+            Doing::Looks
+        }
+    }
+
+    /// The tenure that it may begin where the stage is this.
+    pub fn may_begin(&self, stage: u64) -> Option<u64>
+        ensures { result ≡ tenure_begun self.now stage }
+    {
+        let tenure = stage / 2;
+        if stage % 2 == 1 || tenure < self.least || tenure >= self.sizes.rows {
+            None
+        } else {
+            Some(tenure)
+        }
+    }
+
+    /// How many words its frame has.
+    fn frame_len(&self) -> u64
+        requires { HasSomething self.now.queue }
+        ensures len { result ≡ frame_len self.now }
+        ensures most { result ≤ 1 + MOST_BODY_WORDS }
+    {
+        self.batch.frame_len()
+    }
+
+    /// The frame fits the log, on the page.
+    fn has_room(&self, page: &Page) -> bool
+        requires { HasSomething self.now.queue }
+        ensures { result ≡ has_room self.now page.now }
+    {
+        let len = self.frame_len();
+        len <= self.sizes.capacity && page.words <= self.sizes.capacity - len
+    }
+
+    /// What it does next with a page before it.
+    #[inline(always)]
+    fn hold(&self, tenure: u64, page: &Page, stored: u64, published: bool) -> Doing
+        requires { HasSomething self.now.queue }
+        ensures { result ≡ doing_of (holding self.now tenure page.now stored published) }
+    {
+        if published {
+            Doing::Back {
+                tenure,
+                reason: Reason::Sent,
+            }
+        } else if page.ended {
+            Doing::Back {
+                tenure,
+                reason: Reason::FoundEnd,
+            }
+        } else if !self.has_room(page) {
+            Doing::Back {
+                tenure,
+                reason: Reason::NoRoom,
+            }
+        } else if stored < self.frame_len() {
+            Doing::Word {
+                tenure,
+                words: page.words,
+                stored,
+            }
+        } else {
+            Doing::Length {
+                tenure,
+                words: page.words,
+            }
+        }
+    }
+
+    /// What it does next.
+    #[inline(always)]
+    pub fn doing(&self) -> Doing
+        ensures { let X = election_of Q.Ratifier in result ≡ doing_of (situation_of X self.now) }
+    {
+        match &self.phase {
+            Phase::Resting => self.at_rest(),
+            Phase::Electing { tenure, election } => match election.owner() {
+                Some(_) => Doing::Takes { tenure: *tenure },
+                None => Doing::Elects { tenure: *tenure },
+            },
+            Phase::Taken { tenure } => Doing::Awaits { tenure: *tenure },
+            Phase::Holding {
+                tenure,
+                page,
+                stored,
+                published,
+            } => self.hold(*tenure, page, *stored, *published),
+            Phase::Giving { tenure, reason } => Doing::Handed {
+                tenure: *tenure,
+                reason: *reason,
+            },
+        }
+    }
+
+    /// How many senders there are.
+    pub fn senders(&self) -> u64
+        ensures is { result ≡ self.now.layout.senders }
+        ensures few { result ≤ MOST_SENDERS }
+    {
+        self.sizes.senders
+    }
+
+    /// How many tenures there are.
+    pub fn tenures(&self) -> u64
+        ensures { result ≡ self.now.layout.rows }
+    {
+        self.sizes.rows
+    }
+
+    /// How many words a row has.
+    pub fn width(&self) -> u64
+        ensures is { result ≡ self.now.layout.width }
+        ensures room { 2 + self.now.layout.rows * result ≤ 2 ^ 63 }
+    {
+        self.sizes.width
+    }
+
+    /// The next step of its election.
+    pub fn election_next(&self, tenure: u64, word: u32) -> Option<Op>
+        requires { let X = election_of Q.Ratifier in
+            doing_of (situation_of X self.now) ≡ doing.Elects tenure }
+        ensures step { let X = election_of Q.Ratifier in
+            result ≡ op_at X self.now (situation_of X self.now) word }
+        ensures above { IfSome result (λ o. row_at self.now.layout tenure ≤ register o) }
+        ensures below { IfSome result (λ o.
+            register o < row_at self.now.layout tenure + self.now.layout.width) }
+        ensures tenure { tenure < self.now.layout.rows }
+    {
+        let Phase::Electing { election, .. } = &self.phase else {
+            unreachable!()
+        };
+        election.next(word)
+    }
+
+    /// What that step is for.
+    pub fn election_kind(&self, tenure: u64) -> Option<Kind>
+        requires { let X = election_of Q.Ratifier in
+            doing_of (situation_of X self.now) ≡ doing.Elects tenure }
+        ensures { let X = election_of Q.Ratifier in
+            result ≡ kind_at X self.now (situation_of X self.now) }
+    {
+        let Phase::Electing { election, .. } = &self.phase else {
+            unreachable!()
+        };
+        election.kind()
+    }
+
+    /// The next step asks for a random word.
+    pub fn wants_word(&self) -> bool
+        ensures { let X = election_of Q.Ratifier in
+            result ≡ wants_at X self.now (situation_of X self.now) }
+    {
+        match &self.phase {
+            Phase::Electing { election, .. } => match election.owner() {
+                Some(_) => false,
+                None => election.wants_word(),
+            },
+            _ => false,
+        }
+    }
+
+    /// How many turns the election takes at most, with the one that takes the page; 0 where none is
+    /// begun.
+    pub fn turns_left(&self) -> u64
+        ensures turns { let X = election_of Q.Ratifier in result ≡ turns_of X self.now.phase }
+        ensures running { HasElection self.now.phase → 1 ≤ result }
+    {
+        match &self.phase {
+            Phase::Electing { election, .. } => election.turns_left(),
+            _ => 0,
+        }
+    }
+
+    /// What it keeps in its tenures.
+    pub fn is_kept(&self)
+        ensures { SenderInvariant
+            ((elections Q.protocol self.now.layout.rounds).width self.now.layout.senders)
+            (ElectorKeeps Q.protocol self.now.layout.rounds self.now.layout.senders self.now.me)
+            self.now }
+    {
+        let _ = &self.phase;
+    }
+
+    /// The word of its frame that it stores next.
+    pub fn frame_word(&self, tenure: u64, words: u64, stored: u64) -> u64
+        requires { let X = election_of Q.Ratifier in
+            doing_of (situation_of X self.now) ≡ doing.Word tenure words stored }
+        ensures word { result
+            ≡ slice_index (frame_words (frame_of self.now.queue tenure)) stored }
+        ensures room { words + frame_len self.now ≤ self.now.layout.capacity }
+        ensures below { stored < frame_len self.now }
+    {
+        self.batch.word(stored, tenure)
+    }
+
+    /// The length behind its frame.
+    pub fn length_after(&self, tenure: u64, words: u64) -> u64
+        requires { let X = election_of Q.Ratifier in
+            doing_of (situation_of X self.now) ≡ doing.Length tenure words }
+        ensures { result ≡ words + frame_len self.now }
+    {
+        words + self.batch.frame_len()
+    }
+
+    /// Begins a tenure.
+    pub fn begin(&mut self, tenure: u64)
+        requires rests { self.old.phase ≡ phase.Resting }
+        requires looks { resting self.old ≡ LooksAtStage }
+        requires below { tenure < self.old.layout.rows }
+        ensures { let X = election_of Q.Ratifier in self.new ≡ core_begun X self.old tenure }
+    {
+        let sizes = self.sizes;
+        let row = Reg(2 + tenure * sizes.width);
+        self.batch.begin();
+        self.phase = Phase::Electing {
+            tenure,
+            election: Election::start(sizes.senders, self.me, sizes.rounds, row),
+        };
+    }
+
+    /// Takes in what the stage is, and begins the tenure that it may begin.
+    pub fn see_stage(&mut self, got: u64) -> Turn
+        requires rests { self.old.phase ≡ phase.Resting }
+        requires looks { resting self.old ≡ LooksAtStage }
+        ensures state { let X = election_of Q.Ratifier in
+            self.new ≡ core_after_stage X self.old got }
+        ensures answer { result ≡ answer_of_stage self.old got }
+    {
+        let tenure = got / 2;
+        if got % 2 == 1 || tenure < self.least {
+            return Turn::Waiting;
+        }
+        if tenure >= self.sizes.rows {
+            self.least = tenure;
+            return Turn::Spent;
+        }
+        self.begin(tenure);
+        Turn::Going
+    }
+
+    /// Takes the next step of its election. It answers the owner, where that is another sender.
+    pub fn elect(&mut self, started: u64, got: u64, word: u32) -> Turn
+        requires elects { let X = election_of Q.Ratifier in
+            doing_of (situation_of X self.old) ≡ doing.Elects started }
+        requires steps { let X = election_of Q.Ratifier in
+            IsSome (op_at X self.old (situation_of X self.old) word) }
+        ensures state { let X = election_of Q.Ratifier in
+            self.new ≡ fed_at X self.old (situation_of X self.old) got word }
+        ensures answer { let X = election_of Q.Ratifier in
+            result ≡ answer_at X self.old (situation_of X self.old) got word }
+    {
+        let Phase::Electing { tenure, election } = &mut self.phase else {
+            unreachable!()
+        };
+        let tenure = *tenure;
+        election.feed(got, word);
+        let Some(owner) = election.owner() else {
+            return Turn::Going;
+        };
+        if owner.0 == self.me.0 {
+            return Turn::Going;
+        }
+        self.batch.back();
+        self.least = tenure + 1;
+        self.phase = Phase::Resting;
+        Turn::Lost { tenure, owner }
+    }
+
+    /// Takes the page.
+    pub fn take_page(&mut self, tenure: u64)
+        requires { let X = election_of Q.Ratifier in
+            doing_of (situation_of X self.old) ≡ doing.Takes tenure }
+        ensures { self.new ≡ record self.old { phase = phase.Taken tenure } }
+    {
+        self.phase = Phase::Taken { tenure };
+    }
+
+    /// A word of its frame is stored.
+    pub fn word_stored(&mut self, tenure: u64, words: u64, at: u64)
+        requires { let X = election_of Q.Ratifier in
+            doing_of (situation_of X self.old) ≡ doing.Word tenure words at }
+        ensures { let X = election_of Q.Ratifier in
+            (got : ℕ) (word : ℕ)
+            → self.new ≡ fed_at X self.old (situation_of X self.old) got word }
+    {
+        if let Phase::Holding { stored, .. } = &mut self.phase {
+            *stored += 1;
+        }
+    }
+
+    /// The length is stored.
+    pub fn length_stored(&mut self, tenure: u64, words: u64)
+        requires { let X = election_of Q.Ratifier in
+            doing_of (situation_of X self.old) ≡ doing.Length tenure words }
+        ensures { let X = election_of Q.Ratifier in
+            (got : ℕ) (word : ℕ)
+            → self.new ≡ fed_at X self.old (situation_of X self.old) got word }
+    {
+        if let Phase::Holding { published, .. } = &mut self.phase {
+            *published = true;
+        }
+    }
+
+    /// Ends the tenure: the contents are sent, or come back, or are never sent.
+    fn finish(&mut self, tenure: u64, reason: Reason) -> Turn
+        requires { IsInTenure self.old tenure }
+        ensures state { self.new ≡ core_at_rest self.old reason tenure }
+        ensures answer { result ≡ answer_of_return self.old.queue tenure reason }
+    {
+        let closing = self.is_closing();
+        let next = self.next_number();
+        let first = next - self.pending();
+        self.least = tenure + 1;
+        self.phase = Phase::Resting;
+        match reason {
+            Reason::Sent => {
+                self.batch.done();
+                if closing {
+                    Turn::Closed
+                } else {
+                    Turn::Delivered {
+                        tenure,
+                        first,
+                        last: next - 1,
+                    }
+                }
+            }
+            Reason::FoundEnd => {
+                self.batch.ended();
+                Turn::Closed
+            }
+            Reason::NoRoom => {
+                self.batch.back();
+                Turn::Full
+            }
+        }
+    }
+
+    /// The page is taken and is to be laid.
+    pub fn awaits_page(&self) -> bool
+        ensures { IsTrue result ↔ AwaitsItsPage self.now.phase }
+    {
+        match &self.phase {
+            Phase::Taken { .. } => true,
+            _ => false,
+        }
+    }
+
+    /// Lays the page before it, which it has taken.
+    pub fn lay(&mut self, page: Page)
+        requires { AwaitsItsPage self.old.phase }
+        ensures { (t : ℕ) → self.old.phase ≡ phase.Taken t
+            → self.new ≡ record self.old { phase = phase.Holding t page 0 false } }
+    {
+        if let Phase::Taken { tenure } = self.phase {
+            self.phase = Phase::Holding {
+                tenure,
+                page,
+                stored: 0,
+                published: false,
+            };
+        }
+    }
+
+    /// The page as the next owner is to have it. After a frame the sender's number, the end mark
+    /// and the words are brought up to date.
+    fn page_handed(&self, tenure: u64, page: &Page, reason: Reason) -> Page
+        requires below { tenure < 2 ^ 63 }
+        requires room { reason ≡ Reason.Sent → page.now.words + frame_len self.now < 2 ^ 64 }
+        requires something { HasSomething self.now.queue }
+        ensures { result ≡ page_after self.now tenure page.now reason }
+    {
+        let tenures = tenure + 1;
+        match reason {
+            Reason::Sent => {
+                let mut next = page.next;
+                next[usize::from(self.me.0)] = self.next_number();
+                Page {
+                    next,
+                    ended: self.is_closing(),
+                    tenures,
+                    words: page.words + self.frame_len(),
+                }
+            }
+            Reason::FoundEnd | Reason::NoRoom => Page { tenures, ..*page },
+        }
+    }
+
+    /// Takes the page from it, to be given back.
+    pub fn hand(&mut self, tenure: u64, reason: Reason) -> Page
+        requires { let X = election_of Q.Ratifier in
+            doing_of (situation_of X self.old) ≡ doing.Back tenure reason }
+        ensures page { let X = election_of Q.Ratifier in
+            (page : Page) → situation_of X self.old ≡ GivesBack tenure page reason
+            → result ≡ page_after self.old tenure page reason }
+        ensures state { self.new ≡ record self.old { phase = phase.Giving tenure reason } }
+    {
+        let Phase::Holding { page, .. } = &self.phase else {
+            unreachable!()
+        };
+        let handed = self.page_handed(tenure, page, reason);
+        self.phase = Phase::Giving { tenure, reason };
+        handed
+    }
+
+    /// Where the log begins with a row for each tenure.
+    pub fn log_apart(&self) -> u64
+        ensures at { result ≡ log_at self.now.layout }
+        ensures room { result + self.now.layout.capacity ≤ 2 ^ 63 }
+    {
+        2 + self.sizes.rows * self.sizes.width
+    }
+
+    /// The stage of its tenure with the page taken.
+    pub fn stage_taken(&self, tenure: u64) -> u64
+        requires { let X = election_of Q.Ratifier in
+            doing_of (situation_of X self.now) ≡ doing.Takes tenure }
+        ensures is { result ≡ 2 * tenure + 1 }
+        ensures below { tenure < self.now.layout.rows }
+    {
+        let Phase::Electing { tenure, .. } = &self.phase else {
+            unreachable!()
+        };
+        2 * *tenure + 1
+    }
+
+    /// The stage of the next tenure.
+    pub fn stage_given(&self) -> u64
+        ensures { (t : ℕ) → tenure_of self.now.phase ≡ Some t → result ≡ 2 * t + 2 }
+    {
+        match self.tenure() {
+            None => 0,
+            Some(tenure) => 2 * tenure + 2,
+        }
+    }
+
+    /// Gives the page back and ends the tenure.
+    pub fn end(&mut self, tenure: u64, reason: Reason) -> Turn
+        requires { let X = election_of Q.Ratifier in
+            Ends (doing_of (situation_of X self.old)) tenure reason }
+        ensures state { self.new ≡ core_at_rest self.old reason tenure }
+        ensures answer { result ≡ answer_of_return self.old.queue tenure reason }
+    {
+        let _ = &self.phase;
+        self.finish(tenure, reason)
+    }
+}

@@ -1,3 +1,0 @@
-mod Electing
-mod Inverted
-pub mod Rows

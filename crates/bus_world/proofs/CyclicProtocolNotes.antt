@@ -1,0 +1,159 @@
+-- What senders have noted stays true: what each has put, how its messages were numbered, and who closed.
+use Rattle.std.proofs.Common.{◌≡◌, ◌≢◌, ℕ, true, false, cond, ◌&&◌, nat_lt, nat_le, Option, Some, None, inl, inr, List, [], ◌∷◌, ◌++◌, length, map, slice_get, arith, refl, sym, ◌∙◌, ap, subst}
+use Rattle.std.proofs.lemmas.Bool.{and_parts, cases_eq}
+use Rattle.std.proofs.lemmas.Bool.Decides.{eqb_tells}
+use Rattle.std.proofs.lemmas.Grind.{flat_map-append}
+use Rattle.std.proofs.lemmas.List.{append-nil, append_assoc, length-append}
+use Rattle.bus_register.specs.Tables.{Beside, put}
+use Rattle.bus_register.specs.Proved.TableLaws.{put_here, put_beside}
+use Rattle.bus_batch.specs.declared.batches.Phase.TheVariants.{Closing}
+use Rattle.bus_batch.specs.declared.messages.Item.{Item}
+use Rattle.bus_batch.specs.Batches.{Pending, next_of}
+use Rattle.bus_batch.specs.Frames.{Frame, EndMark, order_of}
+use Rattle.bus_deliverylog.specs.Orders.{of_sender}
+use Rattle.bus_tenure.specs.Core.{Core, is_empty}
+use Rattle.bus_tenure.specs.declared.phases.Phase.TheVariants as phase
+use Rattle.bus_world.specs.Bus.{Fits}
+use Rattle.bus_world.specs.Headline.{Action, HasPut, HasClosed, Closed, put_of, puts}
+use Rattle.bus_world.specs.Log.{sent_count}
+use Rattle.bus_world.proofs.Waiting.{waiting_at, waiting_of}
+use Rattle.bus_world.specs.World.{is_open, can_put, can_close}
+use Rattle.bus_world.specs.CyclicProtocols.{actions_with}
+use Rattle.bus_world.proofs.Accepting.{idle_rests, not_busy}
+use Rattle.bus_world.proofs.Closings.{Closings, closings_on, frames_later, own_closed, own_closes}
+use Rattle.bus_world.proofs.EventTrails.{numbered_more, only_action, same_number, closed_apart, stepped_apart}
+use Rattle.bus_world.proofs.TableTrails.{none_in}
+use Rattle.bus_world.specs.Trails.{step_action}
+use Rattle.bus_tenure.specs.declared.turns.Turn.{Turn as Answered}
+use Rattle.bus_register.specs.declared.kinds.Kind.{Kind}
+use Rattle.bus_world.proofs.Tying.{AreNumbered}
+
+abbrev pub sent_by : List Frame → ℕ → List (List ℕ)
+sent_by frames q = map (λ (i : Item). i.message) (of_sender q (order_of frames))
+
+pub record IsNoted {E : Type 0} (senders : ℕ → Option (Core E)) (frames : List Frame) (D : ℕ → List Action) : Type 0 where
+  -- what a sender has put: its messages in the order, and those that wait
+  pub put : (s : ℕ) → puts (D s) ≡ sent_by frames s ++ waiting_of (senders s)
+  pub counted : (s : ℕ) → AreNumbered (D s)
+  pub closings : Closings senders frames D
+
+length_mapped : (xs : List Item) → length (map (λ (i : Item). i.message) xs) ≡ length xs
+length_mapped [] = refl
+length_mapped (x ∷ xs) = let a = length_mapped xs in omega arith
+
+-- actions among which nothing is put
+pub record PutsNothing (ds : List Action) : Type 0 where
+  pub none : puts ds ≡ []
+  pub never : (j n : ℕ) (bytes : List ℕ) → slice_get ds j ≡ Some (HasPut n bytes) → ⊥
+
+module _ {E : Type 0} (senders : ℕ → Option (Core E)) (frames : List Frame) (D : ℕ → List Action) (n : IsNoted senders frames D) (p : ℕ) (c : Core E) (old : senders p ≡ Some c) where
+  -- of the others nothing is noted
+  noted_other : (ds : List Action) (q : ℕ) → q ≢ p → actions_with p ds D q ≡ D q
+  noted_other ds q ne = elim (eqb_tells q p) [ inl y ↦ absurd (ne y.1) | inr z ↦ ap (λ b. D q ++ cond b ds []) z.0 ∙ append-nil (D q) ]
+
+  noted_own : (ds : List Action) (q : ℕ) → q ≡ p → actions_with p ds D q ≡ D q ++ ds
+  noted_own ds q e = elim (eqb_tells q p) [ inl y ↦ ap (λ b. D q ++ cond b ds []) y.0 | inr z ↦ absurd (z.1 e) ]
+
+  -- a turn: messages go from a batch into the order
+  pub noted_turn : (senders' : ℕ → Option (Core E)) → Beside p senders senders' → (c' : Core E) → senders' p ≡ Some c' → (frames' : List Frame) (ds : List Action) → PutsNothing ds
+      → ((q : ℕ) → sent_by frames' q ++ waiting_of (senders' q) ≡ sent_by frames q ++ waiting_of (senders q)) → (c'.queue.phase ≡ Closing → c.queue.phase ≡ Closing)
+      → ((i : ℕ) (f : Frame) → slice_get frames' i ≡ Some f → f.body ≡ EndMark → Closed (actions_with p ds D f.owner.0)) → IsNoted senders' frames' (actions_with p ds D)
+  noted_turn senders' beside c' new frames' ds nothing waits closing ends = record {
+    put = λ q. elim (cases_eq q p) [
+      | inl e ↦ ap puts (noted_own ds q e) ∙ flat_map-append put_of (D q) ds ∙ ap (λ z. puts (D q) ++ z) nothing.none ∙ append-nil (puts (D q)) ∙ n.put q ∙ sym (waits q)
+      | inr ne ↦ ap puts (noted_other ds q ne) ∙ n.put q ∙ sym (waits q)
+    ];
+    counted = λ q. elim (cases_eq q p) [
+      | inl e ↦ subst AreNumbered (sym (noted_own ds q e)) (numbered_more (D q) ds (n.counted q) (λ j m bytes at. absurd (nothing.never j m bytes at)))
+      | inr ne ↦ subst AreNumbered (sym (noted_other ds q ne)) (n.counted q)
+    ];
+    closings = closings_on senders frames D n.closings p c old ds senders' beside c' new frames' (λ e. own_closed senders frames D n.closings p c old ds (closing e)) ends;
+  }
+
+  -- where the frames stay
+  pub noted_over : (senders' : ℕ → Option (Core E)) → Beside p senders senders' → (c' : Core E) → senders' p ≡ Some c' → (ds : List Action) → PutsNothing ds → waiting_of (Some c') ≡ waiting_of (Some c) → (c'.queue.phase ≡ Closing → c.queue.phase ≡ Closing)
+      → IsNoted senders' frames (actions_with p ds D)
+  noted_over senders' beside c' new ds nothing waits closing = noted_turn senders' beside c' new frames ds nothing (λ q. elim (cases_eq q p) [
+    | inl e ↦ ap (λ z. sent_by frames q ++ waiting_of z) (ap senders' e ∙ new) ∙ ap (λ z. sent_by frames q ++ z) waits ∙ ap (λ z. sent_by frames q ++ waiting_of z) (sym (ap senders e ∙ old))
+    | inr ne ↦ ap (λ z. sent_by frames q ++ waiting_of z) (beside q ne)
+  ]) closing (frames_later senders frames D n.closings p c old ds)
+
+  -- ---- what it accepts
+  module _ (words : ℕ → ℕ) (fits : Fits words frames c c.phase) (me : c.me ≡ p) where
+    abbrev with_batch : Pending → ℕ → Option (Core E)
+    with_batch q = put p (Some (record c { queue = q })) senders
+
+    pub noted_put : (bytes : List ℕ) → can_put c.queue (length bytes) ≡ true → IsNoted (with_batch (record c.queue { messages = c.queue.messages ++ bytes ∷ [] })) frames (actions_with p (HasPut (next_of c.queue) bytes ∷ []) D)
+    noted_put bytes can = record {
+      put = λ q. elim (cases_eq q p) [
+        | inl e ↦ ap puts (noted_own ds q e) ∙ flat_map-append put_of (D q) ds ∙ ap (λ z. z ++ bytes ∷ []) (n.put q) ∙ append_assoc (sent_by frames q) (waiting_of (senders q)) (bytes ∷ [])
+            ∙ ap (λ z. sent_by frames q ++ (waiting_of z ++ bytes ∷ [])) (ap senders e ∙ old) ∙ ap (λ z. sent_by frames q ++ (z ++ bytes ∷ [])) before ∙ sym (ap (λ z. sent_by frames q ++ z) after) ∙ sym (ap (λ z. sent_by frames q ++ waiting_of z) (ap later e ∙ put_here p (Some c') senders))
+        | inr ne ↦ ap puts (noted_other ds q ne) ∙ n.put q ∙ sym (ap (λ z. sent_by frames q ++ waiting_of z) (put_beside p (Some c') senders q ne))
+      ];
+      counted = λ q. elim (cases_eq q p) [
+        | inl e ↦ subst AreNumbered (sym (noted_own ds q e)) (numbered_more (D q) ds (n.counted q) (λ j m b at.
+            let one = only_action (HasPut (next_of c.queue) bytes) j (HasPut m b) at in
+            (one.0, sym (same_number (next_of c.queue) m bytes b one.1) ∙ number ∙ sym (ap (λ z. length (puts (D z))) e))))
+        | inr ne ↦ subst AreNumbered (sym (noted_other ds q ne)) (n.counted q)
+      ];
+      closings = closings_on senders frames D n.closings p c old ds later (put_beside p (Some c') senders) c' (put_here p (Some c') senders) frames (λ e. own_closed senders frames D n.closings p c old ds e) (frames_later senders frames D n.closings p c old ds);
+    } where
+      c' : Core E
+      c' = record c { queue = record c.queue { messages = c.queue.messages ++ bytes ∷ [] } }
+
+      later : ℕ → Option (Core E)
+      later = put p (Some c') senders
+
+      ds : List Action
+      ds = HasPut (next_of c.queue) bytes ∷ []
+
+      rests : c.phase ≡ phase.Resting
+      rests =
+          let tests = (and_parts (is_open c.queue.phase) (cond c.queue.busy false true && (nat_le (length bytes) 56 && nat_lt (length c.queue.messages) 16)) can).1 in
+          idle_rests words frames c c.phase fits (not_busy c.queue.busy (and_parts (cond c.queue.busy false true) (nat_le (length bytes) 56 && nat_lt (length c.queue.messages) 16) tests).0)
+
+      before : waiting_of (Some c) ≡ c.queue.messages
+      before = ap (waiting_at c) rests
+
+      after : waiting_of (Some c') ≡ c.queue.messages ++ bytes ∷ []
+      after = ap (waiting_at c') rests
+
+      first : c.queue.first ≡ sent_count p frames
+      first = (subst (Fits words frames c) rests fits).1 ∙ ap (λ z. sent_count z frames) me
+
+      number : next_of c.queue ≡ length (puts (D p))
+      number =
+          let a = ap length (n.put p ∙ ap (λ z. sent_by frames p ++ waiting_of z) old ∙ ap (λ z. sent_by frames p ++ z) before) in
+          let b = length-append (sent_by frames p) c.queue.messages in let d = length_mapped (of_sender p (order_of frames)) in let e = first in omega arith
+
+    pub noted_close : can_close c.queue ≡ true → IsNoted (with_batch (record c.queue { phase = Closing })) frames (actions_with p (HasClosed ∷ []) D)
+    noted_close can = record {
+      put = λ q. elim (cases_eq q p) [
+        | inl e ↦ ap puts (noted_own (HasClosed ∷ []) q e) ∙ flat_map-append put_of (D q) (HasClosed ∷ []) ∙ append-nil (puts (D q)) ∙ n.put q ∙ ap (λ z. sent_by frames q ++ waiting_of z) (ap senders e ∙ old) ∙ ap (λ z. sent_by frames q ++ z) (ap (waiting_at c) rests)
+            ∙ sym (ap (λ z. sent_by frames q ++ z) (ap (waiting_at c') rests)) ∙ sym (ap (λ z. sent_by frames q ++ waiting_of z) (ap later e ∙ put_here p (Some c') senders))
+        | inr ne ↦ ap puts (noted_other (HasClosed ∷ []) q ne) ∙ n.put q ∙ sym (ap (λ z. sent_by frames q ++ waiting_of z) (put_beside p (Some c') senders q ne))
+      ];
+      counted = λ q. elim (cases_eq q p) [
+        | inl e ↦ subst AreNumbered (sym (noted_own (HasClosed ∷ []) q e)) (numbered_more (D q) (HasClosed ∷ []) (n.counted q) (λ j m b at. absurd (closed_apart m b (only_action HasClosed j (HasPut m b) at).1)))
+        | inr ne ↦ subst AreNumbered (sym (noted_other (HasClosed ∷ []) q ne)) (n.counted q)
+      ];
+      closings = closings_on senders frames D n.closings p c old (HasClosed ∷ []) later (put_beside p (Some c') senders) c' (put_here p (Some c') senders) frames (λ e. own_closes senders frames D n.closings p c old (HasClosed ∷ []) (0, refl)) (frames_later senders frames D n.closings p c old (HasClosed ∷ []));
+    } where
+      c' : Core E
+      c' = record c { queue = record c.queue { phase = Closing } }
+
+      later : ℕ → Option (Core E)
+      later = put p (Some c') senders
+
+      rests : c.phase ≡ phase.Resting
+      rests =
+          let tests = (and_parts (is_open c.queue.phase) (cond c.queue.busy false true && is_empty c.queue.messages) can).1 in
+          idle_rests words frames c c.phase fits (not_busy c.queue.busy (and_parts (cond c.queue.busy false true) (is_empty c.queue.messages) tests).0)
+
+-- a turn's actions are steps
+pub steps_put_nothing : (k : Option Kind) (tenure : Option ℕ) (got : ℕ) (chose : Option ℕ) (a : Answered) → PutsNothing (step_action k tenure got chose a)
+steps_put_nothing None tenure got chose a = record { none = refl; never = λ j n bytes e. none_in j _ e }
+steps_put_nothing (Some k) tenure got chose a = record { none = refl; never = λ j n bytes e. stepped_apart tenure k got chose a n bytes (only_action _ j _ e).1 }
+
+pub nothing_put : PutsNothing []
+nothing_put = record { none = refl; never = λ j n bytes e. none_in j _ e }

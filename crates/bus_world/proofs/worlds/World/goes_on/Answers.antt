@@ -1,6 +1,0 @@
-use Rattle.std.proofs.Common.{arith}
-use Rattle.bus_world.proofs.PlayingLaws.{stop_unknown}
-use Rattle.bus_world.proofs.worlds.World.goes_on.Goals as goal
-
-pub returns-then-self-sender-clause-fault : goal.returns-then-self-sender-clause-fault
-returns-then-self-sender-clause-fault g c = stop_unknown _ c.self.invariant c.args.self.now c.self.view_is c.args.sender (omega arith) c.if-self-sender.true

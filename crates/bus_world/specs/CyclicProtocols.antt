@@ -1,0 +1,159 @@
+-- Senders and receivers of a bus whose rows are used again, in any order: the reclamation, with its pins and the holder's reclaimer, whose words are those
+-- of the bus, with the page, the senders, the receivers and who took the pages. Tenure t uses row t mod rows.
+use Rattle.std.specs.Prelude.{◌≡◌, ◌≢◌, ℕ, ◌+◌, ◌*◌, ◌%◌, ◌<◌, ◌≤◌, Option, Some, None, List, [], ◌∷◌, ◌++◌, All, length, ◌==◌, if◌then◌else◌}
+use Rattle.bus_register.specs.declared.registers.Op.{Op}
+use Rattle.bus_register.specs.declared.registers.SenderNo.{SenderNo}
+use Rattle.bus_register.specs.Words.{register, after}
+use Rattle.bus_register.specs.Tables.{put}
+use Rattle.bus_batch.specs.Batches.{next_of}
+use Rattle.bus_batch.specs.Frames.{Order, Spells}
+use Rattle.bus_deliverylog.specs.Receiving.{Receiving}
+use Rattle.bus_deliverylog.specs.declared.receiving.RecvTurn.{RecvTurn}
+use Rattle.bus_presence.specs.Pins.{pin_fed}
+use Rattle.bus_presence.specs.Standing.{IsSafe, Stands}
+use Rattle.bus_presence.specs.Reclaimers.{Reclaiming, reclaim_fed}
+use Rattle.bus_presence.specs.Reclamation.{Reclamation, Trails, row_of, no_trails, new_reclamation, trails_with_entry, number_of_step, words_after as reclamation_words, Reached}
+use Rattle.bus_presence.specs.declared.pins.Pin.TheVariants.{Away}
+use Rattle.bus_tenure.specs.Core.{Core, Election, Layout, stage_at}
+use Rattle.bus_tenure.specs.Situations.{Situation, Elects, line_of, op_at, kind_at, tenure_at, chosen_at}
+use Rattle.bus_tenure.specs.declared.pages.Page.{Page}
+use Rattle.bus_tenure.specs.declared.phases.Phase.TheVariants.{Electing}
+use Rattle.bus_tenure.specs.declared.turns.Turn.{Turn as Answered}
+use Rattle.bus_core.specs.Reusing.Participants.{sizes_with, log_from, Due, Pins, Reclaims, Goes, due_of, place_for, core_looked, core_going, pin_going, reclaimer_going, answer_going}
+use Rattle.bus_world.specs.Turning.{core_moved, after_step, home_after, owners_after}
+use Rattle.bus_world.specs.Headline.{Action, HasPut, HasClosed, Promises}
+use Rattle.bus_world.specs.Log.{words_read_from}
+use Rattle.bus_world.specs.Trails.{step_action, Takers}
+use Rattle.bus_world.specs.World.{new_page, new_core, IsNewReceiver, RecvDoes, can_put, can_close, put_in, close_in}
+
+pub record CyclicProtocol (E : Type 0) : Type 0 where
+  pub reclamation : Reclamation
+  pub home : Option Page
+  pub senders : ℕ → Option (Core E)
+  pub receivers : ℕ → Option Receiving
+  -- who took the page, by tenure
+  pub owners : List ℕ
+
+-- ---- a step on the word that lies at another place
+abbrev pub words_stepped : (ℕ → ℕ) → (ℕ → ℕ) → Option Op → ℕ → ℕ
+words_stepped place words None = words
+words_stepped place words (Some o) = put (place (register o)) (after o (words (place (register o)))) words
+
+abbrev pub word_found : (ℕ → ℕ) → (ℕ → ℕ) → Option Op → ℕ
+word_found place words None = 0
+word_found place words (Some o) = words (place (register o))
+
+-- ---- a turn of sender p, which held this, with this random word
+abbrev pub yard_pin_stepped : {E : Type 0} → Election E → CyclicProtocol E → ℕ → Core E → Op → CyclicProtocol E
+yard_pin_stepped X y p c o = record y {
+  reclamation = record y.reclamation { words = reclamation_words y.reclamation o; pins = put p (pin_fed (y.reclamation.pins p) (number_of_step y.reclamation o)) y.reclamation.pins };
+  senders = put p (Some (core_looked X c (y.reclamation.pins p) (number_of_step y.reclamation o))) y.senders;
+}
+
+abbrev pub yard_reclaimed : {E : Type 0} → CyclicProtocol E → Reclaiming → Op → CyclicProtocol E
+yard_reclaimed y s o = record y { reclamation = record y.reclamation { words = reclamation_words y.reclamation o; reclaimer = Some (reclaim_fed s (number_of_step y.reclamation o)) } }
+
+-- as a sender that has a row for each tenure, in this situation
+abbrev pub yard_after_going : {E : Type 0} → Election E → Layout → ℕ → CyclicProtocol E → ℕ → Core E → Situation E → ℕ → CyclicProtocol E
+yard_after_going X x rows y p c z word = record y {
+  reclamation = record {
+    words = words_stepped (place_for x rows z) y.reclamation.words (op_at X c z word);
+    pins = put p (pin_going X c (y.reclamation.pins p) z (word_found (place_for x rows z) y.reclamation.words (op_at X c z word)) word) y.reclamation.pins;
+    reclaimer = reclaimer_going x rows y.reclamation.reclaimer z;
+  };
+  home = home_after X c z y.home;
+  senders = put p (Some (core_moved (after_step (line_of X c z).move) y.home (core_going X c z (word_found (place_for x rows z) y.reclamation.words (op_at X c z word)) word))) y.senders;
+  owners = owners_after X c z p y.owners;
+}
+
+abbrev pub yard_after : {E : Type 0} → Election E → Layout → ℕ → CyclicProtocol E → ℕ → Core E → Due E → ℕ → CyclicProtocol E
+yard_after X x rows y p c (Pins o) word = yard_pin_stepped X y p c o
+yard_after X x rows y p c (Reclaims s o) word = yard_reclaimed y s o
+yard_after X x rows y p c (Goes z) word = yard_after_going X x rows y p c z word
+
+-- the step of a pin joins the trail of its sender
+abbrev pub trails_with : {E : Type 0} → CyclicProtocol E → ℕ → Due E → Trails → Trails
+trails_with y p (Pins o) T = trails_with_entry T p record { op = o; got = number_of_step y.reclamation o }
+trails_with y p (Reclaims s o) T = T
+trails_with y p (Goes z) T = T
+
+-- ---- what a sender does
+-- Its actions, but for the steps of pins and of reclaimers, of which a pin's stand in the trail of the reclamation.
+abbrev pub going_actions : {E : Type 0} → Election E → Layout → ℕ → CyclicProtocol E → Core E → Situation E → ℕ → Answered → List Action
+going_actions X x rows y c z word answer =
+    let got = word_found (place_for x rows z) y.reclamation.words (op_at X c z word) in step_action (kind_at X c z) (tenure_at X c z) got (chosen_at X c z got word) answer
+
+abbrev pub due_actions : {E : Type 0} → Election E → Layout → ℕ → CyclicProtocol E → Core E → Due E → ℕ → Answered → List Action
+due_actions X x rows y c (Pins o) word answer = []
+due_actions X x rows y c (Reclaims s o) word answer = []
+due_actions X x rows y c (Goes z) word answer = going_actions X x rows y c z word answer
+
+-- What a turn answers that adds an action: what is due of what its step found. Of a turn that adds none nothing is said here.
+abbrev pub AnswersDue : {E : Type 0} → Election E → Layout → ℕ → CyclicProtocol E → Core E → Due E → ℕ → Answered → Type 0
+AnswersDue X x rows y c (Pins o) word answer = Unit {0}
+AnswersDue X x rows y c (Reclaims s o) word answer = Unit {0}
+AnswersDue X x rows y c (Goes z) word answer = answer ≡ answer_going X c z (word_found (place_for x rows z) y.reclamation.words (op_at X c z word)) word
+
+abbrev pub actions_with : ℕ → List Action → (ℕ → List Action) → ℕ → List Action
+actions_with p ds D q = D q ++ (if q == p then ds else [])
+
+abbrev pub no_actions : ℕ → List Action
+no_actions q = []
+
+abbrev pub no_answers : ℕ → List RecvTurn
+no_answers r = []
+
+-- this answer joins the trail of receiver r
+abbrev pub answers_with : ℕ → RecvTurn → (ℕ → List RecvTurn) → ℕ → List RecvTurn
+answers_with r answer H q = H q ++ (if q == r then answer ∷ [] else [])
+
+-- ---- what leads to a yard
+-- nothing has happened: words of zero, the page at home, senders and receivers at their starts
+pub record IsNewProtocol {E : Type 0} (x : Layout) (rows : ℕ) (y : CyclicProtocol E) : Type 0 where
+  pub reclamation : y.reclamation ≡ new_reclamation
+  pub home : y.home ≡ Some new_page
+  pub senders : (p : ℕ) (c : Core E) → y.senders p ≡ Some c → (p < x.senders) × (c ≡ new_core x p)
+  pub receivers : (r : ℕ) (v : Receiving) → y.receivers r ≡ Some v → IsNewReceiver x (log_from x rows) v
+  pub owners : y.owners ≡ []
+
+-- the turn that sender p takes next, which holds this
+abbrev pub due_in : {E : Type 0} → Election E → Layout → ℕ → CyclicProtocol E → ℕ → Core E → Due E
+due_in X x rows y p c = due_of X x rows p c (y.reclamation.pins p) y.reclamation.reclaimer
+
+-- These trails, actions and answers lead to a yard: from a new one, by one thing after another, of anybody and in any order. A sender takes
+-- a turn with any random word; or one that pins no tenure puts a message, or closes; or a receiver takes a turn.
+pub data Led {E : Type 0} (X : Election E) (x : Layout) (rows : ℕ) : CyclicProtocol E → Trails → (ℕ → List Action) → (ℕ → List RecvTurn) → Type 0 where
+  NewProtocol : (y : CyclicProtocol E) → IsNewProtocol x rows y → Led X x rows y no_trails no_actions no_answers
+  Turned : (y : CyclicProtocol E) (T : Trails) (D : ℕ → List Action) (H : ℕ → List RecvTurn) (p : ℕ) (c : Core E) (word : ℕ) (answer : Answered) → Led X x rows y T D H → y.senders p ≡ Some c → AnswersDue X x rows y c (due_in X x rows y p c) word answer
+      → Led X x rows (yard_after X x rows y p c (due_in X x rows y p c) word) (trails_with y p (due_in X x rows y p c) T) (actions_with p (due_actions X x rows y c (due_in X x rows y p c) word answer) D) H
+  PutIn : (y : CyclicProtocol E) (T : Trails) (D : ℕ → List Action) (H : ℕ → List RecvTurn) (p : ℕ) (c : Core E) (bytes : List ℕ) → Led X x rows y T D H → y.senders p ≡ Some c → y.reclamation.pins p ≡ Away → All (λ byte. byte < 256) bytes
+      → Led X x rows (record y { senders = put p (Some (put_in c bytes)) y.senders }) T (actions_with p (if can_put c.queue (length bytes) then HasPut (next_of c.queue) bytes ∷ [] else []) D) H
+  ClosedIn : (y : CyclicProtocol E) (T : Trails) (D : ℕ → List Action) (H : ℕ → List RecvTurn) (p : ℕ) (c : Core E) → Led X x rows y T D H → y.senders p ≡ Some c → y.reclamation.pins p ≡ Away
+      → Led X x rows (record y { senders = put p (Some (close_in c)) y.senders }) T (actions_with p (if can_close c.queue then HasClosed ∷ [] else []) D) H
+  Heard : (y : CyclicProtocol E) (T : Trails) (D : ℕ → List Action) (H : ℕ → List RecvTurn) (r : ℕ) (v next : Receiving) (answer : RecvTurn) → Led X x rows y T D H → y.receivers r ≡ Some v → RecvDoes y.reclamation.words v answer next
+      → Led X x rows (record y { receivers = put r (Some next) y.receivers }) T D (answers_with r answer H)
+
+-- ---- what is promised of it
+-- of its trails, actions and answers, with one order and one list of tenures and owners
+pub record KeepsPromises {E : Type 0} (X : Election E) (x : Layout) (rows : ℕ) (y : CyclicProtocol E) (T : Trails) (D : ℕ → List Action) (H : ℕ → List RecvTurn) (order : Order) (owners : List (ℕ × SenderNo)) : Type 0 where
+  -- its trails lead to its reclamation by moves of a reclamation: so no row is cleared while somebody stands in a tenure of it, ..
+  pub reached : Reached (sizes_with x rows) y.reclamation T
+  pub safe : IsSafe (sizes_with x rows) y.reclamation T
+  -- .. and while a page is out, the row of the next tenure was never used, or it is reclaimed
+  pub ready : (t : ℕ) → y.reclamation.words stage_at ≡ 2 * t + 1 → y.reclamation.reclaimer ≡ None → t + 1 < rows
+  -- whose election runs stands in its tenure: it stored its presence, then loaded the stage of that tenure, and has not cleared it since
+  pub stands : (p : ℕ) (c : Core E) (t : ℕ) (e : E) → y.senders p ≡ Some c → c.phase ≡ Electing t e → Stands (sizes_with x rows) p (T p) t
+  -- and its next step is on a word of the row that this tenure uses
+  pub within : (p : ℕ) (c : Core E) (t : ℕ) (e : E) (word : ℕ) (o : Op) → y.senders p ≡ Some c → c.phase ≡ Electing t e → X.op e word ≡ Some o
+      → (row_of (sizes_with x rows) t ≤ place_for x rows (Elects t e) (register o)) × (place_for x rows (Elects t e) (register o) < row_of (sizes_with x rows) t + x.width)
+  -- who took the pages is who did so by its actions
+  pub takers : Takers y.owners D
+  -- the words below the length spell the order and the owners
+  pub spelled : Spells x.senders (words_read_from y.reclamation.words (log_from x rows) (y.reclamation.words 0)) order owners
+  -- the headline's promise, also of tenures whose rows have gone on to others
+  pub promises : Promises D H order owners
+
+pub record IsKeptProtocol {E : Type 0} (X : Election E) (x : Layout) (rows : ℕ) (y : CyclicProtocol E) (T : Trails) (D : ℕ → List Action) (H : ℕ → List RecvTurn) : Type 0 where
+  pub order : Order
+  pub owners : List (ℕ × SenderNo)
+  pub by : KeepsPromises X x rows y T D H order owners

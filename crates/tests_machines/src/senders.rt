@@ -1,0 +1,273 @@
+//! Worked turns of a sender whose rows are used again.
+
+ghost use Rattle.std.specs.Prelude.{◌<◌};
+
+use bus_adoptcommit::ThreeWord;
+use bus_batch::PutFault;
+use bus_core::SenderCore;
+use bus_presence::Pin;
+use bus_register::{Cells, Kind, Op, Reg, SenderNo};
+use bus_tenure::{Page, Turn};
+use std::process::Abort;
+use std::test::Fail;
+
+/// The words of a bus of two senders, one round, two rows and 16 log words: the length, the stage,
+/// two presences, two rows of six words and the log.
+const WORDS: u64 = 32;
+
+/// Sender `me` of two, over two rows.
+fn made(me: u8) -> SenderCore<ThreeWord>
+    requires { me < 2 }
+{
+    SenderCore::cyclic(2, SenderNo(me), 1, 2, 16)
+}
+
+/// The page of a bus that has had no tenure.
+fn first_page() -> Page {
+    Page {
+        next: [0; 8],
+        ended: false,
+        tenures: 0,
+        words: 0,
+    }
+}
+
+/// Wants that a word is this.
+fn holds(rt: &impl Abort, cells: &Cells, at: u64, value: u64) {
+    assert!(rt; at < cells.len());
+    assert_eq!(rt; cells.get(Reg(at)), value);
+}
+
+/// Wants that the message is taken.
+fn puts(rt: &impl Abort, sender: &mut SenderCore<ThreeWord>, bytes: &[u8]) {
+    assert!(rt; sender.next_number() < 10);
+    assert!(rt; sender.put(bytes).is_ok());
+}
+
+/// Takes one turn, at most one step, with which the page comes and goes.
+fn turn(
+    rt: &impl Abort,
+    sender: &mut SenderCore<ThreeWord>,
+    cells: &mut Cells,
+    page: &mut Page,
+) -> Turn {
+    if let Some(given) = sender.take_out() {
+        *page = given;
+    }
+    let Some(op) = sender.next(0) else {
+        return sender.rest();
+    };
+    let place = match op {
+        Op::Load(at) | Op::Store(at, _) | Op::Add(at, _) | Op::Cas(at, _, _) => at.0,
+    };
+    assert!(rt; place < cells.len());
+    if let Op::Add(at, value) = op {
+        assert!(rt; value <= u64::MAX - cells.get(at));
+    }
+    let got = cells.apply(op);
+    let answer = sender.feed(got, 0);
+    if sender.awaits_page() {
+        sender.lay(*page);
+    }
+    answer
+}
+
+/// Wants that the next turn answers this.
+fn answers(
+    rt: &impl Abort,
+    sender: &mut SenderCore<ThreeWord>,
+    cells: &mut Cells,
+    page: &mut Page,
+    wanted: Turn,
+) {
+    assert_eq!(rt; turn(rt, sender, cells, page), wanted);
+}
+
+/// Wants so many turns that answer Going.
+fn goes_on(
+    rt: &impl Abort,
+    sender: &mut SenderCore<ThreeWord>,
+    cells: &mut Cells,
+    page: &mut Page,
+    turns: u64,
+) {
+    for _ in 0..turns {
+        answers(rt, sender, cells, page, Turn::Going);
+    }
+}
+
+/// Wants that the first turn that does not answer Going answers this.
+fn comes_to(
+    rt: &impl Abort,
+    sender: &mut SenderCore<ThreeWord>,
+    cells: &mut Cells,
+    page: &mut Page,
+    wanted: Turn,
+) {
+    let mut answer = Turn::Going;
+    for _ in 0..100 {
+        answer = turn(rt, sender, cells, page);
+        if answer != Turn::Going {
+            break;
+        }
+    }
+    assert_eq!(rt; answer, wanted);
+}
+
+/// Its message with this number was sent in this tenure.
+fn delivered(tenure: u64, number: u64) -> Turn {
+    Turn::Delivered {
+        tenure,
+        first: number,
+        last: number,
+    }
+}
+
+/// A sender that is alone enters the first tenure, step by step.
+fn enters(rt: &impl Abort, alone: &mut SenderCore<ThreeWord>, cells: &mut Cells, page: &mut Page) {
+    assert_eq!(rt; alone.kind(), Some(Kind::LoadStage));
+    goes_on(rt, alone, cells, page, 1);
+    assert_eq!(rt; alone.kind(), Some(Kind::Enter));
+    assert_eq!(rt; alone.tenure(), Some(0));
+    assert!(rt; !alone.is_closing());
+    assert!(rt; !alone.is_closed());
+    assert_eq!(rt; alone.turns_left(), 0);
+    assert!(rt; alone.next_number() < 10);
+    assert_eq!(rt; alone.put(b"b"), Err(PutFault::Busy));
+    assert!(rt; alone.close().is_err());
+    goes_on(rt, alone, cells, page, 1);
+    holds(rt, cells, 2, 1);
+    assert_eq!(rt; alone.kind(), Some(Kind::LoadStageAgain));
+    goes_on(rt, alone, cells, page, 1);
+    assert_eq!(rt; alone.pin(), Some(Pin::Pinned { tenure: 0 }));
+    assert_eq!(rt; alone.turns_left(), 9);
+    assert!(rt; !alone.wants_word());
+}
+
+/// It takes the page, clears its presence, and gives the page back: the first rows are all new.
+fn owns(rt: &impl Abort, alone: &mut SenderCore<ThreeWord>, cells: &mut Cells, page: &mut Page) {
+    comes_to(rt, alone, cells, page, Turn::Own { tenure: 0 });
+    assert_eq!(rt; alone.kind(), Some(Kind::Withdraw));
+    goes_on(rt, alone, cells, page, 1);
+    holds(rt, cells, 2, 0);
+    comes_to(rt, alone, cells, page, delivered(0, 0));
+    assert!(rt; cells.len() > 4);
+    assert!(rt; cells.get(Reg(4)) != 0);
+}
+
+/// In the second tenure it makes the first row ready for the third.
+fn reclaims(
+    rt: &impl Abort,
+    alone: &mut SenderCore<ThreeWord>,
+    cells: &mut Cells,
+    page: &mut Page,
+) {
+    comes_to(rt, alone, cells, page, Turn::Own { tenure: 1 });
+    goes_on(rt, alone, cells, page, 5);
+    assert_eq!(rt; alone.kind(), Some(Kind::ReadPresence));
+    goes_on(rt, alone, cells, page, 2);
+    assert_eq!(rt; alone.kind(), Some(Kind::ClearRow));
+    comes_to(rt, alone, cells, page, delivered(1, 1));
+    for place in 4..10 {
+        holds(rt, cells, place, 0);
+    }
+    holds(rt, cells, 1, 4);
+}
+
+#[test]
+fn alone_in_two_tenures(rt: HostRuntime) -> Result<(), Fail> {
+    let mut cells = Cells::new(rt.alloc(), WORDS)?;
+    let mut page = first_page();
+    let mut alone = made(0);
+    assert_eq!(rt; alone.rest(), Turn::Idle);
+    puts(&rt, &mut alone, b"a");
+    assert_eq!(rt; alone.number().0, 0);
+    assert_eq!(rt; alone.pending(), 1);
+    enters(&rt, &mut alone, &mut cells, &mut page);
+    owns(&rt, &mut alone, &mut cells, &mut page);
+    puts(&rt, &mut alone, b"b");
+    reclaims(&rt, &mut alone, &mut cells, &mut page);
+    assert_eq!(rt; page.tenures, 2);
+    Ok(())
+}
+
+#[test]
+fn late_sender_withdraws(rt: HostRuntime) -> Result<(), Fail> {
+    let mut cells = Cells::new(rt.alloc(), WORDS)?;
+    let mut page = first_page();
+    let mut first = made(0);
+    let mut late = made(1);
+    puts(&rt, &mut first, b"a");
+    puts(&rt, &mut late, b"b");
+    goes_on(&rt, &mut late, &mut cells, &mut page, 1);
+    comes_to(
+        &rt,
+        &mut first,
+        &mut cells,
+        &mut page,
+        Turn::Own { tenure: 0 },
+    );
+    comes_to(&rt, &mut first, &mut cells, &mut page, delivered(0, 0));
+    goes_on(&rt, &mut late, &mut cells, &mut page, 2);
+    assert_eq!(rt; late.pin(), Some(Pin::Invalidated { tenure: 0 }));
+    answers(&rt, &mut late, &mut cells, &mut page, Turn::Waiting);
+    assert_eq!(rt; late.tenure(), None);
+    holds(&rt, &cells, 3, 0);
+    comes_to(
+        &rt,
+        &mut late,
+        &mut cells,
+        &mut page,
+        Turn::Own { tenure: 1 },
+    );
+    Ok(())
+}
+
+#[test]
+fn holder_waits_for_who_is_inside(rt: HostRuntime) -> Result<(), Fail> {
+    let mut cells = Cells::new(rt.alloc(), WORDS)?;
+    let mut page = first_page();
+    let mut holder = made(0);
+    let mut late = made(1);
+    puts(&rt, &mut holder, b"a");
+    puts(&rt, &mut late, b"b");
+    goes_on(&rt, &mut late, &mut cells, &mut page, 3);
+    comes_to(
+        &rt,
+        &mut holder,
+        &mut cells,
+        &mut page,
+        Turn::Own { tenure: 0 },
+    );
+    comes_to(&rt, &mut holder, &mut cells, &mut page, delivered(0, 0));
+    puts(&rt, &mut holder, b"c");
+    comes_to(
+        &rt,
+        &mut holder,
+        &mut cells,
+        &mut page,
+        Turn::Own { tenure: 1 },
+    );
+    let behind = Turn::Behind {
+        tenure: 0,
+        sender: SenderNo(1),
+    };
+    comes_to(&rt, &mut holder, &mut cells, &mut page, behind);
+    answers(&rt, &mut holder, &mut cells, &mut page, behind);
+    let lost = Turn::Lost {
+        tenure: 0,
+        owner: SenderNo(0),
+    };
+    comes_to(&rt, &mut late, &mut cells, &mut page, lost);
+    comes_to(&rt, &mut holder, &mut cells, &mut page, delivered(1, 1));
+    Ok(())
+}
+
+#[test]
+fn tenures_come_to_an_end(rt: HostRuntime) {
+    let mut last = made(1);
+    puts(&rt, &mut last, b"");
+    assert!(rt; last.next(0).is_some());
+    assert_eq!(rt; last.feed(1 << 41, 0), Turn::Spent);
+    assert_eq!(rt; last.rest(), Turn::Spent);
+}
