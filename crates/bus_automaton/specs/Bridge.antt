@@ -1,4 +1,4 @@
--- The one process does what either of the two older ones does, and each state of the one automaton shows one of either of the two.
+-- The one process does what that of its kind of rows does, and each state of the one automaton shows one of the automaton of that kind.
 use Rattle.std.specs.Prelude.{◌≡◌, ℕ, Option, Some, None, List, option_map}
 use Rattle.bus_tenure.specs.Core.{Election, Layout}
 use Rattle.bus_tenure.specs.declared.pages.Page.{Page}

@@ -19,7 +19,7 @@ use Rattle.bus_core.specs.Reusing.Turns.{Participant, sizes_of, due}
 use Rattle.bus_core.specs.Table.{line}
 use Rattle.bus_core.specs.Proved.Bridge.{line_apart, AtNone, AtSome, IsLineOf}
 
--- with a row for each tenure each line is that of the older table
+-- with a row for each tenure each line is that of the table of a sender in its tenures
 line_at_none : {E : Type 0} (X : Election E) (c : Core E) (z : Own E) → line X (apart c) (Does z) ≡ line_apart (line_of X c z)
 line_at_none X c IsClosed = refl
 line_at_none X c IsIdle = refl

@@ -1,4 +1,5 @@
--- The older machine of rows used again, and how the one machine is either of the older two: of proofs alone, to be passed over.
+-- The bus whose rows are used again by itself, and how the one machine is that, or a bus with a row for each tenure: of proofs alone, to be
+-- passed over.
 pub mod Cyclic
 pub mod Happening
 pub mod Starting

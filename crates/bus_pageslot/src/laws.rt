@@ -106,8 +106,8 @@ pub fn steps_only_extend_the_log<Q: Ratifier>()
 /// Behind each table, of either kind of rows, stands a machine with its words and its page, and the
 /// seats show what led to it. So the machine's promise holds of that: each tenure has at most one
 /// owner, who announced for it; the words below the length are a log of what was put; and a row
-/// that is used again is cleared while nobody stands in a tenure of it. Whoever remembers to whom it
-/// lost its tenure has seen the election of that tenure end with this sender, and is not this
+/// that is used again is cleared while nobody stands in a tenure of it. Whoever remembers to whom
+/// it lost its tenure has seen the election of that tenure end with this sender, and is not this
 /// sender. No sender takes more steps towards the page of a tenure than an election has turns, or,
 /// where rows are used again, more than three of its pin.
 pub fn tables_are_machines<Q: Ratifier>()
@@ -197,8 +197,8 @@ pub fn past_tenures_are_left<Q: Ratifier>()
 }
 
 /// A sender that answers Behind is one of a bus whose rows are used again: it has loaded the
-/// presence of the sender for which it waits, and has found in it the tenure that it names. Its seat
-/// shows that load behind the steps of its reclamations before it.
+/// presence of the sender for which it waits, and has found in it the tenure that it names. Its
+/// seat shows that load behind the steps of its reclamations before it.
 pub fn behind_shows_its_load<Q: Ratifier>()
     ensures { let X = election_of Q.Ratifier in let P = process_by Q.Ratifier in
         (old new : SenderSeat (Sender (Elector Q))) (word t : ℕ) (p : SenderNo)

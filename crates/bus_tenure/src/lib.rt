@@ -1,6 +1,6 @@
 //! One sender's part: the page that it may hold, and its turns.
 //!
-//! The only sender of a bus puts a message, and has to look at the stage, which it finds at tenure 0:
+//! The only sender of a bus puts a message, and has to look at the stage. It finds tenure 0:
 //!
 //! ```
 //! use bus_adoptcommit::ThreeWord;

@@ -33,7 +33,7 @@ pub record CyclicMachine (E : Type 0) : Type 0 where
   pub receivers : List Receiving
   pub stopped : List Bool
 
--- ---- as a yard
+-- ---- as a protocol
 abbrev pub pin_in : {E : Type 0} → Option (Participant E) → Pin
 pin_in None = Away
 pin_in (Some v) = v.pin
@@ -52,7 +52,7 @@ yard_of b reclaimer owners = record {
   owners = owners;
 }
 
--- These trails, actions and answers lead to it: to its yard, with some list of owners and with the reclaimer of who holds the page.
+-- These trails, actions and answers lead to it: to its protocol, with some list of owners and with the reclaimer of who holds the page.
 pub record Leads {E : Type 0} (X : Election E) (b : CyclicMachine E) (T : Trails) (D : ℕ → List Action) (H : ℕ → List RecvTurn) : Type 0 where
   pub owners : List ℕ
   pub reclaimer : Option Reclaiming

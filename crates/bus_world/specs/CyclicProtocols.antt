@@ -107,7 +107,7 @@ no_answers r = []
 abbrev pub answers_with : ℕ → RecvTurn → (ℕ → List RecvTurn) → ℕ → List RecvTurn
 answers_with r answer H q = H q ++ (if q == r then answer ∷ [] else [])
 
--- ---- what leads to a yard
+-- ---- what leads to such a protocol
 -- nothing has happened: words of zero, the page at home, senders and receivers at their starts
 pub record IsNewProtocol {E : Type 0} (x : Layout) (rows : ℕ) (y : CyclicProtocol E) : Type 0 where
   pub reclamation : y.reclamation ≡ new_reclamation
@@ -120,7 +120,7 @@ pub record IsNewProtocol {E : Type 0} (x : Layout) (rows : ℕ) (y : CyclicProto
 abbrev pub due_in : {E : Type 0} → Election E → Layout → ℕ → CyclicProtocol E → ℕ → Core E → Due E
 due_in X x rows y p c = due_of X x rows p c (y.reclamation.pins p) y.reclamation.reclaimer
 
--- These trails, actions and answers lead to a yard: from a new one, by one thing after another, of anybody and in any order. A sender takes
+-- These trails, actions and answers lead to a protocol: from a new one, by one thing after another, of anybody and in any order. A sender takes
 -- a turn with any random word; or one that pins no tenure puts a message, or closes; or a receiver takes a turn.
 pub data Led {E : Type 0} (X : Election E) (x : Layout) (rows : ℕ) : CyclicProtocol E → Trails → (ℕ → List Action) → (ℕ → List RecvTurn) → Type 0 where
   NewProtocol : (y : CyclicProtocol E) → IsNewProtocol x rows y → Led X x rows y no_trails no_actions no_answers
