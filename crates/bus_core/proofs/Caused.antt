@@ -58,7 +58,7 @@ has_by [] p e = inr (closes_by p e)
 has_by (m ∷ ms) p e = inl (omega arith)
 
 -- it has something to send, and a tenure left to enter
-looks_cause : {E : Type 0} (X : Election E) (c : Core E) → situation_of X c ≡ LooksAtStage → LooksForTenure c
+pub looks_cause : {E : Type 0} (X : Election E) (c : Core E) → situation_of X c ≡ LooksAtStage → LooksForTenure c
 looks_cause {E} X c i =
     let rests = tells X c LooksAtStage i in
     let b = looks_by {E = E} (is_closed c.queue.phase) (is_empty c.queue.messages && cond (is_closing c.queue.phase) false true) (nat_le c.layout.rows c.least) (sym (ap (situation_at X c) rests) ∙ i) in

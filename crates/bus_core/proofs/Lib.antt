@@ -4,7 +4,9 @@ pub mod Situated
 mod Stepped
 pub mod Kept
 pub mod Caused
+pub mod Looking
 mod CausesRefused
 pub mod Lying
+pub mod Plain
 pub mod Told
 mod Refused

@@ -5,7 +5,8 @@ use Rattle.bus_register.specs.declared.registers.Op.{Op}
 use Rattle.bus_register.specs.declared.registers.Op.TheVariants.{Load, Store, Add, Cas}
 use Rattle.bus_presence.specs.Reclamation.{row_of}
 use Rattle.bus_presence.specs.Reclaimers.{Reclaiming}
-use Rattle.bus_tenure.specs.Core.{Election, Layout, row_at}
+use Rattle.bus_tenure.specs.Core.{Core, Election, Layout, row_at}
+use Rattle.bus_tenure.specs.Keeping.{SenderInvariant, PhaseKeeps, IsElecting}
 use Rattle.bus_tenure.specs.Situations.{IsClosed, IsIdle, IsSpent, LooksAtStage, Elects, TakesPage, AwaitsPage, StoresWord, StoresLength, GivesBack, HasHanded, situation_of as own_situation}
 use Rattle.bus_tenure.specs.declared.phases.Phase.TheVariants.{Electing}
 use Rattle.bus_tenure.proofs.Situated.{tells}
@@ -35,10 +36,15 @@ in_row_lies x (Some r) t (Some (Store at n)) above below = placed x r t at.0 abo
 in_row_lies x (Some r) t (Some (Add at n)) above below = placed x r t at.0 above below
 in_row_lies x (Some r) t (Some (Cas at n m)) above below = placed x r t at.0 above below
 
--- with a fact beside it
-with_fact : (A : Type 0) (Q : Op → Type 0) (o : Option Op) → A → IfSome o Q → IfSome o (λ o. A × Q o)
-with_fact A Q None a h = tt
-with_fact A Q (Some o) a h = (a, h)
+-- with two facts beside it
+with_facts : (A B : Type 0) (Q : Op → Type 0) (o : Option Op) → A → B → IfSome o Q → IfSome o (λ o. A × B × Q o)
+with_facts A B Q None a b h = tt
+with_facts A B Q (Some o) a b h = (a, b, h)
+
+-- the tenure of an election that runs is one of those of the bus
+pub electing_below : {E : Type 0} (width : ℕ) (Belongs : ℕ → E → Type 0) (c : Core E) → SenderInvariant width Belongs c → (t : ℕ) (e : E)
+    → c.phase ≡ Electing t e → t < c.layout.rows
+electing_below width Belongs c k t e at = let h : IsElecting Belongs c t e = subst (PhaseKeeps Belongs c) at k.phase in h.in_tenure.below
 
 module _ {E : Type 0} (X : Election E) (width : ℕ) (Belongs : ℕ → E → Type 0) (v : Sender E) (k : ReuseKeeps width Belongs v.core v.reuse) where
   -- who goes through an election stands in its tenure
@@ -76,7 +82,7 @@ module _ {E : Type 0} (X : Election E) (width : ℕ) (Belongs : ℕ → E → Ty
         let row : IsInRow v.core.layout (Some r) (g.tenure + 1) (s.row + s.cleared) = record { place = s.cleared; below = omega arith; is = ap (λ y. y + s.cleared) g.after.row } in
         record { tenure = g.tenure; held = g.held; row = subst (λ y. IsInRow v.core.layout y (g.tenure + 1) (s.row + s.cleared)) (sym e) row }
 
-  module _ (near : (t : ℕ) (e : E) → v.core.phase ≡ Electing t e → (word : ℕ) → IfSome (X.op e word) (λ o. row_at v.core.layout t ≤ register o) × IfSome (X.op e word) (λ o. register o < row_at v.core.layout t + v.core.layout.width)) where
+  module _ (within : (t : ℕ) (e : E) → v.core.phase ≡ Electing t e → t < v.core.layout.rows) (near : (t : ℕ) (e : E) → v.core.phase ≡ Electing t e → (word : ℕ) → IfSome (X.op e word) (λ o. row_at v.core.layout t ≤ register o) × IfSome (X.op e word) (λ o. register o < row_at v.core.layout t + v.core.layout.width)) where
     -- each line lies where its situation has it
     by_line : (word : ℕ) (z : Situation E) → situation X v ≡ z → IfSome ((line X v z).op word) (λ o. LiesAt v z (register o))
     by_line word (Does IsClosed) i = tt
@@ -86,8 +92,9 @@ module _ {E : Type 0} (X : Election E) (width : ℕ) (Belongs : ℕ → E → Ty
     by_line word (Does (Elects t e)) i =
         let at = (tells X v.core (Elects t e) (own_is X v (Elects t e) i)).0 in
         let n = near t e at word in
-        with_fact (StandsIn v.reuse t) (λ o. IsInRow v.core.layout v.reuse t (register o)) (in_row v.core.layout v.reuse t (X.op e word)) (stands t e at) (in_row_lies v.core.layout v.reuse t (X.op e word) n.0 n.1)
-    by_line word (Does (TakesPage t)) i = let at = tells X v.core (TakesPage t) (own_is X v (TakesPage t) i) in (stands t at.0 at.1, refl)
+        with_facts (t < v.core.layout.rows) (StandsIn v.reuse t) (λ o. IsInRow v.core.layout v.reuse t (register o)) (in_row v.core.layout v.reuse t (X.op e word))
+        (within t e at) (stands t e at) (in_row_lies v.core.layout v.reuse t (X.op e word) n.0 n.1)
+    by_line word (Does (TakesPage t)) i = let at = tells X v.core (TakesPage t) (own_is X v (TakesPage t) i) in (within t at.0 at.1, stands t at.0 at.1, refl)
     by_line word (Does (AwaitsPage t)) i = tt
     by_line word (Does (StoresWord t page stored)) i = omega arith
     by_line word (Does (StoresLength t page stored)) i = refl

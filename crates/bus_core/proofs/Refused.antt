@@ -1,21 +1,29 @@
 -- Each of the wrong answers is refused.
-use Rattle.std.proofs.Common.{◌≡◌, inl, inr, ℕ, ◌+◌, ◌/◌, ◌<◌, Bool, true, false, Option, Some, None, IfSome, IsSomeAnd, arith, refl, sym, ◌∙◌, ap, subst}
+use Rattle.std.proofs.Common.{◌≡◌, inl, inr, ℕ, ◌+◌, ◌/◌, ◌<◌, ◌≤◌, List, [], length, Bool, true, false, Option, Some, None, IfSome, IsSome, IsSomeAnd, arith, refl, sym, ◌∙◌, ap, subst}
 use Rattle.std.proofs.lemmas.Bool.{true≢false}
 use Rattle.std.proofs.lemmas.Option.{same_Some}
 use Rattle.bus_register.specs.declared.registers.SenderNo.{SenderNo}
 use Rattle.bus_presence.specs.declared.pins.Pin.TheVariants.{Announcing, Pinned, Unpinning}
-use Rattle.bus_tenure.specs.Core.{Core, Election, frame_len}
-use Rattle.bus_tenure.specs.Situations.{LooksAtStage, Elects}
+use Rattle.bus_tenure.specs.Causes.{LooksForTenure}
+use Rattle.bus_tenure.specs.Core.{Core, Election, Layout, frame_len, log_at}
+use Rattle.bus_tenure.specs.Situations.{IsIdle, Elects}
 use Rattle.bus_tenure.specs.declared.pages.Page.{Page}
 use Rattle.bus_tenure.specs.declared.phases.Phase.{Phase}
 use Rattle.bus_tenure.specs.declared.phases.Phase.TheVariants.{Resting, Electing, Holding}
 use Rattle.bus_tenure.proofs.Situated.{tells}
 use Rattle.bus_core.specs.Reusing.Keeping.{held_of}
 use Rattle.bus_core.specs.Reusing.Telling.{HasPublished, Published, HandsOnSent, LacksRoom, FindsNoRoom, HandsOnFull, FindsEnd, Ended, HandsOnEnd}
-use Rattle.bus_core.specs.Refused.{AnswersRefuse}
+use Rattle.bus_core.specs.Refused.{AnswersRefuse, RestsRefuse, PlacesRefuse}
+use Rattle.bus_core.specs.Keeping.{IsAway}
+use Rattle.bus_core.specs.Places.{IsInRow}
+use Rattle.bus_ownerbits.proofs.ElectionSteps.{row_within}
+use Rattle.bus_batch.specs.declared.batches.Phase.{Phase as BatchPhase}
+use Rattle.bus_batch.specs.declared.batches.Phase.TheVariants as batch
+use Rattle.std.specs.Prelude.{◌⊎◌}
 use Rattle.bus_core.specs.Senders.{Sender, Situation, Does, situation}
-use Rattle.bus_core.specs.Table.{line_now}
-use Rattle.bus_core.specs.Telling.{LosesElection, PartsAsLoser, LosesBy, BeginsBy, IsInvalidated}
+use Rattle.bus_core.specs.Table.{line, line_now}
+use Rattle.bus_core.specs.Telling.{LosesElection, PartsAsLoser, LosesBy, BeginsBy, RestIsTold, IsInvalidated}
+use Rattle.bus_tenure.specs.declared.turns.Turn.TheVariants as turn
 use Rattle.bus_core.specs.declared.reuses.Reuse.{Reuse}
 use Rattle.bus_core.proofs.Situated.{own_is}
 
@@ -85,13 +93,27 @@ of_some (Some r) A Q f w = f r w
 
 -- one tenure has begun
 begun_once : {E : Type 0} (c : Core E) (reuse : Option Reuse) (t u : ℕ) → BeginsBy c reuse t → BeginsBy c reuse u → t ≡ u
-begun_once c None t u e f = same_Some _ _ (sym e ∙ f)
+begun_once c None t u e f = (same_election t u e.0 f.0 (sym e.1 ∙ f.1)).0
 begun_once c (Some r) t u e f = same_tenure t u (sym e ∙ f)
+
+-- who has nothing has not something
+sends_nothing : (ms : List (List ℕ)) (p : BatchPhase) → ms ≡ [] → p ≡ batch.Open → (0 < length ms) ⊎ (p ≡ batch.Closing) → ⊥
+sends_nothing ms p nothing opened (inl some) = let none = ap length nothing in omega arith
+sends_nothing ms p nothing opened (inr closing) = let bad = sym opened ∙ closing in cc
+
+-- who pins none pins no tenure
+away_not : (reuse : Option Reuse) (r : Reuse) (t : ℕ) → reuse ≡ Some r → r.pin ≡ Pinned t → IsAway reuse → ⊥
+away_not reuse r t some at away = let h : IsAway (Some r) = subst IsAway some away in let bad = sym h ∙ at in cc
+
+-- who pins none has not come too late for one
+away_valid : (reuse : Option Reuse) → IsAway reuse → ¬ IsSomeAnd reuse (λ r. IsInvalidated r)
+away_valid None away w = w
+away_valid (Some r) away w = let bad = sym away ∙ w.is in cc
 
 module _ {E : Type 0} (X : Election E) (v : Sender E) (got word : ℕ) where
   -- who goes through an election looks at no stage for the first time
-  looks_not : (u : ℕ) (e : E) → v.core.phase ≡ Electing u e → situation X v ≡ Does LooksAtStage → ⊥
-  looks_not u e runs i = let bad = sym (tells X v.core LooksAtStage (own_is X v LooksAtStage i)) ∙ runs in cc
+  looks_not : (u : ℕ) (e : E) → v.core.phase ≡ Electing u e → LooksForTenure v.core → ⊥
+  looks_not u e runs l = let bad = sym l.rests ∙ runs in cc
 
   -- with a row for each tenure it loses with its election
   lost_election : (t : ℕ) (o : SenderNo) → v.reuse ≡ None → LosesBy X v got word t o v.reuse → LosesElection X v got word t o
@@ -104,6 +126,13 @@ module _ {E : Type 0} (X : Election E) (v : Sender E) (got word : ℕ) where
   -- with rows that are used again it stands in the tenure
   stands_in : (t : ℕ) (r : Reuse) → v.reuse ≡ Some r → IfSome v.reuse (λ r. r.pin ≡ Pinned t) → r.pin ≡ Pinned t
   stands_in t r e w = let h : IfSome (Some r) (λ r. r.pin ≡ Pinned t) = subst (λ y. IfSome y (λ r. r.pin ≡ Pinned t)) e w in h
+
+  -- who has nothing to do does not go on
+  idle_stays : situation X v ≡ Does IsIdle → ¬ RestIsTold X v turn.Going
+  idle_stays idle (inr w) = w
+  idle_stays idle (inl (told, inl k)) = absurd (let bad : false ≡ true = subst (λ z. IsSome (line X v z).kind) idle k in cc)
+  idle_stays idle (inl (told, inr (inl h))) = let bad = sym (tells X v.core IsIdle (own_is X v IsIdle idle)) ∙ h.is in cc
+  idle_stays idle (inl (told, inr (inr a))) = let bad = sym (tells X v.core IsIdle (own_is X v IsIdle idle)) ∙ a.is in cc
 
   -- all of them
   pub refused : AnswersRefuse X v got word
@@ -128,6 +157,16 @@ module _ {E : Type 0} (X : Election E) (v : Sender E) (got word : ℕ) where
       | inl a ↦ rests_unpublished v.core.phase w.tenure a.1 rests
       | inr a ↦ rests_before_the_end v.core.phase w.tenure a rests
     ];
+    waits_with_nothing = λ away nothing opened w. elim w [
+      | inl l ↦ sends_nothing _ _ nothing opened l.looks.looks.something
+      | inr b ↦ away_valid v.reuse away b
+    ];
+    waits_before_an_open_tenure = λ t away here may w. elim w [
+      | inl l ↦ elim l.vain [ inl odd ↦ omega arith | inr past ↦ omega arith ]
+      | inr b ↦ away_valid v.reuse away b
+    ];
+    spent_while_held = λ t held w. let e = w.opened in omega arith;
+    spent_with_a_page = λ t page stored published held w. let bad = sym w.looks.looks.rests ∙ held in cc;
     spent_too_soon = λ left w. let e = w.past in omega arith;
     lost_to_itself = λ t none w. (lost_election t record { 0 = v.core.me } none w).other refl;
     lost_undecided = λ t u o e none here undecided w.
@@ -138,6 +177,7 @@ module _ {E : Type 0} (X : Election E) (v : Sender E) (got word : ℕ) where
         let l = lost_election t o none w in
         let bad = sym rests ∙ (tells X v.core (Elects t l.election) (own_is X v (Elects t l.election) l.elects)).0 in cc;
     lost_to_another = λ t o r some none w. let l = parts_as t o r some w in let bad = sym none ∙ l.lost in cc;
+    lost_to_one_not_remembered = λ t o p r some lost other w. let l = parts_as t o r some w in other (same_Some p o (sym lost ∙ l.lost));
     lost_away = λ t o r some away w. let l = parts_as t o r some w in let bad = sym away ∙ l.parts in cc;
     own_of_another = λ t u o e runs owned other w.
         let same = (same_election u t e w.election (sym runs ∙ w.elects)).1 in
@@ -145,11 +185,11 @@ module _ {E : Type 0} (X : Election E) (v : Sender E) (got word : ℕ) where
     own_elsewhere = λ t u e runs apart w. apart (sym (same_election u t e w.election (sym runs ∙ w.elects)).0);
     own_away = λ t r some away w. let bad = sym away ∙ stands_in t r some w.pinned in cc;
     waits_apart = λ u e none runs w. elim w [
-      | inl l ↦ looks_not u e runs l.looks
+      | inl l ↦ looks_not u e runs l.looks.looks
       | inr b ↦ none_not v.reuse _ none b
     ];
     waits_pinned = λ t u e r some at runs w. elim w [
-      | inl l ↦ looks_not u e runs l.looks
+      | inl l ↦ looks_not u e runs l.looks.looks
       | inr b ↦ (let h = some_is v.reuse r _ some b in let bad = sym at ∙ h.is in cc)
     ];
     behind_apart = λ t p none w. none_not v.reuse _ none w;
@@ -163,5 +203,38 @@ module _ {E : Type 0} (X : Election E) (v : Sender E) (got word : ℕ) where
         λ t r some invalidated w. w.invalidated (subst (λ y. IsSomeAnd y (λ r. IsInvalidated r)) (sym some) record { tenure = t; is = invalidated });
     takes_silently = λ t takes w. w.takes t takes;
     gives_silently = λ t gives w. w.gives t gives;
+    waits_silently = λ vain w. w.waits vain;
+    spent_silently = λ past w. w.spent past;
+    behind_silently = λ t p behind w. w.behind t p behind;
+    goes_on_idly = λ idle w. idle_stays idle w;
     begins_elsewhere = λ t looks begins apart w. let after = (line_now X v).fed got word in apart (begun_once after.core after.reuse t (got / 2) begins (w.begins looks));
   }
+
+-- where no step is due
+pub rests_refused : {E : Type 0} (v : Sender E) → RestsRefuse v
+rests_refused v = record {
+  idle_with_a_message = λ m rest some w. let bad = sym w.nothing ∙ some in cc;
+  idle_while_closing = λ closing w. let bad = sym w.is_open ∙ closing in cc;
+  idle_once_closed = λ closed w. let bad = sym w.is_open ∙ closed in cc;
+  idle_in_an_election = λ t e runs w. let bad = sym w.none.rests ∙ runs in cc;
+  closed_while_closing = λ closing w. let bad = sym w.closed ∙ closing in cc;
+  closed_while_open = λ opened w. let bad = sym w.closed ∙ opened in cc;
+  closed_with_a_page = λ t page stored published held w. let bad = sym w.none.rests ∙ held in cc;
+  spent_with_a_tenure_left = λ left w. let e = w.past in omega arith;
+  spent_with_nothing = λ nothing opened w. sends_nothing _ _ nothing opened w.something;
+  spent_while_it_pins = λ t r some at w. away_not v.reuse r t some at w.none.away;
+}
+
+-- with a row for each tenure no word of a row of the bus stands in the log
+off_the_log : (x : Layout) (t r : ℕ) → t < x.rows → IsInRow x None t r → log_at x ≤ r → ⊥
+off_the_log x t r below w from =
+    let low = w.below in
+    let is = w.is in
+    let m = row_within t x.rows x.width below in omega arith
+
+-- where no step lies
+pub places_refused : {E : Type 0} (v : Sender E) → PlacesRefuse v
+places_refused v = record {
+  election_on_the_log = λ t r e none from w. off_the_log v.core.layout t r w.0 (subst (λ y. IsInRow v.core.layout y t r) none w.2) from;
+  idle_on_a_word = λ r w. w;
+}

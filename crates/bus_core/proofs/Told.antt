@@ -1,12 +1,12 @@
 -- What the answer of a step tells, of the one table.
+use Rattle.std.specs.Prelude.{◌⊎◌}
 use Rattle.std.proofs.Common.{◌≡◌, ◌≢◌, inl, inr, ℕ, ◌-◌, ◌/◌, ◌≤◌, Bool, true, false, cond, Option, Some, None, IsSome, is_some, nat_le, ◌==◌, refl, sym, ◌∙◌, ap, subst, arith}
 use Rattle.std.proofs.lemmas.Bool.{leb-false, leb-true, true≢false}
 use Rattle.std.proofs.lemmas.Bool.Decides.{eqb_tells}
 use Rattle.std.proofs.lemmas.Option.{same_Some}
 use Rattle.bus_batch.specs.Batches.{next_of}
 use Rattle.bus_presence.specs.Reclaimers.{behind_of}
-use Rattle.bus_tenure.specs.Core.{Core, Election, is_closing}
-use Rattle.bus_tenure.specs.Seen.{tenure_of}
+use Rattle.bus_tenure.specs.Core.{Core, Election, is_closing, row_at}
 use Rattle.bus_tenure.specs.Situations.{Situation as Own, IsClosed, IsIdle, IsSpent, LooksAtStage, Elects, TakesPage, AwaitsPage, StoresWord, StoresLength, GivesBack, HasHanded, situation_of, situation_at, waits, core_begun, op_at, answer_at, answer_of_election, answer_of_return}
 use Rattle.bus_tenure.specs.declared.pages.Page.{Page}
 use Rattle.bus_tenure.specs.declared.phases.Reason.{Reason}
@@ -15,6 +15,8 @@ use Rattle.bus_tenure.specs.declared.phases.Phase.TheVariants.{Electing, Giving}
 use Rattle.bus_tenure.specs.declared.turns.Turn.{Turn}
 use Rattle.bus_tenure.specs.declared.turns.Turn.TheVariants as turn
 use Rattle.bus_tenure.proofs.Situated.{tells}
+use Rattle.bus_tenure.specs.Seen.{HasElection, AwaitsItsPage}
+use Rattle.bus_core.proofs.Situated.{own_is}
 use Rattle.bus_core.specs.Reusing.Besides.{reclaims_by}
 use Rattle.bus_core.specs.Reusing.Participants.{Due, Pins, Reclaims, Goes, answer_going}
 use Rattle.bus_core.specs.Reusing.Keeping.{ParticipantKeeps}
@@ -23,11 +25,12 @@ use Rattle.bus_core.specs.Reusing.Turns.{Participant, due, op_due, answer_due, a
 use Rattle.bus_core.proofs.Reusing.Keeps.{goes_beside}
 use Rattle.bus_core.proofs.Reusing.Tells.{ChoosesItself, Shows, reclaims_beside, gives_shows, told_pin, told_reclaimer, told_own}
 use Rattle.bus_core.specs.Keeping.{ReuseKeeps, sender}
-use Rattle.bus_core.specs.Senders.{Sender, Does, apart, again, participant_of}
-use Rattle.bus_core.specs.Table.{line, line_now}
-use Rattle.bus_core.specs.Telling.{FeedTells, GivesReady, Begins, TellsNoMore}
+use Rattle.bus_core.specs.Senders.{Sender, Situation, Does, Announces, Validates, Unpins, Withdraws, Scans, Clears, apart, again, participant_of, situation}
+use Rattle.bus_core.specs.Table.{line, line_now, rest_at}
+use Rattle.bus_core.specs.Telling.{LooksFirst, FeedTells, RestTells, RestIsTold, GivesReady, Begins, TellsNoMore}
 use Rattle.bus_core.specs.declared.reuses.Reuse.{Reuse}
 use Rattle.bus_core.proofs.Bridged.{at_none, at_some, does_goes, goes_does}
+use Rattle.bus_core.proofs.Looking.{vain_of, waits_of, opened_of, enters_of, first_looks, looks_first, rests_idle, rests_closed, rests_spent}
 
 -- ---- with rows that are used again
 -- what the answer of a participant's step tells
@@ -58,14 +61,23 @@ module _ {E : Type 0} (X : Election E) (v : Participant E) (got word : ℕ) wher
   gives_again : (t : ℕ) → GivesReady X (again v) t → GivesAgain X v t
   gives_again t w = record { due_is = does_goes X v (situation_of X v.core) w.does; returns = w.returns; ready = w.ready }
 
+  module _ (width : ℕ) (Belongs : ℕ → E → Type 0) (k : ParticipantKeeps width Belongs v) where
+    -- a first look at the stage
+    first_again : due X v ≡ Goes LooksAtStage → LooksFirst (again v)
+    first_again i = looks_first X (again v) width Belongs k (goes_does X v LooksAtStage i)
+
+  -- and back
+  again_first : LooksFirst (again v) → due X v ≡ Goes LooksAtStage
+  again_first w = does_goes X v LooksAtStage (first_looks X (again v) w)
+
   -- the same, of the one sender
-  tells_again : (a : Turn) → TellsAgain X v got word a → FeedTells X (again v) got word a
-  tells_again turn.Idle w = w
-  tells_again turn.Waiting w = elim w [
-    | inl l ↦ inl record { looks = goes_does X v LooksAtStage l.looks; waits = l.waits }
+  tells_again : (width : ℕ) (Belongs : ℕ → E → Type 0) → ParticipantKeeps width Belongs v → (a : Turn) → TellsAgain X v got word a → FeedTells X (again v) got word a
+  tells_again width Belongs k turn.Idle w = w
+  tells_again width Belongs k turn.Waiting w = elim w [
+    | inl l ↦ inl record { looks = first_again width Belongs k l.looks; vain = vain_of v.core got l.waits }
     | inr b ↦ inr record { tenure = b.tenure; is = b.is }
   ]
-  tells_again turn.Going w =
+  tells_again width Belongs k turn.Going w =
       let s = at_some X v in
       record {
         loses = λ t o l. w.loses t o record { parts = l.parts; lost = l.lost };
@@ -73,19 +85,20 @@ module _ {E : Type 0} (X : Election E) (v : Participant E) (got word : ℕ) wher
         invalidated = λ b. w.invalidated record { tenure = b.tenure; is = b.is };
         takes = λ t c. w.takes t record { pinned = c.pinned; election = c.election; elects = c.elects; chosen = c.chosen };
         gives = λ t g. w.gives t (gives_again t g);
-        waits = λ l. w.waits record { looks = does_goes X v LooksAtStage l.looks; waits = l.waits };
-        spent = λ l. w.spent record { looks = does_goes X v LooksAtStage l.looks; enters = l.enters; past = l.past };
-        begins = λ i. subst (λ y. Begins y (got / 2)) (sym (s.fed got word)) (w.begins (does_goes X v LooksAtStage i));
+        waits = λ l. w.waits record { looks = again_first l.looks; waits = waits_of v.core got l.vain };
+        spent = λ l. w.spent record { looks = again_first l.looks; enters = enters_of v.core got l.opened l.may; past = l.past };
+        begins = λ i. subst (λ y. Begins y (got / 2)) (sym (s.fed got word)) (w.begins (again_first i));
         behind = λ t p b. w.behind t p record { loads = sym (s.op word) ∙ b.loads; found = b.found; below = b.below; tenure = b.tenure; held = b.held; past = b.past };
       }
-  tells_again (turn.Lost t o) w = record { parts = w.parts; lost = w.lost }
-  tells_again (turn.Own t) w = record { pinned = w.pinned; election = w.election; elects = w.elects; chosen = w.chosen }
-  tells_again (turn.Delivered t first last) w =
+  tells_again width Belongs k (turn.Lost t o) w = record { parts = w.parts; lost = w.lost }
+  tells_again width Belongs k (turn.Own t) w = record { pinned = w.pinned; election = w.election; elects = w.elects; chosen = w.chosen }
+  tells_again width Belongs k (turn.Delivered t first last) w =
       record { gives = gives_ready t w.gives; published = w.published; sends = w.sends; first_is = w.first_is; last_is = w.last_is }
-  tells_again turn.Full w = record { tenure = w.tenure; gives = gives_ready w.tenure w.gives; lacks = w.lacks }
-  tells_again turn.Closed w = record { tenure = w.tenure; gives = gives_ready w.tenure w.gives; why = w.why }
-  tells_again turn.Spent w = record { looks = goes_does X v LooksAtStage w.looks; enters = w.enters; past = w.past }
-  tells_again (turn.Behind t p) w =
+  tells_again width Belongs k turn.Full w = record { tenure = w.tenure; gives = gives_ready w.tenure w.gives; lacks = w.lacks }
+  tells_again width Belongs k turn.Closed w = record { tenure = w.tenure; gives = gives_ready w.tenure w.gives; why = w.why }
+  tells_again width Belongs k turn.Spent w =
+      let o = opened_of v.core got w.enters in record { looks = first_again width Belongs k w.looks; opened = o.0; may = o.1; past = w.past }
+  tells_again width Belongs k (turn.Behind t p) w =
       record { loads = (at_some X v).op word ∙ w.loads; found = w.found; below = w.below; tenure = w.tenure; held = w.held; past = w.past }
 
 -- ---- with a row for each tenure
@@ -112,6 +125,14 @@ module _ {E : Type 0} (X : Election E) (c : Core E) (got word : ℕ) where
   own_of : (z w : Own E) → Does z ≡ Does w → z ≡ w
   own_of z w e = cc
 
+  -- a first look at the stage
+  own_looks : LooksFirst (apart c) → situation_of X c ≡ LooksAtStage
+  own_looks w = own_of (situation_of X c) LooksAtStage (first_looks X (apart c) w)
+
+  -- and back
+  looks_apart : situation_of X c ≡ LooksAtStage → LooksFirst (apart c)
+  looks_apart i = looks_first X (apart c) 0 (λ at e. Unit {0}) tt (ap Does i)
+
   -- nothing else is told of a step in this situation
   quiet : (z : Own E) → situation_of X c ≡ z → ((t : ℕ) (e : E) → z ≡ Elects t e → (o : ℕ) → X.owner (X.fed e got word) ≡ Some o → o ≡ c.me)
       → ((t : ℕ) → z ≢ TakesPage t) → ((t : ℕ) → ¬ Returns t z)
@@ -122,9 +143,9 @@ module _ {E : Type 0} (X : Election E) (c : Core E) (got word : ℕ) where
     invalidated = λ n. n;
     takes = λ t w. takes t (sym i ∙ takes_page X c t w.election c.me w.elects w.chosen);
     gives = λ t w. returns t (subst (Returns t) i w.returns);
-    waits = λ w. vain (sym i ∙ own_of (situation_of X c) LooksAtStage w.looks) w.waits;
-    spent = λ w. past (sym i ∙ own_of (situation_of X c) LooksAtStage w.looks) w.past;
-    begins = λ e. begins (sym i ∙ own_of (situation_of X c) LooksAtStage e);
+    waits = λ w. vain (sym i ∙ own_looks w.looks) (waits_of c got w.vain);
+    spent = λ w. past (sym i ∙ own_looks w.looks) w.past;
+    begins = λ w. begins (sym i ∙ own_looks w);
     behind = λ t p n. n;
   }
 
@@ -137,15 +158,18 @@ module _ {E : Type 0} (X : Election E) (c : Core E) (got word : ℕ) where
   -- the tenure that the stage shows has begun
   begun : waits c got ≡ false → nat_le c.layout.rows (got / 2) ≡ false → situation_of X c ≡ LooksAtStage
       → Begins ((line_now X (apart c)).fed got word) (got / 2)
-  begun e f i = subst (λ z. Begins ((line X (apart c) (Does z)).fed got word) (got / 2)) (sym i)
-      (ap (λ a. tenure_of (cond a c (cond (nat_le c.layout.rows (got / 2)) (record c { least = got / 2 }) (core_begun X c (got / 2)))).phase) e
-      ∙ ap (λ a. tenure_of (cond a (record c { least = got / 2 }) (core_begun X c (got / 2))).phase) f)
+  begun e f i = subst (λ z. Begins ((line X (apart c) (Does z)).fed got word) (got / 2)) (sym i) (
+    X.started c.layout.senders c.me c.layout.rounds (row_at c.layout (got / 2)),
+    ap (λ a. (cond a c (cond (nat_le c.layout.rows (got / 2)) (record c { least = got / 2 }) (core_begun X c (got / 2)))).phase) e
+        ∙ ap (λ a. (cond a (record c { least = got / 2 }) (core_begun X c (got / 2))).phase) f,
+  )
 
   -- a first look at the stage
   looks : (a b : Bool) → waits c got ≡ a → nat_le c.layout.rows (got / 2) ≡ b → situation_of X c ≡ LooksAtStage
       → FeedTells X (apart c) got word (cond a turn.Waiting (cond b turn.Spent turn.Going))
-  looks true b e f i = inl record { looks = ap Does i; waits = e }
-  looks false true e f i = record { looks = ap Does i; enters = e; past = leb-true c.layout.rows (got / 2) f }
+  looks true b e f i = inl record { looks = looks_apart i; vain = vain_of c got e }
+  looks false true e f i =
+      let o = opened_of c got e in record { looks = looks_apart i; opened = o.0; may = o.1; past = leb-true c.layout.rows (got / 2) f }
   looks false false e f i = quiet LooksAtStage i (λ t x w. absurd cc) (λ t w. cc) (λ t w. (returns_not LooksAtStage t w).0 refl)
       (λ w y. true≢false (sym y ∙ e)) (λ w y. let n = leb-false c.layout.rows (got / 2) f in omega arith) (λ w. begun e f i)
 
@@ -213,4 +237,28 @@ line_told {E} X width Belongs v got word k own h = by v.reuse k h where
       let n = at_none X v.core in
       subst (FeedTells X (apart v.core) got word) (sym (ap (λ l. l.answer got word) n))
       (tells_apart X v.core got word own (situation_of X v.core) refl (subst IsSome (ap (λ l. l.op word) n) h))
-  by (Some r) k h = tells_again X (participant_of v.core r) got word _ (told_at_some X width Belongs (participant_of v.core r) got word k own h)
+  by (Some r) k h = tells_again X (participant_of v.core r) got word width Belongs k _ (told_at_some X width Belongs (participant_of v.core r) got word k own h)
+
+-- what the answer tells where no step is due: Going where a page is to be laid
+pub rest_told : {E : Type 0} (X : Election E) (width : ℕ) (Belongs : ℕ → E → Type 0) (v : Sender E) → ReuseKeeps width Belongs v.core v.reuse
+    → RestIsTold X v (rest_at (line_now X v))
+rest_told {E} X width Belongs v k = by (situation X v) refl where
+  by : (z : Situation E) → situation X v ≡ z
+      → ((rest_at (line X v z) ≡ turn.Going) × (IsSome (line X v z).kind ⊎ (HasElection v.core.phase ⊎ AwaitsItsPage v.core.phase))) ⊎ RestTells v (rest_at (line X v z))
+  by (Does IsClosed) i = inr (rests_closed X v width Belongs k i)
+  by (Does IsIdle) i = inr (rests_idle X v width Belongs k i)
+  by (Does IsSpent) i = inr (rests_spent X v width Belongs k i)
+  by (Does LooksAtStage) i = inl (refl, inl refl)
+  by (Does (Elects t e)) i = inl (refl, inr (inl record { tenure = t; election = e; is = (tells X v.core (Elects t e) (own_is X v (Elects t e) i)).0 }))
+  by (Does (TakesPage t)) i = inl (refl, inl refl)
+  by (Does (AwaitsPage t)) i = inl (refl, inr (inr record { tenure = t; is = tells X v.core (AwaitsPage t) (own_is X v (AwaitsPage t) i) }))
+  by (Does (StoresWord t page stored)) i = inl (refl, inl refl)
+  by (Does (StoresLength t page stored)) i = inl (refl, inl refl)
+  by (Does (GivesBack t page reason)) i = inl (refl, inl refl)
+  by (Does (HasHanded t reason)) i = inl (refl, inl refl)
+  by (Announces t) i = inl (refl, inl refl)
+  by (Validates t) i = inl (refl, inl refl)
+  by (Unpins t) i = inl (refl, inl refl)
+  by (Withdraws t) i = inl (refl, inl refl)
+  by (Scans s) i = inl (refl, inl refl)
+  by (Clears s) i = inl (refl, inl refl)

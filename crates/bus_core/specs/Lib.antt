@@ -7,6 +7,7 @@ pub mod Seen
 pub mod Causes
 pub mod CausesRefuse
 pub mod Places
+pub mod Plain
 pub mod Telling
 pub mod Refused
 pub mod Proved

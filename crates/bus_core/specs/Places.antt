@@ -38,15 +38,15 @@ pub record IsInNextRow {E : Type 0} (v : Sender E) (r : ℕ) : Type 0 where
   pub row : IsInRow v.core.layout v.reuse (tenure + 1) r
 
 -- A step on a word of a row is the election's, on the row of the tenure that the sender stands in, or the reclamation's, in the row that it
--- clears. A step on a presence is on the sender's own, or on the one that the reclamation asks.
+-- clears. An election's tenure is one of those of the bus. A step on a presence is on the sender's own, or on the one that the reclamation asks.
 abbrev pub LiesAt : {E : Type 0} → Sender E → Situation E → ℕ → Type 0
-LiesAt v (Does IsClosed) r = Unit {0}
-LiesAt v (Does IsIdle) r = Unit {0}
-LiesAt v (Does IsSpent) r = Unit {0}
+LiesAt v (Does IsClosed) r = ⊥
+LiesAt v (Does IsIdle) r = ⊥
+LiesAt v (Does IsSpent) r = ⊥
 LiesAt v (Does LooksAtStage) r = r ≡ stage_at
-LiesAt v (Does (Elects t e)) r = StandsIn v.reuse t × IsInRow v.core.layout v.reuse t r
-LiesAt v (Does (TakesPage t)) r = StandsIn v.reuse t × (r ≡ stage_at)
-LiesAt v (Does (AwaitsPage t)) r = Unit {0}
+LiesAt v (Does (Elects t e)) r = (t < v.core.layout.rows) × StandsIn v.reuse t × IsInRow v.core.layout v.reuse t r
+LiesAt v (Does (TakesPage t)) r = (t < v.core.layout.rows) × StandsIn v.reuse t × (r ≡ stage_at)
+LiesAt v (Does (AwaitsPage t)) r = ⊥
 LiesAt v (Does (StoresWord t page stored)) r = log_start v.core.layout v.reuse ≤ r
 LiesAt v (Does (StoresLength t page stored)) r = r ≡ length_at
 LiesAt v (Does (GivesBack t page reason)) r = r ≡ stage_at

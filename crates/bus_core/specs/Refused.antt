@@ -1,20 +1,23 @@
 -- What no step of a sender may answer, whatever its definitions are.
-use Rattle.std.specs.Prelude.{◌≡◌, ◌≢◌, ℕ, ◌+◌, ◌/◌, ◌<◌, ◌≤◌, false, true, Some, None, Bool}
+use Rattle.std.specs.Prelude.{◌≡◌, ◌≢◌, ℕ, ◌+◌, ◌*◌, ◌/◌, ◌<◌, ◌≤◌, false, true, Some, None, Bool, List, [], ◌∷◌, IsSomeAnd}
 use Rattle.bus_batch.specs.Batches.{next_of}
+use Rattle.bus_batch.specs.declared.batches.Phase.TheVariants as batch
 use Rattle.bus_register.specs.declared.registers.Op.TheVariants.{Load}
 use Rattle.bus_register.specs.declared.registers.SenderNo.{SenderNo}
 use Rattle.bus_presence.specs.Reclamation.{presence_at}
 use Rattle.bus_presence.specs.declared.pins.Pin.TheVariants.{Away, Pinned, Unpinning, Invalidated}
-use Rattle.bus_tenure.specs.Core.{Election, frame_len, is_closing}
-use Rattle.bus_tenure.specs.Situations.{LooksAtStage, Elects}
+use Rattle.bus_tenure.specs.Core.{Election, frame_len, is_closing, log_at}
+use Rattle.bus_tenure.specs.Situations.{IsIdle, Elects}
 use Rattle.bus_tenure.specs.declared.pages.Page.{Page}
 use Rattle.bus_tenure.specs.declared.phases.Phase.TheVariants.{Resting, Electing, Holding}
 use Rattle.bus_tenure.specs.declared.turns.Turn.TheVariants as turn
+use Rattle.bus_core.specs.Keeping.{IsAway}
 use Rattle.bus_core.specs.Reusing.Participants.{sizes_with}
 use Rattle.bus_core.specs.declared.reuses.Reuse.{Reuse}
+use Rattle.bus_core.specs.Places.{LiesAt}
 use Rattle.bus_core.specs.Senders.{Sender, Does, situation}
 use Rattle.bus_core.specs.Table.{line_now}
-use Rattle.bus_core.specs.Telling.{FeedTells, Loses, IsChosen, GivesReady, Begins}
+use Rattle.bus_core.specs.Telling.{FeedTells, RestTells, RestIsTold, LooksFirst, LooksInVain, FindsNoneLeft, Loses, IsChosen, GivesReady, IsBehind, Begins}
 
 pub record AnswersRefuse {E : Type 0} (X : Election E) (v : Sender E) (got word : ℕ) : Type 0 where
   -- Idle with a step
@@ -42,15 +45,23 @@ pub record AnswersRefuse {E : Type 0} (X : Election E) (v : Sender E) (got word 
   pub delivered_at_rest : (t first last : ℕ) → v.core.phase ≡ Resting → ¬ FeedTells X v got word (turn.Delivered t first last)
   pub full_at_rest : v.core.phase ≡ Resting → ¬ FeedTells X v got word turn.Full
   pub closed_at_rest : v.core.phase ≡ Resting → ¬ FeedTells X v got word turn.Closed
-  -- Spent while a tenure is left
+  -- Waiting of one that pins no tenure, where nothing waits, or on the stage of an open tenure that it may enter
+  pub waits_with_nothing : IsAway v.reuse → v.core.queue.messages ≡ [] → v.core.queue.phase ≡ batch.Open → ¬ FeedTells X v got word turn.Waiting
+  pub waits_before_an_open_tenure : (t : ℕ) → IsAway v.reuse → got ≡ 2 * t → v.core.least ≤ t → ¬ FeedTells X v got word turn.Waiting
+  -- Spent while a tenure is left, or held, or of a sender that holds a page
+  pub spent_while_held : (t : ℕ) → got ≡ 2 * t + 1 → ¬ FeedTells X v got word turn.Spent
+  pub spent_with_a_page : (t : ℕ) (page : Page) (stored : ℕ) (published : Bool) → v.core.phase ≡ Holding t page stored published
+      → ¬ FeedTells X v got word turn.Spent
   pub spent_too_soon : got / 2 < v.core.layout.rows → ¬ FeedTells X v got word turn.Spent
   -- Lost with a row for each tenure: to itself, or by a step that left its election without an owner, or was no step of it
   pub lost_to_itself : (t : ℕ) → v.reuse ≡ None → ¬ FeedTells X v got word (turn.Lost t record { 0 = v.core.me })
   pub lost_undecided : (t u : ℕ) (o : SenderNo) (e : E) → v.reuse ≡ None → situation X v ≡ Does (Elects u e)
       → X.owner (X.fed e got word) ≡ None → ¬ FeedTells X v got word (turn.Lost t o)
   pub lost_at_rest : (t : ℕ) (o : SenderNo) → v.reuse ≡ None → v.core.phase ≡ Resting → ¬ FeedTells X v got word (turn.Lost t o)
-  -- Lost with rows that are used again: where it remembers no owner, or while it pins no tenure
+  -- Lost with rows that are used again: where it remembers no owner, or another, or while it pins no tenure
   pub lost_to_another : (t : ℕ) (o : SenderNo) (r : Reuse) → v.reuse ≡ Some r → r.lost ≡ None → ¬ FeedTells X v got word (turn.Lost t o)
+  pub lost_to_one_not_remembered : (t : ℕ) (o p : SenderNo) (r : Reuse) → v.reuse ≡ Some r → r.lost ≡ Some p → p ≢ o
+      → ¬ FeedTells X v got word (turn.Lost t o)
   pub lost_away : (t : ℕ) (o : SenderNo) (r : Reuse) → v.reuse ≡ Some r → r.pin ≡ Away → ¬ FeedTells X v got word (turn.Lost t o)
   -- Own of a tenure whose election chose another, of another tenure, or while it pins none
   pub own_of_another : (t u o : ℕ) (e : E) → v.core.phase ≡ Electing u e → X.owner e ≡ Some o → o ≢ v.core.me
@@ -76,6 +87,34 @@ pub record AnswersRefuse {E : Type 0} (X : Election E) (v : Sender E) (got word 
   pub invalidated_silently : (t : ℕ) (r : Reuse) → v.reuse ≡ Some r → r.pin ≡ Invalidated t → ¬ FeedTells X v got word turn.Going
   pub takes_silently : (t : ℕ) → IsChosen X v t → ¬ FeedTells X v got word turn.Going
   pub gives_silently : (t : ℕ) → GivesReady X v t → ¬ FeedTells X v got word turn.Going
+  -- Going where it looked in vain, no tenure is left to it, or a sender is behind
+  pub waits_silently : LooksInVain v got → ¬ FeedTells X v got word turn.Going
+  pub spent_silently : FindsNoneLeft v got → ¬ FeedTells X v got word turn.Going
+  pub behind_silently : (t p : ℕ) → IsSomeAnd v.reuse (λ r. IsBehind X v got word t p r) → ¬ FeedTells X v got word turn.Going
+  -- Going, without a step, where nothing waits
+  pub goes_on_idly : situation X v ≡ Does IsIdle → ¬ RestIsTold X v turn.Going
   -- Going where it begins another tenure than the one whose stage it looked at
-  pub begins_elsewhere : (t : ℕ) → situation X v ≡ Does LooksAtStage → Begins ((line_now X v).fed got word) t → t ≢ got / 2
+  pub begins_elsewhere : (t : ℕ) → LooksFirst v → Begins ((line_now X v).fed got word) t → t ≢ got / 2
       → ¬ FeedTells X v got word turn.Going
+
+-- What no sender answers that takes no step.
+pub record RestsRefuse {E : Type 0} (v : Sender E) : Type 0 where
+  -- Idle where a message waits, or an end mark, where the batch is closed, or in an election
+  pub idle_with_a_message : (m : List ℕ) (rest : List (List ℕ)) → v.core.queue.messages ≡ m ∷ rest → ¬ RestTells v turn.Idle
+  pub idle_while_closing : v.core.queue.phase ≡ batch.Closing → ¬ RestTells v turn.Idle
+  pub idle_once_closed : v.core.queue.phase ≡ batch.Closed → ¬ RestTells v turn.Idle
+  pub idle_in_an_election : (t : ℕ) (e : E) → v.core.phase ≡ Electing t e → ¬ RestTells v turn.Idle
+  -- Closed while its batch is open or its end mark waits still, or with a page
+  pub closed_while_open : v.core.queue.phase ≡ batch.Open → ¬ RestTells v turn.Closed
+  pub closed_while_closing : v.core.queue.phase ≡ batch.Closing → ¬ RestTells v turn.Closed
+  pub closed_with_a_page : (t : ℕ) (page : Page) (stored : ℕ) (published : Bool) → v.core.phase ≡ Holding t page stored published
+      → ¬ RestTells v turn.Closed
+  -- Spent while a tenure is left, with nothing to send, or while it pins a tenure
+  pub spent_with_a_tenure_left : v.core.layout.rows ≡ v.core.least + 1 → ¬ RestTells v turn.Spent
+  pub spent_with_nothing : v.core.queue.messages ≡ [] → v.core.queue.phase ≡ batch.Open → ¬ RestTells v turn.Spent
+  pub spent_while_it_pins : (t : ℕ) (r : Reuse) → v.reuse ≡ Some r → r.pin ≡ Pinned t → ¬ RestTells v turn.Spent
+
+-- On which words no step lies: one of an election, with a row for each tenure, on a word of the log, and one of who has nothing to do.
+pub record PlacesRefuse {E : Type 0} (v : Sender E) : Type 0 where
+  pub election_on_the_log : (t r : ℕ) (e : E) → v.reuse ≡ None → log_at v.core.layout ≤ r → ¬ LiesAt v (Does (Elects t e)) r
+  pub idle_on_a_word : (r : ℕ) → ¬ LiesAt v (Does IsIdle) r

@@ -1,16 +1,19 @@
--- What the answer of a step tells, by what the sender held before it.
-use Rattle.std.specs.Prelude.{◌≡◌, ◌≢◌, ◌⊎◌, ℕ, ◌+◌, ◌-◌, ◌/◌, ◌<◌, ◌≤◌, false, true, Option, Some, None, IfSome, IsSomeAnd}
+-- What the answer of a turn tells, by what the sender held before it: of one with a step, and of one without.
+use Rattle.std.specs.Prelude.{◌≡◌, ◌≢◌, ◌⊎◌, ℕ, ◌+◌, ◌-◌, ◌/◌, ◌%◌, ◌<◌, ◌≤◌, false, true, Option, Some, None, [], IfSome, IsSome, IsSomeAnd}
 use Rattle.bus_register.specs.declared.registers.Op.TheVariants.{Load}
 use Rattle.bus_register.specs.declared.registers.SenderNo.{SenderNo}
-use Rattle.bus_batch.specs.Batches.{next_of}
+use Rattle.bus_batch.specs.Batches.{next_of, HasSomething}
+use Rattle.bus_batch.specs.declared.batches.Phase.TheVariants as batch
 use Rattle.bus_presence.specs.Reclamation.{presence_at}
 use Rattle.bus_presence.specs.declared.pins.Pin.TheVariants.{Announcing, Pinned, Unpinning, Invalidated}
+use Rattle.bus_tenure.specs.Causes.{LooksForTenure}
 use Rattle.bus_tenure.specs.Core.{Core, Election, is_closing}
-use Rattle.bus_tenure.specs.Seen.{tenure_of}
-use Rattle.bus_tenure.specs.Situations.{LooksAtStage, Elects, situation_of, waits as stage_waits}
-use Rattle.bus_tenure.specs.declared.phases.Phase.TheVariants.{Electing}
+use Rattle.bus_tenure.specs.Seen.{HasElection, AwaitsItsPage}
+use Rattle.bus_tenure.specs.Situations.{Elects, situation_of}
+use Rattle.bus_tenure.specs.declared.phases.Phase.TheVariants.{Resting, Electing}
 use Rattle.bus_tenure.specs.declared.turns.Turn.{Turn}
 use Rattle.bus_tenure.specs.declared.turns.Turn.TheVariants.{Idle, Waiting, Going, Lost, Own, Delivered, Full, Closed, Spent, Behind}
+use Rattle.bus_core.specs.Keeping.{IsAway}
 use Rattle.bus_core.specs.Reusing.Participants.{sizes_with}
 use Rattle.bus_core.specs.Reusing.Keeping.{IsRowReady, held_of}
 use Rattle.bus_core.specs.Reusing.Telling.{Returns, HasPublished, LacksRoom, FindsEnd}
@@ -18,17 +21,70 @@ use Rattle.bus_core.specs.declared.reuses.Reuse.{Reuse}
 use Rattle.bus_core.specs.Senders.{Sender, Does, situation}
 use Rattle.bus_core.specs.Table.{line_now}
 
--- it looked at the stage for the first time, and that was of a held tenure, or of one that it may not enter any more
-pub record LooksInVain {E : Type 0} (X : Election E) (v : Sender E) (got : ℕ) : Type 0 where
-  pub looks : situation X v ≡ Does LooksAtStage
-  pub waits : stage_waits v.core got ≡ true
+-- ---- a sender that has begun no tenure
+-- its phase rests, and where rows are used again it pins none
+pub record HasBegunNone {E : Type 0} (v : Sender E) : Type 0 where
+  pub rests : v.core.phase ≡ Resting
+  pub away : IsAway v.reuse
 
--- it looked at the stage for the first time, and that was of a tenure past the last one
-pub record FindsNoneLeft {E : Type 0} (X : Election E) (v : Sender E) (got : ℕ) : Type 0 where
-  pub looks : situation X v ≡ Does LooksAtStage
-  pub enters : stage_waits v.core got ≡ false
+-- besides it has something to send, and a tenure left to enter: so it looks at the stage for the first time
+pub record LooksFirst {E : Type 0} (v : Sender E) : Type 0 where
+  pub away : IsAway v.reuse
+  pub looks : LooksForTenure v.core
+
+-- it looked at the stage for the first time, and that was of a held tenure, or of one that it may not enter any more
+pub record LooksInVain {E : Type 0} (v : Sender E) (got : ℕ) : Type 0 where
+  pub looks : LooksFirst v
+  pub vain : (got % 2 ≡ 1) ⊎ (got / 2 < v.core.least)
+
+-- it looked at the stage for the first time, and that was of an open tenure past the last one
+pub record FindsNoneLeft {E : Type 0} (v : Sender E) (got : ℕ) : Type 0 where
+  pub looks : LooksFirst v
+  pub opened : got % 2 ≡ 0
+  pub may : v.core.least ≤ got / 2
   pub past : v.core.layout.rows ≤ got / 2
 
+-- ---- the answer where no step is due
+-- nothing waits
+pub record RestsIdle {E : Type 0} (v : Sender E) : Type 0 where
+  pub none : HasBegunNone v
+  pub is_open : v.core.queue.phase ≡ batch.Open
+  pub nothing : v.core.queue.messages ≡ []
+
+-- its batch is closed
+pub record RestsClosed {E : Type 0} (v : Sender E) : Type 0 where
+  pub none : HasBegunNone v
+  pub closed : v.core.queue.phase ≡ batch.Closed
+
+-- it has something to send, and no tenure left to enter
+pub record RestsSpent {E : Type 0} (v : Sender E) : Type 0 where
+  pub none : HasBegunNone v
+  pub not_closed : v.core.queue.phase ≢ batch.Closed
+  pub something : HasSomething v.core.queue
+  pub past : v.core.layout.rows ≤ v.core.least
+
+-- it has nothing to do, for the reason that it answers
+abbrev pub RestTells : {E : Type 0} → Sender E → Turn → Type 0
+RestTells v Idle = RestsIdle v
+RestTells v Waiting = ⊥
+RestTells v Going = ⊥
+RestTells v (Lost t o) = ⊥
+RestTells v (Own t) = ⊥
+RestTells v (Delivered t first last) = ⊥
+RestTells v Full = ⊥
+RestTells v Closed = RestsClosed v
+RestTells v Spent = RestsSpent v
+RestTells v (Behind t p) = ⊥
+
+-- it goes on: a step is due, its election runs or has chosen it, or the page that it took is to be laid
+abbrev pub GoesOn : {E : Type 0} → Election E → Sender E → Type 0
+GoesOn X v = IsSome (line_now X v).kind ⊎ (HasElection v.core.phase ⊎ AwaitsItsPage v.core.phase)
+
+-- whatever it is asked, without a step: Going where it goes on, and else that it has nothing to do
+abbrev pub RestIsTold : {E : Type 0} → Election E → Sender E → Turn → Type 0
+RestIsTold X v a = ((a ≡ Going) × GoesOn X v) ⊎ RestTells v a
+
+-- ---- the answer of a step
 -- it looked again, and the stage was another tenure's
 pub record IsInvalidated (r : Reuse) : Type 0 where
   pub tenure : ℕ
@@ -99,7 +155,7 @@ pub record IsBehind {E : Type 0} (X : Election E) (v : Sender E) (got word t p :
 
 -- it has begun this tenure: its election runs, or where rows are used again it is to store its presence
 abbrev pub BeginsBy : {E : Type 0} → Core E → Option Reuse → ℕ → Type 0
-BeginsBy c None t = tenure_of c.phase ≡ Some t
+BeginsBy {E} c None t = (e : E) × (c.phase ≡ Electing t e)
 BeginsBy c (Some r) t = r.pin ≡ Announcing t
 
 abbrev pub Begins : {E : Type 0} → Sender E → ℕ → Type 0
@@ -114,20 +170,20 @@ pub record TellsNoMore {E : Type 0} (X : Election E) (v : Sender E) (got word : 
   pub invalidated : ¬ IsSomeAnd v.reuse (λ r. IsInvalidated r)
   pub takes : (t : ℕ) → ¬ IsChosen X v t
   pub gives : (t : ℕ) → ¬ GivesReady X v t
-  pub waits : ¬ LooksInVain X v got
-  pub spent : ¬ FindsNoneLeft X v got
-  pub begins : situation X v ≡ Does LooksAtStage → Begins ((line_now X v).fed got word) (got / 2)
+  pub waits : ¬ LooksInVain v got
+  pub spent : ¬ FindsNoneLeft v got
+  pub begins : LooksFirst v → Begins ((line_now X v).fed got word) (got / 2)
   pub behind : (t p : ℕ) → ¬ IsSomeAnd v.reuse (λ r. IsBehind X v got word t p r)
 
 -- With a step that found this number, and this random word. No step is taken where nothing is pending.
 abbrev pub FeedTells : {E : Type 0} → Election E → Sender E → ℕ → ℕ → Turn → Type 0
 FeedTells X v got word Idle = ⊥
-FeedTells X v got word Waiting = LooksInVain X v got ⊎ IsSomeAnd v.reuse (λ r. IsInvalidated r)
+FeedTells X v got word Waiting = LooksInVain v got ⊎ IsSomeAnd v.reuse (λ r. IsInvalidated r)
 FeedTells X v got word Going = TellsNoMore X v got word
 FeedTells X v got word (Lost t o) = Loses X v got word t o
 FeedTells X v got word (Own t) = IsChosen X v t
 FeedTells X v got word (Delivered t first last) = Delivers X v t first last
 FeedTells X v got word Full = IsFull X v
 FeedTells X v got word Closed = Ends X v
-FeedTells X v got word Spent = FindsNoneLeft X v got
+FeedTells X v got word Spent = FindsNoneLeft v got
 FeedTells X v got word (Behind t p) = IsSomeAnd v.reuse (λ r. IsBehind X v got word t p.0 r)

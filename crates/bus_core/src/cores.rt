@@ -2,28 +2,33 @@
 
 ghost use Rattle.std.specs.Prelude.{◌≡◌, ℕ, ◌+◌, ◌*◌, ◌-◌, ◌<◌, ◌≤◌, ◌^◌, [], ◌∷◌, ◌++◌, length};
 ghost use Rattle.std.specs.Prelude.{Option, Some, None, IfOk, IfErr, OnOk, OnErr, IfSome, IsSome};
-ghost use Rattle.std.specs.Prelude.{IsTrue, ◌↔◌, false, true, ◌%◌};
+ghost use Rattle.std.specs.Prelude.{IsTrue, ◌↔◌, ◌⊎◌, false, true, ◌%◌};
 ghost use Rattle.bus_register.specs.Words.{register};
+ghost use Rattle.bus_register.specs.declared.registers.Op.TheVariants as step;
 ghost use Rattle.bus_batch.specs.Batches.{next_of, CanPut, IsPutFault, CanClose, IsCloseFault};
 ghost use Rattle.bus_batch.specs.Batches.{IsShut};
 ghost use Rattle.bus_batch.specs.declared.batches.Phase.TheVariants as queue_phase;
 ghost use Rattle.bus_tenure.specs.Core.{words_of, is_closing, is_closed};
 ghost use Rattle.bus_tenure.specs.Elections.{election_of, elections, layout_with};
 ghost use Rattle.bus_tenure.specs.Seen.{AwaitsItsPage, turns_of, HasElection};
-ghost use Rattle.bus_tenure.specs.Situations.{situation_of, tenure_begun as tenure_by_stage};
+ghost use Rattle.bus_tenure.specs.Situations.{situation_of, Stays, tenure_begun as tenure_by_stage};
 ghost use Rattle.bus_tenure.specs.declared.phases.Phase.TheVariants as phase;
 ghost use Rattle.bus_core.specs.Reusing.Turns.{on_place};
 ghost use Rattle.bus_tenure.specs.Doings.{doing_of};
 ghost use Rattle.bus_tenure.specs.declared.doings.Doing.TheVariants as doing;
+ghost use Rattle.bus_tenure.specs.declared.turns.Turn.TheVariants as turn;
 ghost use Rattle.bus_core.specs.Causes.{HasCause, IsCaused};
 ghost use Rattle.bus_core.specs.Doings.{step_of};
 ghost use Rattle.bus_core.specs.Keeping.{ReuseKeeps, reclaimer_op_of, sender, IsAway, queue_of};
+ghost use Rattle.bus_core.specs.Keeping.{reclaimer_in};
+ghost use Rattle.bus_presence.specs.Reclaimers.{Reclaiming, IsClearing, reclaim_fed};
 ghost use Rattle.bus_core.specs.Keeping.{page_out, core_without, new_sender};
 ghost use Rattle.bus_core.specs.Places.{LiesAt};
+ghost use Rattle.bus_core.specs.Plain.{IsPlain};
 ghost use Rattle.bus_core.specs.Seen.{pin_of, tenure_begun};
 ghost use Rattle.bus_core.specs.Senders.{Does, situation, log_start, words_all};
-ghost use Rattle.bus_core.specs.Table.{line, line_now, rest_at};
-ghost use Rattle.bus_core.specs.Telling.{FeedTells};
+ghost use Rattle.bus_core.specs.Table.{line, line_now, rest_at, reuse_reclaiming};
+ghost use Rattle.bus_core.specs.Telling.{FeedTells, RestIsTold};
 
 use super::feeding::feed_parts;
 use super::reuses::Reuse;
@@ -339,6 +344,23 @@ impl<Q: Ratifier + Drop> SenderCore<Q> {
         let _ = (got, word);
     }
 
+    /// The answer to a plain store tells that no other is due.
+    fn tells_going(&self)
+        requires { let X = election_of Q.Ratifier in IsPlain X self.now }
+        ensures { let X = election_of Q.Ratifier in
+            (got : ℕ) (word : ℕ) → FeedTells X self.now got word turn.Going }
+    {
+        self.turns.is_kept();
+    }
+
+    /// What the answer tells where no step is due.
+    fn rest_tells(&self)
+        ensures { let X = election_of Q.Ratifier in
+            RestIsTold X self.now (rest_at (line_now X self.now)) }
+    {
+        self.turns.is_kept();
+    }
+
     /// What the next step is for; none where none is due.
     pub fn kind(&self) -> Option<Kind>
         ensures kind { let X = election_of Q.Ratifier in result ≡ (line_now X self.now).kind }
@@ -372,15 +394,27 @@ impl<Q: Ratifier + Drop> SenderCore<Q> {
         }
     }
 
-    /// The answer where no step is due; Going where one is, or a page is to be laid.
+    /// The answer where no step is due, with what it tells; Going where one is, or a page is to
+    /// be laid.
     pub fn rest(&self) -> Turn
-        ensures { let X = election_of Q.Ratifier in result ≡ rest_at (line_now X self.now) }
+        ensures answer { let X = election_of Q.Ratifier in result ≡ rest_at (line_now X self.now) }
+        ensures tells { let X = election_of Q.Ratifier in RestIsTold X self.now result }
     {
         self.rest_of(self.step())
     }
 
     /// The same of the step that `step` told.
     pub fn rest_of(&self, step: Step) -> Turn
+        requires { let X = election_of Q.Ratifier in step_of (situation X self.now) ≡ step }
+        ensures answer { let X = election_of Q.Ratifier in result ≡ rest_at (line_now X self.now) }
+        ensures tells { let X = election_of Q.Ratifier in RestIsTold X self.now result }
+    {
+        self.rest_tells();
+        self.rest_in(step)
+    }
+
+    /// The answer where `step` told that no step is due.
+    fn rest_in(&self, step: Step) -> Turn
         requires { let X = election_of Q.Ratifier in step_of (situation X self.now) ≡ step }
         ensures { let X = election_of Q.Ratifier in result ≡ rest_at (line_now X self.now) }
     {
@@ -533,6 +567,64 @@ impl<Q: Ratifier + Drop> SenderCore<Q> {
         }
     }
 
+    /// Whether the next step is a plain store; then it stores `value` in the word at `at`. It may
+    /// say no of any step.
+    #[inline(always)]
+    pub fn plain(&self, at: &mut u64, value: &mut u64) -> bool
+        ensures plain { let X = election_of Q.Ratifier in IsTrue result → IsPlain X self.now }
+        ensures step { let X = election_of Q.Ratifier in IsTrue result → (word : ℕ)
+            → (line_now X self.now).op word ≡ Some (step.Store (record { 0 = at.new }) value.new) }
+        ensures below { IsTrue result → at.new < words_all self.now }
+    {
+        if !self.is_away() {
+            return false;
+        }
+        if self.turns.has_published() {
+            *value = 0;
+            return clears(&self.reuse, at);
+        }
+        self.stores_word(at, value)
+    }
+
+    /// The same where the page is to go on, and the sender has no pin.
+    #[inline(always)]
+    fn stores_word(&self, at: &mut u64, value: &mut u64) -> bool
+        requires { IsAway self.now.reuse }
+        ensures plain { let X = election_of Q.Ratifier in IsTrue result → IsPlain X self.now }
+        ensures step { let X = election_of Q.Ratifier in IsTrue result → (word : ℕ)
+            → (line_now X self.now).op word ≡ Some (step.Store (record { 0 = at.new }) value.new) }
+        ensures below { IsTrue result → at.new < words_all self.now }
+    {
+        let (mut tenure, mut words, mut stored) = (0, 0, 0);
+        if !self.turns.stores_word(&mut tenure, &mut words, &mut stored) {
+            return false;
+        }
+        *value = self.turns.frame_word(tenure, words, stored);
+        *at = self.log_start() + words + stored;
+        true
+    }
+
+    /// The plain store was taken that `plain` told. Its answer is Going, whatever it found.
+    #[inline(always)]
+    pub fn plain_done(&mut self)
+        requires { let X = election_of Q.Ratifier in IsPlain X self.old }
+        ensures state { let X = election_of Q.Ratifier in
+            (got : ℕ) (word : ℕ) → self.new ≡ (line_now X self.old).fed got word }
+        ensures tells { let X = election_of Q.Ratifier in
+            (got : ℕ) (word : ℕ) → FeedTells X self.old got word turn.Going }
+        ensures answer { let X = election_of Q.Ratifier in
+            (got : ℕ) (word : ℕ) → (line_now X self.old).answer got word ≡ turn.Going }
+        ensures page { let X = election_of Q.Ratifier in
+            (line_now X self.old).move ≡ Stays }
+    {
+        self.tells_going();
+        if self.turns.has_published() {
+            clear(&mut self.reuse);
+        } else {
+            self.turns.next_word();
+        }
+    }
+
     /// The next step; none where none is due. Takes nothing and changes nothing.
     pub fn next(&self, word: u32) -> Option<Op>
         ensures step { let X = election_of Q.Ratifier in
@@ -616,6 +708,35 @@ fn reclaimer_step(reuse: &Option<Reuse>) -> Option<Op>
             None => None,
             Some(reclaimer) => reclaimer.next(),
         },
+    }
+}
+
+/// Whether a reclamation clears a word next; then that is the word at `at`.
+#[inline(always)]
+fn clears(reuse: &Option<Reuse>, at: &mut u64) -> bool
+    ensures { IsTrue result → (s : Reclaiming) × (reclaimer_in reuse.now ≡ Some s)
+        × IsClearing s × (at.new ≡ s.row + s.cleared) }
+{
+    match reuse {
+        None => false,
+        Some(reuse) => match &reuse.reclaimer {
+            None => false,
+            Some(reclaimer) => reclaimer.clears(at),
+        },
+    }
+}
+
+/// That word is cleared.
+#[inline(always)]
+fn clear(reuse: &mut Option<Reuse>)
+    requires { (s : Reclaiming) → reclaimer_in reuse.old ≡ Some s → IsClearing s }
+    ensures { (s : Reclaiming) (got : ℕ) → reclaimer_in reuse.old ≡ Some s
+        → reuse.new ≡ reuse_reclaiming reuse.old (reclaim_fed s got) }
+{
+    if let Some(reuse) = reuse {
+        if let Some(reclaimer) = &mut reuse.reclaimer {
+            reclaimer.clear();
+        }
     }
 }
 

@@ -3,7 +3,7 @@
 ghost use Rattle.std.specs.Prelude.{ℕ};
 ghost use Rattle.bus_tenure.specs.Elections.{Elector, election_of};
 ghost use Rattle.bus_core.specs.CausesRefuse.{RefusesCauses};
-ghost use Rattle.bus_core.specs.Refused.{AnswersRefuse};
+ghost use Rattle.bus_core.specs.Refused.{AnswersRefuse, RestsRefuse, PlacesRefuse};
 ghost use Rattle.bus_core.specs.Senders.{Sender};
 
 use bus_adoptcommit::Ratifier;
@@ -11,14 +11,22 @@ use bus_adoptcommit::Ratifier;
 /// No answer of a step is true that is Idle; Delivered before the length takes the frame in, or
 /// with other numbers than those of the batch; Full where the frame fits; Closed while the order
 /// goes on; Spent while a tenure is left; Lost to itself, at rest, by a step that left its election
-/// without an owner, or where it remembers no owner; Own while it pins no tenure, of another
-/// tenure, or of one whose election chose another; Waiting of a sender that goes through its
-/// election; Behind with a row for each tenure, where the step loaded no presence, found another
-/// number than that of the tenure, or was taken without a page; or Going where one of these is due,
-/// or where it begins another tenure than the one whose stage it looked at.
+/// without an owner, or where it remembers no owner or another one; Own while it pins no tenure, of
+/// another tenure, or of one whose election chose another; Waiting of a sender that goes through
+/// its election; Behind with a row for each tenure, where the step loaded no presence, found
+/// another number than that of the tenure, or was taken without a page; or Going where one of these
+/// is due, or where it begins another tenure than the one whose stage it looked at.
+///
+/// None is true without a step that is Idle where a message or an end mark waits, or the batch is
+/// closed; Closed while the batch is open or the end mark waits; Spent while a tenure is left, or
+/// with nothing to send; or any of these in an election, with a page, or while it pins a tenure.
+/// With a row for each tenure no step of an election lies on a word of the log. None of who has
+/// nothing to do lies on any word.
 pub fn answers_refuse<Q: Ratifier>()
-    ensures { let X = election_of Q.Ratifier in
+    ensures steps { let X = election_of Q.Ratifier in
         (sender : Sender (Elector Q)) (got word : ℕ) → AnswersRefuse X sender got word }
+    ensures rests { (sender : Sender (Elector Q)) → RestsRefuse sender }
+    ensures places { (sender : Sender (Elector Q)) → PlacesRefuse sender }
 {}
 
 /// No sender that rests takes a page, stores a word of a log or falls back. None stores a length

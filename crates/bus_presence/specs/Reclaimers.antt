@@ -42,3 +42,8 @@ reclaim_fed s got =
 -- whom the holder waits for: the sender whose presence was just loaded, where it names the past tenure
 abbrev pub behind_of : Reclaiming → ℕ → Option Behind
 behind_of s got = if nat_lt s.scanned s.senders && (got == 1 + s.past) then Some record { tenure = s.past; sender = s.scanned } else None
+
+-- all presences have passed, and a word is left to clear
+pub record IsClearing (s : Reclaiming) : Type 0 where
+  pub passed : s.senders ≤ s.scanned
+  pub left : s.cleared < s.width

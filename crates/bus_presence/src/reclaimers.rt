@@ -1,7 +1,8 @@
 //! How a holder of the page makes the row of the next tenure ready.
 
-ghost use Rattle.std.specs.Prelude.{◌≡◌, ℕ, ◌+◌, ◌≤◌, ◌<◌, ◌^◌};
+ghost use Rattle.std.specs.Prelude.{◌≡◌, ℕ, ◌+◌, ◌≤◌, ◌<◌, ◌^◌, IsTrue};
 ghost use Rattle.bus_presence.specs.Reclaimers.{reclaim_op, reclaim_fed, behind_of, is_reclaimed};
+ghost use Rattle.bus_presence.specs.Reclaimers.{IsClearing};
 
 use bus_register::limits::{MOST_PROCESSES, TENURES};
 use bus_register::{Op, Reg};
@@ -101,6 +102,28 @@ impl Reclaimer {
         } else {
             None
         }
+    }
+
+    /// Whether it clears a word next; then that is the word at `at`.
+    #[inline(always)]
+    pub fn clears(&self, at: &mut u64) -> bool
+        ensures clearing { IsTrue result → IsClearing self.now }
+        ensures at { IsTrue result → at.new ≡ self.now.row + self.now.cleared }
+    {
+        if self.scanned < self.senders || self.cleared >= self.width {
+            return false;
+        }
+        *at = self.row.0 + self.cleared;
+        true
+    }
+
+    /// That word is cleared.
+    #[inline(always)]
+    pub fn clear(&mut self)
+        requires { IsClearing self.old }
+        ensures { (got : ℕ) → self.new ≡ reclaim_fed self.old got }
+    {
+        self.cleared += 1;
     }
 
     /// The step that `next` told was taken, and found `got`. It answers whom it waits for: then the

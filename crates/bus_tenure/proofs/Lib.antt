@@ -4,5 +4,5 @@ pub mod Caused
 pub mod Refused
 pub mod Situated
 mod Electing
-mod Inverted
+pub mod Inverted
 pub mod Rows

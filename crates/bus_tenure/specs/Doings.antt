@@ -23,3 +23,10 @@ doing_of (HasHanded t reason) = doing.Handed t reason
 -- it ends its tenure with its next step
 abbrev pub Ends : Doing → ℕ → Reason → Type 0
 Ends d t reason = (d ≡ doing.Back t reason) ⊎ (d ≡ doing.Handed t reason)
+
+-- it stores a word of its frame with its next step
+pub record IsWord (d : Doing) : Type 0 where
+  pub tenure : ℕ
+  pub words : ℕ
+  pub stored : ℕ
+  pub is : d ≡ doing.Word tenure words stored

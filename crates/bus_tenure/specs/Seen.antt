@@ -1,5 +1,6 @@
 -- What is seen of a sender from outside, beside its steps and answers.
-use Rattle.std.specs.Prelude.{◌≡◌, ℕ, Option, Some, None}
+use Rattle.std.specs.Prelude.{◌≡◌, ℕ, true, Option, Some, None}
+use Rattle.bus_tenure.specs.declared.pages.Page.{Page}
 use Rattle.bus_tenure.specs.declared.phases.Phase.{Phase}
 use Rattle.bus_tenure.specs.declared.phases.Phase.TheVariants.{Resting, Electing, Taken, Holding, Giving}
 use Rattle.bus_tenure.specs.Core.{Election}
@@ -30,3 +31,10 @@ pub record HasElection {E : Type 0} (phase : Phase E) : Type 0 where
 pub record AwaitsItsPage {E : Type 0} (phase : Phase E) : Type 0 where
   pub tenure : ℕ
   pub is : phase ≡ Taken tenure
+
+-- its frame stands below the length, and it has the page still
+pub record HoldsPublished {E : Type 0} (phase : Phase E) : Type 0 where
+  pub tenure : ℕ
+  pub page : Page
+  pub stored : ℕ
+  pub is : phase ≡ Holding tenure page stored true

@@ -13,13 +13,14 @@ ghost use Rattle.bus_tenure.specs.Core.{frame_len, has_room, page_after};
 ghost use Rattle.bus_tenure.specs.Elections.{election_of, elections, layout_with, ElectorKeeps};
 ghost use Rattle.bus_tenure.specs.Keeping.{SenderInvariant, IsInTenure};
 ghost use Rattle.bus_tenure.specs.Seen.{turns_of, tenure_of, HasElection, AwaitsItsPage};
+ghost use Rattle.bus_tenure.specs.Seen.{HoldsPublished};
 ghost use Rattle.bus_tenure.specs.Situations.{core_begun, LooksAtStage, GivesBack, resting};
 ghost use Rattle.bus_tenure.specs.Situations.{holding, situation_of, kind_at, op_at, core_at_rest};
 ghost use Rattle.bus_tenure.specs.Situations.{core_after_stage, tenure_begun, fed_at};
 ghost use Rattle.bus_tenure.specs.Situations.{answer_of_stage, answer_of_return, answer_at};
 ghost use Rattle.bus_tenure.specs.Situations.{wants_at};
 ghost use Rattle.bus_tenure.specs.declared.phases.Phase.TheVariants as phase;
-ghost use Rattle.bus_tenure.specs.Doings.{doing_of, Ends};
+ghost use Rattle.bus_tenure.specs.Doings.{doing_of, Ends, IsWord};
 ghost use Rattle.bus_tenure.specs.declared.doings.Doing.TheVariants as doing;
 
 use super::doings::Doing;
@@ -329,6 +330,48 @@ impl<Q: Ratifier + Drop> Turns<Q> {
         }
     }
 
+    /// Whether it stores a word of its frame next; then it is the one behind so many words of the
+    /// log and of the frame.
+    #[inline(always)]
+    pub fn stores_word(&self, begun: &mut u64, below: &mut u64, behind: &mut u64) -> bool
+        ensures { let X = election_of Q.Ratifier in IsTrue result
+            → doing_of (situation_of X self.now) ≡ doing.Word begun.new below.new behind.new }
+    {
+        let Phase::Holding {
+            tenure,
+            page,
+            stored,
+            published,
+        } = &self.phase
+        else {
+            return false;
+        };
+        match self.hold(*tenure, page, *stored, *published) {
+            Doing::Word {
+                tenure,
+                words,
+                stored,
+            } => {
+                *begun = tenure;
+                *below = words;
+                *behind = stored;
+                true
+            }
+            _ => false,
+        }
+    }
+
+    /// Its frame stands below the length, and it has the page still.
+    #[inline(always)]
+    pub fn has_published(&self) -> bool
+        ensures { IsTrue result ↔ HoldsPublished self.now.phase }
+    {
+        match &self.phase {
+            Phase::Holding { published, .. } => *published,
+            _ => false,
+        }
+    }
+
     /// How many senders there are.
     pub fn senders(&self) -> u64
         ensures is { result ≡ self.now.layout.senders }
@@ -516,6 +559,19 @@ impl<Q: Ratifier + Drop> Turns<Q> {
     pub fn word_stored(&mut self, tenure: u64, words: u64, at: u64)
         requires { let X = election_of Q.Ratifier in
             doing_of (situation_of X self.old) ≡ doing.Word tenure words at }
+        ensures { let X = election_of Q.Ratifier in
+            (got : ℕ) (word : ℕ)
+            → self.new ≡ fed_at X self.old (situation_of X self.old) got word }
+    {
+        if let Phase::Holding { stored, .. } = &mut self.phase {
+            *stored += 1;
+        }
+    }
+
+    /// The word of its frame is stored that `stores_word` told.
+    #[inline(always)]
+    pub fn next_word(&mut self)
+        requires { let X = election_of Q.Ratifier in IsWord (doing_of (situation_of X self.old)) }
         ensures { let X = election_of Q.Ratifier in
             (got : ℕ) (word : ℕ)
             → self.new ≡ fed_at X self.old (situation_of X self.old) got word }
