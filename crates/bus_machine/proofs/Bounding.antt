@@ -340,7 +340,7 @@ may_enter c got e = by (got % 2 == 0) e where
 
 -- ---- a turn of sender p
 -- what it adds
-abbrev added : {E : Type 0} → Situation E → Line E → ℕ → ℕ → Answered → List Action
+abbrev pub added : {E : Type 0} → Situation E → Line E → ℕ → ℕ → Answered → List Action
 added (Does z) l got word told = step_action l.kind l.tenure got (l.chosen got word) told
 added (Announces t) l got word told = []
 added (Validates t) l got word told = []
@@ -349,7 +349,7 @@ added (Withdraws t) l got word told = []
 added (Scans r) l got word told = []
 added (Clears r) l got word told = []
 
-added_is : {E : Type 0} (z : Situation E) (l : Line E) (s got word : ℕ) (told : Answered) (T : Trails)
+pub added_is : {E : Type 0} (z : Situation E) (l : Line E) (s got word : ℕ) (told : Answered) (T : Trails)
     → (turn_trails z l s got word told T).actions ≡ actions_with s (added z l got word told) T.actions
 added_is (Does z) l s got word told T = refl
 added_is (Announces t) l s got word told T = refl

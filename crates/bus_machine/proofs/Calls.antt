@@ -1,17 +1,20 @@
 -- What a machine that a program holds has, as its calls say it.
-use Rattle.std.proofs.Common.{◌≡◌, ℕ, ◌<◌, Bool, List, length, slice_get, subst}
+use Rattle.std.proofs.Common.{◌≡◌, ℕ, ◌+◌, ◌-◌, ◌<◌, ◌≤◌, Bool, List, length, slice_get, subst}
 use Rattle.std.specs.Prelude.{Result, Ok, Err, IfOk, OnOk}
 use Rattle.bus_adoptcommit.specs.declared.verdicts.Verdict.{Verdict}
 use Rattle.bus_batch.specs.Frames.{Frame, Order, AreFrames, log_words}
 use Rattle.bus_deliverylog.specs.Receiving.{Receiving}
 use Rattle.bus_register.specs.Protocol.{Protocol}
-use Rattle.bus_tenure.specs.Core.{Election}
+use Rattle.bus_tenure.specs.Core.{Election, Layout}
 use Rattle.bus_tenure.specs.Elections.{Elector}
 use Rattle.bus_world.proofs.Serving.{Serves}
 use Rattle.bus_world.specs.Headline.{order_given}
 use Rattle.bus_world.specs.World.{Event, given_at}
 use Rattle.bus_world.specs.declared.events.Answer.{Answer}
 use Rattle.bus_world.specs.declared.events.StepFault.{StepFault}
+use Rattle.bus_machine.proofs.Bounding.{bounded}
+use Rattle.bus_machine.proofs.PinBounds.{pins_bounded}
+use Rattle.bus_machine.specs.Bounding.{AreBounded, PinsAreBounded}
 use Rattle.bus_machine.proofs.Leading.{sits_after}
 use Rattle.bus_machine.proofs.Leaving.{opens_only}
 use Rattle.bus_machine.proofs.Following.{follows, tells, losses}
@@ -58,6 +61,13 @@ module _ {S : Type 0} (X : Election (Elector S)) (Q : Protocol S Bool Verdict) (
 
   pub losses_seen : (T : Trails) → Reached X now T → LossesAreSeen now T.actions
   losses_seen = subst (λ y. (T : Trails) → Reached X y T → LossesAreSeen y T.actions) is (λ T r. losses X P m T (sits X P m s h) r)
+
+  -- steps are bounded by a number that the sizes of the bus give
+  pub steps_bounded : (bound : Layout → ℕ) → P.steps m.layout.senders + 1 ≡ bound m.layout → ((e : Elector S) → P.left e ≡ X.turns_left e - 1)
+      → ((p at : ℕ) (e : Elector S) → P.Belongs m.layout.senders p at e → 1 ≤ X.turns_left e)
+      → (T : Trails) → Reached X now T → AreBounded X (bound now.layout) now T × PinsAreBounded T
+  steps_bounded bound many tells last = subst (λ y. (T : Trails) → Reached X y T → AreBounded X (bound y.layout) y T × PinsAreBounded T) is
+      (λ T r. (bounded X P m T (sits X P m s h) r (bound m.layout) many tells last, pins_bounded X P m T (sits X P m s h) r))
 
   pub took : (T : Trails) → Reached X now T → TakersTold now.reuse now.owners T.actions
   took T r = (promised T r).by.takers

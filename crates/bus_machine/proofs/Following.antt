@@ -1,5 +1,5 @@
 -- Whatever happens, the new machine follows the old one, and what is answered is so.
-use Rattle.std.proofs.Common.{◌≡◌, ℕ, ◌+◌, ◌/◌, ◌≤◌, Option, Some, None, List, [], ◌∷◌, ◌++◌, filter, length, map, take, slice_get, arith}
+use Rattle.std.proofs.Common.{◌≡◌, inl, ℕ, ◌+◌, ◌-◌, ◌/◌, ◌≤◌, ◌==◌, nat_le, Bool, true, false, cond, Option, Some, None, List, [], ◌∷◌, ◌++◌, filter, length, map, take, slice_get, arith}
 use Rattle.std.proofs.Common.{refl, sym, ◌∙◌, ap, subst}
 use Rattle.std.proofs.Math.Seq.{take-length}
 use Rattle.std.proofs.lemmas.List.{length-append, take-append-le}
@@ -7,11 +7,24 @@ use Rattle.std.proofs.Math.Path.{fun_ext}
 use Rattle.std.proofs.lemmas.Grind.{flat_map-append}
 use Rattle.std.proofs.lemmas.Option.{slice_get-map, same_Some}
 use Rattle.std.specs.Prelude.{option_map}
-use Rattle.bus_batch.specs.Frames.{frame_words, log_words}
-use Rattle.bus_core.specs.Senders.{Sender, apart, again}
-use Rattle.bus_core.specs.Table.{lost_of}
+use Rattle.std.proofs.lemmas.Bool.{leb-true}
+use Rattle.bus_batch.specs.Batches.{next_of}
+use Rattle.bus_batch.specs.Frames.{log_words}
+use Rattle.bus_core.proofs.Looking.{closed_at, spent_at}
+use Rattle.bus_core.proofs.Reusing.Tells.{Shows, gives_shows}
+use Rattle.bus_core.proofs.Situated.{own_is}
+use Rattle.bus_core.specs.Reusing.Turns.{answer_of_loss, answer_of_reclaim}
+use Rattle.bus_core.specs.Senders.{Sender, Situation, Does, Announces, Validates, Unpins, Withdraws, Scans, Clears, apart, again, situation}
+use Rattle.bus_core.specs.Table.{lost_of, line, line_now, answer_elected}
+use Rattle.bus_core.specs.declared.reuses.Reuse.{Reuse}
+use Rattle.bus_presence.specs.Reclaimers.{behind_of}
+use Rattle.bus_presence.specs.declared.reclaimers.Behind.{Behind}
+use Rattle.bus_tenure.proofs.Situated.{tells as tells_phase}
+use Rattle.bus_tenure.specs.Situations.{IsClosed, IsIdle, IsSpent, LooksAtStage, Elects, TakesPage, AwaitsPage, StoresWord, StoresLength, GivesBack, HasHanded, waits, answer_of_return}
+use Rattle.bus_tenure.specs.declared.phases.Reason.{Reason}
+use Rattle.bus_tenure.specs.declared.phases.Reason.TheVariants.{Sent, FoundEnd, NoRoom}
+use Rattle.bus_world.specs.Bus.{Part, Fits}
 use Rattle.bus_machine.proofs.Cyclic.CyclicLaws.{led, layout_served}
-use Rattle.bus_machine.proofs.Cyclic.LogGrowing.{log_grows}
 use Rattle.bus_machine.proofs.Cyclic.Staying as cyclic
 use Rattle.bus_machine.proofs.Cyclic.TruthLaws.{event_true, seen}
 use Rattle.bus_machine.specs.Proved.Cyclic.{OwnedCyclicMachine}
@@ -21,7 +34,7 @@ use Rattle.bus_core.specs.Reusing.Turns.{Participant}
 use Rattle.bus_register.specs.Protocol.{Protocol}
 use Rattle.bus_register.specs.Proved.TableLaws.{push_here}
 use Rattle.bus_register.specs.declared.registers.SenderNo.{SenderNo}
-use Rattle.bus_tenure.specs.Core.{Core, Election, Layout}
+use Rattle.bus_tenure.specs.Core.{Core, Election, Layout, is_closing}
 use Rattle.bus_tenure.specs.declared.turns.Turn.{Turn as Answered}
 use Rattle.bus_tenure.specs.declared.turns.Turn.TheVariants as turn
 use Rattle.bus_world.proofs.EventTrails.{reached_kept}
@@ -38,15 +51,17 @@ use Rattle.bus_world.specs.declared.events.Answer.{Answer}
 use Rattle.bus_world.specs.declared.events.Answer.TheVariants as answer
 use Rattle.bus_machine.proofs.AtNone as none
 use Rattle.bus_machine.proofs.AtSome as some
-use Rattle.bus_machine.proofs.Bounding.{actions_of_it}
-use Rattle.bus_machine.proofs.Framed.{framed}
+use Rattle.bus_machine.proofs.Bounding.{actions_of_it, there_shown}
+use Rattle.bus_machine.proofs.Ending.{ended_of, published_ends, found_ends, closing_is, none_left}
+use Rattle.bus_machine.proofs.Framed.{IsFramed, framed}
+use Rattle.bus_machine.proofs.Growing.{grows, rises}
 use Rattle.bus_machine.proofs.Joining.{event_words, event_joins}
 use Rattle.bus_machine.proofs.Leading.{Sits, sits_after, led_ring, ring_serves, ring_ok, ring_two}
 use Rattle.bus_machine.proofs.Promised.{promised, participant_at}
-use Rattle.bus_machine.proofs.Rising.{plain_rises}
 use Rattle.bus_machine.proofs.Staying.{promise_stays, grown_longer}
 use Rattle.bus_machine.specs.Proved.Bridge.{of_bus, of_cyclic, plain_trails, ring_trails, IsPlainEvent, IsCyclicEvent}
-use Rattle.bus_machine.specs.Machine.{Machine, Trails, Reached, Then, Happens, trails_grown, going, log_of, stage_of}
+use Rattle.bus_machine.specs.Machine.{Machine, Trails, Reached, Then, Happens, TakesTurn, trails_grown, going, has_stopped, found, log_of, stage_of}
+use Rattle.bus_machine.specs.Remembering.{HasEnded, NoneIsLeft, Remembers}
 use Rattle.bus_machine.specs.Promise.{HasGoneOn, is_in, actions_in, Follows, ReusesSafely, words_joined}
 use Rattle.bus_machine.specs.Telling.{TurnTells, PutTells, SenderTells, EventTells, Tells, LossesAreSeen}
 
@@ -61,13 +76,35 @@ pub actions_same : (t : ℕ) (ds : List Action) → actions_in t ds ≡ staying.
 actions_same t ds = ap (λ f. filter f ds) (fun_ext (in_same t))
 
 -- ---- what an answer tells
--- of a put
-abbrev PutIsTold : Event → Answer → Trails → Type 0
-PutIsTold (Put s bytes) a T = PutTells (T.actions s) a
-PutIsTold (Close s) a T = Unit {0}
-PutIsTold (Turn s word) a T = Unit {0}
-PutIsTold (Recv r) a T = Unit {0}
-PutIsTold (Stop s) a T = Unit {0}
+-- of a turn that is answered Closed or Spent
+abbrev EndIsTold : {E : Type 0} → Machine E → ℕ → List Action → Answered → Type 0
+EndIsTold m s actions turn.Idle = Unit {0}
+EndIsTold m s actions turn.Waiting = Unit {0}
+EndIsTold m s actions turn.Going = Unit {0}
+EndIsTold m s actions (turn.Lost t o) = Unit {0}
+EndIsTold m s actions (turn.Own t) = Unit {0}
+EndIsTold m s actions (turn.Delivered t first last) = Unit {0}
+EndIsTold m s actions turn.Full = Unit {0}
+EndIsTold m s actions turn.Closed = HasEnded m
+EndIsTold m s actions turn.Spent = NoneIsLeft m s actions
+EndIsTold m s actions (turn.Behind t p) = Unit {0}
+
+-- of the sender that goes on
+abbrev LastIsTold : {E : Type 0} → Machine E → ℕ → Option (Sender E) → List Action → Answer → Type 0
+LastIsTold m s None actions a = Unit {0}
+LastIsTold m s (Some v) actions (answer.Number n) = Unit {0}
+LastIsTold m s (Some v) actions answer.Closing = Unit {0}
+LastIsTold m s (Some v) actions (answer.Turn t) = EndIsTold m s actions t
+LastIsTold m s (Some v) actions (answer.Recv r) = Unit {0}
+LastIsTold m s (Some v) actions answer.Stopped = Unit {0}
+
+-- of a put, or of such a turn
+abbrev PutIsTold : {E : Type 0} → Machine E → Event → Answer → Trails → Type 0
+PutIsTold m (Put s bytes) a T = PutTells (T.actions s) a
+PutIsTold m (Close s) a T = Unit {0}
+PutIsTold m (Turn s word) a T = LastIsTold m s (going m s) (T.actions s) a
+PutIsTold m (Recv r) a T = Unit {0}
+PutIsTold m (Stop s) a T = Unit {0}
 
 -- a put that is numbered by the trails
 number_told : (xs : List Action) (n : ℕ) (bytes : List ℕ)
@@ -96,70 +133,140 @@ put_told s bytes (answer.Recv r) T P is numbered = tt
 put_told s bytes answer.Stopped T P is numbered = tt
 
 module _ {E : Type 0} (x : Layout) (b : Bus E) where
-  turn_at_none : (s : ℕ) (c : Core E) (actions : List Action) (t : Answered) → plain.TurnTells x (log_of (of_bus x b)) s c actions t → TurnTells (of_bus x b) s (apart c) actions t
-  turn_at_none s c actions t h = by t h where
-    by : (t : Answered) → plain.TurnTells x (log_of (of_bus x b)) s c actions t → TurnTells (of_bus x b) s (apart c) actions t
-    by turn.Idle h = h
-    by turn.Waiting h = h
-    by turn.Going h = h
-    by (turn.Lost u o) h = h
-    by (turn.Own u) h = h
-    by (turn.Delivered u first last) h = h
-    by turn.Full h = h
-    by turn.Closed h = h
-    by turn.Spent h = h
-    by (turn.Behind u p) h = h
+  turn_at_none : (s : ℕ) (c : Core E) (actions : List Action) (t : Answered) → EndIsTold (of_bus x b) s actions t
+      → plain.TurnTells x (log_of (of_bus x b)) s c actions t → TurnTells (of_bus x b) s (apart c) actions t
+  turn_at_none s c actions t k h = by t k h where
+    by : (t : Answered) → EndIsTold (of_bus x b) s actions t → plain.TurnTells x (log_of (of_bus x b)) s c actions t → TurnTells (of_bus x b) s (apart c) actions t
+    by turn.Idle k h = h
+    by turn.Waiting k h = h
+    by turn.Going k h = h
+    by (turn.Lost u o) k h = h
+    by (turn.Own u) k h = h
+    by (turn.Delivered u first last) k h = h
+    by turn.Full k h = h
+    by turn.Closed k h = k
+    by turn.Spent k h = k
+    by (turn.Behind u p) k h = h
 
-  sender_at_none : (s word : ℕ) (T : Trails) (a : Answer) (o : Option (Sender E)) → going (of_bus x b) s ≡ o → plain.EventTells x b (Turn s word) a (plain_trails T) → SenderTells (of_bus x b) s o (T.actions s) a
-  sender_at_none s word T a None i h = tt
-  sender_at_none s word T (answer.Number n) (Some v) i h = tt
-  sender_at_none s word T answer.Closing (Some v) i h = tt
-  sender_at_none s word T (answer.Turn t) (Some v) i h =
+  sender_at_none : (s word : ℕ) (T : Trails) (a : Answer) (o : Option (Sender E)) → going (of_bus x b) s ≡ o → LastIsTold (of_bus x b) s o (T.actions s) a → plain.EventTells x b (Turn s word) a (plain_trails T) → SenderTells (of_bus x b) s o (T.actions s) a
+  sender_at_none s word T a None i k h = tt
+  sender_at_none s word T (answer.Number n) (Some v) i k h = tt
+  sender_at_none s word T answer.Closing (Some v) i k h = tt
+  sender_at_none s word T (answer.Turn t) (Some v) i k h =
       let o = none.opened x b s v i in
-      subst (λ y. TurnTells (of_bus x b) s y (T.actions s) t) (sym o.2) (turn_at_none s o.0 (T.actions s) t (subst (λ y. plain.SenderTells x (log_of (of_bus x b)) s y (T.actions s) t) o.1 h))
-  sender_at_none s word T (answer.Recv r) (Some v) i h = tt
-  sender_at_none s word T answer.Stopped (Some v) i h = tt
+      subst (λ y. TurnTells (of_bus x b) s y (T.actions s) t) (sym o.2) (turn_at_none s o.0 (T.actions s) t k (subst (λ y. plain.SenderTells x (log_of (of_bus x b)) s y (T.actions s) t) o.1 h))
+  sender_at_none s word T (answer.Recv r) (Some v) i k h = tt
+  sender_at_none s word T answer.Stopped (Some v) i k h = tt
 
-  tells_at_none : (e : Event) (a : Answer) (T : Trails) → PutIsTold e a T → plain.EventTells x b e a (plain_trails T)
+  tells_at_none : (e : Event) (a : Answer) (T : Trails) → PutIsTold (of_bus x b) e a T → plain.EventTells x b e a (plain_trails T)
       → EventTells (of_bus x b) e a T
   tells_at_none (Put s bytes) a T p h = p
   tells_at_none (Close s) a T p h = tt
-  tells_at_none (Turn s word) a T p h = sender_at_none s word T a (going (of_bus x b) s) refl h
+  tells_at_none (Turn s word) a T p h = sender_at_none s word T a (going (of_bus x b) s) refl p h
   tells_at_none (Recv r) a T p h = tt
   tells_at_none (Stop s) a T p h = tt
 
 module _ {E : Type 0} (z : OwnedCyclicMachine E) where
-  turn_at_some : (s : ℕ) (v : Participant E) (actions : List Action) (t : Answered) → truth.ParticipantTells z.ring s v.core actions t → TurnTells (of_cyclic z) s (again v) actions t
-  turn_at_some s v actions t h = by t h where
-    by : (t : Answered) → truth.ParticipantTells z.ring s v.core actions t → TurnTells (of_cyclic z) s (again v) actions t
-    by turn.Idle h = h
-    by turn.Waiting h = h
-    by turn.Going h = h
-    by (turn.Lost u o) h = h
-    by (turn.Own u) h = h
-    by (turn.Delivered u first last) h = h
-    by turn.Full h = h
-    by turn.Closed h = h
-    by turn.Spent h = h
-    by (turn.Behind u p) h = h
+  turn_at_some : (s : ℕ) (v : Participant E) (actions : List Action) (t : Answered) → EndIsTold (of_cyclic z) s actions t
+      → truth.ParticipantTells z.ring s v.core actions t → TurnTells (of_cyclic z) s (again v) actions t
+  turn_at_some s v actions t k h = by t k h where
+    by : (t : Answered) → EndIsTold (of_cyclic z) s actions t → truth.ParticipantTells z.ring s v.core actions t → TurnTells (of_cyclic z) s (again v) actions t
+    by turn.Idle k h = h
+    by turn.Waiting k h = h
+    by turn.Going k h = h
+    by (turn.Lost u o) k h = h
+    by (turn.Own u) k h = h
+    by (turn.Delivered u first last) k h = h
+    by turn.Full k h = h
+    by turn.Closed k h = k
+    by turn.Spent k h = k
+    by (turn.Behind u p) k h = h
 
-  sender_at_some : (s : ℕ) (actions : List Action) (a : Answer) (o : Option (Sender E)) → going (of_cyclic z) s ≡ o → truth.TurnIsTrue z.ring s (participant_going z.ring s) actions a → SenderTells (of_cyclic z) s o actions a
-  sender_at_some s actions a None i h = tt
-  sender_at_some s actions (answer.Number n) (Some v) i h = tt
-  sender_at_some s actions answer.Closing (Some v) i h = tt
-  sender_at_some s actions (answer.Turn t) (Some v) i h =
+  sender_at_some : (s : ℕ) (actions : List Action) (a : Answer) (o : Option (Sender E)) → going (of_cyclic z) s ≡ o → LastIsTold (of_cyclic z) s o actions a → truth.TurnIsTrue z.ring s (participant_going z.ring s) actions a → SenderTells (of_cyclic z) s o actions a
+  sender_at_some s actions a None i k h = tt
+  sender_at_some s actions (answer.Number n) (Some v) i k h = tt
+  sender_at_some s actions answer.Closing (Some v) i k h = tt
+  sender_at_some s actions (answer.Turn t) (Some v) i k h =
       let o = some.opened z s v i in
-      subst (λ y. TurnTells (of_cyclic z) s y actions t) (sym o.2) (turn_at_some s o.0 actions t (subst (λ y. truth.TurnIsTrue z.ring s y actions (answer.Turn t)) o.1 h))
-  sender_at_some s actions (answer.Recv r) (Some v) i h = tt
-  sender_at_some s actions answer.Stopped (Some v) i h = tt
+      subst (λ y. TurnTells (of_cyclic z) s y actions t) (sym o.2) (turn_at_some s o.0 actions t k (subst (λ y. truth.TurnIsTrue z.ring s y actions (answer.Turn t)) o.1 h))
+  sender_at_some s actions (answer.Recv r) (Some v) i k h = tt
+  sender_at_some s actions answer.Stopped (Some v) i k h = tt
 
-  tells_at_some : (e : Event) (a : Answer) (T : Trails) → PutIsTold e a T → truth.EventIsTrue z.ring e a (ring_trails T)
+  tells_at_some : (e : Event) (a : Answer) (T : Trails) → PutIsTold (of_cyclic z) e a T → truth.EventIsTrue z.ring e a (ring_trails T)
       → EventTells (of_cyclic z) e a T
   tells_at_some (Put s bytes) a T p h = p
   tells_at_some (Close s) a T p h = tt
-  tells_at_some (Turn s word) a T p h = sender_at_some s (T.actions s) a (going (of_cyclic z) s) refl h
+  tells_at_some (Turn s word) a T p h = sender_at_some s (T.actions s) a (going (of_cyclic z) s) refl p h
   tells_at_some (Recv r) a T p h = tt
   tells_at_some (Stop s) a T p h = tt
+
+-- ---- a turn that is answered Closed or Spent
+module _ {E : Type 0} (X : Election E) (P : Protocol E (Unit {0}) ℕ) (m : Machine E) (T : Trails) (f : IsFramed P m T) (p : ℕ) (v : Sender E)
+    (at : slice_get m.senders p ≡ Some v) (k : Remembers m p v (T.actions p)) (actions : List Action) (more : IsPrefix (T.actions p) actions) (word : ℕ) where
+  abbrev Told : Answered → Type 0
+  Told t = EndIsTold m p actions t
+
+  part : Part m.layout f.V f.frames p v.core
+  part = f.sending.parts p v.core (f.core_of p v at)
+
+  -- no tenure is left to whom none is left that it may enter
+  spent : v.core.layout.rows ≤ v.core.least → NoneIsLeft m p actions
+  spent past = none_left m p (T.actions p) actions more v.core.least k.past
+      (subst (λ (x : Layout). x.rows ≤ v.core.least) part.layout past)
+
+  -- after a look at the stage
+  looked : (c d : Bool) → nat_le v.core.layout.rows (stage_of m / 2) ≡ d → Told (cond c turn.Waiting (cond d turn.Spent turn.Going))
+  looked true d i = tt
+  looked false true i = let past = leb-true _ _ i in let rows = ap (λ (x : Layout). x.rows) part.layout in inl (omega arith)
+  looked false false i = tt
+
+  -- after a step of an election
+  elected : (t : ℕ) (r : Option Reuse) (o : Option ℕ) → Told (answer_elected v.core r t o)
+  elected t None None = tt
+  elected t None (Some o) = by (o == v.core.me) where
+    by : (b : Bool) → Told (cond b turn.Going (turn.Lost t record { 0 = o }))
+    by true = tt
+    by false = tt
+  elected t (Some r) o = tt
+
+  -- of whom the page goes back
+  returned : (t : ℕ) (reason : Reason) → Shows v.core t v.core.phase reason → Told (answer_of_return v.core.queue t reason)
+  returned t Sent w = by (is_closing v.core.queue.phase) refl where
+    by : (b : Bool) → is_closing v.core.queue.phase ≡ b → Told (cond b turn.Closed (turn.Delivered t v.core.queue.first (next_of v.core.queue - 1)))
+    by true i = ended_of P m T f (published_ends f.V f.frames v.core t v.core.phase w (closing_is v.core.queue.phase i) part.fits)
+    by false i = tt
+  returned t FoundEnd w = ended_of P m T f (found_ends f.V f.frames v.core t v.core.phase w part.fits)
+  returned t NoRoom w = tt
+
+  -- who withdraws, and who reclaims
+  lost : (t : ℕ) (o : Option SenderNo) → Told (answer_of_loss t o)
+  lost t None = tt
+  lost t (Some o) = tt
+
+  reclaimed : (b : Option Behind) → Told (answer_of_reclaim b)
+  reclaimed None = tt
+  reclaimed (Some b) = tt
+
+  answer_is_told : (z : Situation E) → situation X v ≡ z → Told ((line_now X v).answer (found m (line_now X v) word) word)
+  answer_is_told z i = subst (λ w. Told ((line X v w).answer (found m (line X v w) word) word)) (sym i) (by z i) where
+    by : (z : Situation E) → situation X v ≡ z → Told ((line X v z).answer (found m (line X v z) word) word)
+    by (Does IsClosed) i = k.closed (closed_at X v (own_is X v IsClosed i))
+    by (Does IsIdle) i = tt
+    by (Does IsSpent) i = spent (spent_at X v (own_is X v IsSpent i))
+    by (Does LooksAtStage) i = looked (waits v.core (stage_of m)) (nat_le v.core.layout.rows (stage_of m / 2)) refl
+    by (Does (Elects t e)) i = elected t v.reuse (X.owner (X.fed e (found m (line X v (Does (Elects t e))) word) word))
+    by (Does (TakesPage t)) i = tt
+    by (Does (AwaitsPage t)) i = tt
+    by (Does (StoresWord t page stored)) i = tt
+    by (Does (StoresLength t page stored)) i = tt
+    by (Does (GivesBack t page reason)) i = returned t reason (gives_shows X v.core t page reason (own_is X v (GivesBack t page reason) i))
+    by (Does (HasHanded t reason)) i = absurd (subst (Fits f.V f.frames v.core) (tells_phase X v.core (HasHanded t reason) (own_is X v (HasHanded t reason) i)) part.fits)
+    by (Announces t) i = tt
+    by (Validates t) i = tt
+    by (Unpins t) i = lost t (lost_of v.reuse)
+    by (Withdraws t) i = tt
+    by (Scans q) i = reclaimed (behind_of q (found m (line X v (Scans q)) word))
+    by (Clears q) i = reclaimed (behind_of q (found m (line X v (Clears q)) word))
 
 -- ---- one event, by trails that lead to the machine before it
 module _ {E : Type 0} (X : Election E) (P : Protocol E (Unit {0}) ℕ) (m m' : Machine E) (T : Trails) (e : Event) (a : Answer) (s : Sits X P m) (r : Reached X m T) (h : Happens X m e a m') where
@@ -167,15 +274,26 @@ module _ {E : Type 0} (X : Election E) (P : Protocol E (Unit {0}) ℕ) (m m' : M
   abbrev T' : Trails
   T' = trails_grown X m e a T
 
-  put_is_told : PutIsTold e a T'
+  -- a turn that is answered Closed or Spent
+  last : (p word : ℕ) → e ≡ Turn p word → LastIsTold m p (going m p) (T'.actions p) a
+  last p word i =
+      let d : TakesTurn X m p word a m' = subst (λ g. Happens X m g a m') i h in
+      let at = there_shown (has_stopped m p) (slice_get m.senders p) d.sender d.goes in
+      let f = framed X P m T s r in
+      let before = (promised X P m T s r).by.remembers p d.sender at in
+      subst (λ o. LastIsTold m p o (T'.actions p) a) (sym d.goes)
+      (subst (LastIsTold m p (Some d.sender) (T'.actions p)) (sym d.answered)
+      (answer_is_told X P m T f p d.sender at before (T'.actions p) ((grown_longer X m T e a).actions p) word (situation X d.sender) refl))
+
+  put_is_told : PutIsTold m e a T'
   put_is_told = by e refl where
-    by : (g : Event) → e ≡ g → PutIsTold g a T'
+    by : (g : Event) → e ≡ g → PutIsTold m g a T'
     by (Put p bytes) i =
         let k = promised X P m' T' (sits_after X P m m' e a h s) (Then m m' T e a r h) in
         put_told p bytes a T T' (ap (λ f. (trails_grown X m f a T).actions) i)
         (λ place number sent at. k.by.promises.numbered p place number sent at)
     by (Close p) i = tt
-    by (Turn p word) i = tt
+    by (Turn p word) i = last p word i
     by (Recv q) i = tt
     by (Stop p) i = tt
 
@@ -201,13 +319,6 @@ module _ {E : Type 0} (X : Election E) (P : Protocol E (Unit {0}) ℕ) (m m' : M
     both_plain : (C : Machine E → Machine E → Type 0) → C (of_bus m.layout i.bus) (of_bus m.layout k.bus) → C m m'
     both_plain C c = subst (λ y. C y m') (sym i.is) (subst (C (of_bus m.layout i.bus)) (sym k.is) c)
 
-    plain_grows : IsPrefix (log_of m) (log_of m')
-    plain_grows = both_plain (λ y z. IsPrefix (log_of y) (log_of z)) record {
-      rest = log_words left.continues.more;
-      together = ap (λ w. w ++ log_words left.continues.more) kept.lawful.keeps.sending.log.words_are ∙ sym (flat_map-append frame_words kept.frames left.continues.more)
-          ∙ ap log_words left.continues.together ∙ sym left.lawful.keeps.sending.log.words_are;
-    }
-
     -- the frame of who stores the length joins
     plain_joins : log_of m' ≡ log_of m ++ words_joined X m e
     unfolding left after
@@ -216,16 +327,13 @@ module _ {E : Type 0} (X : Election E) (P : Protocol E (Unit {0}) ℕ) (m m' : M
         ∙ ap (λ w. w ++ words_joined X (of_bus m.layout i.bus) e) (sym kept.lawful.keeps.sending.log.words_are)
         )
 
-    plain_stage : stage_of m ≤ stage_of m'
-    plain_stage = both_plain (λ y z. stage_of y ≤ stage_of z) (plain_rises X P m.layout i.bus k.bus kept.frames left.frames_now kept.lawful left.lawful e k.happens)
-
     plain_told : EventTells m e a (trails_grown X m e a T)
     plain_told =
         let q = s.serves in
         let so = event_tells X P q.laws m.layout s.ok q.width q.starts q.owner_is q.named q.announces q.apart i.bus k.bus (plain_trails T) i.reached e a k.happens k.answers in
         subst (λ y. EventTells y e a (trails_grown X y e a T)) (sym i.is)
         (tells_at_none m.layout i.bus e a (trails_grown X (of_bus m.layout i.bus) e a T)
-        (subst (λ y. PutIsTold e a (trails_grown X y e a T)) i.is put_is_told)
+        (subst (λ y. PutIsTold y e a (trails_grown X y e a T)) i.is put_is_told)
         (subst (plain.EventTells m.layout i.bus e a) (k.trails T) so))
 
   -- and with rows that are used again
@@ -251,22 +359,16 @@ module _ {E : Type 0} (X : Election E) (P : Protocol E (Unit {0}) ℕ) (m m' : M
     both_cyclic : (C : Machine E → Machine E → Type 0) → C (of_cyclic z) (of_cyclic d.bus) → C m m'
     both_cyclic C q = subst (λ y. C y m') (sym j.is) (subst (C (of_cyclic z)) (sym d.is) q)
 
-    cyclic_grows : IsPrefix (log_of m) (log_of m')
-    cyclic_grows = both_cyclic (λ y w. IsPrefix (log_of y) (log_of w)) (log_grows X P z c (ring_ok X P m s z j.is) (ring_two X P m s z j.is) (ring_trails T) j.leads e d.bus.ring d.steps.happens d.steps.within)
-
     -- and so here
     cyclic_joins : log_of m' ≡ log_of m ++ words_joined X m e
-    cyclic_joins = event_joins X P m m' T (framed X P m T s r) e a h cyclic_grows rows used
+    cyclic_joins = event_joins X P m m' T (framed X P m T s r) e a h (grows X P m m' T e a s r h) rows used
         (subst (ReusesSafely X m T) used (promised X P m T s r).by.reuse)
-
-    cyclic_stage : stage_of m ≤ stage_of m'
-    cyclic_stage = both_cyclic (λ y w. stage_of y ≤ stage_of w) (cyclic.event_rises X P c.laws c.owner_is c.named c.announces c.apart z.ring x (ring_trails T) l e d.bus.ring d.steps.happens d.steps.within)
 
     cyclic_told : EventTells m e a (trails_grown X m e a T)
     cyclic_told =
         let so = event_true X P z c (ring_ok X P m s z j.is) (ring_two X P m s z j.is) (ring_trails T) j.leads e a d.bus d.steps in
         subst (λ y. EventTells y e a (trails_grown X y e a T)) (sym j.is)
-        (tells_at_some z e a (trails_grown X (of_cyclic z) e a T) (subst (λ y. PutIsTold e a (trails_grown X y e a T)) j.is put_is_told)
+        (tells_at_some z e a (trails_grown X (of_cyclic z) e a T) (subst (λ y. PutIsTold y e a (trails_grown X y e a T)) j.is put_is_told)
         (subst (truth.EventIsTrue z.ring e a) (d.trails T) so))
 
     cyclic_stays : (t q : ℕ) → t + rows ≤ stage_of m / 2 → actions_in t ((trails_grown X m e a T).actions q) ≡ actions_in t (T.actions q)
@@ -276,24 +378,12 @@ module _ {E : Type 0} (X : Election E) (P : Protocol E (Unit {0}) ℕ) (m m' : M
         actions_same t ((trails_grown X m e a T).actions q) ∙ ap (λ y. staying.actions_in t ((trails_grown X y e a T).actions q)) j.is ∙ ap (λ (U : Rattle.bus_world.specs.CyclicMachines.CyclicTrails). staying.actions_in t (U.actions q)) (sym (d.trails T))
         ∙ cyclic.event_stays X P c.laws c.owner_is c.named c.announces c.apart z.ring x (ring_trails T) l t here e a q ∙ sym (actions_same t (T.actions q))
 
-  pub grows : IsPrefix (log_of m) (log_of m')
-  grows = by m.reuse refl where
-    by : (o : Option ℕ) → m.reuse ≡ o → IsPrefix (log_of m) (log_of m')
-    by None fresh = plain_grows fresh
-    by (Some rows) used = cyclic_grows rows used
-
   -- what joins the log with an event
   pub joins : log_of m' ≡ log_of m ++ words_joined X m e
   joins = by m.reuse refl where
     by : (o : Option ℕ) → m.reuse ≡ o → log_of m' ≡ log_of m ++ words_joined X m e
     by None fresh = plain_joins fresh
     by (Some rows) used = cyclic_joins rows used
-
-  pub rises : stage_of m ≤ stage_of m'
-  rises = by m.reuse refl where
-    by : (o : Option ℕ) → m.reuse ≡ o → stage_of m ≤ stage_of m'
-    by None fresh = plain_stage fresh
-    by (Some rows) used = cyclic_stage rows used
 
   pub told : EventTells m e a (trails_grown X m e a T)
   told = by m.reuse refl where

@@ -1,15 +1,19 @@
 -- What words, page and senders of a machine keep by the frames of its log, of both kinds of rows.
-use Rattle.std.proofs.Common.{◌≡◌, ℕ, zero, suc, ◌+◌, ◌<◌, ◌≤◌, Option, Some, None, List, [], ◌∷◌, ◌++◌, slice_get, slice_index, arith}
+use Rattle.std.proofs.Common.{◌≡◌, ℕ, zero, suc, ◌+◌, ◌<◌, ◌≤◌, Option, Some, None, List, [], ◌∷◌, ◌++◌, map, slice_get, slice_index, arith}
 use Rattle.std.proofs.Common.{refl, sym, ◌∙◌, ap, subst}
 use Rattle.std.specs.Prelude.{option_map}
 use Rattle.std.proofs.lemmas.Option.{slice_get-map, same_Some}
-use Rattle.bus_batch.specs.Frames.{Frame, log_words}
+use Rattle.bus_batch.specs.Frames.{Frame, log_words, order_of}
 use Rattle.bus_core.specs.Senders.{Sender, apart, again, reuse_of, log_start}
 use Rattle.bus_core.specs.declared.reuses.Reuse.{Reuse}
 use Rattle.bus_machine.proofs.Cyclic.CyclicLaws.{layout_served, led}
 use Rattle.bus_machine.specs.Proved.Cyclic.{OwnedCyclicMachine, LeadTo}
 use Rattle.bus_core.specs.Reusing.Participants.{log_from}
 use Rattle.bus_core.specs.Reusing.Turns.{Participant}
+use Rattle.bus_deliverylog.specs.Orders.{of_sender}
+use Rattle.bus_world.proofs.Waiting.{waiting_of}
+use Rattle.bus_world.specs.Headline.{puts}
+use Rattle.bus_world.specs.Waiting.{waiting_at}
 use Rattle.bus_register.specs.Protocol.{Protocol}
 use Rattle.bus_tenure.specs.Core.{Core, Election, Layout, log_at}
 use Rattle.bus_world.proofs.EventTrails as plain
@@ -26,6 +30,7 @@ use Rattle.bus_machine.proofs.AtNone.{reached_at_none}
 use Rattle.bus_machine.proofs.Leading.{Sits, led_ring, ring_serves, ring_ok, ring_two}
 use Rattle.bus_machine.specs.Proved.Bridge.{of_bus, of_cyclic, plain_trails, ring_trails, AreSized}
 use Rattle.bus_machine.specs.Machine.{Machine, Trails, Reached, log_place, log_of, stage_of}
+use Rattle.bus_machine.specs.Remembering.{rows_in}
 
 -- words that are alike are read alike
 pub read_alike : (n : ℕ) (w v : ℕ → ℕ) (a b : ℕ) → ((j : ℕ) → j < n → w (a + j) ≡ v (b + j)) → words_read_from w a n ≡ words_read_from v b n
@@ -44,6 +49,9 @@ pub record IsFramed {E : Type 0} (P : Protocol E (Unit {0}) ℕ) (m : Machine E)
   pub core_of : (p : ℕ) (v : Sender E) → slice_get m.senders p ≡ Some v → cores p ≡ Some v.core
   pub sender_of : (p : ℕ) (c : Core E) → cores p ≡ Some c → (v : Sender E) × (slice_get m.senders p ≡ Some v) × (v.core ≡ c)
   pub starts : (p : ℕ) (v : Sender E) → slice_get m.senders p ≡ Some v → log_start m.layout v.reuse ≡ log_place m.layout m.reuse
+  pub rows : (p : ℕ) (v : Sender E) → slice_get m.senders p ≡ Some v → rows_in v.reuse ≡ m.reuse
+  pub puts : (p : ℕ) (v : Sender E) → slice_get m.senders p ≡ Some v
+      → puts (T.actions p) ≡ map (λ i. i.message) (of_sender p (order_of frames)) ++ waiting_at v.core v.core.phase
   pub again_of : (p : ℕ) (v : Sender E) (rows : ℕ) → slice_get m.senders p ≡ Some v → m.reuse ≡ Some rows → (r : Reuse) × (v.reuse ≡ Some r)
   pub length : slice_index m.words 0 ≡ V 0
   pub stage : stage_of m ≡ V 1
@@ -87,6 +95,8 @@ module _ {E : Type 0} (X : Election E) (P : Protocol E (Unit {0}) ℕ) where
       core_of = λ p v at. (core_at p v at).0;
       sender_of = λ p c at. (apart c, slice_get-map apart b.side.senders p ∙ ap (option_map apart) at, refl);
       starts = λ p v at. ap (log_start x) (core_at p v at).1;
+      rows = λ p v at. ap rows_in (core_at p v at).1;
+      puts = λ p v at. k.tied.puts p ∙ ap (λ o. map (λ i. i.message) (of_sender p (order_of k.frames)) ++ waiting_of o) (core_at p v at).0;
       again_of = λ p v rows at used. absurd cc;
       length = refl;
       stage = refl;
@@ -149,6 +159,10 @@ module _ {E : Type 0} (X : Election E) (P : Protocol E (Unit {0}) ℕ) where
       core_of = λ p v at. let u = participant_at p v at in ap core_in u.1 ∙ ap (λ (w : Sender E). Some w.core) (sym u.2);
       sender_of = λ p c at. sender_there p c (slice_get z.ring.participants p) refl at;
       starts = starts_at;
+      rows = λ p v at. let u = participant_at p v at in ap (λ (w : Sender E). rows_in w.reuse) u.2 ∙ ap Some (sized p u.0 u.1).1;
+      puts = λ p v at. let u = participant_at p v at in
+          kept.kept.notes.put p ∙ ap (λ o. map (λ i. i.message) (of_sender p (order_of kept.frames)) ++ waiting_of o) (ap core_in u.1)
+          ∙ ap (λ (w : Sender E). map (λ i. i.message) (of_sender p (order_of kept.frames)) ++ waiting_at w.core w.core.phase) (sym u.2);
       again_of = λ p v rows at used. let u = participant_at p v at in (reuse_of u.0, ap (λ (w : Sender E). w.reuse) u.2);
       length = kept.kept.laid.length;
       stage = kept.kept.laid.stage;

@@ -106,7 +106,7 @@ module _ {E : Type 0} (X : Election E) (v : Sender E) (word n t : ℕ) (page : P
 
   gives_too : (a : Answered) → FeedTells X g n word a → FeedTells X v n word a
   gives_too turn.Idle w = w
-  gives_too turn.Waiting (inl w) = absurd (let bad = sym now ∙ w.looks in cc)
+  gives_too turn.Waiting (inl w) = absurd (let bad : phase.Giving t reason ≡ phase.Resting = w.looks.looks.rests in cc)
   gives_too turn.Waiting (inr w) = inr w
   gives_too turn.Going w = record {
     loses = λ u o i. w.loses u o (loses_now u o v.reuse i);
@@ -114,9 +114,9 @@ module _ {E : Type 0} (X : Election E) (v : Sender E) (word n t : ℕ) (page : P
     invalidated = w.invalidated;
     takes = λ u i. let bad = sym (tells X v.core (GivesBack t page reason) own).2 ∙ i.elects in cc;
     gives = λ u i. w.gives t (handed_ready u i);
-    waits = λ i. let bad = sym here ∙ i.looks in cc;
-    spent = λ i. let bad = sym here ∙ i.looks in cc;
-    begins = λ i. let bad = sym here ∙ i in absurd cc;
+    waits = λ i. let bad = sym (tells X v.core (GivesBack t page reason) own).2 ∙ i.looks.looks.rests in cc;
+    spent = λ i. let bad = sym (tells X v.core (GivesBack t page reason) own).2 ∙ i.looks.looks.rests in cc;
+    begins = λ i. let bad = sym (tells X v.core (GivesBack t page reason) own).2 ∙ i.looks.rests in absurd cc;
     behind = λ u p i. never_behind u p v.reuse i;
   }
   gives_too (turn.Lost u o) w = loses_then u o v.reuse w
@@ -131,7 +131,7 @@ module _ {E : Type 0} (X : Election E) (v : Sender E) (word n t : ℕ) (page : P
       | inr a ↦ inr (shows w.tenure FoundEnd (ended_on w.tenure t reason _ a refl))
     ];
   }
-  gives_too turn.Spent w = absurd (let bad = sym now ∙ w.looks in cc)
+  gives_too turn.Spent w = absurd (let bad : phase.Giving t reason ≡ phase.Resting = w.looks.looks.rests in cc)
   gives_too (turn.Behind u p) w = absurd (not_behind u p.0 v.reuse w)
 
 -- whatever its situation, and whatever these words

@@ -9,6 +9,7 @@ use Rattle.bus_batch.proofs.FrameLaws.{spells_one}
 use Rattle.bus_batch.specs.Batches.{frame_of}
 use Rattle.bus_batch.specs.Frames.{Order, Spells, AreFrames, order_of, log_words, tenure_and_owner, frame_words}
 use Rattle.bus_core.proofs.Situated.{own_is}
+use Rattle.bus_core.specs.Reusing.Keeping.{held_of}
 use Rattle.bus_core.specs.Senders.{Sender, Does, log_start, situation}
 use Rattle.bus_core.specs.Table.{line, line_now}
 use Rattle.bus_machine.proofs.Cyclic.LastTakers.{takers_one}
@@ -45,6 +46,14 @@ pub record HasPage {E : Type 0} (t : ℕ) (ph : Phase E) : Type 0 where
 
 holds_one : {E : Type 0} (t u : ℕ) → ◌≡◌ {A = Standing E} (Holds t) (Holds u) → t ≡ u
 holds_one t u e = cc
+
+-- who has taken a page, and not given it back
+held_stands : {E : Type 0} (ph : Phase E) (t : ℕ) → held_of ph ≡ Some t → stands_at ph ≡ Holds t
+held_stands phase.Resting t e = absurd cc
+held_stands (phase.Electing u f) t e = absurd cc
+held_stands (phase.Taken u) t e = ap Holds (same_Some _ _ e)
+held_stands (phase.Holding u page stored published) t e = ap Holds (same_Some _ _ e)
+held_stands (phase.Giving u reason) t e = ap Holds (same_Some _ _ e)
 
 module _ {E : Type 0} (words : ℕ → ℕ) (frames : List Rattle.bus_batch.specs.Frames.Frame) (c : Core E) where
   -- between turns the page that is held is in the phase
@@ -197,6 +206,22 @@ module _ {E : Type 0} (X : Election E) (P : Protocol E (Unit {0}) ℕ) (m : Mach
     | Open stage here many ↦ absurd (true≢false (sym here ∙ ap is_some away))
     | Held holder stage gone many holds ↦
         with_owner f.sending.tenures.ended holder holds k.all (takers_one f.owners k.all T.actions f.takers k.takers) stage many
+  ]
+
+  -- who holds a page took it
+  pub owns : (k : TakersTold m.reuse m.owners T.actions) (p : ℕ) (v : Sender E) (t : ℕ) → slice_get m.senders p ≡ Some v
+      → held_of v.core.phase ≡ Some t → slice_get k.all t ≡ Some p
+  owns k p v t at held =
+      let holds = ap (of_some standing_of) (f.core_of p v at) ∙ ap Some (held_stands v.core.phase t held) in
+      subst (λ l. slice_get l t ≡ Some p) (takers_one f.owners k.all T.actions f.takers k.takers) (f.sending.tenures.holding p t holds).2
+
+  -- a page at home counts the pages that were taken
+  pub counts : (k : TakersTold m.reuse m.owners T.actions) (page : Page) → m.home ≡ Some page → page.tenures ≡ length k.all
+  counts k page at = elim f.sending.tenures.stage_is [
+    | Open stage here many ↦
+        (f.sending.page_knows page f.sending.tenures.ended at stage).0.tenures ∙ sym many
+        ∙ ap length (takers_one f.owners k.all T.actions f.takers k.takers)
+    | Held holder stage away many holds ↦ absurd (true≢false (sym (ap is_some at) ∙ away))
   ]
 
   -- ---- a word of the log

@@ -10,9 +10,12 @@ pub mod Clearing
 pub mod Knowing
 pub mod Joining
 pub mod Bounding
-pub mod Promised
 pub mod Staying
 pub mod Rising
+pub mod Growing
+pub mod Ending
+pub mod Remembering
+pub mod Promised
 pub mod Following
 pub mod PinBounds
 pub mod Leaving

@@ -1,14 +1,10 @@
 -- No promise holds of a log that lacks what was put, or has a word that was never stored.
-use Rattle.std.proofs.Common.{◌≡◌, ◌≢◌, ℕ, ◌+◌, ◌*◌, ◌^◌, Option, Some, List, [], ◌∷◌, ◌++◌, length, map, arith, sym, ◌∙◌, ap}
+use Rattle.std.proofs.Common.{◌≡◌, ℕ, ◌+◌, ◌*◌, ◌^◌, List, [], ◌∷◌, ◌++◌, length, map, arith, sym, ◌∙◌, ap}
 use Rattle.bus_batch.specs.Frames.{Frame, body_words, log_words, order_of}
-use Rattle.bus_core.specs.Senders.{Sender}
 use Rattle.bus_deliverylog.specs.Orders.{of_sender}
 use Rattle.bus_tenure.specs.Core.{Election}
-use Rattle.bus_world.specs.Headline.{puts}
-use Rattle.bus_world.specs.Waiting.{waiting_at}
-use Rattle.bus_machine.specs.Machine.{Machine, Trails, log_of}
+use Rattle.bus_machine.specs.Machine.{Machine, Trails}
 use Rattle.bus_machine.specs.LogRefusals.{LogsRefuse}
-use Rattle.bus_machine.specs.Promise.{IsPromised}
 
 no_frames : (frames : List Frame) → log_words frames ≡ [] → frames ≡ []
 no_frames [] e = λ i. []

@@ -31,7 +31,7 @@ use Rattle.bus_world.specs.World.{Event, Put, Close, Turn, Recv, Stop}
 use Rattle.bus_world.specs.declared.events.Answer.{Answer}
 use Rattle.bus_world.specs.declared.events.Answer.TheVariants as answer
 use Rattle.bus_machine.proofs.Bounding.{Counts, counted, may_enter, announces_of, validates_of, there_shown}
-use Rattle.bus_machine.proofs.Following.{rises}
+use Rattle.bus_machine.proofs.Growing.{rises}
 use Rattle.bus_machine.proofs.Leading.{Sits, sits_before}
 use Rattle.bus_machine.specs.Bounding.{named_by, named_from, is_tenure, pins_from, steps_of_pin, IsNamedFirst, PinsAreBounded}
 use Rattle.bus_machine.specs.Machine.{Machine, Trails, Reached, New as Start, Then as Next, Happens, TakesTurn, trails_grown, turn_trails, turn_grown, turn_answer, entered, found, has_stopped, moved, put_in, close_in, stage_of}

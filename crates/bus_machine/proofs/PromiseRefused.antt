@@ -1,10 +1,9 @@
 -- Each of the wrong behaviours is refused.
-use Rattle.std.proofs.Common.{◌≡◌, ℕ, ◌+◌, ◌*◌, ◌%◌, ◌≤◌, Option, Some, None, List, [], slice_get, arith, sym, ◌∙◌, ap, subst}
-use Rattle.bus_core.specs.Senders.{Sender}
+use Rattle.std.proofs.Common.{◌≡◌, ℕ, Some, None, List, [], slice_get, arith, sym, ◌∙◌, ap, subst}
 use Rattle.bus_tenure.specs.Core.{Election}
 use Rattle.bus_machine.specs.Machine.{Machine, Trails}
 use Rattle.bus_machine.specs.Promise.{IsPromised, ReusesRows, ReusesSafely}
-use Rattle.bus_machine.specs.PromiseRefusals.{OwnersRefuse, RowsRefuse, PromiseRefuses}
+use Rattle.bus_machine.specs.PromiseRefusals.{PromiseRefuses}
 
 nothing_at : {A : Type 0} (i : ℕ) (x : A) (l : List A) → l ≡ [] → slice_get l i ≡ Some x → ⊥
 nothing_at i x l none e = absurd (let bad : None ≡ Some x = sym (ap (λ w. slice_get w i) none) ∙ e in cc)
@@ -16,11 +15,11 @@ pub refused : {E : Type 0} (X : Election E) (m : Machine E) (T : Trails) → Pro
 refused {E} X m T = record {
   owners = record {
     two_owners = λ t s s' o o' e f apart kept. apart (kept.by.promises.one_owner t s s' o o' e f);
-    owner_without_page = λ t s none owns idle kept.
+    owner_without_page = λ t s none owns untaken kept.
         let told = kept.by.takers in
         let all = sym (told.told ∙ ap (λ r. Rattle.bus_machine.specs.Machine.owners_told r told.all) none) in
         let took = told.takers.took t s (ap (λ l. slice_get l t) all ∙ owns) in
-        nothing_at took.0 _ (T.actions s) idle took.1.at;
+        untaken took.0 took.1;
   };
   rows = λ rows some. record {
     enters_without_presence = λ p v t e at elects none kept.
@@ -28,6 +27,8 @@ refused {E} X m T = record {
     two_tenures_of_a_row = λ p q v w t u e f at elects there runs row apart kept.
         let k = reuses X m T rows some kept in
         apart (k.safe.alone p q t u (k.stands p v t e at elects) (k.stands q w u f there runs) row);
+    steps_past_the_row = λ p t word v e o at i next far kept.
+        let w = ((reuses X m T rows some kept).within p t word v e o at i next).1 in omega arith;
     holds_without_reclaimer = λ p v t at held stage used none kept.
         let k = reuses X m T rows some kept in
         let l = k.ready t stage (sym (k.holder p v t at held) ∙ none) in omega arith;

@@ -12,8 +12,8 @@ use Rattle.bus_core.specs.Table.{line, line_now}
 use Rattle.bus_machine.proofs.Cyclic.CyclicLaws.{kept_at, layout_served, led}
 use Rattle.bus_machine.specs.Proved.Cyclic.{OwnedCyclicMachine, AreLastTakers, LeadTo}
 use Rattle.bus_deliverylog.specs.Orders.{of_sender}
-use Rattle.bus_core.specs.Reusing.Participants.{log_from, sizes_with}
-use Rattle.bus_core.specs.Reusing.Turns.{Participant}
+use Rattle.bus_core.specs.Reusing.Participants.{log_from, sizes_with, place_for}
+use Rattle.bus_core.specs.Reusing.Turns.{Participant, op_placed}
 use Rattle.bus_presence.specs.Reclamation.{Reached as ReclamationReached, row_of}
 use Rattle.bus_presence.specs.Standing.{IsSafe, Stands}
 use Rattle.bus_presence.specs.Reclaimers.{Reclaiming}
@@ -23,9 +23,11 @@ use Rattle.bus_register.specs.declared.registers.Op.{Op}
 use Rattle.bus_register.specs.declared.registers.Op.TheVariants.{Store}
 use Rattle.bus_tenure.specs.Core.{Core, Election, Layout, log_at}
 use Rattle.bus_core.specs.Reusing.Keeping.{held_of}
-use Rattle.bus_tenure.specs.Situations.{TakesPage, situation_of}
+use Rattle.bus_tenure.specs.Situations.{Elects, TakesPage, situation_of}
+use Rattle.bus_tenure.specs.declared.phases.Phase.TheVariants.{Electing}
+use Rattle.bus_tenure.proofs.Situated.{tells}
 use Rattle.bus_world.proofs.EventTrails as plain
-use Rattle.bus_world.proofs.CyclicMachineLaws.{IsCyclicLayout, IsLed}
+use Rattle.bus_world.proofs.CyclicMachineLaws.{IsCyclicLayout, IsLed, same_register}
 use Rattle.bus_world.proofs.Serving.{Serves}
 use Rattle.bus_world.proofs.Waiting.{waiting_of}
 use Rattle.bus_world.proofs.CyclicProtocolLaws.{HasKept, led_kept, words_read}
@@ -43,11 +45,13 @@ use Rattle.bus_machine.proofs.Leading.{Sits, led_ring, ring_serves, ring_ok, rin
 use Rattle.bus_machine.specs.Proved.Bridge.{of_bus, of_cyclic, plain_trails, ring_trails}
 use Rattle.bus_machine.proofs.Clearing.{clearing, spared}
 use Rattle.bus_machine.proofs.Framed.{IsFramed, framed}
-use Rattle.bus_machine.proofs.Knowing.{knows, out, past}
+use Rattle.bus_machine.proofs.Knowing.{knows, out, past, owns, counts}
+use Rattle.bus_machine.proofs.Remembering.{remembered}
 use Rattle.bus_machine.proofs.Own.{own_of}
 use Rattle.bus_machine.proofs.Paging.{paged, finds_page, holds_page}
 use Rattle.bus_machine.specs.Machine.{Machine, Trails, Reached, stage_of}
 use Rattle.bus_machine.specs.Promise.{IsPromised, IsPagedBy, FindsPage, reclamation_of, pin_in}
+use Rattle.bus_machine.specs.Remembering.{Remembers, rows_in}
 
 module _ {E : Type 0} (X : Election E) where
   -- ---- rows that are used again
@@ -69,6 +73,7 @@ module _ {E : Type 0} (X : Election E) where
     -- with what the frames of its log say of the page, and of what senders have put
     record Beside (P : Protocol E (Unit {0}) ℕ) (T : Trails) (order : Order) : Type 0 where
       frames : IsFramed P (of_cyclic z) T
+      remembers : (s : ℕ) (v : Sender E) → slice_get (of_cyclic z).senders s ≡ Some v → Remembers (of_cyclic z) s v (T.actions s)
       paged : IsPagedBy (stage_of (of_cyclic z)) (slice_index z.ring.words 0) order.ended z.ring.home
       finds : (p : ℕ) (u : Participant E) (t : ℕ) → slice_get z.ring.participants p ≡ Some u → situation_of X u.core ≡ TakesPage t → FindsPage (of_cyclic z) t
       holds : (p : ℕ) (u : Participant E) (t : ℕ) → slice_get z.ring.participants p ≡ Some u → held_of u.core.phase ≡ Some t → stage_of (of_cyclic z) ≡ 2 * t + 1
@@ -90,6 +95,35 @@ module _ {E : Type 0} (X : Election E) where
         spared (sizes_with z.ring.layout z.ring.rows) (yard_of z.ring k.leads.reclaimer k.leads.owners).reclamation T.pins k.kept.by.safe s
         mine c.step q t place stands low (ap register (same_Some _ _ due) ∙ same)
 
+    -- each step of an election is on a word of the row that its tenure uses
+    within_at : (T : Trails) (k : IsKeptCyclic X z.ring (ring_trails T)) (p t word : ℕ) (v : Sender E) (e : E) (o : Op)
+        → Remembers (of_cyclic z) p v (T.actions p) → slice_get (of_cyclic z).senders p ≡ Some v → situation X v ≡ Does (Elects t e)
+        → (line_now X v).op word ≡ Some o
+        → (row_of (sizes_with z.ring.layout z.ring.rows) t ≤ register o) × (register o < row_of (sizes_with z.ring.layout z.ring.rows) t + z.ring.layout.width)
+    within_at T k p t word v e o remembers at i next =
+        let u = participant_at p v at in
+        let here = subst (λ y. situation X y ≡ Does (Elects t e)) u.2 i in
+        let now = subst (λ y. (line_now X y).op word ≡ Some o) u.2 next in
+        let runs = (tells X u.0.core (Elects t e) (own_of (again u.0).reuse (situation_of X u.0.core) (Elects t e) here)).0 in
+        let layout = sym (ap (λ (y : Sender E). y.core.layout) u.2) ∙ remembers.is.layout in
+        let rows = same_Some _ _ (sym (ap (λ (y : Sender E). rows_in y.reuse) u.2) ∙ remembers.rows) in
+        by u.0 u.1 runs layout rows (X.op e word) refl (sym (ap (λ w. (line X (again u.0) w).op word) here) ∙ now)
+      where
+        by : (u : Participant E) → slice_get z.ring.participants p ≡ Some u → u.core.phase ≡ Electing t e → u.core.layout ≡ z.ring.layout
+            → u.rows ≡ z.ring.rows → (d : Option Op) → X.op e word ≡ d → op_placed (place_for u.core.layout u.rows (Elects t e)) d ≡ Some o
+            → (row_of (sizes_with z.ring.layout z.ring.rows) t ≤ register o) × (register o < row_of (sizes_with z.ring.layout z.ring.rows) t + z.ring.layout.width)
+        by u there runs layout rows None n q = absurd cc
+        by u there runs layout rows (Some w) n q =
+            let f = place_for u.core.layout u.rows (Elects t e) in
+            let same : f ≡ place_for z.ring.layout z.ring.rows (Elects t e) = ap (λ g. place_for g u.rows (Elects t e)) layout
+            ∙ ap (λ r. place_for z.ring.layout r (Elects t e)) rows in
+            let where_is : register o ≡ place_for z.ring.layout z.ring.rows (Elects t e) (register w) = sym (ap register (same_Some _ _ q))
+            ∙ same_register f w ∙ ap (λ g. g (register w)) same in
+            let b = k.kept.by.within p u.core t e word w (ap core_in there) runs n in (
+              subst (λ n. row_of (sizes_with z.ring.layout z.ring.rows) t ≤ n) (sym where_is) b.0,
+              subst (λ n. n < row_of (sizes_with z.ring.layout z.ring.rows) t + z.ring.layout.width) (sym where_is) b.1,
+            )
+
     promised_at_some : (P : Protocol E (Unit {0}) ℕ) (T : Trails) (p : IsKeptCyclic X z.ring (ring_trails T))
         → AreLastTakers z.ring.rows z.owners T.actions → Beside P T p.kept.order → IsPromised X (of_cyclic z) T
     promised_at_some P T p l beside =
@@ -106,6 +140,9 @@ module _ {E : Type 0} (X : Election E) where
             paged = beside.paged;
             finds = λ q v t at takes. let u = participant_at q v at in beside.finds q u.0 t u.1 (own_of (again u.0).reuse (situation_of X u.0.core) (TakesPage t) (subst (λ y. situation X y ≡ Does (TakesPage t)) u.2 takes));
             holds = λ q v t at held. let u = participant_at q v at in beside.holds q u.0 t u.1 (subst (λ (y : Sender E). held_of y.core.phase ≡ Some t) u.2 held);
+            owns = λ q v t at held. owns X P (of_cyclic z) T beside.frames record { all = l.all; takers = l.takers; told = l.last_are } q v t at held;
+            counts = counts X P (of_cyclic z) T beside.frames record { all = l.all; takers = l.takers; told = l.last_are };
+            remembers = beside.remembers;
             knows = knows X P (of_cyclic z) T beside.frames p.kept.order p.kept.owners by.spelled;
             out = out X P (of_cyclic z) T beside.frames record { all = l.all; takers = l.takers; told = l.last_are };
             past = λ q v t page stored word o at. past X P (of_cyclic z) T beside.frames q v at t page stored word o;
@@ -118,7 +155,7 @@ module _ {E : Type 0} (X : Election E) where
               safe = subst (λ h. IsSafe x h T.pins) reclamation by.safe;
               ready = by.ready;
               stands = λ q v t e at ph. let u = participant_at q v at in by.stands q u.0.core t e (ap core_in u.1) (sym (ap (λ (y : Sender E). y.core.phase) u.2) ∙ ph);
-              within = λ q v t e word o at ph next. let u = participant_at q v at in by.within q u.0.core t e word o (ap core_in u.1) (sym (ap (λ (y : Sender E). y.core.phase) u.2) ∙ ph) next;
+              within = λ q t word v e o at i next. within_at T p q t word v e o (beside.remembers q v at) at i next;
               spares = spares_at T p;
             };
           };
@@ -128,7 +165,8 @@ module _ {E : Type 0} (X : Election E) where
 module _ {E : Type 0} (X : Election E) (P : Protocol E (Unit {0}) ℕ) where
   -- ---- with a row for each tenure
   module _ (x : Layout) (q : Serves X P x) (ok : IsLayout x) (b : Bus E) (T : Trails) (r : PlainReached X x b (plain_trails T))
-      (f : IsFramed P (of_bus x b) T) where
+      (f : IsFramed P (of_bus x b) T)
+      (remembers : (s : ℕ) (v : Sender E) → slice_get (of_bus x b).senders s ≡ Some v → Remembers (of_bus x b) s v (T.actions s)) where
     k : plain.Kept X P q.laws x ok q.width q.starts q.owner_is q.named q.announces q.apart b (plain_trails T)
     k = plain.reached_kept X P q.laws x ok q.width q.starts q.owner_is q.named q.announces q.apart b (plain_trails T) r
 
@@ -159,6 +197,9 @@ module _ {E : Type 0} (X : Election E) (P : Protocol E (Unit {0}) ℕ) where
             holds = λ s v t at held.
                 let c = core_at s v at in
                 holds_page X P q.laws x ok q.width q.starts q.owner_is (slice_index b.side.words) b.side.home (slice_get b.side.senders) b.side.owners k.frames sending s c.0 c.1 t (subst (λ (y : Sender E). held_of y.core.phase ≡ Some t) c.2 held);
+            owns = λ s v t at held. owns X P (of_bus x b) T f record { all = b.side.owners; takers = p.takers; told = refl } s v t at held;
+            counts = counts X P (of_bus x b) T f record { all = b.side.owners; takers = p.takers; told = refl };
+            remembers = remembers;
             knows = knows X P (of_bus x b) T f (order_of k.frames) (map tenure_and_owner k.frames) p.spelled;
             out = out X P (of_bus x b) T f record { all = b.side.owners; takers = p.takers; told = refl };
             past = λ s v t page stored word o at. past X P (of_bus x b) T f s v at t page stored word o;
@@ -171,7 +212,8 @@ module _ {E : Type 0} (X : Election E) (P : Protocol E (Unit {0}) ℕ) where
 
   -- ---- with rows that are used again
   module _ (z : OwnedCyclicMachine E) (q : Serves X P z.ring.layout) (ok : IsLayout z.ring.layout) (two : 2 ≤ z.ring.rows) (T : Trails)
-      (l : LeadTo X z (ring_trails T)) (f : IsFramed P (of_cyclic z) T) where
+      (l : LeadTo X z (ring_trails T)) (f : IsFramed P (of_cyclic z) T)
+      (remembers : (s : ℕ) (v : Sender E) → slice_get (of_cyclic z).senders s ≡ Some v → Remembers (of_cyclic z) s v (T.actions s)) where
     x : IsCyclicLayout X P q.laws q.owner_is q.named q.announces q.apart z.ring.layout z.ring.rows
     x = layout_served X P z.ring.layout z.ring.rows q ok two
 
@@ -201,6 +243,7 @@ module _ {E : Type 0} (X : Election E) (P : Protocol E (Unit {0}) ℕ) where
     at_some : IsPromised X (of_cyclic z) T
     at_some = promised_at_some X z P T p l.owners record {
       frames = f;
+      remembers = remembers;
       paged = subst (λ n. IsPagedBy n (slice_index z.ring.words 0) p.kept.order.ended z.ring.home) (sym kept.kept.laid.stage)
           (subst (λ n. IsPagedBy (kept.V 1) n p.kept.order.ended z.ring.home) (sym kept.kept.laid.length)
           (subst (λ (o : Order). IsPagedBy (kept.V 1) (kept.V 0) o.ended z.ring.home) order_is
@@ -219,8 +262,10 @@ module _ {E : Type 0} (X : Election E) (P : Protocol E (Unit {0}) ℕ) where
     by None e =
         let i = reached_at_none X m T r e in
         subst (λ y. IsPromised X y T) (sym i.is) (promised_at_none m.layout s.serves s.ok i.bus T i.reached
-        (subst (λ y. IsFramed P y T) i.is (framed X P m T s r)))
+        (subst (λ y. IsFramed P y T) i.is (framed X P m T s r))
+        (subst (λ y. (p : ℕ) (v : Sender E) → slice_get y.senders p ≡ Some v → Remembers y p v (T.actions p)) i.is (remembered X P m T s r)))
     by (Some rows) e =
         let i = led_ring X P m T s r rows e in
         subst (λ y. IsPromised X y T) (sym i.is) (at_some i.bus (ring_serves X P m s i.bus i.is) (ring_ok X P m s i.bus i.is)
-        (ring_two X P m s i.bus i.is) T i.leads (subst (λ y. IsFramed P y T) i.is (framed X P m T s r)))
+        (ring_two X P m s i.bus i.is) T i.leads (subst (λ y. IsFramed P y T) i.is (framed X P m T s r))
+        (subst (λ y. (p : ℕ) (v : Sender E) → slice_get y.senders p ≡ Some v → Remembers y p v (T.actions p)) i.is (remembered X P m T s r)))

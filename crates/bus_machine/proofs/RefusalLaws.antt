@@ -1,23 +1,32 @@
 -- Answers, memories and machines that the definitions refuse.
-use Rattle.std.proofs.Common.{◌≡◌, ℕ, Some, None, List, [], ◌∷◌, ◌++◌, drop, length, map, slice_get, arith, refl, sym, ◌∙◌, ap, subst}
+use Rattle.std.proofs.Common.{◌≡◌, inl, inr, ℕ, ◌≤◌, true, false, Option, Some, None, List, [], ◌∷◌, ◌++◌, drop, length, slice_get, slice_index, arith, refl, sym, ◌∙◌, ap, subst}
+use Rattle.std.proofs.lemmas.Bool.{true≢false}
+use Rattle.std.proofs.lemmas.Option.{same_Some}
 use Rattle.std.proofs.lemmas.List.{append-nil, length-append}
-use Rattle.bus_batch.proofs.FrameLaws.{same_frame, spells_one}
-use Rattle.bus_batch.specs.Frames.{Frame, Order, frame_words, log_words, tenure_and_owner}
+use Rattle.bus_batch.proofs.FrameLaws.{same_frame, same_log, spells_one}
+use Rattle.bus_batch.specs.Frames.{Frame, Order, Spells, AreFrames, frame_words, items_of, log_words, order_of, has_end}
+use Rattle.bus_batch.specs.declared.messages.Item.{Item}
 use Rattle.bus_core.specs.Senders.{Sender}
 use Rattle.bus_machine.proofs.Cyclic.SameActions as same_actions
 use Rattle.bus_deliverylog.specs.Orders.{of_sender}
 use Rattle.bus_core.specs.Reusing.Keeping.{held_of}
 use Rattle.bus_presence.specs.declared.pins.Pin.TheVariants.{Unpinning}
+use Rattle.bus_register.specs.declared.kinds.Kind.TheVariants as kind
 use Rattle.bus_register.specs.declared.registers.SenderNo.{SenderNo}
 use Rattle.bus_tenure.specs.Core.{Election}
-use Rattle.bus_world.specs.Headline.{Action, Elected}
+use Rattle.bus_tenure.specs.Seen.{tenure_of}
+use Rattle.bus_tenure.specs.declared.turns.Turn.TheVariants as turn
+use Rattle.bus_world.specs.Headline.{Action, Stepped, Elected, puts}
+use Rattle.bus_world.specs.Log.{AreCounted}
+use Rattle.bus_world.specs.Telling.{HasDelivered}
 use Rattle.bus_world.specs.World.{Event}
 use Rattle.bus_world.specs.declared.events.Answer.{Answer}
 use Rattle.bus_machine.proofs.Following.{actions_same}
-use Rattle.bus_machine.specs.Bounding.{IsNamedFirst}
+use Rattle.bus_machine.specs.Bounding.{steps_towards, steps_of_pin, IsNamedFirst}
 use Rattle.bus_machine.specs.Machine.{Machine, Trails, log_of, stage_of}
 use Rattle.bus_machine.specs.Promise.{IsPagedBy, ReusesSafely, actions_in, words_of_frame}
-use Rattle.bus_machine.specs.Refusals.{LossesRefuse, AnswersRefuse, SaysNoMore, SaysMore, NumbersRefuse, BoundsRefuse, FollowsRefuse, PagesRefuse, WordsRefuse}
+use Rattle.bus_machine.specs.Refusals.{LossesRefuse, AnswersRefuse, SaysNoMore, SaysMore, NumbersRefuse, BoundsRefuse, FollowsRefuse, PagesRefuse, MemoriesRefuse, WordsRefuse}
+use Rattle.bus_machine.specs.Remembering.{HasEnded, rows_in}
 use Rattle.bus_machine.specs.Telling.{IsReused}
 
 nothing_there : (i : ℕ) (d : Action) → slice_get [] i ≡ Some d → ⊥
@@ -27,12 +36,49 @@ none_spelled : (frames : List Frame) → log_words frames ≡ [] → frames ≡ 
 none_spelled [] e = refl
 none_spelled (f ∷ frames) e = absurd cc
 
-never_last : (front : List (ℕ × SenderNo)) (w : ℕ × SenderNo) → [] ≡ front ++ w ∷ [] → ⊥
+-- a list of one has a first
+one_there : (l : List ℕ) → length l ≡ 1 → (x : ℕ) × (slice_get l 0 ≡ Some x)
+one_there [] e = absurd (omega arith)
+one_there (x ∷ l) e = (x, refl)
+
+never_last : (front : List Frame) (w : Frame) → front ++ w ∷ [] ≡ [] → ⊥
 never_last [] w e = cc
 never_last (f ∷ front) w e = cc
 
+-- one list has one last frame
+last_one : (front back : List Frame) (w u : Frame) → front ++ w ∷ [] ≡ back ++ u ∷ [] → w ≡ u
+last_one [] [] w u e = cc
+last_one [] (g ∷ back) w u e = absurd (never_last back u (sym (ap (drop 1) e)))
+last_one (f ∷ front) [] w u e = absurd (never_last front w (ap (drop 1) e))
+last_one (f ∷ front) (g ∷ back) w u e = last_one front back w u (ap (drop 1) e)
+
+-- what counts up from a first number begins with it
+counts_from : (first : ℕ) (i : Item) (items rest : List Item) → AreCounted first items → items ≡ i ∷ rest → i.number ≡ first
+counts_from first i items rest are e = (subst (AreCounted first) e are).0
+
 unpinning_is : (t u : ℕ) → Unpinning t ≡ Unpinning u → t ≡ u
 unpinning_is t u e = cc
+
+-- a log whose order goes on has not ended
+goes_on : {E : Type 0} (m : Machine E) (order : Order) (owners : List (ℕ × SenderNo)) → Spells m.layout.senders (log_of m) order owners
+    → order.ended ≡ false → HasEnded m → ⊥
+goes_on m order owners spelled goes w =
+    let one = spells_one m.layout.senders (log_of m) w.order order w.owners owners w.spelled spelled in
+    true≢false (sym w.ended ∙ ap (λ (o : Order). o.ended) one.0 ∙ goes)
+
+-- what is told delivered is the last frame of the log
+delivered_last : {E : Type 0} (m : Machine E) (s t first last : ℕ) (front : List Frame) (f : Frame)
+    → AreFrames m.layout.senders (front ++ f ∷ []) → log_words (front ++ f ∷ []) ≡ log_of m
+    → (w : HasDelivered m.layout.senders (log_of m) s t first last) → w.frame ≡ f
+delivered_last m s t first last front f lawful are w =
+    last_one w.earlier front w.frame f (same_log m.layout.senders 0 0 (w.earlier ++ w.frame ∷ []) (front ++ f ∷ []) w.lawful lawful (w.words_are ∙ sym are))
+
+-- an empty log has not ended
+none_ended : {E : Type 0} (m : Machine E) → log_of m ≡ [] → HasEnded m → ⊥
+none_ended m empty w =
+    let none = none_spelled w.spelled.frames (w.spelled.words_are ∙ empty) in
+    let ended : (order_of w.spelled.frames).ended ≡ true = ap (λ (o : Order). o.ended) w.spelled.order_is ∙ w.ended in
+    true≢false (sym ended ∙ ap has_end none)
 
 module _ {E : Type 0} (m : Machine E) where
   pub losses_refused : LossesRefuse m
@@ -49,22 +95,48 @@ module _ {E : Type 0} (m : Machine E) where
     lost_to_itself = λ t o same told. told.1 same;
     own_untaken = λ t untaken told. untaken told.1.0 told.1.1;
     delivered_nothing = λ t first last empty told.
-        let none = none_spelled told.2.frames (told.2.words_are ∙ empty) in
-        never_last told.3.front (t, told.3.owner) (sym (ap (map tenure_and_owner) none) ∙ told.2.owners_are ∙ told.3.owners_are);
+        never_last told.earlier told.frame (none_spelled (told.earlier ++ told.frame ∷ []) (told.words_are ∙ empty));
+    delivered_elsewhere = λ t first last front f lawful are other told.
+        other (ap (λ (g : Frame). g.tenure) (sym (delivered_last m p t first last front f lawful are told)) ∙ told.tenure);
+    delivered_by_another = λ t first last front f lawful are other told.
+        other (ap (λ (g : Frame). g.owner.0) (sym (delivered_last m p t first last front f lawful are told)) ∙ told.owner);
+    delivered_from_elsewhere = λ t first last front f i rest lawful are items other told.
+        let same = delivered_last m p t first last front f lawful are told in
+        other (counts_from first i (items_of told.frame) rest told.numbers (ap items_of same ∙ items));
     full_with_room = λ room told. omega arith;
+    closed_with_nothing = λ empty told. none_ended m empty told;
+    closed_too_soon = λ order owners spelled goes told. goes_on m order owners spelled goes told;
+    spent_before_the_last = λ stage two told. elim told [
+      | inl ended ↦ omega arith
+      | inr last ↦ (let is = last.1 in let low = last.2.opened in omega arith)
+    ];
+    spent_unseen = λ stage one none told. elim told [
+      | inl ended ↦ omega arith
+      | inr last ↦ (let e = last.2.elected in nothing_there e.place _ (ap (λ d. slice_get d e.place) (sym none) ∙ e.at))
+    ];
     behind_apart = λ t q none told. subst IsReused none told;
   }
 
 -- numbers of messages
-pub numbers_refused : (actions : List Action) → NumbersRefuse actions
-numbers_refused actions = record { other_number = λ n other told. other told }
+pub numbers_refused : NumbersRefuse
+numbers_refused = record {
+  first_as_one = λ bytes told. let e : 2 ≡ 1 = told in omega arith;
+  second_as_zero = λ bytes more told. let e : 1 ≡ 2 = told in omega arith;
+  unput = λ told. let e : 1 ≡ 0 = told in omega arith;
+}
+
+-- two steps towards the page of tenure 0
+two_steps : (n k : ℕ) (rest : List Action)
+    → 2 ≤ steps_towards 0 (Stepped (Some 0) kind.Announce n None turn.Going ∷ Stepped (Some 0) kind.WriteFirst k None turn.Going ∷ rest)
+two_steps n k rest = omega arith
 
 -- steps towards a page
 pub bounds_refused : {E : Type 0} (X : Election E) (bound : ℕ) (m : Machine E) (T : Trails) → BoundsRefuse X bound m T
 bounds_refused X bound m T = record {
-  too_many = λ s t more b. let low = b.most s t in omega arith;
+  too_many = λ s n k rest are b.
+      let low = subst (λ l. steps_towards 0 l ≤ 1) are (b.most s 0) in let two = two_steps n k rest in omega arith;
   none_left = λ s v t e at ph none b. let some = (b.left s v t e at ph).0 in omega arith;
-  too_many_of_pin = λ s t more b. let low = b.most s t in omega arith;
+  too_many_of_pin = λ s a c are b. let low = subst (λ l. steps_of_pin 0 l ≤ 3) are (b.most s 0) in let four : 4 ≤ 3 = low in omega arith;
   unnamed = λ s e entries are none b. let w = subst IsNamedFirst are (b.first s) in let bad : None ≡ Some w.0 = sym none ∙ w.1 in cc;
 }
 
@@ -90,7 +162,10 @@ front_off (x ∷ xs) ys zs e = front_off xs ys zs (ap (drop 1) e)
 
 pub follows_refused : {E : Type 0} (X : Election E) (old : Machine E) (e : Event) (a : Answer) (new : Machine E) → FollowsRefuse X old e a new
 follows_refused X old e a new = record {
-  falls = λ less f. let more = f.rises in omega arith;
+  falls = λ n k rest rest' was now f.
+      let more = f.rises in
+      let before : stage_of old ≡ 2 = ap (λ l. slice_index l 1) was in
+      let after : stage_of new ≡ 1 = ap (λ l. slice_index l 1) now in omega arith;
   grows_unpublished = λ none other f. other (f.joins ∙ ap (λ o. log_of old ++ words_of_frame o) none ∙ append-nil (log_of old));
   publishes_nothing = λ g some same f. nothing_joins (log_of old) g (sym same ∙ f.joins ∙ ap (λ o. log_of old ++ words_of_frame o) some);
   other_frame = λ senders g k some lawful lawful' apart has f.
@@ -107,7 +182,44 @@ pages_refused X m T = record {
   other_items = λ page order owners s home spelled few apart p.
       let one = spells_one m.layout.senders (log_of m) order p.order owners p.owners spelled p.by.spelled in
       apart ((p.by.knows page home).next s few ∙ ap (λ (o : Order). length (of_sender s o)) (sym one.0));
+  counts_untaken = λ page home one idle p.
+      let all = p.by.takers.all in
+      let many : length all ≡ 1 = sym (p.by.counts page home) ∙ one in
+      let first = one_there all many in
+      let took = p.by.takers.takers.took 0 first.0 first.1 in
+      nothing_there took.0 _ (ap (λ d. slice_get d took.0) (sym (idle first.0)) ∙ took.1.at);
+  two_holders = λ s q v w t u at there held holds apart p.
+      let stage = p.by.holds s v t at held in
+      let again = p.by.holds q w u there holds in
+      let same : u ≡ t = omega arith in
+      apart (same_Some s q (sym (p.by.owns s v t at held) ∙ ap (slice_get p.by.takers.all) (sym same) ∙ p.by.owns q w u there holds));
+  holds_untaken = λ s v t at held untaken p.
+      let took = p.by.takers.takers.took t s (p.by.owns s v t at held) in untaken took.0 took.1;
   out_of_hands = λ away nobody p. let w = p.by.out away in nobody w.owner w.sender w.tenure w.there (ap held_of w.has);
+}
+
+rows_same : (r rows : ℕ) → ◌≡◌ {A = Option ℕ} (Some r) (Some rows) → r ≡ rows
+rows_same r rows e = same_Some r rows e
+
+-- memories of what is not so
+pub memories_refused : {E : Type 0} (X : Election E) (m : Machine E) (T : Trails) → MemoriesRefuse X m T
+memories_refused X m T = record {
+  closed_with_nothing = λ s v at closed empty p. none_ended m empty ((p.by.remembers s v at).closed closed);
+  closed_too_soon = λ s v order owners at closed spelled goes p. goes_on m order owners spelled goes ((p.by.remembers s v at).closed closed);
+  other_number = λ s v at other p. other (p.by.remembers s v at).is.me;
+  other_layout = λ s v at other p. other (p.by.remembers s v at).is.layout;
+  other_mark = λ s v at other p. other (p.by.remembers s v at).is.marks;
+  other_rows = λ s v r rows at used again other p. other (rows_same r.rows rows (ap rows_in (sym again) ∙ (p.by.remembers s v at).rows ∙ used));
+  first_as_one = λ s v at first idle p.
+      let n = (p.by.remembers s v at).numbers in
+      let none : length (puts (T.actions s)) ≡ 0 = ap (λ l. length (puts l)) idle in omega arith;
+  past_at_first = λ s v at one stage idle p. elim ((p.by.remembers s v at).past 0 (omega arith)) [
+    | inl ended ↦ omega arith
+    | inr lost ↦ (let e = lost.elected in nothing_there e.place _ (ap (λ d. slice_get d e.place) (sym idle) ∙ e.at))
+  ];
+  begins_ahead = λ s v e at ph stage p. let low = (p.by.remembers s v at).begun 1 (ap tenure_of ph) in omega arith;
+  busy_at_rest = λ s v at ph busy p. true≢false (sym busy ∙ (p.by.remembers s v at).idle ph);
+  idle_in_an_election = λ s v t e at ph idle p. true≢false (sym ((p.by.remembers s v at).busy t (ap tenure_of ph)) ∙ idle);
 }
 
 -- words of the log stored below the length, and words cleared of rows in which somebody stands

@@ -41,7 +41,7 @@ pub record Further (order : Order) (owners : List (ℕ × SenderNo)) (order' : O
   pub order_grows : IsPrefixOfOrder order order'
   pub owners_grow : IsPrefix owners owners'
 
-spells_more : (senders : ℕ) (words words' : List ℕ) (order order' : Order) (owners owners' : List (ℕ × SenderNo)) → Spells senders words order owners → Spells senders words' order' owners' → IsPrefix words words' → Further order owners order' owners'
+pub spells_more : (senders : ℕ) (words words' : List ℕ) (order order' : Order) (owners owners' : List (ℕ × SenderNo)) → Spells senders words order owners → Spells senders words' order' owners' → IsPrefix words words' → Further order owners order' owners'
 spells_more senders words words' order order' owners owners' s t p =
     let m = frames_front senders 0 0 s.frames t.frames p.rest s.lawful t.lawful (ap (λ w. w ++ p.rest) s.words_are ∙ p.together ∙ sym t.words_are) in
     let grown = order_grows senders s.frames m.0 (subst (AreFrames senders) (sym m.1) t.lawful) in

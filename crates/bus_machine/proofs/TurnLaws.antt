@@ -1,11 +1,11 @@
 -- A turn in its three parts: the page comes home, the step is taken, the page is laid.
-use Rattle.std.proofs.Common.{◌≡◌, ℕ, ◌+◌, ◌<◌, ◌/◌, ◌==◌, Bool, true, false, cond, nat_le, length, Option, Some, None, List, refl, sym, ◌∙◌, ap, subst, slice_index}
-use Rattle.std.specs.Prelude.{IsSome, IfSome}
+use Rattle.std.proofs.Common.{◌≡◌, inl, inr, ℕ, ◌+◌, ◌<◌, ◌/◌, ◌==◌, Bool, true, false, cond, nat_le, length, Option, Some, None, List, refl, sym, ◌∙◌, ap, subst, slice_index}
+use Rattle.std.specs.Prelude.{◌⊎◌, IsSome, IfSome}
 use Rattle.std.proofs.lemmas.Bool.{true≢false}
 use Rattle.bus_core.specs.Keeping.{core_without, page_out}
 use Rattle.bus_core.specs.Senders.{Sender, Situation, Does, Announces, Validates, Unpins, Withdraws, Scans, Clears, situation, situation_by, pinning}
 use Rattle.bus_core.specs.Table.{Line, line, line_now, rest_at, in_row, seen}
-use Rattle.bus_core.specs.Telling.{FeedTells}
+use Rattle.bus_core.specs.Telling.{FeedTells, RestTells}
 use Rattle.bus_core.specs.declared.reuses.Reuse.{Reuse}
 use Rattle.bus_presence.specs.Reclaimers.{Reclaiming}
 use Rattle.bus_presence.specs.declared.pins.Pin.{Pin}
@@ -21,10 +21,11 @@ use Rattle.bus_tenure.specs.declared.phases.Phase.{Phase}
 use Rattle.bus_tenure.specs.declared.phases.Phase.TheVariants as phase
 use Rattle.bus_tenure.specs.declared.phases.Reason.{Reason}
 use Rattle.bus_tenure.specs.declared.turns.Turn.{Turn as Answered}
+use Rattle.bus_tenure.specs.declared.turns.Turn.TheVariants as turn
 use Rattle.bus_world.specs.Turning.{words_after, home_moved, before_step, after_step, laying}
 use Rattle.bus_machine.proofs.Own.{own_of}
 use Rattle.bus_machine.specs.Machine.{moved}
-use Rattle.bus_machine.specs.Telling.{RestTells, StepTells}
+use Rattle.bus_machine.specs.Telling.{StepTells}
 use Rattle.bus_machine.specs.Turning.{HasStepped, HasTurned}
 
 -- ---- pages
@@ -125,27 +126,31 @@ module _ {E : Type 0} (X : Election E) (v : Sender E) where
         }
 
     -- and for the reason that it answers it has nothing to do
-    rest_tells : (AwaitsItsPage c.phase → ⊥) → (z : Situation E) → situation X v ≡ z → (line X v z).op word ≡ None → RestTells X v (rest_at (line X v z))
-    rest_tells laid (Does IsClosed) i e = i
-    rest_tells laid (Does IsIdle) i e = i
-    rest_tells laid (Does IsSpent) i e = i
-    rest_tells laid (Does (AwaitsPage t)) i e = absurd (laid record { tenure = t; is = tells X c (AwaitsPage t) (own_of v.reuse (situation_of X c) (AwaitsPage t) i) })
-    rest_tells laid (Does (Elects t k)) i e = absurd (placed c.layout v.reuse t (X.op k word) (goes t k (own_of v.reuse (situation_of X c) (Elects t k) i)) e)
-    rest_tells laid (Does LooksAtStage) i e = absurd cc
-    rest_tells laid (Does (TakesPage t)) i e = absurd cc
-    rest_tells laid (Does (StoresWord t page stored)) i e = absurd cc
-    rest_tells laid (Does (StoresLength t page stored)) i e = absurd cc
-    rest_tells laid (Does (GivesBack t page reason)) i e = absurd cc
-    rest_tells laid (Does (HasHanded t reason)) i e = absurd cc
-    rest_tells laid (Announces t) i e = absurd cc
-    rest_tells laid (Validates t) i e = absurd cc
-    rest_tells laid (Unpins t) i e = absurd cc
-    rest_tells laid (Withdraws t) i e = absurd cc
-    rest_tells laid (Scans s) i e = absurd cc
-    rest_tells laid (Clears s) i e = absurd cc
+    rest_tells : (AwaitsItsPage c.phase → ⊥) → (z : Situation E) → situation X v ≡ z → (line X v z).op word ≡ None
+        → (rest_at (line X v z) ≡ turn.Going) ⊎ RestTells v (rest_at (line X v z)) → RestTells v (rest_at (line X v z))
+    rest_tells laid (Does IsClosed) i e w = elim w [ inl bad ↦ absurd cc | inr told ↦ told ]
+    rest_tells laid (Does IsIdle) i e w = elim w [ inl bad ↦ absurd cc | inr told ↦ told ]
+    rest_tells laid (Does IsSpent) i e w = elim w [ inl bad ↦ absurd cc | inr told ↦ told ]
+    rest_tells laid (Does (AwaitsPage t)) i e w = absurd (laid record { tenure = t; is = tells X c (AwaitsPage t) (own_of v.reuse (situation_of X c) (AwaitsPage t) i) })
+    rest_tells laid (Does (Elects t k)) i e w = absurd (placed c.layout v.reuse t (X.op k word) (goes t k (own_of v.reuse (situation_of X c) (Elects t k) i)) e)
+    rest_tells laid (Does LooksAtStage) i e w = absurd cc
+    rest_tells laid (Does (TakesPage t)) i e w = absurd cc
+    rest_tells laid (Does (StoresWord t page stored)) i e w = absurd cc
+    rest_tells laid (Does (StoresLength t page stored)) i e w = absurd cc
+    rest_tells laid (Does (GivesBack t page reason)) i e w = absurd cc
+    rest_tells laid (Does (HasHanded t reason)) i e w = absurd cc
+    rest_tells laid (Announces t) i e w = absurd cc
+    rest_tells laid (Validates t) i e w = absurd cc
+    rest_tells laid (Unpins t) i e w = absurd cc
+    rest_tells laid (Withdraws t) i e w = absurd cc
+    rest_tells laid (Scans s) i e w = absurd cc
+    rest_tells laid (Clears s) i e w = absurd cc
 
-    pub idle_tells : (AwaitsItsPage c.phase → ⊥) → (cells : List ℕ) (told : Answered) → (line_now X v).op word ≡ None → told ≡ rest_at (line_now X v) → StepTells X cells v ((line_now X v).op word) word told
-    idle_tells laid cells told none rests = subst (λ o. StepTells X cells v o word told) (sym none) (subst (RestTells X v) (sym rests) (rest_tells laid (situation X v) refl none))
+    pub idle_tells : (AwaitsItsPage c.phase → ⊥) → (cells : List ℕ) (told : Answered) → (line_now X v).op word ≡ None → told ≡ rest_at (line_now X v)
+        → (told ≡ turn.Going) ⊎ RestTells v told → StepTells X cells v ((line_now X v).op word) word told
+    idle_tells laid cells told none rests says =
+        subst (λ o. StepTells X cells v o word told) (sym none) (subst (RestTells v) (sym rests)
+        (rest_tells laid (situation X v) refl none (subst (λ t. (t ≡ turn.Going) ⊎ RestTells v t) rests says)))
 
   -- a step that found this number tells of it what the sender tells
   pub step_tells : (word : ℕ) (cells : List ℕ) (o : Op) (got : ℕ) (told : Answered) → (line_now X v).op word ≡ Some o → got ≡ slice_index cells (register o) → FeedTells X v got word told → StepTells X cells v ((line_now X v).op word) word told

@@ -1,5 +1,6 @@
 pub mod Proved
 pub mod Machine
+pub mod Remembering
 pub mod Promise
 pub mod Telling
 pub mod Bounding

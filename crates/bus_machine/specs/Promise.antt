@@ -12,7 +12,7 @@ use Rattle.bus_core.specs.Senders.{Sender, Does, Clears, situation}
 use Rattle.bus_core.specs.Table.{line_now}
 use Rattle.bus_core.specs.declared.reuses.Reuse.{Reuse}
 use Rattle.bus_deliverylog.specs.Orders.{of_sender, IsPrefixOfOrder}
-use Rattle.bus_core.specs.Reusing.Participants.{sizes_with, place_for}
+use Rattle.bus_core.specs.Reusing.Participants.{sizes_with}
 use Rattle.bus_core.specs.Reusing.Keeping.{held_of}
 use Rattle.bus_core.specs.declared.limits.TheConstants.{LEAST_ROWS_AGAIN}
 use Rattle.bus_presence.specs.Reclamation.{Reclamation, Reached as ReclamationReached, row_of}
@@ -30,6 +30,7 @@ use Rattle.bus_world.specs.Waiting.{waiting_at}
 use Rattle.bus_world.specs.World.{Event, Put, Close, Turn, Recv, Stop}
 use Rattle.bus_world.specs.declared.events.Answer.{Answer}
 use Rattle.bus_machine.specs.Machine.{Machine, Trails, Reached, trails_grown, owners_told, log_place, log_of, stage_of, going}
+use Rattle.bus_machine.specs.Remembering.{Remembers}
 
 -- a row for each tenure, or two rows or more
 abbrev pub HasRows : Option ℕ → Type 0
@@ -68,8 +69,9 @@ pub record ReusesRows {E : Type 0} (X : Election E) (m : Machine E) (T : Trails)
   -- whose election runs stands in its tenure: it stored its presence, then loaded the stage of that tenure, and has not cleared it since
   pub stands : (p : ℕ) (v : Sender E) (t : ℕ) (e : E) → slice_get m.senders p ≡ Some v → v.core.phase ≡ Electing t e → Stands (sizes_with m.layout rows) p (T.pins p) t
   -- and its next step is on a word of the row that this tenure uses
-  pub within : (p : ℕ) (v : Sender E) (t : ℕ) (e : E) (word : ℕ) (o : Op) → slice_get m.senders p ≡ Some v → v.core.phase ≡ Electing t e → X.op e word ≡ Some o
-      → (row_of (sizes_with m.layout rows) t ≤ place_for m.layout rows (Elects t e) (register o)) × (place_for m.layout rows (Elects t e) (register o) < row_of (sizes_with m.layout rows) t + m.layout.width)
+  pub within : (p t word : ℕ) (v : Sender E) (e : E) (o : Op) → slice_get m.senders p ≡ Some v → situation X v ≡ Does (Elects t e)
+      → (line_now X v).op word ≡ Some o
+      → (row_of (sizes_with m.layout rows) t ≤ register o) × (register o < row_of (sizes_with m.layout rows) t + m.layout.width)
   -- no step clears a word of a row in which anybody stands
   pub spares : (p q t place word : ℕ) (v : Sender E) (s : Reclaiming) (o : Op) → slice_get m.senders p ≡ Some v → situation X v ≡ Clears s
       → (line_now X v).op word ≡ Some o → Stands (sizes_with m.layout rows) q (T.pins q) t → place < m.layout.width
@@ -101,7 +103,7 @@ pub record KnowsFront (senders tenure : ℕ) (page : Page) (front : List ℕ) : 
   pub ended : page.ended ≡ order.ended
   pub tenures : page.tenures ≡ tenure
 
--- While it is out, who took it last of all has it: the owner of the tenure that is open. Behind the words that it knows stands the owner's
+-- While it is out, who took it last of all has it: the owner of the tenure that is held. Behind the words that it knows stands the owner's
 -- frame, once that is published, and nothing else.
 pub record IsWithOwner {E : Type 0} (m : Machine E) (T : Trails) (owners : List ℕ) : Type 0 where
   pub tenure : ℕ
@@ -136,7 +138,11 @@ pub record IsPromisedBy {E : Type 0} (X : Election E) (m : Machine E) (T : Trail
   -- who takes the page of a tenure with its next step finds it at home, in that tenure; and who holds it, holds that of the tenure
   pub finds : (s : ℕ) (v : Sender E) (t : ℕ) → slice_get m.senders s ≡ Some v → situation X v ≡ Does (TakesPage t) → FindsPage m t
   pub holds : (s : ℕ) (v : Sender E) (t : ℕ) → slice_get m.senders s ≡ Some v → held_of v.core.phase ≡ Some t → stage_of m ≡ 2 * t + 1
-  -- a page at home knows how many items of each sender the order has; one that is out is with the owner of the tenure that is open
+  -- and it is who took that page: so nobody but the owner of the tenure that is held has one
+  pub owns : (s : ℕ) (v : Sender E) (t : ℕ) → slice_get m.senders s ≡ Some v → held_of v.core.phase ≡ Some t → slice_get takers.all t ≡ Some s
+  -- a page at home counts the pages that were taken
+  pub counts : (page : Page) → m.home ≡ Some page → page.tenures ≡ length takers.all
+  -- it knows how many items of each sender the order has; a page that is out is with the owner of the tenure that is held
   pub knows : (page : Page) → m.home ≡ Some page → KnowsOrder page order
   pub out : m.home ≡ None → IsWithOwner m T takers.all
   -- a word of the log is stored past its length, behind those of the same frame that are stored
@@ -145,6 +151,8 @@ pub record IsPromisedBy {E : Type 0} (X : Election E) (m : Machine E) (T : Trail
       → register o ≡ log_place m.layout m.reuse + slice_index m.words 0 + stored
   -- what a sender has put is what stands of it in the order, and then what waits
   pub sent : (s : ℕ) (v : Sender E) → slice_get m.senders s ≡ Some v → puts (T.actions s) ≡ map (λ i. i.message) (of_sender s order) ++ waiting_at v.core v.core.phase
+  -- what each sender goes by is so
+  pub remembers : (s : ℕ) (v : Sender E) → slice_get m.senders s ≡ Some v → Remembers m s v (T.actions s)
   pub reuse : ReusesSafely X m T m.reuse
 
 pub record IsPromised {E : Type 0} (X : Election E) (m : Machine E) (T : Trails) : Type 0 where

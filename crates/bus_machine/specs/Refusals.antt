@@ -1,8 +1,12 @@
 -- What no turn of a machine may answer, what no sender of it remembers, and what follows no machine.
-use Rattle.std.specs.Prelude.{◌≡◌, ◌≢◌, ℕ, ◌+◌, ◌*◌, ◌<◌, ◌≤◌, Some, None, List, [], ◌∷◌, ◌++◌, length, slice_get, slice_index}
-use Rattle.bus_batch.specs.Frames.{Frame, Order, Spells, IsFrame, frame_words}
+use Rattle.std.specs.Prelude.{◌≡◌, ◌≢◌, ℕ, ◌+◌, ◌*◌, ◌<◌, ◌≤◌, true, false, Some, None, List, [], ◌∷◌, ◌++◌, length, slice_get, slice_index}
+use Rattle.bus_batch.specs.declared.batches.Phase.TheVariants as batch
+use Rattle.bus_batch.specs.Frames.{Frame, Order, Spells, IsFrame, AreFrames, frame_words, items_of, log_words}
+use Rattle.bus_batch.specs.declared.messages.Item.{Item}
+use Rattle.bus_batch.specs.Batches.{next_of}
 use Rattle.bus_core.specs.Senders.{Sender, Does, Clears, situation}
 use Rattle.bus_core.specs.Table.{lost_of, line_now}
+use Rattle.bus_core.specs.declared.reuses.Reuse.{Reuse}
 use Rattle.bus_deliverylog.specs.Orders.{of_sender}
 use Rattle.bus_core.specs.Reusing.Participants.{sizes_with}
 use Rattle.bus_core.specs.Reusing.Keeping.{held_of}
@@ -10,20 +14,22 @@ use Rattle.bus_presence.specs.Reclamation.{Entry, row_of}
 use Rattle.bus_presence.specs.Reclaimers.{Reclaiming}
 use Rattle.bus_presence.specs.Standing.{Stands}
 use Rattle.bus_register.specs.declared.limits.TheConstants.{MOST_SENDERS}
+use Rattle.bus_register.specs.declared.kinds.Kind.TheVariants as kind
 use Rattle.bus_register.specs.declared.registers.Op.{Op}
+use Rattle.bus_register.specs.declared.registers.Op.TheVariants.{Load, Store}
 use Rattle.bus_register.specs.Words.{register}
 use Rattle.bus_presence.specs.declared.pins.Pin.TheVariants.{Unpinning}
 use Rattle.bus_register.specs.declared.registers.SenderNo.{SenderNo}
 use Rattle.bus_tenure.specs.Core.{Election, frame_len}
 use Rattle.bus_tenure.specs.Situations.{StoresWord}
 use Rattle.bus_tenure.specs.declared.pages.Page.{Page}
-use Rattle.bus_tenure.specs.declared.phases.Phase.TheVariants.{Electing}
+use Rattle.bus_tenure.specs.declared.phases.Phase.TheVariants.{Resting, Electing}
 use Rattle.bus_tenure.specs.declared.turns.Turn.TheVariants as turn
-use Rattle.bus_world.specs.Headline.{Action, Announced, Elected, Took, puts}
+use Rattle.bus_world.specs.Headline.{Action, HasPut, Stepped, Announced, Elected, Took}
 use Rattle.bus_world.specs.World.{Event}
 use Rattle.bus_world.specs.declared.events.Answer.{Answer}
 use Rattle.bus_world.specs.declared.events.Answer.TheVariants as answer
-use Rattle.bus_machine.specs.Bounding.{steps_towards, steps_of_pin, named_by, AreBounded, PinsAreBounded}
+use Rattle.bus_machine.specs.Bounding.{named_by, AreBounded, PinsAreBounded}
 use Rattle.bus_machine.specs.Machine.{Machine, Trails, log_place, log_of, stage_of}
 use Rattle.bus_machine.specs.Promise.{IsPromised, Follows, actions_in, pin_of, frame_published}
 use Rattle.bus_machine.specs.Telling.{TurnTells, PutTells, LossesAreSeen}
@@ -46,22 +52,42 @@ pub record AnswersRefuse {E : Type 0} (m : Machine E) (s : ℕ) (v : Sender E) (
   pub own_untaken : (t : ℕ) → ((place : ℕ) → ¬ Took actions t place) → ¬ TurnTells m s v actions (turn.Own t)
   -- Delivered with an empty log
   pub delivered_nothing : (t first last : ℕ) → log_of m ≡ [] → ¬ TurnTells m s v actions (turn.Delivered t first last)
+  -- Delivered of another tenure or sender than those of the last frame of the log, or from another number than its first
+  pub delivered_elsewhere : (t first last : ℕ) (front : List Frame) (f : Frame) → AreFrames m.layout.senders (front ++ f ∷ [])
+      → log_words (front ++ f ∷ []) ≡ log_of m → f.tenure ≢ t → ¬ TurnTells m s v actions (turn.Delivered t first last)
+  pub delivered_by_another : (t first last : ℕ) (front : List Frame) (f : Frame) → AreFrames m.layout.senders (front ++ f ∷ [])
+      → log_words (front ++ f ∷ []) ≡ log_of m → f.owner.0 ≢ s → ¬ TurnTells m s v actions (turn.Delivered t first last)
+  pub delivered_from_elsewhere : (t first last : ℕ) (front : List Frame) (f : Frame) (i : Item) (rest : List Item)
+      → AreFrames m.layout.senders (front ++ f ∷ []) → log_words (front ++ f ∷ []) ≡ log_of m → items_of f ≡ i ∷ rest → i.number ≢ first
+      → ¬ TurnTells m s v actions (turn.Delivered t first last)
   -- Full where there is room
   pub full_with_room : length (log_of m) + frame_len v.core ≤ m.layout.capacity → ¬ TurnTells m s v actions turn.Full
+  -- Closed with an empty log, or while the order goes on
+  pub closed_with_nothing : log_of m ≡ [] → ¬ TurnTells m s v actions turn.Closed
+  pub closed_too_soon : (order : Order) (owners : List (ℕ × SenderNo)) → Spells m.layout.senders (log_of m) order owners → order.ended ≡ false
+      → ¬ TurnTells m s v actions turn.Closed
+  -- Spent in the first of two tenures, or in the only one, of a sender that has seen no election end
+  pub spent_before_the_last : stage_of m ≡ 1 → m.layout.rows ≡ 2 → ¬ TurnTells m s v actions turn.Spent
+  pub spent_unseen : stage_of m ≡ 0 → m.layout.rows ≡ 1 → actions ≡ [] → ¬ TurnTells m s v actions turn.Spent
   -- Behind where each tenure has a row
   pub behind_apart : (t : ℕ) (p : SenderNo) → m.reuse ≡ None → ¬ TurnTells m s v actions (turn.Behind t p)
 
--- a message that is accepted with another number
-pub record NumbersRefuse (actions : List Action) : Type 0 where
-  pub other_number : (n : ℕ) → n + 1 ≢ length (puts actions) → ¬ PutTells actions (answer.Number n)
+-- a first message that is accepted as number 1, a second one as number 0, and one that was not put
+pub record NumbersRefuse : Type 0 where
+  pub first_as_one : (bytes : List ℕ) → ¬ PutTells (HasPut 1 bytes ∷ []) (answer.Number 1)
+  pub second_as_zero : (bytes more : List ℕ) → ¬ PutTells (HasPut 0 bytes ∷ HasPut 0 more ∷ []) (answer.Number 0)
+  pub unput : ¬ PutTells [] (answer.Number 0)
 
 -- more steps towards a page than an election has turns, or no turn left while one runs
 pub record BoundsRefuse {E : Type 0} (X : Election E) (bound : ℕ) (m : Machine E) (T : Trails) : Type 0 where
-  pub too_many : (s t : ℕ) → bound < steps_towards t (T.actions s) → ¬ AreBounded X bound m T
+  -- two steps of an election of one turn
+  pub too_many : (s n k : ℕ) (rest : List Action) → T.actions s ≡ Stepped (Some 0) kind.Announce n None turn.Going ∷ Stepped (Some 0) kind.WriteFirst k None turn.Going ∷ rest
+      → ¬ AreBounded X 1 m T
   pub none_left : (s : ℕ) (v : Sender E) (t : ℕ) (e : E) → slice_get m.senders s ≡ Some v → v.core.phase ≡ Electing t e → X.turns_left e ≡ 0
       → ¬ AreBounded X bound m T
-  -- more than three steps of a pin of one tenure, or a first one that names none
-  pub too_many_of_pin : (s t : ℕ) → 3 < steps_of_pin t (T.pins s) → ¬ PinsAreBounded T
+  -- four steps of a pin of tenure 0, or a first one that names none
+  pub too_many_of_pin : (s a b : ℕ) → T.pins s ≡ record { op = Store record { 0 = a } 1; got = 0 } ∷ record { op = Load record { 0 = b }; got = 0 }
+      ∷ record { op = Load record { 0 = b }; got = 0 } ∷ record { op = Load record { 0 = b }; got = 0 } ∷ [] → ¬ PinsAreBounded T
   pub unnamed : (s : ℕ) (e : Entry) (entries : List Entry) → T.pins s ≡ e ∷ entries → named_by e.op None ≡ None → ¬ PinsAreBounded T
 
 -- What is said of a sender and this tenure by what it has done is what was said before: it announced itself there, saw the election end and
@@ -77,8 +103,8 @@ pub record SaysMore (t : ℕ) (before after : List Action) : Type 0 where
   pub taken_late : (place : ℕ) → ((k : ℕ) → ¬ Took before t k) → Took after t place → actions_in t after ≢ actions_in t before
 
 pub record FollowsRefuse {E : Type 0} (X : Election E) (old : Machine E) (e : Event) (a : Answer) (new : Machine E) : Type 0 where
-  -- the stage falls
-  pub falls : stage_of new < stage_of old → ¬ Follows X old e a new
+  -- the stage falls from that of tenure 1, which is open, to that of tenure 0, which is held
+  pub falls : (length length' : ℕ) (rest rest' : List ℕ) → old.words ≡ length ∷ 2 ∷ rest → new.words ≡ length' ∷ 1 ∷ rest' → ¬ Follows X old e a new
   -- the log has other words, and no length was stored: so it has more or fewer
   pub grows_unpublished : frame_published X old e ≡ None → log_of new ≢ log_of old → ¬ Follows X old e a new
   -- a length was stored, and the log has the words that it had
@@ -96,8 +122,41 @@ pub record PagesRefuse {E : Type 0} (X : Election E) (m : Machine E) (T : Trails
   pub other_items : (page : Page) (order : Order) (owners : List (ℕ × SenderNo)) (s : ℕ) → m.home ≡ Some page
       → Spells m.layout.senders (log_of m) order owners → s < MOST_SENDERS → slice_index page.next s ≢ length (of_sender s order)
       → ¬ IsPromised X m T
+  -- a page at home that counts a tenure, while nobody has done anything
+  pub counts_untaken : (page : Page) → m.home ≡ Some page → page.tenures ≡ 1 → ((s : ℕ) → T.actions s ≡ []) → ¬ IsPromised X m T
+  -- two senders that hold a page, that is to be laid one, or that give it back
+  pub two_holders : (s q : ℕ) (v w : Sender E) (t u : ℕ) → slice_get m.senders s ≡ Some v → slice_get m.senders q ≡ Some w
+      → held_of v.core.phase ≡ Some t → held_of w.core.phase ≡ Some u → s ≢ q → ¬ IsPromised X m T
+  -- or one that holds that of a tenure without having taken it
+  pub holds_untaken : (s : ℕ) (v : Sender E) (t : ℕ) → slice_get m.senders s ≡ Some v → held_of v.core.phase ≡ Some t
+      → ((place : ℕ) → ¬ Took (T.actions s) t place) → ¬ IsPromised X m T
   -- a page that is out while nobody holds one
   pub out_of_hands : m.home ≡ None → ((s : ℕ) (v : Sender E) (t : ℕ) → slice_get m.senders s ≡ Some v → held_of v.core.phase ≢ Some t)
+      → ¬ IsPromised X m T
+
+-- a sender that goes by what is not so
+pub record MemoriesRefuse {E : Type 0} (X : Election E) (m : Machine E) (T : Trails) : Type 0 where
+  -- it goes by another number than its own, by another layout than the machine, or marks its frames with another number
+  pub other_number : (s : ℕ) (v : Sender E) → slice_get m.senders s ≡ Some v → v.core.me ≢ s → ¬ IsPromised X m T
+  pub other_layout : (s : ℕ) (v : Sender E) → slice_get m.senders s ≡ Some v → v.core.layout ≢ m.layout → ¬ IsPromised X m T
+  pub other_mark : (s : ℕ) (v : Sender E) → slice_get m.senders s ≡ Some v → v.core.queue.sender.0 ≢ s → ¬ IsPromised X m T
+  -- it uses another number of rows again
+  pub other_rows : (s : ℕ) (v : Sender E) (r : Reuse) (rows : ℕ) → slice_get m.senders s ≡ Some v → m.reuse ≡ Some rows → v.reuse ≡ Some r
+      → r.rows ≢ rows → ¬ IsPromised X m T
+  -- its next message is the second one, and it has done nothing
+  pub first_as_one : (s : ℕ) (v : Sender E) → slice_get m.senders s ≡ Some v → next_of v.core.queue ≡ 1 → T.actions s ≡ [] → ¬ IsPromised X m T
+  -- its batch is closed while the order goes on
+  pub closed_too_soon : (s : ℕ) (v : Sender E) (order : Order) (owners : List (ℕ × SenderNo)) → slice_get m.senders s ≡ Some v
+      → v.core.queue.phase ≡ batch.Closed → Spells m.layout.senders (log_of m) order owners → order.ended ≡ false → ¬ IsPromised X m T
+  -- its batch is closed, and the log is empty
+  pub closed_with_nothing : (s : ℕ) (v : Sender E) → slice_get m.senders s ≡ Some v → v.core.queue.phase ≡ batch.Closed → log_of m ≡ [] → ¬ IsPromised X m T
+  -- it enters tenure 0 no more, which is open, and has done nothing
+  pub past_at_first : (s : ℕ) (v : Sender E) → slice_get m.senders s ≡ Some v → v.core.least ≡ 1 → stage_of m ≡ 0 → T.actions s ≡ [] → ¬ IsPromised X m T
+  -- its election of tenure 1 runs, and tenure 0 is held still
+  pub begins_ahead : (s : ℕ) (v : Sender E) (e : E) → slice_get m.senders s ≡ Some v → v.core.phase ≡ Electing 1 e → stage_of m ≡ 1 → ¬ IsPromised X m T
+  -- its batch is on its way at rest, or is not in an election
+  pub busy_at_rest : (s : ℕ) (v : Sender E) → slice_get m.senders s ≡ Some v → v.core.phase ≡ Resting → v.core.queue.busy ≡ true → ¬ IsPromised X m T
+  pub idle_in_an_election : (s : ℕ) (v : Sender E) (t : ℕ) (e : E) → slice_get m.senders s ≡ Some v → v.core.phase ≡ Electing t e → v.core.queue.busy ≡ false
       → ¬ IsPromised X m T
 
 -- a word of the log that is stored where the length has passed

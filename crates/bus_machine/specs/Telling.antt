@@ -5,16 +5,14 @@ use Rattle.bus_register.specs.Protocol.{Protocol}
 use Rattle.bus_register.specs.Words.{register}
 use Rattle.bus_register.specs.declared.registers.Op.{Op}
 use Rattle.bus_register.specs.declared.registers.SenderNo.{SenderNo}
-use Rattle.bus_batch.specs.Frames.{Order, Spells}
 use Rattle.bus_core.specs.Causes.{IsCaused}
-use Rattle.bus_core.specs.Senders.{Sender, Does, situation}
+use Rattle.bus_core.specs.Senders.{Sender}
 use Rattle.bus_core.specs.Table.{line_now, lost_of}
-use Rattle.bus_core.specs.Telling.{FeedTells}
+use Rattle.bus_core.specs.Telling.{FeedTells, RestTells}
 use Rattle.bus_presence.specs.declared.pins.Pin.{Pin}
 use Rattle.bus_presence.specs.declared.pins.Pin.TheVariants.{Unpinning}
 use Rattle.bus_tenure.specs.Core.{Election, frame_len}
 use Rattle.bus_tenure.specs.Elections.{Elector}
-use Rattle.bus_tenure.specs.Situations.{IsClosed, IsIdle, IsSpent}
 use Rattle.bus_tenure.specs.declared.turns.Turn.{Turn as Answered}
 use Rattle.bus_tenure.specs.declared.turns.Turn.TheVariants as turn
 use Rattle.bus_world.specs.Headline.{Action, Elected, Took, puts}
@@ -24,23 +22,12 @@ use Rattle.bus_world.specs.declared.events.Answer.{Answer}
 use Rattle.bus_world.specs.declared.events.Answer.TheVariants as answer
 use Rattle.bus_machine.specs.Machine.{Machine, Trails, Reached, trails_grown, going, log_of, stage_of}
 use Rattle.bus_machine.specs.Promise.{pin_of}
+use Rattle.bus_machine.specs.Remembering.{HasEnded, NoneIsLeft}
 
 -- ---- a turn tells of the sender that took it, and of what its step found in these words
--- without a step: the sender has nothing to do, for the reason that it answers
-abbrev pub RestTells : {E : Type 0} → Election E → Sender E → Answered → Type 0
-RestTells X v turn.Idle = situation X v ≡ Does IsIdle
-RestTells X v turn.Waiting = ⊥
-RestTells X v turn.Going = ⊥
-RestTells X v (turn.Lost t o) = ⊥
-RestTells X v (turn.Own t) = ⊥
-RestTells X v (turn.Delivered t first last) = ⊥
-RestTells X v turn.Full = ⊥
-RestTells X v turn.Closed = situation X v ≡ Does IsClosed
-RestTells X v turn.Spent = situation X v ≡ Does IsSpent
-RestTells X v (turn.Behind t p) = ⊥
-
+-- without a step the sender has nothing to do, for the reason that it answers
 abbrev pub StepTells : {E : Type 0} → Election E → List ℕ → Sender E → Option Op → ℕ → Answered → Type 0
-StepTells X words v None word t = RestTells X v t
+StepTells X words v None word t = RestTells v t
 StepTells X words v (Some o) word t = FeedTells X v (slice_index words (register o)) word t
 
 -- of the sender that goes on
@@ -84,18 +71,19 @@ IsReused (Some rows) = Unit {0}
 -- ---- an answer of sender s
 -- A tenure is lost to the owner with which a step of this sender saw its election end, and which is another sender. A tenure is the
 -- sender's own where it is elected in it and took its page. Messages are delivered where the last frame of the order is that of this
--- sender and tenure and holds them, with these numbers. The log is full where the sender's frame does not fit behind it. A presence stands
--- in the way only where rows are used again.
+-- sender and tenure and holds them, with these numbers. The log is full where the sender's frame does not fit behind it. With a step and
+-- without one, a sender is closed where the order has ended, and tenures are spent where none is left to it. A presence stands in the way
+-- only where rows are used again.
 abbrev pub TurnTells : {E : Type 0} → Machine E → ℕ → Sender E → List Action → Answered → Type 0
 TurnTells m s v actions turn.Idle = Unit {0}
 TurnTells m s v actions turn.Waiting = Unit {0}
 TurnTells m s v actions turn.Going = Unit {0}
 TurnTells m s v actions (turn.Lost t o) = Elected actions t o.0 × (o.0 ≢ s)
 TurnTells m s v actions (turn.Own t) = Elected actions t s × ((place : ℕ) × Took actions t place)
-TurnTells m s v actions (turn.Delivered t first last) = (order : Order) × (owners : List (ℕ × SenderNo)) × Spells m.layout.senders (log_of m) order owners × HasDelivered order owners s t first last
+TurnTells m s v actions (turn.Delivered t first last) = HasDelivered m.layout.senders (log_of m) s t first last
 TurnTells m s v actions turn.Full = m.layout.capacity < length (log_of m) + frame_len v.core
-TurnTells m s v actions turn.Closed = Unit {0}
-TurnTells m s v actions turn.Spent = Unit {0}
+TurnTells m s v actions turn.Closed = HasEnded m
+TurnTells m s v actions turn.Spent = NoneIsLeft m s actions
 TurnTells m s v actions (turn.Behind t p) = IsReused m.reuse
 
 -- of the sender that goes on

@@ -16,7 +16,8 @@ ghost use Rattle.bus_machine.specs.Promise.{actions_in};
 ghost use Rattle.bus_machine.specs.PromiseRefusals.{PromiseRefuses};
 ghost use Rattle.bus_machine.specs.Refusals.{LossesRefuse, AnswersRefuse, SaysNoMore};
 ghost use Rattle.bus_machine.specs.Refusals.{SaysMore, NumbersRefuse, FollowsRefuse};
-ghost use Rattle.bus_machine.specs.Refusals.{PagesRefuse, WordsRefuse, BoundsRefuse};
+ghost use Rattle.bus_machine.specs.Refusals.{PagesRefuse, MemoriesRefuse, WordsRefuse};
+ghost use Rattle.bus_machine.specs.Refusals.{BoundsRefuse};
 ghost use Rattle.bus_machine.specs.Stopping.{StopsAreForGood, StopRefuses};
 ghost use Rattle.bus_machine.specs.Telling.{Tells, OpensOnly, LossesAreSeen};
 
@@ -86,9 +87,10 @@ pub fn stops_are_for_good<Q: Ratifier>()
 {}
 
 /// Of no machine the promise holds in which senders saw the election of one tenure end with two
-/// owners, or an owner took no page. Where rows are used again: in which an election runs of a
-/// sender that stored no presence, or elections of two tenures of one row, or a page is held and
-/// the row of the next tenure, which was used before, is not reclaimed.
+/// owners, or an owner did not take its page. Where rows are used again: in which an election runs
+/// of a sender that stored no presence, or elections of two tenures of one row, or takes a step
+/// past the row of its tenure; or a page is held and the row of the next tenure, which was used
+/// before, is not reclaimed.
 pub fn promise_refuses<Q: Ratifier>()
     ensures { let X = election_of Q.Ratifier in
         (machine : Machine (Elector Q)) (trails : Trails) → PromiseRefuses X machine trails }
@@ -102,12 +104,14 @@ pub fn losses_refuse<Q: Ratifier>()
 
 /// No answer is true that accepts a message with another number than how many its sender had put
 /// before it; or that is Lost to an owner whose election the sender did not see, or to itself; Own
-/// of a tenure whose page it did not take; Delivered where the log is empty; Full where the frame
-/// fits; Behind where each tenure has a row.
+/// of a tenure whose page it did not take; Delivered or Closed where the log is empty; Delivered of
+/// another tenure, sender or first number than those of the last frame; Closed while the order
+/// goes on; Full where the frame fits; Spent in the first of two tenures, or in the only one before
+/// its election has ended; Behind where each tenure has a row.
 pub fn answers_refuse<Q: Ratifier>()
     ensures turns { (machine : Machine (Elector Q)) (number : ℕ) (sender : Sender (Elector Q))
         (actions : List Action) → AnswersRefuse machine number sender actions }
-    ensures numbers { (actions : List Action) → NumbersRefuse actions }
+    ensures numbers { NumbersRefuse }
 {}
 
 /// A sender whose actions in a tenure are the same as before has announced itself there, has seen
@@ -124,15 +128,21 @@ pub fn same_actions_say_no_more()
 /// other words though no length was stored, or the same words though one was, or another frame
 /// than that of who stored it. None is promised whose page is at home while the stage is odd, or
 /// out while it is even, or knows another number of tenures or of items, or is out while nobody
-/// holds it; nor one of which a sender stores a word of the log below the length next, or clears a
-/// word of a row in which somebody stands. None is bounded of which a sender took more steps
-/// towards a page, or has no turn left while its election runs.
+/// holds it, or counts a tenure that nobody took, or that two senders hold, or one that did not
+/// take it; nor one of which a sender goes by another number, layout or count of rows, is to put
+/// its second message first, is closed while the order goes on, passes over a tenure that is open,
+/// begins one that is not, or has its batch on its way at rest; nor one of which a sender stores a
+/// word of the log below the length next, or clears a word of a row in which somebody stands. None
+/// is bounded of which a sender took more steps towards a page, or has no turn left while its
+/// election runs.
 pub fn machines_refuse<Q: Ratifier>()
     ensures follows { let X = election_of Q.Ratifier in
         (old : Machine (Elector Q)) (event : Event) (given : Answer) (new : Machine (Elector Q))
         → FollowsRefuse X old event given new }
     ensures pages { let X = election_of Q.Ratifier in
         (machine : Machine (Elector Q)) (trails : Trails) → PagesRefuse X machine trails }
+    ensures memories { let X = election_of Q.Ratifier in
+        (machine : Machine (Elector Q)) (trails : Trails) → MemoriesRefuse X machine trails }
     ensures words { let X = election_of Q.Ratifier in
         (machine : Machine (Elector Q)) (trails : Trails) → WordsRefuse X machine trails }
     ensures bounds { let X = election_of Q.Ratifier in

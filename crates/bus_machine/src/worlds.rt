@@ -12,6 +12,8 @@ ghost use Rattle.bus_world.specs.declared.events.Answer.TheVariants as answer;
 ghost use Rattle.bus_world.specs.Headline.{order_given};
 ghost use Rattle.bus_world.specs.Playing.{event_told};
 ghost use Rattle.bus_world.specs.World.{Put, Close, Turn as SenderTurn, Recv, Stop};
+ghost use Rattle.bus_ownerbits.specs.Sizes.{election_bound};
+ghost use Rattle.bus_machine.specs.Bounding.{AreBounded, PinsAreBounded};
 ghost use Rattle.bus_machine.specs.Machine.{Trails, Reached, Happens, has_stopped, log_of};
 ghost use Rattle.bus_machine.specs.Playing.{IsMade, MakeRefused, ShapeOf, Answers, Refused};
 ghost use Rattle.bus_machine.specs.Playing.{Refuses, Played, Stops};
@@ -427,7 +429,8 @@ impl<Q: Ratifier + Drop> World<Q> {
 
     /// What a bus promises: some trails lead to it, and of all trails that do the promise holds.
     /// And by all of them each sender that remembers to whom it lost its tenure has seen the
-    /// election of that tenure end so.
+    /// election of that tenure end so, and no sender takes more steps towards a page than an
+    /// election has turns, or, where rows are used again, more than three of its pin.
     pub fn promises(&self)
         ensures happened { let X = election_of Q.Ratifier in
             (trails : Trails) × Reached X self.now trails }
@@ -436,6 +439,10 @@ impl<Q: Ratifier + Drop> World<Q> {
         ensures losses { let X = election_of Q.Ratifier in
             (trails : Trails) → Reached X self.now trails
             → LossesAreSeen self.now trails.actions }
+        ensures bounded { let X = election_of Q.Ratifier in let x = self.now.layout in
+            (trails : Trails) → Reached X self.now trails
+            → AreBounded X (election_bound Q.protocol.steps x.senders x.rounds) self.now trails
+            × PinsAreBounded trails }
     {
         election_is_lawful::<Q>();
         let _ = &self.shape;

@@ -1,8 +1,7 @@
 -- The answers of turns tell what happened.
-use Rattle.std.proofs.Common.{◌≡◌, ℕ, ◌+◌, ◌-◌, ◌/◌, ◌<◌, ◌==◌, ◌&&◌, Bool, true, false, cond, nat_lt, nat_le, Option, Some, None, ◌⊎◌, inl, inr, is_some, List, [], ◌∷◌, ◌++◌, length, map, slice_get, slice_index, arith, refl, sym, ◌∙◌, ap, subst}
+use Rattle.std.proofs.Common.{◌≡◌, ℕ, ◌+◌, ◌-◌, ◌/◌, ◌<◌, ◌==◌, ◌&&◌, Bool, true, false, cond, nat_lt, nat_le, Option, Some, None, ◌⊎◌, inl, inr, is_some, List, [], ◌∷◌, ◌++◌, length, slice_get, slice_index, arith, refl, sym, ◌∙◌, ap, subst}
 use Rattle.std.proofs.lemmas.Bool.{leb-false, true≢false}
 use Rattle.std.proofs.lemmas.Bool.Decides.{eqb_tells}
-use Rattle.std.proofs.lemmas.List.{map-append}
 use Rattle.bus_register.specs.declared.kinds.Kind.{Kind}
 use Rattle.bus_register.specs.declared.kinds.Kind.TheVariants as kind
 use Rattle.bus_register.specs.Protocol.{Protocol, Laws}
@@ -10,7 +9,7 @@ use Rattle.bus_register.specs.Proved.TableLaws.{some_or_none}
 use Rattle.bus_batch.specs.Batches.{next_of, frame_of}
 use Rattle.bus_batch.specs.declared.batches.Phase.{Phase as BatchPhase}
 use Rattle.bus_batch.specs.declared.batches.Phase.TheVariants.{Closing}
-use Rattle.bus_batch.specs.Frames.{Frame, AreFrames, order_of, items_of, tenure_and_owner}
+use Rattle.bus_batch.specs.Frames.{Frame, AreFrames, log_words}
 use Rattle.bus_ownerbits.specs.OneOwner.{OneOwner}
 use Rattle.bus_tenure.specs.Core.{Core, Election, Layout, log_at, is_empty, is_closing, is_closed, has_room, frame_len}
 use Rattle.bus_tenure.specs.Situations.{Situation, IsClosed, IsIdle, IsSpent, LooksAtStage, Elects, TakesPage, StoresWord, StoresLength, GivesBack, situation_at, situation_of, resting, electing, holding, waits, op_at, answer_at, answer_of_election}
@@ -23,10 +22,10 @@ use Rattle.bus_tenure.specs.declared.turns.Turn.TheVariants as turn
 use Rattle.bus_world.specs.declared.events.Answer.{Answer}
 use Rattle.bus_world.specs.declared.events.Answer.TheVariants as answer
 use Rattle.bus_world.specs.Bus.{IsLayout, Part, Fits}
-use Rattle.bus_world.specs.Headline.{Action, Stepped, Elected, Took, AreFramed}
+use Rattle.bus_world.specs.Headline.{Action, Stepped, Elected, Took}
 use Rattle.bus_world.specs.Log.{words_read_from}
 use Rattle.bus_world.proofs.Stopping.{is_there}
-use Rattle.bus_world.proofs.LogLaws.{length-read, items-append}
+use Rattle.bus_world.proofs.LogLaws.{length-read}
 use Rattle.bus_world.specs.Playing.{Answers, TurnAnswers, log_of}
 use Rattle.bus_world.proofs.FrameOfBatch.{counted_frame, length-items}
 use Rattle.bus_world.specs.Telling.{TurnTells, SenderTells, EventTells}
@@ -35,7 +34,6 @@ use Rattle.bus_world.specs.Turning.{Side, number_found}
 use Rattle.bus_world.proofs.TurningLaws.{IsSide, side_of}
 use Rattle.bus_world.specs.World.{Bus, Event, Put, Close, Turn, Recv, Stop, going, Happens}
 use Rattle.bus_world.proofs.EventTrails.{reached_kept, follows}
-use Rattle.bus_world.proofs.Framing.{items_owned, framed, front_lawful}
 use Rattle.bus_world.proofs.Places.{got_after}
 
 some_messages : (ph : BatchPhase) (n : ℕ) → (0 < n) ⊎ (ph ≡ Closing) → is_closing ph ≡ false → 0 < n
@@ -124,25 +122,17 @@ module _ {E : Type 0} (X : Election E) (P : Protocol E (Unit {0}) ℕ) (laws : L
         by_closing : (b : Bool) → is_closing c.queue.phase ≡ b → (front : List Frame) → frames ≡ front ++ frame_of c.queue t ∷ [] → (is_closing c.queue.phase ≡ false → 0 < length c.queue.messages)
             → TurnTells x log p c (before ++ turn_actions X c (GivesBack t page Sent) (number_found (slice_index side.words) (op_at X c (GivesBack t page Sent) word)) word (answer.Turn (told (GivesBack t page Sent)))) (cond b turn.Closed (turn.Delivered t c.queue.first (next_of c.queue - 1)))
         by_closing true i front e some = tt
-        by_closing false i front e some = (
-          order_of frames,
-          map tenure_and_owner frames,
-          record { frames = frames; lawful = h.sending.log.lawful; words_are = sym h.sending.log.words_are; order_is = refl; owners_are = refl },
-          record {
-            front = map tenure_and_owner front;
-            owner = c.queue.sender;
-            is = part.sender;
-            owners_are = ap (map tenure_and_owner) e ∙ map-append tenure_and_owner front (frame_of c.queue t ∷ []);
-            earlier = (order_of front).items;
-            own = items_of (frame_of c.queue t);
-            items_are = ap (λ fs. (order_of fs).items) e ∙ items-append front (frame_of c.queue t);
-            before = (let l = front_lawful x.senders 0 front (frame_of c.queue t) (subst (AreFrames x.senders) e h.sending.log.lawful) in subst (AreFramed (map tenure_and_owner front) (order_of front).items) l.1 (framed x.senders 0 front l.0));
-            some = (let l = length-items c.queue t part.queue in let m = some i in omega arith);
-            senders = items_owned c.queue.sender (frame_of c.queue t).body;
-            numbers = counted_frame c.queue t;
-            many = (let l = length-items c.queue t part.queue in let m = some i in omega arith);
-          },
-        )
+        by_closing false i front e some = record {
+          earlier = front;
+          frame = frame_of c.queue t;
+          lawful = subst (AreFrames x.senders) e h.sending.log.lawful;
+          words_are = ap log_words (sym e) ∙ sym h.sending.log.words_are;
+          tenure = refl;
+          owner = part.sender;
+          some = (let l = length-items c.queue t part.queue in let m = some i in omega arith);
+          numbers = counted_frame c.queue t;
+          many = (let l = length-items c.queue t part.queue in let m = some i in omega arith);
+        }
 
     is_full : c.phase ≡ phase.Holding t page stored false → has_room c page ≡ false → True (GivesBack t page NoRoom)
     is_full is no_room own =

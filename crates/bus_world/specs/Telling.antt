@@ -1,8 +1,6 @@
 -- What the answer to a turn tells of what happened.
-use Rattle.std.specs.Prelude.{◌≡◌, ◌≢◌, ℕ, Bool, false, ◌+◌, ◌<◌, Option, Some, None, List, [], ◌∷◌, ◌++◌, length, All}
-use Rattle.bus_register.specs.declared.registers.SenderNo.{SenderNo}
-use Rattle.bus_batch.specs.declared.messages.Item.{Item}
-use Rattle.bus_batch.specs.Frames.{Order, Spells}
+use Rattle.std.specs.Prelude.{◌≡◌, ◌≢◌, ℕ, Bool, ◌+◌, ◌<◌, Option, Some, None, List, [], ◌∷◌, ◌++◌, length}
+use Rattle.bus_batch.specs.Frames.{Frame, AreFrames, log_words, items_of}
 use Rattle.bus_register.specs.Protocol.{Protocol}
 use Rattle.bus_adoptcommit.specs.declared.verdicts.Verdict.{Verdict}
 use Rattle.bus_tenure.specs.Causes.{IsCaused}
@@ -10,7 +8,7 @@ use Rattle.bus_tenure.specs.Elections.{Elector}
 use Rattle.bus_tenure.specs.Core.{Core, Election, Layout, frame_len}
 use Rattle.bus_tenure.specs.declared.turns.Turn.{Turn as Answered}
 use Rattle.bus_tenure.specs.declared.turns.Turn.TheVariants as turn
-use Rattle.bus_world.specs.Headline.{Action, Elected, Took, AreFramed}
+use Rattle.bus_world.specs.Headline.{Action, Elected, Took}
 use Rattle.bus_world.specs.Log.{AreCounted}
 use Rattle.bus_world.specs.Playing.{log_of}
 use Rattle.bus_world.specs.Trails.{Trails, Reached, trails_grown}
@@ -18,21 +16,18 @@ use Rattle.bus_world.specs.World.{Bus, Event, Put, Close, Turn, Recv, Stop, goin
 use Rattle.bus_world.specs.declared.events.Answer.{Answer}
 use Rattle.bus_world.specs.declared.events.Answer.TheVariants as answer
 
--- the last frame is that of this tenure and sender: the items of the frames before it come first, and its own have the numbers from first
--- to last
-pub record HasDelivered (order : Order) (owners : List (ℕ × SenderNo)) (s t first last : ℕ) : Type 0 where
-  pub front : List (ℕ × SenderNo)
-  pub owner : SenderNo
-  pub is : owner.0 ≡ s
-  pub owners_are : owners ≡ front ++ (t, owner) ∷ []
-  pub earlier : List Item
-  pub own : List Item
-  pub items_are : order.items ≡ earlier ++ own
-  pub before : AreFramed front earlier false
-  pub some : 0 < length own
-  pub senders : All (λ i. i.sender ≡ owner) own
-  pub numbers : AreCounted first own
-  pub many : first + length own ≡ last + 1
+-- the last frame is that of this tenure and sender: behind all others it stands in the log, whose words are those of lawful frames; and its items
+-- have the numbers from first to last
+pub record HasDelivered (senders : ℕ) (words : List ℕ) (s t first last : ℕ) : Type 0 where
+  pub earlier : List Frame
+  pub frame : Frame
+  pub lawful : AreFrames senders (earlier ++ frame ∷ [])
+  pub words_are : log_words (earlier ++ frame ∷ []) ≡ words
+  pub tenure : frame.tenure ≡ t
+  pub owner : frame.owner.0 ≡ s
+  pub some : 0 < length (items_of frame)
+  pub numbers : AreCounted first (items_of frame)
+  pub many : first + length (items_of frame) ≡ last + 1
 
 -- A tenure is lost to the owner with which its election ended, which is another sender, and taken by it. Messages are delivered where the frame of that
 -- tenure holds them. The log is full where the sender's frame does not fit behind it. No sender of a bus with a row for each tenure answers Behind.
@@ -42,7 +37,7 @@ TurnTells x log s c actions turn.Waiting = Unit {0}
 TurnTells x log s c actions turn.Going = Unit {0}
 TurnTells x log s c actions (turn.Lost t o) = Elected actions t o.0 × (o.0 ≢ s)
 TurnTells x log s c actions (turn.Own t) = Elected actions t s × ((place : ℕ) × Took actions t place)
-TurnTells x log s c actions (turn.Delivered t first last) = (order : Order) × (owners : List (ℕ × SenderNo)) × Spells x.senders log order owners × HasDelivered order owners s t first last
+TurnTells x log s c actions (turn.Delivered t first last) = HasDelivered x.senders log s t first last
 TurnTells x log s c actions turn.Full = x.capacity < length log + frame_len c
 TurnTells x log s c actions turn.Closed = Unit {0}
 TurnTells x log s c actions turn.Spent = Unit {0}

@@ -1,13 +1,12 @@
 -- What the answers of turns tell is so.
-use Rattle.std.proofs.Common.{◌≡◌, ◌⊎◌, inl, inr, ℕ, ◌+◌, ◌-◌, ◌/◌, ◌<◌, ◌≤◌, ◌&&◌, Bool, true, false, cond, nat_lt, nat_le, Option, Some, None, is_some, List, [], ◌∷◌, ◌++◌, length, map, slice_get, slice_index, arith, refl, sym, ◌∙◌, ap, subst}
+use Rattle.std.proofs.Common.{◌≡◌, ◌⊎◌, inl, inr, ℕ, ◌+◌, ◌-◌, ◌/◌, ◌<◌, ◌≤◌, ◌&&◌, Bool, true, false, cond, nat_lt, nat_le, Option, Some, None, is_some, List, [], ◌∷◌, ◌++◌, length, slice_get, slice_index, arith, refl, sym, ◌∙◌, ap, subst}
 use Rattle.std.proofs.lemmas.Bool.{leb-false, true≢false}
-use Rattle.std.proofs.lemmas.List.{map-append}
 use Rattle.bus_register.specs.declared.registers.SenderNo.{SenderNo}
 use Rattle.bus_register.specs.Protocol.{Protocol}
 use Rattle.bus_batch.specs.Batches.{next_of, frame_of}
 use Rattle.bus_batch.specs.declared.batches.Phase.{Phase as BatchPhase}
 use Rattle.bus_batch.specs.declared.batches.Phase.TheVariants.{Closing}
-use Rattle.bus_batch.specs.Frames.{Frame, AreFrames, log_words, order_of, items_of, tenure_and_owner}
+use Rattle.bus_batch.specs.Frames.{Frame, AreFrames, log_words}
 use Rattle.bus_presence.specs.Reclaimers.{behind_of}
 use Rattle.bus_presence.specs.declared.reclaimers.Behind.{Behind}
 use Rattle.bus_presence.specs.declared.pins.Pin.{Pin}
@@ -23,7 +22,7 @@ use Rattle.bus_tenure.specs.declared.phases.Phase.TheVariants as phase
 use Rattle.bus_tenure.specs.declared.turns.Turn.{Turn as Answered}
 use Rattle.bus_tenure.specs.declared.turns.Turn.TheVariants as turn
 use Rattle.bus_world.specs.Bus.{IsLayout, Part, Fits}
-use Rattle.bus_world.specs.Headline.{Action, Elected, Took, AreFramed}
+use Rattle.bus_world.specs.Headline.{Action, Elected, Took}
 use Rattle.bus_world.specs.Log.{words_read_from}
 use Rattle.bus_world.specs.CyclicMachines.{CyclicMachine, CyclicTrails, IsKeptCyclic, yard_of, core_in, participant_going}
 use Rattle.bus_world.specs.Turning.{number_found}
@@ -31,8 +30,7 @@ use Rattle.bus_world.specs.World.{Event, Put, Close, Turn, Recv, Stop}
 use Rattle.bus_world.specs.CyclicProtocols.{CyclicProtocol, actions_with, due_actions, going_actions}
 use Rattle.bus_world.specs.declared.events.Answer.{Answer}
 use Rattle.bus_world.proofs.FrameOfBatch.{counted_frame, length-items}
-use Rattle.bus_world.proofs.Framing.{items_owned, framed, front_lawful}
-use Rattle.bus_world.proofs.LogLaws.{length-read, items-append}
+use Rattle.bus_world.proofs.LogLaws.{length-read}
 use Rattle.bus_world.proofs.Places.{got_after}
 use Rattle.bus_world.proofs.CyclicMachineLaws.{IsCyclicLayout, IsLed, due_goes, participant_there}
 use Rattle.bus_world.proofs.Serving.{Serves}
@@ -137,25 +135,17 @@ module _ {E : Type 0} (X : Election E) (P : Protocol E (Unit {0}) ℕ) (z : Owne
           by_closing : (q : Bool) → is_closing c.queue.phase ≡ q → (front : List Frame) → k.frames ≡ front ++ frame_of c.queue t ∷ [] → (is_closing c.queue.phase ≡ false → 0 < length c.queue.messages)
               → ParticipantTells b p c (actions (GivesBack t page Sent)) (cond q turn.Closed (turn.Delivered t c.queue.first (next_of c.queue - 1)))
           by_closing true i front e some = tt
-          by_closing false i front e some = (
-            order_of k.frames,
-            map tenure_and_owner k.frames,
-            record { frames = k.frames; lawful = k.kept.sending.log.lawful; words_are = sym log_read; order_is = refl; owners_are = refl },
-            record {
-              front = map tenure_and_owner front;
-              owner = c.queue.sender;
-              is = part.sender;
-              owners_are = ap (map tenure_and_owner) e ∙ map-append tenure_and_owner front (frame_of c.queue t ∷ []);
-              earlier = (order_of front).items;
-              own = items_of (frame_of c.queue t);
-              items_are = ap (λ fs. (order_of fs).items) e ∙ items-append front (frame_of c.queue t);
-              before = (let lawful = front_lawful b.layout.senders 0 front (frame_of c.queue t) (subst (AreFrames b.layout.senders) e k.kept.sending.log.lawful) in subst (AreFramed (map tenure_and_owner front) (order_of front).items) lawful.1 (framed b.layout.senders 0 front lawful.0));
-              some = (let size = length-items c.queue t part.queue in let m = some i in omega arith);
-              senders = items_owned c.queue.sender (frame_of c.queue t).body;
-              numbers = counted_frame c.queue t;
-              many = (let size = length-items c.queue t part.queue in let m = some i in omega arith);
-            },
-          )
+          by_closing false i front e some = record {
+            earlier = front;
+            frame = frame_of c.queue t;
+            lawful = subst (AreFrames b.layout.senders) e k.kept.sending.log.lawful;
+            words_are = ap log_words (sym e) ∙ sym log_read;
+            tenure = refl;
+            owner = part.sender;
+            some = (let size = length-items c.queue t part.queue in let m = some i in omega arith);
+            numbers = counted_frame c.queue t;
+            many = (let size = length-items c.queue t part.queue in let m = some i in omega arith);
+          }
 
       is_full : c.phase ≡ phase.Holding t page stored false → has_room c page ≡ false → True (GivesBack t page NoRoom)
       is_full is no_room own =
@@ -251,7 +241,7 @@ none_spelled : (frames : List Frame) → log_words frames ≡ [] → frames ≡ 
 none_spelled [] e = refl
 none_spelled (f ∷ frames) e = absurd cc
 
-never_last : (front : List (ℕ × SenderNo)) (w : ℕ × SenderNo) → [] ≡ front ++ w ∷ [] → ⊥
+never_last : (front : List Frame) (w : Frame) → front ++ w ∷ [] ≡ [] → ⊥
 never_last [] w e = cc
 never_last (f ∷ front) w e = cc
 
@@ -270,7 +260,6 @@ module _ {E : Type 0} (b : CyclicMachine E) where
     lost_to_itself = λ t o same told. told.1 same;
     own_untaken = λ t untaken told. untaken told.1.0 told.1.1;
     delivered_nothing = λ t first last empty told.
-        let none = none_spelled told.2.frames (told.2.words_are ∙ empty) in
-        never_last told.3.front (t, told.3.owner) (sym (ap (map tenure_and_owner) none) ∙ told.2.owners_are ∙ told.3.owners_are);
+        never_last told.earlier told.frame (none_spelled (told.earlier ++ told.frame ∷ []) (told.words_are ∙ empty));
     full_with_room = λ room told. omega arith;
   }

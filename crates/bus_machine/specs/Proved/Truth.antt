@@ -1,7 +1,6 @@
 -- What the answer of a sender's turn tells of what happened, by whatever trails led to the bus.
 use Rattle.std.specs.Prelude.{◌≡◌, ◌≢◌, ℕ, ◌+◌, ◌<◌, ◌≤◌, Option, Some, None, List, [], length, slice_get}
 use Rattle.bus_register.specs.declared.registers.SenderNo.{SenderNo}
-use Rattle.bus_batch.specs.Frames.{Order, Spells}
 use Rattle.bus_core.specs.Reusing.Turns.{Participant}
 use Rattle.bus_presence.specs.declared.pins.Pin.{Pin}
 use Rattle.bus_presence.specs.declared.pins.Pin.TheVariants.{Unpinning}
@@ -40,7 +39,7 @@ ParticipantTells b s c actions turn.Waiting = Unit {0}
 ParticipantTells b s c actions turn.Going = Unit {0}
 ParticipantTells b s c actions (turn.Lost t o) = Elected actions t o.0 × (o.0 ≢ s)
 ParticipantTells b s c actions (turn.Own t) = Elected actions t s × ((place : ℕ) × Took actions t place)
-ParticipantTells b s c actions (turn.Delivered t first last) = (order : Order) × (owners : List (ℕ × SenderNo)) × Spells b.layout.senders (log_of b) order owners × HasDelivered order owners s t first last
+ParticipantTells b s c actions (turn.Delivered t first last) = HasDelivered b.layout.senders (log_of b) s t first last
 ParticipantTells b s c actions turn.Full = b.layout.capacity < length (log_of b) + frame_len c
 ParticipantTells b s c actions turn.Closed = Unit {0}
 ParticipantTells b s c actions turn.Spent = Unit {0}

@@ -5,4 +5,4 @@ pub returns-clause-turns : goal.returns-clause-turns
 returns-clause-turns g c machine number sender actions = answers_refused machine number sender actions
 
 pub returns-clause-numbers : goal.returns-clause-numbers
-returns-clause-numbers g c actions = numbers_refused actions
+returns-clause-numbers g c = numbers_refused

@@ -1,5 +1,5 @@
 use Rattle.bus_tenure.specs.Elections.{election_with}
-use Rattle.bus_machine.proofs.RefusalLaws.{follows_refused, pages_refused, words_refused, bounds_refused}
+use Rattle.bus_machine.proofs.RefusalLaws.{follows_refused, pages_refused, memories_refused, words_refused, bounds_refused}
 use Rattle.bus_machine.proofs.laws.machines_refuse.Goals as goal
 
 pub returns-clause-follows : goal.returns-clause-follows
@@ -7,6 +7,10 @@ returns-clause-follows g c old event given new = follows_refused (election_with 
 
 pub returns-clause-pages : goal.returns-clause-pages
 returns-clause-pages g c machine trails = pages_refused (election_with g.Q.Machine.kind_of g.Q.Machine.op g.Q.Machine.fed g.Q.Ratifier.protocol) machine trails
+
+pub returns-clause-memories : goal.returns-clause-memories
+returns-clause-memories g c machine trails =
+    memories_refused (election_with g.Q.Machine.kind_of g.Q.Machine.op g.Q.Machine.fed g.Q.Ratifier.protocol) machine trails
 
 pub returns-clause-words : goal.returns-clause-words
 returns-clause-words g c machine trails =

@@ -1,0 +1,427 @@
+-- What each sender of a machine goes by is so.
+use Rattle.std.specs.Prelude.{◌≢◌}
+use Rattle.std.proofs.Common.{◌≡◌, inl, inr, ℕ, ◌+◌, ◌*◌, ◌/◌, ◌<◌, ◌≤◌, ◌==◌, nat_le, Bool, true, false, cond, Option, Some, None, is_some, List, [], ◌∷◌, ◌++◌, length, map, slice_get, slice_index, slice_set, arith, refl, sym, ◌∙◌, ap, subst}
+use Rattle.std.proofs.lemmas.Bool.{cases_eq, cases_lt, true≢false}
+use Rattle.std.proofs.lemmas.Bool.Decides.{eqb_tells}
+use Rattle.std.proofs.lemmas.List.{get_or-set_same, length-append, length-map}
+use Rattle.std.proofs.lemmas.Option.{same_Some, slice_get_within}
+use Rattle.bus_batch.specs.Batches.{next_of, frame_of, phase_sent}
+use Rattle.bus_batch.specs.Frames.{has_end, order_of}
+use Rattle.bus_batch.specs.declared.messages.Item.{Item}
+use Rattle.bus_batch.specs.declared.batches.Phase.{Phase as BatchPhase}
+use Rattle.bus_batch.specs.declared.batches.Phase.TheVariants as batch
+use Rattle.bus_core.proofs.Reusing.Tells.{Shows, gives_shows}
+use Rattle.bus_core.proofs.Situated.{own_is}
+use Rattle.bus_core.specs.Senders.{Sender, Situation, Does, Announces, Validates, Unpins, Withdraws, Scans, Clears, situation}
+use Rattle.bus_core.specs.Table.{line, line_now, seen}
+use Rattle.bus_core.specs.declared.reuses.Reuse.{Reuse}
+use Rattle.bus_deliverylog.specs.Orders.{of_sender}
+use Rattle.bus_register.specs.Protocol.{Protocol}
+use Rattle.bus_register.specs.Proved.TableLaws.{get_set_same, get_set_other, push_here, some_or_none}
+use Rattle.bus_register.specs.Tables.{of_some}
+use Rattle.bus_register.specs.declared.kinds.Kind.{Kind}
+use Rattle.bus_tenure.proofs.Situated.{tells}
+use Rattle.bus_tenure.specs.Core.{Core, Election}
+use Rattle.bus_tenure.specs.Seen.{tenure_of}
+use Rattle.bus_tenure.specs.Situations.{IsClosed, IsIdle, IsSpent, LooksAtStage, Elects, TakesPage, AwaitsPage, StoresWord, StoresLength, GivesBack, HasHanded, core_begun, core_elected, core_at_rest, waits}
+use Rattle.bus_tenure.specs.declared.pages.Page.{Page}
+use Rattle.bus_tenure.specs.declared.phases.Phase.{Phase}
+use Rattle.bus_tenure.specs.declared.phases.Phase.TheVariants as phase
+use Rattle.bus_tenure.specs.declared.phases.Reason.{Reason}
+use Rattle.bus_tenure.specs.declared.phases.Reason.TheVariants.{Sent, FoundEnd, NoRoom}
+use Rattle.bus_world.specs.Bus.{Part, Fits, standing_of, stands_at}
+use Rattle.bus_world.specs.Headline.{Action, Stepped, Elected, puts}
+use Rattle.bus_world.specs.Log.{sent_count}
+use Rattle.bus_world.specs.Waiting.{waiting_at}
+use Rattle.bus_world.proofs.FrameOfBatch.{length-items}
+use Rattle.bus_world.proofs.LogLaws.{sent-append_owner}
+use Rattle.bus_world.specs.Tenures.Stage.{Open, Held}
+use Rattle.bus_world.specs.Tenures.Standing.{Holds}
+use Rattle.bus_world.specs.Trails.{step_action}
+use Rattle.bus_world.specs.Turning.{after_step, core_with_page, words_after}
+use Rattle.bus_world.specs.World.{Event, Put, Close, Turn, Recv, Stop}
+use Rattle.bus_world.specs.declared.events.Answer.{Answer}
+use Rattle.bus_world.specs.declared.events.Answer.TheVariants as answer
+use Rattle.bus_machine.proofs.AtNone.{event_reuse}
+use Rattle.bus_machine.proofs.Bounding.{actions_of_it, added, added_is, there_shown}
+use Rattle.bus_machine.proofs.Ending.{published_ends, found_ends, ended_of, still_ended, past_more}
+use Rattle.bus_machine.proofs.Framed.{IsFramed, framed}
+use Rattle.bus_machine.proofs.Growing.{grows, rises}
+use Rattle.bus_machine.proofs.Leading.{Sits, sits_before, sits_after}
+use Rattle.bus_machine.proofs.Staying.{grown_longer}
+use Rattle.bus_machine.specs.Machine.{Machine, Trails, Reached, New as Start, Then as Next, Happens, TakesTurn, IsNew, IsOnWord, trails_grown, turn_grown, turn_answer, found, has_stopped, moved, put_in, close_in, no_machine_trails, stage_of}
+use Rattle.bus_machine.specs.Remembering.{HasEnded, HasLost, IsPastFor, IsItself, Remembers}
+
+-- ---- by the frames of the log
+module _ {E : Type 0} (P : Protocol E (Unit {0}) ℕ) (m : Machine E) (T : Trails) (f : IsFramed P m T) (p : ℕ) (v : Sender E)
+    (at : slice_get m.senders p ≡ Some v) where
+  part : Part m.layout f.V f.frames p v.core
+  part = f.sending.parts p v.core (f.core_of p v at)
+
+  -- in a tenure its batch is on its way
+  busy_in : (ph : Phase E) → Fits f.V f.frames v.core ph → (t : ℕ) → tenure_of ph ≡ Some t → v.core.queue.busy ≡ true
+  busy_in phase.Resting fits t e = absurd cc
+  busy_in (phase.Electing u k) fits t e = fits.0.busy
+  busy_in (phase.Taken u) fits t e = absurd fits
+  busy_in (phase.Holding u page stored false) fits t e = fits.0.busy
+  busy_in (phase.Holding u page stored true) fits t e = fits.0.busy
+  busy_in (phase.Giving u reason) fits t e = absurd fits
+
+  -- and at rest it is not
+  idle_at : (ph : Phase E) → Fits f.V f.frames v.core ph → ph ≡ phase.Resting → v.core.queue.busy ≡ false
+  idle_at phase.Resting fits e = fits.0
+  idle_at (phase.Electing u k) fits e = absurd cc
+  idle_at (phase.Taken u) fits e = absurd cc
+  idle_at (phase.Holding u page stored published) fits e = absurd cc
+  idle_at (phase.Giving u reason) fits e = absurd cc
+
+  -- a tenure that has opened
+  opened_by : (t : ℕ) → t ≤ f.sending.tenures.ended → 2 * t ≤ stage_of m
+  opened_by t low = elim f.sending.tenures.stage_is [
+    | Open stage here many ↦ (let same = f.stage in omega arith)
+    | Held holder stage away many holds ↦ (let same = f.stage in omega arith)
+  ]
+
+  stands : (ph : Phase E) → v.core.phase ≡ ph → of_some standing_of (f.cores p) ≡ Some (stands_at ph)
+  stands ph is = ap (of_some standing_of) (f.core_of p v at) ∙ ap (λ w. Some (stands_at w)) is
+
+  holds_it : (u t : ℕ) → ◌≡◌ {A = Option ℕ} (Some u) (Some t) → of_some standing_of (f.cores p) ≡ Some (Holds u) → 2 * t ≤ stage_of m
+  holds_it u t same holds =
+      let is = same_Some u t same in
+      let w = (f.sending.tenures.holding p u holds).1 in
+      let stage = f.stage in omega arith
+
+  -- one that it has begun
+  pub begun_opened : (t : ℕ) → tenure_of v.core.phase ≡ Some t → 2 * t ≤ stage_of m
+  begun_opened t e = by v.core.phase refl e where
+    by : (ph : Phase E) → v.core.phase ≡ ph → tenure_of ph ≡ Some t → 2 * t ≤ stage_of m
+    by phase.Resting is e = absurd cc
+    by (phase.Electing u k) is e =
+        let runs = stands (phase.Electing u k) is in
+        let b = f.sending.tenures.electing p u k runs in
+        opened_by t (subst (λ n. n ≤ f.sending.tenures.ended) (same_Some u t e) (f.sending.tenures.begun u p k b.2).0)
+    by (phase.Taken u) is e = holds_it u t e (stands (phase.Taken u) is)
+    by (phase.Holding u page stored published) is e = holds_it u t e (stands (phase.Holding u page stored published) is)
+    by (phase.Giving u reason) is e = holds_it u t e (stands (phase.Giving u reason) is)
+
+  -- its next number, by what is in the order and what waits
+  abbrev its_count : ℕ
+  its_count = sent_count p f.frames
+
+  many_put : (ph : Phase E) → length (map (λ (i : Item). i.message) (of_sender p (order_of f.frames)) ++ waiting_at v.core ph) ≡ its_count + length (waiting_at v.core ph)
+  many_put ph =
+      let sent_now = map (λ (i : Item). i.message) (of_sender p (order_of f.frames)) in
+      length-append sent_now (waiting_at v.core ph) ∙ ap (λ n. n + length (waiting_at v.core ph)) (length-map (of_sender p (order_of f.frames)) (λ (i : Item). i.message))
+
+  numbers_by : (ph : Phase E) → Fits f.V f.frames v.core ph → next_of v.core.queue ≡ its_count + length (waiting_at v.core ph)
+  numbers_by phase.Resting fits = ap (λ n. n + length v.core.queue.messages) (fits.1 ∙ ap (λ z. sent_count z f.frames) part.me)
+  numbers_by (phase.Electing u k) fits = ap (λ n. n + length v.core.queue.messages) (fits.1 ∙ ap (λ z. sent_count z f.frames) part.me)
+  numbers_by (phase.Taken u) fits = absurd fits
+  numbers_by (phase.Holding u page stored false) fits = ap (λ n. n + length v.core.queue.messages) (fits.1.base ∙ ap (λ z. sent_count z f.frames) part.me)
+  numbers_by (phase.Holding u page stored true) fits =
+      let w = fits.1 in
+      let b = frame_of v.core.queue u in
+      let mine : v.core.me ≡ b.owner.0 = part.me ∙ sym part.sender in
+      let all = ap (λ n. n + length v.core.queue.messages) (w.base ∙ ap (λ z. sent_count z w.front) mine)
+      ∙ ap (λ n. sent_count b.owner.0 w.front + n) (sym (length-items v.core.queue u part.queue))
+      ∙ sym (sent-append_owner w.front b) ∙ ap (λ z. sent_count z (w.front ++ b ∷ [])) part.sender ∙ ap (sent_count p) (sym w.frames_are) in
+      omega arith
+  numbers_by (phase.Giving u reason) fits = absurd fits
+
+  pub numbered : next_of v.core.queue ≡ length (puts (T.actions p))
+  numbered = numbers_by v.core.phase part.fits ∙ sym (many_put v.core.phase) ∙ sym (ap length (f.puts p v at))
+
+  pub itself : IsItself m p v
+  itself = record { me = part.me; layout = part.layout; marks = part.sender }
+
+  pub busy_begun : (t : ℕ) → tenure_of v.core.phase ≡ Some t → v.core.queue.busy ≡ true
+  busy_begun t e = busy_in v.core.phase part.fits t e
+
+  pub idle_resting : v.core.phase ≡ phase.Resting → v.core.queue.busy ≡ false
+  idle_resting e = idle_at v.core.phase part.fits e
+
+-- ---- by what happened
+record Recalls {E : Type 0} (m : Machine E) (s : ℕ) (c : Core E) (actions : List Action) : Type 0 where
+  closed : c.queue.phase ≡ batch.Closed → HasEnded m
+  past : (t : ℕ) → t < c.least → IsPastFor (stage_of m) s actions t
+
+abbrev AllRecall : {E : Type 0} → Machine E → Trails → Type 0
+AllRecall {E} m T = (s : ℕ) (v : Sender E) → slice_get m.senders s ≡ Some v → Recalls m s v.core (T.actions s)
+
+-- an event of a machine that was led to
+module _ {E : Type 0} (X : Election E) (P : Protocol E (Unit {0}) ℕ) (m m' : Machine E) (T : Trails) (e : Event) (a : Answer) (sits : Sits X P m)
+    (r : Reached X m T) (h : Happens X m e a m') (k : AllRecall m T) where
+  abbrev T' : Trails
+  T' = trails_grown X m e a T
+
+  f' : IsFramed P m' T'
+  f' = framed X P m' T' (sits_after X P m m' e a h sits) (Next m m' T e a r h)
+
+  ended_on : HasEnded m → HasEnded m'
+  ended_on w = still_ended P m m' T' (event_reuse X m m' e a h).0 f' (grows X P m m' T e a sits r h) w
+
+  past_on : (s t : ℕ) → IsPastFor (stage_of m) s (T.actions s) t → IsPastFor (stage_of m') s (T'.actions s) t
+  past_on s t w = past_more (stage_of m) (stage_of m') s (T.actions s) (T'.actions s) t (rises X P m m' T e a sits r h)
+      ((grown_longer X m T e a).actions s) w
+
+  -- who is as before, but for its messages, its phase and whether its batch is on its way
+  alike : (s : ℕ) (c c' : Core E) → Recalls m s c (T.actions s) → (c'.queue.phase ≡ batch.Closed → c.queue.phase ≡ batch.Closed)
+      → c'.least ≡ c.least → Recalls m' s c' (T'.actions s)
+  alike s c c' w shut same = record {
+    closed = λ i. ended_on (w.closed (shut i));
+    past = λ t low. past_on s t (w.past t (omega arith));
+  }
+
+  -- one sender is another
+  one_other : (s : ℕ) (v v' : Sender E) → slice_get m.senders s ≡ Some v → m'.senders ≡ slice_set m.senders s v'
+      → Recalls m' s v'.core (T'.actions s) → AllRecall m' T'
+  one_other s v v' at senders now q w here = elim (cases_eq q s) [
+    | inl same ↦
+        let set = slice_set m.senders s v' in
+        let is : v' ≡ w = same_Some _ _ (sym (get_set_same m.senders s v' (slice_get_within m.senders s v at))
+        ∙ ap (slice_get set) (sym same) ∙ ap (λ l. slice_get l q) (sym senders) ∙ here) in
+        subst (λ n. Recalls m' n w.core (T'.actions n)) (sym same) (subst (λ (y : Sender E). Recalls m' s y.core (T'.actions s)) is now)
+    | inr other ↦ alike q w.core w.core (k q w (sym (get_set_other m.senders s v' q other) ∙ ap (λ l. slice_get l q) (sym senders) ∙ here))
+        (λ i. i) refl
+  ]
+
+  -- all are as before
+  none_other : m'.senders ≡ m.senders → AllRecall m' T'
+  none_other senders q w here = alike q w.core w.core (k q w (ap (λ l. slice_get l q) (sym senders) ∙ here)) (λ i. i) refl
+
+-- a turn
+module _ {E : Type 0} (X : Election E) (P : Protocol E (Unit {0}) ℕ) (m m' : Machine E) (T : Trails) (s word : ℕ) (a : Answer) (sits : Sits X P m)
+    (r : Reached X m T) (h : TakesTurn X m s word a m') (k : AllRecall m T) where
+  abbrev v : Sender E
+  v = h.sender
+
+  abbrev U : Trails
+  U = trails_grown X m (Turn s word) a T
+
+  at : slice_get m.senders s ≡ Some v
+  at = there_shown (has_stopped m s) (slice_get m.senders s) v h.goes
+
+  f : IsFramed P m T
+  f = framed X P m T sits r
+
+  its : Part m.layout f.V f.frames s v.core
+  its = f.sending.parts s v.core (f.core_of s v at)
+
+  w : Recalls m s v.core (T.actions s)
+  w = k s v at
+
+  abbrev Good : Core E → Type 0
+  Good c = Recalls m' s c (U.actions s)
+
+  good : (c : Core E) → (c.queue.phase ≡ batch.Closed → v.core.queue.phase ≡ batch.Closed) → c.least ≡ v.core.least → Good c
+  good c shut same = alike X P m m' T (Turn s word) a sits r h k s v.core c w shut same
+
+  low : stage_of m ≤ stage_of m'
+  low = rises X P m m' T (Turn s word) a sits r h
+
+  abbrev got : Situation E → ℕ
+  got z = found m (line X v z) word
+
+  -- what it has done
+  abbrev did : Situation E → List Action
+  did z = added z (line X v z) (got z) word (turn_answer m (line X v z) word)
+
+  done : (z : Situation E) → situation X v ≡ z → U.actions s ≡ T.actions s ++ did z
+  done z i =
+      ap (λ o. (trails_grown X m (Turn s word) o T).actions s) h.answered
+      ∙ ap (λ o. (turn_grown X m s o word (answer.Turn (turn_answer m (line_now X v) word)) T).actions s) h.goes
+      ∙ ap (λ (D : ℕ → List Action). D s) (added_is (situation X v) (line_now X v) s (got (situation X v)) word (turn_answer m (line_now X v) word) T)
+      ∙ actions_of_it s (did (situation X v)) T.actions s refl ∙ ap (λ y. T.actions s ++ did y) i
+
+  -- the page is laid before it, or not
+  laid : (t : ℕ) (home : Option Page) (c : Core E) → Good c → Good (core_with_page c t home)
+  laid t None c g = record { closed = g.closed; past = g.past }
+  laid t (Some page) c g = record { closed = g.closed; past = g.past }
+
+  -- a first look at the stage
+  looked_apart : (b d : Bool) → nat_le v.core.layout.rows (stage_of m / 2) ≡ d
+      → Good (cond b v.core (cond d (record v.core { least = stage_of m / 2 }) (core_begun X v.core (stage_of m / 2))))
+  looked_apart true d i = good v.core (λ j. j) refl
+  looked_apart false true i = record {
+    closed = λ j. ended_on X P m m' T (Turn s word) a sits r h k (w.closed j);
+    past = λ t small. (let more = low in inl (omega arith));
+  }
+  looked_apart false false i = good (core_begun X v.core (stage_of m / 2)) (λ j. j) refl
+
+  looked_again : (b d : Bool) → nat_le v.core.layout.rows (stage_of m / 2) ≡ d
+      → Good (cond b v.core (cond d (record v.core { least = stage_of m / 2 }) v.core))
+  looked_again true d i = good v.core (λ j. j) refl
+  looked_again false true i = record {
+    closed = λ j. ended_on X P m m' T (Turn s word) a sits r h k (w.closed j);
+    past = λ t small. (let more = low in inl (omega arith));
+  }
+  looked_again false false i = good v.core (λ j. j) refl
+
+  looks : (o : Option Reuse) → Good (seen X v.core o (stage_of m)).core
+  looks None = looked_apart (waits v.core (stage_of m)) (nat_le v.core.layout.rows (stage_of m / 2)) refl
+  looks (Some q) = looked_again (waits v.core (stage_of m)) (nat_le v.core.layout.rows (stage_of m / 2)) refl
+
+  -- the second look
+  validated : (t : ℕ) (b : Bool) → Good (cond b (core_begun X v.core t) v.core)
+  validated t true = good (core_begun X v.core t) (λ j. j) refl
+  validated t false = good v.core (λ j. j) refl
+
+  -- ---- a step of its election
+  module _ (t : ℕ) (e : E) (i : situation X v ≡ Does (Elects t e)) where
+    runs : (v.core.phase ≡ phase.Electing t e) × (is_some (X.owner e) ≡ false)
+    runs = tells X v.core (Elects t e) (own_is X v (Elects t e) i)
+
+    -- it has a kind
+    has_kind : (q : Kind) × (X.kind_of e ≡ Some q)
+    has_kind = elim (some_or_none (X.kind_of e)) [
+      | inr q ↦ q
+      | inl missing ↦ absurd (elim (some_or_none (X.op e word)) [
+        | inr o ↦ true≢false (ap is_some (sym o.1) ∙ sym (sits.serves.named e word) ∙ ap is_some missing)
+        | inl stop ↦ true≢false (sym (ap is_some (sits.serves.owner_is e) ∙ (sits.serves.laws.ends e word stop).0) ∙ runs.1)
+      ])
+    ]
+
+    abbrev e' : E
+    e' = X.fed e (got (Does (Elects t e))) word
+
+    -- with it it saw the election end
+    saw : (o : ℕ) → X.owner e' ≡ Some o → Elected (U.actions s) t o
+    saw o owned =
+        let q = has_kind in
+        let told = turn_answer m (line X v (Does (Elects t e))) word in
+        let n = got (Does (Elects t e)) in
+        let d = Stepped (Some t) q.0 n (Some o) told in
+        let added_now : U.actions s ≡ T.actions s ++ d ∷ [] = done (Does (Elects t e)) i
+        ∙ ap (λ y. T.actions s ++ step_action y (Some t) n (X.owner e') told) q.1 ∙ ap (λ y. T.actions s ++ Stepped (Some t) q.0 n y told ∷ []) owned in
+        record {
+          place = length (T.actions s);
+          step = q.0;
+          found = n;
+          answer = told;
+          at = ap (λ l. slice_get l (length (T.actions s))) added_now ∙ push_here (T.actions s) d (length (T.actions s)) refl;
+        }
+
+    -- it has lost this tenure, and all before have ended
+    lost : (o : ℕ) → X.owner e' ≡ Some o → o ≢ v.core.me → (u : ℕ) → u < t + 1 → IsPastFor (stage_of m') s (U.actions s) u
+    lost o owned other u small =
+        let opened = begun_opened P m T f s v at t (ap tenure_of runs.0) in
+        let more = low in
+        elim (cases_lt u t) [
+          | inl before ↦ inl (omega arith)
+          | inr last ↦
+              let same : t ≡ u = omega arith in
+              inr (subst (HasLost (stage_of m') s (U.actions s)) same
+              record { opened = omega arith; owner = o; elected = saw o owned; other = λ it. other (it ∙ sym its.me) })
+        ]
+
+    decides : (o : ℕ) → X.owner e' ≡ Some o → (b : Bool) → (o == v.core.me) ≡ b
+        → Good (cond b (record v.core { phase = phase.Electing t e' }) (record v.core { queue = record v.core.queue { busy = false }; least = t + 1; phase = phase.Resting }))
+    decides o owned true i = good (record v.core { phase = phase.Electing t e' }) (λ j. j) refl
+    decides o owned false i = record {
+      closed = λ j. ended_on X P m m' T (Turn s word) a sits r h k (w.closed j);
+      past = lost o owned (λ same. elim (eqb_tells o v.core.me) [ inl y ↦ true≢false (sym y.0 ∙ i) | inr n ↦ n.1 same ]);
+    }
+
+    elects : (own : Option ℕ) → X.owner e' ≡ own → Good (core_elected v.core t e' own)
+    elects None owned = good (record v.core { phase = phase.Electing t e' }) (λ j. j) refl
+    elects (Some o) owned = decides o owned (o == v.core.me) refl
+
+  -- ---- the page goes back
+  -- the stage is that of the next tenure
+  stage_given : (t : ℕ) (page : Page) (reason : Reason) → situation X v ≡ Does (GivesBack t page reason) → stage_of m' ≡ 2 * t + 2
+  stage_given t page reason i =
+      let now : line_now X v ≡ line X v (Does (GivesBack t page reason)) = ap (line X v) i in
+      let there : 1 < length m.words = subst (λ l. IsOnWord m (l.op word)) now h.within in
+      let words : m'.words ≡ slice_set m.words 1 (2 * t + 2) = ap (λ (y : Machine E). y.words) h.after ∙ ap (λ l. words_after m.words (l.op word)) now in
+      ap (λ l. slice_index l 1) words ∙ get_or-set_same m.words 1 (2 * t + 2) 0 there
+
+  -- its batch is closed for its end mark, or for the one that it found
+  shut_sent : (q : BatchPhase) → v.core.queue.phase ≡ q → (q ≡ batch.Closing → has_end f.frames ≡ true) → phase_sent q ≡ batch.Closed → HasEnded m
+  shut_sent batch.Open is ends j = absurd cc
+  shut_sent batch.Closing is ends j = ended_of P m T f (ends refl)
+  shut_sent batch.Closed is ends j = w.closed is
+
+  shut : (t : ℕ) (reason : Reason) → Shows v.core t v.core.phase reason → (core_at_rest v.core reason t).queue.phase ≡ batch.Closed → HasEnded m
+  shut t Sent y j = shut_sent v.core.queue.phase refl
+      (λ closing. published_ends f.V f.frames v.core t v.core.phase y closing its.fits) j
+  shut t FoundEnd y j = ended_of P m T f (found_ends f.V f.frames v.core t v.core.phase y its.fits)
+  shut t NoRoom y j = w.closed j
+
+  gives : (t : ℕ) (page : Page) (reason : Reason) → situation X v ≡ Does (GivesBack t page reason) → Good (core_at_rest v.core reason t)
+  gives t page reason i =
+      let own = own_is X v (GivesBack t page reason) i in
+      let stage = stage_given t page reason i in
+      record {
+        closed = λ j. ended_on X P m m' T (Turn s word) a sits r h k (shut t reason (gives_shows X v.core t page reason own) j);
+        past = λ u small. inl (omega arith);
+      }
+
+  -- ---- whatever the turn is
+  by_turn : (z : Situation E) → situation X v ≡ z → Good (moved (after_step (line X v z).move) m.home ((line X v z).fed (got z) word)).core
+  by_turn (Does IsClosed) i = good v.core (λ j. j) refl
+  by_turn (Does IsIdle) i = good v.core (λ j. j) refl
+  by_turn (Does IsSpent) i = good v.core (λ j. j) refl
+  by_turn (Does LooksAtStage) i = looks v.reuse
+  by_turn (Does (Elects t e)) i = elects t e i (X.owner (X.fed e (got (Does (Elects t e))) word)) refl
+  by_turn (Does (TakesPage t)) i = laid t m.home (record v.core { phase = phase.Taken t }) (good (record v.core { phase = phase.Taken t }) (λ j. j) refl)
+  by_turn (Does (AwaitsPage t)) i = laid t m.home v.core (good v.core (λ j. j) refl)
+  by_turn (Does (StoresWord t page stored)) i = good (record v.core { phase = phase.Holding t page (stored + 1) false }) (λ j. j) refl
+  by_turn (Does (StoresLength t page stored)) i = good (record v.core { phase = phase.Holding t page stored true }) (λ j. j) refl
+  by_turn (Does (GivesBack t page reason)) i = gives t page reason i
+  by_turn (Does (HasHanded t reason)) i = absurd (subst (Fits f.V f.frames v.core) (tells X v.core (HasHanded t reason) (own_is X v (HasHanded t reason) i)) its.fits)
+  by_turn (Announces t) i = good v.core (λ j. j) refl
+  by_turn (Validates t) i = validated t (got (Validates t) / 2 == t)
+  by_turn (Unpins t) i = good v.core (λ j. j) refl
+  by_turn (Withdraws t) i = good v.core (λ j. j) refl
+  by_turn (Scans q) i = good v.core (λ j. j) refl
+  by_turn (Clears q) i = good v.core (λ j. j) refl
+
+  turn_recalls : AllRecall m' U
+  turn_recalls =
+      let l = line_now X v in
+      one_other X P m m' T (Turn s word) a sits r h k s v (moved (after_step l.move) m.home (l.fed (found m l word) word)) at
+      (ap (λ (y : Machine E). y.senders) h.after) (by_turn (situation X v) refl)
+
+-- ---- whatever leads to a machine
+module _ {E : Type 0} (X : Election E) (P : Protocol E (Unit {0}) ℕ) where
+  event_recalls : (m m' : Machine E) (T : Trails) (e : Event) (a : Answer) → Sits X P m → Reached X m T → Happens X m e a m' → AllRecall m T
+      → AllRecall m' (trails_grown X m e a T)
+  event_recalls m m' T (Put s bytes) a sits r h k =
+      let at = there_shown (has_stopped m s) (slice_get m.senders s) h.sender h.goes in
+      one_other X P m m' T (Put s bytes) a sits r h k s h.sender (put_in h.sender bytes) at (ap (λ (y : Machine E). y.senders) h.after)
+      (alike X P m m' T (Put s bytes) a sits r h k s h.sender.core (put_in h.sender bytes).core (k s h.sender at) (λ j. j) refl)
+  event_recalls m m' T (Close s) a sits r h k =
+      let at = there_shown (has_stopped m s) (slice_get m.senders s) h.sender h.goes in
+      one_other X P m m' T (Close s) a sits r h k s h.sender (close_in h.sender) at (ap (λ (y : Machine E). y.senders) h.after)
+      (alike X P m m' T (Close s) a sits r h k s h.sender.core (close_in h.sender).core (k s h.sender at)
+      (λ j. absurd (let bad : batch.Closing ≡ batch.Closed = j in cc)) refl)
+  event_recalls m m' T (Turn s word) a sits r h k = turn_recalls X P m m' T s word a sits r h k
+  event_recalls m m' T (Recv q) a sits r h k = none_other X P m m' T (Recv q) a sits r h k (ap (λ (y : Machine E). y.senders) h.after)
+  event_recalls m m' T (Stop s) a sits r h k = none_other X P m m' T (Stop s) a sits r h k (ap (λ (y : Machine E). y.senders) h.after)
+
+  new_recalls : (m : Machine E) → IsNew m → AllRecall m no_machine_trails
+  new_recalls m new s v at = subst (λ (y : Sender E). Recalls m s y.core []) (sym (new.senders s v at).1) record {
+    closed = λ j. absurd (let bad : batch.Open ≡ batch.Closed = j in cc);
+    past = λ t small. absurd (omega arith);
+  }
+
+  all_recall : (m : Machine E) (T : Trails) → Sits X P m → Reached X m T → AllRecall m T
+  all_recall m T sits (Start n new) = new_recalls n new
+  all_recall m T sits (Next n m' U e a before h) =
+      let t = sits_before X P n m' e a h sits in event_recalls n m' U e a t before h (all_recall n U t before)
+
+  pub remembered : (m : Machine E) (T : Trails) → Sits X P m → Reached X m T → (s : ℕ) (v : Sender E) → slice_get m.senders s ≡ Some v
+      → Remembers m s v (T.actions s)
+  remembered m T sits r s v at =
+      let f = framed X P m T sits r in
+      let k = all_recall m T sits r s v at in
+      record {
+        is = itself P m T f s v at;
+        rows = f.rows s v at;
+        numbers = numbered P m T f s v at;
+        closed = k.closed;
+        past = k.past;
+        begun = begun_opened P m T f s v at;
+        busy = busy_begun P m T f s v at;
+        idle = idle_resting P m T f s v at;
+      }

@@ -1,0 +1,62 @@
+-- What a sender goes by is so: by what happened its batch is closed or on its way, and the tenures are past that it enters no more.
+use Rattle.std.specs.Prelude.{◌≡◌, ◌≢◌, ◌⊎◌, ℕ, ◌+◌, ◌*◌, ◌<◌, ◌≤◌, true, false, Option, Some, None, List, length}
+use Rattle.bus_batch.specs.Batches.{next_of}
+use Rattle.bus_batch.specs.Frames.{Order, Spells}
+use Rattle.bus_batch.specs.declared.batches.Phase.TheVariants.{Closed}
+use Rattle.bus_core.specs.Senders.{Sender}
+use Rattle.bus_core.specs.declared.reuses.Reuse.{Reuse}
+use Rattle.bus_register.specs.declared.registers.SenderNo.{SenderNo}
+use Rattle.bus_tenure.specs.Seen.{tenure_of}
+use Rattle.bus_tenure.specs.declared.phases.Phase.TheVariants.{Resting}
+use Rattle.bus_world.specs.Headline.{Action, Elected, puts}
+use Rattle.bus_machine.specs.Machine.{Machine, log_of, stage_of}
+
+-- the order that the log spells has ended
+pub record HasEnded {E : Type 0} (m : Machine E) : Type 0 where
+  pub order : Order
+  pub owners : List (ℕ × SenderNo)
+  pub spelled : Spells m.layout.senders (log_of m) order owners
+  pub ended : order.ended ≡ true
+
+-- by its actions sender s saw the election of this tenure end with another owner, at such a stage, at which the tenure had opened
+pub record HasLost (stage s : ℕ) (actions : List Action) (t : ℕ) : Type 0 where
+  pub opened : 2 * t ≤ stage
+  pub owner : ℕ
+  pub elected : Elected actions t owner
+  pub other : owner ≢ s
+
+-- the tenure has ended, or sender s has lost it
+abbrev pub IsPastFor : ℕ → ℕ → List Action → ℕ → Type 0
+IsPastFor stage s actions t = (2 * t + 2 ≤ stage) ⊎ HasLost stage s actions t
+
+-- no tenure is left to sender s: all have ended, or the last has been opened and s has lost it
+abbrev pub NoneIsLeft : {E : Type 0} → Machine E → ℕ → List Action → Type 0
+NoneIsLeft m s actions = (2 * m.layout.rows ≤ stage_of m) ⊎ ((t : ℕ) × (m.layout.rows ≡ t + 1) × HasLost (stage_of m) s actions t)
+
+-- so many rows it uses again, where it does
+abbrev pub rows_in : Option Reuse → Option ℕ
+rows_in None = None
+rows_in (Some r) = Some r.rows
+
+-- it goes by its own number and by the layout of the machine, and marks its frames with that number
+pub record IsItself {E : Type 0} (m : Machine E) (s : ℕ) (v : Sender E) : Type 0 where
+  pub me : v.core.me ≡ s
+  pub layout : v.core.layout ≡ m.layout
+  pub marks : v.core.queue.sender.0 ≡ s
+
+-- sender s, which is this one and has done this
+pub record Remembers {E : Type 0} (m : Machine E) (s : ℕ) (v : Sender E) (actions : List Action) : Type 0 where
+  -- it is who it is, and uses as many rows again as the machine
+  pub is : IsItself m s v
+  pub rows : rows_in v.reuse ≡ m.reuse
+  -- its next message has the number of how many it has put
+  pub numbers : next_of v.core.queue ≡ length (puts actions)
+  -- its batch is closed only once the order has ended
+  pub closed : v.core.queue.phase ≡ Closed → HasEnded m
+  -- each tenure below the first that it may enter has ended, or it has lost it
+  pub past : (t : ℕ) → t < v.core.least → IsPastFor (stage_of m) s actions t
+  -- a tenure that it has begun was opened
+  pub begun : (t : ℕ) → tenure_of v.core.phase ≡ Some t → 2 * t ≤ stage_of m
+  -- its batch is on its way in a tenure, and at rest it is not
+  pub busy : (t : ℕ) → tenure_of v.core.phase ≡ Some t → v.core.queue.busy ≡ true
+  pub idle : v.core.phase ≡ Resting → v.core.queue.busy ≡ false
