@@ -31,11 +31,9 @@ use Rattle.bus_presence.specs.declared.pins.Pin.TheVariants.{Away, Announcing, V
 use Rattle.bus_tenure.specs.Core.{Core, Election, Layout, log_at, is_empty}
 use Rattle.bus_tenure.specs.Situations.{Situation, IsClosed, IsIdle, IsSpent, LooksAtStage, Elects, TakesPage, AwaitsPage, StoresWord, StoresLength, GivesBack, HasHanded, Stays, Comes, situation_of, line_of, op_at, kind_at, tenure_at, chosen_at, waits, core_begun}
 use Rattle.bus_tenure.specs.declared.pages.Page.{Page}
-use Rattle.bus_tenure.specs.declared.phases.Phase.{Phase}
 use Rattle.bus_tenure.specs.declared.turns.Turn.{Turn as Answered}
-use Rattle.bus_tenure.specs.declared.phases.Phase.TheVariants as phase
 use Rattle.bus_register.specs.Tables.{of_some}
-use Rattle.bus_world.specs.Bus.{IsLayout, Fits, Part, Sending, least_of, standing_of, stands_at}
+use Rattle.bus_world.specs.Bus.{IsLayout, Part, Sending, least_of, standing_of, stands_at}
 use Rattle.bus_world.proofs.TenuresLaws as tenures
 use Rattle.bus_world.specs.Headline.{Action, HasPut, HasClosed, IsPrefix, puts}
 use Rattle.bus_world.specs.Log.{Knows, words_read_from}
@@ -63,7 +61,7 @@ use Rattle.bus_automaton.specs.RowsAgain.{table_layout_again, started_again, add
 use Rattle.bus_automaton.specs.SenderTrails.{SenderTrail, with_sender_trail}
 use Rattle.bus_automaton.proofs.AgainTurns.{seen_messages, seen_first}
 use Rattle.bus_automaton.proofs.ApartTurns as apart
-use Rattle.bus_automaton.proofs.ApartStates.{stage_tells, silent_page}
+use Rattle.bus_automaton.proofs.ApartStates.{stage_tells, silent_page, not_taken}
 use Rattle.bus_automaton.proofs.Choosing.{Owns, owner_itself}
 use Rattle.bus_automaton.proofs.Counting.{first_below}
 use Rattle.bus_automaton.proofs.Phases.{tells}
@@ -110,14 +108,6 @@ other_actions s ds D q ne = ap (λ b. D q ++ cond b ds []) (ne_eqb q s ne) ∙ a
 close_can : (q : Pending) → CanClose q → can_close q ≡ true
 close_can q can =
     ap (λ z. is_open z && (cond q.busy false true && is_empty q.messages)) can.is_open ∙ ap (λ z. cond z false true && is_empty q.messages) can.idle ∙ ap is_empty can.none
-
--- between turns no page is under way
-not_taken : {E : Type 0} (words : ℕ → ℕ) (frames : List Frame) (c : Core E) (ph : Phase E) → Fits words frames c ph → is_taken ph ≡ false
-not_taken words frames c phase.Resting f = refl
-not_taken words frames c (phase.Electing t e) f = refl
-not_taken words frames c (phase.Taken t) f = absurd f
-not_taken words frames c (phase.Holding t page stored published) f = refl
-not_taken words frames c (phase.Giving t reason) f = refl
 
 -- ---- the page is at home where it is taken
 finds_home : {E : Type 0} (X : Election E) (P : Protocol E (Unit {0}) ℕ) (x : Layout) (s : Serves X P x) (V : ℕ → ℕ) (home : Option Page) (senders : ℕ → Option (Core E)) (owners : List ℕ) (frames : List Frame) → Sending P x V home senders owners frames
@@ -222,6 +212,7 @@ module _ {E : Type 0} (X : Election E) (P : Protocol E (Unit {0}) ℕ) (x : Layo
         below = subst (λ (l : Layout). p < l.senders) same part.below;
         table_layout = λ i. table_layout_again ((part.layout ∙ same) i) ((led.is.rows p v at ∙ rows_are) i);
         counted = counted;
+        laid = not_taken k.V k.frames v.core v.core.phase part.fits;
       }
 
       -- the log has of it what it put, but for what waits
@@ -512,6 +503,7 @@ module _ {E : Type 0} (X : Election E) (P : Protocol E (Unit {0}) ℕ) (x : Layo
     started_table_layout = λ p. refl;
     started_next = λ p. refl;
     started_away = λ p. refl;
+    started_laid = λ p. refl;
     wide = λ z h. wide z.ring z.trails h.served h.rows_some h.layout h.rows_are h.reached;
     senders = λ z p v h at. is_sender z.ring z.trails h.served h.rows_some h.layout h.rows_are h.reached p v at;
     nobody = λ z q h past. nobody_did z.ring z.trails h.served h.rows_some h.layout h.rows_are h.reached q past;

@@ -409,9 +409,9 @@ process_laws X P laws names = record {
   refuses_at_rest = λ v. refused_seen X v _ v (refused_rest X v (due X v) refl);
   none_hidden = λ v none. apart.none_hidden v.core v.core.phase (sym (seen_messages v.core.queue v.pin) ∙ none);
   one_action = λ v got word. one_due X v (due X v) got word;
-  message = λ v bytes. record { me = refl; table_layout = refl; holds = refl };
+  message = λ v bytes. record { me = refl; table_layout = refl; holds = refl; awaits = refl };
   message_waits = λ v bytes. seen_message v.core.queue v.pin (v.core.queue.messages ++ bytes ∷ []) ∙ ap (λ ms. record (queue_seen v.core.queue v.pin) { messages = ms ++ bytes ∷ [] }) (sym (seen_messages v.core.queue v.pin));
-  close = λ v. record { me = refl; table_layout = refl; holds = refl };
+  close = λ v. record { me = refl; table_layout = refl; holds = refl; awaits = refl };
   close_waits = λ v. seen_closing v.core.queue v.pin;
   handed_op = λ v word. (alike X v (due X v) refl).0 word;
   handed_answer = λ v got word. (alike X v (due X v) refl).1 got word;

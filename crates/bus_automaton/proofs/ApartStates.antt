@@ -16,7 +16,9 @@ use Rattle.bus_deliverylog.specs.declared.receiving.RecvTurn.TheVariants as recv
 use Rattle.bus_tenure.specs.Core.{Core, Election, Layout, log_at, words_of}
 use Rattle.bus_tenure.specs.Situations.{Comes, situation_of, line_of, op_at}
 use Rattle.bus_tenure.specs.declared.pages.Page.{Page}
-use Rattle.bus_world.specs.Bus.{IsLayout}
+use Rattle.bus_tenure.specs.declared.phases.Phase.{Phase}
+use Rattle.bus_tenure.specs.declared.phases.Phase.TheVariants as phase
+use Rattle.bus_world.specs.Bus.{IsLayout, Fits}
 use Rattle.bus_world.specs.Headline.{Action, HasPut, HasClosed, puts, Promises}
 use Rattle.bus_world.specs.Log.{Knows}
 use Rattle.bus_world.specs.Starting.{AreNewCores}
@@ -33,12 +35,20 @@ use Rattle.bus_world.proofs.LogLaws.{length-read}
 use Rattle.bus_world.proofs.Waiting.{waiting_of}
 use Rattle.bus_automaton.specs.Processes.{IsCounted}
 use Rattle.bus_automaton.specs.Lawful.{AutomatonLaws, IsSender, AcceptsIn, StepsIn, HasLog, IsPromisedOf, Opens, no_answers}
-use Rattle.bus_automaton.specs.RowsApart.{process_apart, bus_apart, table_layout_of, History, IsHistory}
+use Rattle.bus_automaton.specs.RowsApart.{is_taken, process_apart, bus_apart, table_layout_of, History, IsHistory}
 use Rattle.bus_automaton.specs.SenderTrails.{sender_trail_of_actions}
 use Rattle.bus_automaton.proofs.ApartTurns.{ends, takes_it}
 use Rattle.bus_automaton.proofs.Counting.{first_below}
 use Rattle.bus_automaton.proofs.Histories.{Kept, kept, nobody_did, log_is, log_in_bus, Reaches, takes_message, takes_close, steps, sum_fits, taken}
 use Rattle.bus_automaton.proofs.Taking.{with_message, with_close}
+
+-- between turns no page is under way
+pub not_taken : {E : Type 0} (words : ℕ → ℕ) (frames : List Frame) (c : Core E) (ph : Phase E) → Fits words frames c ph → is_taken ph ≡ false
+not_taken words frames c phase.Resting f = refl
+not_taken words frames c (phase.Electing t e) f = refl
+not_taken words frames c (phase.Taken t) f = absurd f
+not_taken words frames c (phase.Holding t page stored published) f = refl
+not_taken words frames c (phase.Giving t reason) f = refl
 
 -- where the stage is odd the page is out, and else at home
 pub stage_tells : {E : Type 0} (ended stage : ℕ) (at_home : Bool) (owners : List ℕ) (standing : _) → Stage {E = E} ended stage at_home owners standing → ((stage % 2 ≡ 1) → at_home ≡ false) × ((stage % 2 ≢ 1) → at_home ≡ true)
@@ -90,7 +100,14 @@ module _ {E : Type 0} (X : Election E) (P : Protocol E (Unit {0}) ℕ) (x : Layo
         record { first = omega arith; few = part.queue.few; capacity = omega arith }
 
     is_sender : IsSender (process_apart X) (bus_apart X x) p c
-    is_sender = let part = k.lawful.keeps.sending.parts p c old in record { me = part.me; below = part.below; table_layout = ap table_layout_of part.layout; counted = counted }
+    is_sender =
+        let part = k.lawful.keeps.sending.parts p c old in record {
+          me = part.me;
+          below = part.below;
+          table_layout = ap table_layout_of part.layout;
+          counted = counted;
+          laid = not_taken (slice_index b.side.words) k.frames c c.phase part.fits;
+        }
 
     -- it has accepted something
     accepts_in : (d : Core E) (actions : List Action) → Reaches X P x y h.served b T p d actions → AcceptsIn (bus_apart X x) z p d actions
@@ -169,6 +186,7 @@ automaton_laws X P x y = record {
   started_table_layout = λ p. refl;
   started_next = λ p. refl;
   started_away = λ p. refl;
+  started_laid = λ p. refl;
   wide = λ z h. (k X P x y z h).lawful.words;
   senders = λ z p c h old. is_sender X P x y z h p c old;
   nobody = λ z q h past. nobody_did X P x y h.served z.bus z.trails h.reached q past;

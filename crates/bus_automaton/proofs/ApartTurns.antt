@@ -365,9 +365,9 @@ process_laws X P laws names = record {
   refuses_at_rest = λ c. refused_rest X c (situation_of X c) refl;
   none_hidden = λ c none. none_hidden c c.phase none;
   one_action = λ c got word. step_is_one (kind_at X c (situation_of X c)) (tenure_at X c (situation_of X c)) got (chosen_at X c (situation_of X c) got word) (answer_at X c (situation_of X c) got word);
-  message = λ c bytes. record { me = refl; table_layout = refl; holds = refl };
+  message = λ c bytes. record { me = refl; table_layout = refl; holds = refl; awaits = refl };
   message_waits = λ c bytes. refl;
-  close = λ c. record { me = refl; table_layout = refl; holds = refl };
+  close = λ c. record { me = refl; table_layout = refl; holds = refl; awaits = refl };
   close_waits = λ c. refl;
   handed_op = λ c word. op_handed X c (situation_of X c) refl word;
   handed_answer = λ c got word. answer_handed X c (situation_of X c) refl got word;

@@ -125,6 +125,7 @@ module _ {C D : Type 0} (f : C → D) (P : Process C) (Q : Process D) (i : DoesA
             below = subst (λ (t : TableLayout). p < t.senders) (sym j.table_layout) k.below;
             table_layout = i.table_layout found.0 ∙ k.table_layout ∙ sym j.table_layout;
             counted = counted_as f P Q i found.0 k.counted;
+            laid = i.awaits found.0 ∙ k.laid;
           })
 
       sent : (frames : List Frame) → AreFrames B.table_layout.senders frames → log_words frames ≡ log_in B z
@@ -187,6 +188,7 @@ module _ {C D : Type 0} (f : C → D) (P : Process C) (Q : Process D) (i : DoesA
         ∙ sym j.table_layout;
     started_next = λ p. ap Q.successor (j.started p) ∙ i.successor (A.started p) ∙ ap f (L.started_next p) ∙ sym (j.started (p + 1));
     started_away = λ p. ap Q.holds (j.started p) ∙ i.holds (A.started p) ∙ L.started_away p;
+    started_laid = λ p. ap Q.awaits (j.started p) ∙ i.awaits (A.started p) ∙ L.started_laid p;
     wide = wide;
     senders = λ z p d h at. is_sender z h p d at;
     nobody = λ z q h past. nobody z h q past;

@@ -15,5 +15,6 @@ pub mod Leading
 pub mod Beginning
 pub mod Lawful
 pub mod HandedTells
+pub mod RestingTells
 pub mod Owning
 pub mod ServedPlans

@@ -78,6 +78,7 @@ module _ {C D : Type 0} (f : C → D) (P : Process C) (Q : Process D) (i : DoesA
     me = ap Q.me e ∙ i.me c' ∙ h.me ∙ sym (i.me c);
     table_layout = ap Q.table_layout e ∙ i.table_layout c' ∙ h.table_layout ∙ sym (i.table_layout c);
     holds = ap Q.holds e ∙ i.holds c' ∙ h.holds ∙ sym (i.holds c);
+    awaits = ap Q.awaits e ∙ i.awaits c' ∙ h.awaits ∙ sym (i.awaits c);
   }
 
   leaves_as : (q q' : Pending) (k k' : Pending) → q ≡ k → q' ≡ k' → (k'.messages ≡ k.messages) ⊎ (k'.messages ≡ [])

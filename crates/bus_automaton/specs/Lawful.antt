@@ -28,6 +28,7 @@ pub record Keeps {C : Type 0} (P : Process C) (c d : C) : Type 0 where
   pub me : P.me d ≡ P.me c
   pub table_layout : P.table_layout d ≡ P.table_layout c
   pub holds : P.holds d ≡ P.holds c
+  pub awaits : P.awaits d ≡ P.awaits c
 
 -- these actions are one step, for this, that found this number and was answered so
 pub record IsOneStep (due : Option Kind) (got : ℕ) (answer : Turn) (actions : List Action) : Type 0 where
@@ -73,6 +74,8 @@ pub record IsSender {C : Type 0} (P : Process C) (A : Automaton C) (p : ℕ) (c 
   pub below : p < A.table_layout.senders
   pub table_layout : P.table_layout c ≡ A.table_layout
   pub counted : IsCounted P c
+  -- no page is under way to it between its turns
+  pub laid : P.awaits c ≡ false
 
 -- from one state to another sender p alone has changed, and has done all this by then
 pub record ChangesTo {C : Type 0} (A : Automaton C) (z : A.State) (p : ℕ) (d : C) (all : SenderTrail) (z' : A.State) : Type 0 where
@@ -131,6 +134,7 @@ pub record AutomatonLaws {C : Type 0} (P : Process C) (A : Automaton C) : Type 0
   pub started_table_layout : (p : ℕ) → P.table_layout (A.started p) ≡ A.table_layout
   pub started_next : (p : ℕ) → P.successor (A.started p) ≡ A.started (p + 1)
   pub started_away : (p : ℕ) → P.holds (A.started p) ≡ false
+  pub started_laid : (p : ℕ) → P.awaits (A.started p) ≡ false
   pub wide : (z : A.State) → A.IsReached z → length (A.words z) ≡ A.table_layout.words
   pub senders : (z : A.State) (p : ℕ) (c : C) → A.IsReached z → A.sender z p ≡ Some c → IsSender P A p c
   pub nobody : (z : A.State) (q : ℕ) → A.IsReached z → A.table_layout.senders ≤ q → actions_at A z q ≡ []

@@ -1,11 +1,12 @@
 //! What threads may go by holds of the one process and of the one automaton.
 
-ghost use Rattle.std.specs.Prelude.{◌≡◌, ℕ, ◌≤◌, Option};
+ghost use Rattle.std.specs.Prelude.{◌≡◌, ◌≢◌, ℕ, ◌≤◌, Option, None, false};
 ghost use Rattle.bus_register.specs.declared.limits.TheConstants.{MOST_SENDERS};
 ghost use Rattle.bus_core.specs.Senders.{Sender};
 ghost use Rattle.bus_core.specs.Telling.{FeedTells};
 ghost use Rattle.bus_tenure.specs.Elections.{Elector, election_of, layout_with};
 ghost use Rattle.bus_tenure.specs.declared.turns.Turn.{Turn};
+ghost use Rattle.bus_tenure.specs.declared.turns.Turn.TheVariants as turn;
 ghost use Rattle.bus_world.specs.Bus.{IsLayout};
 ghost use Rattle.bus_world.specs.declared.shapes.MakeFault.{MakeFault};
 ghost use Rattle.bus_world.specs.declared.shapes.MakeFault.TheVariants.{NoMemory};
@@ -49,15 +50,19 @@ pub fn automaton_opens<Q: Ratifier>()
 {}
 
 /// Threads may go by a sender of any ratifier, and by a bus of any plan. What an answer tells once
-/// the page is out of the sender's hands, it tells of the sender before that. No plan is refused
-/// for two causes, and for want of memory each that is served and no other: so with another fault
-/// none is that is served. A number of its senders fits a byte.
+/// the page is out of the sender's hands, it tells of the sender before that; and where no step is
+/// due, and no page is under way, the answer is not Going. No plan is refused for two causes, and
+/// for want of memory each that is served and no other: so with another fault none is that is
+/// served. A number of its senders fits a byte.
 pub fn threads_may_go_by<Q: Ratifier>()
     ensures process { ProcessLaws (process_by Q.Ratifier) }
     ensures tells { let X = election_of Q.Ratifier in
         (v : Sender (Elector Q)) (got word : ℕ) (answer : Turn)
         → FeedTells X ((process_by Q.Ratifier).handed v) got word answer
         → FeedTells X v got word answer }
+    ensures rests { let P = process_by Q.Ratifier in
+        (v : Sender (Elector Q)) (word : ℕ) → P.awaits v ≡ false → P.op v word ≡ None
+        → P.rest v ≢ turn.Going }
     ensures one_cause { (plan : Plan) (why other : MakeFault)
         → Refuses plan why → Refuses plan other → why ≡ other }
     ensures memory { (plan : Plan) → ShapeOf plan.shape plan.reuse → Refuses plan NoMemory

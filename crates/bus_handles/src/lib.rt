@@ -25,7 +25,7 @@ pub use bus_receiver::{
     MOST_BYTES, MOST_LOG_WORDS, MOST_MESSAGES, MOST_RECEIVERS, MOST_ROUNDS, MOST_ROWS,
     MOST_ROWS_AGAIN, MOST_SENDERS, MakeFault, Message, Next, Order, Page, PutFault, RecvTurn,
     SendFault, SenderNo, Shape, ThreeWord, Turn, TwoCollect, Unsent, read_log, tenures_needed,
-    tenures_of_sitting, words_needed, words_of_sitting,
+    words_needed,
 };
 pub use opening::{open, open_cyclic};
 pub use receivers::ReceiverHandle;

@@ -9,10 +9,11 @@ ghost use Rattle.bus_register.specs.declared.registers.Op.{Op};
 ghost use Rattle.bus_world.specs.Headline.{HasPut, HasClosed, puts};
 ghost use Rattle.bus_core.specs.Causes.{HasCause};
 ghost use Rattle.bus_core.specs.Telling.{FeedTells};
+ghost use Rattle.bus_core.specs.Telling.{RestTells};
 ghost use Rattle.bus_tenure.specs.Elections.{election_of};
 ghost use Rattle.bus_automaton.specs.Buses.{process_by};
 ghost use Rattle.bus_pageslot.specs.Seats.{TookAndTold, table_of, actions_of, stored_of};
-ghost use Rattle.bus_pageslot.specs.Turns.{Sends, SendsAsking, StopsWaiting};
+ghost use Rattle.bus_pageslot.specs.Turns.{tells_by, Sends, SendsAsking, StopsWaiting};
 ghost use Rattle.bus_pageslot.specs.Sendings.{waiting_of, HasSent, HasSentPart};
 ghost use Rattle.bus_handles.specs.Answers.{delivered_turn, not_delivered_turn};
 ghost use Rattle.bus_handles.specs.Closings.{ClosesAndSends, NotEndedFor};
@@ -132,6 +133,8 @@ impl<Q: Ratifier + Drop, R: Rng + Drop> SenderHandle<Q, R> {
     pub fn put(&mut self, bytes: &[u8]) -> Result<u64, PutFault>
         ensures number { let P = process_by Q.Ratifier in
             IfOk result (λ number. number ≡ next_of (P.queue self.old.core)) }
+        ensures counts { let P = process_by Q.Ratifier in
+            IfOk result (λ number. number ≡ length (puts (actions_of P self.old))) }
         ensures taken { OnOk result
             (self.new.core ≡ (process_by Q.Ratifier).with_message self.old.core bytes.now) }
         ensures action { let P = process_by Q.Ratifier in IfOk result
@@ -168,7 +171,8 @@ impl<Q: Ratifier + Drop, R: Rng + Drop> SenderHandle<Q, R> {
     pub fn turn(&mut self, word: u32) -> Turn
         ensures table { table_of self.new ≡ table_of self.old }
         ensures rests { let P = process_by Q.Ratifier in P.op self.old.core word ≡ None
-            → (self.new ≡ self.old) × (result ≡ P.rest self.old.core) }
+            → (self.new ≡ self.old) × (result ≡ P.rest self.old.core)
+            × RestTells self.old.core result }
         ensures steps { let P = process_by Q.Ratifier in (op : Op)
             → P.op self.old.core word ≡ Some op
             → TookAndTold P (FeedTells (election_of Q.Ratifier)) self.old word result self.new }
@@ -183,7 +187,8 @@ impl<Q: Ratifier + Drop, R: Rng + Drop> SenderHandle<Q, R> {
     #[must_use]
     pub fn send<W: Wait>(&mut self, wait: &W) -> Turn
         ensures table { table_of self.new ≡ table_of self.old }
-        ensures sends { Sends (process_by Q.Ratifier) self.old result self.new }
+        ensures sends { Sends (process_by Q.Ratifier) (tells_by Q.Ratifier) self.old result
+            self.new }
         ensures puts { let P = process_by Q.Ratifier in
             puts (actions_of P self.new) ≡ puts (actions_of P self.old) }
     {
@@ -200,9 +205,10 @@ impl<Q: Ratifier + Drop, R: Rng + Drop> SenderHandle<Q, R> {
         requires { F.IsAlwaysCallable go_on }
         ensures table { table_of self.new ≡ table_of self.old }
         ensures sends { IfSome result
-            (λ turn. SendsAsking (process_by Q.Ratifier) F.step self.old go_on turn self.new) }
-        ensures stops { IfNone result
-            (StopsWaiting (process_by Q.Ratifier) F.step self.old go_on self.new) }
+            (λ turn. SendsAsking (process_by Q.Ratifier) (tells_by Q.Ratifier) F.step self.old go_on
+            turn self.new) }
+        ensures stops { IfNone result (StopsWaiting (process_by Q.Ratifier) (tells_by Q.Ratifier)
+            F.step self.old go_on self.new) }
         ensures puts { let P = process_by Q.Ratifier in
             puts (actions_of P self.new) ≡ puts (actions_of P self.old) }
     {
@@ -216,9 +222,10 @@ impl<Q: Ratifier + Drop, R: Rng + Drop> SenderHandle<Q, R> {
     /// It waits as `send` does, and that it ends is not promised.
     pub fn send_all<W: Wait>(&mut self, wait: &W, messages: &[Message]) -> Result<(), Unsent>
         ensures table { table_of self.new ≡ table_of self.old }
-        ensures all { OnOk result (HasSent (process_by Q.Ratifier) self.old messages.now self.new) }
-        ensures part { IfErr result
-            (λ unsent. HasSentPart (process_by Q.Ratifier) self.old messages.now unsent self.new) }
+        ensures all { OnOk result (HasSent (process_by Q.Ratifier) (tells_by Q.Ratifier) self.old
+            messages.now self.new) }
+        ensures part { IfErr result (λ unsent. HasSentPart (process_by Q.Ratifier)
+            (tells_by Q.Ratifier) self.old messages.now unsent self.new) }
     {
         let bus: &Bus<Q> = &self.bus;
         self.sender.send_all(wait, bus, &mut self.rng, messages)
@@ -228,10 +235,10 @@ impl<Q: Ratifier + Drop, R: Rng + Drop> SenderHandle<Q, R> {
     /// else why none was.
     pub fn deliver<W: Wait>(&mut self, wait: &W) -> Result<Delivered, NotDelivered>
         ensures table { table_of self.new ≡ table_of self.old }
-        ensures delivered { IfOk result
-            (λ done. Sends (process_by Q.Ratifier) self.old (delivered_turn done) self.new) }
-        ensures not_delivered { IfErr result
-            (λ why. Sends (process_by Q.Ratifier) self.old (not_delivered_turn why) self.new) }
+        ensures delivered { IfOk result (λ done. Sends (process_by Q.Ratifier)
+            (tells_by Q.Ratifier) self.old (delivered_turn done) self.new) }
+        ensures not_delivered { IfErr result (λ why. Sends (process_by Q.Ratifier)
+            (tells_by Q.Ratifier) self.old (not_delivered_turn why) self.new) }
         ensures puts { let P = process_by Q.Ratifier in
             puts (actions_of P self.new) ≡ puts (actions_of P self.old) }
     {
@@ -244,10 +251,10 @@ impl<Q: Ratifier + Drop, R: Rng + Drop> SenderHandle<Q, R> {
     /// close was not taken, or what sending it was answered.
     pub fn end_order<W: Wait>(&mut self, wait: &W) -> Result<(), OrderNotEnded>
         ensures table { table_of self.new ≡ table_of self.old }
-        ensures ended { OnOk result
-            (ClosesAndSends (process_by Q.Ratifier) self.old Turn.Closed self.new) }
-        ensures not_ended { IfErr result
-            (λ why. NotEndedFor (process_by Q.Ratifier) self.old why self.new) }
+        ensures ended { OnOk result (ClosesAndSends (process_by Q.Ratifier)
+            (tells_by Q.Ratifier) self.old Turn.Closed self.new) }
+        ensures not_ended { IfErr result (λ why. NotEndedFor (process_by Q.Ratifier)
+            (tells_by Q.Ratifier) self.old why self.new) }
         ensures puts { let P = process_by Q.Ratifier in
             puts (actions_of P self.new) ≡ puts (actions_of P self.old) }
     {

@@ -3,11 +3,13 @@ pub mod Sending
 pub mod Batching
 pub mod Accepting
 pub mod Reaching
+pub mod Numbering
 pub mod Slots
 pub mod Hearing
 pub mod Ties
 pub mod Extending
 pub mod Walks
+pub mod Plain
 pub mod Openings
 pub mod Puts
 pub mod Loads

@@ -19,14 +19,15 @@ use Rattle.bus_pageslot.specs.declared.rule.View.{View}
 use Rattle.bus_pageslot.specs.declared.rule.View.TheVariants.{Maker, Sender, Tap, Meeting, Telling, Spent}
 use Rattle.bus_automaton.specs.Processes.{TableLayout, Process, Automaton, IsCounted, log_in}
 use Rattle.bus_automaton.specs.Lawful.{AutomatonLaws, Opens}
-use Rattle.bus_pageslot.specs.Rule.{slot_of, tap_left, tap_right, sender_trail_in, stored_in, cut_left, cut_right, KnowsLog, IsTrueOf, TableInvariant}
-use Rattle.bus_pageslot.specs.Steps.{carried_of}
+use Rattle.bus_pageslot.specs.Rule.{slot_of, Sat, tap_left, tap_right, sender_trail_in, stored_in, cut_left, cut_right, KnowsLog, IsTrueOf, TableInvariant}
+use Rattle.bus_pageslot.specs.Steps.{Numbers, carried_of}
 use Rattle.bus_pageslot.specs.Steps.Accepts.{Nothing}
 use Rattle.bus_pageslot.specs.Seats.{SenderSeat, ReceiverSeat, Shows, table_of}
 use Rattle.bus_pageslot.specs.Buses.{IsNewSeat, AreNewSeats, IsNewTap, AreNewTaps}
-use Rattle.bus_automaton.specs.SenderTrails.{no_sender_trail}
+use Rattle.bus_automaton.specs.SenderTrails.{SenderTrail, no_sender_trail}
 use Rattle.bus_pageslot.proofs.AllSeats.{still_seen, seen_longer}
 use Rattle.bus_pageslot.proofs.Hearing.{heard_new}
+use Rattle.bus_pageslot.proofs.Numbering.{numbers_next}
 use Rattle.atomic_table.specs.Seated.{TableId}
 
 -- one seat replaced
@@ -140,8 +141,8 @@ module _ {C : Type 0} (P : Process C) (A : Automaton C) (L : AutomatonLaws P A) 
       }
 
 -- a sender shows the seat that was made for it
-pub shows_new : {C : Type 0} (P : Process C) (A : Automaton C) → AutomatonLaws P A → Opens P A → (k : ℕ) (c : C) (v : View C) (s : Seat (Option Page) (View C)) → c ≡ A.started k → v ≡ Maker (A.started k) → s.me ≡ (cut_right v, []) → s.table_id.words ≡ A.table_layout.words → s.table_id.slots ≡ 1 → Shows P c s
-shows_new {C} P A L o k c v s is maker me words slots =
+pub shows_new : {C : Type 0} (P : Process C) (A : Automaton C) → AutomatonLaws P A → Opens P A → (k : ℕ) → k < A.table_layout.senders → (c : C) (v : View C) (s : Seat (Option Page) (View C)) → c ≡ A.started k → v ≡ Maker (A.started k) → s.me ≡ (cut_right v, []) → s.table_id.words ≡ A.table_layout.words → s.table_id.slots ≡ 1 → Shows P c s
+shows_new {C} P A L o k below c v s is maker me words slots =
     let now : s.me ≡ (Sender c no_sender_trail 0, []) = me ∙ ap (λ (y : View C). (cut_right y, [])) maker ∙ ap (λ (y : C). (Sender y no_sender_trail 0, [])) (sym is) in
     let away : P.holds c ≡ false = ap P.holds is ∙ L.started_away k in
     record {
@@ -149,6 +150,9 @@ shows_new {C} P A L o k c v s is maker me words slots =
       actions = [];
       accepts = Nothing;
       counted = subst (IsCounted P) (sym is) (o.counted k);
+      laid = ap P.awaits is ∙ L.started_laid k;
+      numbered = subst (λ (y : C × SenderTrail). Numbers P y.0 y.1.actions) (λ i. (sym is i, sym (ap (λ (m : Sat C). sender_trail_in m.0) now) i))
+          (numbers_next P A L o.state o.reached k (A.started k) (L.started_me k) (o.senders k below) [] (ap (λ (t : SenderTrail). t.actions) (o.sender_trail k)));
       me = now ∙ (λ i. (Sender c (sender_trail_in (sym now i).0) (stored_in (sym now i).0), carried_of (sym away i)));
       words = words ∙ ap (λ (x : TableLayout). x.words) (sym (ap P.table_layout is ∙ L.started_table_layout k));
       slots = slots;

@@ -1,11 +1,16 @@
 -- What the calls of a sender say, as its process has it.
-use Rattle.std.proofs.Common.{◌≡◌, ℕ, ◌+◌, Bool, true, false, Option, Some, None, List, ◌∷◌, refl, sym, ◌∙◌, ap}
-use Rattle.std.specs.Prelude.{IsTrue, ◌↔◌}
+use Rattle.std.proofs.Common.{◌≡◌, inl, inr, ℕ, ◌+◌, Bool, true, false, Option, Some, None, IsSome, List, ◌∷◌, refl, sym, ◌∙◌, ap}
+use Rattle.std.specs.Prelude.{IsTrue, ◌↔◌, ◌⊎◌}
 use Rattle.atomic_table.specs.Table.{rest}
 use Rattle.bus_adoptcommit.specs.declared.verdicts.Verdict.{Verdict}
 use Rattle.bus_batch.specs.Batches.{Pending, next_of}
 use Rattle.bus_core.specs.Keeping.{queue_of, page_out, core_without}
+use Rattle.bus_core.proofs.Plain.{plain_stays, plain_going, plain_due, plain_wordless}
+use Rattle.bus_core.specs.Plain.{IsPlain}
+use Rattle.bus_core.specs.Telling.{RestTells}
+use Rattle.bus_tenure.specs.declared.turns.Turn.{Turn}
 use Rattle.bus_core.specs.Senders.{Sender, log_start, words_all}
+use Rattle.bus_tenure.specs.declared.turns.Turn.TheVariants as turn
 use Rattle.bus_core.specs.Table.{line_now}
 use Rattle.bus_core.specs.declared.reuses.Reuse.{Reuse}
 use Rattle.bus_core.specs.Reusing.Turns.{queue_seen}
@@ -143,3 +148,29 @@ module _ {S : Type 0} (kind_of : S → Option Kind) (op : S → ℕ → Option O
   pub laid_is : (page : Page) (new : Sender (Elector S)) → P.awaits v ≡ true → Lays v page new → new ≡ P.laid v page
   unfolding process_with
   laid_is page new e h = laid_by v page new h (awaits_by v.core.phase e)
+
+  -- ---- a plain store
+  pub plain_moves : IsPlain X v → P.move v ≡ Stays
+  unfolding process_with
+  plain_moves plain = plain_stays X v plain
+
+  pub plain_handed : IsPlain X v → v ≡ P.handed v
+  unfolding process_with
+  plain_handed plain = ap (λ m. moved (before_step m) None v) (sym (plain_stays X v plain))
+
+  pub plain_answer : IsPlain X v → (got word : ℕ) → turn.Going ≡ P.answer v got word
+  unfolding process_with
+  plain_answer plain got word = sym (plain_going X v plain got word)
+
+  pub plain_op : IsPlain X v → (word : ℕ) → IsSome (P.op v word)
+  unfolding process_with
+  plain_op plain word = plain_due X v plain word
+
+  pub plain_draws_none : IsPlain X v → P.wants_word v ≡ false
+  unfolding process_with
+  plain_draws_none plain = plain_wordless X v plain
+
+  -- ---- an answer where no step is due
+  pub rest_is_told : (a : Turn) → (a ≡ turn.Going) ⊎ RestTells v a → (a ≡ turn.Going → ⊥) → RestTells v a
+  rest_is_told a (inl going) not = absurd (not going)
+  rest_is_told a (inr tells) not = tells

@@ -2,18 +2,19 @@
 use Rattle.std.proofs.Common.{◌≡◌, ℕ, ◌<◌, ◌≤◌, Option, List, [], ◌∷◌, ◌++◌, length, arith, sym, ◌∙◌, ap, subst, append_assoc}
 use Rattle.std.specs.Prelude.{All, Result, Ok, Err, IfOk, OnOk, OnErr}
 use Rattle.std.proofs.lemmas.List.{length-append}
+use Rattle.atomic_table.specs.Seated.{TableId}
 use Rattle.atomic_table.specs.declared.shared.Seat.{Seat}
 use Rattle.bus_batch.specs.Batches.{Pending, next_of, CanPut, CanClose}
 use Rattle.bus_batch.specs.declared.batches.PutFault.{PutFault}
 use Rattle.bus_batch.specs.declared.batches.CloseFault.{CloseFault}
 use Rattle.bus_tenure.specs.declared.pages.Page.{Page}
-use Rattle.bus_world.specs.Headline.{Action, HasPut, HasClosed}
+use Rattle.bus_world.specs.Headline.{Action, HasPut, HasClosed, puts}
 use Rattle.bus_pageslot.specs.declared.rule.View.{View}
 use Rattle.bus_pageslot.specs.declared.rule.View.TheVariants.{Sender}
 use Rattle.bus_automaton.specs.Processes.{TableLayout, Process}
 use Rattle.bus_automaton.specs.Lawful.{ProcessLaws, Keeps}
 use Rattle.bus_pageslot.specs.Rule.{Sat, sender_trail_in, stored_in}
-use Rattle.bus_pageslot.specs.Steps.{Accepts, carried_of, since_in, all_in}
+use Rattle.bus_pageslot.specs.Steps.{Accepts, Numbers, carried_of, since_in, all_in}
 use Rattle.bus_pageslot.specs.Steps.Accepts.{Message, Close}
 use Rattle.bus_pageslot.specs.Seats.{Shows}
 use Rattle.bus_pageslot.proofs.Accepting.{since_is}
@@ -41,6 +42,8 @@ module _ {C : Type 0} (P : Process C) (L : ProcessLaws P) (d : C) (s : Seat (Opt
       few = few;
       capacity = (let a = h.counted.capacity in let x = ap (λ (z : TableLayout). z.capacity) keeps.table_layout in omega arith);
     };
+    laid = keeps.awaits ∙ h.laid;
+    numbered = h.numbered;
     me = h.me ∙ ap (λ b. (Sender h.shown (sender_trail_in s.me.0) (stored_in s.me.0), carried_of b)) (sym keeps.holds);
     words = h.words ∙ ap (λ (z : TableLayout). z.words) (sym keeps.table_layout);
     slots = h.slots;
@@ -65,6 +68,20 @@ module _ {C : Type 0} (P : Process C) (L : ProcessLaws P) (d : C) (s : Seat (Opt
         let waits = L.close_waits d in
         still (P.with_close d) (h.actions ++ HasClosed ∷ []) one_close (L.close d) (ap (λ (q : Pending). q.first) waits) (let few = h.counted.few in let size = ap (λ (q : Pending). length q.messages) waits in omega arith)
 
+  -- it shows a seat that shows the same
+  pub shows_same : (s' : Seat (Option Page) (View C)) → s'.me ≡ s.me → s'.table_id ≡ s.table_id → Shows P d s'
+  shows_same s' same table = record {
+    shown = h.shown;
+    actions = h.actions;
+    accepts = h.accepts;
+    counted = h.counted;
+    laid = h.laid;
+    numbered = subst (λ (m : Sat C). Numbers P h.shown (sender_trail_in m.0).actions) (sym same) h.numbered;
+    me = same ∙ h.me ∙ (λ i. (Sender h.shown (sender_trail_in (sym same i).0) (stored_in (sym same i).0), carried_of (P.holds d)));
+    words = ap (λ (z : TableId). z.words) table ∙ h.words;
+    slots = ap (λ (z : TableId). z.slots) table ∙ h.slots;
+  }
+
   -- the number that a message gets is in its range
   pub number_fits : next_of (P.queue d) < 281474976710656
   number_fits = let a = h.counted.first in let b = h.counted.few in let c = h.counted.capacity in omega arith
@@ -78,6 +95,13 @@ module _ {C : Type 0} (P : Process C) (L : ProcessLaws P) (d : C) (s : Seat (Opt
   put_done d' bytes (Ok n) small number taken could = subst (λ k. actions_in P s.me.0 d' ≡ actions_in P s.me.0 d ++ HasPut k bytes ∷ []) (sym number)
       (ap (actions_in P s.me.0) taken ∙ more_actions (P.with_message d bytes) (HasPut (next_of (P.queue d)) bytes) (one_message bytes small could))
   put_done d' bytes (Err e) small number taken could = tt
+
+  -- the number that a message gets is how many it has put before
+  pub put_counts : (bytes : List ℕ) (r : Result ℕ PutFault) → IfOk r (λ number. number ≡ next_of (P.queue d)) → OnOk r (CanPut (P.queue d) (length bytes))
+      → IfOk r (λ number. number ≡ length (puts (actions_in P s.me.0 d)))
+  put_counts bytes (Ok n) number could = number ∙ h.numbered d h.actions h.accepts (length bytes) could
+      ∙ ap (λ l. length (puts l)) (sym (actions_are d h.actions h.accepts))
+  put_counts bytes (Err e) number could = tt
 
   pub shows_close : (d' : C) (r : Result (Unit {0}) CloseFault) → OnOk r (d' ≡ P.with_close d) → OnOk r (CanClose (P.queue d)) → OnErr r (d' ≡ d) → Shows P d' s
   shows_close d' (Ok n) taken could same = subst (λ z. Shows P z s) (sym taken) (shows_closed could)

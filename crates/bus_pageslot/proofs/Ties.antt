@@ -32,6 +32,7 @@ use Rattle.bus_automaton.specs.SenderTrails.{SenderTrail, with_actions, with_sen
 use Rattle.bus_pageslot.proofs.Accepting.{since_is}
 use Rattle.bus_pageslot.proofs.AllSeats.{still_seen}
 use Rattle.bus_pageslot.proofs.Hearing.{heard_later}
+use Rattle.bus_pageslot.proofs.Numbering.{numbers_next}
 use Rattle.bus_pageslot.proofs.Reaching.{accepted}
 use Rattle.bus_pageslot.proofs.Slots.{Moved, moves}
 
@@ -252,6 +253,8 @@ module _ {C : Type 0} (P : Process C) (A : Automaton C) (K : ProcessLaws P) (L :
         core = blind n (A.home r.state);
         answer = mute n;
         counted = is_now.counted;
+        laid = is_now.laid;
+        numbered = numbers_next P A L done.state done.changes.reached p d_now is_now.me placed sender_trail.actions (ap (λ (t : SenderTrail). t.actions) did);
         ends = L.ends z p d word o grown.changes.reached grown.changes.here due.due (A.home r.state) (g n);
         now = λ i. (Sender d_now sender_trail stored, moved.carried_now i);
       },

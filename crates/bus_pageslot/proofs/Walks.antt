@@ -12,9 +12,9 @@ use Rattle.bus_pageslot.specs.declared.rule.View.TheVariants.{Sender}
 use Rattle.bus_automaton.specs.Processes.{TableLayout, Process, Automaton, IsCounted, EndsBy}
 use Rattle.bus_automaton.specs.Lawful.{ProcessLaws, AutomatonLaws}
 use Rattle.bus_pageslot.specs.Rule.{Sat, sender_trail_in, stored_in, TableInvariant}
-use Rattle.bus_pageslot.specs.Steps.{laid_from, laid_at, carried_of, out_with, carried_by, slot_in, slots_emptied, since_in, all_in, stored_by, Told, Gone, GoesOn, Due}
+use Rattle.bus_pageslot.specs.Steps.{laid_from, laid_at, carried_of, out_with, carried_by, slot_in, slots_emptied, since_in, all_in, stored_by, Told, Numbers, Gone, GoesOn, Due}
 use Rattle.bus_pageslot.specs.Steps.Accepts.{Nothing}
-use Rattle.bus_automaton.specs.SenderTrails.{with_actions, with_sender_trail}
+use Rattle.bus_automaton.specs.SenderTrails.{SenderTrail, with_actions, with_sender_trail}
 use Rattle.bus_pageslot.proofs.Accepting.{since_is}
 use Rattle.bus_pageslot.proofs.Ties.{goes_allowed}
 
@@ -81,6 +81,15 @@ module _ {C : Type 0} (P : Process C) (K : ProcessLaws P) (d : C) where
       sender_trail_now : sender_trail_in m3.0 ≡ with_sender_trail (all_in P m.0 d) (P.adds d gone.found word)
       sender_trail_now = ap (λ (y : Sat C). sender_trail_in y.0) me_is ∙ ap (λ (y : Sat C). sender_trail_in y.0) gone.now ∙ ap (λ (y : Sat C). with_sender_trail (all_in P y.0 d) (P.adds d gone.found word)) put_me
 
+      same_trail : with_sender_trail (all_in P m1.0 d) (P.adds d gone.found word) ≡ sender_trail_in m3.0
+      same_trail = sym (ap (λ (y : Sat C). sender_trail_in y.0) gone.now) ∙ sym (ap (λ (y : Sat C). sender_trail_in y.0) me_is)
+
+      pub laid_now : P.awaits d3 ≡ false
+      laid_now = ap P.awaits core_is ∙ gone.laid
+
+      pub numbered_now : Numbers P d3 (sender_trail_in m3.0).actions
+      numbered_now = subst (λ (y : C × SenderTrail). Numbers P y.0 y.1.actions) (λ i. (sym core_is i, same_trail i)) gone.numbered
+
       pub stored_now : stored_in m3.0 ≡ stored_by (P.op d word) (stored_in m.0)
       stored_now = ap (λ (y : Sat C). stored_in y.0) me_is ∙ ap (λ (y : Sat C). stored_in y.0) gone.now ∙ ap (λ (y : Sat C). stored_by (P.op d word) (stored_in y.0)) put_me
 
@@ -90,9 +99,6 @@ module _ {C : Type 0} (P : Process C) (K : ProcessLaws P) (d : C) where
           ∙ (λ i. (Sender (sym core_is i) (with_sender_trail (all_in P m1.0 d) (P.adds d gone.found word)) (stored_by (P.op d word) (stored_in m1.0)), carried_of (P.holds (sym core_is i))))
           ∙ (λ i. (Sender d3 (same_trail i) (same_stored i), carried_of (P.holds d3)))
         where
-          same_trail : with_sender_trail (all_in P m1.0 d) (P.adds d gone.found word) ≡ sender_trail_in m3.0
-          same_trail = sym (ap (λ (y : Sat C). sender_trail_in y.0) gone.now) ∙ sym (ap (λ (y : Sat C). sender_trail_in y.0) me_is)
-
           same_stored : stored_by (P.op d word) (stored_in m1.0) ≡ stored_in m3.0
           same_stored = sym (ap (λ (y : Sat C). stored_in y.0) gone.now) ∙ sym (ap (λ (y : Sat C). stored_in y.0) me_is)
 

@@ -1,5 +1,5 @@
 -- What a sender and a receiver of a bus show of their seats.
-use Rattle.std.specs.Prelude.{◌≡◌, ℕ, ◌+◌, ◌-◌, ◌≤◌, ◌^◌, length, take, Option, Some, None, List, []}
+use Rattle.std.specs.Prelude.{◌≡◌, ℕ, ◌+◌, ◌-◌, ◌≤◌, ◌^◌, length, take, false, Option, Some, None, List, []}
 use Rattle.atomic_table.specs.declared.shared.Seat.{Seat}
 use Rattle.atomic_table.specs.Seated.{TableId}
 use Rattle.bus_register.specs.declared.registers.Op.{Op}
@@ -14,7 +14,7 @@ use Rattle.bus_pageslot.specs.declared.rule.View.TheVariants.{Sender, Tap, Spent
 use Rattle.bus_pageslot.specs.ReceiverViews.{ReceiverView, new_receiver_view}
 use Rattle.bus_automaton.specs.Processes.{TableLayout, Process, IsCounted}
 use Rattle.bus_pageslot.specs.Rule.{Sat, sender_trail_in, stored_in, known_in}
-use Rattle.bus_pageslot.specs.Steps.{Accepts, carried_of, all_in, stored_by, Told}
+use Rattle.bus_pageslot.specs.Steps.{Accepts, Numbers, carried_of, all_in, stored_by, Told}
 use Rattle.bus_automaton.specs.SenderTrails.{SenderTrail, with_sender_trail}
 
 -- a sender: what it holds, and its seat
@@ -43,6 +43,9 @@ pub record Shows {C : Type 0} (P : Process C) (d : C) (s : Seat (Option Page) (V
   pub actions : List Action
   pub accepts : Accepts P shown d actions
   pub counted : IsCounted P d
+  -- no page is under way to it
+  pub laid : P.awaits d ≡ false
+  pub numbered : Numbers P shown (sender_trail_in s.me.0).actions
   pub me : s.me ≡ (Sender shown (sender_trail_in s.me.0) (stored_in s.me.0), carried_of (P.holds d))
   pub words : s.table_id.words ≡ (P.table_layout d).words
   pub slots : s.table_id.slots ≡ 1

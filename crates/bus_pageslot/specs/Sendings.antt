@@ -8,7 +8,7 @@ use Rattle.bus_tenure.specs.declared.turns.Turn.{Turn}
 use Rattle.bus_world.specs.Headline.{HasPut, puts}
 use Rattle.bus_automaton.specs.Processes.{Process}
 use Rattle.bus_pageslot.specs.Seats.{SenderSeat, actions_of}
-use Rattle.bus_pageslot.specs.Turns.{Sends}
+use Rattle.bus_pageslot.specs.Turns.{Tellings, Sends}
 use Rattle.bus_pageslot.specs.declared.seats.SendFault.{SendFault}
 use Rattle.bus_pageslot.specs.declared.seats.SendFault.TheVariants as fault
 use Rattle.bus_pageslot.specs.declared.seats.Unsent.{Unsent}
@@ -27,36 +27,36 @@ pub record Takes {C : Type 0} (P : Process C) (old : SenderSeat C) (bytes : List
 
 -- ---- one batch
 -- the batch was sent off: turns up to a last one, after which no message waits
-pub record SendsOff {C : Type 0} (P : Process C) (old new : SenderSeat C) : Type 0 where
+pub record SendsOff {C : Type 0} (P : Process C) (T : Tellings C) (old new : SenderSeat C) : Type 0 where
   pub answer : Turn
-  pub sends : Sends P old answer new
+  pub sends : Sends P T old answer new
   pub none : waiting_of P new ≡ []
 
 -- the batch was not sent off: turns up to a last one, after which the same messages wait as before, one at least
-pub record Keeps {C : Type 0} (P : Process C) (old : SenderSeat C) (answer : Turn) (new : SenderSeat C) : Type 0 where
-  pub sends : Sends P old answer new
+pub record Keeps {C : Type 0} (P : Process C) (T : Tellings C) (old : SenderSeat C) (answer : Turn) (new : SenderSeat C) : Type 0 where
+  pub sends : Sends P T old answer new
   pub refused : is_refusal answer ≡ true
   pub waits : 0 < length (waiting_of P new)
   pub same : waiting_of P new ≡ waiting_of P old
 
 -- this is why the batch was not sent off
-abbrev pub KeepsFor : {C : Type 0} → Process C → SenderSeat C → SendFault → SenderSeat C → Type 0
-KeepsFor P old (fault.Put why) new = ⊥
-KeepsFor P old (fault.Turn answer) new = Keeps P old answer new
+abbrev pub KeepsFor : {C : Type 0} → Process C → Tellings C → SenderSeat C → SendFault → SenderSeat C → Type 0
+KeepsFor P T old (fault.Put why) new = ⊥
+KeepsFor P T old (fault.Turn answer) new = Keeps P T old answer new
 
 -- ---- batches, one after another
 -- Puts of just these messages, in this order, led from one sender to another. It had sent off first what waited before; and between
 -- the puts it sent off a batch where 16 messages waited, and nowhere else.
-pub data FillsBatches {C : Type 0} (P : Process C) (first : SenderSeat C) : List (List ℕ) → SenderSeat C → Type 0 where
-  SentBefore : (new : SenderSeat C) → SendsOff P first new → FillsBatches P first [] new
-  Put : (messages : List (List ℕ)) (old : SenderSeat C) (bytes : List ℕ) (new : SenderSeat C) → FillsBatches P first messages old → Takes P old bytes new → FillsBatches P first (messages ++ bytes ∷ []) new
-  SentFull : (messages : List (List ℕ)) (old : SenderSeat C) (new : SenderSeat C) → FillsBatches P first messages old → length (waiting_of P old) ≡ MOST_MESSAGES → SendsOff P old new → FillsBatches P first messages new
+pub data FillsBatches {C : Type 0} (P : Process C) (T : Tellings C) (first : SenderSeat C) : List (List ℕ) → SenderSeat C → Type 0 where
+  SentBefore : (new : SenderSeat C) → SendsOff P T first new → FillsBatches P T first [] new
+  Put : (messages : List (List ℕ)) (old : SenderSeat C) (bytes : List ℕ) (new : SenderSeat C) → FillsBatches P T first messages old → Takes P old bytes new → FillsBatches P T first (messages ++ bytes ∷ []) new
+  SentFull : (messages : List (List ℕ)) (old : SenderSeat C) (new : SenderSeat C) → FillsBatches P T first messages old → length (waiting_of P old) ≡ MOST_MESSAGES → SendsOff P T old new → FillsBatches P T first messages new
 
 -- so it has put just these, behind what it had put before, and sent off what was left of them
-pub record HasSent {C : Type 0} (P : Process C) (first : SenderSeat C) (messages : List (List ℕ)) (new : SenderSeat C) : Type 0 where
+pub record HasSent {C : Type 0} (P : Process C) (T : Tellings C) (first : SenderSeat C) (messages : List (List ℕ)) (new : SenderSeat C) : Type 0 where
   pub old : SenderSeat C
-  pub fills : FillsBatches P first messages old
-  pub rest : SendsOff P old new
+  pub fills : FillsBatches P T first messages old
+  pub rest : SendsOff P T old new
   pub puts_are : puts (actions_of P new) ≡ puts (actions_of P first) ++ messages
 
 -- ---- where it stops
@@ -74,13 +74,13 @@ pub record Refuses {C : Type 0} (P : Process C) (s : SenderSeat C) (next : Optio
   pub cause : IsPutFault (P.queue s.core) (length bytes) why
 
 -- once it has put these messages it does not go on to the one that comes next, or to the end, and this is why
-abbrev pub StopsAt : {C : Type 0} → Process C → SenderSeat C → List (List ℕ) → Option (List ℕ) → SendFault → SenderSeat C → Type 0
-StopsAt P first messages next (fault.Put why) new = FillsBatches P first messages new × Refuses P new next why
-StopsAt {C} P first messages next (fault.Turn answer) new = (old : SenderSeat C) × FillsBatches P first messages old × IsDue P next old × Keeps P old answer new
+abbrev pub StopsAt : {C : Type 0} → Process C → Tellings C → SenderSeat C → List (List ℕ) → Option (List ℕ) → SendFault → SenderSeat C → Type 0
+StopsAt P T first messages next (fault.Put why) new = FillsBatches P T first messages new × Refuses P new next why
+StopsAt {C} P T first messages next (fault.Turn answer) new = (old : SenderSeat C) × FillsBatches P T first messages old × IsDue P next old × Keeps P T old answer new
 
 -- it stopped where so many of the messages were put: what waited before was not sent off, or it does not go on
-abbrev pub Stops : {C : Type 0} → Process C → SenderSeat C → List (List ℕ) → ℕ → SendFault → SenderSeat C → Type 0
-Stops P first messages count fault new = ((count ≡ 0) × KeepsFor P first fault new) ⊎ StopsAt P first (take count messages) (slice_get messages count) fault new
+abbrev pub Stops : {C : Type 0} → Process C → Tellings C → SenderSeat C → List (List ℕ) → ℕ → SendFault → SenderSeat C → Type 0
+Stops P T first messages count fault new = ((count ≡ 0) × KeepsFor P T first fault new) ⊎ StopsAt P T first (take count messages) (slice_get messages count) fault new
 
 -- such a fault can be: a batch with room is full for no message, and no message is too long
 abbrev pub can_come : SendFault → Bool
@@ -96,9 +96,9 @@ pub record WaitsOf {C : Type 0} (P : Process C) (first : SenderSeat C) (messages
   pub waits : waiting_of P first ++ messages ≡ gone ++ waiting_of P new
 
 -- so it has put the first of these messages, and no other; and it stopped where and why it says
-pub record HasSentPart {C : Type 0} (P : Process C) (first : SenderSeat C) (messages : List (List ℕ)) (unsent : Unsent) (new : SenderSeat C) : Type 0 where
+pub record HasSentPart {C : Type 0} (P : Process C) (T : Tellings C) (first : SenderSeat C) (messages : List (List ℕ)) (unsent : Unsent) (new : SenderSeat C) : Type 0 where
   pub few : unsent.put ≤ length messages
-  pub stops : Stops P first messages unsent.put unsent.fault new
+  pub stops : Stops P T first messages unsent.put unsent.fault new
   pub can : can_come unsent.fault ≡ true
   pub puts_are : puts (actions_of P new) ≡ puts (actions_of P first) ++ take unsent.put messages
   pub waits : WaitsOf P first (take unsent.put messages) new

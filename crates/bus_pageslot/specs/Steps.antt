@@ -27,6 +27,10 @@ pub data Accepts {C : Type 0} (P : Process C) (c : C) : C → List Action → Ty
   Message : (d : C) (actions : List Action) (bytes : List ℕ) → Accepts P c d actions → CanPut (P.queue d) (length bytes) → All (λ byte. byte < 256) bytes → Accepts P c (P.with_message d bytes) (actions ++ HasPut (next_of (P.queue d)) bytes ∷ [])
   Close : (d : C) (actions : List Action) → Accepts P c d actions → CanClose (P.queue d) → Accepts P c (P.with_close d) (actions ++ HasClosed ∷ [])
 
+-- Whatever a sender that has done this accepts next, it numbers each message by how many it has put before.
+abbrev pub Numbers : {C : Type 0} → Process C → C → List Action → Type 0
+Numbers {C} P c did = (d : C) (actions : List Action) → Accepts P c d actions → (size : ℕ) → CanPut (P.queue d) size → next_of (P.queue d) ≡ length (puts (did ++ actions))
+
 -- the same actions, as the batches show them: the messages of the one that the other does not have yet, and the close
 abbrev pub puts_from : ℕ → List (List ℕ) → List Action
 puts_from first [] = []
@@ -114,6 +118,8 @@ pub record Gone {C : Type 0} (P : Process C) (d : C) (word : ℕ) (m : Sat C) (g
   pub core : P.after d home got word ≡ P.after d home found word
   pub answer : P.answer d got word ≡ P.answer d found word
   pub counted : IsCounted P (P.after d home got word)
+  pub laid : P.awaits (P.after d home got word) ≡ false
+  pub numbered : Numbers P (P.after d home got word) (with_sender_trail (all_in P m.0 d) (P.adds d found word)).actions
   pub ends : EndsBy P d (P.fed d got word) (P.after d home got word) home (P.move d)
   pub now : m' ≡ (Sender (P.after d home got word) (with_sender_trail (all_in P m.0 d) (P.adds d found word)) (stored_by (P.op d word) (stored_in m.0)), carried_by (P.move d) home m.1)
 

@@ -1,16 +1,36 @@
 -- Turns of a sender, one after another.
-use Rattle.std.specs.Prelude.{◌≡◌, ℕ, Bool, true, false, Some, None}
+use Rattle.std.specs.Prelude.{◌≡◌, ℕ, Bool, true, false, Option, Some, None}
+use Rattle.bus_register.specs.declared.kinds.Kind.{Kind}
 use Rattle.bus_register.specs.declared.registers.Op.{Op}
+use Rattle.bus_register.specs.Protocol.{Protocol}
+use Rattle.bus_adoptcommit.specs.declared.verdicts.Verdict.{Verdict}
+use Rattle.bus_core.specs.Senders.{Sender}
+use Rattle.bus_core.specs.Telling.{FeedTells, RestTells}
+use Rattle.bus_tenure.specs.Elections.{Elector, Ratifying, election_with}
 use Rattle.bus_tenure.specs.declared.turns.Turn.{Turn}
 use Rattle.bus_tenure.specs.declared.turns.Turn.TheVariants as turn
+use Rattle.rand_core.specs.Stream.{Stream, next_u32}
 use Rattle.bus_automaton.specs.Processes.{Process}
-use Rattle.bus_pageslot.specs.Seats.{SenderSeat, Took}
+use Rattle.bus_pageslot.specs.Seats.{SenderSeat, TookAndTold}
 use Rattle.bus_automaton.specs.LastAnswers.{is_last}
 
--- one turn: the step that is due, and where none is nothing
-pub record Turned {C : Type 0} (P : Process C) (old : SenderSeat C) (word : ℕ) (answer : Turn) (new : SenderSeat C) : Type 0 where
-  pub rests : P.op old.core word ≡ None → (new ≡ old) × (answer ≡ P.rest old.core)
-  pub steps : (op : Op) → P.op old.core word ≡ Some op → Took P old word answer new
+-- what an answer tells of the sender as it was: where no step was due, and of a step that found this number, with this random word
+pub record Tellings (C : Type 0) : Type 1 where
+  pub rest : C → Turn → Type 0
+  pub step : C → (got word : ℕ) → Turn → Type 0
+
+-- of the senders of a bus, made of a ratifier's members one by one; this does not unfold of itself
+unfoldable pub tells_with : {S : Type 0} → (S → Option Kind) → (S → ℕ → Option Op) → (S → ℕ → ℕ → S) → Protocol S Bool Verdict → Tellings (Sender (Elector S))
+tells_with kind op fed P = record { rest = RestTells; step = FeedTells (election_with kind op fed P) }
+
+-- and of all of them
+abbrev pub tells_by : {S : Type 0} → Ratifying S → Tellings (Sender (Elector S))
+tells_by q = tells_with q.kind_of q.op q.fed q.protocol
+
+-- one turn: the step that is due, and where none is nothing; with what its answer tells
+pub record Turned {C : Type 0} (P : Process C) (T : Tellings C) (old : SenderSeat C) (word : ℕ) (answer : Turn) (new : SenderSeat C) : Type 0 where
+  pub rests : P.op old.core word ≡ None → (new ≡ old) × (answer ≡ P.rest old.core) × T.rest old.core answer
+  pub steps : (op : Op) → P.op old.core word ≡ Some op → TookAndTold P T.step old word answer new
 
 -- another sender has to go on first: the one that holds the page, or one that pins a tenure still
 abbrev pub is_waiting : Turn → Bool
@@ -26,43 +46,55 @@ is_waiting turn.Spent = false
 is_waiting (turn.Behind t sender) = true
 
 -- turns, none of them a last one, led from one sender to another
-pub data TurnsOn {C : Type 0} (P : Process C) (first : SenderSeat C) : SenderSeat C → Type 0 where
-  Here : TurnsOn P first first
-  More : (old : SenderSeat C) (word : ℕ) (answer : Turn) (new : SenderSeat C) → TurnsOn P first old → Turned P old word answer new → is_last answer ≡ false → TurnsOn P first new
+pub data TurnsOn {C : Type 0} (P : Process C) (T : Tellings C) (first : SenderSeat C) : SenderSeat C → Type 0 where
+  Here : TurnsOn P T first first
+  More : (old : SenderSeat C) (word : ℕ) (answer : Turn) (new : SenderSeat C) → TurnsOn P T first old → Turned P T old word answer new → is_last answer ≡ false → TurnsOn P T first new
 
 -- turns up to a last one, which answered so
-pub record Sends {C : Type 0} (P : Process C) (first : SenderSeat C) (answer : Turn) (new : SenderSeat C) : Type 0 where
+pub record Sends {C : Type 0} (P : Process C) (T : Tellings C) (first : SenderSeat C) (answer : Turn) (new : SenderSeat C) : Type 0 where
   pub old : SenderSeat C
   pub word : ℕ
-  pub before : TurnsOn P first old
-  pub turned : Turned P old word answer new
+  pub before : TurnsOn P T first old
+  pub turned : Turned P T old word answer new
   pub last : is_last answer ≡ true
 
 -- ---- turns between which a function is asked whether to go on; Tells f told f' where a call of f may tell that, and leaves f'
 -- Turns, none of them a last one, led from one sender to another. For each that answered Waiting or Behind, and for no other, there is a call
 -- of the function that told to go on; each call found it as the call before had left it. When it was made is not said.
-pub data AsksOn {C F : Type 0} (P : Process C) (Tells : F → Bool → F → Type 0) (first : SenderSeat C) (given : F) : SenderSeat C → F → Type 0 where
-  Begins : AsksOn P Tells first given first given
-  Goes : (old : SenderSeat C) (f : F) (word : ℕ) (answer : Turn) (new : SenderSeat C) → AsksOn P Tells first given old f → Turned P old word answer new → is_last answer ≡ false → is_waiting answer ≡ false → AsksOn P Tells first given new f
-  Asks : (old : SenderSeat C) (f : F) (word : ℕ) (answer : Turn) (new : SenderSeat C) (f' : F) → AsksOn P Tells first given old f → Turned P old word answer new → is_waiting answer ≡ true → Tells f true f' → AsksOn P Tells first given new f'
+pub data AsksOn {C F : Type 0} (P : Process C) (T : Tellings C) (Tells : F → Bool → F → Type 0) (first : SenderSeat C) (given : F) : SenderSeat C → F → Type 0 where
+  Begins : AsksOn P T Tells first given first given
+  Goes : (old : SenderSeat C) (f : F) (word : ℕ) (answer : Turn) (new : SenderSeat C) → AsksOn P T Tells first given old f → Turned P T old word answer new → is_last answer ≡ false → is_waiting answer ≡ false → AsksOn P T Tells first given new f
+  Asks : (old : SenderSeat C) (f : F) (word : ℕ) (answer : Turn) (new : SenderSeat C) (f' : F) → AsksOn P T Tells first given old f → Turned P T old word answer new → is_waiting answer ≡ true → Tells f true f' → AsksOn P T Tells first given new f'
 
 -- such turns up to a last one, which answered so
-pub record SendsAsking {C F : Type 0} (P : Process C) (Tells : F → Bool → F → Type 0) (first : SenderSeat C) (given : F) (answer : Turn) (new : SenderSeat C) : Type 0 where
+pub record SendsAsking {C F : Type 0} (P : Process C) (T : Tellings C) (Tells : F → Bool → F → Type 0) (first : SenderSeat C) (given : F) (answer : Turn) (new : SenderSeat C) : Type 0 where
   pub old : SenderSeat C
   pub asked : F
   pub word : ℕ
-  pub before : AsksOn P Tells first given old asked
-  pub turned : Turned P old word answer new
+  pub before : AsksOn P T Tells first given old asked
+  pub turned : Turned P T old word answer new
   pub last : is_last answer ≡ true
 
 -- such turns up to one that answered Waiting or Behind, after which the function was asked and told to stop
-pub record StopsWaiting {C F : Type 0} (P : Process C) (Tells : F → Bool → F → Type 0) (first : SenderSeat C) (given : F) (new : SenderSeat C) : Type 0 where
+pub record StopsWaiting {C F : Type 0} (P : Process C) (T : Tellings C) (Tells : F → Bool → F → Type 0) (first : SenderSeat C) (given : F) (new : SenderSeat C) : Type 0 where
   pub old : SenderSeat C
   pub asked : F
   pub word : ℕ
   pub answer : Turn
-  pub before : AsksOn P Tells first given old asked
-  pub turned : Turned P old word answer new
+  pub before : AsksOn P T Tells first given old asked
+  pub turned : Turned P T old word answer new
   pub waits : is_waiting answer ≡ true
   pub left : F
   pub told : Tells asked false left
+
+-- ---- the random words of turns, from what a generator will answer
+-- the word of a turn, and what the generator is left with: of a vote the next word, and else none is drawn
+abbrev pub word_drawn : Bool → Stream → ℕ × Stream
+word_drawn true words = next_u32 words
+word_drawn false words = (0, words)
+
+-- Turns led from one sender to another, and their words from what a generator was to answer to what it is left with: each turn that
+-- asks for a word takes the next one, and no other word is drawn.
+pub data DrawsOn {C : Type 0} (P : Process C) (T : Tellings C) (first : SenderSeat C) (given : Stream) : SenderSeat C → Stream → Type 0 where
+  Undrawn : DrawsOn P T first given first given
+  Drawn : (old : SenderSeat C) (words : Stream) (answer : Turn) (new : SenderSeat C) → DrawsOn P T first given old words → Turned P T old (word_drawn (P.wants_word old.core) words).0 answer new → DrawsOn P T first given new (word_drawn (P.wants_word old.core) words).1

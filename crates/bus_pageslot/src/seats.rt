@@ -1,21 +1,23 @@
 //! A sender with its seat.
 
 ghost use Rattle.std.specs.Prelude.{◌≡◌, ℕ, ◌<◌, List, [], ◌∷◌, ◌++◌, None};
-ghost use Rattle.std.specs.Prelude.{Some, IfSome, IfNone, IfOk, IfErr};
-ghost use Rattle.std.specs.Prelude.{OnOk, OnErr, length, ◌-◌, ◌≤◌};
+ghost use Rattle.std.specs.Prelude.{Some, IfSome, IfNone, IfOk, IfErr, IsSome};
+ghost use Rattle.std.specs.Prelude.{OnOk, OnErr, length, ◌-◌, ◌≤◌, IsTrue, false};
 ghost use Rattle.bus_batch.specs.Batches.{next_of, CanPut, IsPutFault, CanClose, IsCloseFault};
 ghost use Rattle.bus_core.specs.Causes.{HasCause};
-ghost use Rattle.bus_core.specs.Telling.{FeedTells};
+ghost use Rattle.bus_core.specs.Telling.{FeedTells, RestTells};
 ghost use Rattle.bus_tenure.specs.Core.{is_closed};
+ghost use Rattle.bus_tenure.specs.declared.turns.Turn.TheVariants as turn;
 ghost use Rattle.bus_tenure.specs.Elections.{election_of};
-ghost use Rattle.bus_register.specs.declared.registers.Op.{Op};
+ghost use Rattle.bus_register.specs.declared.registers.Op.{Op as Step};
 ghost use Rattle.bus_world.specs.Headline.{HasPut, HasClosed, puts};
 ghost use Rattle.bus_pageslot.specs.declared.rule.View.TheVariants.{Tap};
 ghost use Rattle.bus_pageslot.specs.ReceiverViews.{ReceiverView};
 ghost use Rattle.bus_pageslot.specs.Rule.{known_in, stored_in};
 ghost use Rattle.bus_pageslot.specs.Steps.{Learns, KnowsSent};
 ghost use Rattle.bus_pageslot.specs.Seats.{Shows, TookAndTold, table_of, actions_of, stored_of};
-ghost use Rattle.bus_pageslot.specs.Turns.{Sends, is_waiting, SendsAsking, StopsWaiting};
+ghost use Rattle.bus_pageslot.specs.Turns.{tells_by, Sends, is_waiting};
+ghost use Rattle.bus_pageslot.specs.Turns.{SendsAsking, StopsWaiting, DrawsOn, word_drawn};
 ghost use Rattle.bus_automaton.specs.Buses.{process_by};
 ghost use Rattle.bus_automaton.specs.LastAnswers.{is_last};
 ghost use Rattle.bus_pageslot.specs.Sendings.{waiting_of, SendsOff, KeepsFor, FillsBatches};
@@ -25,13 +27,13 @@ ghost use Rattle.bus_pageslot.specs.SendFaults.{send_fault_text};
 use crate::buses::Bus;
 use crate::meetings::meeting;
 use crate::rule::BusSeat;
-use crate::steps::{length_after, walk};
+use crate::steps::{length_after, store_plain, walk};
 use bus_adoptcommit::{Ratifier, ThreeWord};
 use bus_automaton::laws::threads_may_go_by;
 use bus_batch::{CloseFault, Message, PutFault};
 use bus_core::SenderCore;
 use bus_register::limits::MOST_MESSAGES;
-use bus_register::{Kind, SenderNo};
+use bus_register::{Kind, Op, Reg, SenderNo};
 use bus_tenure::Turn;
 use crossbeam_utils::Backoff;
 use rand_core::Rng;
@@ -186,6 +188,8 @@ impl<Q: Ratifier + Drop> Sender<Q> {
     pub fn put(&mut self, bytes: &[u8]) -> Result<u64, PutFault>
         ensures number { let P = process_by Q.Ratifier in
             IfOk result (λ number. number ≡ next_of (P.queue self.old.core)) }
+        ensures counts { let P = process_by Q.Ratifier in
+            IfOk result (λ number. number ≡ length (puts (actions_of P self.old))) }
         ensures taken { OnOk result
             (self.new.core ≡ (process_by Q.Ratifier).with_message self.old.core bytes.now) }
         ensures action { let P = process_by Q.Ratifier in
@@ -220,17 +224,68 @@ impl<Q: Ratifier + Drop> Sender<Q> {
     }
 
     /// One turn: at most one step on one word of the bus that it is a sender of. `word` is the
-    /// random word of a vote; other steps do not look at it.
+    /// random word of a vote; other steps do not look at it. Where no step is due it answers why:
+    /// Idle, Closed or Spent.
+    #[inline(always)]
     pub fn turn(&mut self, bus: &Bus<Q>, word: u32) -> Turn
         requires { table_of self.old ≡ bus.now.table }
         ensures table { table_of self.new ≡ table_of self.old }
         ensures rests { let P = process_by Q.Ratifier in
             P.op self.old.core word ≡ None → (self.new ≡ self.old) × (result ≡ P.rest
-            self.old.core) }
+            self.old.core) × RestTells self.old.core result }
         ensures steps { let P = process_by Q.Ratifier in
-            (op : Op) → P.op self.old.core word ≡ Some op → TookAndTold P (FeedTells (election_of
+            (op : Step) → P.op self.old.core word ≡ Some op → TookAndTold P (FeedTells (election_of
             Q.Ratifier)) self.old word result self.new }
     {
+        if self.plain_turn(bus, word) {
+            return Turn::Going;
+        }
+        self.full_turn(bus, word)
+    }
+
+    /// A turn, if its step is a plain store; the answer is Going then. Else nothing changes. It may
+    /// decline any step.
+    #[inline(always)]
+    fn plain_turn(&mut self, bus: &Bus<Q>, word: u32) -> bool
+        requires { table_of self.old ≡ bus.now.table }
+        ensures table { table_of self.new ≡ table_of self.old }
+        ensures stays { result ≡ false → self.new ≡ self.old }
+        ensures due { let P = process_by Q.Ratifier in
+            IsTrue result → IsSome (P.op self.old.core word) }
+        ensures wordless { let P = process_by Q.Ratifier in
+            IsTrue result → P.wants_word self.old.core ≡ false }
+        ensures steps { let P = process_by Q.Ratifier in IsTrue result → TookAndTold P (FeedTells
+            (election_of Q.Ratifier)) self.old word turn.Going self.new }
+    {
+        let (mut at, mut value) = (0, 0);
+        if !self.core.plain(&mut at, &mut value) {
+            return false;
+        }
+        let store = Op::Store(Reg(at), value);
+        self.stored = length_after(store, self.stored);
+        store_plain::<Q, Brand>(
+            &bus.table.shared,
+            &mut self.seat,
+            &mut self.core,
+            store,
+            word,
+        );
+        true
+    }
+
+    /// A turn by the table of situations.
+    #[inline(never)]
+    fn full_turn(&mut self, bus: &Bus<Q>, word: u32) -> Turn
+        requires { table_of self.old ≡ bus.now.table }
+        ensures table { table_of self.new ≡ table_of self.old }
+        ensures rests { let P = process_by Q.Ratifier in
+            P.op self.old.core word ≡ None → (self.new ≡ self.old) × (result ≡ P.rest
+            self.old.core) × RestTells self.old.core result }
+        ensures steps { let P = process_by Q.Ratifier in
+            (op : Step) → P.op self.old.core word ≡ Some op → TookAndTold P (FeedTells (election_of
+            Q.Ratifier)) self.old word result self.new }
+    {
+        threads_may_go_by::<Q>();
         let shared = &bus.table.shared;
         let next = self.core.step();
         let Some(op) = self.core.next_of(next, word) else {
@@ -240,15 +295,26 @@ impl<Q: Ratifier + Drop> Sender<Q> {
         walk::<Q, Brand>(shared, &mut self.seat, &mut self.core, next, op, word)
     }
 
+    /// The word of its next turn: of a vote the next one of `rng`, and else none is drawn.
+    fn next_word<R: Rng>(&self, rng: &mut R) -> u32
+        ensures { (result, R.stream rng.new) ≡ word_drawn ((process_by Q.Ratifier).wants_word
+            self.now.core) (R.stream rng.old) }
+    {
+        if self.wants_word() { rng.next_u32() } else { 0 }
+    }
+
     /// Turns, until there is nothing more to do, or nothing more that can be done: Idle, Delivered,
-    /// Full, Closed or Spent. Each vote takes one word of `rng`. It waits for nothing but its own
-    /// next turn, and that it ends is not promised.
+    /// Full, Closed or Spent. Each vote takes one word of `rng`, and nothing else takes one. It
+    /// waits for nothing but its own next turn, and that it ends is not promised.
     pub fn send<W: Wait, R: Rng>(&mut self, wait: &W, bus: &Bus<Q>, rng: &mut R) -> Turn
         requires { table_of self.old ≡ bus.now.table }
         ensures table { table_of self.new ≡ table_of self.old }
-        ensures sends { Sends (process_by Q.Ratifier) self.old result self.new }
+        ensures sends { Sends (process_by Q.Ratifier) (tells_by Q.Ratifier) self.old result
+            self.new }
         ensures puts { let P = process_by Q.Ratifier in
             puts (actions_of P self.new) ≡ puts (actions_of P self.old) }
+        ensures draws { DrawsOn (process_by Q.Ratifier) (tells_by Q.Ratifier) self.old
+            (R.stream rng.old) self.new (R.stream rng.new) }
     {
         self.send_while(wait, bus, rng, || true).unwrap()
     }
@@ -268,17 +334,24 @@ impl<Q: Ratifier + Drop> Sender<Q> {
         requires callable { F.IsAlwaysCallable go_on }
         ensures table { table_of self.new ≡ table_of self.old }
         ensures sends { IfSome result
-            (λ turn. SendsAsking (process_by Q.Ratifier) F.step self.old go_on turn self.new) }
-        ensures stops { let P = process_by Q.Ratifier in
-            IfNone result (StopsWaiting P F.step self.old go_on self.new) }
+            (λ turn. SendsAsking (process_by Q.Ratifier) (tells_by Q.Ratifier) F.step self.old go_on
+            turn self.new) }
+        ensures stops { IfNone result (StopsWaiting (process_by Q.Ratifier) (tells_by Q.Ratifier)
+            F.step self.old go_on self.new) }
         ensures puts { let P = process_by Q.Ratifier in
             puts (actions_of P self.new) ≡ puts (actions_of P self.old) }
+        ensures draws { DrawsOn (process_by Q.Ratifier) (tells_by Q.Ratifier) self.old
+            (R.stream rng.old) self.new (R.stream rng.new) }
     {
         threads_may_go_by::<Q>();
         let backoff = Backoff::new();
         for _ in wait.forever() {
-            let word = if self.wants_word() { rng.next_u32() } else { 0 };
-            let turn = self.turn(bus, word);
+            if self.plain_turn(bus, 0) {
+                backoff.reset();
+                continue;
+            }
+            let word = self.next_word(rng);
+            let turn = self.full_turn(bus, word);
             if ends_sending(turn) {
                 return Some(turn);
             }
@@ -307,9 +380,10 @@ impl<Q: Ratifier + Drop> Sender<Q> {
     ) -> Result<(), Unsent>
         requires { table_of self.old ≡ bus.now.table }
         ensures table { table_of self.new ≡ table_of self.old }
-        ensures all { OnOk result (HasSent (process_by Q.Ratifier) self.old messages.now self.new) }
-        ensures part { IfErr result
-            (λ unsent. HasSentPart (process_by Q.Ratifier) self.old messages.now unsent self.new) }
+        ensures all { OnOk result (HasSent (process_by Q.Ratifier) (tells_by Q.Ratifier) self.old
+            messages.now self.new) }
+        ensures part { IfErr result (λ unsent. HasSentPart (process_by Q.Ratifier)
+            (tells_by Q.Ratifier) self.old messages.now unsent self.new) }
     {
         threads_may_go_by::<Q>();
         let before = self.send_off(wait, bus, rng);
@@ -350,12 +424,12 @@ impl<Q: Ratifier + Drop> Sender<Q> {
     ) -> Result<(), SendFault>
         requires { table_of self.old ≡ bus.now.table }
         ensures table { table_of self.new ≡ table_of self.old }
-        ensures taken { let P = process_by Q.Ratifier in
-            OnOk result ((first : _) (messages : List (List ℕ)) → FillsBatches P first messages
-            self.old → FillsBatches P first (messages ++ message.now ∷ []) self.new) }
-        ensures stops { let P = process_by Q.Ratifier in
-            IfErr result (λ fault. (first : _) (messages : List (List ℕ)) → FillsBatches P first
-            messages self.old → StopsAt P first messages (Some message.now) fault self.new) }
+        ensures taken { let P = process_by Q.Ratifier in let T = tells_by Q.Ratifier in
+            OnOk result ((first : _) (messages : List (List ℕ)) → FillsBatches P T first messages
+            self.old → FillsBatches P T first (messages ++ message.now ∷ []) self.new) }
+        ensures stops { let P = process_by Q.Ratifier in let T = tells_by Q.Ratifier in
+            IfErr result (λ fault. (first : _) (messages : List (List ℕ)) → FillsBatches P T first
+            messages self.old → StopsAt P T first messages (Some message.now) fault self.new) }
     {
         threads_may_go_by::<Q>();
         if let Err(fault) = self.make_room(wait, bus, rng) {
@@ -378,11 +452,11 @@ impl<Q: Ratifier + Drop> Sender<Q> {
         ensures table { table_of self.new ≡ table_of self.old }
         ensures room { let P = process_by Q.Ratifier in
             OnOk result (length (waiting_of P self.new) < MOST_MESSAGES) }
-        ensures sends { let P = process_by Q.Ratifier in
-            OnOk result ((first : _) (messages : List (List ℕ)) → FillsBatches P first messages
-            self.old → FillsBatches P first messages self.new) }
-        ensures keeps { let P = process_by Q.Ratifier in
-            IfErr result (λ fault. (MOST_MESSAGES ≤ length (waiting_of P self.old)) × KeepsFor P
+        ensures sends { let P = process_by Q.Ratifier in let T = tells_by Q.Ratifier in
+            OnOk result ((first : _) (messages : List (List ℕ)) → FillsBatches P T first messages
+            self.old → FillsBatches P T first messages self.new) }
+        ensures keeps { let P = process_by Q.Ratifier in let T = tells_by Q.Ratifier in
+            IfErr result (λ fault. (MOST_MESSAGES ≤ length (waiting_of P self.old)) × KeepsFor P T
             self.old fault self.new) }
     {
         threads_may_go_by::<Q>();
@@ -401,9 +475,10 @@ impl<Q: Ratifier + Drop> Sender<Q> {
     ) -> Result<(), SendFault>
         requires { table_of self.old ≡ bus.now.table }
         ensures table { table_of self.new ≡ table_of self.old }
-        ensures sends { OnOk result (SendsOff (process_by Q.Ratifier) self.old self.new) }
-        ensures keeps { let P = process_by Q.Ratifier in
-            IfErr result (λ fault. KeepsFor P self.old fault self.new) }
+        ensures sends { let P = process_by Q.Ratifier in let T = tells_by Q.Ratifier in
+            OnOk result (SendsOff P T self.old self.new) }
+        ensures keeps { let P = process_by Q.Ratifier in let T = tells_by Q.Ratifier in
+            IfErr result (λ fault. KeepsFor P T self.old fault self.new) }
     {
         threads_may_go_by::<Q>();
         let turn = self.send(wait, bus, rng);

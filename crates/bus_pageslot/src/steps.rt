@@ -4,7 +4,9 @@ ghost use Rattle.std.specs.Prelude.{◌≡◌, ◌<◌, ◌∷◌, true, [], Som
 ghost use Rattle.bus_register.specs.Words.{register};
 ghost use Rattle.bus_tenure.specs.Elections.{election_of};
 ghost use Rattle.bus_core.specs.Doings.{step_of};
+ghost use Rattle.bus_core.specs.Plain.{IsPlain};
 ghost use Rattle.bus_core.specs.Senders.{situation};
+ghost use Rattle.bus_tenure.specs.declared.turns.Turn.TheVariants as turn;
 ghost use Rattle.bus_core.specs.Telling.{FeedTells};
 ghost use Rattle.bus_automaton.specs.Buses.{process_by};
 ghost use Rattle.bus_pageslot.specs.Steps.{laid_at, carried_of, out_with, stored_by};
@@ -42,6 +44,7 @@ fn put_out<Q: Ratifier + Drop>(
 }
 
 /// The step itself. At a store it gives what was stored.
+#[inline(always)]
 fn take_step<Q: Ratifier + Drop, K: Told<SenderCore<Q>>>(
     shared: &SharedTable<Q>,
     seat: &mut BusSeat<Q>,
@@ -117,6 +120,34 @@ pub(crate) fn walk<Q: Ratifier + Drop, K: Told<SenderCore<Q>>>(
     let turn = core.feed_of(next, got, word);
     take_in(shared, seat, core);
     turn
+}
+
+/// The turn of a sender whose step is a plain store.
+#[inline(always)]
+pub(crate) fn store_plain<Q: Ratifier + Drop, K: Told<SenderCore<Q>>>(
+    shared: &SharedTable<Q>,
+    seat: &mut BusSeat<Q>,
+    core: &mut SenderCore<Q>,
+    op: Op,
+    word: u32,
+)
+    requires table { seat.old.table_id ≡ shared.now.table_id }
+    requires told { (K.core ≡ Some core.old) × (K.word ≡ word) }
+    requires shows { Shows (process_by Q.Ratifier) core.old seat.old }
+    requires plain { IsPlain (election_of Q.Ratifier) core.old }
+    requires due { (process_by Q.Ratifier).op core.old word ≡ Some op }
+    requires below { register op < ((process_by Q.Ratifier).table_layout core.old).words }
+    ensures table { (seat.new.table_id ≡ seat.old.table_id) × (seat.new.id ≡ seat.old.id) }
+    ensures shows { Shows (process_by Q.Ratifier) core.new seat.new }
+    ensures took { TookAndTold (process_by Q.Ratifier) (FeedTells (election_of Q.Ratifier))
+        (record { core = core.old; seat = seat.old }) word turn.Going (record {
+          core = core.new;
+          seat = seat.new;
+        }) }
+{
+    threads_may_go_by::<Q>();
+    take_step::<Q, K>(shared, seat, op);
+    core.plain_done();
 }
 
 /// The last length that a sender has stored, once it takes this step. `before` is the one that it

@@ -28,4 +28,4 @@ pub use bus_tenure::{Page, Turn};
 pub use bus_world::{MakeFault, Shape};
 pub use hearing::Heard;
 pub use receivers::{Next, Receiver};
-pub use sizes::{tenures_needed, tenures_of_sitting, words_needed, words_of_sitting};
+pub use sizes::{tenures_needed, words_needed};

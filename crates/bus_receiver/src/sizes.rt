@@ -1,6 +1,6 @@
 //! What a sitting takes of a bus, as sums.
 
-ghost use Rattle.std.specs.Prelude.{◌≡◌};
+ghost use Rattle.std.specs.Prelude.{◌≡◌, ◌-◌, ◌^◌, min};
 ghost use Rattle.bus_receiver.specs.Sizes.{batches_of, tenures_of, words_of};
 
 use bus_register::limits::MOST_MESSAGES;
@@ -14,33 +14,24 @@ fn batches(messages: u64) -> u128
 
 /// How many tenures a sitting takes in which each of so many senders sends so many messages, in
 /// batches of 16 of which the last may be smaller, and one closes: the `rows` of its shape. A bus
-/// has at most 256 of them, and 1 to 8 senders; of other numbers it is the same sum.
-pub fn tenures_needed(senders: u8, messages: u32) -> u64
-    ensures { result ≡ tenures_of senders messages }
+/// has at most 256 of them. If there are more than 64 bits can count, it is `u64::MAX`.
+pub fn tenures_needed(senders: u64, messages: u64) -> u64
+    ensures { result ≡ min (tenures_of senders messages) (2 ^ 64 - 1) }
 {
-    tenures_of_sitting(senders, u64::from(messages)) as u64
+    let tenures = u128::from(senders) * batches(messages) + 1;
+    u64::try_from(tenures).unwrap_or(u64::MAX)
 }
 
 /// How many log words such a sitting takes where each message has so many bytes: the `log_words` of
-/// its shape, at least 16. A bus has at most 65,536 of them, and a message at most 56 bytes; of
-/// other numbers it is the same sum.
-pub fn words_needed(senders: u8, messages: u32, bytes: u8) -> u64
-    ensures { result ≡ words_of senders messages bytes }
-{
-    words_of_sitting(senders, u64::from(messages), bytes) as u64
-}
-
-/// `tenures_needed` of any number of messages.
-pub fn tenures_of_sitting(senders: u8, messages: u64) -> u128
-    ensures { result ≡ tenures_of senders messages }
-{
-    u128::from(senders) * batches(messages) + 1
-}
-
-/// `words_needed` of any number of messages.
-pub fn words_of_sitting(senders: u8, messages: u64, bytes: u8) -> u128
-    ensures { result ≡ words_of senders messages bytes }
+/// its shape, at least 16. A bus has at most 65,536 of them, and a message at most 56 bytes. If
+/// there are more than 64 bits can count, it is `u64::MAX`.
+pub fn words_needed(senders: u64, messages: u64, bytes: u64) -> u64
+    ensures { result ≡ min (words_of senders messages bytes) (2 ^ 64 - 1) }
 {
     let each = 1 + (u128::from(bytes) + 7) / 8;
-    u128::from(senders) * (batches(messages) + u128::from(messages) * each) + 2
+    let of_each = batches(messages) + u128::from(messages) * each;
+    let words = u128::from(senders)
+        .saturating_mul(of_each)
+        .saturating_add(2);
+    u64::try_from(words).unwrap_or(u64::MAX)
 }

@@ -17,6 +17,7 @@ use Rattle.bus_automaton.specs.Processes.{Process, Automaton}
 use Rattle.bus_automaton.specs.declared.plans.Plan.{Plan}
 use Rattle.bus_pageslot.specs.Rule.{receiver_view_in, known_in, with_receiver_view}
 use Rattle.bus_pageslot.specs.Seats.{SenderSeat}
+use Rattle.bus_pageslot.specs.Turns.{Tellings, tells_with}
 use Rattle.bus_batch.specs.Batches.{Pending}
 use Rattle.bus_run.specs.Told.{HasTold}
 
@@ -28,6 +29,10 @@ Held = Sender (Elector Local)
 -- a sender by itself
 abbrev pub run_process : Process Held
 run_process = process_with (λ s. kind_at s.progress) (λ s word. op_of s) (λ s got word. fed_of s got) three_word
+
+-- what the answers of its turns tell
+abbrev pub run_tells : Tellings Held
+run_tells = tells_with (λ s. kind_at s.progress) (λ s word. op_of s) (λ s got word. fed_of s got) three_word
 
 -- the bus of a plan
 abbrev pub run_automaton : Plan → Automaton Held

@@ -4,11 +4,11 @@ use Rattle.bus_tenure.specs.declared.turns.Turn.{Turn}
 use Rattle.bus_world.specs.Headline.{HasClosed}
 use Rattle.bus_pageslot.specs.Seats.{SenderSeat, actions_of}
 use Rattle.bus_pageslot.specs.Turns.{Sends}
-use Rattle.bus_run.specs.Left.{Held, run_process}
+use Rattle.bus_run.specs.Left.{Held, run_process, run_tells}
 
 -- its turns, up to the first last one, which answered so
 abbrev pub SendsOn : SenderSeat Held → Turn → SenderSeat Held → Type 0
-SendsOn first answer new = Sends run_process first answer new
+SendsOn first answer new = Sends run_process run_tells first answer new
 
 -- it let an end mark wait, and its turns then answered so
 pub record Closes (first : SenderSeat Held) (answer : Turn) (new : SenderSeat Held) : Type 0 where

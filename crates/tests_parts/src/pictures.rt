@@ -20,21 +20,21 @@ fn a_store_and_a_load_of_it(rt: HostRuntime) {
         <path class='life' d='M60 132V150'/><text class='head' x='60' y='124'>sender 0</text>\n\
         <path class='band' d='M60 150V150'/>\
         <text class='tenure' dx='-12' dy='4' x='60' y='150'>3</text>\n\
-        <path class='life' d='M320 132V168'/><text class='head' x='320' y='124'>receiver 1</text>\n\
-        <path class='arrow' d='M60 150L320 168'/>\n\
+        <path class='life' d='M340 132V168'/><text class='head' x='340' y='124'>receiver 1</text>\n\
+        <path class='arrow' d='M60 150L340 168'/>\n\
         <use href='#store' x='60' y='150'/>\n\
         <text dy='4' x='8' y='150'>1</text>\n\
-        <text dy='4' x='450' y='150'>StoreLength length: 0 to 5</text>\n\
-        <use href='#look' x='320' y='168'/>\n\
+        <text dy='4' x='480' y='150'>StoreLength length: 0 to 5</text>\n\
+        <use href='#look' x='340' y='168'/>\n\
         <text dy='4' x='8' y='168'>2</text>\n\
-        <text dy='4' x='450' y='168'>LoadLength length: 5</text>\n\
+        <text dy='4' x='480' y='168'>LoadLength length: 5</text>\n\
         </svg>\n"
     );
     assert!(rt;
         behind.0.starts_with(
             "<svg xmlns='http://www.w3.org/2000/svg' \
-        font-family='sans-serif' font-size='11' width='890' height='186' \
-        viewBox='0 0 890 186'>\n<title>"
+        font-family='sans-serif' font-size='11' width='920' height='186' \
+        viewBox='0 0 920 186'>\n<title>"
         )
     );
 }
@@ -67,5 +67,29 @@ fn what_stands_in_words(rt: HostRuntime) {
         &rt,
         "StoreLength\tlength\t0\t5\tdelivered 0 0 0",
         ">delivered 0 0 0<",
+    );
+}
+
+#[test]
+fn a_long_answer_is_cut(rt: HostRuntime) {
+    says(
+        &rt,
+        "LoadLogWord\tlog 2\t0\t0\titem 0 0 68656c6c6f2",
+        ">item 0 0 68656c6c6f2<",
+    );
+    says(
+        &rt,
+        "LoadLogWord\tlog 2\t0\t0\titem 0 0 68656c6c6f21",
+        ">item 0 0 68656c6c6..<",
+    );
+    says(
+        &rt,
+        "LoadLogWord\tlog 2\t0\t0\tanswers of a châteaux",
+        ">answers of a chât..<",
+    );
+    says(
+        &rt,
+        "LoadLogWord\tlog 2\t0\t0\tanswers of the château",
+        ">answers of the château<",
     );
 }

@@ -4,7 +4,7 @@ use bench_rounds::faults::Fault;
 use bench_rounds::gates::Gate;
 use bench_rounds::needs::{Load, Shortage};
 use bench_rounds::report::{least_of, middle};
-use bench_rounds::request::{Field, Refusal, Request, Size, parse};
+use bench_rounds::request::{Field, Refusal, Request, Size, parse, parse_line};
 use bench_rounds::rounds::round;
 use bus_tenure::Turn;
 use std::process::Abort;
@@ -12,7 +12,7 @@ use std::test::Fail;
 
 /// A request of these numbers, which is not refused.
 fn request<R: Abort>(rt: &R, senders: u64, messages: u64, bytes: u64) -> Request {
-    Request::new(senders, 1, messages, bytes, 0).expect(rt, "in range")
+    Request::new(senders, 1, messages, bytes, 0, 4).expect(rt, "in range")
 }
 
 #[test]
@@ -75,20 +75,21 @@ fn command_lines(rt: HostRuntime) {
     let given = parsed(&rt, &line).expect(&rt, "in range");
     assert_eq!(rt; (given.senders, given.receivers), (3, 2));
     assert_eq!(rt; (given.messages, given.repetitions), (100, 10_000));
-    assert_eq!(rt; given.size, Size::FiftySix);
+    assert_eq!(rt; (given.size, given.rounds), (Size::FiftySix, 4));
     assert_eq!(rt; parsed(&rt, &[]), Err(Refusal::Count(0)));
     assert_eq!(rt; parsed(&rt, &line[..5]), Err(Refusal::Count(4)));
 }
 
 /// A command line that is not refused, but for this word of it.
-fn line_with<'a>(field: Field, word: &'a str) -> [&'a str; 6] {
-    let mut line = ["bus_bench", "3", "2", "100", "8", "1"];
+fn line_with<'a>(field: Field, word: &'a str) -> [&'a str; 7] {
+    let mut line = ["bus_bench", "3", "2", "100", "8", "1", "4"];
     match field {
         Field::Senders => line[1] = word,
         Field::Receivers => line[2] = word,
         Field::Messages => line[3] = word,
         Field::Bytes => line[4] = word,
         Field::Repetitions => line[5] = word,
+        Field::Rounds => line[6] = word,
     }
     line
 }
@@ -102,6 +103,8 @@ fn words_refused(rt: HostRuntime) {
         (Field::Messages, "0"),
         (Field::Bytes, "9"),
         (Field::Repetitions, "10001"),
+        (Field::Rounds, "0"),
+        (Field::Rounds, "9"),
     ] {
         let given = parsed(&rt, &line_with(field, word));
         assert_eq!(rt; given, Err(Refusal::OutOfRange(field)), "{word}");
@@ -112,9 +115,28 @@ fn words_refused(rt: HostRuntime) {
         (Field::Messages, "18446744073709551616"),
         (Field::Bytes, "8x"),
         (Field::Repetitions, "-1"),
+        (Field::Rounds, "four"),
     ] {
         let given = parsed(&rt, &line_with(field, word));
         assert_eq!(rt; given, Err(Refusal::NotNumber(field)), "{word}");
+    }
+}
+
+#[test]
+fn lines(rt: HostRuntime) {
+    for (line, rounds) in [("3 2 100 56", 4), (" 3  2\t100 56 1 ", 1)] {
+        let given = parse_line(line).expect(&rt, "in range");
+        assert_eq!(rt; (given.senders, given.receivers), (3, 2));
+        assert_eq!(rt; (given.messages, given.rounds), (100, rounds));
+        assert_eq!(rt; (given.size, given.repetitions), (Size::FiftySix, 0));
+    }
+    for (line, refusal) in [
+        ("", Refusal::Count(0)),
+        ("3 2 100", Refusal::Count(3)),
+        ("3 2 100 56 4 4", Refusal::Count(6)),
+        ("3 2 100 56 9", Refusal::OutOfRange(Field::Rounds)),
+    ] {
+        assert_eq!(rt; parse_line(line), Err(refusal), "{line}");
     }
 }
 

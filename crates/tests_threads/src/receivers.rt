@@ -8,9 +8,7 @@ use bus_adoptcommit::ThreeWord;
 use bus_batch::{Item, Message};
 use bus_deliverylog::RecvTurn;
 use bus_pageslot::{Bus, SendFault, Sender, Unsent};
-use bus_receiver::{
-    Heard, Next, Receiver, tenures_needed, tenures_of_sitting, words_needed, words_of_sitting,
-};
+use bus_receiver::{Heard, Next, Receiver, tenures_needed, words_needed};
 use bus_register::SenderNo;
 use bus_tenure::Turn;
 use bus_world::Shape;
@@ -214,9 +212,10 @@ fn sizes_of_sittings(rt: HostRuntime) {
         assert_eq!(&rt; tenures_needed(senders, messages), tenures);
         assert_eq!(&rt; words_needed(senders, messages, bytes), words);
     }
-    let words = 148_726_874_094_283_259_898;
-    assert_eq!(&rt; tenures_of_sitting(1, u64::MAX), 1_152_921_504_606_846_977);
-    assert_eq!(&rt; words_of_sitting(1, u64::MAX, 56), words);
+    assert_eq!(&rt; tenures_needed(1, u64::MAX), 1_152_921_504_606_846_977);
+    assert_eq!(&rt; tenures_needed(16, u64::MAX), u64::MAX);
+    assert_eq!(&rt; words_needed(1, u64::MAX, 56), u64::MAX);
+    assert_eq!(&rt; words_needed(u64::MAX, u64::MAX, u64::MAX), u64::MAX);
 }
 
 /// Notes an answer, and sees whether it is taken.

@@ -6,6 +6,7 @@ use Rattle.bus_automaton.specs.Buses.{process_with, automaton_with}
 use Rattle.bus_automaton.proofs.Beginning.{opens}
 use Rattle.bus_automaton.proofs.HandedTells.{handed_tells}
 use Rattle.bus_automaton.proofs.Lawful.{process_laws, automaton_laws}
+use Rattle.bus_automaton.proofs.RestingTells.{rest_tells}
 use Rattle.bus_automaton.proofs.ServedPlans.{one_cause, is_layout, has_rows}
 use Rattle.bus_automaton.proofs.laws.threads_may_go_by.Goals as goal
 
@@ -22,6 +23,16 @@ pub returns-clause-tells : goal.returns-clause-tells
 unfolding process_with
 returns-clause-tells g c v got word answer w =
     handed_tells (election_with g.Q.Machine.kind_of g.Q.Machine.op g.Q.Machine.fed g.Q.Ratifier.protocol) v got word answer w
+
+pub returns-clause-rests : goal.returns-clause-rests
+unfolding process_with
+returns-clause-rests g c v word laid none going =
+    let P = g.Q.Ratifier.protocol in
+    let X = election_with g.Q.Machine.kind_of g.Q.Machine.op g.Q.Machine.fed P in
+    let law = c.election_is_lawful.ensures.lawful.laws 0 in
+    rest_tells X (elections P 0) law
+    (serves g.Q.Machine.kind_of g.Q.Machine.op g.Q.Machine.fed P g.met.Q.Machine.names_each_step g.met.Q.Ratifier.own_kinds 0 0 0 0 law).owner_is
+    v word laid none going
 
 pub returns-clause-one_cause : goal.returns-clause-one_cause
 returns-clause-one_cause g c plan why other r s = one_cause plan.shape plan.reuse why other r s

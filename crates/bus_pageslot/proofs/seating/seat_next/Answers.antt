@@ -40,7 +40,7 @@ seated-requires-clause-shows g c =
     let P = process_with g.Q.Machine.kind_of g.Q.Machine.op g.Q.Machine.fed g.Q.Ratifier.protocol in
     let A = automaton_with g.Q.Machine.kind_of g.Q.Machine.op g.Q.Machine.fed g.Q.Ratifier.protocol c.args.plan in
     let split = c.split_seat-seat.ensures in
-    shows_new P A (c.threads_may_go_by.ensures.automaton c.args.plan) (c.threads_may_go_by.ensures.opens c.args.plan c.requires.served) c.args.me c.start-core.result c.args.maker.now.me.0 c.split_seat-seat.result c.start-core.ensures (ap (λ m. m.0) c.requires.maker) split.4
+    shows_new P A (c.threads_may_go_by.ensures.automaton c.args.plan) (c.threads_may_go_by.ensures.opens c.args.plan c.requires.served) c.args.me (let below = c.requires.below in let many = c.requires.senders in omega arith) c.start-core.result c.args.maker.now.me.0 c.split_seat-seat.result c.start-core.ensures (ap (λ m. m.0) c.requires.maker) split.4
     (ap (λ (z : TableId). z.words) split.3 ∙ c.requires.wide.0) (ap (λ (z : TableId). z.slots) split.3 ∙ c.requires.wide.1)
 
 pub seated-requires-clause-stored : goal.seated-requires-clause-stored

@@ -7,7 +7,7 @@ use Rattle.bus_automaton.specs.Buses.{process_with}
 use Rattle.bus_pageslot.specs.Steps.Accepts.{Nothing}
 use Rattle.bus_pageslot.specs.Seats.{Took}
 use Rattle.bus_pageslot.specs.Steps.{Gone, GoesOn}
-use Rattle.bus_pageslot.proofs.Walks.{ended, core_is, stored_now, me_now, all_now, counted_now, wide_now}
+use Rattle.bus_pageslot.proofs.Walks.{ended, core_is, stored_now, laid_now, numbered_now, me_now, all_now, counted_now, wide_now}
 use Rattle.bus_pageslot.proofs.steps.walk.Goals as goal
 
 pub feed_of-turn-requires-clause-due : goal.feed_of-turn-requires-clause-due
@@ -39,6 +39,10 @@ returns-clause-shows g c =
       actions = [];
       accepts = Nothing;
       counted = counted_now P K d c.args.seat.now.me c.put_out.new.seat.me c.take_step-got.new.seat.me c.args.word c.take_step-got.result (ap (λ x. x.1) c.requires.shows.me) c.put_out.new.core c.feed_of-turn.new.self c.put_out.ensures.core c.put_out.ensures.me gone c.feed_of-turn.ensures.state
+          c.take_in.new.seat.me c.take_in.new.core c.take_in.ensures.core c.take_in.ensures.me;
+      laid = laid_now P K d c.args.seat.now.me c.put_out.new.seat.me c.take_step-got.new.seat.me c.args.word c.take_step-got.result (ap (λ x. x.1) c.requires.shows.me) c.put_out.new.core c.feed_of-turn.new.self c.put_out.ensures.core c.put_out.ensures.me gone c.feed_of-turn.ensures.state
+          c.take_in.new.seat.me c.take_in.new.core c.take_in.ensures.core c.take_in.ensures.me;
+      numbered = numbered_now P K d c.args.seat.now.me c.put_out.new.seat.me c.take_step-got.new.seat.me c.args.word c.take_step-got.result (ap (λ x. x.1) c.requires.shows.me) c.put_out.new.core c.feed_of-turn.new.self c.put_out.ensures.core c.put_out.ensures.me gone c.feed_of-turn.ensures.state
           c.take_in.new.seat.me c.take_in.new.core c.take_in.ensures.core c.take_in.ensures.me;
       me = me_now P K d c.args.seat.now.me c.put_out.new.seat.me c.take_step-got.new.seat.me c.args.word c.take_step-got.result (ap (λ x. x.1) c.requires.shows.me) c.put_out.new.core c.feed_of-turn.new.self c.put_out.ensures.core c.put_out.ensures.me gone c.feed_of-turn.ensures.state
           c.take_in.new.seat.me c.take_in.new.core c.take_in.ensures.core c.take_in.ensures.me;

@@ -1,64 +1,129 @@
-use Rattle.std.proofs.Common.{of_calls, refl, sym, ◌∙◌}
+use Rattle.std.proofs.Common.{of_calls, refl, sym, ◌∙◌, ap}
+use Rattle.bus_world.specs.Headline.{puts}
 use Rattle.bus_automaton.specs.Buses.{process_with}
-use Rattle.bus_pageslot.specs.Turns.{Turned, Begins, Goes, Asks}
-use Rattle.bus_pageslot.proofs.Sending.{turned_puts}
+use Rattle.bus_tenure.specs.declared.turns.Turn.TheVariants.{Going}
+use Rattle.bus_pageslot.specs.Seats.{actions_of}
+use Rattle.bus_pageslot.specs.Turns.{tells_with, Turned, Begins, Goes, Asks, Undrawn, word_drawn}
+use Rattle.bus_pageslot.proofs.Plain.{due_some}
+use Rattle.bus_pageslot.proofs.Sending.{turned_puts, drawn_on, asks_same, draws_same}
 use Rattle.bus_pageslot.proofs.seats.Sender.send_while.Goals as goal
 
 pub returns-then-ends_sending-clause-sends : goal.returns-then-ends_sending-clause-sends
-returns-then-ends_sending-clause-sends g c = record {
-  old = c.loop.self;
-  asked = c.loop.go_on;
-  word = c.if-wants_word.word;
-  before = c.loop.invariant.1;
-  turned = record { rests = c.turn-turn.ensures.rests; steps = λ op e. (c.turn-turn.ensures.steps op e).took };
-  last = sym c.ends_sending.ensures ∙ c.if-ends_sending.true;
-}
+unfolding tells_with
+returns-then-ends_sending-clause-sends g c =
+    let same = c.plain_turn.ensures.stays c.if-plain_turn.false in
+    record {
+      old = c.plain_turn.new.self;
+      asked = c.loop.go_on;
+      word = c.next_word-word.result;
+      before = asks_same same c.loop.invariant.1;
+      turned = record { rests = c.full_turn-turn.ensures.rests; steps = c.full_turn-turn.ensures.steps };
+      last = sym c.ends_sending.ensures ∙ c.if-ends_sending.true;
+    }
 
 pub returns-then-ends_sending-clause-puts : goal.returns-then-ends_sending-clause-puts
+unfolding tells_with
 returns-then-ends_sending-clause-puts g c =
     let P = process_with g.Q.Machine.kind_of g.Q.Machine.op g.Q.Machine.fed g.Q.Ratifier.protocol in
-    turned_puts P c.threads_may_go_by.ensures.process c.loop.self c.if-wants_word.word c.turn-turn.result c.turn-turn.new.self (record { rests = c.turn-turn.ensures.rests; steps = λ op e. (c.turn-turn.ensures.steps op e).took }) ∙ c.loop.invariant.3
+    let T = tells_with g.Q.Machine.kind_of g.Q.Machine.op g.Q.Machine.fed g.Q.Ratifier.protocol in
+    let same = c.plain_turn.ensures.stays c.if-plain_turn.false in
+    let turned : Turned P T c.plain_turn.new.self c.next_word-word.result c.full_turn-turn.result c.full_turn-turn.new.self = record { rests = c.full_turn-turn.ensures.rests; steps = c.full_turn-turn.ensures.steps } in
+    turned_puts P T c.threads_may_go_by.ensures.process c.plain_turn.new.self c.next_word-word.result c.full_turn-turn.result c.full_turn-turn.new.self turned ∙ ap (λ y. puts (actions_of P y)) same ∙ c.loop.invariant.3
 
 pub loop-init : goal.loop-init
-loop-init g c = (c.requires.callable, Begins, refl, refl)
+loop-init g c = (c.requires.callable, Begins, refl, refl, Undrawn)
+
+-- the plain step was taken
+pub loop-preserved-then-plain_turn : goal.loop-preserved-then-plain_turn
+unfolding tells_with
+loop-preserved-then-plain_turn g c =
+    let P = process_with g.Q.Machine.kind_of g.Q.Machine.op g.Q.Machine.fed g.Q.Ratifier.protocol in
+    let T = tells_with g.Q.Machine.kind_of g.Q.Machine.op g.Q.Machine.fed g.Q.Ratifier.protocol in
+    let due = c.plain_turn.ensures.due c.if-plain_turn.true in
+    let wordless = c.plain_turn.ensures.wordless c.if-plain_turn.true in
+    let words = g.R.Rng.stream c.loop.rng in
+    let turned : Turned P T c.loop.self 0 Going c.plain_turn.new.self = record {
+      rests = λ none. absurd (due_some (P.op c.loop.self.core 0) due none);
+      steps = λ op e. c.plain_turn.ensures.steps c.if-plain_turn.true;
+    } in (
+      c.loop.invariant.0,
+      Goes c.loop.self c.loop.go_on 0 Going c.plain_turn.new.self c.loop.invariant.1 turned refl refl,
+      c.plain_turn.ensures.table ∙ c.loop.invariant.2,
+      turned_puts P T c.threads_may_go_by.ensures.process c.loop.self 0 Going c.plain_turn.new.self turned ∙ c.loop.invariant.3,
+      drawn_on P T c.args.self.now (g.R.Rng.stream c.args.rng.now) c.loop.self words 0 Going c.plain_turn.new.self words (ap (λ b. word_drawn b words) (sym wordless)) c.loop.invariant.4 turned,
+    )
 
 pub returns-then-not-go_on-clause-stops : goal.returns-then-not-go_on-clause-stops
+unfolding tells_with
 returns-then-not-go_on-clause-stops g c =
     let P = process_with g.Q.Machine.kind_of g.Q.Machine.op g.Q.Machine.fed g.Q.Ratifier.protocol in
-    let turned : Turned P c.loop.self c.if-wants_word.word c.turn-turn.result c.turn-turn.new.self = record { rests = c.turn-turn.ensures.rests; steps = λ op e. (c.turn-turn.ensures.steps op e).took } in
+    let T = tells_with g.Q.Machine.kind_of g.Q.Machine.op g.Q.Machine.fed g.Q.Ratifier.protocol in
+    let same = c.plain_turn.ensures.stays c.if-plain_turn.false in
+    let turned : Turned P T c.plain_turn.new.self c.next_word-word.result c.full_turn-turn.result c.full_turn-turn.new.self = record { rests = c.full_turn-turn.ensures.rests; steps = c.full_turn-turn.ensures.steps } in
     record {
-      old = c.loop.self;
+      old = c.plain_turn.new.self;
       asked = c.loop.go_on;
-      word = c.if-wants_word.word;
-      before = c.loop.invariant.1;
+      word = c.next_word-word.result;
+      before = asks_same same c.loop.invariant.1;
       turned = turned;
-      answer = c.turn-turn.result;
+      answer = c.full_turn-turn.result;
       waits = sym c.is_waiting.ensures ∙ c.if-not-is_waiting.false;
       left = c.go_on.new.self;
       told = c.if-not-go_on.ensures;
     }
 
 pub returns-then-not-go_on-clause-puts : goal.returns-then-not-go_on-clause-puts
+unfolding tells_with
 returns-then-not-go_on-clause-puts g c =
     let P = process_with g.Q.Machine.kind_of g.Q.Machine.op g.Q.Machine.fed g.Q.Ratifier.protocol in
-    turned_puts P c.threads_may_go_by.ensures.process c.loop.self c.if-wants_word.word c.turn-turn.result c.turn-turn.new.self (record { rests = c.turn-turn.ensures.rests; steps = λ op e. (c.turn-turn.ensures.steps op e).took }) ∙ c.loop.invariant.3
+    let T = tells_with g.Q.Machine.kind_of g.Q.Machine.op g.Q.Machine.fed g.Q.Ratifier.protocol in
+    let same = c.plain_turn.ensures.stays c.if-plain_turn.false in
+    let turned : Turned P T c.plain_turn.new.self c.next_word-word.result c.full_turn-turn.result c.full_turn-turn.new.self = record { rests = c.full_turn-turn.ensures.rests; steps = c.full_turn-turn.ensures.steps } in
+    turned_puts P T c.threads_may_go_by.ensures.process c.plain_turn.new.self c.next_word-word.result c.full_turn-turn.result c.full_turn-turn.new.self turned ∙ ap (λ y. puts (actions_of P y)) same ∙ c.loop.invariant.3
 
+-- another sender has to go on first, and the function said yes
 pub loop-preserved : goal.loop-preserved
+unfolding tells_with
 loop-preserved g c =
     let P = process_with g.Q.Machine.kind_of g.Q.Machine.op g.Q.Machine.fed g.Q.Ratifier.protocol in
-    let turned : Turned P c.loop.self c.if-wants_word.word c.turn-turn.result c.turn-turn.new.self = record { rests = c.turn-turn.ensures.rests; steps = λ op e. (c.turn-turn.ensures.steps op e).took } in (
+    let T = tells_with g.Q.Machine.kind_of g.Q.Machine.op g.Q.Machine.fed g.Q.Ratifier.protocol in
+    let same = c.plain_turn.ensures.stays c.if-plain_turn.false in
+    let turned : Turned P T c.plain_turn.new.self c.next_word-word.result c.full_turn-turn.result c.full_turn-turn.new.self = record { rests = c.full_turn-turn.ensures.rests; steps = c.full_turn-turn.ensures.steps } in (
       search of_calls,
-      Asks c.loop.self c.loop.go_on c.if-wants_word.word c.turn-turn.result c.turn-turn.new.self c.go_on.new.self c.loop.invariant.1 turned (sym c.is_waiting.ensures ∙ c.if-not-is_waiting.false) c.if-not-go_on.ensures,
-      c.turn-turn.ensures.table ∙ c.loop.invariant.2,
-      turned_puts P c.threads_may_go_by.ensures.process c.loop.self c.if-wants_word.word c.turn-turn.result c.turn-turn.new.self turned ∙ c.loop.invariant.3,
+      Asks c.plain_turn.new.self c.loop.go_on c.next_word-word.result c.full_turn-turn.result c.full_turn-turn.new.self c.go_on.new.self (asks_same same c.loop.invariant.1) turned (sym c.is_waiting.ensures ∙ c.if-not-is_waiting.false) c.if-not-go_on.ensures,
+      c.full_turn-turn.ensures.table ∙ c.plain_turn.ensures.table ∙ c.loop.invariant.2,
+      turned_puts P T c.threads_may_go_by.ensures.process c.plain_turn.new.self c.next_word-word.result c.full_turn-turn.result c.full_turn-turn.new.self turned ∙ ap (λ y. puts (actions_of P y)) same ∙ c.loop.invariant.3,
+      drawn_on P T c.args.self.now (g.R.Rng.stream c.args.rng.now) c.plain_turn.new.self (g.R.Rng.stream c.loop.rng) c.next_word-word.result c.full_turn-turn.result c.full_turn-turn.new.self (g.R.Rng.stream c.next_word-word.new.rng) c.next_word-word.ensures (draws_same same c.loop.invariant.4) turned,
     )
 
 pub loop-preserved-then-not-is_waiting : goal.loop-preserved-then-not-is_waiting
+unfolding tells_with
 loop-preserved-then-not-is_waiting g c =
     let P = process_with g.Q.Machine.kind_of g.Q.Machine.op g.Q.Machine.fed g.Q.Ratifier.protocol in
-    let turned : Turned P c.loop.self c.if-wants_word.word c.turn-turn.result c.turn-turn.new.self = record { rests = c.turn-turn.ensures.rests; steps = λ op e. (c.turn-turn.ensures.steps op e).took } in (
+    let T = tells_with g.Q.Machine.kind_of g.Q.Machine.op g.Q.Machine.fed g.Q.Ratifier.protocol in
+    let same = c.plain_turn.ensures.stays c.if-plain_turn.false in
+    let turned : Turned P T c.plain_turn.new.self c.next_word-word.result c.full_turn-turn.result c.full_turn-turn.new.self = record { rests = c.full_turn-turn.ensures.rests; steps = c.full_turn-turn.ensures.steps } in (
       c.loop.invariant.0,
-      Goes c.loop.self c.loop.go_on c.if-wants_word.word c.turn-turn.result c.turn-turn.new.self c.loop.invariant.1 turned (sym c.ends_sending.ensures ∙ c.if-ends_sending.false) (sym c.is_waiting.ensures ∙ c.if-not-is_waiting.true),
-      c.turn-turn.ensures.table ∙ c.loop.invariant.2,
-      turned_puts P c.threads_may_go_by.ensures.process c.loop.self c.if-wants_word.word c.turn-turn.result c.turn-turn.new.self turned ∙ c.loop.invariant.3,
+      Goes c.plain_turn.new.self c.loop.go_on c.next_word-word.result c.full_turn-turn.result c.full_turn-turn.new.self (asks_same same c.loop.invariant.1) turned (sym c.ends_sending.ensures ∙ c.if-ends_sending.false) (sym c.is_waiting.ensures ∙ c.if-not-is_waiting.true),
+      c.full_turn-turn.ensures.table ∙ c.plain_turn.ensures.table ∙ c.loop.invariant.2,
+      turned_puts P T c.threads_may_go_by.ensures.process c.plain_turn.new.self c.next_word-word.result c.full_turn-turn.result c.full_turn-turn.new.self turned ∙ ap (λ y. puts (actions_of P y)) same ∙ c.loop.invariant.3,
+      drawn_on P T c.args.self.now (g.R.Rng.stream c.args.rng.now) c.plain_turn.new.self (g.R.Rng.stream c.loop.rng) c.next_word-word.result c.full_turn-turn.result c.full_turn-turn.new.self (g.R.Rng.stream c.next_word-word.new.rng) c.next_word-word.ensures (draws_same same c.loop.invariant.4) turned,
     )
+
+pub returns-then-ends_sending-clause-draws : goal.returns-then-ends_sending-clause-draws
+unfolding tells_with
+returns-then-ends_sending-clause-draws g c =
+    let P = process_with g.Q.Machine.kind_of g.Q.Machine.op g.Q.Machine.fed g.Q.Ratifier.protocol in
+    let T = tells_with g.Q.Machine.kind_of g.Q.Machine.op g.Q.Machine.fed g.Q.Ratifier.protocol in
+    let same = c.plain_turn.ensures.stays c.if-plain_turn.false in
+    let turned : Turned P T c.plain_turn.new.self c.next_word-word.result c.full_turn-turn.result c.full_turn-turn.new.self = record { rests = c.full_turn-turn.ensures.rests; steps = c.full_turn-turn.ensures.steps } in
+    drawn_on P T c.args.self.now (g.R.Rng.stream c.args.rng.now) c.plain_turn.new.self (g.R.Rng.stream c.loop.rng) c.next_word-word.result c.full_turn-turn.result c.full_turn-turn.new.self (g.R.Rng.stream c.next_word-word.new.rng) c.next_word-word.ensures (draws_same same c.loop.invariant.4) turned
+
+pub returns-then-not-go_on-clause-draws : goal.returns-then-not-go_on-clause-draws
+unfolding tells_with
+returns-then-not-go_on-clause-draws g c =
+    let P = process_with g.Q.Machine.kind_of g.Q.Machine.op g.Q.Machine.fed g.Q.Ratifier.protocol in
+    let T = tells_with g.Q.Machine.kind_of g.Q.Machine.op g.Q.Machine.fed g.Q.Ratifier.protocol in
+    let same = c.plain_turn.ensures.stays c.if-plain_turn.false in
+    let turned : Turned P T c.plain_turn.new.self c.next_word-word.result c.full_turn-turn.result c.full_turn-turn.new.self = record { rests = c.full_turn-turn.ensures.rests; steps = c.full_turn-turn.ensures.steps } in
+    drawn_on P T c.args.self.now (g.R.Rng.stream c.args.rng.now) c.plain_turn.new.self (g.R.Rng.stream c.loop.rng) c.next_word-word.result c.full_turn-turn.result c.full_turn-turn.new.self (g.R.Rng.stream c.next_word-word.new.rng) c.next_word-word.ensures (draws_same same c.loop.invariant.4) turned

@@ -7,7 +7,7 @@ use Rattle.bus_pageslot.specs.Buses.{BusId}
 use Rattle.bus_pageslot.specs.Rule.{sender_trail_in, stored_in, known_in}
 use Rattle.bus_pageslot.specs.Steps.{KnowsSent}
 use Rattle.bus_pageslot.specs.Seats.{SenderSeat, table_of, actions_of, stored_of}
-use Rattle.bus_pageslot.proofs.Puts.{actions_are}
+use Rattle.bus_pageslot.proofs.Puts.{actions_are, shows_same}
 use Rattle.bus_pageslot.proofs.Joining.{told_of}
 use Rattle.bus_pageslot.proofs.seats.Sender.tell.Goals as goal
 
@@ -17,6 +17,17 @@ meeting-requires-clause-table g c =
     let some = c.threads_may_go_by.ensures.process.some_words c.self.inside.core in
     let here = ap table_of c.self.view_is ∙ c.requires.table.0 ∙ sym (ap (λ (b : BusId). b.table) c.bus.view_is) in
     (here, c.requires.table.1 ∙ sym (ap (λ (b : BusId). b.table) c.bus.view_is), subst (λ (t : TableId). 0 < t.words) here (let w = h.words in omega arith))
+
+pub invariant_of-self : goal.invariant_of-self
+invariant_of-self g c =
+    let P = process_with g.Q.Machine.kind_of g.Q.Machine.op g.Q.Machine.fed g.Q.Ratifier.protocol in
+    let h = c.self.invariant.0 in
+    let n = c.requires.tap in
+    let seat = c.self.inside.seat in
+    let told = told_of P h.shown (sender_trail_in seat.me.0) (stored_in seat.me.0) _ n.0 n.1 seat.me c.args.tap.me c.meeting.result.0 c.meeting.new.seat.me c.meeting.result.1.me h.me n.2 c.meeting.ensures.met in (
+      shows_same P c.threads_may_go_by.ensures.process c.self.inside.core seat h c.meeting.new.seat told.0 c.meeting.ensures.table.0,
+      c.self.invariant.1 ∙ ap (λ m. stored_in m.0) (sym told.0),
+    )
 
 pub returns-clause-sent : goal.returns-clause-sent
 returns-clause-sent g c =

@@ -1,60 +1,31 @@
-use Rattle.std.proofs.Common.{◌≡◌, ◌<◌, Some, None, IfSome, refl, sym, ◌∙◌, ap, subst}
+use Rattle.std.proofs.Common.{◌≡◌, Some, None, subst}
 use Rattle.bus_automaton.specs.Buses.{process_with}
-use Rattle.bus_core.specs.Senders.{words_all}
-use Rattle.bus_core.specs.Telling.{FeedTells}
-use Rattle.bus_register.specs.Words.{register}
+use Rattle.bus_core.specs.Telling.{FeedTells, RestTells}
+use Rattle.bus_register.specs.declared.registers.Op.{Op}
 use Rattle.bus_tenure.specs.Elections.{election_with}
-use Rattle.bus_pageslot.specs.Rule.{stored_in}
 use Rattle.bus_pageslot.specs.Seats.{TookAndTold}
-use Rattle.bus_pageslot.specs.Steps.{stored_by}
-use Rattle.bus_pageslot.proofs.Processes.{words_are}
+use Rattle.bus_pageslot.proofs.Plain.{due_some}
 use Rattle.bus_pageslot.proofs.seats.Sender.turn.Goals as goal
 
-pub returns-in_default-clause-rests : goal.returns-in_default-clause-rests
-unfolding process_with
-returns-in_default-clause-rests g c none =
+pub returns-then-plain_turn-clause-rests : goal.returns-then-plain_turn-clause-rests
+returns-then-plain_turn-clause-rests g c none =
     let P = process_with g.Q.Machine.kind_of g.Q.Machine.op g.Q.Machine.fed g.Q.Ratifier.protocol in
-    (refl, c.rest_of.ensures ∙ ap (λ s. P.rest s.core) c.self.view_is)
+    absurd (due_some (P.op c.args.self.now.core c.args.word) (c.plain_turn.ensures.due c.if-plain_turn.true) none)
 
-pub returns-in_default-clause-steps : goal.returns-in_default-clause-steps
-unfolding process_with
-returns-in_default-clause-steps g c op due =
-    let P = process_with g.Q.Machine.kind_of g.Q.Machine.op g.Q.Machine.fed g.Q.Ratifier.protocol in
-    absurd (
-    let bad : None ≡ Some op = sym c.in_default.is ∙ c.next_of.ensures.step ∙ ap (λ s. P.op s.core c.args.word) c.self.view_is ∙ due in cc
-    )
-
-pub walk-requires-clause-due : goal.walk-requires-clause-due
-unfolding process_with
-walk-requires-clause-due g c = sym c.next_of.ensures.step ∙ c.in-Some.is
-
-pub walk-requires-clause-below : goal.walk-requires-clause-below
-walk-requires-clause-below g c =
-    let core = c.self.inside.core in
-    subst (λ n. register c.in-Some.op < n) (words_are g.Q.Machine.kind_of g.Q.Machine.op g.Q.Machine.fed g.Q.Ratifier.protocol core)
-    (subst (λ r. IfSome r (λ o. register o < words_all core)) c.in-Some.is c.next_of.ensures.below)
-
-pub invariant_of-self : goal.invariant_of-self
-unfolding process_with
-invariant_of-self g c = (
-  c.walk.ensures.shows,
-  c.length_after-self-inside.ensures ∙ ap (stored_by (Some c.in-Some.op)) c.self.invariant.1
-      ∙ ap (λ o. stored_by o (stored_in c.self.inside.seat.me.0)) (sym (sym c.next_of.ensures.step ∙ c.in-Some.is))
-      ∙ sym c.walk.ensures.took.took.stored,
-)
+pub returns-then-plain_turn-clause-steps : goal.returns-then-plain_turn-clause-steps
+returns-then-plain_turn-clause-steps g c op due = c.plain_turn.ensures.steps c.if-plain_turn.true
 
 pub returns-clause-rests : goal.returns-clause-rests
-unfolding process_with
 returns-clause-rests g c none =
     let P = process_with g.Q.Machine.kind_of g.Q.Machine.op g.Q.Machine.fed g.Q.Ratifier.protocol in
-    absurd (
-    let bad : None ≡ Some c.in-Some.op = sym none ∙ ap (λ s. P.op s.core c.args.word) (sym c.self.view_is) ∙ sym c.next_of.ensures.step ∙ c.in-Some.is in
-    cc
-    )
+    let same = c.plain_turn.ensures.stays c.if-plain_turn.false in
+    subst (λ z. P.op z.core c.args.word ≡ None → (c.full_turn.new.self ≡ z) × (c.full_turn.result ≡ P.rest z.core) × RestTells z.core c.full_turn.result) same
+    c.full_turn.ensures.rests none
 
 pub returns-clause-steps : goal.returns-clause-steps
 returns-clause-steps g c op due =
     let P = process_with g.Q.Machine.kind_of g.Q.Machine.op g.Q.Machine.fed g.Q.Ratifier.protocol in
     let X = election_with g.Q.Machine.kind_of g.Q.Machine.op g.Q.Machine.fed g.Q.Ratifier.protocol in
-    subst (λ z. TookAndTold P (FeedTells X) z c.args.word c.walk.result (record { core = c.walk.new.core; seat = c.walk.new.seat }))
-    c.self.view_is c.walk.ensures.took
+    let same = c.plain_turn.ensures.stays c.if-plain_turn.false in
+    subst (λ z. (o : Op) → P.op z.core c.args.word ≡ Some o → TookAndTold P (FeedTells X) z c.args.word c.full_turn.result c.full_turn.new.self) same
+    c.full_turn.ensures.steps op due

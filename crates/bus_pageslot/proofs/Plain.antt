@@ -1,0 +1,89 @@
+-- The turn of a sender with which no page moves: its step alone.
+use Rattle.std.proofs.Common.{◌≡◌, ℕ, ◌<◌, false, Option, Some, None, IsSome, List, [], refl, sym, ◌∙◌, ap, subst}
+use Rattle.std.proofs.lemmas.Bool.{true≢false}
+use Rattle.atomic_table.specs.declared.shared.Seat.{Seat}
+use Rattle.bus_register.specs.declared.registers.Op.{Op}
+use Rattle.bus_register.specs.Words.{register}
+use Rattle.bus_tenure.specs.Situations.{Stays}
+use Rattle.bus_tenure.specs.declared.pages.Page.{Page}
+use Rattle.bus_tenure.specs.declared.turns.Turn.{Turn}
+use Rattle.bus_automaton.specs.Lawful.{ProcessLaws}
+use Rattle.bus_automaton.specs.Processes.{Process, EndsBy}
+use Rattle.atomic_table.specs.Seated.{TableId}
+use Rattle.bus_pageslot.specs.Rule.{sender_trail_in, stored_in}
+use Rattle.bus_pageslot.specs.declared.rule.View.TheVariants.{Sender}
+use Rattle.bus_pageslot.specs.Seats.{Shows, TookAndTold}
+use Rattle.bus_pageslot.specs.Steps.{Gone, IsDue, carried_of, out_with, laid_at, slot_in, slots_emptied}
+use Rattle.bus_pageslot.specs.Steps.Accepts.{Nothing}
+use Rattle.bus_pageslot.specs.declared.rule.View.{View}
+use Rattle.bus_pageslot.proofs.Walks.{core_is, stored_now, laid_now, numbered_now, me_now, all_now, counted_now, wide_now}
+
+module _ {C : Type 0} (P : Process C) (d : C) (stays : P.move d ≡ Stays) where
+  -- its step is due
+  pub due_staying : (s : Seat (Option Page) (View C)) (word : ℕ) (o : Op) → Shows P d s → P.op d word ≡ Some o → register o < (P.table_layout d).words
+      → IsDue P d word s.me s.table_id.words o
+  due_staying s word o shows due below = record {
+    shown = shows.shown;
+    actions = shows.actions;
+    accepts = shows.accepts;
+    me = shows.me ∙ (λ i. (Sender shows.shown (sender_trail_in s.me.0) (stored_in s.me.0), out_with (sym stays i) (carried_of (P.holds d))));
+    due = due;
+    below = below;
+    wide = shows.words;
+  }
+
+  module _ (K : ProcessLaws P) (s s' : Seat (Option Page) (View C)) (word got : ℕ) (shows : Shows P d s) (handed : d ≡ P.handed d)
+      (gone : Gone P d word s.me got s'.me) (d' : C) (fed : d' ≡ P.fed d got word) (same : s'.table_id ≡ s.table_id) where
+    carried : s.me.1 ≡ carried_of (P.holds d)
+    carried = ap (λ x. x.1) shows.me
+
+    out : s.me ≡ (s.me.0, out_with (P.move d) s.me.1)
+    out = λ i. (s.me.0, out_with (sym stays i) s.me.1)
+
+    waits_not : P.awaits d' ≡ false
+    waits_not = ap P.awaits fed ∙ (subst (EndsBy P d (P.fed d got word) (P.after d gone.home got word) gone.home) stays gone.ends).1
+
+    laid : d' ≡ laid_at P d' (P.awaits d') (slot_in s'.me.1)
+    laid = λ i. laid_at P d' (sym waits_not i) (slot_in s'.me.1)
+
+    emptied : s'.me ≡ (s'.me.0, slots_emptied (P.awaits d') s'.me.1)
+    emptied = λ i. (s'.me.0, slots_emptied (sym waits_not i) s'.me.1)
+
+    -- the seat shows the sender
+    pub shows_staying : Shows P d' s'
+    shows_staying = record {
+      shown = d';
+      actions = [];
+      accepts = Nothing;
+      counted = counted_now P K d s.me s.me s'.me word got carried d d' handed out gone fed s'.me d' laid emptied;
+      me = me_now P K d s.me s.me s'.me word got carried d d' handed out gone fed s'.me d' laid emptied;
+      laid = laid_now P K d s.me s.me s'.me word got carried d d' handed out gone fed s'.me d' laid emptied;
+      numbered = numbered_now P K d s.me s.me s'.me word got carried d d' handed out gone fed s'.me d' laid emptied;
+      words = wide_now P K d s.me s.me s'.me word got carried d d' handed out gone fed s'.me d' laid emptied s'.table_id.words (ap (λ (z : TableId). z.words) same ∙ shows.words);
+      slots = ap (λ (z : TableId). z.slots) same ∙ shows.slots;
+    }
+
+    -- it took its turn, of which this is told
+    pub told_staying : (Tells : C → ℕ → ℕ → Turn → Type 0) (turn : Turn) → turn ≡ P.answer d got word → Tells d got word turn
+        → TookAndTold P Tells (record { core = d; seat = s }) word turn (record { core = d'; seat = s' })
+    told_staying Tells turn answer tells = record {
+      took = record {
+        got = got;
+        found = gone.found;
+        told = gone.told;
+        home = gone.home;
+        taken = gone.taken;
+        same_core = gone.core;
+        same_answer = gone.answer;
+        core = core_is P K d s.me s.me s'.me word got carried d d' handed out gone fed s'.me d' laid emptied;
+        answer = answer;
+        sender_trail = all_now P K d s.me s.me s'.me word got carried d d' handed out gone fed s'.me d' laid emptied;
+        stored = stored_now P K d s.me s.me s'.me word got carried d d' handed out gone fed s'.me d' laid emptied;
+      };
+      tells = tells;
+    }
+
+-- where a step is due there is one
+pub due_some : (o : Option Op) → IsSome o → o ≡ None → ⊥
+due_some None some none = absurd (true≢false (sym some))
+due_some (Some o) some none = cc
