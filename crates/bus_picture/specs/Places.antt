@@ -19,8 +19,8 @@ columns_from c (s ∷ rows) = columns_from (wider c s.process) rows
 
 -- from the left: the senders' columns, and then the receivers'
 abbrev pub across : Columns → Process → ℕ
-across c (Sender n) = 60 + 130 * n
-across c (Receiver n) = 60 + 130 * (c.senders + n)
+across c (Sender n) = 60 + 140 * n
+across c (Receiver n) = 60 + 140 * (c.senders + n)
 
 -- from the top: time goes downwards
 abbrev pub down : ℕ → ℕ
@@ -28,4 +28,4 @@ down place = 150 + 18 * place
 
 -- from the left: where the columns end
 abbrev pub edge : Columns → ℕ
-edge c = 60 + 130 * (c.senders + c.receivers)
+edge c = 60 + 140 * (c.senders + c.receivers)

@@ -1,5 +1,5 @@
 -- Shapes at places, in units of the picture from its left and its top.
-use Rattle.std.specs.Prelude.{ℕ, List, [], ◌∷◌, ◌++◌, codes, decimal, if◌then◌else◌}
+use Rattle.std.specs.Prelude.{ℕ, Bool, ◌&&◌, ◌||◌, nat_le, nat_lt, List, [], ◌∷◌, ◌++◌, length, slice_index, take, codes, decimal, if◌then◌else◌}
 use Rattle.std.specs.Str.{bytes_eq}
 
 -- ---- parts
@@ -35,10 +35,22 @@ band_at x top bottom tenure = codes "<path class='band' d='M" ++ point x top ++ 
 abbrev pub arrow_at : (from_x from_y x y : ℕ) → List ℕ
 arrow_at from_x from_y x y = codes "<path class='arrow' d='M" ++ point from_x from_y ++ codes "L" ++ point x y ++ path_end
 
-abbrev pub beside_at : (x y : ℕ) (words : List ℕ) → List ℕ
-beside_at x y words = codes "<text dx='14' dy='4'" ++ at x y ++ text_body words
+-- the first byte of a character, in UTF-8
+abbrev pub begins_character : ℕ → Bool
+begins_character byte = nat_lt byte 128 || nat_le 192 byte
 
--- An answer beside its mark. That a turn is going is left out: most are.
+-- an answer that is longer than a column is wide, where a character begins behind its first 18 bytes
+abbrev pub is_cut : List ℕ → Bool
+is_cut answer = nat_lt 20 (length answer) && begins_character (slice_index answer 18)
+
+-- the answer; if it is too long its first 18 bytes, and two dots
+abbrev pub short : List ℕ → List ℕ
+short answer = if is_cut answer then take 18 answer ++ codes ".." else answer
+
+abbrev pub beside_at : (x y : ℕ) (answer : List ℕ) → List ℕ
+beside_at x y answer = codes "<text dx='14' dy='4'" ++ at x y ++ text_body (short answer)
+
+-- An answer beside its mark, cut where it is too long. That a turn is going is left out: most are.
 abbrev pub answer_at : (x y : ℕ) (answer : List ℕ) → List ℕ
 answer_at x y answer = if bytes_eq answer (codes "going") then 10 ∷ [] else beside_at x y answer
 

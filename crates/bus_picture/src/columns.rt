@@ -62,8 +62,8 @@ pub fn across(columns: Columns, process: Process) -> u64
     ensures { result ≡ across columns process }
 {
     match process {
-        Process::Sender(number) => 60 + 130 * u64::from(number),
-        Process::Receiver(number) => { 60 + 130 * (u64::from(columns.senders) + u64::from(number)) }
+        Process::Sender(number) => 60 + 140 * u64::from(number),
+        Process::Receiver(number) => { 60 + 140 * (u64::from(columns.senders) + u64::from(number)) }
     }
 }
 
@@ -78,5 +78,5 @@ pub fn down(place: u32) -> u64
 pub fn edge(columns: Columns) -> u64
     ensures { result ≡ edge columns }
 {
-    60 + 130 * (u64::from(columns.senders) + u64::from(columns.receivers))
+    60 + 140 * (u64::from(columns.senders) + u64::from(columns.receivers))
 }

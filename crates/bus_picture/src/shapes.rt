@@ -2,7 +2,8 @@
 
 ghost use Rattle.std.specs.Prelude.{◌≡◌, ◌++◌, OnOk, string_bytes};
 ghost use Rattle.bus_picture.specs.Shapes.{point, at, down_to, text_body, use_of, head_at, band_at};
-ghost use Rattle.bus_picture.specs.Shapes.{arrow_at, beside_at, answer_at, mark_at, number_at};
+ghost use Rattle.bus_picture.specs.Shapes.{arrow_at, is_cut, short, beside_at, answer_at, mark_at};
+ghost use Rattle.bus_picture.specs.Shapes.{number_at};
 ghost use Rattle.bus_picture.specs.Shapes.{words_at, extent, size};
 
 use std::alloc::AllocError;
@@ -95,14 +96,35 @@ pub fn push_arrow_at(
     Ok(())
 }
 
-/// A text beside a mark.
-fn push_beside_at(text: &mut String, x: u64, y: u64, words: &str) -> Result<(), AllocError>
+/// Whether an answer is longer than its column is wide: it has more than 20 bytes, and a character
+/// begins behind the first 18.
+fn is_cut(answer: &str) -> bool
+    ensures { result ≡ is_cut answer.now }
+{
+    answer.len() > 20 && answer.is_char_boundary(18)
+}
+
+/// What a text says that is an answer, or its first 18 bytes and two dots if it is too long; and
+/// its end.
+fn push_short(text: &mut String, answer: &str) -> Result<(), AllocError>
     ensures { OnOk result
-        (string_bytes text.new ≡ string_bytes text.old ++ beside_at x y words.now) }
+        (string_bytes text.new ≡ string_bytes text.old ++ text_body (short answer.now)) }
+{
+    if is_cut(answer) {
+        write!(text, ">{}..</text>\n", &answer[..18])
+    } else {
+        push_said(text, answer)
+    }
+}
+
+/// An answer beside a mark.
+fn push_beside_at(text: &mut String, x: u64, y: u64, answer: &str) -> Result<(), AllocError>
+    ensures { OnOk result
+        (string_bytes text.new ≡ string_bytes text.old ++ beside_at x y answer.now) }
 {
     text.push_str("<text dx='14' dy='4'")?;
     push_at(text, x, y)?;
-    push_said(text, words)?;
+    push_short(text, answer)?;
     Ok(())
 }
 
