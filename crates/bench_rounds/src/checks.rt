@@ -1,6 +1,6 @@
 //! What the receivers of a round were given, held against what the senders sent.
 
-ghost use Rattle.std.specs.Prelude.{◌≡◌, ◌↔◌, IsTrue, List, None, OnOk, All};
+ghost use Rattle.std.specs.Prelude.{◌≡◌, ◌↔◌, ℕ, IsTrue, List, None, OnOk, All};
 ghost use Rattle.bench_rounds.specs.declared.workers.Got.{Got as Item};
 ghost use Rattle.bench_rounds.specs.Checks.{HasEach};
 
@@ -14,15 +14,19 @@ use bus_run::buses::{Receiver, TheBus};
 use bus_run::spawning::Workers;
 use std::sync::Wait;
 
-/// Sees that each receiver has all items of each sender, and all the same order.
+/// Sees that each receiver has all items of each sender, that their words sum up to what was sent,
+/// and that all have the same order.
 pub fn check<B: OfBus>(receive_workers: &[ReceiveWorker<B>], load: Load) -> Result<(), Fault>
     ensures counts { OnOk result
         (All (λ receive_worker. HasEach load.senders load.messages receive_worker.heard)
         receive_workers.now) }
+    ensures sums { OnOk result ((sum : ℕ)
+        × All (λ receive_worker. receive_worker.sum ≡ sum) receive_workers.now) }
     ensures order { OnOk result ((order : List Item)
         × All (λ receive_worker. receive_worker.order.items ≡ order) receive_workers.now) }
 {
     check_counts(receive_workers, load)?;
+    check_sums(receive_workers, load.sum())?;
     match receive_workers.first() {
         Some(first) => check_orders(receive_workers, first.order.as_slice()),
         None => Err(Fault::Spawn),
@@ -54,6 +58,20 @@ fn first_miscount(heard: &Heard, load: Load) -> Option<u64>
         }
     }
     None
+}
+
+/// Sees that the words of each receiver's items have this sum.
+fn check_sums<B: OfBus>(receive_workers: &[ReceiveWorker<B>], sum: u64) -> Result<(), Fault>
+    ensures { OnOk result (All (λ receive_worker. receive_worker.sum ≡ sum) receive_workers.now) }
+{
+    for receive_worker in receive_workers {
+        if receive_worker.sum != sum {
+            return Err(Fault::Sum {
+                receiver: receive_worker.number,
+            });
+        }
+    }
+    Ok(())
 }
 
 /// Sees that each receiver has this order.

@@ -1,5 +1,7 @@
 //! Why a measurement fails.
 
+use crate::needs::Shortage;
+use crate::request::Refusal;
 use bus_tenure::Turn;
 use bus_world::MakeFault;
 use std::alloc::{AllocError, AllocFailed};
@@ -25,10 +27,18 @@ pub enum Fault {
     Heard { receiver: u64 },
     /// A receiver has more or fewer items of a sender than it sent.
     Count { receiver: u64, sender: u64 },
+    /// The words of a receiver's items do not sum up to what was sent.
+    Sum { receiver: u64 },
     /// A receiver has another order than the first.
     Order { receiver: u64 },
     /// The bus was not closed, or has more or fewer items of a sender than it sent.
     End,
+    /// The input could not be read.
+    Read,
+    /// A line of the input asks for no measurement.
+    Line(Refusal),
+    /// What a line asks for does not fit a bus.
+    Short(Shortage),
 }
 
 impl fmt::Display for Fault {
@@ -51,11 +61,15 @@ impl fmt::Display for Fault {
                     "receiver {receiver}: wrong number of items of sender {sender}"
                 )
             }
+            Fault::Sum { receiver } => write!(f, "receiver {receiver}: a wrong byte"),
             Fault::Order { receiver } => write!(
                 f,
                 "receiver {receiver}: another order than the first"
             ),
             Fault::End => write!(f, "bus not ended as it was to"),
+            Fault::Read => write!(f, "read failed"),
+            Fault::Line(refusal) => write!(f, "line: {refusal}"),
+            Fault::Short(shortage) => write!(f, "line: {shortage}"),
         }
     }
 }

@@ -6,7 +6,7 @@
 //! ```
 //! use bench_rounds::request::Request;
 //!
-//! let request = Request::new(3, 2, 100, 8, 1).ok().context("in range")?;
+//! let request = Request::new(3, 2, 100, 8, 1, 4).ok().context("in range")?;
 //! let load = request.load().ok().context("it fits")?;
 //! assert_eq!(rt; load.items(), 300);
 //! ```

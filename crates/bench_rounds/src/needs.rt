@@ -2,16 +2,15 @@
 
 ghost use Rattle.std.specs.Prelude.{◌≡◌, ◌-◌, ◌*◌, ◌<◌, ◌≤◌, ◌⊎◌, IfOk, IfErr};
 ghost use Rattle.std.specs.Prelude.{OnOk, OnErr};
-ghost use Rattle.bus_receiver.specs.Sizes.{tenures_of, words_of};
+ghost use Rattle.bus_receiver.specs.Sizes.{batches_of, tenures_of, words_of};
 ghost use Rattle.bus_register.specs.declared.limits.TheConstants.{MOST_SENDERS, MOST_RECEIVERS};
-ghost use Rattle.bus_register.specs.declared.limits.TheConstants.{MOST_MESSAGES};
+ghost use Rattle.bus_register.specs.declared.limits.TheConstants.{MOST_MESSAGES, MOST_ROUNDS};
 ghost use Rattle.bench_rounds.specs.declared.needs.TheConstants.{MOST_TENURES};
 ghost use Rattle.bench_rounds.specs.declared.request.TheConstants.{MOST_REPETITIONS};
 ghost use Rattle.bench_rounds.specs.Sizes.{bytes_of};
 
 use crate::request::{Request, Size};
-use bus_receiver::{tenures_of_sitting, words_of_sitting};
-use bus_register::limits::MOST_LOG_WORDS;
+use bus_register::limits::{MOST_LOG_WORDS, MOST_MESSAGES};
 use std::fmt;
 
 /// Tenures of a round: at most 256.
@@ -57,10 +56,13 @@ pub struct Load {
     pub messages: u64,
     pub size: Size,
     pub repetitions: u64,
+    /// Of each binary decision.
+    pub rounds: u64,
     ghost few_senders: { senders ≤ MOST_SENDERS },
     ghost few_receivers: { receivers ≤ MOST_RECEIVERS },
     ghost few_items: { senders * messages ≤ (MOST_TENURES - 1) * MOST_MESSAGES },
     ghost few_repetitions: { repetitions ≤ MOST_REPETITIONS },
+    ghost some_rounds: { (1 ≤ rounds) × (rounds ≤ MOST_ROUNDS) },
 }
 
 impl Load {
@@ -70,16 +72,49 @@ impl Load {
     {
         self.senders * self.messages
     }
+
+    /// The sum of all words that are sent, modulo 2^64: each sender's messages have its numbers
+    /// from 0 on as their first words, and zeros behind them.
+    pub fn sum(self) -> u64 {
+        let mut sum: u64 = 0;
+        for number in 0..self.messages {
+            sum = sum.wrapping_add(number);
+        }
+        sum.wrapping_mul(self.senders)
+    }
 }
 
 impl Request {
+    /// How many batches of at most 16 a sender makes.
+    fn batches(self) -> u128
+        ensures { result ≡ batches_of self.messages }
+    {
+        (u128::from(self.messages) + (MOST_MESSAGES as u128 - 1)) / MOST_MESSAGES as u128
+    }
+
+    /// How many tenures a round takes: those that `tenures_needed` counts, also past 64 bits.
+    fn tenures(self) -> u128
+        ensures { result ≡ tenures_of self.senders self.messages }
+    {
+        u128::from(self.senders) * self.batches() + 1
+    }
+
+    /// How many log words a round takes: those that `words_needed` counts, also past 64 bits.
+    fn words(self) -> u128
+        ensures { result ≡ words_of self.senders self.messages (bytes_of self.size) }
+    {
+        let each = 1 + (self.size.bytes() as u128 + 7) / 8;
+        u128::from(self.senders) * (self.batches() + u128::from(self.messages) * each) + 2
+    }
+
     /// The measurement, if a round has enough tenures and its bus enough log words for it.
     pub fn load(self) -> Result<Load, Shortage>
         ensures workers { IfOk result (λ load. (load.senders ≡ self.senders)
             × (load.receivers ≡ self.receivers)) }
         ensures messages { IfOk result (λ load. (load.messages ≡ self.messages)
             × (load.size ≡ self.size)) }
-        ensures repetitions { IfOk result (λ load. load.repetitions ≡ self.repetitions) }
+        ensures repetitions { IfOk result (λ load. (load.repetitions ≡ self.repetitions)
+            × (load.rounds ≡ self.rounds)) }
         ensures fits { OnOk result ((tenures_of self.senders self.messages ≤ MOST_TENURES)
             × (words_of self.senders self.messages (bytes_of self.size) ≤ MOST_LOG_WORDS)) }
         ensures needed { IfErr result
@@ -88,9 +123,7 @@ impl Request {
         ensures short { OnErr result ((MOST_TENURES < tenures_of self.senders self.messages)
             ⊎ (MOST_LOG_WORDS < words_of self.senders self.messages (bytes_of self.size))) }
     {
-        let senders = self.senders as u8;
-        let tenures = tenures_of_sitting(senders, self.messages);
-        let words = words_of_sitting(senders, self.messages, self.size.bytes() as u8);
+        let (tenures, words) = (self.tenures(), self.words());
         if tenures > u128::from(MOST_TENURES) || words > u128::from(MOST_LOG_WORDS) {
             return Err(Shortage { tenures, words });
         }
@@ -100,6 +133,7 @@ impl Request {
             messages: self.messages,
             size: self.size,
             repetitions: self.repetitions,
+            rounds: self.rounds,
         })
     }
 }

@@ -5,9 +5,10 @@ ghost use Rattle.std.specs.Prelude.{length, slice_index, IfSome, MatchOption, Co
 
 use crate::faults::Fault;
 use crate::needs::Load;
-use crate::request::MOST_REPETITIONS;
+use crate::request::{MOST_REPETITIONS, parse_line};
 use crate::rounds::{Times, round};
 use std::alloc::Global;
+use std::io::Input;
 use std::sync::Wait;
 use std::thread::Threads;
 use std::time::Clock;
@@ -35,6 +36,32 @@ pub fn bench<R: Print + Threads + Wait + Clock + Sync>(
     match (least, middle(times.as_slice())) {
         (Some(least), Some(median)) => printed(print_summary(rt, load, least, median)),
         _ => Ok(()),
+    }
+}
+
+/// Runs a round for each line of the input, and prints its nanoseconds from the gate's opening.
+pub fn serve<R: Input + Print + Threads + Wait + Clock + Sync>(
+    rt: &R,
+    alloc: Global,
+) -> Result<(), Fault> {
+    let mut seed: u64 = 0;
+    for line in rt.lines(alloc) {
+        let Ok(line) = line else {
+            return Err(Fault::Read);
+        };
+        let load = load_of(line.as_str())?;
+        let nanoseconds = round(rt, alloc, load, seed)?.from_gate;
+        printed(println!(rt; "{nanoseconds}"))?;
+        seed = seed.wrapping_add(1);
+    }
+    Ok(())
+}
+
+/// The measurement that a line asks for.
+fn load_of(line: &str) -> Result<Load, Fault> {
+    match parse_line(line) {
+        Ok(request) => request.load().map_err(Fault::Short),
+        Err(refusal) => Err(Fault::Line(refusal)),
     }
 }
 

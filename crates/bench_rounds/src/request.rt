@@ -1,23 +1,29 @@
 //! What the command line asks for.
 
-ghost use Rattle.std.specs.Prelude.{◌≡◌, ◌≢◌, ◌<◌, ◌≤◌, ◌^◌, length};
+ghost use Rattle.std.specs.Prelude.{◌≡◌, ◌≢◌, ◌<◌, ◌≤◌, ◌^◌, ◌⊎◌, length};
 ghost use Rattle.std.specs.Prelude.{None, IfSome, IfOk, IfErr, OnOk};
 ghost use Rattle.std.specs.Option.{SomeIff};
 ghost use Rattle.std.specs.Str.Parse.{IsNumeral, digits_value};
 ghost use Rattle.bus_register.specs.declared.limits.TheConstants.{MOST_SENDERS, MOST_RECEIVERS};
+ghost use Rattle.bus_register.specs.declared.limits.TheConstants.{MOST_ROUNDS};
 ghost use Rattle.bench_rounds.specs.declared.request.TheConstants.{MOST_REPETITIONS};
 ghost use Rattle.bench_rounds.specs.Sizes.{bytes_of};
 
-use bus_register::limits::{MOST_RECEIVERS, MOST_SENDERS};
+use bus_register::limits::{MOST_RECEIVERS, MOST_ROUNDS, MOST_SENDERS};
+use bus_run::limits::ROUNDS;
 use std::fmt;
 
 /// How the program is called.
-pub const USAGE: &str = "usage: bus_bench SENDERS RECEIVERS MESSAGES BYTES REPETITIONS
+pub const USAGE: &str = "usage: bus_bench SENDERS RECEIVERS MESSAGES BYTES REPETITIONS [ROUNDS]
+       bus_bench lines
   SENDERS      1 to 8
   RECEIVERS    1 to 8
   MESSAGES     of each sender: 1 or more
   BYTES        of each message: 8 or 56
-  REPETITIONS  0 to 10000; with 0 one round is run and its times are not printed
+  REPETITIONS  0 to 10000; with 0 one bus is run and its times are not printed
+  ROUNDS       of each decision: 1 to 8, and 4 if left out
+With `lines` it runs a bus for each line `SENDERS RECEIVERS MESSAGES BYTES [ROUNDS]` of standard
+input, and prints its nanoseconds, from when all threads are up to the last item.
 ";
 
 /// Rounds whose times are printed: at most 10,000.
@@ -31,6 +37,7 @@ pub enum Field {
     Messages,
     Bytes,
     Repetitions,
+    Rounds,
 }
 
 impl fmt::Display for Field {
@@ -41,6 +48,7 @@ impl fmt::Display for Field {
             Field::Messages => "MESSAGES",
             Field::Bytes => "BYTES",
             Field::Repetitions => "REPETITIONS",
+            Field::Rounds => "ROUNDS",
         })
     }
 }
@@ -49,7 +57,7 @@ impl fmt::Display for Field {
 #[derive(Clone, Copy, Debug, PartialEq, Eq)]
 pub enum Refusal {
     NotText,
-    /// Not five words stand behind the program's name, but so many.
+    /// Not as many words are given as are needed, but so many.
     Count(usize),
     /// It is not decimal digits alone, or their number passes `u64::MAX`.
     NotNumber(Field),
@@ -60,7 +68,7 @@ impl fmt::Display for Refusal {
     fn fmt<W: fmt::Write>(&self, f: &mut fmt::Formatter<W>) -> fmt::Result {
         match self {
             Refusal::NotText => write!(f, "an argument is not text"),
-            Refusal::Count(given) => write!(f, "5 words are needed, and {given} are given"),
+            Refusal::Count(given) => write!(f, "{given} words are given"),
             Refusal::NotNumber(field) => { write!(f, "{field} is not a decimal number below 2^64") }
             Refusal::OutOfRange(field) => write!(f, "{field} is out of range"),
         }
@@ -108,10 +116,13 @@ pub struct Request {
     pub messages: u64,
     pub size: Size,
     pub repetitions: u64,
+    /// Of each binary decision.
+    pub rounds: u64,
     ghost some_senders: { (1 ≤ senders) × (senders ≤ MOST_SENDERS) },
     ghost some_receivers: { (1 ≤ receivers) × (receivers ≤ MOST_RECEIVERS) },
     ghost some_messages: { 1 ≤ messages },
     ghost few_repetitions: { repetitions ≤ MOST_REPETITIONS },
+    ghost some_rounds: { (1 ≤ rounds) × (rounds ≤ MOST_ROUNDS) },
 }
 
 impl Request {
@@ -125,13 +136,16 @@ impl Request {
         messages: u64,
         bytes: u64,
         repetitions: u64,
+        rounds: u64,
     ) -> Result<Request, Refusal>
         ensures senders { IfOk result (λ request. (request.senders ≡ senders)
             × (request.receivers ≡ receivers)) }
         ensures messages { IfOk result (λ request. (request.messages ≡ messages)
             × (bytes_of request.size ≡ bytes)) }
-        ensures repetitions { IfOk result (λ request. request.repetitions ≡ repetitions) }
-        ensures refused { IfErr result (IsOutOfRange senders receivers messages bytes repetitions) }
+        ensures repetitions { IfOk result (λ request. (request.repetitions ≡ repetitions)
+            × (request.rounds ≡ rounds)) }
+        ensures refused { IfErr result
+            (IsOutOfRange senders receivers messages bytes repetitions rounds) }
     {
         if senders < 1 || senders > MOST_SENDERS as u64 {
             return Err(Refusal::OutOfRange(Field::Senders));
@@ -148,54 +162,82 @@ impl Request {
         if repetitions > MOST_REPETITIONS {
             return Err(Refusal::OutOfRange(Field::Repetitions));
         }
+        if rounds < 1 || rounds > MOST_ROUNDS {
+            return Err(Refusal::OutOfRange(Field::Rounds));
+        }
         Ok(Request {
             senders,
             receivers,
             messages,
             size,
             repetitions,
+            rounds,
         })
     }
 }
 
 /// The measurement that the words ask for, of which the first is the program's name.
 pub fn parse(words: &[String]) -> Result<Request, Refusal>
-    ensures { OnOk result (length words.now ≡ 6) }
+    ensures { OnOk result ((length words.now ≡ 6) ⊎ (length words.now ≡ 7)) }
 {
-    if words.len() != 6 {
+    if words.len() != 6 && words.len() != 7 {
         return Err(Refusal::Count(words.len().saturating_sub(1)));
     }
+    let rounds = match words.get(6) {
+        Some(rounds) => number(rounds.as_str(), Field::Rounds)?,
+        None => ROUNDS,
+    };
     read_request(
         words[1].as_str(),
         words[2].as_str(),
         words[3].as_str(),
         words[4].as_str(),
-        words[5].as_str(),
+        number(words[5].as_str(), Field::Repetitions)?,
+        rounds,
     )
 }
 
-/// The measurement that five words ask for.
+/// The measurement without repetition that a line asks for, by its words.
+pub fn parse_line(line: &str) -> Result<Request, Refusal> {
+    let mut words = line.split_ascii_whitespace();
+    let (senders, receivers) = (words.next(), words.next());
+    let (messages, bytes) = (words.next(), words.next());
+    let rounds = match words.next() {
+        Some(rounds) => number(rounds, Field::Rounds)?,
+        None => ROUNDS,
+    };
+    match (senders, receivers, messages, bytes, words.next()) {
+        (Some(senders), Some(receivers), Some(messages), Some(bytes), None) => {
+            read_request(senders, receivers, messages, bytes, 0, rounds)
+        }
+        _ => Err(Refusal::Count(line.split_ascii_whitespace().count())),
+    }
+}
+
+/// The measurement that four words and two numbers ask for.
 fn read_request(
     senders: &str,
     receivers: &str,
     messages: &str,
     bytes: &str,
-    repetitions: &str,
+    repetitions: u64,
+    rounds: u64,
 ) -> Result<Request, Refusal>
     ensures senders { IfOk result (λ request. request.senders ≡ digits_value 10 senders.now) }
     ensures receivers { IfOk result
         (λ request. request.receivers ≡ digits_value 10 receivers.now) }
     ensures messages { IfOk result (λ request. request.messages ≡ digits_value 10 messages.now) }
     ensures bytes { IfOk result (λ request. bytes_of request.size ≡ digits_value 10 bytes.now) }
-    ensures repetitions { IfOk result
-        (λ request. request.repetitions ≡ digits_value 10 repetitions.now) }
+    ensures repetitions { IfOk result (λ request. (request.repetitions ≡ repetitions)
+        × (request.rounds ≡ rounds)) }
 {
     Request::new(
         number(senders, Field::Senders)?,
         number(receivers, Field::Receivers)?,
         number(messages, Field::Messages)?,
         number(bytes, Field::Bytes)?,
-        number(repetitions, Field::Repetitions)?,
+        repetitions,
+        rounds,
     )
 }
 

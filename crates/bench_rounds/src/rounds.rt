@@ -11,7 +11,7 @@ use crate::workers::ReceiveWorker;
 use bus_pageslot::OfBus;
 use bus_register::limits::MOST_LOG_WORDS;
 use bus_run::buses::{Bus, Sender, Tap, TheBus};
-use bus_run::limits::{ROUNDS, ROWS};
+use bus_run::limits::ROWS;
 use bus_world::Shape;
 use std::alloc::Global;
 use std::marker::Brand;
@@ -33,7 +33,7 @@ fn shape_of(load: Load) -> Shape {
     Shape {
         senders: load.senders,
         receivers: load.receivers,
-        rounds: ROUNDS,
+        rounds: load.rounds,
         rows: ROWS,
         log_words: MOST_LOG_WORDS,
     }

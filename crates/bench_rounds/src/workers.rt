@@ -8,16 +8,16 @@ ghost use Rattle.bus_receiver.specs.Listening.{bus_of};
 use crate::faults::Fault;
 use crate::gates::Gate;
 use crate::needs::Load;
+use bus_batch::Item;
 use bus_deliverylog::RecvTurn;
 use bus_pageslot::OfBus;
-use bus_receiver::Heard;
+use bus_receiver::{Heard, Next};
 use bus_register::SenderNo;
 use bus_register::limits::{MOST_BYTES, MOST_MESSAGES};
 use bus_run::buses::{Receiver, Sender, Tap, TheBus};
 use bus_run::spawning::Work;
 use bus_run::workers::generator;
 use bus_tenure::Turn;
-use crossbeam_utils::Backoff;
 use rand_chacha::ChaCha8Rng;
 use std::alloc::{AllocError, Global};
 use std::marker::PhantomData;
@@ -94,6 +94,8 @@ pub struct ReceiveWorker<B: OfBus> {
     pub receiver: Receiver,
     pub heard: Heard,
     pub order: Vec<Got>,
+    /// The sum of all words of its items, modulo 2^64.
+    pub sum: u64,
     /// When it had all items.
     pub done: Option<Instant>,
     pub fault: Option<Fault>,
@@ -116,6 +118,7 @@ impl<B: OfBus> ReceiveWorker<B> {
             receiver: Receiver::new(tap),
             heard: Heard::new(),
             order: Vec::with_capacity(alloc, items as usize)?,
+            sum: 0,
             done: None,
             fault: None,
             of: PhantomData,
@@ -249,34 +252,46 @@ impl<B: OfBus, R: Wait + Clock> Work<ReceiveWorker<B>> for HearAll<'_, B, R> {
 }
 
 impl<B: OfBus, R: Wait> HearAll<'_, B, R> {
-    /// Takes turns until it has all items. On false the round was given up before.
+    /// Takes items until it has all. On false the round was given up before.
     fn take_all(&self, receive_worker: &mut ReceiveWorker<B>) -> Result<bool, Fault> {
-        let (items, receiver) = (self.load.items(), receive_worker.number);
-        let backoff = Backoff::new();
-        for _ in self.rt.forever() {
-            if receive_worker.heard.items() >= items {
-                return Ok(true);
-            }
-            let turn = receive_worker.receiver.turn(&self.the.bus);
-            if !receive_worker.heard.note(&turn) {
-                return Err(Fault::Heard { receiver });
-            }
-            match turn {
-                RecvTurn::Item(item) => {
-                    let (sender, number) = (item.sender, item.number);
-                    receive_worker.order.push(Got { sender, number })?;
-                    backoff.reset();
-                }
-                RecvTurn::Empty => {
-                    if self.gate.is_given_up() {
-                        return Ok(false);
-                    }
-                    backoff.snooze();
-                }
-                RecvTurn::Going | RecvTurn::Head { .. } => backoff.reset(),
-                RecvTurn::End => return Err(Fault::Heard { receiver }),
+        let gate = self.gate;
+        for _ in 0..self.load.items() {
+            let receiver = &mut receive_worker.receiver;
+            match receiver.next_item_while(self.rt, &self.the.bus, || !gate.is_given_up()) {
+                Next::Item(item) => note(receive_worker, item)?,
+                Next::End => return Err(heard_amiss(receive_worker)),
+                Next::Stopped => return Ok(false),
             }
         }
-        unreachable!()
+        Ok(true)
+    }
+}
+
+/// Notes an item, which has to be the next of its sender, and reads all its bytes.
+fn note<B: OfBus>(receive_worker: &mut ReceiveWorker<B>, item: Item) -> Result<(), Fault> {
+    let (sender, number) = (item.sender, item.number);
+    let words = words_sum(item.message.as_slice());
+    if !receive_worker.heard.note(&RecvTurn::Item(item)) {
+        return Err(heard_amiss(receive_worker));
+    }
+    receive_worker.sum = receive_worker.sum.wrapping_add(words);
+    receive_worker.order.push(Got { sender, number })?;
+    Ok(())
+}
+
+/// The sum of words of 8 bytes, the highest first, modulo 2^64.
+fn words_sum(bytes: &[u8]) -> u64 {
+    let mut sum: u64 = 0;
+    let (words, _) = bytes.as_chunks::<8>();
+    for word in words {
+        sum = sum.wrapping_add(u64::from_be_bytes(*word));
+    }
+    sum
+}
+
+/// That a receiver was given what cannot come next.
+fn heard_amiss<B: OfBus>(receive_worker: &ReceiveWorker<B>) -> Fault {
+    Fault::Heard {
+        receiver: receive_worker.number,
     }
 }

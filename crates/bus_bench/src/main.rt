@@ -5,9 +5,10 @@
 //! which standard error then says; 2 where the command line was refused.
 #![tactic(auto)]
 
-use bench_rounds::needs::Load;
-use bench_rounds::report::bench;
+use bench_rounds::faults::Fault;
+use bench_rounds::report::{bench, serve};
 use bench_rounds::request::{Refusal, USAGE, parse};
+use std::io::Input;
 use std::process::ExitCode;
 use std::rt::Env;
 use std::sync::Wait;
@@ -20,7 +21,7 @@ fn main(rt: HostRuntime) -> ExitCode {
 }
 
 /// The whole program.
-fn bus_bench<R: AllocGlobal + Env + Print + Eprint + Threads + Wait + Clock + Sync>(
+fn bus_bench<R: AllocGlobal + Env + Input + Print + Eprint + Threads + Wait + Clock + Sync>(
     rt: &R,
 ) -> ExitCode {
     let words = match given_words(rt) {
@@ -31,9 +32,14 @@ fn bus_bench<R: AllocGlobal + Env + Print + Eprint + Threads + Wait + Clock + Sy
         }
         Err(_) => return refuse(rt, Refusal::NotText),
     };
+    if let [_, word] = words.as_slice()
+        && word.as_str() == "lines"
+    {
+        return end(rt, serve(rt, rt.alloc()));
+    }
     match parse(words.as_slice()) {
         Ok(request) => match request.load() {
-            Ok(load) => run(rt, load),
+            Ok(load) => end(rt, bench(rt, rt.alloc(), load)),
             Err(shortage) => {
                 let _ = eprintln!(rt; "bus_bench: {shortage}");
                 ExitCode::FAILURE
@@ -55,12 +61,9 @@ fn refuse<R: Eprint>(rt: &R, refusal: Refusal) -> ExitCode {
     ExitCode::from(2)
 }
 
-/// Runs all rounds, and gives the exit status.
-fn run<R: AllocGlobal + Print + Eprint + Threads + Wait + Clock + Sync>(
-    rt: &R,
-    load: Load,
-) -> ExitCode {
-    match bench(rt, rt.alloc(), load) {
+/// Says what failed, and gives the exit status.
+fn end<R: Eprint>(rt: &R, ended: Result<(), Fault>) -> ExitCode {
+    match ended {
         Ok(()) => ExitCode::SUCCESS,
         Err(fault) => {
             let _ = eprintln!(rt; "bus_bench: {fault}");
