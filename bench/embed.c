@@ -1,0 +1,315 @@
+/* Tests of the archive through include/kioskbasil.h, and the time of a message through it. bench/embed builds and runs it:
+   `codes`, `storm RUNS`, `time`. It prints what failed, and `N passed, M failed` last. */
+#include "kioskbasil.h"
+#include "waiting.h"
+#include <pthread.h>
+#include <stdatomic.h>
+#include <stdio.h>
+#include <stdlib.h>
+#include <string.h>
+
+static long passed, failed;
+
+static void expect(int line, const char *what, uint64_t is, uint64_t wanted) {
+    if (is == wanted) {
+        passed++;
+    } else {
+        failed++;
+        fprintf(stderr, "embed.c:%d: %s: %llu, and not %llu\n", line, what, (unsigned long long)is, (unsigned long long)wanted);
+    }
+}
+#define EXPECT(call, wanted) expect(__LINE__, #call, (uint64_t)(call), (uint64_t)(wanted))
+
+/* One wrong size at a time. */
+static void bad_shapes(void) {
+    kioskbasil_sender s[9] = {KIOSKBASIL_NONE};
+    kioskbasil_receiver r[9] = {KIOSKBASIL_NONE};
+    kioskbasil_sizes good = {1, 2, 16, false}, bad = good;
+    EXPECT(kioskbasil_open(&good, s, 0, r, 1), KIOSKBASIL_BAD_SENDERS);
+    EXPECT(kioskbasil_open(&good, s, 9, r, 9), KIOSKBASIL_BAD_SENDERS);
+    EXPECT(kioskbasil_open(&good, s, 1, r, 0), KIOSKBASIL_BAD_RECEIVERS);
+    EXPECT(kioskbasil_open(&good, s, 1, r, 9), KIOSKBASIL_BAD_RECEIVERS);
+    bad.rounds = 9;
+    EXPECT(kioskbasil_open(&bad, s, 1, r, 1), KIOSKBASIL_BAD_ROUNDS);
+    bad = good, bad.rows = 257;
+    EXPECT(kioskbasil_open(&bad, s, 1, r, 1), KIOSKBASIL_BAD_ROWS);
+    bad.again = true, bad.rows = 9;
+    EXPECT(kioskbasil_open(&bad, s, 1, r, 1), KIOSKBASIL_BAD_ROWS);
+    bad = good, bad.log_words = 15;
+    EXPECT(kioskbasil_open(&bad, s, 1, r, 1), KIOSKBASIL_BAD_LOG_WORDS);
+    bad.log_words = 65537;
+    EXPECT(kioskbasil_open(&bad, s, 1, r, 1), KIOSKBASIL_BAD_LOG_WORDS);
+    for (int i = 0; i < 9; i++) EXPECT(s[i].live + r[i].live, 0);
+}
+
+/* Every call of an empty handle, and with NULL. */
+static void no_handles(void) {
+    kioskbasil_sender s = KIOSKBASIL_NONE;
+    kioskbasil_receiver r = KIOSKBASIL_NONE;
+    kioskbasil_turn_answer turn = {7, 7, 7, 7};
+    kioskbasil_sender_shown sender;
+    kioskbasil_receiver_shown receiver;
+    kioskbasil_heard heard;
+    kioskbasil_item item;
+    kioskbasil_left left;
+    kioskbasil_sizes sizes = {1, 2, 16, false};
+    uint64_t number = 7;
+    size_t many = 7;
+    EXPECT(kioskbasil_put(&s, "x", 1, &number), KIOSKBASIL_EMPTY_HANDLE);
+    EXPECT(number, 7);
+    EXPECT(kioskbasil_close(&s), KIOSKBASIL_EMPTY_HANDLE);
+    EXPECT(kioskbasil_turn(&s, 1, &turn), KIOSKBASIL_EMPTY_HANDLE);
+    EXPECT(turn.tenure, 7);
+    EXPECT(kioskbasil_show_sender(&s, &sender), KIOSKBASIL_EMPTY_HANDLE);
+    EXPECT(kioskbasil_hear_once(&r, &heard), KIOSKBASIL_EMPTY_HANDLE);
+    EXPECT(kioskbasil_hear(&r, &item, 1, &many), KIOSKBASIL_EMPTY_HANDLE);
+    EXPECT(many, 7);
+    EXPECT(kioskbasil_show_receiver(&r, &receiver), KIOSKBASIL_EMPTY_HANDLE);
+    EXPECT(kioskbasil_end(&s, 1, &r, 1, NULL, 0, &left), KIOSKBASIL_EMPTY_HANDLE);
+    kioskbasil_free_sender(&s);
+    kioskbasil_free_receiver(&r);
+    kioskbasil_free_sender(NULL);
+    kioskbasil_free_receiver(NULL);
+    EXPECT(s.live + r.live, 0);
+    EXPECT(kioskbasil_open(NULL, &s, 1, &r, 1), KIOSKBASIL_NULL);
+    EXPECT(kioskbasil_open(&sizes, NULL, 1, &r, 1), KIOSKBASIL_NULL);
+    EXPECT(kioskbasil_open(&sizes, &s, 1, NULL, 1), KIOSKBASIL_NULL);
+    EXPECT(kioskbasil_put(NULL, "x", 1, &number), KIOSKBASIL_NULL);
+    EXPECT(kioskbasil_put(&s, NULL, 1, &number), KIOSKBASIL_NULL);
+    EXPECT(kioskbasil_close(NULL), KIOSKBASIL_NULL);
+    EXPECT(kioskbasil_turn(NULL, 1, &turn), KIOSKBASIL_NULL);
+    EXPECT(kioskbasil_show_sender(&s, NULL), KIOSKBASIL_NULL);
+    EXPECT(kioskbasil_hear_once(&r, NULL), KIOSKBASIL_NULL);
+    EXPECT(kioskbasil_hear(&r, NULL, 1, &many), KIOSKBASIL_NULL);
+    EXPECT(kioskbasil_show_receiver(NULL, &receiver), KIOSKBASIL_NULL);
+    EXPECT(kioskbasil_end(&s, 1, &r, 1, NULL, 1, &left), KIOSKBASIL_NULL);
+    for (uint32_t code = 0; code <= KIOSKBASIL_NULL; code++) {
+        int named = code <= KIOSKBASIL_END || code >= KIOSKBASIL_BAD_SENDERS;
+        EXPECT(strcmp(kioskbasil_text(code), "no code of this version") != 0, named);
+        EXPECT(kioskbasil_refused(code), code >= 32);
+    }
+}
+
+/* One sender and one receiver, call by call. */
+static void one_sender(bool again) {
+    kioskbasil_sender s[1] = {KIOSKBASIL_NONE};
+    kioskbasil_receiver r[2] = {KIOSKBASIL_NONE};
+    kioskbasil_sizes sizes = {1, again ? 2 : 3, 64, again};
+    kioskbasil_turn_answer turn;
+    kioskbasil_sender_shown sender;
+    kioskbasil_receiver_shown receiver;
+    kioskbasil_heard heard;
+    kioskbasil_item items[8];
+    kioskbasil_left left;
+    uint8_t big[57];
+    uint64_t number = 7, seed = 1, log[4] = {9, 9, 9, 9};
+    size_t many = 7;
+    for (int i = 0; i < 57; i++) big[i] = (uint8_t)(200 - i);
+    memset(items, 7, sizeof items);
+    EXPECT(kioskbasil_open(&sizes, s, 1, r, 2), KIOSKBASIL_OK);
+    EXPECT(kioskbasil_turn(s, 1, &turn), KIOSKBASIL_IDLE);
+    EXPECT(kioskbasil_put(s, big, 57, &number), KIOSKBASIL_PUT_TOO_LONG);
+    EXPECT(number, 7);
+    EXPECT(kioskbasil_put(s, big, 56, &number), KIOSKBASIL_OK);
+    EXPECT(number, 0);
+    EXPECT(kioskbasil_put(s, NULL, 0, NULL), KIOSKBASIL_OK);
+    EXPECT(kioskbasil_put(s, "hi", 2, &number), KIOSKBASIL_OK);
+    EXPECT(number, 2);
+    EXPECT(kioskbasil_close(s), KIOSKBASIL_CLOSE_PENDING);
+    EXPECT(kioskbasil_show_sender(s, &sender), KIOSKBASIL_OK);
+    EXPECT(sender.pending, 3);
+    EXPECT(sender.next_number, 3);
+    EXPECT(sender.number, 0);
+    EXPECT(sender.is_closed, false);
+    EXPECT(kioskbasil_hear(r, items, 8, &many), KIOSKBASIL_EMPTY);
+    EXPECT(many, 0);
+    EXPECT(send_batch(s, &seed, &turn), KIOSKBASIL_DELIVERED);
+    EXPECT(turn.tenure, 0);
+    EXPECT(turn.first, 0);
+    EXPECT(turn.last, 2);
+    EXPECT(kioskbasil_hear(r, items, 2, &many), KIOSKBASIL_GOING);
+    EXPECT(many, 2);
+    EXPECT(items[0].length, 56);
+    EXPECT(memcmp(items[0].bytes, big, 56), 0);
+    EXPECT(items[1].length, 0);
+    EXPECT(items[2].length, 7);
+    EXPECT(kioskbasil_hear(r, items, 8, &many), KIOSKBASIL_EMPTY);
+    EXPECT(many, 1);
+    EXPECT(items[0].number, 2);
+    EXPECT(items[0].sender, 0);
+    EXPECT(memcmp(items[0].bytes, "hi\0", 3), 0);
+    for (int i = 0; i < 16; i++) EXPECT(kioskbasil_put(s, "x", 1, NULL), KIOSKBASIL_OK);
+    EXPECT(kioskbasil_put(s, "x", 1, NULL), KIOSKBASIL_PUT_BATCH_FULL);
+    do {
+        EXPECT(kioskbasil_turn(s, 0, &turn) < KIOSKBASIL_EMPTY, 1);
+        kioskbasil_show_sender(s, &sender);
+    } while (kioskbasil_put(s, "x", 1, NULL) != KIOSKBASIL_PUT_BUSY && sender.pending);
+    EXPECT(kioskbasil_close(s), KIOSKBASIL_CLOSE_BUSY);
+    EXPECT(send_batch(s, &seed, &turn), KIOSKBASIL_DELIVERED);
+    EXPECT(turn.last, 18);
+    EXPECT(kioskbasil_close(s), KIOSKBASIL_OK);
+    EXPECT(kioskbasil_close(s), KIOSKBASIL_CLOSE_CLOSED);
+    EXPECT(kioskbasil_put(s, "x", 1, NULL), KIOSKBASIL_PUT_CLOSED);
+    EXPECT(send_batch(s, &seed, NULL), KIOSKBASIL_CLOSED);
+    uint32_t code, heads = 0, found = 0;
+    while ((code = kioskbasil_hear_once(r, &heard)) != KIOSKBASIL_END) {
+        if (code == KIOSKBASIL_HEAD) heads++;
+        if (code == KIOSKBASIL_ITEM) found++, EXPECT(heard.item.bytes[0], 'x');
+    }
+    EXPECT(found, 16);
+    EXPECT(heads >= 1, 1);
+    EXPECT(kioskbasil_hear(r, items, 8, &many), KIOSKBASIL_END);
+    EXPECT(kioskbasil_show_receiver(r, &receiver), KIOSKBASIL_OK);
+    EXPECT(receiver.has_ended, true);
+    EXPECT(receiver.place, receiver.known);
+    EXPECT(kioskbasil_end(s, 1, r, 1, NULL, 0, &left), KIOSKBASIL_IN_USE);
+    EXPECT(r[0].live, 0);
+    EXPECT(kioskbasil_end(NULL, 0, r + 1, 1, log, 2, &left), KIOSKBASIL_OK);
+    EXPECT(left.counts[0], 19);
+    EXPECT(left.words, receiver.known);
+    EXPECT(left.ended, true);
+    EXPECT(log[0] != 9 && log[2] == 9, 1);
+}
+
+/* Full, spent, and a page that is out. */
+static void ends(void) {
+    kioskbasil_sender s[1] = {KIOSKBASIL_NONE};
+    kioskbasil_receiver r[1] = {KIOSKBASIL_NONE};
+    kioskbasil_sizes sizes = {1, 1, 16, false};
+    kioskbasil_left left;
+    uint64_t seed = 5;
+    uint8_t big[56] = {0};
+    EXPECT(kioskbasil_open(&sizes, s, 1, r, 1), KIOSKBASIL_OK);
+    for (int i = 0; i < 4; i++) EXPECT(kioskbasil_put(s, big, 56, NULL), KIOSKBASIL_OK);
+    EXPECT(send_batch(s, &seed, NULL), KIOSKBASIL_FULL);
+    EXPECT(send_batch(s, &seed, NULL), KIOSKBASIL_SPENT);
+    EXPECT(kioskbasil_open(&sizes, s, 1, r, 1), KIOSKBASIL_OK);
+    EXPECT(kioskbasil_put(s, "x", 1, NULL), KIOSKBASIL_OK);
+    while (kioskbasil_turn(s, 3, NULL) != KIOSKBASIL_OWN) {}
+    EXPECT(kioskbasil_end(s, 1, r, 1, NULL, 0, &left), KIOSKBASIL_PAGE_OUT);
+    EXPECT(s[0].live + r[0].live, 0);
+}
+
+/* ---- many short runs of four senders and four receivers, each in a thread of its own */
+enum { SIDES = 4, MESSAGES = 24 };
+
+struct side {
+    kioskbasil_sender *sender;
+    kioskbasil_receiver *receiver;
+    uint64_t seed;
+    atomic_int *left;
+    kioskbasil_item heard[SIDES * MESSAGES + 1];
+    size_t many;
+    uint32_t last;
+};
+
+static void *send_side(void *given) {
+    struct side *me = given;
+    kioskbasil_sender_shown shown;
+    kioskbasil_show_sender(me->sender, &shown);
+    for (int i = 0; i < MESSAGES;) {
+        uint8_t message[56];
+        size_t length = (size_t)(i * 7 % 57);
+        memset(message, shown.number * 64 + i, sizeof message);
+        if (kioskbasil_put(me->sender, message, length, NULL) == KIOSKBASIL_OK) i++;
+        if (i % 5 == 0 || i == MESSAGES) me->last = send_batch(me->sender, &me->seed, NULL);
+    }
+    if (atomic_fetch_sub(me->left, 1) == 1) me->last = end_order(me->sender, &me->seed);
+    return NULL;
+}
+
+static void *hear_side(void *given) {
+    struct side *me = given;
+    size_t many;
+    do {
+        size_t room = SIDES * MESSAGES + 1 - me->many;
+        me->last = hear_some(me->receiver, me->heard + me->many, room < 7 ? room : 7, &many);
+        me->many += many;
+    } while (me->last != KIOSKBASIL_END && me->many <= SIDES * MESSAGES);
+    return NULL;
+}
+
+static int storm(unsigned run) {
+    kioskbasil_sender s[SIDES] = {KIOSKBASIL_NONE};
+    kioskbasil_receiver r[SIDES] = {KIOSKBASIL_NONE};
+    kioskbasil_sizes sizes = {1 + run % 4, run % 2 ? 2 + run % 7 : 64, 1024, run % 2};
+    static struct side sides[2 * SIDES];
+    atomic_int left = SIDES;
+    pthread_t threads[2 * SIDES];
+    kioskbasil_left ended;
+    int bad = kioskbasil_open(&sizes, s, SIDES, r, SIDES) != KIOSKBASIL_OK;
+    memset(sides, 0, sizeof sides);
+    for (int i = 0; i < 2 * SIDES; i++) {
+        struct side *side = &sides[i];
+        side->left = &left, side->seed = run * 16 + i + 1;
+        if (i < SIDES) side->sender = &s[i]; else side->receiver = &r[i - SIDES];
+        if (pthread_create(&threads[i], NULL, i < SIDES ? send_side : hear_side, side)) exit(2);
+    }
+    for (int i = 0; i < 2 * SIDES; i++) pthread_join(threads[i], NULL);
+    uint64_t next[SIDES] = {0};
+    const struct side *first = &sides[SIDES];
+    for (int i = SIDES; i < 2 * SIDES; i++)
+        bad |= sides[i].many != SIDES * MESSAGES || sides[i].last != KIOSKBASIL_END || memcmp(sides[i].heard, first->heard, first->many * sizeof *first->heard);
+    for (size_t i = 0; i < first->many && !bad; i++) {
+        const kioskbasil_item *item = &first->heard[i];
+        bad |= item->sender >= SIDES || item->number != next[item->sender]++ || item->length != item->number * 7 % 57;
+        for (int b = 0; b < 56 && !bad; b++) bad |= item->bytes[b] != (b < item->length ? (uint8_t)(item->sender * 64 + item->number) : 0);
+    }
+    bad |= kioskbasil_end(s, SIDES, r, SIDES, NULL, 0, &ended) != KIOSKBASIL_OK;
+    for (int i = 0; i < SIDES; i++) bad |= ended.counts[i] != MESSAGES;
+    return bad;
+}
+
+/* ---- the time of a message: one thread puts batches of 16, sends and hears them */
+static double now(void) {
+    struct timespec t;
+    clock_gettime(CLOCK_PROCESS_CPUTIME_ID, &t);
+    return (double)t.tv_sec * 1e9 + (double)t.tv_nsec;
+}
+
+static void timing(void) {
+    double whole = 0, calls = 0;
+    uint64_t messages = 0, turns = 0, seed = 1;
+    kioskbasil_item items[32];
+    for (int sitting = 0; sitting < 200; sitting++) {
+        kioskbasil_sender s[1] = {KIOSKBASIL_NONE};
+        kioskbasil_receiver r[1] = {KIOSKBASIL_NONE};
+        kioskbasil_sizes sizes = {1, 8, 65536, true};
+        if (kioskbasil_open(&sizes, s, 1, r, 1)) exit(2);
+        double begun = now();
+        for (int batch = 0; batch < 1900; batch++) {
+            size_t many = 0;
+            for (int i = 0; i < 16; i++) kioskbasil_put(s, "8 bytes!", 8, NULL);
+            if (send_batch(s, &seed, NULL) != KIOSKBASIL_DELIVERED) exit(2);
+            kioskbasil_hear(r, items, 32, &many);
+            messages += many;
+        }
+        whole += now() - begun;
+        begun = now();
+        for (int i = 0; i < 100000; i++) kioskbasil_turn(s, 1, NULL);
+        calls += now() - begun, turns += 100000;
+        kioskbasil_free_sender(s);
+        kioskbasil_free_receiver(r);
+    }
+    printf("C: %.1f ns a message of 8 bytes, put, sent in batches of 16 and heard in one thread (%llu messages); %.1f ns an idle turn\n", whole / (double)messages, (unsigned long long)messages, calls / (double)turns);
+}
+
+int main(int count, char **words) {
+    const char *what = count > 1 ? words[1] : "codes";
+    if (!strcmp(what, "time")) return timing(), 0;
+    if (!strcmp(what, "storm")) {
+        long runs = count > 2 ? atol(words[2]) : 1000;
+        for (long run = 0; run < runs; run++) {
+            if (storm((unsigned)run)) failed++, fprintf(stderr, "storm %ld differs\n", run);
+            else passed++;
+        }
+    } else {
+        bad_shapes();
+        no_handles();
+        one_sender(false);
+        one_sender(true);
+        ends();
+    }
+    printf("%s: %ld passed, %ld failed\n", what, passed, failed);
+    return failed != 0;
+}

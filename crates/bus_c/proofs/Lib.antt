@@ -1,0 +1,2 @@
+mod ReceiverValues
+mod SenderValues

@@ -1,0 +1,100 @@
+//! The calls of a sender. An empty handle stays empty, and nothing else is changed.
+
+ghost use Rattle.std.specs.Prelude.{◌≡◌, None, IfSome, IfNone, IsSomeAnd};
+ghost use Rattle.bus_embed.specs.declared.codes.TheConstants.{OK as done};
+ghost use Rattle.bus_embed.specs.declared.codes.TheConstants.{EMPTY_HANDLE as no_handle};
+ghost use Rattle.bus_embed.specs.Calls.{PutAnswered, CloseAnswered, TurnAnswered, ShowsSender};
+
+use crate::sender::CSender;
+use bus_embed::codes::{EMPTY_HANDLE, OK};
+use bus_embed::{SenderShown, TurnAnswer, close_sender, put_message, show_sender, take_turn};
+use std::alloc::Global;
+
+/// Appends a message to the sender's batch.
+#[unsafe(no_mangle)]
+pub extern "C" fn bus_c_put(
+    alloc: Global,
+    sender: &mut CSender,
+    bytes: &[u8],
+    number: &mut u64,
+) -> u32
+    ensures none { IfNone sender.old.held ((result ≡ no_handle) × (sender.new.held ≡ None)
+        × (number.new ≡ number.old)) }
+    ensures put { IfSome sender.old.held (λ old. IsSomeAnd sender.new.held (λ new.
+        PutAnswered old.handle bytes.now result number.old number.new new.handle)) }
+{
+    match sender.take(alloc) {
+        Some(mut seat) => {
+            let code = put_message(&mut seat.handle, bytes, number);
+            sender.hold(seat);
+            code
+        }
+        None => EMPTY_HANDLE,
+    }
+}
+
+/// Lets an end mark wait.
+#[unsafe(no_mangle)]
+pub extern "C" fn bus_c_close(alloc: Global, sender: &mut CSender) -> u32
+    ensures none { IfNone sender.old.held ((result ≡ no_handle) × (sender.new.held ≡ None)) }
+    ensures close { IfSome sender.old.held (λ old. IsSomeAnd sender.new.held (λ new.
+        CloseAnswered old.handle result new.handle)) }
+{
+    match sender.take(alloc) {
+        Some(mut seat) => {
+            let code = close_sender(&mut seat.handle);
+            sender.hold(seat);
+            code
+        }
+        None => EMPTY_HANDLE,
+    }
+}
+
+/// One turn with this random word.
+#[unsafe(no_mangle)]
+pub extern "C" fn bus_c_turn(
+    alloc: Global,
+    sender: &mut CSender,
+    word: u32,
+    answer: &mut TurnAnswer,
+) -> u32
+    ensures none { IfNone sender.old.held ((result ≡ no_handle) × (sender.new.held ≡ None)
+        × (answer.new ≡ answer.old)) }
+    ensures turn { IfSome sender.old.held (λ old. IsSomeAnd sender.new.held (λ new.
+        TurnAnswered old.handle word result answer.new new.handle)) }
+{
+    match sender.take(alloc) {
+        Some(mut seat) => {
+            let code = take_turn(&mut seat.handle, word, answer);
+            sender.hold(seat);
+            code
+        }
+        None => EMPTY_HANDLE,
+    }
+}
+
+/// What the sender shows.
+#[unsafe(no_mangle)]
+pub extern "C" fn bus_c_sender(alloc: Global, sender: &mut CSender, shown: &mut SenderShown) -> u32
+    ensures none { IfNone sender.old.held ((result ≡ no_handle) × (sender.new.held ≡ None)
+        × (shown.new ≡ shown.old)) }
+    ensures shows { IfSome sender.old.held (λ old. (result ≡ done)
+        × ShowsSender old.handle shown.new × (sender.new.held ≡ sender.old.held)) }
+{
+    match sender.take(alloc) {
+        Some(seat) => {
+            *shown = show_sender(&seat.handle);
+            sender.hold(seat);
+            OK
+        }
+        None => EMPTY_HANDLE,
+    }
+}
+
+/// Gives the handle up: it is empty then.
+#[unsafe(no_mangle)]
+pub extern "C" fn bus_c_free_sender(alloc: Global, sender: &mut CSender)
+    ensures { sender.new.held ≡ None }
+{
+    drop(sender.take(alloc));
+}

@@ -1,0 +1,2 @@
+mod HearLaws
+mod OverLaws

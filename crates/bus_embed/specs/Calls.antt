@@ -1,0 +1,128 @@
+-- What calls of a sender and of a receiver answer, as numbers.
+use Rattle.std.specs.Prelude.{◌≡◌, ℕ, ◌+◌, ◌⊎◌, Bool, true, false, List, [], ◌∷◌, ◌++◌, None, Some, length, drop, map, Result, IfOk, IfErr, OnOk, OnErr}
+use Rattle.bus_register.specs.declared.registers.Op.{Op}
+use Rattle.bus_batch.specs.Batches.{next_of, CanPut, IsPutFault, CanClose, IsCloseFault}
+use Rattle.bus_batch.specs.declared.messages.Item.{Item}
+use Rattle.bus_batch.specs.declared.batches.PutFault.{PutFault}
+use Rattle.bus_batch.specs.declared.batches.CloseFault.{CloseFault}
+use Rattle.bus_deliverylog.specs.declared.receiving.RecvTurn.{RecvTurn}
+use Rattle.bus_deliverylog.specs.declared.receiving.RecvTurn.TheVariants as heard
+use Rattle.bus_tenure.specs.Core.{is_closed}
+use Rattle.bus_tenure.specs.declared.turns.Turn.{Turn}
+use Rattle.bus_core.specs.Telling.{FeedTells}
+use Rattle.bus_world.specs.Headline.{HasPut, HasClosed}
+use Rattle.bus_pageslot.specs.Listening.{Hears}
+use Rattle.bus_pageslot.specs.Rule.{Sat, receiver_view_in, known_in}
+use Rattle.bus_pageslot.specs.Seats.{SenderSeat, TookAndTold, table_of, actions_of, stored_of}
+use Rattle.bus_pageslot.specs.Sendings.{waiting_of}
+use Rattle.bus_embed.specs.declared.codes.TheConstants as code
+use Rattle.bus_embed.specs.declared.answers.TurnAnswer.{TurnAnswer}
+use Rattle.bus_embed.specs.declared.answers.HeardItem.{HeardItem}
+use Rattle.bus_embed.specs.declared.answers.HeardAnswer.{HeardAnswer}
+use Rattle.bus_embed.specs.declared.senders.SenderShown.{SenderShown}
+use Rattle.bus_embed.specs.declared.receivers.ReceiverShown.{ReceiverShown}
+use Rattle.bus_embed.specs.Answers.{turn_code, heard_code, put_code, close_code, written, turn_answer, heard_answer, item_told}
+use Rattle.bus_embed.specs.Buses.{Held, process, election}
+
+-- ---- a sender: what the calls of its handle promise, each in one
+-- a put of these bytes came to this number, or to this fault
+pub record Puts (old : SenderSeat Held) (bytes : List ℕ) (given : Result ℕ PutFault) (new : SenderSeat Held) : Type 0 where
+  pub number : IfOk given (λ n. n ≡ next_of (process.queue old.core))
+  pub taken : OnOk given (new.core ≡ process.with_message old.core bytes)
+  pub action : IfOk given (λ n. actions_of process new ≡ actions_of process old ++ HasPut n bytes ∷ [])
+  pub could : OnOk given (CanPut (process.queue old.core) (length bytes))
+  pub fault : IfErr given (IsPutFault (process.queue old.core) (length bytes))
+  pub refused : OnErr given (new.core ≡ old.core)
+  pub seat : new.seat ≡ old.seat
+
+-- a close was taken, or came to this fault
+pub record Closes (old : SenderSeat Held) (given : Result (Unit {0}) CloseFault) (new : SenderSeat Held) : Type 0 where
+  pub taken : OnOk given (new.core ≡ process.with_close old.core)
+  pub action : OnOk given (actions_of process new ≡ actions_of process old ++ HasClosed ∷ [])
+  pub could : OnOk given (CanClose (process.queue old.core))
+  pub fault : IfErr given (IsCloseFault (process.queue old.core))
+  pub refused : OnErr given (new.core ≡ old.core)
+  pub seat : new.seat ≡ old.seat
+
+-- a turn with this random word was answered so
+pub record Turns (old : SenderSeat Held) (word : ℕ) (turn : Turn) (new : SenderSeat Held) : Type 0 where
+  pub table : table_of new ≡ table_of old
+  pub rests : process.op old.core word ≡ None → (new ≡ old) × (turn ≡ process.rest old.core)
+  pub steps : (op : Op) → process.op old.core word ≡ Some op → TookAndTold process (FeedTells election) old word turn new
+
+-- ---- the same with the answer as a code; before is what a place had that the answer is written to
+pub record PutAnswered (old : SenderSeat Held) (bytes : List ℕ) (answer before after : ℕ) (new : SenderSeat Held) : Type 0 where
+  pub given : Result ℕ PutFault
+  pub puts : Puts old bytes given new
+  pub code : answer ≡ put_code given
+  pub number : after ≡ written before given
+
+pub record CloseAnswered (old : SenderSeat Held) (answer : ℕ) (new : SenderSeat Held) : Type 0 where
+  pub given : Result (Unit {0}) CloseFault
+  pub closes : Closes old given new
+  pub code : answer ≡ close_code given
+
+pub record TurnAnswered (old : SenderSeat Held) (word answer : ℕ) (told : TurnAnswer) (new : SenderSeat Held) : Type 0 where
+  pub turn : Turn
+  pub turns : Turns old word turn new
+  pub code : answer ≡ turn_code turn
+  pub says : told ≡ turn_answer turn
+
+-- what it shows
+pub record ShowsSender (s : SenderSeat Held) (shown : SenderShown) : Type 0 where
+  pub pending : shown.pending ≡ length (waiting_of process s)
+  pub next_number : shown.next_number ≡ next_of (process.queue s.core)
+  pub words : shown.words ≡ stored_of s
+  pub turns_left : shown.turns_left ≡ process.turns_left s.core
+  pub number : shown.number ≡ process.me s.core
+  pub closed : shown.is_closed ≡ is_closed (process.queue s.core).phase
+  pub wants_word : shown.wants_word ≡ process.wants_word s.core
+
+-- ---- a receiver
+pub record HeardOnce (old : Sat Held) (answer : ℕ) (told : HeardAnswer) (new : Sat Held) : Type 0 where
+  pub turn : RecvTurn
+  pub hears : Hears old turn new
+  pub code : answer ≡ heard_code turn
+  pub says : told ≡ heard_answer turn
+
+-- an answer after which more may be there at once
+abbrev pub goes_on : RecvTurn → Bool
+goes_on heard.Going = true
+goes_on heard.Empty = false
+goes_on (heard.Head tenure owner) = true
+goes_on (heard.Item item) = true
+goes_on heard.End = false
+
+-- the items of an answer: one or none
+abbrev pub items_in : RecvTurn → List Item
+items_in heard.Going = []
+items_in heard.Empty = []
+items_in (heard.Head tenure owner) = []
+items_in (heard.Item item) = item ∷ []
+items_in heard.End = []
+
+-- so many turns, each answered so that more may be there, gave these items and led from one seat to another
+pub data HearsOn (first : Sat Held) : ℕ → List Item → Sat Held → Type 0 where
+  Here : HearsOn first 0 [] first
+  More : (n : ℕ) (items : List Item) (old : Sat Held) (answer : RecvTurn) (new : Sat Held)
+      → HearsOn first n items old → Hears old answer new → goes_on answer ≡ true → HearsOn first (n + 1) (items ++ items_in answer) new
+
+-- Such turns, and what ended them: there was no more room, or all turns were taken, which is answered Going; or one more turn was
+-- answered Empty or End.
+pub data Hearing (first : Sat Held) (room turns : ℕ) : List Item → ℕ → Sat Held → Type 0 where
+  Fills : (n : ℕ) (items : List Item) (new : Sat Held) → HearsOn first n items new → (length items ≡ room) ⊎ (n ≡ turns) → Hearing first room turns items code.GOING new
+  Stops : (n : ℕ) (items : List Item) (old : Sat Held) (answer : RecvTurn) (new : Sat Held)
+      → HearsOn first n items old → Hears old answer new → goes_on answer ≡ false → Hearing first room turns items (heard_code answer) new
+
+-- the same with the items written over the first places of a list
+pub record HearsInto (old : Sat Held) (before : List HeardItem) (turns many answer : ℕ) (after : List HeardItem) (new : Sat Held) : Type 0 where
+  pub items : List Item
+  pub hears : Hearing old (length before) turns items answer new
+  pub many_are : many ≡ length items
+  pub written : after ≡ map item_told items ++ drop many before
+
+-- what it shows
+pub record ShowsReceiver (m : Sat Held) (shown : ReceiverShown) : Type 0 where
+  pub known : shown.known ≡ length (known_in m.0)
+  pub place : shown.place ≡ (receiver_view_in m.0).place
+  pub ended : shown.has_ended ≡ (receiver_view_in m.0).ended

@@ -1,0 +1,4 @@
+pub mod Answers
+pub mod Buses
+pub mod Calls
+pub mod Ends

@@ -1,0 +1,19 @@
+//! The bus for programs in other languages: the calls of handles of one kind of bus, with answers
+//! as numbers and as plain structs. `bus_c` exports them to C.
+//!
+//! Its senders go by the ratifier of three words. No call waits and, but for opening a bus, none
+//! takes memory.
+#![tactic(auto)]
+
+mod answers;
+mod buses;
+pub mod codes;
+mod receivers;
+mod senders;
+mod writing;
+
+pub use answers::{HeardAnswer, HeardItem, TurnAnswer};
+pub use bus_handles::{ReceiverHandle, SenderHandle, ThreeWord};
+pub use buses::{Left, Sizes, end_bus, open_bus, refused_code};
+pub use receivers::{ReceiverShown, hear_items, hear_once, show_receiver};
+pub use senders::{SenderShown, close_sender, put_message, show_sender, take_turn};

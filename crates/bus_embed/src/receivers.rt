@@ -1,0 +1,98 @@
+//! The calls of a receiver.
+
+ghost use Rattle.std.specs.Prelude.{◌≡◌, ◌+◌, ◌<◌, ◌≤◌, [], length, slice_set};
+ghost use Rattle.bus_batch.specs.declared.messages.Item.{Item};
+ghost use Rattle.bus_embed.specs.Answers.{item_told};
+ghost use Rattle.bus_embed.specs.Calls.{HeardOnce, HearsInto, ShowsReceiver, goes_on, items_in};
+
+use crate::answers::{HeardAnswer, HeardItem, heard_told};
+use crate::codes;
+use bus_handles::{ReceiverHandle, RecvTurn, ThreeWord};
+
+/// What a receiver shows, at no step.
+#[repr(C)]
+#[derive(Clone, Copy, Debug)]
+pub struct ReceiverShown {
+    /// How many words of the log it knows.
+    pub known: u64,
+    /// How many of them it has read.
+    pub place: u64,
+    /// The end was among its answers.
+    pub has_ended: bool,
+}
+
+/// One turn, as `ReceiverHandle::turn`: the code of its answer, and what that says in `answer`.
+pub fn hear_once(receiver: &mut ReceiverHandle<ThreeWord>, answer: &mut HeardAnswer) -> u32
+    ensures bus { receiver.new.bus ≡ receiver.old.bus }
+    ensures hears { HeardOnce receiver.old.me result answer.new receiver.new.me }
+{
+    let turn = receiver.turn();
+    let (code, told) = heard_told(turn);
+    *answer = told;
+    code
+}
+
+/// Turns, at most so many, which write items into `items` from its first place on, as long as
+/// there is room: how many items they were, and the code of what ended it. That is Empty, or End,
+/// and Going where `items` is full or all turns are taken.
+#[tactic(auto, using(crate::proofs::HearLaws::starts, crate::proofs::HearLaws::next, crate::proofs::HearLaws::stops, crate::proofs::HearLaws::full, crate::proofs::HearLaws::tired))]
+pub fn hear_items(
+    receiver: &mut ReceiverHandle<ThreeWord>,
+    items: &mut [HeardItem],
+    turns: u64,
+) -> (usize, u32)
+    ensures bus { receiver.new.bus ≡ receiver.old.bus }
+    ensures hears { HearsInto receiver.old.me items.old turns result.0 result.1 items.new
+        receiver.new.me }
+{
+    let mut many = 0;
+    for _ in 0..turns {
+        if many == items.len() {
+            return (many, codes::GOING);
+        }
+        let turn = receiver.turn();
+        if !may_go_on(&turn) {
+            return (many, heard_told(turn).0);
+        }
+        many = write_item(turn, items, many);
+    }
+    (many, codes::GOING)
+}
+
+/// More may be there at once.
+fn may_go_on(turn: &RecvTurn) -> bool
+    ensures { result ≡ goes_on turn.now }
+{
+    match turn {
+        RecvTurn::Going | RecvTurn::Head { .. } | RecvTurn::Item(_) => true,
+        RecvTurn::Empty | RecvTurn::End => false,
+    }
+}
+
+/// Writes the item of an answer, where it has one, to this place: the place of the next item.
+fn write_item(turn: RecvTurn, items: &mut [HeardItem], place: usize) -> usize
+    requires { place < length items.old }
+    ensures item { (item : Item) → turn ≡ RecvTurn.Item item → (result ≡ place + 1)
+        × (items.new ≡ slice_set items.old place (item_told item)) }
+    ensures none { items_in turn ≡ [] → (result ≡ place) × (items.new ≡ items.old) }
+    ensures len { (length items.new ≡ length items.old) × (result ≤ length items.old) }
+{
+    match turn {
+        RecvTurn::Item(item) => {
+            items[place] = HeardItem::of(&item);
+            place + 1
+        }
+        RecvTurn::Going | RecvTurn::Head { .. } | RecvTurn::Empty | RecvTurn::End => place,
+    }
+}
+
+/// What a receiver shows. Takes no step.
+pub fn show_receiver(receiver: &ReceiverHandle<ThreeWord>) -> ReceiverShown
+    ensures { ShowsReceiver receiver.now.me result }
+{
+    ReceiverShown {
+        known: receiver.known(),
+        place: receiver.place(),
+        has_ended: receiver.has_ended(),
+    }
+}

@@ -1,0 +1,82 @@
+//! The calls of a sender.
+
+ghost use Rattle.bus_embed.specs.Calls.{PutAnswered, CloseAnswered, TurnAnswered, ShowsSender};
+
+use crate::answers::{TurnAnswer, turn_told};
+use crate::codes;
+use bus_handles::{CloseFault, PutFault, SenderHandle, ThreeWord};
+
+/// What a sender shows, at no step.
+#[repr(C)]
+#[derive(Clone, Copy, Debug)]
+pub struct SenderShown {
+    /// How many messages wait in its batch.
+    pub pending: u64,
+    /// The number that its next message gets.
+    pub next_number: u64,
+    /// The last length of the log that it has stored, in words.
+    pub words: u64,
+    /// How many turns its election takes at most.
+    pub turns_left: u64,
+    /// Its number.
+    pub number: u8,
+    /// It sends nothing more.
+    pub is_closed: bool,
+    /// Its next step asks for a random word.
+    pub wants_word: bool,
+}
+
+/// Appends a message to the batch, as `SenderHandle::put`: OK with its number in `number`, or the
+/// code of the fault, and `number` as it was.
+pub fn put_message(sender: &mut SenderHandle<ThreeWord>, bytes: &[u8], number: &mut u64) -> u32
+    ensures { PutAnswered sender.old bytes.now result number.old number.new sender.new }
+{
+    match sender.put(bytes) {
+        Ok(put) => {
+            *number = put;
+            codes::OK
+        }
+        Err(PutFault::Closed) => codes::PUT_CLOSED,
+        Err(PutFault::Busy) => codes::PUT_BUSY,
+        Err(PutFault::TooLong) => codes::PUT_TOO_LONG,
+        Err(PutFault::BatchFull) => codes::PUT_BATCH_FULL,
+    }
+}
+
+/// Lets an end mark wait, as `SenderHandle::close`: OK, or the code of the fault.
+pub fn close_sender(sender: &mut SenderHandle<ThreeWord>) -> u32
+    ensures { CloseAnswered sender.old result sender.new }
+{
+    match sender.close() {
+        Ok(()) => codes::OK,
+        Err(CloseFault::Closed) => codes::CLOSE_CLOSED,
+        Err(CloseFault::Busy) => codes::CLOSE_BUSY,
+        Err(CloseFault::Pending) => codes::CLOSE_PENDING,
+    }
+}
+
+/// One turn with this random word, as `SenderHandle::turn`: the code of its answer, and what that
+/// says in `answer`.
+pub fn take_turn(sender: &mut SenderHandle<ThreeWord>, word: u32, answer: &mut TurnAnswer) -> u32
+    ensures { TurnAnswered sender.old word result answer.new sender.new }
+{
+    let turn = sender.turn(word);
+    let (code, told) = turn_told(turn);
+    *answer = told;
+    code
+}
+
+/// What a sender shows. Takes no step.
+pub fn show_sender(sender: &SenderHandle<ThreeWord>) -> SenderShown
+    ensures { ShowsSender sender.now result }
+{
+    SenderShown {
+        pending: sender.pending(),
+        next_number: sender.next_number(),
+        words: sender.words(),
+        turns_left: sender.turns_left(),
+        number: sender.number().0,
+        is_closed: sender.is_closed(),
+        wants_word: sender.wants_word(),
+    }
+}

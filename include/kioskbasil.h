@@ -1,0 +1,308 @@
+/* kioskbasil.h: the broadcast bus of Kioskbasil for C and C++.
+ *
+ * A bus puts the messages of up to 8 senders into one order, which up to 8 receivers hear, each all of it.
+ * No call waits, takes a lock, starts a thread, or (but for kioskbasil_open) takes memory. A call that is
+ * to wait is a loop of the caller's: examples/c/waiting.h has the usual ones, to be copied.
+ *
+ * The functions bus_c_.. are those of the archive (crates/bus_c), which are proved against their contracts.
+ * The functions kioskbasil_.. stand in this header: they look for NULL and call one of those. A program
+ * calls kioskbasil_.. alone.
+ *
+ * HANDLES. A kioskbasil_sender or kioskbasil_receiver is the caller's. It starts as KIOSKBASIL_NONE, which
+ * is all zeros, and kioskbasil_open fills it. It is given up by kioskbasil_free_.., which leaves it empty.
+ * A call of an empty handle answers KIOSKBASIL_EMPTY_HANDLE and changes nothing; giving up an empty handle
+ * is allowed and does nothing. A call changes no other handle.
+ *
+ * THREADS. Different handles may be used by different threads at once, also of one bus. Each handle is
+ * given to one call at a time. It goes to another thread by the start or the join of a thread, or by a lock.
+ * No call is made from a signal handler, or in the child of a fork.
+ *
+ * WHAT IS TRUSTED OF THE CALLER. Nothing checks that
+ *   - a handle starts as zeros, and is not written or copied while it is not empty (moving it and then
+ *     zeroing the old one is allowed);
+ *   - a handle is given to one call at a time, as said above;
+ *   - a pointer that is not NULL points to what its type says, as many of them as the call says, aligned,
+ *     that no other pointer of the same call points into and no other thread uses meanwhile;
+ *   - malloc, realloc and free are those of the C library, or as good.
+ *
+ * ROOM FOR MORE. Codes above KIOSKBASIL_NULL and further calls may
+ * come. Leaving a bus, further sittings on one bus, and telling a receiver of a sender or of another
+ * receiver (`told`, `meet` of the library) are not offered to C.
+ */
+#ifndef KIOSKBASIL_H
+#define KIOSKBASIL_H
+
+#include <stdbool.h>
+#include <stddef.h>
+#include <stdint.h>
+
+#ifdef __cplusplus
+extern "C" {
+#endif
+
+enum {
+  KIOSKBASIL_MOST_SENDERS = 8,
+  KIOSKBASIL_MOST_RECEIVERS = 8,
+  KIOSKBASIL_MOST_BYTES = 56,
+  KIOSKBASIL_MOST_MESSAGES = 16
+};
+
+/* What a call answers: done, an answer of a sender or of a receiver, or a refusal. */
+enum kioskbasil_code {
+  KIOSKBASIL_OK = 0,
+  /* of a turn of a sender */
+  KIOSKBASIL_IDLE = 1,       /* nothing was pending; no step was taken */
+  KIOSKBASIL_WAITING = 2,    /* another holds the page, or no new tenure is open */
+  KIOSKBASIL_GOING = 3,      /* a step was taken, and more are to come; also of a receiver */
+  KIOSKBASIL_LOST = 4,       /* the election of .tenure chose .sender; the batch waits for another tenure */
+  KIOSKBASIL_OWN = 5,        /* it has taken the page of .tenure */
+  KIOSKBASIL_DELIVERED = 6,  /* its messages from .first to .last stand in the order, in the frame of .tenure */
+  KIOSKBASIL_FULL = 7,       /* its frame does not fit the log; the batch is kept */
+  KIOSKBASIL_CLOSED = 8,     /* the order has ended, by this sender or another */
+  KIOSKBASIL_SPENT = 9,      /* all tenures are spent; the batch is kept */
+  KIOSKBASIL_BEHIND = 10,    /* rows used again: .sender keeps the row of .tenure, which is to be used next */
+  /* of a turn of a receiver */
+  KIOSKBASIL_EMPTY = 11,     /* it has read all up to the length that it found */
+  KIOSKBASIL_HEAD = 12,      /* a frame of .owner begins, of the tenure .tenure */
+  KIOSKBASIL_ITEM = 13,      /* the next message of the order, in .item */
+  KIOSKBASIL_END = 14,       /* the order has ended, and all of it was given; so it answers for good */
+  /* refusals */
+  KIOSKBASIL_BAD_SENDERS = 32,    /* open: not 1 to 8 senders */
+  KIOSKBASIL_BAD_RECEIVERS = 33,  /* open: not 1 to 8 receivers */
+  KIOSKBASIL_BAD_ROUNDS = 34,     /* open: not 1 to 8 rounds */
+  KIOSKBASIL_BAD_ROWS = 35,       /* open: not 1 to 256 rows; used again, not 2 to 8 */
+  KIOSKBASIL_BAD_LOG_WORDS = 36,  /* open: not 16 to 65,536 words */
+  KIOSKBASIL_NO_MEMORY = 37,      /* open: memory was refused */
+  KIOSKBASIL_PUT_CLOSED = 38,     /* put: a close was accepted, or the order is known to have ended */
+  KIOSKBASIL_PUT_BUSY = 39,       /* put: the batch is on its way */
+  KIOSKBASIL_PUT_TOO_LONG = 40,   /* put: more than 56 bytes */
+  KIOSKBASIL_PUT_BATCH_FULL = 41, /* put: 16 messages wait */
+  KIOSKBASIL_CLOSE_CLOSED = 42,   /* close: one was accepted, or the order is known to have ended */
+  KIOSKBASIL_CLOSE_BUSY = 43,     /* close: the batch is on its way */
+  KIOSKBASIL_CLOSE_PENDING = 44,  /* close: messages wait */
+  KIOSKBASIL_IN_USE = 45,         /* end: other handles have the bus still */
+  KIOSKBASIL_PAGE_OUT = 46,       /* end: a sender that took the page has not given it back */
+  KIOSKBASIL_EMPTY_HANDLE = 47,   /* the handle is empty */
+  KIOSKBASIL_NULL = 48            /* a pointer is NULL; of this header alone */
+};
+
+/* A code of 32 or more says that nothing was done. */
+static inline bool kioskbasil_refused(uint32_t code) { return code >= 32; }
+
+/* Handles. Their fields are the library's. */
+typedef struct kioskbasil_sender {
+  void *at;
+  uint32_t live;
+} kioskbasil_sender;
+
+typedef struct kioskbasil_receiver {
+  void *at;
+  uint32_t live;
+} kioskbasil_receiver;
+
+#define KIOSKBASIL_NONE {0, 0}
+
+/* The sizes of a bus, but for the numbers of its senders and receivers. */
+typedef struct kioskbasil_sizes {
+  uint64_t rounds;    /* rounds of one binary decision: 1 to 8; any is right, 4 is usual */
+  uint64_t rows;      /* tenures of the sitting, 1 to 256; where rows are used again 2 to 8 */
+  uint64_t log_words; /* words of the whole order, 16 to 65,536: a batch takes 1, a message 1 and one
+                         for each 8 bytes begun, a close 2 */
+  bool again;         /* rows of words are used again: up to 2^40 tenures */
+} kioskbasil_sizes;
+
+/* What an answer to a turn of a sender says beside its code; 0 where that says nothing. */
+typedef struct kioskbasil_turn_answer {
+  uint64_t tenure;
+  uint64_t first;
+  uint64_t last;
+  uint8_t sender;
+} kioskbasil_turn_answer;
+
+/* A message of the order. */
+typedef struct kioskbasil_item {
+  uint64_t number;                      /* among the messages of its sender, from 0 on */
+  uint8_t sender;
+  uint8_t length;                       /* at most 56 */
+  uint8_t bytes[KIOSKBASIL_MOST_BYTES]; /* zeros behind its bytes */
+} kioskbasil_item;
+
+/* What an answer to a turn of a receiver says beside its code; 0 where that says nothing. */
+typedef struct kioskbasil_heard {
+  uint64_t tenure;
+  uint8_t owner;
+  kioskbasil_item item;
+} kioskbasil_heard;
+
+/* What a sender shows. */
+typedef struct kioskbasil_sender_shown {
+  uint64_t pending;     /* messages in its batch, at most 16 */
+  uint64_t next_number; /* the number that its next message gets */
+  uint64_t words;       /* the last length of the log that it has stored */
+  uint64_t turns_left;  /* turns of its election, at most; 0 where none is begun */
+  uint8_t number;       /* its own number, from 0 on */
+  bool is_closed;       /* it sends nothing more; false as long as its close waits to be sent */
+  bool wants_word;      /* its next turn uses its random word */
+} kioskbasil_sender_shown;
+
+/* What a receiver shows. */
+typedef struct kioskbasil_receiver_shown {
+  uint64_t known; /* words of the log that it knows */
+  uint64_t place; /* words of the log that it has read */
+  bool has_ended; /* the end was among its answers */
+} kioskbasil_receiver_shown;
+
+/* What a bus leaves behind, beside the words of its log. */
+typedef struct kioskbasil_left {
+  uint64_t counts[KIOSKBASIL_MOST_SENDERS]; /* items of each sender in the order */
+  uint64_t words;                           /* words of the log */
+  uint64_t tenures;                         /* tenures that have ended */
+  bool ended;                               /* the order has ended */
+} kioskbasil_left;
+
+/* ---- the archive */
+uint32_t bus_c_open(const kioskbasil_sizes *sizes, kioskbasil_sender *senders, size_t sender_count,
+                    kioskbasil_receiver *receivers, size_t receiver_count);
+uint32_t bus_c_put(kioskbasil_sender *sender, const uint8_t *bytes, size_t length, uint64_t *number);
+uint32_t bus_c_close(kioskbasil_sender *sender);
+uint32_t bus_c_turn(kioskbasil_sender *sender, uint32_t word, kioskbasil_turn_answer *answer);
+uint32_t bus_c_sender(kioskbasil_sender *sender, kioskbasil_sender_shown *shown);
+void bus_c_free_sender(kioskbasil_sender *sender);
+uint32_t bus_c_hear_once(kioskbasil_receiver *receiver, kioskbasil_heard *answer);
+uint32_t bus_c_hear(kioskbasil_receiver *receiver, kioskbasil_item *items, size_t room, uint64_t turns, size_t *many);
+uint32_t bus_c_receiver(kioskbasil_receiver *receiver, kioskbasil_receiver_shown *shown);
+void bus_c_free_receiver(kioskbasil_receiver *receiver);
+uint32_t bus_c_end(kioskbasil_receiver *receiver, uint64_t *log, size_t room, kioskbasil_left *left);
+
+/* Opens a bus of these sizes, with as many senders and receivers as there are handles, and fills these in
+ * the order of their numbers. What a handle held is given up. All memory is taken here.
+ * KIOSKBASIL_OK, or BAD_SENDERS, BAD_RECEIVERS, BAD_ROUNDS, BAD_ROWS, BAD_LOG_WORDS or NO_MEMORY, the first
+ * whose cause holds, and then no handle is changed. */
+static inline uint32_t kioskbasil_open(const kioskbasil_sizes *sizes, kioskbasil_sender *senders, size_t sender_count,
+                                       kioskbasil_receiver *receivers, size_t receiver_count) {
+  if (!sizes || !senders || !receivers) return KIOSKBASIL_NULL;
+  return bus_c_open(sizes, senders, sender_count, receivers, receiver_count);
+}
+
+/* Appends a message of at most 56 bytes to the sender's batch of at most 16. Takes no step.
+ * KIOSKBASIL_OK, and its number among the messages of this sender, from 0 on, in *number (which may be
+ * NULL); or PUT_CLOSED, PUT_BUSY, PUT_TOO_LONG or PUT_BATCH_FULL, the first whose cause holds, and then
+ * nothing is changed. `bytes` may be NULL where `length` is 0. */
+static inline uint32_t kioskbasil_put(kioskbasil_sender *sender, const void *bytes, size_t length, uint64_t *number) {
+  uint64_t own = 0;
+  uint8_t none = 0;
+  if (!sender || (!bytes && length)) return KIOSKBASIL_NULL;
+  return bus_c_put(sender, bytes ? (const uint8_t *)bytes : &none, length, number ? number : &own);
+}
+
+/* Lets an end mark wait, which ends the order once turns have sent it. Takes no step.
+ * KIOSKBASIL_OK, or CLOSE_CLOSED, CLOSE_BUSY or CLOSE_PENDING, the first whose cause holds, and then
+ * nothing is changed. */
+static inline uint32_t kioskbasil_close(kioskbasil_sender *sender) {
+  if (!sender) return KIOSKBASIL_NULL;
+  return bus_c_close(sender);
+}
+
+/* One turn: at most one step on one word of the bus. `word` is a random word, which a vote of a coin uses;
+ * other steps do not look at it. No word, however bad, breaks what is promised; bad ones cost steps.
+ * The answer, IDLE to BEHIND, and what it says in *answer (which may be NULL). */
+static inline uint32_t kioskbasil_turn(kioskbasil_sender *sender, uint32_t word, kioskbasil_turn_answer *answer) {
+  kioskbasil_turn_answer own;
+  if (!sender) return KIOSKBASIL_NULL;
+  return bus_c_turn(sender, word, answer ? answer : &own);
+}
+
+/* What the sender shows. Takes no step, and changes nothing. */
+static inline uint32_t kioskbasil_show_sender(kioskbasil_sender *sender, kioskbasil_sender_shown *shown) {
+  if (!sender || !shown) return KIOSKBASIL_NULL;
+  return bus_c_sender(sender, shown);
+}
+
+/* Gives the handle up; it is empty then. That ends no order: a receiver goes on answering EMPTY. */
+static inline void kioskbasil_free_sender(kioskbasil_sender *sender) {
+  if (sender) bus_c_free_sender(sender);
+}
+
+/* One turn: one load. The answer, EMPTY, HEAD, ITEM, END or GOING, and what it says in *answer. */
+static inline uint32_t kioskbasil_hear_once(kioskbasil_receiver *receiver, kioskbasil_heard *answer) {
+  if (!receiver || !answer) return KIOSKBASIL_NULL;
+  return bus_c_hear_once(receiver, answer);
+}
+
+/* Turns up to the first that is answered EMPTY or END, which is the answer, or GOING where there is no more
+ * room. Items are written to items[0], items[1], .. in their order, and how many they are to *many. Places
+ * behind these are not changed. */
+static inline uint32_t kioskbasil_hear(kioskbasil_receiver *receiver, kioskbasil_item *items, size_t room, size_t *many) {
+  if (!receiver || !items || !many) return KIOSKBASIL_NULL;
+  return bus_c_hear(receiver, items, room, UINT64_MAX, many);
+}
+
+/* What the receiver shows. Takes no step, and changes nothing. */
+static inline uint32_t kioskbasil_show_receiver(kioskbasil_receiver *receiver, kioskbasil_receiver_shown *shown) {
+  if (!receiver || !shown) return KIOSKBASIL_NULL;
+  return bus_c_receiver(receiver, shown);
+}
+
+/* Gives the handle up; it is empty then. */
+static inline void kioskbasil_free_receiver(kioskbasil_receiver *receiver) {
+  if (receiver) bus_c_free_receiver(receiver);
+}
+
+/* Ends the bus. Gives up all these handles, which have to be all that are left of one bus, and ends the bus
+ * by the first receiver: all handles are empty then, whatever the answer.
+ * KIOSKBASIL_OK: the first words of the log stand in `log`, as many as it has room for (`log` may be NULL
+ * where `room` is 0; docs/FORMATS.md says what they are), and the rest in *left. IN_USE: other handles had
+ * the bus still, and the bus goes with the last of them. PAGE_OUT: a sender that took the page had not given
+ * it back, and the bus is gone. EMPTY_HANDLE: the first receiver was empty. */
+static inline uint32_t kioskbasil_end(kioskbasil_sender *senders, size_t sender_count, kioskbasil_receiver *receivers,
+                                      size_t receiver_count, uint64_t *log, size_t room, kioskbasil_left *left) {
+  uint64_t none = 0;
+  if ((!senders && sender_count) || !receivers || !receiver_count || (!log && room) || !left) return KIOSKBASIL_NULL;
+  for (size_t i = 0; i < sender_count; i++) bus_c_free_sender(&senders[i]);
+  for (size_t i = 1; i < receiver_count; i++) bus_c_free_receiver(&receivers[i]);
+  return bus_c_end(&receivers[0], log ? log : &none, log ? room : 0, left);
+}
+
+/* A code in words. */
+static inline const char *kioskbasil_text(uint32_t code) {
+  switch (code) {
+  case KIOSKBASIL_OK: return "done";
+  case KIOSKBASIL_IDLE: return "idle";
+  case KIOSKBASIL_WAITING: return "waiting";
+  case KIOSKBASIL_GOING: return "going";
+  case KIOSKBASIL_LOST: return "lost";
+  case KIOSKBASIL_OWN: return "own";
+  case KIOSKBASIL_DELIVERED: return "delivered";
+  case KIOSKBASIL_FULL: return "full";
+  case KIOSKBASIL_CLOSED: return "closed";
+  case KIOSKBASIL_SPENT: return "spent";
+  case KIOSKBASIL_BEHIND: return "behind";
+  case KIOSKBASIL_EMPTY: return "empty";
+  case KIOSKBASIL_HEAD: return "head";
+  case KIOSKBASIL_ITEM: return "item";
+  case KIOSKBASIL_END: return "end";
+  case KIOSKBASIL_BAD_SENDERS: return "a bus has 1 to 8 senders";
+  case KIOSKBASIL_BAD_RECEIVERS: return "a bus has 1 to 8 receivers";
+  case KIOSKBASIL_BAD_ROUNDS: return "a bus has 1 to 8 rounds";
+  case KIOSKBASIL_BAD_ROWS: return "a bus has 1 to 256 rows, used again 2 to 8";
+  case KIOSKBASIL_BAD_LOG_WORDS: return "a log has 16 to 65,536 words";
+  case KIOSKBASIL_NO_MEMORY: return "memory was refused";
+  case KIOSKBASIL_PUT_CLOSED: return "no message is taken: closed";
+  case KIOSKBASIL_PUT_BUSY: return "no message is taken: the batch is on its way";
+  case KIOSKBASIL_PUT_TOO_LONG: return "no message is taken: more than 56 bytes";
+  case KIOSKBASIL_PUT_BATCH_FULL: return "no message is taken: 16 messages wait";
+  case KIOSKBASIL_CLOSE_CLOSED: return "the close is not taken: closed";
+  case KIOSKBASIL_CLOSE_BUSY: return "the close is not taken: the batch is on its way";
+  case KIOSKBASIL_CLOSE_PENDING: return "the close is not taken: messages wait";
+  case KIOSKBASIL_IN_USE: return "other handles have the bus still";
+  case KIOSKBASIL_PAGE_OUT: return "a sender has not given the page back";
+  case KIOSKBASIL_EMPTY_HANDLE: return "the handle is empty";
+  case KIOSKBASIL_NULL: return "a pointer is NULL";
+  default: return "no code of this version";
+  }
+}
+
+#ifdef __cplusplus
+}
+#endif
+#endif

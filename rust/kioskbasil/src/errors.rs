@@ -1,0 +1,126 @@
+//! Why a call did not do what it was asked for.
+
+use crate::Turn;
+use std::error::Error;
+use std::fmt;
+
+macro_rules! faults {
+    ($(#[$doc:meta])* $name:ident { $($(#[$of:meta])* $fault:ident = $code:literal: $text:literal,)* }) => {
+        $(#[$doc])*
+        #[derive(Clone, Copy, Debug, PartialEq, Eq)]
+        pub enum $name { $($(#[$of])* $fault,)* }
+
+        impl $name {
+            pub(crate) fn of_code(code: u32) -> $name {
+                match code {
+                    $($code => $name::$fault,)*
+                    _ => unreachable!("the archive answered {code}"),
+                }
+            }
+        }
+
+        impl fmt::Display for $name {
+            fn fmt(&self, f: &mut fmt::Formatter<'_>) -> fmt::Result {
+                f.write_str(match self { $($name::$fault => $text,)* })
+            }
+        }
+
+        impl Error for $name {}
+    };
+}
+
+faults! {
+    /// Why no bus was opened: the first cause that holds.
+    OpenError {
+        /// Senders are not 1 to 8.
+        Senders = 32: "a bus has 1 to 8 senders",
+        /// Receivers are not 1 to 8.
+        Receivers = 33: "a bus has 1 to 8 receivers",
+        /// Rounds are not 1 to 8.
+        Rounds = 34: "a bus has 1 to 8 rounds",
+        /// Rows are not 1 to 256; used again, not 2 to 8.
+        Rows = 35: "a bus has 1 to 256 rows, used again 2 to 8",
+        /// Words of the log are not 16 to 65,536.
+        LogWords = 36: "a log has 16 to 65,536 words",
+        /// Memory was refused.
+        NoMemory = 37: "memory was refused",
+    }
+}
+
+faults! {
+    /// Why a message was not put; nothing has changed.
+    PutError {
+        /// A close was accepted, or the order is known to have ended.
+        Closed = 38: "no message is taken: closed",
+        /// The batch is on its way.
+        Busy = 39: "no message is taken: the batch is on its way",
+        /// More than 56 bytes.
+        TooLong = 40: "no message is taken: more than 56 bytes",
+        /// 16 messages wait.
+        BatchFull = 41: "no message is taken: 16 messages wait",
+    }
+}
+
+faults! {
+    /// Why a close was not taken; nothing has changed.
+    CloseError {
+        /// One was accepted, or the order is known to have ended.
+        Closed = 42: "the close is not taken: closed",
+        /// The batch is on its way.
+        Busy = 43: "the close is not taken: the batch is on its way",
+        /// Messages wait.
+        Pending = 44: "the close is not taken: messages wait",
+    }
+}
+
+faults! {
+    /// Why a bus was not ended. Its handles are gone.
+    EndError {
+        /// Other handles have the bus still.
+        InUse = 45: "other handles have the bus still",
+        /// A sender that took the page has not given it back.
+        PageOut = 46: "a sender has not given the page back",
+        /// There was no receiver.
+        NoReceiver = 47: "there is no receiver to end the bus by",
+    }
+}
+
+/// Why a sender does not go on.
+#[derive(Clone, Copy, Debug, PartialEq, Eq)]
+pub enum SendError {
+    /// Messages wait, or a close, and this is what sending them was answered.
+    Turn(Turn),
+    /// The next message was not taken.
+    Put(PutError),
+    /// The close was not taken.
+    Close(CloseError),
+}
+
+impl fmt::Display for SendError {
+    fn fmt(&self, f: &mut fmt::Formatter<'_>) -> fmt::Result {
+        match self {
+            SendError::Turn(turn) => write!(f, "what waits is not sent: {turn}"),
+            SendError::Put(why) => why.fmt(f),
+            SendError::Close(why) => why.fmt(f),
+        }
+    }
+}
+
+impl Error for SendError {}
+
+/// Not all messages were sent. None is lost: the batch of the sender keeps those that wait.
+#[derive(Clone, Copy, Debug, PartialEq, Eq)]
+pub struct Unsent {
+    /// How many were put, from the first on.
+    pub put: usize,
+    /// Why no more.
+    pub why: SendError,
+}
+
+impl fmt::Display for Unsent {
+    fn fmt(&self, f: &mut fmt::Formatter<'_>) -> fmt::Result {
+        write!(f, "after {} messages: {}", self.put, self.why)
+    }
+}
+
+impl Error for Unsent {}

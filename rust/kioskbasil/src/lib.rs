@@ -1,0 +1,158 @@
+//! A broadcast bus between threads, over the proved archive of `crates/bus_c`.
+//!
+//! Up to 8 senders put messages of up to 56 bytes. All of them stand in one order, and each of up to 8 receivers
+//! hears all of it. The calls that take a turn take no lock and wait for nothing. `send`, `send_all`, `end_order` and
+//! `next_item` go on as long as it takes; that they end is not promised.
+//!
+//! ```
+//! use kioskbasil::{Bus, Shape};
+//!
+//! let (mut senders, mut receivers) = Bus::open(Shape::of(2, 1))?;
+//! let (mut anna, mut bert) = (senders.remove(0), senders.remove(0));
+//! let berts = std::thread::spawn(move || bert.send_all(["from bert"]).map(|()| bert));
+//! anna.send_all(["hello", "world"])?;
+//! let bert = berts.join().unwrap()?;
+//! anna.end_order()?;
+//! let mut heard = 0;
+//! while let Some(item) = receivers[0].next_item() {
+//!     println!("{} says {:?}", item.sender, String::from_utf8_lossy(&item));
+//!     heard += 1;
+//! }
+//! assert_eq!(heard, 3);
+//! let ended = Bus::end([anna, bert], receivers)?;
+//! assert_eq!(ended.counts[..2], [2, 1]);
+//! # Ok::<(), Box<dyn std::error::Error>>(())
+//! ```
+//!
+//! What is proved is said of the archive's functions (`crates/bus_c`). Trusted besides are this crate, which has the
+//! `unsafe` code so that its users need none, the compilers and the C library.
+
+mod errors;
+mod raw;
+mod receivers;
+mod senders;
+mod waiting;
+
+pub use errors::{CloseError, EndError, OpenError, PutError, SendError, Unsent};
+pub use receivers::{Heard, Item, Receiver};
+pub use senders::{Sender, Turn};
+
+/// The sizes of a bus.
+#[derive(Clone, Copy, Debug, PartialEq, Eq)]
+pub struct Shape {
+    /// 1 to 8.
+    pub senders: usize,
+    /// 1 to 8.
+    pub receivers: usize,
+    /// Rounds of one binary decision: 1 to 8. Any number is right.
+    pub rounds: u64,
+    /// Tenures of the sitting: 1 to 256; where rows are used again 2 to 8.
+    pub rows: u64,
+    /// Words of the whole order: 16 to 65,536. A batch takes 1, a message 1 and one for each 8 bytes begun, a close 2.
+    pub log_words: u64,
+    /// Rows of words are used again, by up to 2^40 tenures.
+    pub again: bool,
+}
+
+impl Shape {
+    /// 4 rounds, 8 rows that are used again, and the longest log.
+    pub fn of(senders: usize, receivers: usize) -> Shape {
+        Shape {
+            senders,
+            receivers,
+            rounds: 4,
+            rows: 8,
+            log_words: 65_536,
+            again: true,
+        }
+    }
+}
+
+/// What a bus leaves behind.
+#[derive(Clone, Debug, PartialEq, Eq)]
+pub struct Ended {
+    /// The words of its log.
+    pub log: Vec<u64>,
+    /// How many items of each sender the order has.
+    pub counts: [u64; 8],
+    /// How many tenures have ended.
+    pub tenures: u64,
+    /// The order has ended.
+    pub ended: bool,
+}
+
+/// How a bus is opened and ended. Its handles have it together.
+#[derive(Debug)]
+pub enum Bus {}
+
+impl Bus {
+    /// Opens a bus: a handle for each of its senders and receivers, in the order of their numbers.
+    ///
+    /// ```
+    /// use kioskbasil::{Bus, OpenError, Shape};
+    ///
+    /// assert_eq!(Bus::open(Shape::of(9, 1)).unwrap_err(), OpenError::Senders);
+    /// ```
+    pub fn open(shape: Shape) -> Result<(Vec<Sender>, Vec<Receiver>), OpenError> {
+        if shape.senders == 0 || shape.senders > 8 {
+            return Err(OpenError::Senders);
+        }
+        if shape.receivers == 0 || shape.receivers > 8 {
+            return Err(OpenError::Receivers);
+        }
+        let sizes = raw::Sizes {
+            rounds: shape.rounds,
+            rows: shape.rows,
+            log_words: shape.log_words,
+            again: shape.again,
+        };
+        let mut senders = [raw::RawSender::NONE; 8];
+        let mut receivers = [raw::RawReceiver::NONE; 8];
+        // SAFETY: the pointers lead to so many empty handles of this function.
+        let code = unsafe {
+            raw::bus_c_open(
+                &sizes,
+                senders.as_mut_ptr(),
+                shape.senders,
+                receivers.as_mut_ptr(),
+                shape.receivers,
+            )
+        };
+        if code != 0 {
+            return Err(OpenError::of_code(code));
+        }
+        let senders = senders
+            .into_iter()
+            .take(shape.senders)
+            .map(Sender::of_raw)
+            .collect();
+        let receivers = receivers
+            .into_iter()
+            .take(shape.receivers)
+            .map(Receiver::of_raw)
+            .collect();
+        Ok((senders, receivers))
+    }
+
+    /// Ends a bus by all handles that are left of it.
+    ///
+    /// ```
+    /// use kioskbasil::{Bus, EndError, Shape};
+    ///
+    /// let (senders, mut receivers) = Bus::open(Shape::of(1, 2))?;
+    /// let kept = receivers.pop();
+    /// assert_eq!(Bus::end(senders, receivers).unwrap_err(), EndError::InUse);
+    /// # drop(kept);
+    /// # Ok::<(), kioskbasil::OpenError>(())
+    /// ```
+    pub fn end(
+        senders: impl IntoIterator<Item = Sender>,
+        receivers: impl IntoIterator<Item = Receiver>,
+    ) -> Result<Ended, EndError> {
+        senders.into_iter().for_each(drop);
+        let mut receivers = receivers.into_iter();
+        let last = receivers.next().ok_or(EndError::NoReceiver)?;
+        receivers.for_each(drop);
+        last.end()
+    }
+}

@@ -1,0 +1,256 @@
+//! Receivers.
+
+use crate::errors::EndError;
+use crate::raw::{self, RawItem};
+use crate::waiting::BackOff;
+use crate::Ended;
+use std::fmt;
+use std::ops::Deref;
+
+/// A message of the order. It is its bytes.
+#[derive(Clone, Copy)]
+pub struct Item {
+    /// Its sender.
+    pub sender: u8,
+    /// Its number among the messages of its sender, from 0 on.
+    pub number: u64,
+    length: u8,
+    bytes: [u8; 56],
+}
+
+impl Item {
+    fn of(raw: &RawItem) -> Item {
+        Item {
+            sender: raw.sender,
+            number: raw.number,
+            length: raw.length,
+            bytes: raw.bytes,
+        }
+    }
+}
+
+impl Deref for Item {
+    type Target = [u8];
+
+    fn deref(&self) -> &[u8] {
+        &self.bytes[..usize::from(self.length)]
+    }
+}
+
+impl PartialEq for Item {
+    fn eq(&self, other: &Item) -> bool {
+        self.sender == other.sender && self.number == other.number && self[..] == other[..]
+    }
+}
+
+impl Eq for Item {}
+
+impl fmt::Debug for Item {
+    fn fmt(&self, f: &mut fmt::Formatter<'_>) -> fmt::Result {
+        f.debug_struct("Item")
+            .field("sender", &self.sender)
+            .field("number", &self.number)
+            .field("bytes", &&self[..])
+            .finish()
+    }
+}
+
+/// The answer to a turn of a receiver.
+#[derive(Clone, Copy, Debug, PartialEq, Eq)]
+pub enum Heard {
+    /// A step was taken, and more are to come.
+    Going,
+    /// It has read all up to the length that it found.
+    Empty,
+    /// A frame of this owner begins.
+    Head { tenure: u64, owner: u8 },
+    /// The next message of the order.
+    Item(Item),
+    /// The order has ended, and all of it was given.
+    End,
+}
+
+/// How many items cross the border at once.
+const BATCH: usize = 32;
+
+/// A receiver of a bus. It may go to another thread, and one thread at a time has it.
+///
+/// `next_item` and `try_item` take up to 32 items out of the bus at once, and give them one by one.
+pub struct Receiver {
+    raw: raw::RawReceiver,
+    ready: [RawItem; BATCH],
+    given: usize,
+    many: usize,
+    ended: bool,
+}
+
+// SAFETY: the archive proves `Send` of what the handle leads to.
+unsafe impl Send for Receiver {}
+
+impl fmt::Debug for Receiver {
+    fn fmt(&self, f: &mut fmt::Formatter<'_>) -> fmt::Result {
+        f.debug_struct("Receiver").finish_non_exhaustive()
+    }
+}
+
+impl Drop for Receiver {
+    fn drop(&mut self) {
+        // SAFETY: the handle is this value's own.
+        unsafe { raw::bus_c_free_receiver(&mut self.raw) }
+    }
+}
+
+impl Receiver {
+    pub(crate) fn of_raw(raw: raw::RawReceiver) -> Receiver {
+        Receiver {
+            raw,
+            ready: [RawItem::NONE; BATCH],
+            given: 0,
+            many: 0,
+            ended: false,
+        }
+    }
+
+    fn shown(&mut self) -> raw::ReceiverShown {
+        let mut shown = raw::ReceiverShown::default();
+        // SAFETY: the handle is this value's own, and the pointers are of values of this function.
+        unsafe { raw::bus_c_receiver(&mut self.raw, &mut shown) };
+        shown
+    }
+
+    /// How many words of the log it knows.
+    pub fn known(&mut self) -> u64 {
+        self.shown().known
+    }
+
+    /// How many of them it has read, those of items that wait in its batch too.
+    pub fn place(&mut self) -> u64 {
+        self.shown().place
+    }
+
+    /// One item that it has at hand.
+    fn at_hand(&mut self) -> Option<Item> {
+        let item = self.ready[..self.many].get(self.given)?;
+        self.given += 1;
+        Some(Item::of(item))
+    }
+
+    /// Takes what there is out of the bus, at most 32 items. True says that more may be there.
+    fn fill(&mut self) -> bool {
+        self.given = 0;
+        self.many = 0;
+        // SAFETY: as in `shown`; there is room for so many items.
+        let code = unsafe {
+            raw::bus_c_hear(
+                &mut self.raw,
+                self.ready.as_mut_ptr(),
+                BATCH,
+                u64::MAX,
+                &mut self.many,
+            )
+        };
+        self.ended = code == 14;
+        code == 3
+    }
+
+    /// One turn: one load. Items that wait in its batch are given first.
+    pub fn turn(&mut self) -> Heard {
+        if let Some(item) = self.at_hand() {
+            return Heard::Item(item);
+        }
+        let mut told = raw::HeardAnswer {
+            tenure: 0,
+            owner: 0,
+            item: RawItem::NONE,
+        };
+        // SAFETY: as in `shown`.
+        match unsafe { raw::bus_c_hear_once(&mut self.raw, &mut told) } {
+            3 => Heard::Going,
+            11 => Heard::Empty,
+            12 => Heard::Head {
+                tenure: told.tenure,
+                owner: told.owner,
+            },
+            13 => Heard::Item(Item::of(&told.item)),
+            14 => {
+                self.ended = true;
+                Heard::End
+            }
+            code => unreachable!("the archive answered {code}"),
+        }
+    }
+
+    /// The next item that is there; None where there is nothing more by now, or for good. Waits for nothing.
+    pub fn try_item(&mut self) -> Option<Item> {
+        if self.given == self.many && !self.ended {
+            self.fill();
+        }
+        self.at_hand()
+    }
+
+    /// The order has ended, and all of it was given.
+    pub fn has_ended(&self) -> bool {
+        self.ended && self.given == self.many
+    }
+
+    /// Appends all that is there to `items`, and gives how many they were. Waits for nothing.
+    ///
+    /// ```
+    /// # use kioskbasil::{Bus, Shape};
+    /// let (mut senders, mut receivers) = Bus::open(Shape::of(1, 1))?;
+    /// senders[0].send_all(["one", "two"])?;
+    /// let mut items = Vec::new();
+    /// assert_eq!(receivers[0].hear(&mut items), 2);
+    /// assert_eq!(&items[1][..], b"two");
+    /// # Ok::<(), Box<dyn std::error::Error>>(())
+    /// ```
+    pub fn hear(&mut self, items: &mut Vec<Item>) -> usize {
+        let before = items.len();
+        while let Some(item) = self.try_item() {
+            items.push(item);
+        }
+        items.len() - before
+    }
+
+    /// The next item, and None at the end and ever after. It backs off while there is none.
+    pub fn next_item(&mut self) -> Option<Item> {
+        let mut back_off = BackOff::default();
+        loop {
+            if let Some(item) = self.try_item() {
+                return Some(item);
+            }
+            if self.has_ended() {
+                return None;
+            }
+            back_off.snooze();
+        }
+    }
+
+    /// Ends the bus by this handle, where it is the last one.
+    pub fn end(mut self) -> Result<Ended, EndError> {
+        let mut log = vec![0; 65_536];
+        let mut left = raw::Left::default();
+        // SAFETY: as in `shown`; the log has room for the longest one.
+        match unsafe { raw::bus_c_end(&mut self.raw, log.as_mut_ptr(), log.len(), &mut left) } {
+            0 => {
+                log.truncate(left.words as usize);
+                Ok(Ended {
+                    log,
+                    counts: left.counts,
+                    tenures: left.tenures,
+                    ended: left.ended,
+                })
+            }
+            code => Err(EndError::of_code(code)),
+        }
+    }
+}
+
+impl Iterator for Receiver {
+    type Item = Item;
+
+    /// As `next_item`.
+    fn next(&mut self) -> Option<Item> {
+        self.next_item()
+    }
+}

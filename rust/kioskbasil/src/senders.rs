@@ -1,0 +1,239 @@
+//! Senders.
+
+use crate::errors::{CloseError, PutError, SendError, Unsent};
+use crate::raw;
+use crate::waiting::{BackOff, Words};
+use std::fmt;
+
+/// The answer to a turn of a sender.
+#[derive(Clone, Copy, Debug, PartialEq, Eq)]
+pub enum Turn {
+    /// Nothing was pending.
+    Idle,
+    /// Another holds the page, or no new tenure is open.
+    Waiting,
+    /// A step was taken, and more are to come.
+    Going,
+    /// The election of this tenure chose another sender.
+    Lost { tenure: u64, owner: u8 },
+    /// It has taken the page of this tenure.
+    Own { tenure: u64 },
+    /// Its messages with these numbers stand in the order.
+    Delivered { tenure: u64, first: u64, last: u64 },
+    /// Its frame does not fit the log. The batch is kept.
+    Full,
+    /// The order has ended.
+    Closed,
+    /// All tenures are spent. The batch is kept.
+    Spent,
+    /// Where rows are used again: this sender keeps the row of this tenure, which is to be used next.
+    Behind { tenure: u64, sender: u8 },
+}
+
+impl Turn {
+    fn of(code: u32, told: raw::TurnAnswer) -> Turn {
+        let tenure = told.tenure;
+        match code {
+            1 => Turn::Idle,
+            2 => Turn::Waiting,
+            3 => Turn::Going,
+            4 => Turn::Lost {
+                tenure,
+                owner: told.sender,
+            },
+            5 => Turn::Own { tenure },
+            6 => Turn::Delivered {
+                tenure,
+                first: told.first,
+                last: told.last,
+            },
+            7 => Turn::Full,
+            8 => Turn::Closed,
+            9 => Turn::Spent,
+            10 => Turn::Behind {
+                tenure,
+                sender: told.sender,
+            },
+            _ => unreachable!("the archive answered {code}"),
+        }
+    }
+}
+
+impl fmt::Display for Turn {
+    fn fmt(&self, f: &mut fmt::Formatter<'_>) -> fmt::Result {
+        match self {
+            Turn::Idle => f.write_str("idle"),
+            Turn::Waiting => f.write_str("waiting"),
+            Turn::Going => f.write_str("going"),
+            Turn::Lost { tenure, owner } => write!(f, "lost {tenure} {owner}"),
+            Turn::Own { tenure } => write!(f, "own {tenure}"),
+            Turn::Delivered {
+                tenure,
+                first,
+                last,
+            } => write!(f, "delivered {tenure} {first} {last}"),
+            Turn::Full => f.write_str("full"),
+            Turn::Closed => f.write_str("closed"),
+            Turn::Spent => f.write_str("spent"),
+            Turn::Behind { tenure, sender } => write!(f, "behind {tenure} {sender}"),
+        }
+    }
+}
+
+/// A sender of a bus. It may go to another thread, and one thread at a time has it.
+pub struct Sender {
+    raw: raw::RawSender,
+    words: Words,
+    number: u8,
+}
+
+// SAFETY: the archive proves `Send` of what the handle leads to.
+unsafe impl Send for Sender {}
+
+impl fmt::Debug for Sender {
+    fn fmt(&self, f: &mut fmt::Formatter<'_>) -> fmt::Result {
+        f.debug_struct("Sender")
+            .field("number", &self.number)
+            .finish_non_exhaustive()
+    }
+}
+
+impl Drop for Sender {
+    fn drop(&mut self) {
+        // SAFETY: the handle is this value's own.
+        unsafe { raw::bus_c_free_sender(&mut self.raw) }
+    }
+}
+
+impl Sender {
+    pub(crate) fn of_raw(raw: raw::RawSender) -> Sender {
+        let mut sender = Sender {
+            raw,
+            words: Words::new(),
+            number: 0,
+        };
+        sender.number = sender.shown().number;
+        sender
+    }
+
+    fn shown(&mut self) -> raw::SenderShown {
+        let mut shown = raw::SenderShown::default();
+        // SAFETY: the handle is this value's own, and the pointers are of values of this function.
+        unsafe { raw::bus_c_sender(&mut self.raw, &mut shown) };
+        shown
+    }
+
+    /// Its number, from 0 on.
+    pub fn number(&self) -> u8 {
+        self.number
+    }
+
+    /// How many messages wait in its batch, at most 16.
+    pub fn pending(&mut self) -> u64 {
+        self.shown().pending
+    }
+
+    /// The number that its next message gets.
+    pub fn next_number(&mut self) -> u64 {
+        self.shown().next_number
+    }
+
+    /// It sends nothing more. False as long as its close waits to be sent.
+    pub fn is_closed(&mut self) -> bool {
+        self.shown().is_closed
+    }
+
+    /// Its next turn uses its random word.
+    pub fn wants_word(&mut self) -> bool {
+        self.shown().wants_word
+    }
+
+    /// Appends a message of at most 56 bytes to its batch of at most 16, and gives its number. Takes no step.
+    ///
+    /// ```
+    /// # use kioskbasil::{Bus, PutError, Shape};
+    /// let (mut senders, _receivers) = Bus::open(Shape::of(1, 1))?;
+    /// assert_eq!(senders[0].put(b"hello"), Ok(0));
+    /// assert_eq!(senders[0].put(&[0; 57]), Err(PutError::TooLong));
+    /// # Ok::<(), kioskbasil::OpenError>(())
+    /// ```
+    pub fn put(&mut self, message: &[u8]) -> Result<u64, PutError> {
+        let mut number = 0;
+        // SAFETY: as in `shown`; a slice's pointer is never null.
+        match unsafe { raw::bus_c_put(&mut self.raw, message.as_ptr(), message.len(), &mut number) }
+        {
+            0 => Ok(number),
+            code => Err(PutError::of_code(code)),
+        }
+    }
+
+    /// Lets an end mark wait, which ends the order once it is sent. Takes no step.
+    pub fn close(&mut self) -> Result<(), CloseError> {
+        // SAFETY: as in `shown`.
+        match unsafe { raw::bus_c_close(&mut self.raw) } {
+            0 => Ok(()),
+            code => Err(CloseError::of_code(code)),
+        }
+    }
+
+    /// One turn: at most one step on one word of the bus. `word` is the random word of a vote.
+    pub fn turn(&mut self, word: u32) -> Turn {
+        let mut told = raw::TurnAnswer::default();
+        // SAFETY: as in `shown`.
+        let code = unsafe { raw::bus_c_turn(&mut self.raw, word, &mut told) };
+        Turn::of(code, told)
+    }
+
+    /// Turns until Idle, Delivered, Full, Closed or Spent. It backs off while another sender has to go on first.
+    #[must_use = "Full and Spent send nothing"]
+    pub fn send(&mut self) -> Turn {
+        let mut back_off = BackOff::default();
+        loop {
+            let word = self.words.next();
+            match self.turn(word) {
+                Turn::Waiting | Turn::Behind { .. } => back_off.snooze(),
+                Turn::Going | Turn::Lost { .. } | Turn::Own { .. } => back_off.reset(),
+                last => return last,
+            }
+        }
+    }
+
+    fn send_off(&mut self) -> Result<(), SendError> {
+        while self.pending() > 0 {
+            match self.send() {
+                Turn::Delivered { .. } => {}
+                other => return Err(SendError::Turn(other)),
+            }
+        }
+        Ok(())
+    }
+
+    /// Sends what waits and then these, in their order, in batches of at most 16.
+    pub fn send_all<M: AsRef<[u8]>>(
+        &mut self,
+        messages: impl IntoIterator<Item = M>,
+    ) -> Result<(), Unsent> {
+        let mut put = 0;
+        self.send_off().map_err(|why| Unsent { put, why })?;
+        for message in messages {
+            if self.pending() == 16 {
+                self.send_off().map_err(|why| Unsent { put, why })?;
+            }
+            self.put(message.as_ref()).map_err(|why| Unsent {
+                put,
+                why: SendError::Put(why),
+            })?;
+            put += 1;
+        }
+        self.send_off().map_err(|why| Unsent { put, why })
+    }
+
+    /// Closes, and sends that: Ok where the order has ended then.
+    pub fn end_order(&mut self) -> Result<(), SendError> {
+        self.close().map_err(SendError::Close)?;
+        match self.send() {
+            Turn::Closed => Ok(()),
+            other => Err(SendError::Turn(other)),
+        }
+    }
+}
