@@ -3,8 +3,9 @@
 ghost use Rattle.std.specs.Prelude.{◌≡◌, ◌-◌, ◌*◌, ◌<◌, ◌≤◌, ◌⊎◌, IfOk, IfErr};
 ghost use Rattle.std.specs.Prelude.{OnOk, OnErr};
 ghost use Rattle.bus_receiver.specs.Sizes.{batches_of, tenures_of, words_of};
-ghost use Rattle.bus_register.specs.declared.limits.TheConstants.{MOST_SENDERS, MOST_RECEIVERS};
+ghost use Rattle.bus_register.specs.declared.limits.TheConstants.{MOST_RECEIVERS};
 ghost use Rattle.bus_register.specs.declared.limits.TheConstants.{MOST_MESSAGES, MOST_ROUNDS};
+ghost use Rattle.bus_run.specs.declared.limits.TheConstants.{MOST_SEND_WORKERS};
 ghost use Rattle.bench_rounds.specs.declared.needs.TheConstants.{MOST_TENURES};
 ghost use Rattle.bench_rounds.specs.declared.request.TheConstants.{MOST_REPETITIONS};
 ghost use Rattle.bench_rounds.specs.Sizes.{bytes_of};
@@ -58,7 +59,7 @@ pub struct Load {
     pub repetitions: u64,
     /// Of each binary decision.
     pub rounds: u64,
-    ghost few_senders: { senders ≤ MOST_SENDERS },
+    ghost few_senders: { senders ≤ MOST_SEND_WORKERS },
     ghost few_receivers: { receivers ≤ MOST_RECEIVERS },
     ghost few_items: { senders * messages ≤ (MOST_TENURES - 1) * MOST_MESSAGES },
     ghost few_repetitions: { repetitions ≤ MOST_REPETITIONS },

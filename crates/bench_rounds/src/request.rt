@@ -4,13 +4,13 @@ ghost use Rattle.std.specs.Prelude.{◌≡◌, ◌≢◌, ◌<◌, ◌≤◌, �
 ghost use Rattle.std.specs.Prelude.{None, IfSome, IfOk, IfErr, OnOk};
 ghost use Rattle.std.specs.Option.{SomeIff};
 ghost use Rattle.std.specs.Str.Parse.{IsNumeral, digits_value};
-ghost use Rattle.bus_register.specs.declared.limits.TheConstants.{MOST_SENDERS, MOST_RECEIVERS};
-ghost use Rattle.bus_register.specs.declared.limits.TheConstants.{MOST_ROUNDS};
+ghost use Rattle.bus_register.specs.declared.limits.TheConstants.{MOST_RECEIVERS, MOST_ROUNDS};
+ghost use Rattle.bus_run.specs.declared.limits.TheConstants.{MOST_SEND_WORKERS};
 ghost use Rattle.bench_rounds.specs.declared.request.TheConstants.{MOST_REPETITIONS};
 ghost use Rattle.bench_rounds.specs.Sizes.{bytes_of};
 
-use bus_register::limits::{MOST_RECEIVERS, MOST_ROUNDS, MOST_SENDERS};
-use bus_run::limits::ROUNDS;
+use bus_register::limits::{MOST_RECEIVERS, MOST_ROUNDS};
+use bus_run::limits::{MOST_SEND_WORKERS, ROUNDS};
 use std::fmt;
 
 /// How the program is called.
@@ -118,7 +118,7 @@ pub struct Request {
     pub repetitions: u64,
     /// Of each binary decision.
     pub rounds: u64,
-    ghost some_senders: { (1 ≤ senders) × (senders ≤ MOST_SENDERS) },
+    ghost some_senders: { (1 ≤ senders) × (senders ≤ MOST_SEND_WORKERS) },
     ghost some_receivers: { (1 ≤ receivers) × (receivers ≤ MOST_RECEIVERS) },
     ghost some_messages: { 1 ≤ messages },
     ghost few_repetitions: { repetitions ≤ MOST_REPETITIONS },
@@ -147,7 +147,7 @@ impl Request {
         ensures refused { IfErr result
             (IsOutOfRange senders receivers messages bytes repetitions rounds) }
     {
-        if senders < 1 || senders > MOST_SENDERS as u64 {
+        if senders < 1 || senders > MOST_SEND_WORKERS {
             return Err(Refusal::OutOfRange(Field::Senders));
         }
         if receivers < 1 || receivers > MOST_RECEIVERS {

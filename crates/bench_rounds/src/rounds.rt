@@ -46,7 +46,7 @@ pub fn round<R: Threads + Wait + Clock + Sync>(
     load: Load,
     seed: u64,
 ) -> Result<Times, Fault> {
-    let made = Bus::cyclic(alloc, shape_of(load))?;
+    let made = Bus::cyclic(alloc, shape_of(load), None)?;
     round_on::<Brand, R>(rt, alloc, made, load, seed)
 }
 

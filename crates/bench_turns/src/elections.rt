@@ -12,6 +12,9 @@ use rand_core::Rng;
 use rand_pcg::Pcg32;
 use std::alloc::Global;
 
+/// Senders of which each number is tried; of more than these 16, 32 and 64.
+const FEW_SENDERS: u64 = 8;
+
 /// Elections of each number of senders over each ratifier.
 const ELECTIONS: u64 = 2_000;
 
@@ -109,12 +112,14 @@ fn print_steps<Q: Ratifier + Drop, R: Print>(rt: &R, alloc: Global, n: u64) -> a
 
 /// Prints a line for each number of senders.
 pub fn print_elections<R: Print>(rt: &R, alloc: Global) -> anyhow::Result<()> {
-    println!(rt; "n | TwoCollect   mean worst bound | ThreeWord    mean worst bound")?;
+    println!(rt; " n | TwoCollect   mean worst bound | ThreeWord    mean worst bound")?;
     for n in 1..MOST_SENDERS as u64 + 1 {
-        print!(rt; "{n}")?;
-        print_steps::<TwoCollect, R>(rt, alloc, n)?;
-        print_steps::<ThreeWord, R>(rt, alloc, n)?;
-        println!(rt; "")?;
+        if n <= FEW_SENDERS || n.is_power_of_two() {
+            print!(rt; "{n:>2}")?;
+            print_steps::<TwoCollect, R>(rt, alloc, n)?;
+            print_steps::<ThreeWord, R>(rt, alloc, n)?;
+            println!(rt; "")?;
+        }
     }
     Ok(())
 }

@@ -1,13 +1,11 @@
 //! A storm: runs of every shape, as many side by side as make up a number of threads.
 
-use crate::storms::{Tale, run};
+use crate::chains::run;
+use crate::storms::{SHAPES, Tale, receivers_of, senders_of};
 use std::alloc::Global;
 use std::thread::Threads;
 use std::time::Clock;
 use std::{io, thread};
-
-/// Shapes of 1 to 8 senders and 1 to 8 receivers.
-const SHAPES: u64 = 64;
 
 /// What came of runs.
 #[derive(Clone, Copy)]
@@ -24,6 +22,8 @@ pub struct Figures {
     stuck: u64,
     items: u64,
     most_tenures: u64,
+    chains: u64,
+    sittings: u64,
 }
 
 impl Figures {
@@ -42,11 +42,14 @@ impl Figures {
             stuck: 0,
             items: 0,
             most_tenures: 0,
+            chains: 0,
+            sittings: 0,
         }
     }
 
     /// With one run more, that did not fail.
     fn with(self, tale: Tale) -> Figures {
+        let is_chain = tale.sittings > 1;
         self.and(Figures {
             runs: 1,
             failed: 0,
@@ -60,6 +63,8 @@ impl Figures {
             stuck: tale.stuck,
             items: tale.items,
             most_tenures: tale.last_tenure,
+            chains: u64::from(is_chain),
+            sittings: if is_chain { tale.sittings } else { 0 },
         })
     }
 
@@ -89,12 +94,16 @@ impl Figures {
             stuck: self.stuck.saturating_add(other.stuck),
             items: self.items.saturating_add(other.items),
             most_tenures: self.most_tenures.max(other.most_tenures),
+            chains: self.chains.saturating_add(other.chains),
+            sittings: self.sittings.saturating_add(other.sittings),
         }
     }
 
-    /// Senders stopped while they pinned a tenure, and a holder was behind one to the last.
-    pub fn shows_behind(&self) -> bool {
-        self.stops_while_pinned > 0 && self.behinds > 0 && self.stuck > 0
+    /// Senders stopped while they pinned a tenure, a holder was behind one to the last, and a
+    /// sitting went on with the numbers of another.
+    pub fn shows_all(&self) -> bool {
+        let has_behind = self.behinds > 0 && self.stuck > 0;
+        self.stops_while_pinned > 0 && has_behind && self.chains > 0
     }
 
     /// A line for each figure.
@@ -109,7 +118,11 @@ impl Figures {
         println!(rt; "  workers that waited too long {}", self.gave_up)?;
         println!(rt; "  of these senders with the page {}", self.stuck)?;
         println!(rt; "  items {}", self.items)?;
-        println!(rt; "  tenures of the longest log {}", self.most_tenures)
+        println!(rt; "  tenures of the longest log {}", self.most_tenures)?;
+        println!(rt;
+            "  chains of sittings {}, with {} sittings",
+            self.chains, self.sittings
+        )
     }
 }
 
@@ -123,7 +136,7 @@ pub fn storm<R: Threads + Clock + Print + Sync>(
 ) -> anyhow::Result<Figures> {
     let mut figures = Figures::new();
     for shape in 0..SHAPES {
-        let workers = 2 + shape % 8 + shape / 8;
+        let workers = senders_of(shape).saturating_add(receivers_of(shape)).max(1);
         let hands = threads.min(workers).max(1);
         let lanes = (threads / workers).clamp(1, 64);
         let mut firsts = Vec::new(alloc);

@@ -1,4 +1,4 @@
-//! A run whose workers yield, sleep a random while, or stop for good.
+//! A sitting whose workers yield, sleep a random while, or stop for good.
 
 ghost use Rattle.std.specs.Prelude.{◌≡◌, ◌≤◌, All, IfOk, OnOk};
 ghost use Rattle.bus_pageslot.specs.Seats.{table_of};
@@ -9,38 +9,59 @@ use crate::workers::{MOST_TURNS, Patience, ReceiveWorker, Rest, Teller, receive_
 use anyhow::{bail, ensure};
 use bus_deliverylog::{LogRead, read_log};
 use bus_pageslot::OfBus;
-use bus_receiver::{EndFault, Ended, LEAST_ROWS_AGAIN, SenderNo, Shape, Turn};
-use bus_register::limits::{MOST_MESSAGES, MOST_RECEIVERS, MOST_SENDERS};
+use bus_receiver::{EndFault, Ended, Page, SenderNo, Turn};
+use bus_register::limits::{MOST_RECEIVERS, MOST_SENDERS};
 use bus_run::Report;
 use bus_run::audits::audit;
 use bus_run::buses::{Bus, Sender, Tap, TheBus};
 use rand_core::Rng;
 use rand_pcg::Pcg32;
 use std::alloc::{AllocError, Global};
-use std::marker::Brand;
 use std::thread;
 use std::thread::Threads;
 use std::time::{Clock, Duration};
 
-/// Of 32 seeds that of the long run.
-const LONG_SEED: u64 = 9;
+/// Runs in a row that have all shapes: 1 to 8 senders with 1 to 8 receivers, and 9, 16, 17, 33 and
+/// 64 senders.
+pub const SHAPES: u64 = 69;
 
-/// What is asked of a run.
+/// What is asked of a sitting.
 #[derive(Clone, Copy)]
-struct Load {
-    senders: u64,
-    messages: u64,
+pub struct Load {
+    pub senders: u64,
+    pub messages: u64,
     /// So many threads at most, each of which plays its workers by turns.
-    hands: u64,
+    pub hands: u64,
     /// Nobody stops, and there are words for all.
-    is_calm: bool,
-    /// Two senders of many messages, each of which is sent in a tenure of its own.
-    is_long: bool,
+    pub is_calm: bool,
+    /// A sender puts no more at once.
+    pub batch: u32,
+    /// The page with whose numbers the sitting goes on.
+    pub after: Option<Page>,
 }
 
-/// What came of a run.
+impl Load {
+    /// The number of each sender's first message.
+    fn bases(&self) -> [u64; MOST_SENDERS] {
+        match self.after {
+            Some(page) => page.next,
+            None => [0; MOST_SENDERS],
+        }
+    }
+}
+
+/// A sitting that is over.
+#[derive(Clone, Copy)]
+pub struct Sitting {
+    pub tale: Tale,
+    /// The page that its bus left, where its order has ended: the next sitting goes on with it.
+    pub page: Option<Page>,
+}
+
+/// What came of a run: of a sitting, or of several in a row.
 #[derive(Clone, Copy)]
 pub struct Tale {
+    pub sittings: u64,
     /// How many workers stopped for good.
     pub stops: u64,
     /// How many of these are senders whose presence names a tenure.
@@ -59,8 +80,29 @@ pub struct Tale {
     pub is_whole: bool,
     /// How many items its order has.
     pub items: u64,
-    /// The tenure of the last frame of its log, from 1 on; 0 where there is none.
+    /// The tenure of the last frame of its longest log, from 1 on; 0 where there is none.
     pub last_tenure: u64,
+}
+
+impl Tale {
+    /// With the sitting that went on after it.
+    pub fn and(self, next: Tale) -> Tale {
+        Tale {
+            sittings: self.sittings.saturating_add(next.sittings),
+            stops: self.stops.saturating_add(next.stops),
+            stops_while_pinned: self
+                .stops_while_pinned
+                .saturating_add(next.stops_while_pinned),
+            behinds: self.behinds.saturating_add(next.behinds),
+            gave_up: self.gave_up.saturating_add(next.gave_up),
+            stuck: self.stuck.saturating_add(next.stuck),
+            is_out: self.is_out || next.is_out,
+            is_calm: self.is_calm && next.is_calm,
+            is_whole: self.is_whole && next.is_whole,
+            items: self.items.saturating_add(next.items),
+            last_tenure: self.last_tenure.max(next.last_tenure),
+        }
+    }
 }
 
 /// Workers that one thread plays by turns.
@@ -71,49 +113,36 @@ struct Hand<B: OfBus> {
     dice: Pcg32,
 }
 
-/// A run under this seed, in at most so many threads, over 2 to 8 rows that are used again: 1 to 8
-/// senders of at most 31 messages each, and 1 to 8 receivers. 64 seeds in a row have all these
-/// shapes. In one run of 32 two senders have 1,500 messages each, for a tenure each.
-pub fn run<R: Threads + Clock + Sync>(
-    rt: &R,
-    alloc: Global,
-    seed: u64,
-    hands: u64,
-) -> anyhow::Result<Tale> {
-    let mut dice = Pcg32::new(seed, 0);
-    let is_long = seed % 32 == LONG_SEED;
-    let few = u64::from(dice.next_u32() % 32);
-    let load = Load {
-        senders: if is_long {
-            2
-        } else {
-            1 + seed % MOST_SENDERS as u64
-        },
-        messages: if is_long { 1_500 } else { few },
-        hands: hands.max(1),
-        is_calm: dice.next_u32() % 4 == 0,
-        is_long,
-    };
-    let is_scarce = !load.is_calm && !is_long && dice.next_u32() % 4 == 0;
-    let shape = Shape {
-        senders: load.senders,
-        receivers: 1 + seed / MOST_SENDERS as u64 % MOST_RECEIVERS,
-        rounds: 1 + u64::from(dice.next_u32() % 4),
-        rows: LEAST_ROWS_AGAIN + u64::from(dice.next_u32() % 7),
-        log_words: if is_scarce { 128 } else { 16_384 },
-    };
-    let made = Bus::cyclic(alloc, shape)?;
-    run_on::<Brand, R>(rt, alloc, made, load, dice)
+/// The senders of the run under this seed.
+pub fn senders_of(seed: u64) -> u64
+    ensures { result ≤ MOST_SENDERS }
+{
+    match seed % SHAPES {
+        64 => 9,
+        65 => 16,
+        66 => 17,
+        67 => 33,
+        68 => 64,
+        shape => 1 + shape % 8,
+    }
 }
 
-/// The run on this bus, which is B.
-fn run_on<B: OfBus + Send + Sync, R: Threads + Clock + Sync>(
+/// The receivers of the run under this seed.
+pub fn receivers_of(seed: u64) -> u64 {
+    match seed % SHAPES {
+        64.. => 1 + seed / SHAPES % MOST_RECEIVERS,
+        shape => 1 + shape / 8,
+    }
+}
+
+/// The sitting on this bus, which is B.
+pub fn sit_on<B: OfBus + Send + Sync, R: Threads + Clock + Sync>(
     rt: &R,
     alloc: Global,
     made: (Bus, Vec<Sender>, Vec<Tap>),
     load: Load,
-    mut dice: Pcg32,
-) -> anyhow::Result<Tale>
+    dice: &mut Pcg32,
+) -> anyhow::Result<Sitting>
     requires bus { made.0.table ≡ B.table }
     requires senders { All (λ sender. table_of sender ≡ B.table) made.1.items }
     requires taps { All (λ tap. tap.table_id ≡ B.table) made.2.items }
@@ -123,20 +152,17 @@ fn run_on<B: OfBus + Send + Sync, R: Threads + Clock + Sync>(
     let the = TheBus::<B>::new(bus);
     let mut tellers = Vec::with_capacity(alloc, senders.len())?;
     for send_worker in send_workers_of::<B>(alloc, senders)? {
-        let patience = Patience::cast(&mut dice, load.is_calm);
-        let batch = if load.is_long {
-            1
-        } else {
-            MOST_MESSAGES as u32
-        };
-        tellers.push(Teller::new(send_worker, load.messages, batch, patience))?;
+        let patience = Patience::cast(dice, load.is_calm);
+        let teller = Teller::new(send_worker, load.messages, load.batch, patience);
+        tellers.push(teller)?;
     }
-    let receive_workers = receive_workers_of::<B>(alloc, taps, &mut dice, load.is_calm)?;
-    let hands = deal(alloc, load, tellers, receive_workers, &mut dice)?;
+    let after = load.after.as_ref();
+    let receive_workers = receive_workers_of::<B>(alloc, taps, dice, load.is_calm, after)?;
+    let hands = deal(alloc, load, tellers, receive_workers, dice)?;
     let hands = thread::map_vec(rt, hands, &|hand| play(rt, &the, hand))?;
     let (mut tellers, mut receive_workers) = gather(alloc, hands)?;
     for teller in tellers.iter_mut() {
-        if teller.close(&the, &mut dice) {
+        if teller.close(&the, dice) {
             break;
         }
     }
@@ -243,14 +269,14 @@ fn gather<B: OfBus>(
     Ok((tellers, receive_workers))
 }
 
-/// Ends the run: what each worker knows has to go with the log, and with how the bus ends.
+/// Ends the sitting: what each worker knows has to go with the log, and with how the bus ends.
 fn settle<B: OfBus>(
     alloc: Global,
     the: TheBus<B>,
     tellers: Vec<Teller<B>>,
     mut receive_workers: Vec<ReceiveWorker<B>>,
     load: Load,
-) -> anyhow::Result<Tale>
+) -> anyhow::Result<Sitting>
     requires { load.senders ≤ MOST_SENDERS }
 {
     let Some(first) = receive_workers.first_mut() else {
@@ -259,22 +285,48 @@ fn settle<B: OfBus>(
     let words = first.words(alloc, &the)?;
     let read = read_log(alloc, words.as_slice(), load.senders)?;
     have_heard(&read, receive_workers.as_slice())?;
-    have_told(counts_of(&read)?, tellers.as_slice())?;
+    let nexts = nexts_of(&read, load)?;
+    have_told(nexts, tellers.as_slice())?;
     have_waited(tellers.as_slice())?;
     let tale = tale_of(&read, &tellers, &receive_workers, load);
-    if tale.is_whole {
-        let report = end_and_audit(alloc, the, receive_workers, load)?;
-        let is_same = report.ended.log() == words.as_slice();
-        ensure!(is_same, "the log left is another");
+    let left = if tale.is_whole {
+        let Report { ended, .. } = end_and_audit(alloc, the, receive_workers, load)?;
+        Some(ended)
     } else {
         let is_cut = !load.is_calm || tale.gave_up > 0;
         ensure!(is_cut, "nobody stopped, and something is missing");
-        end_with(the, receive_workers, tale.is_out, words.as_slice())?;
-    }
-    Ok(tale)
+        end_with(the, receive_workers, tale.is_out)?
+    };
+    let Some(ended) = left else {
+        return Ok(Sitting { tale, page: None });
+    };
+    let is_same = ended.log() == words.as_slice();
+    ensure!(is_same, "the log left is another");
+    let page = page_of(&ended, &read, load, nexts)?;
+    Ok(Sitting { tale, page })
 }
 
-/// What came of the run with this log.
+/// The page that the bus left, where its order has ended. The numbers of each sender have to begin
+/// with those that the sitting went on with, and to go on behind its items.
+fn page_of(
+    ended: &Ended,
+    read: &LogRead,
+    load: Load,
+    nexts: [u64; MOST_SENDERS],
+) -> anyhow::Result<Option<Page>> {
+    let page = *ended.page();
+    let bases = load.bases();
+    for number in 0..MOST_SENDERS as u8 {
+        let is_base = ended.base(SenderNo(number)) == bases[usize::from(number)];
+        ensure!(is_base, "a sender began with another number");
+    }
+    ensure!(page.next == nexts, "the page has other numbers");
+    let is_read = page.ended == read.order.ended;
+    ensure!(is_read, "the page has another end");
+    Ok(if page.ended { Some(page) } else { None })
+}
+
+/// What came of the sitting with this log.
 fn tale_of<B: OfBus>(
     read: &LogRead,
     tellers: &[Teller<B>],
@@ -287,6 +339,7 @@ fn tale_of<B: OfBus>(
         .filter(|teller| teller.stopped_while_pinned());
     let with_page = tellers.iter().filter(|teller| teller.has_page);
     Tale {
+        sittings: 1,
         stops: count(tellers, receive_workers, Rest::Stopped),
         stops_while_pinned: while_pinned.count() as u64,
         behinds: tellers
@@ -336,12 +389,13 @@ fn have_heard<B: OfBus>(
     Ok(())
 }
 
-/// How many items each sender has in the log. They carry its numbers from 0 on, one after another.
-fn counts_of(read: &LogRead) -> anyhow::Result<[u64; MOST_SENDERS]> {
-    let mut counts = [0; MOST_SENDERS];
+/// The number behind each sender's items in the log. They carry its numbers one after another, from
+/// the one on that the sitting began with.
+fn nexts_of(read: &LogRead, load: Load) -> anyhow::Result<[u64; MOST_SENDERS]> {
+    let mut nexts = load.bases();
     for item in read.order.items.iter() {
         let number = item.number;
-        let Some(next) = counts.get_mut(usize::from(item.sender.0)) else {
+        let Some(next) = nexts.get_mut(usize::from(item.sender.0)) else {
             bail!("an item is of no sender");
         };
         ensure!(number == *next, "an item is not the next of its sender");
@@ -350,15 +404,15 @@ fn counts_of(read: &LogRead) -> anyhow::Result<[u64; MOST_SENDERS]> {
         ensure!(is_kept, "a message is altered");
         *next = number.saturating_add(1);
     }
-    Ok(counts)
+    Ok(nexts)
 }
 
 /// Each sender has in the log what it was told, and nothing that it has not put; and just what it
 /// was told where it has not the page.
-fn have_told<B: OfBus>(counts: [u64; MOST_SENDERS], tellers: &[Teller<B>]) -> anyhow::Result<()> {
+fn have_told<B: OfBus>(nexts: [u64; MOST_SENDERS], tellers: &[Teller<B>]) -> anyhow::Result<()> {
     for teller in tellers {
         let sender = &teller.send_worker.sender;
-        let count = counts
+        let next = nexts
             .get(usize::from(sender.number().0))
             .copied()
             .unwrap_or(0);
@@ -368,10 +422,10 @@ fn have_told<B: OfBus>(counts: [u64; MOST_SENDERS], tellers: &[Teller<B>]) -> an
             teller.delivered
         };
         ensure!(
-            count >= teller.delivered,
+            next >= teller.delivered,
             "a message that was delivered is missing"
         );
-        ensure!(count <= most, "a message stands in the log too early");
+        ensure!(next <= most, "a message stands in the log too early");
     }
     Ok(())
 }
@@ -400,13 +454,12 @@ fn has_left<B: OfBus>(tellers: &[Teller<B>], number: SenderNo) -> bool {
         .any(|teller| matches!(teller.rest, Some(Rest::Stopped | Rest::GaveUp)))
 }
 
-/// Ends the bus by the last receiver: it has just these words, unless its page is out.
+/// Ends the bus by the last receiver: it leaves something behind, unless its page is out.
 fn end_with<B: OfBus>(
     the: TheBus<B>,
     mut receive_workers: Vec<ReceiveWorker<B>>,
     is_out: bool,
-    words: &[u64],
-) -> anyhow::Result<()> {
+) -> anyhow::Result<Option<Ended>> {
     let Some(last) = receive_workers.pop() else {
         bail!("no receiver is there");
     };
@@ -414,11 +467,13 @@ fn end_with<B: OfBus>(
     match the.into_bus().end(tap) {
         Ok(ended) => {
             ensure!(!is_out, "the bus ended with its page out");
-            ensure!(ended.log() == words, "the log left is another");
+            Ok(Some(ended))
         }
-        Err(EndFault::PageOut) => ensure!(is_out, "the page is home, and the bus did not end"),
+        Err(EndFault::PageOut) => {
+            ensure!(is_out, "the page is home, and the bus did not end");
+            Ok(None)
+        }
     }
-    Ok(())
 }
 
 /// Ends the bus by the last receiver, and holds what each heard against what the bus left behind.

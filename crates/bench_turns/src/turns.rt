@@ -99,7 +99,7 @@ pub fn sums_of<R: Clock>(
             rows: MOST_ROWS_AGAIN as u64,
             log_words: 16_384,
         };
-        let made = Bus::cyclic(alloc, shape)?;
+        let made = Bus::cyclic(alloc, shape, None)?;
         take_turns::<Brand, R>(rt, alloc, made, Pcg32::new(bus, senders), &mut sums)?;
     }
     Ok(sums)

@@ -5,7 +5,7 @@ ghost use Rattle.std.specs.Prelude.{◌≡◌, All};
 
 use crate::send_workers::SendWorker;
 use bus_pageslot::OfBus;
-use bus_receiver::{Heard, Item, RecvTurn, Turn};
+use bus_receiver::{Heard, Item, Page, RecvTurn, Turn};
 use bus_register::Kind;
 use bus_run::buses::{Tap, TheBus};
 use rand_core::Rng;
@@ -124,7 +124,7 @@ pub struct Teller<B: OfBus> {
     pub rest: Option<Rest>,
     /// It has taken the page and not given it back.
     pub has_page: bool,
-    /// So many of its messages stand in the order, by what it was answered.
+    /// Its messages below this number stand in the order, by what it was answered.
     pub delivered: u64,
     /// What its last turn was answered.
     pub last: Option<Turn>,
@@ -144,11 +144,12 @@ impl<B: OfBus> Teller<B> {
         batch: u32,
         patience: Patience,
     ) -> Teller<B> {
+        let delivered = send_worker.sender.next_number();
         Teller {
             send_worker,
             rest: None,
             has_page: false,
-            delivered: 0,
+            delivered,
             last: None,
             behinds: 0,
             messages,
@@ -247,13 +248,22 @@ pub struct ReceiveWorker<B: OfBus> {
 }
 
 impl<B: OfBus> ReceiveWorker<B> {
-    /// A receiver that has not begun.
-    pub fn new(alloc: Global, tap: Tap, patience: Patience) -> Result<ReceiveWorker<B>, AllocError>
+    /// A receiver that has not begun, of the sitting that goes on after this page.
+    pub fn new(
+        alloc: Global,
+        tap: Tap,
+        patience: Patience,
+        after: Option<&Page>,
+    ) -> Result<ReceiveWorker<B>, AllocError>
         requires { tap.table_id ≡ B.table }
     {
+        let heard = match after {
+            Some(page) => Heard::after(page),
+            None => Heard::new(),
+        };
         Ok(ReceiveWorker {
             tap,
-            heard: Heard::new(),
+            heard,
             items: Vec::with_capacity(alloc, MOST_ITEMS)?,
             rest: None,
             is_sound: true,
@@ -304,18 +314,20 @@ impl<B: OfBus> ReceiveWorker<B> {
     }
 }
 
-/// A worker for each receiver, in order.
+/// A worker for each receiver, in order, of the sitting that goes on after this page.
 pub fn receive_workers_of<B: OfBus>(
     alloc: Global,
     taps: Vec<Tap>,
     dice: &mut Pcg32,
     is_calm: bool,
+    after: Option<&Page>,
 ) -> Result<Vec<ReceiveWorker<B>>, AllocError>
     requires { All (λ tap. tap.table_id ≡ B.table) taps.items }
 {
     let mut receive_workers = Vec::with_capacity(alloc, taps.len())?;
     for tap in taps {
-        receive_workers.push(ReceiveWorker::new(alloc, tap, Patience::cast(dice, is_calm))?)?;
+        let patience = Patience::cast(dice, is_calm);
+        receive_workers.push(ReceiveWorker::new(alloc, tap, patience, after)?)?;
     }
     Ok(receive_workers)
 }

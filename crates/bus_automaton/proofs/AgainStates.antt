@@ -4,6 +4,7 @@ use Rattle.std.specs.Prelude.{All}
 use Rattle.std.proofs.lemmas.Bool.{true≢false}
 use Rattle.std.proofs.lemmas.List.{append-nil}
 use Rattle.std.proofs.lemmas.Option.{same_Some, slice_get_within}
+use Rattle.bus_register.specs.declared.limits.TheConstants.{MOST_SENDERS}
 use Rattle.bus_register.specs.declared.registers.Op.{Op}
 use Rattle.bus_register.specs.Words.{register, SumFits}
 use Rattle.bus_register.specs.Proved.TableLaws.{some_or_none, here_not, get_set_same, get_set_other}
@@ -17,9 +18,7 @@ use Rattle.bus_machine.specs.Proved.Cyclic.{OwnedCyclicMachine, LeadTo, last_of}
 use Rattle.bus_machine.specs.Proved.Following.{TurnsWithin}
 use Rattle.bus_machine.specs.Proved.Happening.{ParticipantDoes}
 use Rattle.bus_machine.proofs.Cyclic.CyclicLaws.{next_seen}
-use Rattle.bus_machine.specs.Proved.Truth.{LossesAreSeen}
 use Rattle.bus_machine.proofs.Cyclic.LogGrowing.{log_grows}
-use Rattle.bus_machine.proofs.Cyclic.LossLaws.{ring_seen}
 use Rattle.bus_machine.proofs.Cyclic.StartingLaws.{one_more_participant}
 use Rattle.bus_machine.specs.Proved.Starting.{AreNewParticipants}
 use Rattle.bus_deliverylog.specs.Orders.{of_sender}
@@ -35,27 +34,25 @@ use Rattle.bus_tenure.specs.declared.turns.Turn.{Turn as Answered}
 use Rattle.bus_register.specs.Tables.{of_some}
 use Rattle.bus_world.specs.Bus.{IsLayout, Part, Sending, least_of, standing_of, stands_at}
 use Rattle.bus_world.proofs.TenuresLaws as tenures
-use Rattle.bus_world.specs.Headline.{Action, HasPut, HasClosed, IsPrefix, puts}
+use Rattle.bus_world.specs.Headline.{Action, HasPut, HasClosed, IsPrefix, Promises, puts}
 use Rattle.bus_world.specs.Log.{Knows, words_read_from}
-use Rattle.bus_world.specs.CyclicMachines.{CyclicMachine, IsKeptCyclic, CyclicTrails, CyclicReached, IsOnWord, yard_of, core_in, pin_in, participant_going, move_due, participant_moved, with_participant, ring_after, ring_trails, ring_reclaims, ring_actions, no_ring_trails}
+use Rattle.bus_world.specs.CyclicMachines.{CyclicMachine, CyclicTrails, CyclicReached, IsOnWord, yard_of, core_in, pin_in, participant_going, move_due, participant_moved, with_participant, ring_after, ring_trails, ring_reclaims, ring_actions, no_ring_trails}
 use Rattle.bus_world.specs.CyclicMachines.CyclicReached.{NewCyclic, TurnTaken, PutTaken, CloseTaken, RecvTaken, StopTaken}
 use Rattle.bus_world.specs.Tenures.Stage.{Open, Held}
 use Rattle.bus_world.specs.Trails.{step_action}
 use Rattle.bus_world.specs.Turning.{words_after, number_found, after_step}
 use Rattle.bus_world.specs.Waiting.{waiting_at}
-use Rattle.bus_world.specs.World.{Turn, can_close, no_stops, is_set, new_page, is_open}
+use Rattle.bus_world.specs.World.{Turn, can_close, no_stops, is_set, AreBases, first_page, is_open}
 use Rattle.bus_world.specs.CyclicProtocols.{CyclicProtocol, word_found, actions_with, due_actions}
 use Rattle.bus_world.proofs.EventTrails as events
 use Rattle.bus_world.proofs.LogLaws.{length-read}
 use Rattle.bus_world.proofs.Waiting.{waiting_of}
 use Rattle.bus_world.proofs.CyclicMachineFits as fits
-use Rattle.bus_world.proofs.CyclicMachineLaws.{IsCyclicLayout, IsLed, ring_led, ring_kept, same_register, due_goes}
+use Rattle.bus_world.proofs.CyclicMachineLaws.{IsCyclicLayout, IsLed, ring_led, same_register, due_goes}
 use Rattle.bus_world.proofs.Serving.{Serves}
 use Rattle.bus_world.proofs.CyclicProtocolLaws.{HasKept, led_kept, words_read, yard_promised}
-use Rattle.bus_machine.specs.Proved.Staying.{stage_of, HasGoneOn, actions_in}
-use Rattle.bus_machine.proofs.Cyclic.Staying.{taken_rises, taken_apart}
 use Rattle.bus_automaton.specs.Processes.{IsCounted, log_below, EndsBy}
-use Rattle.bus_automaton.specs.Lawful.{AutomatonLaws, IsSender, AcceptsIn, StepsIn, HasLog, IsPromisedOf, Opens}
+use Rattle.bus_automaton.specs.Lawful.{AutomatonLaws, IsSender, AcceptsIn, StepsIn, HasLog, IsPromisedOf, Opens, no_answers}
 use Rattle.bus_automaton.specs.RowsApart.{is_holding, is_taken}
 use Rattle.bus_automaton.specs.RowsAgain.{table_layout_again, started_again, adds_due, process_again, bus_again, CyclicHistory, IsCyclicHistory}
 use Rattle.bus_automaton.specs.SenderTrails.{SenderTrail, with_sender_trail}
@@ -86,7 +83,7 @@ none_set (suc n) zero = refl
 none_set (suc n) (suc s) = none_set n s
 
 all_go : {E : Type 0} (b : CyclicMachine E) → b.stopped ≡ no_stops → (s : ℕ) → participant_going b s ≡ slice_get b.participants s
-all_go b none s = ap (λ t. cond t None (slice_get b.participants s)) (ap (λ l. is_set (slice_get l s)) none ∙ none_set 8 s)
+all_go b none s = ap (λ t. cond t None (slice_get b.participants s)) (ap (λ l. is_set (slice_get l s)) none ∙ none_set MOST_SENDERS s)
 
 there_shown : {A : Type 0} (t : Bool) (o : Option A) (v : A) → cond t None o ≡ Some v → o ≡ Some v
 there_shown true o v e = absurd (let bad : None ≡ Some v = e in let wrong : ⊥ = cc in wrong)
@@ -110,7 +107,7 @@ close_can q can =
     ap (λ z. is_open z && (cond q.busy false true && is_empty q.messages)) can.is_open ∙ ap (λ z. cond z false true && is_empty q.messages) can.idle ∙ ap is_empty can.none
 
 -- ---- the page is at home where it is taken
-finds_home : {E : Type 0} (X : Election E) (P : Protocol E (Unit {0}) ℕ) (x : Layout) (s : Serves X P x) (V : ℕ → ℕ) (home : Option Page) (senders : ℕ → Option (Core E)) (owners : List ℕ) (frames : List Frame) → Sending P x V home senders owners frames
+finds_home : {base : ℕ → ℕ} {E : Type 0} (X : Election E) (P : Protocol E (Unit {0}) ℕ) (x : Layout) (s : Serves X P x) (V : ℕ → ℕ) (home : Option Page) (senders : ℕ → Option (Core E)) (owners : List ℕ) (frames : List Frame) → Sending base P x V home senders owners frames
     → (p : ℕ) (d : Core E) → senders p ≡ Some d → (t : ℕ) → situation_of X d ≡ TakesPage t → is_some home ≡ true
 finds_home X P x s V home senders owners frames h p d old t i =
     let w = tells X d (TakesPage t) i in
@@ -123,9 +120,9 @@ finds_home X P x s V home senders owners frames h p d old t i =
           (tenures.finds_home X.op X.fed P s.laws x.senders x.rows 2 V (V 1) (is_some home) (λ q. of_some standing_of (senders q)) (λ q. least_of (senders q)) owners h.tenures p t w.0 stands (out ∙ ap Some mine)).1
     ]
 
-module _ {E : Type 0} (X : Election E) (P : Protocol E (Unit {0}) ℕ) (x : Layout) (rows : ℕ) (y : Serves X P x) where
+module _ {E : Type 0} (X : Election E) (P : Protocol E (Unit {0}) ℕ) (bases : List ℕ) (x : Layout) (rows : ℕ) (y : Serves X P x) where
   -- ---- of any ring of these sizes that something leads to
-  module _ (b : CyclicMachine E) (T : CyclicTrails) (ok : IsLayout x) (two : 2 ≤ rows) (same : b.layout ≡ x) (rows_are : b.rows ≡ rows) (reached : CyclicReached X b T) where
+  module _ (b : CyclicMachine E) (T : CyclicTrails) (ok : IsLayout x) (two : 2 ≤ rows) (same : b.layout ≡ x) (rows_are : b.rows ≡ rows) (bases_are : b.bases ≡ bases) (reached : CyclicReached X b T) where
     serves : Serves X P b.layout
     serves = subst (Serves X P) (sym same) y
 
@@ -140,12 +137,6 @@ module _ {E : Type 0} (X : Election E) (P : Protocol E (Unit {0}) ℕ) (x : Layo
 
     k : HasKept X P serves.laws b.layout layout.ok layout.width layout.starts serves.owner_is serves.named serves.announces serves.apart b.rows layout.two T.heard yard T.pins T.actions
     k = led_kept X P serves.laws b.layout layout.ok layout.width layout.starts serves.owner_is serves.named serves.announces serves.apart b.rows layout.two T.heard yard T.pins T.actions led.leads.led
-
-    safe : IsKeptCyclic X b T
-    safe = ring_kept X P serves.laws serves.owner_is serves.named serves.announces serves.apart b layout T reached
-
-    losses : LossesAreSeen b T.actions
-    losses = ring_seen X P serves.laws serves.owner_is serves.named serves.announces serves.apart b layout T reached
 
     sizes_are : table_layout_again b.layout b.rows ≡ table_layout_again x rows
     sizes_are = λ i. table_layout_again (same i) (rows_are i)
@@ -180,11 +171,11 @@ module _ {E : Type 0} (X : Election E) (P : Protocol E (Unit {0}) ℕ) (x : Layo
         subst (λ n. ((n % 2 ≡ 1) → is_some b.home ≡ false) × ((n % 2 ≢ 1) → is_some b.home ≡ true)) (sym k.kept.laid.stage) (stage_tells t.ended (k.V 1) (is_some b.home) led.leads.owners _ t.stage_is)
 
     -- the page is at home only while a tenure is open, and then it knows the frames
-    page_knows : (page : Page) (frames : List Frame) → b.home ≡ Some page → AreFrames x.senders frames → log_words frames ≡ log_below (table_layout_again x rows) b.words → (past : ℕ) × Knows page frames past (slice_index b.words 0)
+    page_knows : (page : Page) (frames : List Frame) → b.home ≡ Some page → AreFrames x.senders frames → log_words frames ≡ log_below (table_layout_again x rows) b.words → (past : ℕ) × Knows (slice_index bases) page frames past (slice_index b.words 0)
     page_knows page frames home lawful words =
         let sending = k.kept.sending in
         elim sending.tenures.stage_is [
-          | Open stage at_home many ↦ (sending.tenures.ended, subst (λ n. Knows page frames sending.tenures.ended n) (sym k.kept.laid.length) (subst (λ fs. Knows page fs sending.tenures.ended (k.V 0)) (same_frames frames lawful words) (sending.page_knows page sending.tenures.ended home stage).0))
+          | Open stage at_home many ↦ (sending.tenures.ended, subst (λ (n : List ℕ × ℕ). Knows (slice_index n.0) page frames sending.tenures.ended n.1) (λ i. (bases_are i, sym k.kept.laid.length i)) (subst (λ fs. Knows (slice_index b.bases) page fs sending.tenures.ended (k.V 0)) (same_frames frames lawful words) (sending.page_knows page sending.tenures.ended home stage).0))
           | Held holder stage away many holds ↦ absurd (true≢false (sym (ap is_some home) ∙ away))
         ]
 
@@ -193,26 +184,27 @@ module _ {E : Type 0} (X : Election E) (P : Protocol E (Unit {0}) ℕ) (x : Layo
       old : yard.senders p ≡ Some v.core
       old = ap core_in at
 
-      part : Part b.layout k.V k.frames p v.core
+      part : Part (slice_index b.bases) b.layout k.V k.frames p v.core
       part = k.kept.sending.parts p v.core old
 
       counted : IsCounted (process_again X) v
       counted =
           let size : length (log_words k.frames) ≡ k.V 0 = sym (ap length k.kept.sending.log.words_are) ∙ length-read k.V (log_at b.layout) (k.V 0) in
-          let first = first_below k.V k.frames v.core v.core.phase part.fits in
+          let first = first_below (slice_index b.bases) b.layout.senders k.V k.frames k.kept.sending.log.lawful v.core v.core.phase part.fits in
+          let low = k.kept.sending.log.low v.core.me in
           let short = k.kept.sending.log.fits in
           let capacity = ap (λ (z : Layout). z.capacity) part.layout in
           let most = layout.ok.capacity in
           let seen = seen_first v.core.queue v.pin in
-          record { first = omega arith; few = (let few = part.queue.few in let same = ap length (seen_messages v.core.queue v.pin) in omega arith); capacity = omega arith }
+          record { first = omega arith; few = (let few = part.queue.few in let same = ap length (seen_messages v.core.queue v.pin) in omega arith) }
 
-      is_sender : IsSender (process_again X) (bus_again X x rows) p v
+      is_sender : IsSender (process_again X) (bus_again X bases x rows) p v
       is_sender = record {
         me = part.me;
         below = subst (λ (l : Layout). p < l.senders) same part.below;
         table_layout = λ i. table_layout_again ((part.layout ∙ same) i) ((led.is.rows p v at ∙ rows_are) i);
         counted = counted;
-        laid = not_taken k.V k.frames v.core v.core.phase part.fits;
+        laid = not_taken (slice_index b.bases) k.V k.frames v.core v.core.phase part.fits;
       }
 
       -- the log has of it what it put, but for what waits
@@ -223,7 +215,7 @@ module _ {E : Type 0} (X : Election E) (P : Protocol E (Unit {0}) ℕ) (x : Layo
 
       -- ---- how its turn ends
       away_of : is_taken v.core.phase ≡ false
-      away_of = not_taken k.V k.frames v.core v.core.phase part.fits
+      away_of = not_taken (slice_index b.bases) k.V k.frames v.core v.core.phase part.fits
 
       abbrev Plain : Core E → Type 0
       Plain c = (is_taken c.phase ≡ false) × (is_holding c.phase ≡ is_holding v.core.phase)
@@ -329,36 +321,25 @@ module _ {E : Type 0} (X : Election E) (P : Protocol E (Unit {0}) ℕ) (x : Layo
             let got = found_at z (op_at X v.core z word) e in
             (λ i. step_action (kind_at X v.core z) (tenure_at X v.core z) (got i) (chosen_at X v.core z (got i) word) (is i))
 
-        adds_are : (d : Due E) → op_due X v d word ≡ Some o → (a : Answered) → a ≡ answer_due X v d found word → due_actions X b.layout b.rows (yard_of b None []) v.core d word a ≡ (adds_due X v d found word).actions
-        adds_are (Pins u) e a is = refl
-        adds_are (Reclaims r u) e a is = refl
-        adds_are (Goes z) e a is = actions_same z e a is
-
-        -- the stage does not fall, and the step is in no tenure whose row has gone on
-        rises : stage_of b ≤ stage_of later
-        rises = taken_rises X P serves.laws serves.owner_is serves.named serves.announces serves.apart b layout T reached p v goes word on_word
-
-        leaves : (t : ℕ) → HasGoneOn b t → actions_in t (adds_due X v (due X v) found word).actions ≡ []
-        leaves t gone = ap (actions_in t) (sym (adds_are (due X v) op told refl)) ∙ taken_apart X P serves.laws serves.owner_is serves.named serves.announces serves.apart b layout T reached p v goes word t gone told
-
         -- what it did, with a step that is due
         abbrev sender_trail_with : (d : Due E) → Answered → ℕ → SenderTrail
         sender_trail_with d a q = record {
+          first = slice_index bases q;
           actions = ring_actions X b p v d word a T.actions q;
           pins = ring_trails b p d T.pins q;
           reclaims = ring_reclaims b p d T.reclaims q;
         }
 
         -- of the step, with the number that its word had, and of nobody else
-        own_sender_trail : (d : Due E) → op_due X v d word ≡ Some o → (a : Answered) → a ≡ answer_due X v d found word → sender_trail_with d a p ≡ with_sender_trail (record { actions = T.actions p; pins = T.pins p; reclaims = T.reclaims p }) (adds_due X v d found word)
-        own_sender_trail (Pins u) e a is = λ i. record { actions = own_actions p [] T.actions i; pins = (own_grown p (record { op = u; got = slice_index b.words (register u) }) T.pins ∙ ap (λ n. T.pins p ++ record { op = u; got = n } ∷ []) (ap (λ w. slice_index b.words (register w)) (same_Some _ _ e))) i; reclaims = sym (append-nil (T.reclaims p)) i }
-        own_sender_trail (Reclaims r u) e a is = λ i. record { actions = own_actions p [] T.actions i; pins = sym (append-nil (T.pins p)) i; reclaims = (own_grown p (record { op = u; got = slice_index b.words (register u) }) T.reclaims ∙ ap (λ n. T.reclaims p ++ record { op = u; got = n } ∷ []) (ap (λ w. slice_index b.words (register w)) (same_Some _ _ e))) i }
-        own_sender_trail (Goes z) e a is = λ i. record { actions = (own_actions p (due_actions X b.layout b.rows (yard_of b None []) v.core (Goes z) word a) T.actions ∙ ap (λ l. T.actions p ++ l) (actions_same z e a is)) i; pins = sym (append-nil (T.pins p)) i; reclaims = sym (append-nil (T.reclaims p)) i }
+        own_sender_trail : (d : Due E) → op_due X v d word ≡ Some o → (a : Answered) → a ≡ answer_due X v d found word → sender_trail_with d a p ≡ with_sender_trail (record { first = slice_index bases p; actions = T.actions p; pins = T.pins p; reclaims = T.reclaims p }) (adds_due X v d found word)
+        own_sender_trail (Pins u) e a is = λ i. record { first = slice_index bases p; actions = own_actions p [] T.actions i; pins = (own_grown p (record { op = u; got = slice_index b.words (register u) }) T.pins ∙ ap (λ n. T.pins p ++ record { op = u; got = n } ∷ []) (ap (λ w. slice_index b.words (register w)) (same_Some _ _ e))) i; reclaims = sym (append-nil (T.reclaims p)) i }
+        own_sender_trail (Reclaims r u) e a is = λ i. record { first = slice_index bases p; actions = own_actions p [] T.actions i; pins = sym (append-nil (T.pins p)) i; reclaims = (own_grown p (record { op = u; got = slice_index b.words (register u) }) T.reclaims ∙ ap (λ n. T.reclaims p ++ record { op = u; got = n } ∷ []) (ap (λ w. slice_index b.words (register w)) (same_Some _ _ e))) i }
+        own_sender_trail (Goes z) e a is = λ i. record { first = slice_index bases p; actions = (own_actions p (due_actions X b.layout b.rows (yard_of b None []) v.core (Goes z) word a) T.actions ∙ ap (λ l. T.actions p ++ l) (actions_same z e a is)) i; pins = sym (append-nil (T.pins p)) i; reclaims = sym (append-nil (T.reclaims p)) i }
 
-        other_sender_trail : (d : Due E) (a : Answered) (q : ℕ) → q ≢ p → sender_trail_with d a q ≡ record { actions = T.actions q; pins = T.pins q; reclaims = T.reclaims q }
-        other_sender_trail (Pins u) a q ne = λ i. record { actions = other_actions p [] T.actions q ne i; pins = other_grown p (record { op = u; got = slice_index b.words (register u) }) T.pins q ne i; reclaims = T.reclaims q }
-        other_sender_trail (Reclaims r u) a q ne = λ i. record { actions = other_actions p [] T.actions q ne i; pins = T.pins q; reclaims = other_grown p (record { op = u; got = slice_index b.words (register u) }) T.reclaims q ne i }
-        other_sender_trail (Goes z) a q ne = λ i. record { actions = other_actions p (due_actions X b.layout b.rows (yard_of b None []) v.core (Goes z) word a) T.actions q ne i; pins = T.pins q; reclaims = T.reclaims q }
+        other_sender_trail : (d : Due E) (a : Answered) (q : ℕ) → q ≢ p → sender_trail_with d a q ≡ record { first = slice_index bases q; actions = T.actions q; pins = T.pins q; reclaims = T.reclaims q }
+        other_sender_trail (Pins u) a q ne = λ i. record { first = slice_index bases q; actions = other_actions p [] T.actions q ne i; pins = other_grown p (record { op = u; got = slice_index b.words (register u) }) T.pins q ne i; reclaims = T.reclaims q }
+        other_sender_trail (Reclaims r u) a q ne = λ i. record { first = slice_index bases q; actions = other_actions p [] T.actions q ne i; pins = T.pins q; reclaims = other_grown p (record { op = u; got = slice_index b.words (register u) }) T.reclaims q ne i }
+        other_sender_trail (Goes z) a q ne = λ i. record { first = slice_index bases q; actions = other_actions p (due_actions X b.layout b.rows (yard_of b None []) v.core (Goes z) word a) T.actions q ne i; pins = T.pins q; reclaims = T.reclaims q }
 
         here_now : slice_get later.participants p ≡ Some (after_of (due X v) b.home found word)
         here_now = get_set_same b.participants p _ (slice_get_within b.participants p v at) ∙ ap (λ n. Some (after_of (due X v) b.home n word)) found_is
@@ -377,15 +358,15 @@ module _ {E : Type 0} (X : Election E) (P : Protocol E (Unit {0}) ℕ) (x : Layo
         goes_here : participant_going b p ≡ Some v
         goes_here = all_go b running p ∙ at
 
-        with_batch : (w : Participant E) (ds : List Action) → CyclicReached X (with_participant b p w) (record T { actions = actions_with p ds T.actions }) → AcceptsIn (bus_again X x rows) (record { ring = b; trails = T }) p w ds
+        with_batch : (w : Participant E) (ds : List Action) → CyclicReached X (with_participant b p w) (record T { actions = actions_with p ds T.actions }) → AcceptsIn (bus_again X bases x rows) (record { ring = b; trails = T }) p w ds
         with_batch w ds r = record {
           state = record { ring = with_participant b p w; trails = record T { actions = actions_with p ds T.actions } };
           changes = record {
-            reached = record { served = ok; rows_some = two; layout = same; rows_are = rows_are; reached = r; alone = alone; running = running };
+            reached = record { served = ok; rows_some = two; layout = same; rows_are = rows_are; bases_are = bases_are; reached = r; alone = alone; running = running };
             here = get_set_same b.participants p w (slice_get_within b.participants p v at);
             others = λ q ne. get_set_other b.participants p w q ne;
-            sender_trail = λ i. record { actions = own_actions p ds T.actions i; pins = T.pins p; reclaims = T.reclaims p };
-            nothing_else = λ q ne. (λ i. record { actions = other_actions p ds T.actions q ne i; pins = T.pins q; reclaims = T.reclaims q });
+            sender_trail = λ i. record { first = slice_index bases p; actions = own_actions p ds T.actions i; pins = T.pins p; reclaims = T.reclaims p };
+            nothing_else = λ q ne. (λ i. record { first = slice_index bases q; actions = other_actions p ds T.actions q ne i; pins = T.pins q; reclaims = T.reclaims q });
           };
           words = refl;
           home = refl;
@@ -397,27 +378,28 @@ module _ {E : Type 0} (X : Election E) (P : Protocol E (Unit {0}) ℕ) (x : Layo
         abbrev with_close : Participant E
         with_close = record v { core = record v.core { queue = record v.core.queue { phase = Closing } } }
 
-        takes_message : (bytes : List ℕ) → CanPut (queue_seen v.core.queue v.pin) (length bytes) → All (λ byte. byte < 256) bytes → AcceptsIn (bus_again X x rows) (record { ring = b; trails = T }) p (with_message bytes) (HasPut (next_of (queue_seen v.core.queue v.pin)) bytes ∷ [])
+        takes_message : (bytes : List ℕ) → CanPut (queue_seen v.core.queue v.pin) (length bytes) → All (λ byte. byte < 256) bytes → AcceptsIn (bus_again X bases x rows) (record { ring = b; trails = T }) p (with_message bytes) (HasPut (next_of (queue_seen v.core.queue v.pin)) bytes ∷ [])
         takes_message bytes can small = with_batch (with_message bytes) (HasPut (next_of (queue_seen v.core.queue v.pin)) bytes ∷ [])
             (subst (λ n. CyclicReached X (with_participant b p (with_message bytes)) (record T { actions = actions_with p (HasPut n bytes ∷ []) T.actions })) (sym (next_seen v.core.queue v.pin))
             (subst (λ t. CyclicReached X (with_participant b p (cond t (with_message bytes) v)) (record T { actions = actions_with p (cond t (HasPut (next_of v.core.queue) bytes ∷ []) []) T.actions })) (events.put_taken (queue_seen v.core.queue v.pin) (length bytes) can)
             (PutTaken b T p v bytes reached goes_here small)))
 
-        takes_close : CanClose (queue_seen v.core.queue v.pin) → AcceptsIn (bus_again X x rows) (record { ring = b; trails = T }) p with_close (HasClosed ∷ [])
+        takes_close : CanClose (queue_seen v.core.queue v.pin) → AcceptsIn (bus_again X bases x rows) (record { ring = b; trails = T }) p with_close (HasClosed ∷ [])
         takes_close can = with_batch with_close (HasClosed ∷ [])
             (subst (λ t. CyclicReached X (with_participant b p (cond t with_close v)) (record T { actions = actions_with p (cond t (HasClosed ∷ []) []) T.actions })) (close_can (queue_seen v.core.queue v.pin) can)
             (CloseTaken b T p v reached goes_here))
 
-    has_log : HasLog (bus_again X x rows) (record { ring = b; trails = T })
+    has_log : HasLog (bus_again X bases x rows) (record { ring = b; trails = T })
     has_log = record { frames = k.frames; lawful = frames_are; words_are = log_here; fits = short }
 
-    promised : IsPromisedOf (bus_again X x rows) (record { ring = b; trails = T })
+    promised : IsPromisedOf (bus_again X bases x rows) (record { ring = b; trails = T })
     promised =
         let q = yard_promised X P serves.laws b.layout layout.ok layout.width layout.starts serves.owner_is serves.named serves.announces serves.apart b.rows layout.two yard T.pins T.actions T.heard led.leads.led in record {
           order = q.order;
           owners = q.owners;
           spelled = subst (λ (s : ℕ × List ℕ). Spells s.0 s.1 q.order q.owners) (λ i. ((same i).senders, log_below (sizes_are i) b.words)) q.by.spelled;
-          promises = silent_page T.actions T.heard q.order q.owners q.by.promises;
+          promises = subst (λ (l : List ℕ). Promises (slice_index l) T.actions no_answers q.order q.owners) bases_are
+              (silent_page T.actions T.heard q.order q.owners q.by.promises);
         }
 
     -- who is none of its senders is not there
@@ -425,7 +407,7 @@ module _ {E : Type 0} (X : Election E) (P : Protocol E (Unit {0}) ℕ) (x : Layo
     no_participant q past v at = let below = (is_sender q v at).below in omega arith
 
   -- ---- a history
-  module _ (z : CyclicHistory E) (h : IsCyclicHistory X x rows z) where
+  module _ (z : CyclicHistory E) (h : IsCyclicHistory X bases x rows z) where
     abbrev b : CyclicMachine E
     b = z.ring
 
@@ -434,115 +416,103 @@ module _ {E : Type 0} (X : Election E) (P : Protocol E (Unit {0}) ℕ) (x : Layo
 
     module _ (p : ℕ) (v : Participant E) (at : slice_get b.participants p ≡ Some v) (word : ℕ) (o : Op) (op : op_next X v word ≡ Some o) (low : register o < (table_layout_again x rows).words) where
       low_here : register o < length b.words
-      low_here = let w = wide b T h.served h.rows_some h.layout h.rows_are h.reached in omega arith
+      low_here = let w = wide b T h.served h.rows_some h.layout h.rows_are h.bases_are h.reached in omega arith
 
       abbrev next_ring : CyclicMachine E
-      next_ring = later b T h.served h.rows_some h.layout h.rows_are h.reached p v at h.running word o op low_here
+      next_ring = later b T h.served h.rows_some h.layout h.rows_are h.bases_are h.reached p v at h.running word o op low_here
 
       abbrev next_trails : CyclicTrails
-      next_trails = trails b T h.served h.rows_some h.layout h.rows_are h.reached p v at h.running word o op low_here
+      next_trails = trails b T h.served h.rows_some h.layout h.rows_are h.bases_are h.reached p v at h.running word o op low_here
 
       next_reached : CyclicReached X next_ring next_trails
-      next_reached = reaches b T h.served h.rows_some h.layout h.rows_are h.reached p v at h.running word o op low_here
+      next_reached = reaches b T h.served h.rows_some h.layout h.rows_are h.bases_are h.reached p v at h.running word o op low_here
 
-      steps_in : StepsIn (process_again X) (bus_again X x rows) z p v word o
+      steps_in : StepsIn (process_again X) (bus_again X bases x rows) z p v word o
       steps_in =
-          let before = has_log b T h.served h.rows_some h.layout h.rows_are h.reached in
-          let next = has_log next_ring next_trails h.served h.rows_some h.layout h.rows_are next_reached in
-          let goes_on = prefix b T h.served h.rows_some h.layout h.rows_are h.reached p v at h.running word o op low_here in
+          let before = has_log b T h.served h.rows_some h.layout h.rows_are h.bases_are h.reached in
+          let next = has_log next_ring next_trails h.served h.rows_some h.layout h.rows_are h.bases_are next_reached in
+          let goes_on = prefix b T h.served h.rows_some h.layout h.rows_are h.bases_are h.reached p v at h.running word o op low_here in
           let begins = frames_begin x.senders 0 0 before.frames next.frames goes_on.rest before.lawful next.lawful (ap (λ l. l ++ goes_on.rest) before.words_are ∙ goes_on.together ∙ sym next.words_are) in
           record {
             state = record { ring = next_ring; trails = next_trails };
             changes = record {
-              reached = record { served = h.served; rows_some = h.rows_some; layout = h.layout; rows_are = h.rows_are; reached = next_reached; alone = h.alone; running = h.running };
-              here = here_now b T h.served h.rows_some h.layout h.rows_are h.reached p v at h.running word o op low_here;
+              reached = record { served = h.served; rows_some = h.rows_some; layout = h.layout; rows_are = h.rows_are; bases_are = h.bases_are; reached = next_reached; alone = h.alone; running = h.running };
+              here = here_now b T h.served h.rows_some h.layout h.rows_are h.bases_are h.reached p v at h.running word o op low_here;
               others = λ q ne. get_set_other b.participants p _ q ne;
-              sender_trail = own_sender_trail b T h.served h.rows_some h.layout h.rows_are h.reached p v at h.running word o op low_here (due X v) op _ refl;
-              nothing_else = λ q ne. other_sender_trail b T h.served h.rows_some h.layout h.rows_are h.reached p v at h.running word o op low_here (due X v) _ q ne;
+              sender_trail = own_sender_trail b T h.served h.rows_some h.layout h.rows_are h.bases_are h.reached p v at h.running word o op low_here (due X v) op _ refl;
+              nothing_else = λ q ne. other_sender_trail b T h.served h.rows_some h.layout h.rows_are h.bases_are h.reached p v at h.running word o op low_here (due X v) _ q ne;
             };
             words = ap (words_after b.words) op;
             home = refl;
             grows = record { frames = before.frames; more = begins.0; lawful = before.lawful; lawful_now = subst (AreFrames x.senders) begins.1 next.lawful; words_are = before.words_are; words_now = ap log_words (sym begins.1) ∙ next.words_are };
           }
 
-      pub stage_rises : slice_index b.words 1 ≤ slice_index (words_after b.words (Some o)) 1
-      stage_rises = subst (λ (q : Option Op). slice_index b.words 1 ≤ slice_index (words_after b.words q) 1) op (rises b T h.served h.rows_some h.layout h.rows_are h.reached p v at h.running word o op low_here)
-
-      pub leaves_past : (t : ℕ) → t + rows ≤ slice_index b.words 1 / 2 → actions_in t (adds_due X v (due X v) (slice_index b.words (register o)) word).actions ≡ []
-      leaves_past t gone = leaves b T h.served h.rows_some h.layout h.rows_are h.reached p v at h.running word o op low_here t (subst (λ n. t + n ≤ slice_index b.words 1 / 2) (sym h.rows_are) gone)
-
   -- who is none of its senders does nothing
-  nobody_did : (b : CyclicMachine E) (T : CyclicTrails) → IsLayout x → 2 ≤ rows → b.layout ≡ x → b.rows ≡ rows → CyclicReached X b T → (q : ℕ) → x.senders ≤ q → T.actions q ≡ []
-  nobody_did b T ok two same rows_are (NewCyclic w new) q past = refl
-  nobody_did b T ok two same rows_are (TurnTaken w U s v word answer before there low _) q past = other_actions s _ U.actions q (λ e. no_participant w U ok two same rows_are before q past v (ap (slice_get w.participants) e ∙ there_shown _ _ v there)) ∙ nobody_did w U ok two same rows_are before q past
-  nobody_did b T ok two same rows_are (PutTaken w U s v bytes before goes small) q past = other_actions s _ U.actions q (λ e. no_participant w U ok two same rows_are before q past v (ap (slice_get w.participants) e ∙ there_shown _ _ v goes)) ∙ nobody_did w U ok two same rows_are before q past
-  nobody_did b T ok two same rows_are (CloseTaken w U s v before goes) q past = other_actions s _ U.actions q (λ e. no_participant w U ok two same rows_are before q past v (ap (slice_get w.participants) e ∙ there_shown _ _ v goes)) ∙ nobody_did w U ok two same rows_are before q past
-  nobody_did b T ok two same rows_are (RecvTaken w U r v next answer before at does) q past = nobody_did w U ok two same rows_are before q past
-  nobody_did b T ok two same rows_are (StopTaken w U s v before _) q past = nobody_did w U ok two same rows_are before q past
+  nobody_did : (b : CyclicMachine E) (T : CyclicTrails) → IsLayout x → 2 ≤ rows → b.layout ≡ x → b.rows ≡ rows → b.bases ≡ bases → CyclicReached X b T → (q : ℕ) → x.senders ≤ q → T.actions q ≡ []
+  nobody_did b T ok two same rows_are bases_are (NewCyclic w new) q past = refl
+  nobody_did b T ok two same rows_are bases_are (TurnTaken w U s v word answer before there low _) q past = other_actions s _ U.actions q (λ e. no_participant w U ok two same rows_are bases_are before q past v (ap (slice_get w.participants) e ∙ there_shown _ _ v there)) ∙ nobody_did w U ok two same rows_are bases_are before q past
+  nobody_did b T ok two same rows_are bases_are (PutTaken w U s v bytes before goes small) q past = other_actions s _ U.actions q (λ e. no_participant w U ok two same rows_are bases_are before q past v (ap (slice_get w.participants) e ∙ there_shown _ _ v goes)) ∙ nobody_did w U ok two same rows_are bases_are before q past
+  nobody_did b T ok two same rows_are bases_are (CloseTaken w U s v before goes) q past = other_actions s _ U.actions q (λ e. no_participant w U ok two same rows_are bases_are before q past v (ap (slice_get w.participants) e ∙ there_shown _ _ v goes)) ∙ nobody_did w U ok two same rows_are bases_are before q past
+  nobody_did b T ok two same rows_are bases_are (RecvTaken w U r v next answer before at does) q past = nobody_did w U ok two same rows_are bases_are before q past
+  nobody_did b T ok two same rows_are bases_are (StopTaken w U s v before _) q past = nobody_did w U ok two same rows_are bases_are before q past
 
   -- who takes a page next was chosen
-  pub owner_again : (z : CyclicHistory E) → IsCyclicHistory X x rows z → (p : ℕ) (v : Participant E) → slice_get z.ring.participants p ≡ Some v
+  pub owner_again : (z : CyclicHistory E) → IsCyclicHistory X bases x rows z → (p : ℕ) (v : Participant E) → slice_get z.ring.participants p ≡ Some v
       → (t : ℕ) → situation_of X v.core ≡ TakesPage t → Owns X p t v.core
   owner_again z h p v at t i =
       let b = z.ring in
-      let kept = k b z.trails h.served h.rows_some h.layout h.rows_are h.reached in
-      owner_itself X P b.layout (serves b z.trails h.served h.rows_some h.layout h.rows_are h.reached) kept.V b.home _ _ kept.frames
-      kept.kept.sending p v.core (old b z.trails h.served h.rows_some h.layout h.rows_are h.reached p v at) t i
+      let kept = k b z.trails h.served h.rows_some h.layout h.rows_are h.bases_are h.reached in
+      owner_itself X P b.layout (serves b z.trails h.served h.rows_some h.layout h.rows_are h.bases_are h.reached) kept.V b.home _ _ kept.frames
+      kept.kept.sending p v.core (old b z.trails h.served h.rows_some h.layout h.rows_are h.bases_are h.reached p v at) t i
 
-  pub reached_is_safe : (h : CyclicHistory E) → IsCyclicHistory X x rows h → IsKeptCyclic X h.ring h.trails
-  reached_is_safe h r = safe h.ring h.trails r.served r.rows_some r.layout r.rows_are r.reached
-
-  pub reached_losses_are_seen : (h : CyclicHistory E) → IsCyclicHistory X x rows h → LossesAreSeen h.ring h.trails.actions
-  reached_losses_are_seen h r = losses h.ring h.trails r.served r.rows_some r.layout r.rows_are r.reached
-
-  pub automaton_laws : AutomatonLaws (process_again X) (bus_again X x rows)
+  pub automaton_laws : AutomatonLaws (process_again X) (bus_again X bases x rows)
   automaton_laws = record {
     room = omega arith;
     behind = omega arith;
     started_me = λ p. refl;
     started_table_layout = λ p. refl;
-    started_next = λ p. refl;
     started_away = λ p. refl;
     started_laid = λ p. refl;
-    wide = λ z h. wide z.ring z.trails h.served h.rows_some h.layout h.rows_are h.reached;
-    senders = λ z p v h at. is_sender z.ring z.trails h.served h.rows_some h.layout h.rows_are h.reached p v at;
-    nobody = λ z q h past. nobody_did z.ring z.trails h.served h.rows_some h.layout h.rows_are h.reached q past;
-    message = λ z p v bytes h at can small. takes_message z.ring z.trails h.served h.rows_some h.layout h.rows_are h.reached p v at h.running h.alone bytes can small;
-    close = λ z p v h at can. takes_close z.ring z.trails h.served h.rows_some h.layout h.rows_are h.reached p v at h.running h.alone can;
+    wide = λ z h. wide z.ring z.trails h.served h.rows_some h.layout h.rows_are h.bases_are h.reached;
+    senders = λ z p v h at. is_sender z.ring z.trails h.served h.rows_some h.layout h.rows_are h.bases_are h.reached p v at;
+    nobody = λ z q h past. nobody_did z.ring z.trails h.served h.rows_some h.layout h.rows_are h.bases_are h.reached q past;
+    message = λ z p v bytes h at can small. takes_message z.ring z.trails h.served h.rows_some h.layout h.rows_are h.bases_are h.reached p v at h.running h.alone bytes can small;
+    close = λ z p v h at can. takes_close z.ring z.trails h.served h.rows_some h.layout h.rows_are h.bases_are h.reached p v at h.running h.alone can;
     step = λ z p v word o h at op low. steps_in z h p v at word o op low;
-    ends = λ z p v word o h at op home got. ends_due z.ring z.trails h.served h.rows_some h.layout h.rows_are h.reached p v at (due X v) refl word o op home got;
-    fits = λ z p v word o h at op. sum_fits z.ring z.trails h.served h.rows_some h.layout h.rows_are h.reached p v at word o op;
-    finds_home = λ z p v word o t h at op is. comes_home z.ring z.trails h.served h.rows_some h.layout h.rows_are h.reached p v at (due X v) refl word o t op is;
-    even_at_home = λ z h even. (stage_is z.ring z.trails h.served h.rows_some h.layout h.rows_are h.reached).1 even;
-    odd_away = λ z h odd. (stage_is z.ring z.trails h.served h.rows_some h.layout h.rows_are h.reached).0 odd;
-    page_knows = λ z page frames h home lawful words. page_knows z.ring z.trails h.served h.rows_some h.layout h.rows_are h.reached page frames home lawful words;
-    log = λ z h. has_log z.ring z.trails h.served h.rows_some h.layout h.rows_are h.reached;
-    sent = λ z p v frames h at lawful words. sent z.ring z.trails h.served h.rows_some h.layout h.rows_are h.reached p v at frames lawful words;
-    promised = λ z h. promised z.ring z.trails h.served h.rows_some h.layout h.rows_are h.reached;
+    ends = λ z p v word o h at op home got. ends_due z.ring z.trails h.served h.rows_some h.layout h.rows_are h.bases_are h.reached p v at (due X v) refl word o op home got;
+    fits = λ z p v word o h at op. sum_fits z.ring z.trails h.served h.rows_some h.layout h.rows_are h.bases_are h.reached p v at word o op;
+    finds_home = λ z p v word o t h at op is. comes_home z.ring z.trails h.served h.rows_some h.layout h.rows_are h.bases_are h.reached p v at (due X v) refl word o t op is;
+    even_at_home = λ z h even. (stage_is z.ring z.trails h.served h.rows_some h.layout h.rows_are h.bases_are h.reached).1 even;
+    odd_away = λ z h odd. (stage_is z.ring z.trails h.served h.rows_some h.layout h.rows_are h.bases_are h.reached).0 odd;
+    page_knows = λ z page frames h home lawful words. page_knows z.ring z.trails h.served h.rows_some h.layout h.rows_are h.bases_are h.reached page frames home lawful words;
+    log = λ z h. has_log z.ring z.trails h.served h.rows_some h.layout h.rows_are h.bases_are h.reached;
+    sent = λ z p v frames h at lawful words. sent z.ring z.trails h.served h.rows_some h.layout h.rows_are h.bases_are h.reached p v at frames lawful words;
+    promised = λ z h. promised z.ring z.trails h.served h.rows_some h.layout h.rows_are h.bases_are h.reached;
+    first = λ z p h. refl;
   }
 
 -- ---- it begins with all at their starts
-participants : {E : Type 0} → Layout → ℕ → ℕ → List (Participant E)
-participants x rows zero = []
-participants x rows (suc k) = participants x rows k ++ started_again x rows k ∷ []
+participants : {E : Type 0} → Layout → ℕ → List ℕ → ℕ → List (Participant E)
+participants x rows bases zero = []
+participants x rows bases (suc k) = participants x rows bases k ++ started_again x rows (slice_index bases k) k ∷ []
 
-participants_new : {E : Type 0} (x : Layout) (rows k : ℕ) → AreNewParticipants x rows k (participants {E = E} x rows k)
+participants_new : {E : Type 0} (x : Layout) (rows : ℕ) (bases : List ℕ) (k : ℕ) → AreNewParticipants x bases rows k (participants {E = E} x rows bases k)
 unfolding participants
-participants_new x rows zero = record { many_are = refl; each = λ p c e. absurd (let bad : None ≡ Some c = e in let wrong : ⊥ = cc in wrong) }
-participants_new {E = E} x rows (suc k) = subst (λ z. AreNewParticipants x rows z (participants {E = E} x rows k ++ started_again x rows k ∷ [])) (let e : k + 1 ≡ suc k = omega arith in e) (one_more_participant x rows k (participants x rows k) (started_again x rows k) (participants_new x rows k) refl)
+participants_new x rows bases zero = record { many_are = refl; each = λ p c e. absurd (let bad : None ≡ Some c = e in let wrong : ⊥ = cc in wrong) }
+participants_new {E = E} x rows bases (suc k) = subst (λ z. AreNewParticipants x bases rows z (participants {E = E} x rows bases k ++ started_again x rows (slice_index bases k) k ∷ [])) (let e : k + 1 ≡ suc k = omega arith in e) (one_more_participant x bases rows k (participants x rows bases k) (started_again x rows (slice_index bases k) k) (participants_new x rows bases k) refl)
 
-participants_has : {E : Type 0} (x : Layout) (rows k p : ℕ) → p < k → slice_get (participants {E = E} x rows k) p ≡ Some (started_again x rows p)
-participants_has {E = E} x rows k p l = let h = participants_new {E = E} x rows k in elim (some_or_none (slice_get (participants {E = E} x rows k) p)) [
+participants_has : {E : Type 0} (x : Layout) (rows : ℕ) (bases : List ℕ) (k p : ℕ) → p < k → slice_get (participants {E = E} x rows bases k) p ≡ Some (started_again x rows (slice_index bases p) p)
+participants_has {E = E} x rows bases k p l = let h = participants_new {E = E} x rows bases k in elim (some_or_none (slice_get (participants {E = E} x rows bases k) p)) [
   | inr c ↦ c.1 ∙ ap Some (h.each p c.0 c.1).1
-  | inl nobody ↦ absurd (here_not (participants {E = E} x rows k) p (let z = h.many_are in omega arith) nobody)
+  | inl nobody ↦ absurd (here_not (participants {E = E} x rows bases k) p (let z = h.many_are in omega arith) nobody)
 ]
 
 none_here : {A : Type 0} {B : Type 0} (v : A) → None ≡ Some v → B
 none_here v e = absurd (let wrong : ⊥ = cc in wrong)
 
-pub opens_again : {E : Type 0} (X : Election E) (x : Layout) (rows : ℕ) → IsLayout x → 2 ≤ rows → Opens (process_again X) (bus_again X x rows)
-opens_again {E} X x rows ok two =
-    let ring : CyclicMachine E = record { layout = x; rows = rows; words = replicate (table_layout_again x rows).words 0; home = Some new_page; participants = participants x rows x.senders; receivers = []; stopped = no_stops } in
+pub opens_again : {E : Type 0} (X : Election E) (bases : List ℕ) → AreBases bases → (x : Layout) (rows : ℕ) → IsLayout x → 2 ≤ rows → Opens (process_again X) (bus_again X bases x rows)
+opens_again {E} X bases are x rows ok two =
+    let ring : CyclicMachine E = record { layout = x; rows = rows; bases = bases; words = replicate (table_layout_again x rows).words 0; home = Some (first_page bases); participants = participants x rows bases x.senders; receivers = []; stopped = no_stops } in
     record {
       state = record { ring = ring; trails = no_ring_trails };
       reached = record {
@@ -550,13 +520,14 @@ opens_again {E} X x rows ok two =
         rows_some = two;
         layout = refl;
         rows_are = refl;
-        reached = NewCyclic ring (record { words = refl; home = refl; participants = λ p v e. (participants_new {E = E} x rows x.senders).each p v e; receivers = λ r v e. none_here v e; stopped = refl });
+        bases_are = refl;
+        reached = NewCyclic ring (record { bases_are = are; words = refl; home = refl; participants = λ p v e. (participants_new {E = E} x rows bases x.senders).each p v e; receivers = λ r v e. none_here v e; stopped = refl });
         alone = refl;
         running = refl;
       };
       words = refl;
       home = refl;
-      senders = λ p below. participants_has {E = E} x rows x.senders p below;
+      senders = λ p below. participants_has {E = E} x rows bases x.senders p below;
       sender_trail = λ p. refl;
-      counted = λ p. let few = ok.capacity in record { first = omega arith; few = omega arith; capacity = few };
+      counted = λ p. record { first = (let low = are.low p in omega arith); few = omega arith };
     }

@@ -66,8 +66,6 @@ seen_closing q (Unpinning t) = refl
 seen_closing q (Invalidated t) = refl
 
 -- ---- a store does not look at what it found
-Stores : Op → ℕ → ℕ → Type 0
-Stores o r n = o ≡ Store record { 0 = r } n
 
 load_stores : (at r n : ℕ) → Load record { 0 = at } ≡ Store record { 0 = r } n → ⊥
 load_stores at r n e = cc

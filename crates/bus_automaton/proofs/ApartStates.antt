@@ -27,7 +27,7 @@ use Rattle.bus_world.specs.Tenures.Stage.{Open, Held}
 use Rattle.bus_world.specs.Trails.{Trails, no_trails}
 use Rattle.bus_world.specs.Trails.Reached.{New}
 use Rattle.bus_world.specs.Waiting.{waiting_at}
-use Rattle.bus_world.specs.World.{Bus, new_core, new_page, no_stops}
+use Rattle.bus_world.specs.World.{Bus, AreBases, new_core, first_page, no_stops}
 use Rattle.bus_world.proofs.EventTrails as events
 use Rattle.bus_world.proofs.Serving.{Serves}
 use Rattle.bus_world.proofs.StartingLaws.{one_more_core}
@@ -43,12 +43,12 @@ use Rattle.bus_automaton.proofs.Histories.{Kept, kept, nobody_did, log_is, log_i
 use Rattle.bus_automaton.proofs.Taking.{with_message, with_close}
 
 -- between turns no page is under way
-pub not_taken : {E : Type 0} (words : ℕ → ℕ) (frames : List Frame) (c : Core E) (ph : Phase E) → Fits words frames c ph → is_taken ph ≡ false
-not_taken words frames c phase.Resting f = refl
-not_taken words frames c (phase.Electing t e) f = refl
-not_taken words frames c (phase.Taken t) f = absurd f
-not_taken words frames c (phase.Holding t page stored published) f = refl
-not_taken words frames c (phase.Giving t reason) f = refl
+pub not_taken : {E : Type 0} (base words : ℕ → ℕ) (frames : List Frame) (c : Core E) (ph : Phase E) → Fits base words frames c ph → is_taken ph ≡ false
+not_taken base words frames c phase.Resting f = refl
+not_taken base words frames c (phase.Electing t e) f = refl
+not_taken base words frames c (phase.Taken t) f = absurd f
+not_taken base words frames c (phase.Holding t page stored published) f = refl
+not_taken base words frames c (phase.Giving t reason) f = refl
 
 -- where the stage is odd the page is out, and else at home
 pub stage_tells : {E : Type 0} (ended stage : ℕ) (at_home : Bool) (owners : List ℕ) (standing : _) → Stage {E = E} ended stage at_home owners standing → ((stage % 2 ≡ 1) → at_home ≡ false) × ((stage % 2 ≢ 1) → at_home ≡ true)
@@ -56,7 +56,7 @@ stage_tells ended stage at_home owners standing (Open is home many) = (λ odd. a
 stage_tells ended stage at_home owners standing (Held holder is home many stands) = (λ odd. home, λ even. absurd (even (omega arith)))
 
 -- the page of promises, of receivers that were answered nothing
-pub silent_page : (actions : ℕ → List Action) (heard : ℕ → List RecvTurn) (order : Order) (owners : List (ℕ × SenderNo)) → Promises actions heard order owners → Promises actions no_answers order owners
+pub silent_page : {base : ℕ → ℕ} (actions : ℕ → List Action) (heard : ℕ → List RecvTurn) (order : Order) (owners : List (ℕ × SenderNo)) → Promises base actions heard order owners → Promises base actions no_answers order owners
 silent_page actions heard order owners q = record {
   one_owner = q.one_owner;
   announced = q.announced;
@@ -73,68 +73,69 @@ silent_page actions heard order owners q = record {
   framed = q.framed;
 }
 
-module _ {E : Type 0} (X : Election E) (P : Protocol E (Unit {0}) ℕ) (x : Layout) (y : Serves X P x) (z : History E) (h : IsHistory X x z) where
+module _ {E : Type 0} (X : Election E) (P : Protocol E (Unit {0}) ℕ) (bases : List ℕ) (x : Layout) (y : Serves X P x) (z : History E) (h : IsHistory X bases x z) where
   abbrev b : Bus E
   b = z.bus
 
   abbrev T : Trails
   T = z.trails
 
-  k : Kept X P x y h.served b T
-  k = kept X P x y h.served b T h.reached
+  k : Kept X P bases x y h.served b T
+  k = kept X P bases x y h.served b T h.reached
 
   -- any frames of its log are those that it keeps
   same_frames : (frames : List Frame) → AreFrames x.senders frames → log_words frames ≡ log_in_bus x b → k.frames ≡ frames
-  same_frames frames lawful words = same_log x.senders 0 0 k.frames frames k.lawful.keeps.sending.log.lawful lawful (sym (log_is X P x y h.served b T k) ∙ sym words)
+  same_frames frames lawful words = same_log x.senders 0 0 k.frames frames k.lawful.keeps.sending.log.lawful lawful (sym (log_is X P bases x y h.served b T k) ∙ sym words)
 
   module _ (p : ℕ) (c : Core E) (old : slice_get b.side.senders p ≡ Some c) where
     -- the numbers of a sender's messages stay far below their range
     counted : IsCounted (process_apart X) c
     counted =
         let part = k.lawful.keeps.sending.parts p c old in
-        let size : length (log_words k.frames) ≡ slice_index b.side.words 0 = ap length (sym (log_is X P x y h.served b T k)) ∙ length-read (slice_index b.side.words) (log_at x) (slice_index b.side.words 0) in
-        let first = first_below (slice_index b.side.words) k.frames c c.phase part.fits in
+        let size : length (log_words k.frames) ≡ slice_index b.side.words 0 = ap length (sym (log_is X P bases x y h.served b T k)) ∙ length-read (slice_index b.side.words) (log_at x) (slice_index b.side.words 0) in
+        let first = first_below (slice_index bases) x.senders (slice_index b.side.words) k.frames k.lawful.keeps.sending.log.lawful c c.phase part.fits in
+        let low = k.lawful.keeps.sending.log.low c.me in
         let fits = k.lawful.keeps.sending.log.fits in
         let capacity = ap (λ (z : Layout). z.capacity) part.layout in
         let most = h.served.capacity in
-        record { first = omega arith; few = part.queue.few; capacity = omega arith }
+        record { first = omega arith; few = part.queue.few }
 
-    is_sender : IsSender (process_apart X) (bus_apart X x) p c
+    is_sender : IsSender (process_apart X) (bus_apart X bases x) p c
     is_sender =
         let part = k.lawful.keeps.sending.parts p c old in record {
           me = part.me;
           below = part.below;
           table_layout = ap table_layout_of part.layout;
           counted = counted;
-          laid = not_taken (slice_index b.side.words) k.frames c c.phase part.fits;
+          laid = not_taken (slice_index bases) (slice_index b.side.words) k.frames c c.phase part.fits;
         }
 
     -- it has accepted something
-    accepts_in : (d : Core E) (actions : List Action) → Reaches X P x y h.served b T p d actions → AcceptsIn (bus_apart X x) z p d actions
+    accepts_in : (d : Core E) (actions : List Action) → Reaches X P bases x y h.served b T p d actions → AcceptsIn (bus_apart X bases x) z p d actions
     accepts_in d actions m = record {
       state = record { bus = record { side = record b.side { senders = slice_set b.side.senders p d }; receivers = b.receivers; stopped = b.stopped }; trails = m.trails };
       changes = record {
         reached = record { served = h.served; reached = m.reached; alone = h.alone; running = h.running };
         here = get_set_same b.side.senders p d (slice_get_within b.side.senders p c old);
         others = λ q ne. get_set_other b.side.senders p d q ne;
-        sender_trail = ap sender_trail_of_actions m.longer.own;
-        nothing_else = λ q ne. ap sender_trail_of_actions (m.longer.others q ne);
+        sender_trail = ap (sender_trail_of_actions (slice_index bases p)) m.longer.own;
+        nothing_else = λ q ne. ap (sender_trail_of_actions (slice_index bases q)) (m.longer.others q ne);
       };
       words = refl;
       home = refl;
     }
 
     -- it has taken a step
-    steps_in : (word : ℕ) (o : Op) → op_at X c (situation_of X c) word ≡ Some o → StepsIn (process_apart X) (bus_apart X x) z p c word o
+    steps_in : (word : ℕ) (o : Op) → op_at X c (situation_of X c) word ≡ Some o → StepsIn (process_apart X) (bus_apart X bases x) z p c word o
     steps_in word o due =
-        let s = steps X P x y h.served b T h.reached h.running p c old word o due in record {
+        let s = steps X P bases x y h.served b T h.reached h.running p c old word o due in record {
           state = record { bus = s.bus; trails = s.trails };
           changes = record {
             reached = record { served = h.served; reached = s.reached; alone = s.receivers ∙ h.alone; running = s.stopped ∙ h.running };
             here = ap (λ l. slice_get l p) s.senders ∙ get_set_same b.side.senders p _ (slice_get_within b.side.senders p c old);
             others = λ q ne. ap (λ l. slice_get l q) s.senders ∙ get_set_other b.side.senders p _ q ne;
-            sender_trail = ap sender_trail_of_actions s.longer.own;
-            nothing_else = λ q ne. ap sender_trail_of_actions (s.longer.others q ne);
+            sender_trail = ap (sender_trail_of_actions (slice_index bases p)) s.longer.own;
+            nothing_else = λ q ne. ap (sender_trail_of_actions (slice_index bases q)) (s.longer.others q ne);
           };
           words = s.words;
           home = s.home;
@@ -142,7 +143,7 @@ module _ {E : Type 0} (X : Election E) (P : Protocol E (Unit {0}) ℕ) (x : Layo
         }
 
     finds_home : (word : ℕ) (o : Op) (t : ℕ) → op_at X c (situation_of X c) word ≡ Some o → (line_of X c (situation_of X c)).move ≡ Comes t → is_some b.side.home ≡ true
-    finds_home word o t due is = ap is_some (taken X P x y h.served b T h.reached h.running p c old word o due t (takes_it X c (situation_of X c) word o t due is)).1
+    finds_home word o t due is = ap is_some (taken X P bases x y h.served b T h.reached h.running p c old word o due t (takes_it X c (situation_of X c) word o t due is)).1
 
     -- the log has of it what it put, but for what waits
     sent : (frames : List Frame) → AreFrames x.senders frames → log_words frames ≡ log_in_bus x b → map (λ (i : Item). i.message) (of_sender p (order_of frames)) ++ waiting_at c c.phase ≡ puts (T.actions p)
@@ -156,21 +157,21 @@ module _ {E : Type 0} (X : Election E) (P : Protocol E (Unit {0}) ℕ) (x : Layo
       subst (λ n. ((n % 2 ≡ 1) → is_some b.side.home ≡ false) × ((n % 2 ≢ 1) → is_some b.side.home ≡ true)) at told
 
   -- the page is at home only while a tenure is open, and then it knows the frames
-  page_knows : (page : Page) (frames : List Frame) → b.side.home ≡ Some page → AreFrames x.senders frames → log_words frames ≡ log_in_bus x b → (past : ℕ) × Knows page frames past (slice_index b.side.words 0)
+  page_knows : (page : Page) (frames : List Frame) → b.side.home ≡ Some page → AreFrames x.senders frames → log_words frames ≡ log_in_bus x b → (past : ℕ) × Knows (slice_index bases) page frames past (slice_index b.side.words 0)
   page_knows page frames home lawful words =
       let sending = k.lawful.keeps.sending in
       elim sending.tenures.stage_is [
-        | Open stage at_home many ↦ (sending.tenures.ended, subst (λ fs. Knows page fs sending.tenures.ended (slice_index b.side.words 0)) (same_frames frames lawful words) (sending.page_knows page sending.tenures.ended home stage).0)
+        | Open stage at_home many ↦ (sending.tenures.ended, subst (λ fs. Knows (slice_index bases) page fs sending.tenures.ended (slice_index b.side.words 0)) (same_frames frames lawful words) (sending.page_knows page sending.tenures.ended home stage).0)
         | Held holder stage away many holds ↦ absurd (true≢false (sym (ap is_some home) ∙ away))
       ]
 
-  has_log : HasLog (bus_apart X x) z
-  has_log = record { frames = k.frames; lawful = k.lawful.keeps.sending.log.lawful; words_are = sym (log_is X P x y h.served b T k); fits = k.lawful.keeps.sending.log.fits }
+  has_log : HasLog (bus_apart X bases x) z
+  has_log = record { frames = k.frames; lawful = k.lawful.keeps.sending.log.lawful; words_are = sym (log_is X P bases x y h.served b T k); fits = k.lawful.keeps.sending.log.fits }
 
   -- the page of promises, of receivers that were answered nothing
-  promised : IsPromisedOf (bus_apart X x) z
+  promised : IsPromisedOf (bus_apart X bases x) z
   promised =
-      let p = events.promised X P y.laws x h.served y.width y.starts y.owner_is y.named y.announces y.apart b T h.reached in
+      let p = events.promised bases X P y.laws x h.served y.width y.starts y.owner_is y.named y.announces y.apart b T h.reached in
       record {
         order = p.order;
         owners = p.owners;
@@ -178,67 +179,67 @@ module _ {E : Type 0} (X : Election E) (P : Protocol E (Unit {0}) ℕ) (x : Layo
         promises = silent_page T.actions T.heard p.order p.owners p.by.promises;
       }
 
-pub automaton_laws : {E : Type 0} (X : Election E) (P : Protocol E (Unit {0}) ℕ) (x : Layout) → Serves X P x → AutomatonLaws (process_apart X) (bus_apart X x)
-automaton_laws X P x y = record {
+pub automaton_laws : {E : Type 0} (X : Election E) (P : Protocol E (Unit {0}) ℕ) (bases : List ℕ) (x : Layout) → Serves X P x → AutomatonLaws (process_apart X) (bus_apart X bases x)
+automaton_laws X P bases x y = record {
   room = omega arith;
   behind = omega arith;
   started_me = λ p. refl;
   started_table_layout = λ p. refl;
-  started_next = λ p. refl;
   started_away = λ p. refl;
   started_laid = λ p. refl;
-  wide = λ z h. (k X P x y z h).lawful.words;
-  senders = λ z p c h old. is_sender X P x y z h p c old;
-  nobody = λ z q h past. nobody_did X P x y h.served z.bus z.trails h.reached q past;
-  message = λ z p c bytes h old can small. accepts_in X P x y z h p c old (with_message c bytes) (HasPut (next_of c.queue) bytes ∷ []) (takes_message X P x y h.served z.bus z.trails h.reached h.running p c old bytes can small);
-  close = λ z p c h old can. accepts_in X P x y z h p c old (with_close c) (HasClosed ∷ []) (takes_close X P x y h.served z.bus z.trails h.reached h.running p c old can);
-  step = λ z p c word o h old due within. steps_in X P x y z h p c old word o due;
+  wide = λ z h. (k X P bases x y z h).lawful.words;
+  senders = λ z p c h old. is_sender X P bases x y z h p c old;
+  nobody = λ z q h past. nobody_did X P bases x y h.served z.bus z.trails h.reached q past;
+  message = λ z p c bytes h old can small. accepts_in X P bases x y z h p c old (with_message c bytes) (HasPut (next_of c.queue) bytes ∷ []) (takes_message X P bases x y h.served z.bus z.trails h.reached h.running p c old bytes can small);
+  close = λ z p c h old can. accepts_in X P bases x y z h p c old (with_close c) (HasClosed ∷ []) (takes_close X P bases x y h.served z.bus z.trails h.reached h.running p c old can);
+  step = λ z p c word o h old due within. steps_in X P bases x y z h p c old word o due;
   ends = λ z p c word o h old due home got. ends X c (situation_of X c) refl word o due home got;
-  fits = λ z p c word o h old due. sum_fits X P x y h.served z.bus z.trails h.reached h.running p c old word o due;
-  finds_home = λ z p c word o t h old due is. finds_home X P x y z h p c old word o t due is;
-  even_at_home = λ z h even. (tells X P x y z h (slice_index z.bus.side.words 1) refl).1 even;
-  odd_away = λ z h odd. (tells X P x y z h (slice_index z.bus.side.words 1) refl).0 odd;
-  page_knows = λ z page frames h home lawful words. page_knows X P x y z h page frames home lawful words;
-  log = λ z h. has_log X P x y z h;
-  sent = λ z p c frames h old lawful words. sent X P x y z h p c old frames lawful words;
-  promised = λ z h. promised X P x y z h;
+  fits = λ z p c word o h old due. sum_fits X P bases x y h.served z.bus z.trails h.reached h.running p c old word o due;
+  finds_home = λ z p c word o t h old due is. finds_home X P bases x y z h p c old word o t due is;
+  even_at_home = λ z h even. (tells X P bases x y z h (slice_index z.bus.side.words 1) refl).1 even;
+  odd_away = λ z h odd. (tells X P bases x y z h (slice_index z.bus.side.words 1) refl).0 odd;
+  page_knows = λ z page frames h home lawful words. page_knows X P bases x y z h page frames home lawful words;
+  log = λ z h. has_log X P bases x y z h;
+  sent = λ z p c frames h old lawful words. sent X P bases x y z h p c old frames lawful words;
+  promised = λ z h. promised X P bases x y z h;
+  first = λ z p h. refl;
 }
 
 -- the first k senders, at their starts
-crowd : {E : Type 0} → Layout → ℕ → List (Core E)
-crowd x zero = []
-crowd x (suc k) = crowd x k ++ new_core x k ∷ []
+crowd : {E : Type 0} → Layout → List ℕ → ℕ → List (Core E)
+crowd x bases zero = []
+crowd x bases (suc k) = crowd x bases k ++ new_core x (slice_index bases k) k ∷ []
 
-crowd_new : {E : Type 0} (x : Layout) (k : ℕ) → AreNewCores x k (crowd {E = E} x k)
+crowd_new : {E : Type 0} (x : Layout) (bases : List ℕ) (k : ℕ) → AreNewCores x bases k (crowd {E = E} x bases k)
 unfolding crowd
-crowd_new x zero = record { many_are = refl; each = λ p c e. let bad : None ≡ Some c = e in let wrong : ⊥ = cc in absurd wrong }
-crowd_new {E = E} x (suc k) = subst (λ z. AreNewCores x z (crowd {E = E} x k ++ new_core x k ∷ [])) (let e : k + 1 ≡ suc k = omega arith in e) (one_more_core x k (crowd x k) (new_core x k) (crowd_new x k) refl)
+crowd_new x bases zero = record { many_are = refl; each = λ p c e. let bad : None ≡ Some c = e in let wrong : ⊥ = cc in absurd wrong }
+crowd_new {E = E} x bases (suc k) = subst (λ z. AreNewCores x bases z (crowd {E = E} x bases k ++ new_core x (slice_index bases k) k ∷ [])) (let e : k + 1 ≡ suc k = omega arith in e) (one_more_core x bases k (crowd x bases k) (new_core x (slice_index bases k) k) (crowd_new x bases k) refl)
 
-crowd_has : {E : Type 0} (x : Layout) (k p : ℕ) → p < k → slice_get (crowd {E = E} x k) p ≡ Some (new_core x p)
-crowd_has {E = E} x k p l = let h = crowd_new {E = E} x k in elim (some_or_none (slice_get (crowd {E = E} x k) p)) [
+crowd_has : {E : Type 0} (x : Layout) (bases : List ℕ) (k p : ℕ) → p < k → slice_get (crowd {E = E} x bases k) p ≡ Some (new_core x (slice_index bases p) p)
+crowd_has {E = E} x bases k p l = let h = crowd_new {E = E} x bases k in elim (some_or_none (slice_get (crowd {E = E} x bases k) p)) [
   | inr c ↦ c.1 ∙ ap Some (h.each p c.0 c.1).1
-  | inl nobody ↦ absurd (here_not (crowd {E = E} x k) p (let z = h.many_are in omega arith) nobody)
+  | inl nobody ↦ absurd (here_not (crowd {E = E} x bases k) p (let z = h.many_are in omega arith) nobody)
 ]
 
 none_here : {A : Type 0} {B : Type 0} (v : A) → None ≡ Some v → B
 none_here v e = absurd (let wrong : ⊥ = cc in wrong)
 
 -- it begins with all at their starts
-pub opens_apart : {E : Type 0} (X : Election E) (x : Layout) → IsLayout x → Opens (process_apart X) (bus_apart X x)
-opens_apart {E} X x ok = record {
+pub opens_apart : {E : Type 0} (X : Election E) (bases : List ℕ) → AreBases bases → (x : Layout) → IsLayout x → Opens (process_apart X) (bus_apart X bases x)
+opens_apart {E} X bases are x ok = record {
   state = record {
-    bus = record { side = record { words = replicate (words_of x) 0; home = Some new_page; senders = crowd {E = E} x x.senders; owners = [] }; receivers = []; stopped = no_stops };
+    bus = record { side = record { words = replicate (words_of x) 0; home = Some (first_page bases); senders = crowd {E = E} x bases x.senders; owners = [] }; receivers = []; stopped = no_stops };
     trails = no_trails;
   };
   reached = record {
     served = ok;
-    reached = New _ (record { words = refl; home = refl; senders = λ p c e. (crowd_new {E = E} x x.senders).each p c e; owners = refl; stopped = refl; receivers = λ r v e. none_here v e });
+    reached = New _ (record { bases_are = are; words = refl; home = refl; senders = λ p c e. (crowd_new {E = E} x bases x.senders).each p c e; owners = refl; stopped = refl; receivers = λ r v e. none_here v e });
     alone = refl;
     running = refl;
   };
   words = refl;
   home = refl;
-  senders = λ p below. crowd_has {E = E} x x.senders p below;
+  senders = λ p below. crowd_has {E = E} x bases x.senders p below;
   sender_trail = λ p. refl;
-  counted = λ p. let few = ok.capacity in record { first = omega arith; few = omega arith; capacity = few };
+  counted = λ p. record { first = (let low = are.low p in omega arith); few = omega arith };
 }

@@ -15,7 +15,7 @@ use Rattle.bus_world.specs.Headline.{Action, HasPut, HasClosed, Promises, puts}
 use Rattle.bus_world.specs.Log.{Knows}
 use Rattle.bus_world.specs.Turning.{words_after, home_moved}
 use Rattle.bus_automaton.specs.Lawful.{AutomatonLaws, IsSender, ChangesTo, AcceptsIn, StepsIn, LogGrows, HasLog, IsPromisedOf, no_answers}
-use Rattle.bus_automaton.specs.Processes.{Process, Automaton, TableLayout, actions_at, log_in, log_below, EndsBy}
+use Rattle.bus_automaton.specs.Processes.{Process, Automaton, TableLayout, base_in, actions_at, log_in, log_below, EndsBy}
 use Rattle.bus_automaton.specs.SenderTrails.{with_sender_trail}
 use Rattle.bus_automaton.proofs.ProcessLawful.{counted_as}
 use Rattle.bus_automaton.specs.Bridge.{DoesAs, Shows, ShowsAll}
@@ -36,6 +36,7 @@ pub record LeadsOn {D : Type 0} (Q : Process D) (B : Automaton D) : Type 0 where
       → AcceptsIn B z p (Q.with_close d) (HasClosed ∷ [])
   pub step : (z : B.State) (p : ℕ) (d : D) (word : ℕ) (o : Op) → B.IsReached z → B.sender z p ≡ Some d → Q.op d word ≡ Some o
       → register o < length (B.words z) → Moves Q B z p d word o
+  pub first : (z : B.State) (p : ℕ) → B.IsReached z → (B.sender_trail z p).first ≡ base_in B p
 
 module _ {C D : Type 0} (f : C → D) (P : Process C) (Q : Process D) (i : DoesAs f P Q) where
   -- the parts of a turn are the whole turn
@@ -88,9 +89,9 @@ module _ {C D : Type 0} (f : C → D) (P : Process C) (Q : Process D) (i : DoesA
         ∙ L.odd_away shown.state shown.reached (subst (λ (w : List ℕ). slice_index w 1 % 2 ≡ 1) shown.words odd)
 
     page_knows : (page : Page) (frames : List Frame) → B.home z ≡ Some page → AreFrames B.table_layout.senders frames
-        → log_words frames ≡ log_in B z → (past : ℕ) × Knows page frames past (slice_index (B.words z) 0)
-    page_knows page frames home lawful words = subst (λ (w : List ℕ). (past : ℕ) × Knows page frames past (slice_index w 0))
-        (sym shown.words) (L.page_knows shown.state page frames shown.reached (sym shown.home ∙ home) (frames_as frames lawful)
+        → log_words frames ≡ log_in B z → (past : ℕ) × Knows (base_in B) page frames past (slice_index (B.words z) 0)
+    page_knows page frames home lawful words = subst (λ (w : List ℕ × List ℕ). (past : ℕ) × Knows (slice_index w.0) page frames past (slice_index w.1 0))
+        (λ n. (sym j.bases n, sym shown.words n)) (L.page_knows shown.state page frames shown.reached (sym shown.home ∙ home) (frames_as frames lawful)
         (words ∙ log_as))
 
     has_log : HasLog B z
@@ -110,7 +111,8 @@ module _ {C D : Type 0} (f : C → D) (P : Process C) (Q : Process D) (i : DoesA
           owners = k.owners;
           spelled = subst (λ (u : TableLayout × List ℕ). Spells u.0.senders u.1 k.order k.owners)
               (λ n. (sym j.table_layout n, sym log_as n)) k.spelled;
-          promises = subst (λ (D : ℕ → List Action). Promises D no_answers k.order k.owners) (sym (fun_ext shown.actions)) k.promises;
+          promises = subst (λ (D : List ℕ × (ℕ → List Action)). Promises (slice_index D.0) D.1 no_answers k.order k.owners)
+              (λ n. (sym j.bases n, sym (fun_ext shown.actions) n)) k.promises;
         }
 
     -- ---- and of a sender that is there
@@ -186,7 +188,6 @@ module _ {C D : Type 0} (f : C → D) (P : Process C) (Q : Process D) (i : DoesA
     started_me = λ p. ap Q.me (j.started p) ∙ i.me (A.started p) ∙ L.started_me p;
     started_table_layout = λ p. ap Q.table_layout (j.started p) ∙ i.table_layout (A.started p) ∙ L.started_table_layout p
         ∙ sym j.table_layout;
-    started_next = λ p. ap Q.successor (j.started p) ∙ i.successor (A.started p) ∙ ap f (L.started_next p) ∙ sym (j.started (p + 1));
     started_away = λ p. ap Q.holds (j.started p) ∙ i.holds (A.started p) ∙ L.started_away p;
     started_laid = λ p. ap Q.awaits (j.started p) ∙ i.awaits (A.started p) ∙ L.started_laid p;
     wide = wide;
@@ -204,4 +205,5 @@ module _ {C D : Type 0} (f : C → D) (P : Process C) (Q : Process D) (i : DoesA
     log = has_log;
     sent = λ z p d frames h at lawful words. sent z h p d at frames lawful words;
     promised = promised;
+    first = on.first;
   }

@@ -18,8 +18,8 @@ pub record Owns {E : Type 0} (X : Election E) (p t : ℕ) (c : Core E) : Type 0 
   pub elects : c.phase ≡ Electing t election
   pub chosen : X.owner election ≡ Some p
 
-pub owner_itself : {E : Type 0} (X : Election E) (P : Protocol E (Unit {0}) ℕ) (x : Layout) → Serves X P x → (V : ℕ → ℕ) (home : Option Page)
-    (senders : ℕ → Option (Core E)) (owners : List ℕ) (frames : List Frame) → Sending P x V home senders owners frames
+pub owner_itself : {base : ℕ → ℕ} {E : Type 0} (X : Election E) (P : Protocol E (Unit {0}) ℕ) (x : Layout) → Serves X P x → (V : ℕ → ℕ) (home : Option Page)
+    (senders : ℕ → Option (Core E)) (owners : List ℕ) (frames : List Frame) → Sending base P x V home senders owners frames
     → (p : ℕ) (d : Core E) → senders p ≡ Some d → (t : ℕ) → situation_of X d ≡ TakesPage t → Owns X p t d
 owner_itself X P x s V home senders owners frames h p d old t i =
     let w = tells X d (TakesPage t) i in

@@ -53,18 +53,18 @@ pub record LogGoesOn {E : Type 0} (x : Layout) (b b' : Bus E) : Type 0 where
   pub words_are : log_words frames ≡ log_in_bus x b
   pub words_now : log_words (frames ++ more) ≡ log_in_bus x b'
 
-module _ {E : Type 0} (X : Election E) (P : Protocol E (Unit {0}) ℕ) (x : Layout) (s : Serves X P x) (ok : IsLayout x) where
+module _ {E : Type 0} (X : Election E) (P : Protocol E (Unit {0}) ℕ) (bases : List ℕ) (x : Layout) (s : Serves X P x) (ok : IsLayout x) where
   -- what every bus keeps that events lead to
   pub record Kept (b : Bus E) (T : Trails) : Type 0 where
     pub frames : List Frame
-    pub lawful : LawfulBus P x b frames
-    pub tied : Tied P x b frames T
+    pub lawful : LawfulBus (slice_index bases) P x b frames
+    pub tied : Tied bases P x b frames T
 
-  pub kept : (b : Bus E) (T : Trails) → Reached X x b T → Kept b T
-  kept b T r = let k = events.reached_kept X P s.laws x ok s.width s.starts s.owner_is s.named s.announces s.apart b T r in record { frames = k.frames; lawful = k.lawful; tied = k.tied }
+  pub kept : (b : Bus E) (T : Trails) → Reached X bases x b T → Kept b T
+  kept b T r = let k = events.reached_kept bases X P s.laws x ok s.width s.starts s.owner_is s.named s.announces s.apart b T r in record { frames = k.frames; lawful = k.lawful; tied = k.tied }
 
   -- who is none of the senders ..
-  no_sender : (b : Bus E) (T : Trails) → Reached X x b T → (q : ℕ) → x.senders ≤ q → slice_get b.side.senders q ≡ None
+  no_sender : (b : Bus E) (T : Trails) → Reached X bases x b T → (q : ℕ) → x.senders ≤ q → slice_get b.side.senders q ≡ None
   no_sender b T r q past = elim (some_or_none (slice_get b.side.senders q)) [
     | inl nobody ↦ nobody
     | inr c ↦ absurd (let below = ((kept b T r).lawful.keeps.sending.parts q c.0 c.1).below in omega arith)
@@ -88,7 +88,7 @@ module _ {E : Type 0} (X : Election E) (P : Protocol E (Unit {0}) ℕ) (x : Layo
   adds_none b b' (Stop s) a told q none = refl
 
   -- .. and has done nothing
-  pub nobody_did : (b : Bus E) (T : Trails) → Reached X x b T → (q : ℕ) → x.senders ≤ q → T.actions q ≡ []
+  pub nobody_did : (b : Bus E) (T : Trails) → Reached X bases x b T → (q : ℕ) → x.senders ≤ q → T.actions q ≡ []
   nobody_did b T (New start new) q past = refl
   nobody_did b T (Then old new before e a r is does told) q past =
       ap (λ ds. ds ++ actions_of X old e a q) (nobody_did old before r q past) ∙ adds_none old new e a told q (no_sender old before r q past)
@@ -104,10 +104,10 @@ module _ {E : Type 0} (X : Election E) (P : Protocol E (Unit {0}) ℕ) (x : Layo
   -- events lead to the bus with this sender in the place of p, which has these actions more
   pub record Reaches (b : Bus E) (T : Trails) (p : ℕ) (d : Core E) (actions : List Action) : Type 0 where
     pub trails : Trails
-    pub reached : Reached X x (with_core b p d) trails
+    pub reached : Reached X bases x (with_core b p d) trails
     pub longer : Longer p actions T.actions trails.actions
 
-  module _ (b : Bus E) (T : Trails) (r : Reached X x b T) (running : b.stopped ≡ no_stops) (p : ℕ) (c : Core E) (old : slice_get b.side.senders p ≡ Some c) where
+  module _ (b : Bus E) (T : Trails) (r : Reached X bases x b T) (running : b.stopped ≡ no_stops) (p : ℕ) (c : Core E) (old : slice_get b.side.senders p ≡ Some c) where
     goes : going b p ≡ Some c
     goes = all_go b running p ∙ old
 
@@ -137,7 +137,7 @@ module _ {E : Type 0} (X : Election E) (P : Protocol E (Unit {0}) ℕ) (x : Layo
   pub record Steps (b : Bus E) (T : Trails) (p : ℕ) (d : Core E) (word : ℕ) (o : Op) : Type 0 where
     pub bus : Bus E
     pub trails : Trails
-    pub reached : Reached X x bus trails
+    pub reached : Reached X bases x bus trails
     pub words : bus.side.words ≡ slice_set b.side.words (register o) (after o (slice_index b.side.words (register o)))
     pub home : bus.side.home ≡ home_after X d (situation_of X d) b.side.home
     pub senders : bus.side.senders ≡ slice_set b.side.senders p (core_after X d (situation_of X d) b.side.home (slice_index b.side.words (register o)) word)
@@ -146,7 +146,7 @@ module _ {E : Type 0} (X : Election E) (P : Protocol E (Unit {0}) ℕ) (x : Layo
     pub longer : Longer p (actions_at X d (slice_index b.side.words (register o)) word) T.actions trails.actions
     pub grows : LogGoesOn x b bus
 
-  module _ (b : Bus E) (T : Trails) (r : Reached X x b T) (running : b.stopped ≡ no_stops) (p : ℕ) (d : Core E) (old : slice_get b.side.senders p ≡ Some d) (word : ℕ) (o : Op) (due : op_at X d (situation_of X d) word ≡ Some o) where
+  module _ (b : Bus E) (T : Trails) (r : Reached X bases x b T) (running : b.stopped ≡ no_stops) (p : ℕ) (d : Core E) (old : slice_get b.side.senders p ≡ Some d) (word : ℕ) (o : Op) (due : op_at X d (situation_of X d) word ≡ Some o) where
     abbrev z : Situation E
     z = situation_of X d
 

@@ -1,5 +1,5 @@
 -- The one process and the one automaton owe threads nothing, as the two older ones do not.
-use Rattle.std.proofs.Common.{◌≡◌, ℕ, Option, Some, None, is_some}
+use Rattle.std.proofs.Common.{◌≡◌, ℕ, Option, Some, None, List, is_some}
 use Rattle.bus_core.specs.Senders.{Sender, apart, again, participant_of}
 use Rattle.bus_core.specs.declared.reuses.Reuse.{Reuse}
 use Rattle.bus_ownerbits.specs.OneOwner.{OneOwner}
@@ -34,9 +34,9 @@ process_laws X P laws names = lawful_at_each (process_of X) (λ v. either (LawsA
     (λ c r. laws_as again (process_again X) (process_of X) (process_at_some X) (again_turns.process_laws X P laws names) (participant_of c r))
     v.core v.reuse)
 
-pub automaton_laws : {E : Type 0} (X : Election E) (P : Protocol E (Unit {0}) ℕ) (x : Layout) → Serves X P x → (reuse : Option ℕ)
-    → AutomatonLaws (process_of X) (bus_of X x reuse)
-automaton_laws X P x s None = lawful_as apart (process_apart X) (process_of X) (process_at_none X) (bus_apart X x) (bus_of X x None)
-    (bus_at_none X x) (apart_states.automaton_laws X P x s) (leads_on X x None)
-automaton_laws X P x s (Some rows) = lawful_as again (process_again X) (process_of X) (process_at_some X) (bus_again X x rows)
-    (bus_of X x (Some rows)) (bus_at_some X x rows) (again_states.automaton_laws X P x rows s) (leads_on X x (Some rows))
+pub automaton_laws : {E : Type 0} (X : Election E) (P : Protocol E (Unit {0}) ℕ) (x : Layout) → Serves X P x → (reuse : Option ℕ) (bases : List ℕ)
+    → AutomatonLaws (process_of X) (bus_of X x reuse bases)
+automaton_laws X P x s None bases = lawful_as apart (process_apart X) (process_of X) (process_at_none X) (bus_apart X bases x)
+    (bus_of X x None bases) (bus_at_none X bases x) (apart_states.automaton_laws X P bases x s) (leads_on X x None bases)
+automaton_laws X P x s (Some rows) bases = lawful_as again (process_again X) (process_of X) (process_at_some X) (bus_again X bases x rows)
+    (bus_of X x (Some rows) bases) (bus_at_some X bases x rows) (again_states.automaton_laws X P bases x rows s) (leads_on X x (Some rows) bases)

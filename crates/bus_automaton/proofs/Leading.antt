@@ -3,6 +3,7 @@ use Rattle.std.proofs.Common.{◌≡◌, ◌≢◌, ℕ, zero, suc, ◌<◌, con
 use Rattle.std.specs.Prelude.{All}
 use Rattle.std.proofs.lemmas.List.{append-nil}
 use Rattle.std.proofs.lemmas.Option.{slice_get_within}
+use Rattle.bus_register.specs.declared.limits.TheConstants.{MOST_SENDERS}
 use Rattle.bus_batch.specs.Batches.{Pending, next_of, CanPut, CanClose}
 use Rattle.bus_core.specs.Keeping.{queue_of}
 use Rattle.bus_core.specs.Senders.{Sender, Situation, Does, Announces, Validates, Unpins, Withdraws, Scans, Clears, situation}
@@ -35,7 +36,7 @@ none_set (suc n) zero = refl
 none_set (suc n) (suc s) = none_set n s
 
 all_go : {E : Type 0} (m : Machine E) → m.stopped ≡ no_stops → (s : ℕ) → going m s ≡ slice_get m.senders s
-all_go m none s = ap (λ t. cond t None (slice_get m.senders s)) (ap (λ l. is_set (slice_get l s)) none ∙ none_set 8 s)
+all_go m none s = ap (λ t. cond t None (slice_get m.senders s)) (ap (λ l. is_set (slice_get l s)) none ∙ none_set MOST_SENDERS s)
 
 -- the next number of its batch, also while that is on its way
 next_is : (q : Pending) (r : Option Reuse) → next_of (queue_of q r) ≡ next_of q
@@ -57,7 +58,7 @@ other_entered : (T : Entries) (p : ℕ) (o : Option Op) (got q : ℕ) → q ≢ 
 other_entered T p None got q ne = refl
 other_entered T p (Some o) got q ne = ap (λ b. cond b (T q ++ record { op = o; got = got } ∷ []) (T q)) (ne_eqb q p ne)
 
-module _ {E : Type 0} (l : Line E) (p got word : ℕ) (T : Trails) where
+module _ {E : Type 0} (bases : List ℕ) (l : Line E) (p got word : ℕ) (T : Trails) where
   -- after a step of a pin, and after one of a reclamation
   abbrev pinned : Trails
   pinned = record T { pins = entered T.pins p (l.op word) got; actions = actions_with p [] T.actions }
@@ -65,29 +66,33 @@ module _ {E : Type 0} (l : Line E) (p got word : ℕ) (T : Trails) where
   abbrev reclaimed : Trails
   reclaimed = record T { reclaims = entered T.reclaims p (l.op word) got; actions = actions_with p [] T.actions }
 
-  own_pinned : trail_of pinned p ≡ with_sender_trail (trail_of T p) (adds_pin (l.op word) got)
+  own_pinned : trail_of bases pinned p ≡ with_sender_trail (trail_of bases T p) (adds_pin (l.op word) got)
   own_pinned = λ n. record {
+    first = slice_index bases p;
     actions = own_actions p [] T.actions n;
     pins = own_entered T.pins p (l.op word) got n;
     reclaims = sym (append-nil (T.reclaims p)) n;
   }
 
-  own_reclaimed : trail_of reclaimed p ≡ with_sender_trail (trail_of T p) (adds_reclaim (l.op word) got)
+  own_reclaimed : trail_of bases reclaimed p ≡ with_sender_trail (trail_of bases T p) (adds_reclaim (l.op word) got)
   own_reclaimed = λ n. record {
+    first = slice_index bases p;
     actions = own_actions p [] T.actions n;
     pins = sym (append-nil (T.pins p)) n;
     reclaims = own_entered T.reclaims p (l.op word) got n;
   }
 
-  other_pinned : (q : ℕ) → q ≢ p → trail_of pinned q ≡ trail_of T q
+  other_pinned : (q : ℕ) → q ≢ p → trail_of bases pinned q ≡ trail_of bases T q
   other_pinned q ne = λ n. record {
+    first = slice_index bases q;
     actions = other_actions p [] T.actions q ne n;
     pins = other_entered T.pins p (l.op word) got q ne n;
     reclaims = T.reclaims q;
   }
 
-  other_reclaimed : (q : ℕ) → q ≢ p → trail_of reclaimed q ≡ trail_of T q
+  other_reclaimed : (q : ℕ) → q ≢ p → trail_of bases reclaimed q ≡ trail_of bases T q
   other_reclaimed q ne = λ n. record {
+    first = slice_index bases q;
     actions = other_actions p [] T.actions q ne n;
     pins = T.pins q;
     reclaims = other_entered T.reclaims p (l.op word) got q ne n;
@@ -101,8 +106,9 @@ module _ {E : Type 0} (l : Line E) (p got word : ℕ) (T : Trails) where
   abbrev turned : Situation E → Trails
   turned s = turn_trails s l p got word (l.answer got word) T
 
-  own_turned : (s : Situation E) → trail_of (turned s) p ≡ with_sender_trail (trail_of T p) (adds_by s l got word)
+  own_turned : (s : Situation E) → trail_of bases (turned s) p ≡ with_sender_trail (trail_of bases T p) (adds_by s l got word)
   own_turned (Does z) = λ n. record {
+    first = slice_index bases p;
     actions = own_actions p stepped T.actions n;
     pins = sym (append-nil (T.pins p)) n;
     reclaims = sym (append-nil (T.reclaims p)) n;
@@ -114,8 +120,8 @@ module _ {E : Type 0} (l : Line E) (p got word : ℕ) (T : Trails) where
   own_turned (Scans r) = own_reclaimed
   own_turned (Clears r) = own_reclaimed
 
-  other_turned : (s : Situation E) (q : ℕ) → q ≢ p → trail_of (turned s) q ≡ trail_of T q
-  other_turned (Does z) q ne = λ n. record { actions = other_actions p stepped T.actions q ne n; pins = T.pins q; reclaims = T.reclaims q }
+  other_turned : (s : Situation E) (q : ℕ) → q ≢ p → trail_of bases (turned s) q ≡ trail_of bases T q
+  other_turned (Does z) q ne = λ n. record { first = slice_index bases q; actions = other_actions p stepped T.actions q ne n; pins = T.pins q; reclaims = T.reclaims q }
   other_turned (Announces t) q ne = other_pinned q ne
   other_turned (Validates t) q ne = other_pinned q ne
   other_turned (Unpins t) q ne = other_pinned q ne
@@ -128,7 +134,7 @@ on_word : {E : Type 0} (m : Machine E) (a : Option Op) (o : Op) → a ≡ Some o
 on_word m a o due low = subst (IsOnWord m) (sym due) low
 
 -- ---- what leads on
-module _ {E : Type 0} (X : Election E) (x : Layout) (reuse : Option ℕ) (z : MachineHistory E) (h : IsMachineHistory X x reuse z) (p : ℕ)
+module _ {E : Type 0} (X : Election E) (x : Layout) (reuse : Option ℕ) (bases : List ℕ) (z : MachineHistory E) (h : IsMachineHistory X x reuse bases z) (p : ℕ)
     (v : Sender E) (at : slice_get z.machine.senders p ≡ Some v) where
   abbrev m : Machine E
   m = z.machine
@@ -141,7 +147,7 @@ module _ {E : Type 0} (X : Election E) (x : Layout) (reuse : Option ℕ) (z : Ma
 
   -- ---- what it accepts
   accepts : (w : Sender E) (ds : List Action) → Reached X (with_sender m p w) (record T { actions = actions_with p ds T.actions })
-      → AcceptsIn (bus_of X x reuse) z p w ds
+      → AcceptsIn (bus_of X x reuse bases) z p w ds
   accepts w ds reached = record {
     state = record { machine = with_sender m p w; trails = record T { actions = actions_with p ds T.actions } };
     changes = record {
@@ -150,28 +156,29 @@ module _ {E : Type 0} (X : Election E) (x : Layout) (reuse : Option ℕ) (z : Ma
         has_rows = h.has_rows;
         layout = h.layout;
         rows_are = h.rows_are;
+        bases_are = h.bases_are;
         reached = reached;
         alone = h.alone;
         running = h.running;
       };
       here = get_set_same m.senders p w (slice_get_within m.senders p v at);
       others = λ q ne. get_set_other m.senders p w q ne;
-      sender_trail = λ n. record { actions = own_actions p ds T.actions n; pins = T.pins p; reclaims = T.reclaims p };
-      nothing_else = λ q ne. (λ n. record { actions = other_actions p ds T.actions q ne n; pins = T.pins q; reclaims = T.reclaims q });
+      sender_trail = λ n. record { first = slice_index bases p; actions = own_actions p ds T.actions n; pins = T.pins p; reclaims = T.reclaims p };
+      nothing_else = λ q ne. (λ n. record { first = slice_index bases q; actions = other_actions p ds T.actions q ne n; pins = T.pins q; reclaims = T.reclaims q });
     };
     words = refl;
     home = refl;
   }
 
   takes_message : (bytes : List ℕ) → CanPut (queue_of v.core.queue v.reuse) (length bytes) → All (λ byte. byte < 256) bytes
-      → AcceptsIn (bus_of X x reuse) z p (put_in v bytes) (HasPut (next_of (queue_of v.core.queue v.reuse)) bytes ∷ [])
-  takes_message bytes can small = subst (λ k. AcceptsIn (bus_of X x reuse) z p (put_in v bytes) (HasPut k bytes ∷ []))
+      → AcceptsIn (bus_of X x reuse bases) z p (put_in v bytes) (HasPut (next_of (queue_of v.core.queue v.reuse)) bytes ∷ [])
+  takes_message bytes can small = subst (λ k. AcceptsIn (bus_of X x reuse bases) z p (put_in v bytes) (HasPut k bytes ∷ []))
       (sym (next_is v.core.queue v.reuse))
       (accepts (put_in v bytes) (HasPut (next_of v.core.queue) bytes ∷ [])
       (Then m (with_sender m p (put_in v bytes)) T (Put p bytes) (answer.Number (next_of v.core.queue)) h.reached
       (record { sender = v; goes = goes; are_bytes = small; can = can; answered = refl; after = refl })))
 
-  takes_close : CanClose (queue_of v.core.queue v.reuse) → AcceptsIn (bus_of X x reuse) z p (close_in v) (HasClosed ∷ [])
+  takes_close : CanClose (queue_of v.core.queue v.reuse) → AcceptsIn (bus_of X x reuse bases) z p (close_in v) (HasClosed ∷ [])
   takes_close can = accepts (close_in v) (HasClosed ∷ [])
       (Then m (with_sender m p (close_in v)) T (Close p) answer.Closing h.reached
       (record { sender = v; goes = goes; can = can; answered = refl; after = refl }))
@@ -198,12 +205,12 @@ module _ {E : Type 0} (X : Election E) (x : Layout) (reuse : Option ℕ) (z : Ma
     takes_turn = record { sender = v; goes = goes; within = on_word m (l.op word) o due low; answered = refl; after = refl }
 
     -- and all that the sender did grows by it
-    pub grown_trail : trail_of grown p
-        ≡ with_sender_trail (trail_of T p) (adds_by (situation X v) l (slice_index m.words (register o)) word)
-    grown_trail = ap (λ U. trail_of U p) (sym grown_is) ∙ own_turned l p (found m l word) word T (situation X v)
-        ∙ ap (λ g. with_sender_trail (trail_of T p) (adds_by (situation X v) l g word)) found_is
+    pub grown_trail : trail_of bases grown p
+        ≡ with_sender_trail (trail_of bases T p) (adds_by (situation X v) l (slice_index m.words (register o)) word)
+    grown_trail = ap (λ U. trail_of bases U p) (sym grown_is) ∙ own_turned bases l p (found m l word) word T (situation X v)
+        ∙ ap (λ g. with_sender_trail (trail_of bases T p) (adds_by (situation X v) l g word)) found_is
 
-    moves : Moves (process_of X) (bus_of X x reuse) z p v word o
+    moves : Moves (process_of X) (bus_of X x reuse bases) z p v word o
     moves = record {
       state = record { machine = machine_after m p l word; trails = grown };
       changes = record {
@@ -212,6 +219,7 @@ module _ {E : Type 0} (X : Election E) (x : Layout) (reuse : Option ℕ) (z : Ma
           has_rows = h.has_rows;
           layout = h.layout;
           rows_are = h.rows_are;
+          bases_are = h.bases_are;
           reached = Then m (machine_after m p l word) T (Turn p word) (answer.Turn told) h.reached takes_turn;
           alone = h.alone;
           running = h.running;
@@ -220,15 +228,16 @@ module _ {E : Type 0} (X : Election E) (x : Layout) (reuse : Option ℕ) (z : Ma
             ∙ ap (λ g. Some ((process_of X).after v m.home g word)) found_is;
         others = λ q ne. get_set_other m.senders p _ q ne;
         sender_trail = grown_trail;
-        nothing_else = λ q ne. ap (λ U. trail_of U q) (sym grown_is) ∙ other_turned l p (found m l word) word T (situation X v) q ne;
+        nothing_else = λ q ne. ap (λ U. trail_of bases U q) (sym grown_is) ∙ other_turned bases l p (found m l word) word T (situation X v) q ne;
       };
       words = ap (words_after m.words) due;
       home = refl;
     }
 
-pub leads_on : {E : Type 0} (X : Election E) (x : Layout) (reuse : Option ℕ) → LeadsOn (process_of X) (bus_of X x reuse)
-leads_on X x reuse = record {
-  message = λ z p v bytes h at can small. takes_message X x reuse z h p v at bytes can small;
-  close = λ z p v h at can. takes_close X x reuse z h p v at can;
-  step = λ z p v word o h at due low. moves X x reuse z h p v at word o due low;
+pub leads_on : {E : Type 0} (X : Election E) (x : Layout) (reuse : Option ℕ) (bases : List ℕ) → LeadsOn (process_of X) (bus_of X x reuse bases)
+leads_on X x reuse bases = record {
+  message = λ z p v bytes h at can small. takes_message X x reuse bases z h p v at bytes can small;
+  close = λ z p v h at can. takes_close X x reuse bases z h p v at can;
+  step = λ z p v word o h at due low. moves X x reuse bases z h p v at word o due low;
+  first = λ z p h. refl;
 }

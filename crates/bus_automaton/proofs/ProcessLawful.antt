@@ -1,10 +1,10 @@
 -- A process that does what a lawful one does is lawful, of each state that shows one of the other.
-use Rattle.std.proofs.Common.{◌≡◌, ℕ, ◌<◌, ◌≤◌, Option, Some, List, [], ◌∷◌, ◌++◌, length, is_some, true, inl, inr, sym, ◌∙◌, ap, subst}
-use Rattle.std.specs.Prelude.{◌⊎◌, ◌^◌}
+use Rattle.std.proofs.Common.{◌≡◌, ℕ, ◌+◌, ◌<◌, ◌≤◌, Option, Some, List, [], ◌∷◌, ◌++◌, length, is_some, true, inl, inr, sym, ◌∙◌, ap, subst}
+use Rattle.std.specs.Prelude.{◌⊎◌}
 use Rattle.bus_batch.specs.Batches.{Pending}
 use Rattle.bus_batch.specs.declared.batches.Phase.TheVariants.{Closing}
 use Rattle.bus_register.specs.declared.kinds.Kind.{Kind}
-use Rattle.bus_register.specs.declared.limits.TheConstants.{MOST_MESSAGES}
+use Rattle.bus_register.specs.declared.limits.TheConstants.{MOST_MESSAGES, NUMBERS}
 use Rattle.bus_register.specs.declared.registers.Op.{Op}
 use Rattle.bus_register.specs.declared.registers.Op.TheVariants.{Store}
 use Rattle.bus_tenure.specs.declared.pages.Page.{Page}
@@ -67,9 +67,8 @@ module _ {C D : Type 0} (f : C → D) (P : Process C) (Q : Process D) (i : DoesA
   -- the numbers of its messages stay as far below their range
   pub counted_as : (c : C) → IsCounted P c → IsCounted Q (f c)
   counted_as c h = record {
-    first = subst (λ (u : Pending × TableLayout). u.0.first ≤ u.1.capacity) (λ n. (sym (i.queue c) n, sym (i.table_layout c) n)) h.first;
+    first = subst (λ (q : Pending). q.first + MOST_MESSAGES < NUMBERS) (sym (i.queue c)) h.first;
     few = subst (λ (q : Pending). length q.messages ≤ MOST_MESSAGES) (sym (i.queue c)) h.few;
-    capacity = subst (λ (t : TableLayout). t.capacity < 2 ^ 40) (sym (i.table_layout c)) h.capacity;
   }
 
   -- what it accepts leaves the rest as it is

@@ -28,7 +28,6 @@ pub process_at_none : {E : Type 0} (X : Election E) → ProcessAtNone X
 process_at_none X = record {
   me = λ c. refl;
   table_layout = λ c. refl;
-  successor = λ c. refl;
   queue = λ c. refl;
   with_message = λ c bytes. refl;
   with_close = λ c. refl;
@@ -120,7 +119,6 @@ module _ {E : Type 0} (X : Election E) where
   process_at_some = record {
     me = λ v. refl;
     table_layout = λ v. refl;
-    successor = λ v. refl;
     queue = λ v. refl;
     with_message = λ v bytes. refl;
     with_close = λ v. refl;

@@ -13,7 +13,6 @@ use Rattle.bus_automaton.specs.OneAutomaton.{bus_of}
 pub record DoesAs {C D : Type 0} (f : C → D) (P : Process C) (Q : Process D) : Type 0 where
   pub me : (c : C) → Q.me (f c) ≡ P.me c
   pub table_layout : (c : C) → Q.table_layout (f c) ≡ P.table_layout c
-  pub successor : (c : C) → Q.successor (f c) ≡ f (P.successor c)
   pub queue : (c : C) → Q.queue (f c) ≡ P.queue c
   pub with_message : (c : C) (bytes : List ℕ) → Q.with_message (f c) bytes ≡ f (P.with_message c bytes)
   pub with_close : (c : C) → Q.with_close (f c) ≡ f (P.with_close c)
@@ -45,6 +44,7 @@ pub record Shows {C D : Type 0} (f : C → D) (A : Automaton C) (B : Automaton D
 -- B has the sizes of A and its senders at their starts, and each of its states shows one of A
 pub record ShowsAll {C D : Type 0} (f : C → D) (A : Automaton C) (B : Automaton D) : Type 0 where
   pub table_layout : B.table_layout ≡ A.table_layout
+  pub bases : B.bases ≡ A.bases
   pub started : (p : ℕ) → B.started p ≡ f (A.started p)
   pub shows : (z : B.State) → B.IsReached z → Shows f A B z
 
@@ -53,11 +53,11 @@ abbrev pub ProcessAtNone : {E : Type 0} → Election E → Type 0
 ProcessAtNone X = DoesAs apart (process_apart X) (process_of X)
 
 abbrev pub BusAtNone : {E : Type 0} → Election E → Type 0
-BusAtNone X = (x : Layout) → ShowsAll apart (bus_apart X x) (bus_of X x None)
+BusAtNone X = (bases : List ℕ) (x : Layout) → ShowsAll apart (bus_apart X bases x) (bus_of X x None bases)
 
 -- with rows that are used again
 abbrev pub ProcessAtSome : {E : Type 0} → Election E → Type 0
 ProcessAtSome X = DoesAs again (process_again X) (process_of X)
 
 abbrev pub BusAtSome : {E : Type 0} → Election E → Type 0
-BusAtSome X = (x : Layout) (rows : ℕ) → ShowsAll again (bus_again X x rows) (bus_of X x (Some rows))
+BusAtSome X = (bases : List ℕ) (x : Layout) (rows : ℕ) → ShowsAll again (bus_again X bases x rows) (bus_of X x (Some rows) bases)

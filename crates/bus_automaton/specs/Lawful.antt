@@ -17,10 +17,10 @@ use Rattle.bus_tenure.specs.declared.turns.Turn.{Turn}
 use Rattle.bus_world.specs.Headline.{Action, HasPut, HasClosed, Stepped, puts, Promises}
 use Rattle.bus_world.specs.Log.{Knows}
 use Rattle.bus_world.specs.Turning.{words_after, home_moved}
-use Rattle.bus_world.specs.World.{new_page}
-use Rattle.bus_automaton.specs.Processes.{Process, Automaton, IsCounted, actions_at, log_in, EndsBy, page_given}
+use Rattle.bus_world.specs.World.{first_page}
+use Rattle.bus_automaton.specs.Processes.{Process, Automaton, IsCounted, base_in, actions_at, log_in, EndsBy, page_given}
 use Rattle.bus_automaton.specs.LastAnswers.{is_refusal, is_last}
-use Rattle.bus_automaton.specs.SenderTrails.{SenderTrail, no_sender_trail, with_actions, with_sender_trail}
+use Rattle.bus_automaton.specs.SenderTrails.{SenderTrail, new_sender_trail, with_actions, with_sender_trail}
 
 -- ---- a process
 -- what it accepts between its steps leaves the rest as it is
@@ -124,7 +124,7 @@ pub record IsPromisedOf {C : Type 0} (A : Automaton C) (z : A.State) : Type 0 wh
   pub order : Order
   pub owners : List (ℕ × SenderNo)
   pub spelled : Spells A.table_layout.senders (log_in A z) order owners
-  pub promises : Promises (actions_at A z) no_answers order owners
+  pub promises : Promises (base_in A) (actions_at A z) no_answers order owners
 
 pub record AutomatonLaws {C : Type 0} (P : Process C) (A : Automaton C) : Type 0 where
   pub room : A.table_layout.log + A.table_layout.capacity ≤ A.table_layout.words
@@ -132,7 +132,6 @@ pub record AutomatonLaws {C : Type 0} (P : Process C) (A : Automaton C) : Type 0
   -- a sender at its start
   pub started_me : (p : ℕ) → P.me (A.started p) ≡ p
   pub started_table_layout : (p : ℕ) → P.table_layout (A.started p) ≡ A.table_layout
-  pub started_next : (p : ℕ) → P.successor (A.started p) ≡ A.started (p + 1)
   pub started_away : (p : ℕ) → P.holds (A.started p) ≡ false
   pub started_laid : (p : ℕ) → P.awaits (A.started p) ≡ false
   pub wide : (z : A.State) → A.IsReached z → length (A.words z) ≡ A.table_layout.words
@@ -150,19 +149,21 @@ pub record AutomatonLaws {C : Type 0} (P : Process C) (A : Automaton C) : Type 0
   pub finds_home : (z : A.State) (p : ℕ) (c : C) (word : ℕ) (o : Op) (t : ℕ) → A.IsReached z → A.sender z p ≡ Some c → P.op c word ≡ Some o → P.move c ≡ Comes t → is_some (A.home z) ≡ true
   pub even_at_home : (z : A.State) → A.IsReached z → slice_index (A.words z) 1 % 2 ≢ 1 → is_some (A.home z) ≡ true
   pub odd_away : (z : A.State) → A.IsReached z → slice_index (A.words z) 1 % 2 ≡ 1 → is_some (A.home z) ≡ false
-  pub page_knows : (z : A.State) (page : Page) (frames : List Frame) → A.IsReached z → A.home z ≡ Some page → AreFrames A.table_layout.senders frames → log_words frames ≡ log_in A z → (past : ℕ) × Knows page frames past (slice_index (A.words z) 0)
+  pub page_knows : (z : A.State) (page : Page) (frames : List Frame) → A.IsReached z → A.home z ≡ Some page → AreFrames A.table_layout.senders frames → log_words frames ≡ log_in A z → (past : ℕ) × Knows (base_in A) page frames past (slice_index (A.words z) 0)
   pub log : (z : A.State) → A.IsReached z → HasLog A z
   -- of each sender it has what that put, but for what waits
   pub sent : (z : A.State) (p : ℕ) (c : C) (frames : List Frame) → A.IsReached z → A.sender z p ≡ Some c → AreFrames A.table_layout.senders frames → log_words frames ≡ log_in A z
       → map (λ (i : Item). i.message) (of_sender p (order_of frames)) ++ P.waiting c ≡ puts (actions_at A z p)
   pub promised : (z : A.State) → A.IsReached z → IsPromisedOf A z
+  -- what each sender did says where its numbers begin
+  pub first : (z : A.State) (p : ℕ) → A.IsReached z → (A.sender_trail z p).first ≡ base_in A p
 
 -- how it begins: with words of zero, its page at home and its senders at their starts, of which none has done anything
 pub record Opens {C : Type 0} (P : Process C) (A : Automaton C) : Type 0 where
   pub state : A.State
   pub reached : A.IsReached state
   pub words : A.words state ≡ replicate A.table_layout.words 0
-  pub home : A.home state ≡ Some new_page
+  pub home : A.home state ≡ Some (first_page A.bases)
   pub senders : (p : ℕ) → p < A.table_layout.senders → A.sender state p ≡ Some (A.started p)
-  pub sender_trail : (p : ℕ) → A.sender_trail state p ≡ no_sender_trail
+  pub sender_trail : (p : ℕ) → A.sender_trail state p ≡ new_sender_trail (base_in A p)
   pub counted : (p : ℕ) → IsCounted P (A.started p)

@@ -1,5 +1,5 @@
 -- A bus of either kind of rows as threads go by it: one automaton, by the one machine and what leads to it.
-use Rattle.std.specs.Prelude.{◌≡◌, ℕ, Option, [], slice_get}
+use Rattle.std.specs.Prelude.{◌≡◌, ℕ, Option, List, [], slice_get, slice_index}
 use Rattle.bus_tenure.specs.Core.{Election, Layout}
 use Rattle.bus_core.specs.Keeping.{new_sender}
 use Rattle.bus_core.specs.Senders.{Sender}
@@ -17,28 +17,30 @@ pub record MachineHistory (E : Type 0) : Type 0 where
   pub trails : Trails
 
 -- Some events lead to it, of whichever senders and in any order. It has no receivers of its own, and no event was a stop.
-pub record IsMachineHistory {E : Type 0} (X : Election E) (x : Layout) (reuse : Option ℕ) (z : MachineHistory E) : Type 0 where
+pub record IsMachineHistory {E : Type 0} (X : Election E) (x : Layout) (reuse : Option ℕ) (bases : List ℕ) (z : MachineHistory E) : Type 0 where
   pub served : IsLayout x
   pub has_rows : HasRows reuse
   pub layout : z.machine.layout ≡ x
   pub rows_are : z.machine.reuse ≡ reuse
+  pub bases_are : z.machine.bases ≡ bases
   pub reached : Reached X z.machine z.trails
   pub alone : z.machine.receivers ≡ []
   pub running : z.machine.stopped ≡ no_stops
 
--- all that a sender did
-abbrev pub trail_of : Trails → ℕ → SenderTrail
-trail_of T p = record { actions = T.actions p; pins = T.pins p; reclaims = T.reclaims p }
+-- all that a sender did, where the numbers began with these
+abbrev pub trail_of : List ℕ → Trails → ℕ → SenderTrail
+trail_of bases T p = record { first = slice_index bases p; actions = T.actions p; pins = T.pins p; reclaims = T.reclaims p }
 
--- with a row for each tenure, or with so many rows that are used again
-abbrev pub bus_of : {E : Type 0} → Election E → Layout → Option ℕ → Automaton (Sender E)
-bus_of {E} X x reuse = record {
+-- with a row for each tenure, or with so many rows that are used again; its senders' numbers begin with these
+abbrev pub bus_of : {E : Type 0} → Election E → Layout → Option ℕ → List ℕ → Automaton (Sender E)
+bus_of {E} X x reuse bases = record {
   table_layout = table_layout_by x reuse;
-  started = λ p. new_sender x p reuse;
+  bases = bases;
+  started = λ p. new_sender x p reuse (slice_index bases p);
   State = MachineHistory E;
-  IsReached = IsMachineHistory X x reuse;
+  IsReached = IsMachineHistory X x reuse bases;
   words = λ z. z.machine.words;
   home = λ z. z.machine.home;
   sender = λ z p. slice_get z.machine.senders p;
-  sender_trail = λ z p. trail_of z.trails p;
+  sender_trail = λ z p. trail_of bases z.trails p;
 }

@@ -4,7 +4,7 @@ use Rattle.bus_register.specs.declared.registers.Op.{Op}
 use Rattle.bus_presence.specs.Reclamation.{Entry}
 use Rattle.bus_tenure.specs.Core.{Election, Layout}
 use Rattle.bus_tenure.specs.Seen.{turns_of}
-use Rattle.bus_core.specs.Keeping.{queue_of, new_sender}
+use Rattle.bus_core.specs.Keeping.{queue_of}
 use Rattle.bus_core.specs.Senders.{Sender, Situation, Does, Announces, Validates, Unpins, Withdraws, Scans, Clears, situation}
 use Rattle.bus_core.specs.Table.{Line, line_now, rest_at}
 use Rattle.bus_core.specs.declared.reuses.Reuse.{Reuse}
@@ -36,14 +36,14 @@ entries None got = []
 entries (Some o) got = record { op = o; got = got } ∷ []
 
 abbrev pub adds_pin : Option Op → ℕ → SenderTrail
-adds_pin o got = record { actions = []; pins = entries o got; reclaims = [] }
+adds_pin o got = record { first = 0; actions = []; pins = entries o got; reclaims = [] }
 
 abbrev pub adds_reclaim : Option Op → ℕ → SenderTrail
-adds_reclaim o got = record { actions = []; pins = []; reclaims = entries o got }
+adds_reclaim o got = record { first = 0; actions = []; pins = []; reclaims = entries o got }
 
 -- in this situation, by this line: steps of pins and of reclamations are no actions
 abbrev pub adds_by : {E : Type 0} → Situation E → Line E → ℕ → ℕ → SenderTrail
-adds_by (Does z) l got word = sender_trail_of_actions (step_action l.kind l.tenure got (l.chosen got word) (l.answer got word))
+adds_by (Does z) l got word = sender_trail_of_actions 0 (step_action l.kind l.tenure got (l.chosen got word) (l.answer got word))
 adds_by (Announces t) l got word = adds_pin (l.op word) got
 adds_by (Validates t) l got word = adds_pin (l.op word) got
 adds_by (Unpins t) l got word = adds_pin (l.op word) got
@@ -55,7 +55,6 @@ abbrev pub process_of : {E : Type 0} → Election E → Process (Sender E)
 process_of X = record {
   me = λ v. v.core.me;
   table_layout = λ v. table_layout_by v.core.layout (rows_used v.reuse);
-  successor = λ v. new_sender v.core.layout (v.core.me + 1) (rows_used v.reuse);
   queue = λ v. queue_of v.core.queue v.reuse;
   with_message = λ v bytes. put_in v bytes;
   with_close = λ v. close_in v;

@@ -1,8 +1,8 @@
 -- What threads go by. A sender is a process, which says by itself what its next turn is; and a bus is an automaton, of which executions lead to
 -- some states. A bus with a row of words for each tenure is one, and a bus whose rows are used again is another.
-use Rattle.std.specs.Prelude.{◌≡◌, ℕ, ◌≤◌, ◌<◌, ◌^◌, Bool, true, false, Option, Some, None, List, length, slice_index}
+use Rattle.std.specs.Prelude.{◌≡◌, ℕ, ◌+◌, ◌≤◌, ◌<◌, Bool, true, false, Option, Some, None, List, length, slice_index}
 use Rattle.bus_register.specs.declared.kinds.Kind.{Kind}
-use Rattle.bus_register.specs.declared.limits.TheConstants.{MOST_MESSAGES}
+use Rattle.bus_register.specs.declared.limits.TheConstants.{MOST_MESSAGES, NUMBERS}
 use Rattle.bus_register.specs.declared.registers.Op.{Op}
 use Rattle.bus_batch.specs.Batches.{Pending}
 use Rattle.bus_tenure.specs.Situations.{PageMove, Stays, Comes, Returns}
@@ -27,8 +27,6 @@ pub record Process (C : Type 0) : Type 0 where
   -- its number, and how large its bus is
   pub me : C → ℕ
   pub table_layout : C → TableLayout
-  -- the sender of the next number, at its start
-  pub successor : C → C
   -- its batch, as a put and a close find it; and it with this message more, or with an end mark that waits
   pub queue : C → Pending
   pub with_message : C → (bytes : List ℕ) → C
@@ -60,11 +58,10 @@ pub record Process (C : Type 0) : Type 0 where
   pub awaits : C → Bool
   pub laid : C → Page → C
 
--- the numbers of a sender's messages stay far below 2^64: each item has a word of the log, and a batch has few messages
+-- the numbers of a sender's messages stay within their range, also that of a message more where its batch is full
 pub record IsCounted {C : Type 0} (P : Process C) (c : C) : Type 0 where
-  pub first : (P.queue c).first ≤ (P.table_layout c).capacity
+  pub first : (P.queue c).first + MOST_MESSAGES < NUMBERS
   pub few : length (P.queue c).messages ≤ MOST_MESSAGES
-  pub capacity : (P.table_layout c).capacity < 2 ^ 40
 
 -- ---- a turn, part by part
 -- the page that goes home with a turn
@@ -82,6 +79,8 @@ EndsBy P c s s' home (Returns t reason page) = (s' ≡ s) × (P.awaits s ≡ fal
 -- ---- a bus whose senders hold C
 pub record Automaton (C : Type 0) : Type 1 where
   pub table_layout : TableLayout
+  -- the number of each sender's first message
+  pub bases : List ℕ
   -- a sender at its start
   pub started : ℕ → C
   pub State : Type 0
@@ -94,6 +93,9 @@ pub record Automaton (C : Type 0) : Type 1 where
   pub sender : State → ℕ → Option C
   -- all that a sender did
   pub sender_trail : State → ℕ → SenderTrail
+
+abbrev pub base_in : {C : Type 0} → Automaton C → ℕ → ℕ
+base_in A = slice_index A.bases
 
 -- the actions of a sender, in a state
 abbrev pub actions_at : {C : Type 0} → (A : Automaton C) → A.State → ℕ → List Action

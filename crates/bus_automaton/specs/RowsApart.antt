@@ -1,5 +1,5 @@
 -- A bus with a row of words for each tenure, as threads go by it: its senders as processes, and the bus as an automaton.
-use Rattle.std.specs.Prelude.{◌≡◌, ◌+◌, Bool, true, false, Some, None, [], ◌∷◌, ◌++◌, slice_get}
+use Rattle.std.specs.Prelude.{◌≡◌, ℕ, Bool, true, false, Some, None, List, [], ◌∷◌, ◌++◌, slice_get, slice_index}
 use Rattle.bus_batch.specs.declared.batches.Phase.TheVariants.{Closing}
 use Rattle.bus_tenure.specs.Core.{Core, Election, Layout, log_at, words_of}
 use Rattle.bus_tenure.specs.Seen.{turns_of}
@@ -38,7 +38,6 @@ abbrev pub process_apart : {E : Type 0} → Election E → Process (Core E)
 process_apart X = record {
   me = λ c. c.me;
   table_layout = λ c. table_layout_of c.layout;
-  successor = λ c. new_core c.layout (c.me + 1);
   queue = λ c. c.queue;
   with_message = λ c bytes. record c { queue = record c.queue { messages = c.queue.messages ++ bytes ∷ [] } };
   with_close = λ c. record c { queue = record c.queue { phase = Closing } };
@@ -51,7 +50,7 @@ process_apart X = record {
   move = λ c. (line_of X c (situation_of X c)).move;
   after = λ c home got word. core_after X c (situation_of X c) home got word;
   answer = λ c got word. answer_at X c (situation_of X c) got word;
-  adds = λ c got word. sender_trail_of_actions (turn_actions X c (situation_of X c) got word (answer.Turn (answer_at X c (situation_of X c) got word)));
+  adds = λ c got word. sender_trail_of_actions 0 (turn_actions X c (situation_of X c) got word (answer.Turn (answer_at X c (situation_of X c) got word)));
   holds = λ c. is_holding c.phase;
   handed = λ c. core_moved (before_step (line_of X c (situation_of X c)).move) None c;
   fed = λ c got word. fed_at X c (situation_of X c) got word;
@@ -65,20 +64,21 @@ pub record History (E : Type 0) : Type 0 where
   pub trails : Trails
 
 -- Some events lead to it, of whichever senders and in any order. It has no receivers of its own, and no event was a stop.
-pub record IsHistory {E : Type 0} (X : Election E) (x : Layout) (z : History E) : Type 0 where
+pub record IsHistory {E : Type 0} (X : Election E) (bases : List ℕ) (x : Layout) (z : History E) : Type 0 where
   pub served : IsLayout x
-  pub reached : Reached X x z.bus z.trails
+  pub reached : Reached X bases x z.bus z.trails
   pub alone : z.bus.receivers ≡ []
   pub running : z.bus.stopped ≡ no_stops
 
-abbrev pub bus_apart : {E : Type 0} → Election E → Layout → Automaton (Core E)
-bus_apart {E} X x = record {
+abbrev pub bus_apart : {E : Type 0} → Election E → List ℕ → Layout → Automaton (Core E)
+bus_apart {E} X bases x = record {
   table_layout = table_layout_of x;
-  started = new_core x;
+  bases = bases;
+  started = λ p. new_core x (slice_index bases p) p;
   State = History E;
-  IsReached = IsHistory X x;
+  IsReached = IsHistory X bases x;
   words = λ z. z.bus.side.words;
   home = λ z. z.bus.side.home;
   sender = λ z p. slice_get z.bus.side.senders p;
-  sender_trail = λ z p. sender_trail_of_actions (z.trails.actions p);
+  sender_trail = λ z p. sender_trail_of_actions (slice_index bases p) (z.trails.actions p);
 }

@@ -1,16 +1,19 @@
 //! What threads may go by holds of the one process and of the one automaton.
 
-ghost use Rattle.std.specs.Prelude.{◌≡◌, ◌≢◌, ℕ, ◌≤◌, Option, None, false};
+ghost use Rattle.std.specs.Prelude.{◌≡◌, ◌≢◌, ℕ, ◌<◌, ◌≤◌, Option, None, false, List, slice_index};
 ghost use Rattle.bus_register.specs.declared.limits.TheConstants.{MOST_SENDERS};
 ghost use Rattle.bus_core.specs.Senders.{Sender};
 ghost use Rattle.bus_core.specs.Telling.{FeedTells};
 ghost use Rattle.bus_tenure.specs.Elections.{Elector, election_of, layout_with};
 ghost use Rattle.bus_tenure.specs.declared.turns.Turn.{Turn};
 ghost use Rattle.bus_tenure.specs.declared.turns.Turn.TheVariants as turn;
+ghost use Rattle.bus_tenure.specs.declared.pages.Page.{Page};
 ghost use Rattle.bus_world.specs.Bus.{IsLayout};
+ghost use Rattle.bus_world.specs.World.{AreBases};
+ghost use Rattle.bus_world.specs.declared.limits.TheConstants.{FIRST_NUMBERS};
 ghost use Rattle.bus_world.specs.declared.shapes.MakeFault.{MakeFault};
 ghost use Rattle.bus_world.specs.declared.shapes.MakeFault.TheVariants.{NoMemory};
-ghost use Rattle.bus_machine.specs.Playing.{ShapeOf};
+ghost use Rattle.bus_machine.specs.Playing.{ShapeOf, MayFollow};
 ghost use Rattle.bus_machine.specs.Promise.{HasRows};
 ghost use Rattle.bus_automaton.specs.Lawful.{ProcessLaws, AutomatonLaws, Opens};
 ghost use Rattle.bus_automaton.specs.OneProcess.{process_of};
@@ -29,31 +32,32 @@ pub fn process_is_lawful<Q: Ratifier>()
 }
 
 /// A bus of any sizes, with a row for each tenure or with so many rows that are used again, is an
-/// automaton that threads may go by.
+/// automaton that threads may go by, whatever numbers its sitting begins with.
 pub fn automaton_is_lawful<Q: Ratifier>()
     ensures { let X = election_of Q.Ratifier in
-        (senders rounds rows capacity : ℕ) (reuse : Option ℕ)
+        (senders rounds rows capacity : ℕ) (reuse : Option ℕ) (bases : List ℕ)
         → AutomatonLaws (process_of X)
-        (bus_of X (layout_with Q.protocol senders rounds rows capacity) reuse) }
+        (bus_of X (layout_with Q.protocol senders rounds rows capacity) reuse bases) }
 {
     election_is_lawful::<Q>();
 }
 
-/// Of sizes that are served it begins with words of zero, its page at home and its senders at their
-/// starts.
+/// Of sizes and numbers that are served it begins with words of zero, its page at home and its
+/// senders at their starts.
 pub fn automaton_opens<Q: Ratifier>()
     ensures { let X = election_of Q.Ratifier in
-        (senders rounds rows capacity : ℕ) (reuse : Option ℕ)
+        (senders rounds rows capacity : ℕ) (reuse : Option ℕ) (bases : List ℕ)
         → IsLayout (layout_with Q.protocol senders rounds rows capacity) → HasRows reuse
-        → Opens (process_of X)
-        (bus_of X (layout_with Q.protocol senders rounds rows capacity) reuse) }
+        → AreBases bases → Opens (process_of X)
+        (bus_of X (layout_with Q.protocol senders rounds rows capacity) reuse bases) }
 {}
 
 /// Threads may go by a sender of any ratifier, and by a bus of any plan. What an answer tells once
 /// the page is out of the sender's hands, it tells of the sender before that; and where no step is
 /// due, and no page is under way, the answer is not Going. No plan is refused for two causes, and
 /// for want of memory each that is served and no other: so with another fault none is that is
-/// served. A number of its senders fits a byte.
+/// served. A number of its senders fits a byte, and its numbers leave room for a whole log; with
+/// the numbers of its plan the bus begins.
 pub fn threads_may_go_by<Q: Ratifier>()
     ensures process { ProcessLaws (process_by Q.Ratifier) }
     ensures tells { let X = election_of Q.Ratifier in
@@ -63,12 +67,16 @@ pub fn threads_may_go_by<Q: Ratifier>()
     ensures rests { let P = process_by Q.Ratifier in
         (v : Sender (Elector Q)) (word : ℕ) → P.awaits v ≡ false → P.op v word ≡ None
         → P.rest v ≢ turn.Going }
-    ensures one_cause { (plan : Plan) (why other : MakeFault)
-        → Refuses plan why → Refuses plan other → why ≡ other }
-    ensures memory { (plan : Plan) → ShapeOf plan.shape plan.reuse → Refuses plan NoMemory
-        → Serves plan }
-    ensures no_memory { (plan : Plan) → Serves plan → Refuses plan NoMemory }
+    ensures one_cause { (plan : Plan) (page : Option Page) (why other : MakeFault)
+        → Refuses plan page why → Refuses plan page other → why ≡ other }
+    ensures memory { (plan : Plan) (page : Option Page) → ShapeOf plan.shape plan.reuse
+        → AreBases plan.bases → Refuses plan page NoMemory → Serves plan × MayFollow page }
+    ensures no_memory { (plan : Plan) (page : Option Page) → Serves plan → MayFollow page
+        → Refuses plan page NoMemory }
     ensures few_senders { (plan : Plan) → Serves plan → plan.shape.senders ≤ MOST_SENDERS }
+    ensures numbers { (plan : Plan) (s : ℕ) → Serves plan
+        → slice_index plan.bases s < FIRST_NUMBERS }
+    ensures bases { (plan : Plan) → (automaton_by Q.Ratifier plan).bases ≡ plan.bases }
     ensures automaton { (plan : Plan)
         → AutomatonLaws (process_by Q.Ratifier) (automaton_by Q.Ratifier plan) }
     ensures opens { (plan : Plan) → Serves plan

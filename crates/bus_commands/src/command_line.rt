@@ -3,7 +3,7 @@
 use crate::help;
 use crate::printing::Request;
 use bus_register::limits::{MOST_RECEIVERS, MOST_SENDERS};
-use bus_run::limits::MOST_MESSAGES_EACH;
+use bus_run::limits::{MOST_MESSAGES_EACH, MOST_SEND_WORKERS};
 use clap::builder::ValueParser;
 use clap::{Arg, ArgAction, ArgMatches, Command, Error, value_parser};
 use std::alloc::{AllocError, Global};
@@ -79,7 +79,7 @@ pub fn parse<'a>(alloc: Global, words: &'a [String]) -> Result<Task, Error> {
 
 /// The command `run`.
 fn run_command<'a>(alloc: Global) -> Result<Command<'a>, Error> {
-    let senders = value_parser!(u64).range(1..MOST_SENDERS as i64 + 1);
+    let senders = value_parser!(u64).range(1..MOST_SEND_WORKERS as i64 + 1);
     let receivers = value_parser!(u64).range(1..MOST_RECEIVERS as i64 + 1);
     let messages = value_parser!(u64).range(0..MOST_MESSAGES_EACH as i64 + 1);
     let seed = number(alloc, "seed", "7", value_parser!(u64)).help(
@@ -103,7 +103,7 @@ fn log_command<'a>(alloc: Global) -> Result<Command<'a>, Error> {
         .about("Tells what the words of a log on standard input spell")
         .override_usage(help::LOG_USAGE)
         .after_help(help::LOG)
-        .arg(number(alloc, "senders", "3", senders).help("Senders of the bus, 1 to 8"))?;
+        .arg(number(alloc, "senders", "3", senders).help("Senders of the bus, 1 to 64"))?;
     Ok(command)
 }
 

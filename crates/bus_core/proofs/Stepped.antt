@@ -15,12 +15,12 @@ use Rattle.bus_tenure.specs.declared.turns.Turn.TheVariants as turn
 use Rattle.bus_core.proofs.Reusing.Lies.{reclaimer_below}
 use Rattle.bus_core.proofs.Situated.{does_by}
 use Rattle.bus_core.specs.Senders.{Sender, Situation, Does, Announces, Validates, Unpins, Withdraws, Scans, Clears, pinning, situation_by, situation, words_all, participant_of}
-use Rattle.bus_core.specs.Table.{reuse_elected, answer_elected, line}
+use Rattle.bus_core.specs.Table.{reuse_elected, line}
 use Rattle.bus_tenure.specs.Doings.{doing_of}
 use Rattle.bus_core.specs.Doings.{step_of, ending_of}
 use Rattle.bus_core.specs.declared.steps.Ending.{Ending}
 use Rattle.std.proofs.lemmas.Option.{same_Some}
-use Rattle.bus_core.specs.Keeping.{ReuseKeeps, reclaimer_op_of, sender, page_out, core_without, reuse_answered, turn_answered}
+use Rattle.bus_core.specs.Keeping.{ReuseKeeps, reclaimer_op_of, sender, page_out, core_without, reuse_answered}
 use Rattle.bus_tenure.specs.declared.doings.Doing.TheVariants as doing
 use Rattle.bus_core.specs.declared.reuses.Reuse.{Reuse}
 use Rattle.bus_core.specs.declared.steps.Step.TheVariants as step
@@ -46,12 +46,6 @@ module _ {E : Type 0} where
         → reuse_answered (cond b turn.Going (turn.Lost t record { 0 = o })) t (Some r) ≡ Some record r { pin = cond b (Pinned t) (Unpinning t); lost = cond b r.lost (Some record { 0 = o }) }
     by true = refl
     by false = refl
-
-  -- and it answers that
-  pub elected_answer : (c : Core E) (t : ℕ) (own : Option ℕ) (reuse : Option Reuse)
-      → turn_answered (answer_of_election c t own) reuse ≡ answer_elected c reuse t own
-  elected_answer c t own None = refl
-  elected_answer c t own (Some r) = refl
 
 -- what a line leaves, by what the calls gave
 module _ {E : Type 0} (X : Election E) (c : Core E) (r : Option Reuse) (got word : ℕ) where

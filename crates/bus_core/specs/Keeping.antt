@@ -78,17 +78,17 @@ core_without Stays c = c
 core_without (Comes t) c = c
 core_without (Returns t reason page) c = record c { phase = phase.Giving t reason }
 
--- ---- a new sender
+-- ---- a new sender, whose first message gets this number
 abbrev pub new_reuse : Option ℕ → Option Reuse
 new_reuse None = None
 new_reuse (Some rows) = Some record { pin = Away; reclaimer = None; lost = None; rows = rows }
 
-abbrev pub new_sender : {E : Type 0} → Layout → ℕ → Option ℕ → Sender E
-new_sender x me rows = record {
+abbrev pub new_sender : {E : Type 0} → Layout → ℕ → Option ℕ → ℕ → Sender E
+new_sender x me rows first = record {
   core = record {
     layout = x;
     me = me;
-    queue = record { sender = record { 0 = me }; first = 0; messages = []; phase = Open; busy = false };
+    queue = record { sender = record { 0 = me }; first = first; messages = []; phase = Open; busy = false };
     least = 0;
     phase = phase.Resting;
   };

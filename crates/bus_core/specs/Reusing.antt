@@ -2,7 +2,6 @@
 pub mod Participants
 pub mod Keeping
 pub mod Turns
-pub mod StepWords
 pub mod Besides
 pub mod Following
 pub mod Telling

@@ -40,7 +40,7 @@ use bus_ownerbits::Election;
 use bus_presence::Pin;
 use bus_register::limits::{MOST_ROUNDS, MOST_SENDERS, NUMBERS, TENURES};
 use bus_register::{Kind, Op, Reg, SenderNo};
-use bus_tenure::{Doing, Page, Turn, Turns};
+use bus_tenure::{Doing, OwnedPage, Turn, Turns};
 use std::marker::Model;
 
 /// The word of the length.
@@ -80,8 +80,15 @@ impl<Q: Ratifier> Model for SenderCore<Q> {
 
 impl<Q: Ratifier + Drop> SenderCore<Q> {
     /// Sender `me` of so many, with nothing pending and no tenure begun, of a bus of so many rounds
-    /// for each bit, rows, one for each tenure, and log words.
-    pub fn new(senders: u64, me: SenderNo, rounds: u64, rows: u64, log_words: u64) -> SenderCore<Q>
+    /// for each bit, rows, one for each tenure, and log words. Its messages count from `first` on.
+    pub fn new(
+        senders: u64,
+        me: SenderNo,
+        rounds: u64,
+        rows: u64,
+        log_words: u64,
+        first: u64,
+    ) -> SenderCore<Q>
         requires me_below { me.0 < senders }
         requires few { senders ≤ MOST_SENDERS }
         requires rounds_some { 1 ≤ rounds }
@@ -89,11 +96,12 @@ impl<Q: Ratifier + Drop> SenderCore<Q> {
         requires rows_few { rows ≤ TENURES }
         requires log_few { log_words ≤ 2 ^ 20 }
         requires room { words_of (layout_with Q.protocol senders rounds rows log_words) ≤ 2 ^ 63 }
+        requires numbers { first ≤ NUMBERS }
         ensures { result ≡ new_sender
-            (layout_with Q.protocol senders rounds rows log_words) me.0 None }
+            (layout_with Q.protocol senders rounds rows log_words) me.0 None first }
     {
         SenderCore {
-            turns: Turns::new(senders, me, rounds, rows, log_words),
+            turns: Turns::new(senders, me, rounds, rows, log_words, first),
             reuse: None,
         }
     }
@@ -105,6 +113,7 @@ impl<Q: Ratifier + Drop> SenderCore<Q> {
         rounds: u64,
         rows: u64,
         log_words: u64,
+        first: u64,
     ) -> SenderCore<Q>
         requires me_below { me.0 < senders }
         requires few { senders ≤ MOST_SENDERS }
@@ -113,13 +122,14 @@ impl<Q: Ratifier + Drop> SenderCore<Q> {
         requires rows_some { LEAST_ROWS_AGAIN ≤ rows }
         requires rows_few { rows ≤ MOST_ROWS_AGAIN }
         requires log_few { log_words ≤ 2 ^ 20 }
+        requires numbers { first ≤ NUMBERS }
         ensures { result ≡ new_sender
-            (layout_with Q.protocol senders rounds TENURES log_words) me.0 (Some rows) }
+            (layout_with Q.protocol senders rounds TENURES log_words) me.0 (Some rows) first }
     {
         let width = Election::<Q>::width(senders, rounds);
         let _ = width;
         SenderCore {
-            turns: Turns::new(senders, me, rounds, TENURES, log_words),
+            turns: Turns::new(senders, me, rounds, TENURES, log_words, first),
             reuse: Some(Reuse {
                 pin: Pin::Away,
                 reclaimer: None,
@@ -523,7 +533,7 @@ impl<Q: Ratifier + Drop> SenderCore<Q> {
     }
 
     /// Lays the page before it, which it has taken.
-    pub fn lay(&mut self, page: Page)
+    pub fn lay(&mut self, page: OwnedPage)
         requires { AwaitsItsPage self.old.core.phase }
         ensures { (t : ℕ) → self.old.core.phase ≡ phase.Taken t
             → self.new ≡ record self.old {
@@ -534,7 +544,7 @@ impl<Q: Ratifier + Drop> SenderCore<Q> {
     }
 
     /// Takes the page from it, where it is to be given back.
-    pub fn take_out(&mut self) -> Option<Page>
+    pub fn take_out(&mut self) -> Option<OwnedPage>
         ensures page { let X = election_of Q.Ratifier in
             result ≡ page_out (line_now X self.old).move }
         ensures state { let X = election_of Q.Ratifier in
@@ -548,7 +558,7 @@ impl<Q: Ratifier + Drop> SenderCore<Q> {
 
     /// The same of the step that `step` told, which becomes the one that is due afterwards.
     #[inline(always)]
-    pub fn take_out_of(&mut self, step: &mut Step) -> Option<Page>
+    pub fn take_out_of(&mut self, step: &mut Step) -> Option<OwnedPage>
         requires { let X = election_of Q.Ratifier in step_of (situation X self.old) ≡ step.old }
         ensures page { let X = election_of Q.Ratifier in
             result ≡ page_out (line_now X self.old).move }

@@ -1,2 +1,3 @@
+mod FillLaws
 mod HearLaws
 mod OverLaws

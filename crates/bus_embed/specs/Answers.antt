@@ -45,6 +45,8 @@ make_code make.Receivers = code.BAD_RECEIVERS
 make_code make.Rounds = code.BAD_ROUNDS
 make_code make.Rows = code.BAD_ROWS
 make_code make.LogWords = code.BAD_LOG_WORDS
+make_code make.NotEnded = code.NOT_ENDED
+make_code make.Numbers = code.NUMBERS_USED
 make_code make.NoMemory = code.NO_MEMORY
 
 abbrev pub put_code : Result ℕ PutFault → ℕ

@@ -5,11 +5,14 @@ use Rattle.bus_adoptcommit.specs.ThreeWordKeeps.{three_word}
 use Rattle.bus_core.specs.Senders.{Sender}
 use Rattle.bus_tenure.specs.Core.{Election}
 use Rattle.bus_tenure.specs.Elections.{Elector, election_with}
+use Rattle.bus_tenure.specs.declared.pages.Page.{Page}
 use Rattle.bus_world.specs.declared.shapes.Shape.{Shape}
+use Rattle.bus_machine.specs.Playing.{bases_after}
 use Rattle.bus_automaton.specs.Buses.{process_with, automaton_with}
 use Rattle.bus_automaton.specs.Processes.{Process, Automaton}
 use Rattle.bus_automaton.specs.declared.plans.Plan.{Plan}
 use Rattle.bus_embed.specs.declared.buses.Sizes.{Sizes}
+use Rattle.bus_embed.specs.declared.buses.Left.{Left}
 
 -- what a sender holds
 abbrev pub Held : Type 0
@@ -35,5 +38,14 @@ abbrev pub rows_again : Bool → ℕ → Option ℕ
 rows_again true rows = Some rows
 rows_again false rows = None
 
-abbrev pub plan_of : Sizes → ℕ → ℕ → Plan
-plan_of sizes senders receivers = record { shape = shape_of sizes senders receivers; reuse = rows_again sizes.again sizes.rows }
+-- the page of a bus that left this
+abbrev pub page_of : Left → Page
+page_of left = record { next = left.next; ended = left.ended; tenures = left.tenures; words = left.words }
+
+abbrev pub pages : Option Left → Option Page
+pages None = None
+pages (Some left) = Some (page_of left)
+
+-- of a bus after one that left this, if after any: it goes on with the next numbers
+abbrev pub plan_of : Sizes → ℕ → ℕ → Option Left → Plan
+plan_of sizes senders receivers before = record { shape = shape_of sizes senders receivers; reuse = rows_again sizes.again sizes.rows; bases = bases_after (pages before) }

@@ -1,5 +1,9 @@
 -- What the end of a bus leaves, as numbers.
-use Rattle.std.specs.Prelude.{◌≡◌, ℕ, List, length, Option, Some, None, Result, Ok, Err}
+use Rattle.std.specs.Prelude.{◌≡◌, ℕ, ◌+◌, ◌<◌, List, length, slice_index, Option, Some, None, Result, Ok, Err}
+use Rattle.bus_register.specs.declared.limits.TheConstants.{MOST_SENDERS}
+use Rattle.bus_register.specs.declared.registers.SenderNo.{SenderNo}
+use Rattle.bus_batch.specs.Frames.{Order, Spells}
+use Rattle.bus_deliverylog.specs.Orders.{of_sender}
 use Rattle.bus_handles.specs.Handles.{SeatOfBus}
 use Rattle.bus_handles.specs.declared.answers.BusNotEnded.{BusNotEnded}
 use Rattle.bus_handles.specs.declared.answers.BusNotEnded.TheVariants as why
@@ -9,13 +13,25 @@ use Rattle.bus_embed.specs.declared.buses.Left.{Left}
 use Rattle.bus_embed.specs.Answers.{end_code, over}
 use Rattle.bus_embed.specs.Buses.{Held, process, automaton}
 
-abbrev pub left_by : Outcome → Left
-left_by z = record { counts = z.page.next; words = length z.log; tenures = z.page.tenures; ended = z.page.ended }
+-- Of the order that the log spells (it spells one alone) how many items each sender has; its numbers before and behind it; and what the
+-- page says besides.
+pub record IsLeftBy (z : Outcome) (left : Left) : Type 0 where
+  pub order : Order
+  pub owners : List (ℕ × SenderNo)
+  pub spells : Spells z.senders z.log order owners
+  pub counts : (s : ℕ) → s < MOST_SENDERS → slice_index left.counts s ≡ length (of_sender s order)
+  pub bases : (s : ℕ) → s < MOST_SENDERS → slice_index left.bases s ≡ slice_index z.bases s
+  pub next : left.next ≡ z.page.next
+  pub sums : (s : ℕ) → s < MOST_SENDERS → slice_index left.next s ≡ slice_index left.bases s + slice_index left.counts s
+  pub words : left.words ≡ length z.log
+  pub tenures : left.tenures ≡ z.page.tenures
+  pub ended : left.ended ≡ z.page.ended
 
 -- The bus was ended, and its log's first words are written, as many as there is room for. Or it was not, and nothing is written.
 abbrev pub Leaves : SeatOfBus Held → List ℕ → Left → Result Outcome BusNotEnded → List ℕ → Left → Type 0
 Leaves r log left (Ok z) log' left' =
-    IsLeft process (automaton r.bus.plan) r.me.0 z.log (Some z.page) × (z.senders ≡ r.bus.plan.shape.senders) × (log' ≡ over z.log log) × (left' ≡ left_by z)
+    IsLeft process (automaton r.bus.plan) r.me.0 z.log (Some z.page) × (z.senders ≡ r.bus.plan.shape.senders) × (z.bases ≡ r.bus.plan.bases)
+    × (log' ≡ over z.log log) × IsLeftBy z left'
 Leaves r log left (Err why.InUse) log' left' = (log' ≡ log) × (left' ≡ left)
 Leaves r log left (Err why.PageOut) log' left' = ((words : List ℕ) × IsLeft process (automaton r.bus.plan) r.me.0 words None) × (log' ≡ log) × (left' ≡ left)
 

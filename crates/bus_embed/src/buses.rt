@@ -1,17 +1,21 @@
 //! How a bus is opened and ended.
 
-ghost use Rattle.std.specs.Prelude.{◌≡◌, IfOk, IfErr, length};
+ghost use Rattle.std.specs.Prelude.{◌≡◌, ℕ, ◌<◌, List, Some, None, IfOk, OnOk, IfErr, length};
+ghost use Rattle.std.specs.Prelude.{slice_index};
+ghost use Rattle.bus_register.specs.declared.registers.SenderNo.{SenderNo as Number};
+ghost use Rattle.bus_batch.specs.Frames.{Order, Spells};
+ghost use Rattle.bus_deliverylog.specs.Orders.{of_sender};
 ghost use Rattle.bus_handles.specs.Handles.{IsOpened};
-ghost use Rattle.bus_machine.specs.Playing.{IsServed, MakeRefused};
-ghost use Rattle.bus_embed.specs.Buses.{process, automaton, plan_of};
+ghost use Rattle.bus_machine.specs.Playing.{IsServed, MakeRefused, IsFollowed, AfterRefused};
+ghost use Rattle.bus_embed.specs.Buses.{process, automaton, plan_of, page_of, shape_of};
 ghost use Rattle.bus_embed.specs.Answers.{make_code};
-ghost use Rattle.bus_embed.specs.Ends.{EndAnswered, left_by};
+ghost use Rattle.bus_embed.specs.Ends.{EndAnswered, IsLeftBy};
 
 use crate::codes;
 use crate::writing::write_over;
 use bus_handles::{
-    BusNotEnded, Ended, MOST_SENDERS, MakeFault, ReceiverHandle, SenderHandle, Shape, ThreeWord,
-    open, open_cyclic,
+    BusNotEnded, Ended, MOST_SENDERS, MakeFault, Page, ReceiverHandle, SenderHandle, SenderNo,
+    Shape, ThreeWord, open, open_after, open_cyclic,
 };
 use std::alloc::Global;
 
@@ -35,6 +39,10 @@ pub struct Sizes {
 pub struct Left {
     /// How many items of each sender the order has.
     pub counts: [u64; MOST_SENDERS],
+    /// The number of each sender's first item: 0, or what an earlier bus had come to.
+    pub bases: [u64; MOST_SENDERS],
+    /// The number that the next item of each sender would have.
+    pub next: [u64; MOST_SENDERS],
     /// How many words the log has.
     pub words: u64,
     /// How many tenures have ended.
@@ -50,24 +58,60 @@ pub fn open_bus(
     senders: u64,
     receivers: u64,
 ) -> Result<(Vec<SenderHandle<ThreeWord>>, Vec<ReceiverHandle<ThreeWord>>), MakeFault>
-    ensures opened { let plan = plan_of sizes senders receivers in
+    ensures opened { let plan = plan_of sizes senders receivers None in
         IfOk result (λ made. IsOpened process (automaton plan) plan made.0.items made.1.items) }
-    ensures served { let plan = plan_of sizes senders receivers in
+    ensures served { let plan = plan_of sizes senders receivers None in
         IfOk result (λ _. IsServed plan.shape plan.reuse) }
-    ensures fault { let plan = plan_of sizes senders receivers in
+    ensures fault { let plan = plan_of sizes senders receivers None in
         IfErr result (MakeRefused plan.shape plan.reuse) }
 {
-    let shape = Shape {
-        senders,
-        receivers,
-        rounds: sizes.rounds,
-        rows: sizes.rows,
-        log_words: sizes.log_words,
-    };
+    let shape = sizes.shape(senders, receivers);
     if sizes.again {
-        open_cyclic::<ThreeWord>(alloc, shape)
+        open_cyclic::<ThreeWord>(alloc, shape, None)
     } else {
         open::<ThreeWord>(alloc, shape)
+    }
+}
+
+/// Opens a bus of these sizes whose senders go on with the next numbers of a bus that left this,
+/// as `open_after`, or as `open_cyclic` where its rows are used again. Of `left` no more is looked
+/// at than these and whether the order has ended.
+pub fn open_bus_after(
+    alloc: Global,
+    sizes: Sizes,
+    senders: u64,
+    receivers: u64,
+    left: &Left,
+) -> Result<(Vec<SenderHandle<ThreeWord>>, Vec<ReceiverHandle<ThreeWord>>), MakeFault>
+    ensures opened { let plan = plan_of sizes senders receivers (Some left.now) in
+        IfOk result (λ made. IsOpened process (automaton plan) plan made.0.items made.1.items) }
+    ensures served { let plan = plan_of sizes senders receivers (Some left.now) in
+        IfOk result (λ _. IsServed plan.shape plan.reuse) }
+    ensures follows { OnOk result (IsFollowed (page_of left.now)) }
+    ensures fault { let plan = plan_of sizes senders receivers (Some left.now) in
+        IfErr result (AfterRefused plan.shape plan.reuse (page_of left.now)) }
+{
+    let shape = sizes.shape(senders, receivers);
+    let page = left.page();
+    if sizes.again {
+        open_cyclic::<ThreeWord>(alloc, shape, Some(&page))
+    } else {
+        open_after::<ThreeWord>(alloc, shape, &page)
+    }
+}
+
+impl Sizes {
+    /// These, with so many senders and receivers.
+    fn shape(self, senders: u64, receivers: u64) -> Shape
+        ensures { result ≡ shape_of self senders receivers }
+    {
+        Shape {
+            senders,
+            receivers,
+            rounds: self.rounds,
+            rows: self.rows,
+            log_words: self.log_words,
+        }
     }
 }
 
@@ -80,7 +124,7 @@ pub fn end_bus(receiver: ReceiverHandle<ThreeWord>, log: &mut [u64], left: &mut 
     match receiver.end() {
         Ok(ended) => {
             write_over(ended.log(), log);
-            *left = left_of(&ended);
+            *left = Left::by(&ended);
             codes::OK
         }
         Err(BusNotEnded::InUse) => codes::IN_USE,
@@ -88,17 +132,59 @@ pub fn end_bus(receiver: ReceiverHandle<ThreeWord>, log: &mut [u64], left: &mut 
     }
 }
 
-/// What a bus left, beside the words of its log.
-fn left_of(ended: &Ended) -> Left
-    ensures { result ≡ left_by ended.now }
-{
-    let page = ended.page();
-    Left {
-        counts: page.next,
-        words: page.words,
-        tenures: page.tenures,
-        ended: page.ended,
+impl Left {
+    /// What a bus left, beside the words of its log.
+    fn by(ended: &Ended) -> Left
+        ensures { IsLeftBy ended.now result }
+    {
+        let page = ended.page();
+        let _spelled = ended.count(SenderNo(0));
+        Left {
+            counts: counts_of(ended),
+            bases: bases_of(ended),
+            next: page.next,
+            words: page.words,
+            tenures: page.tenures,
+            ended: page.ended,
+        }
     }
+
+    /// The page of the bus that left this.
+    fn page(&self) -> Page
+        ensures { result ≡ page_of self.now }
+    {
+        Page {
+            next: self.next,
+            ended: self.ended,
+            tenures: self.tenures,
+            words: self.words,
+        }
+    }
+}
+
+/// How many items of each sender the order has.
+fn counts_of(ended: &Ended) -> [u64; MOST_SENDERS]
+    ensures { (order : Order) (owners : List (ℕ × Number)) (sender : ℕ)
+        → Spells ended.now.senders ended.now.log order owners → sender < MOST_SENDERS
+        → slice_index result sender ≡ length (of_sender sender order) }
+{
+    let mut counts = [0; MOST_SENDERS];
+    for place in 0..MOST_SENDERS {
+        counts[place] = ended.count(SenderNo(place as u8));
+    }
+    counts
+}
+
+/// The number of each sender's first item.
+fn bases_of(ended: &Ended) -> [u64; MOST_SENDERS]
+    ensures { (sender : ℕ) → sender < MOST_SENDERS
+        → slice_index result sender ≡ slice_index ended.now.bases sender }
+{
+    let mut bases = [0; MOST_SENDERS];
+    for place in 0..MOST_SENDERS {
+        bases[place] = ended.base(SenderNo(place as u8));
+    }
+    bases
 }
 
 /// The code of a fault.
@@ -111,6 +197,8 @@ pub fn refused_code(fault: MakeFault) -> u32
         MakeFault::Rounds => codes::BAD_ROUNDS,
         MakeFault::Rows => codes::BAD_ROWS,
         MakeFault::LogWords => codes::BAD_LOG_WORDS,
+        MakeFault::NotEnded => codes::NOT_ENDED,
+        MakeFault::Numbers => codes::NUMBERS_USED,
         MakeFault::NoMemory => codes::NO_MEMORY,
     }
 }

@@ -33,7 +33,7 @@ pub const ITEM: u32 = 13;
 /// A receiver: the order has ended, and all of it was given.
 pub const END: u32 = 14;
 
-/// No bus: senders are not 1 to 8.
+/// No bus: senders are not 1 to 64.
 pub const BAD_SENDERS: u32 = 32;
 /// No bus: receivers are not 1 to 8.
 pub const BAD_RECEIVERS: u32 = 33;
@@ -65,3 +65,7 @@ pub const IN_USE: u32 = 45;
 pub const PAGE_OUT: u32 = 46;
 /// The handle is empty.
 pub const EMPTY_HANDLE: u32 = 47;
+/// No bus: the order of the bus that it is to go on after has not ended. 48 is the header's own.
+pub const NOT_ENDED: u32 = 49;
+/// No bus: a sender's next number is 2^48 - 65,536 or more.
+pub const NUMBERS_USED: u32 = 50;

@@ -27,6 +27,6 @@ pub use bus_receiver::{
     SendFault, SenderNo, Shape, ThreeWord, Turn, TwoCollect, Unsent, read_log, tenures_needed,
     words_needed,
 };
-pub use opening::{open, open_cyclic};
+pub use opening::{open, open_after, open_cyclic};
 pub use receivers::ReceiverHandle;
 pub use senders::SenderHandle;

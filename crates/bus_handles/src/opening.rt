@@ -1,9 +1,10 @@
 //! How a bus is opened: all its handles in one call.
 
-ghost use Rattle.std.specs.Prelude.{All, ◌≡◌, Some, None, IfOk, IfErr};
-ghost use Rattle.bus_machine.specs.Playing.{IsServed, MakeRefused};
-ghost use Rattle.bus_automaton.specs.Buses.{process_by, automaton_by};
-ghost use Rattle.bus_automaton.specs.declared.plans.Plan.{Plan};
+ghost use Rattle.std.specs.Prelude.{All, ◌≡◌, Some, None, IfOk, OnOk, IfErr};
+ghost use Rattle.std.specs.Option.{option_copied};
+ghost use Rattle.bus_machine.specs.Playing.{IsServed, MakeRefused, IsFollowed, AfterRefused};
+ghost use Rattle.bus_machine.specs.Playing.{MayFollow, MakeRefusedAfter};
+ghost use Rattle.bus_automaton.specs.Buses.{process_by, automaton_by, plan_apart, plan_again};
 ghost use Rattle.bus_pageslot.specs.Seats.{table_of};
 ghost use Rattle.bus_handles.specs.Handles.{seats_of, IsOpened};
 
@@ -11,7 +12,7 @@ use crate::receivers::ReceiverHandle;
 use crate::senders::SenderHandle;
 use bus_adoptcommit::Ratifier;
 use bus_pageslot::{Bus, Sender, Tap};
-use bus_receiver::Receiver;
+use bus_receiver::{Page, Receiver};
 use bus_register::NoMemory;
 use bus_world::{MakeFault, Shape};
 use rand_pcg::Pcg32;
@@ -25,7 +26,7 @@ pub fn open<Q: Ratifier + Drop>(
     alloc: Global,
     shape: Shape,
 ) -> Result<(Vec<SenderHandle<Q>>, Vec<ReceiverHandle<Q>>), MakeFault>
-    ensures opened { let plan : Plan = record { shape = shape; reuse = None } in
+    ensures opened { let plan = plan_apart shape None in
         IfOk result (λ made. IsOpened (process_by Q.Ratifier) (automaton_by Q.Ratifier plan)
         plan made.0.items made.1.items) }
     ensures served { IfOk result (λ _. IsServed shape None) }
@@ -36,18 +37,44 @@ pub fn open<Q: Ratifier + Drop>(
     Ok(handles)
 }
 
-/// As `open`, of a bus whose rows of words are used again.
+/// Opens the next sitting, as `open`: a bus whose senders go on with the numbers of this page. That
+/// is the page of a bus that was ended once its order had ended: `end` gives it by `Ended::page`.
+/// Nothing else of it is carried over. A message that waited there waits no more and has to be put
+/// here anew, and gets its number again if it is put first. NotEnded says that the order of the
+/// page has not ended, and Numbers that a sender has no numbers left for a whole log.
+pub fn open_after<Q: Ratifier + Drop>(
+    alloc: Global,
+    shape: Shape,
+    page: &Page,
+) -> Result<(Vec<SenderHandle<Q>>, Vec<ReceiverHandle<Q>>), MakeFault>
+    ensures opened { let plan = plan_apart shape (Some page.now) in
+        IfOk result (λ made. IsOpened (process_by Q.Ratifier) (automaton_by Q.Ratifier plan)
+        plan made.0.items made.1.items) }
+    ensures served { IfOk result (λ _. IsServed shape None) }
+    ensures follows { OnOk result (IsFollowed page.now) }
+    ensures fault { IfErr result (AfterRefused shape None page.now) }
+{
+    let (bus, senders, taps) = Bus::<Q>::after(alloc, shape, page)?;
+    let handles = share(alloc, bus, senders, taps)?;
+    Ok(handles)
+}
+
+/// As `open`, of a bus whose rows of words are used again. With a page it is the next sitting, as
+/// `open_after`.
 pub fn open_cyclic<Q: Ratifier + Drop>(
     alloc: Global,
     shape: Shape,
+    page: Option<&Page>,
 ) -> Result<(Vec<SenderHandle<Q>>, Vec<ReceiverHandle<Q>>), MakeFault>
-    ensures opened { let plan : Plan = record { shape = shape; reuse = Some shape.rows } in
+    ensures opened { let plan = plan_again shape (option_copied page.entry) in
         IfOk result (λ made. IsOpened (process_by Q.Ratifier) (automaton_by Q.Ratifier plan)
         plan made.0.items made.1.items) }
     ensures served { IfOk result (λ _. IsServed shape (Some shape.rows)) }
-    ensures fault { IfErr result (MakeRefused shape (Some shape.rows)) }
+    ensures follows { OnOk result (MayFollow (option_copied page.entry)) }
+    ensures fault { IfErr result
+        (MakeRefusedAfter shape (Some shape.rows) (option_copied page.entry)) }
 {
-    let (bus, senders, taps) = Bus::<Q>::cyclic(alloc, shape)?;
+    let (bus, senders, taps) = Bus::<Q>::cyclic(alloc, shape, page)?;
     let handles = share(alloc, bus, senders, taps)?;
     Ok(handles)
 }

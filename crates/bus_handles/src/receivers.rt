@@ -105,7 +105,9 @@ impl<Q: Ratifier + Drop> ReceiverHandle<Q> {
         ensures passes { PassesTo self.old.me (item_or_end result) self.new.me }
     {
         let bus: &Bus<Q> = &self.bus;
-        self.receiver.next_item(wait, bus)
+        let mut item = None;
+        self.receiver.next_item_in_place(wait, bus, &mut item);
+        item
     }
 
     /// As `next_item`, but that it can be told to stop: each time a turn finds nothing more it asks
@@ -157,6 +159,7 @@ impl<Q: Ratifier + Drop> ReceiverHandle<Q> {
             (λ left. IsLeft (process_by Q.Ratifier) (automaton_by Q.Ratifier self.bus.plan)
             self.me.0 left.log (Some left.page)) }
         ensures senders { IfOk result (λ left. left.senders ≡ self.bus.plan.shape.senders) }
+        ensures bases { IfOk result (λ left. left.bases ≡ self.bus.plan.bases) }
         ensures out { result ≡ Err BusNotEnded.PageOut → (log : List ℕ)
             × IsLeft (process_by Q.Ratifier) (automaton_by Q.Ratifier self.bus.plan)
             self.me.0 log None }

@@ -1,6 +1,6 @@
 //! A sender with its bus, and with the random words that it votes by.
 
-ghost use Rattle.std.specs.Prelude.{◌≡◌, ℕ, List, [], ◌∷◌, ◌++◌, length};
+ghost use Rattle.std.specs.Prelude.{◌≡◌, ℕ, ◌+◌, List, [], ◌∷◌, ◌++◌, length};
 ghost use Rattle.std.specs.Prelude.{Some, None, IfSome, IfNone, IfOk, IfErr, OnOk, OnErr};
 ghost use Rattle.std.specs.Arc.{arc_value};
 ghost use Rattle.bus_batch.specs.Batches.{next_of, CanPut, IsPutFault, CanClose, IsCloseFault};
@@ -12,7 +12,7 @@ ghost use Rattle.bus_core.specs.Telling.{FeedTells};
 ghost use Rattle.bus_core.specs.Telling.{RestTells};
 ghost use Rattle.bus_tenure.specs.Elections.{election_of};
 ghost use Rattle.bus_automaton.specs.Buses.{process_by};
-ghost use Rattle.bus_pageslot.specs.Seats.{TookAndTold, table_of, actions_of, stored_of};
+ghost use Rattle.bus_pageslot.specs.Seats.{TookAndTold, table_of, first_number_of, actions_of, stored_of};
 ghost use Rattle.bus_pageslot.specs.Turns.{tells_by, Sends, SendsAsking, StopsWaiting};
 ghost use Rattle.bus_pageslot.specs.Sendings.{waiting_of, HasSent, HasSentPart};
 ghost use Rattle.bus_handles.specs.Answers.{delivered_turn, not_delivered_turn};
@@ -129,12 +129,14 @@ impl<Q: Ratifier + Drop, R: Rng + Drop> SenderHandle<Q, R> {
     }
 
     /// Appends a message of at most 56 bytes to its batch of at most 16, and gives its number,
-    /// which counts the messages of this sender from 0 on. Takes no step. A fault changes nothing.
+    /// which counts the messages of this sender from its first number on: that is 0, but where the
+    /// bus went on with the numbers of another. Takes no step. A fault changes nothing.
     pub fn put(&mut self, bytes: &[u8]) -> Result<u64, PutFault>
         ensures number { let P = process_by Q.Ratifier in
             IfOk result (λ number. number ≡ next_of (P.queue self.old.core)) }
         ensures counts { let P = process_by Q.Ratifier in
-            IfOk result (λ number. number ≡ length (puts (actions_of P self.old))) }
+            IfOk result
+            (λ number. number ≡ first_number_of P self.old + length (puts (actions_of P self.old))) }
         ensures taken { OnOk result
             (self.new.core ≡ (process_by Q.Ratifier).with_message self.old.core bytes.now) }
         ensures action { let P = process_by Q.Ratifier in IfOk result

@@ -24,7 +24,7 @@ use Rattle.bus_world.specs.CyclicProtocols.{actions_with}
 use Rattle.bus_world.specs.declared.events.Answer.{Answer}
 use Rattle.bus_world.specs.declared.events.Answer.TheVariants as answer
 use Rattle.bus_machine.specs.Proved.Bridge.{of_bus, plain_trails, IsPlainEvent, HappensAtNone, IsPlain}
-use Rattle.bus_machine.specs.Machine.{Machine, Trails, Reached, New as Start, Then as Next, TakesTurn, TakesPut, TakesClose, StopsNow, Hears, Happens, IsNew, no_machine_trails, trails_grown, turn_grown, turn_trails, log_place, going, with_sender, put_in, close_in, machine_after, found, turn_answer}
+use Rattle.bus_machine.specs.Machine.{base_of, Machine, Trails, Reached, New as Start, Then as Next, TakesTurn, TakesPut, TakesClose, StopsNow, Hears, Happens, IsNew, no_machine_trails, trails_grown, turn_grown, turn_trails, log_place, going, with_sender, put_in, close_in, machine_after, found, turn_answer}
 
 closed_by : {A : Type 0} (o b : Bool) (xs : List A) → o ≡ true → b ≡ false → xs ≡ [] → o && ((cond b false true) && is_empty xs) ≡ true
 closed_by o b xs i j k = ap (λ y. y && ((cond b false true) && is_empty xs)) i ∙ ap (λ y. (cond y false true) && is_empty xs) j ∙ ap is_empty k
@@ -39,8 +39,8 @@ module _ {E : Type 0} where
   opened_at false xs None v e g = absurd (let q : None ≡ Some v = sym e ∙ g in cc)
   opened_at false xs (Some c) v e g = (c, refl, same_Some _ _ (sym g ∙ e))
 
-  pub opened : (x : Layout) (b : Bus E) (s : ℕ) (v : Sender E) → going (of_bus x b) s ≡ Some v → (c : Core E) × (plain_going b s ≡ Some c) × (v ≡ apart c)
-  opened x b s v g = opened_at (is_set (slice_get b.stopped s)) (slice_get (map apart b.side.senders) s) (slice_get b.side.senders s) v (slice_get-map apart b.side.senders s) g
+  pub opened : (bases : List ℕ) (x : Layout) (b : Bus E) (s : ℕ) (v : Sender E) → going (of_bus bases x b) s ≡ Some v → (c : Core E) × (plain_going b s ≡ Some c) × (v ≡ apart c)
+  opened bases x b s v g = opened_at (is_set (slice_get b.stopped s)) (slice_get (map apart b.side.senders) s) (slice_get b.side.senders s) v (slice_get-map apart b.side.senders s) g
 
   -- a list of senders, with what is left of them put back
   rebuilt : (l : List (Sender E)) → ((p : ℕ) (v : Sender E) → slice_get l p ≡ Some v → apart v.core ≡ v) → map apart (map (λ v. v.core) l) ≡ l
@@ -54,48 +54,48 @@ nothing_heard H = fun_ext (λ r. append-nil (H r))
 nothing_done : (D : ℕ → List Action) → (λ (r : ℕ). D r ++ []) ≡ D
 nothing_done D = fun_ext (λ r. append-nil (D r))
 
-module _ {E : Type 0} (X : Election E) (x : Layout) (b : Bus E) where
-  turn_is : (s : ℕ) (c : Core E) (word : ℕ) → machine_after (of_bus x b) s (line_now X (apart c)) word ≡ of_bus x (record b { side = side_after X b.side s c (situation_of X c) word })
+module _ {E : Type 0} (X : Election E) (bases : List ℕ) (x : Layout) (b : Bus E) where
+  turn_is : (s : ℕ) (c : Core E) (word : ℕ) → machine_after (of_bus bases x b) s (line_now X (apart c)) word ≡ of_bus bases x (record b { side = side_after X b.side s c (situation_of X c) word })
   turn_is s c word =
       let z = situation_of X c in
       let got = number_found (slice_index b.side.words) (op_at X c z word) in
-      ap (λ l. machine_after (of_bus x b) s l word) (at_none X c)
-      ∙ ap (λ g. record (of_bus x b) { words = words_after b.side.words (op_at X c z word); home = home_after X c z b.side.home; senders = g; owners = owners_after X c z s b.side.owners })
+      ap (λ l. machine_after (of_bus bases x b) s l word) (at_none X c)
+      ∙ ap (λ g. record (of_bus bases x b) { words = words_after b.side.words (op_at X c z word); home = home_after X c z b.side.home; senders = g; owners = owners_after X c z s b.side.owners })
       (sym (map-set apart b.side.senders s (core_after X c z b.side.home got word)))
 
-  answer_is : (c : Core E) (word : ℕ) → turn_answer (of_bus x b) (line_now X (apart c)) word ≡ answer_at X c (situation_of X c) (number_found (slice_index b.side.words) (op_at X c (situation_of X c) word)) word
-  answer_is c word = ap (λ l. turn_answer (of_bus x b) l word) (at_none X c)
+  answer_is : (c : Core E) (word : ℕ) → turn_answer (of_bus bases x b) (line_now X (apart c)) word ≡ answer_at X c (situation_of X c) (number_found (slice_index b.side.words) (op_at X c (situation_of X c) word)) word
+  answer_is c word = ap (λ l. turn_answer (of_bus bases x b) l word) (at_none X c)
 
-  turn_adds : (s word : ℕ) (a : Answer) (t : Answered) (c : Core E) → a ≡ answer.Turn t → plain_going b s ≡ Some c → going (of_bus x b) s ≡ Some (apart c) → (T : Trails) → plain_grown X b (Turn s word) a (plain_trails T) ≡ plain_trails (trails_grown X (of_bus x b) (Turn s word) a T)
+  turn_adds : (s word : ℕ) (a : Answer) (t : Answered) (c : Core E) → a ≡ answer.Turn t → plain_going b s ≡ Some c → going (of_bus bases x b) s ≡ Some (apart c) → (T : Trails) → plain_grown X b (Turn s word) a (plain_trails T) ≡ plain_trails (trails_grown X (of_bus bases x b) (Turn s word) a T)
   turn_adds s word a t c told g h T =
       let z = situation_of X c in
       let got = number_found (slice_index b.side.words) (op_at X c z word) in
       ap (λ w. plain_grown X b (Turn s word) w (plain_trails T)) told
       ∙ ap (λ o. record { actions = λ q. T.actions q ++ cond (q == s) (turning_actions X b.side.words o word (answer.Turn t)) []; heard = λ r. T.heard r ++ [] }) g
       ∙ ap (λ k. record { actions = actions_with s (turn_actions X c z got word (answer.Turn t)) T.actions; heard = k }) (nothing_heard T.heard)
-      ∙ ap (λ l. plain_trails (turn_trails (situation X (apart c)) l s (found (of_bus x b) l word) word t T)) (sym (at_none X c))
-      ∙ ap (λ o. plain_trails (turn_grown X (of_bus x b) s o word (answer.Turn t) T)) (sym h)
-      ∙ ap (λ w. plain_trails (trails_grown X (of_bus x b) (Turn s word) w T)) (sym told)
+      ∙ ap (λ l. plain_trails (turn_trails (situation X (apart c)) l s (found (of_bus bases x b) l word) word t T)) (sym (at_none X c))
+      ∙ ap (λ o. plain_trails (turn_grown X (of_bus bases x b) s o word (answer.Turn t) T)) (sym h)
+      ∙ ap (λ w. plain_trails (trails_grown X (of_bus bases x b) (Turn s word) w T)) (sym told)
 
-  turns : (s word : ℕ) (a : Answer) (m : Machine E) → TakesTurn X (of_bus x b) s word a m → IsPlainEvent X x b (Turn s word) a m
+  turns : (s word : ℕ) (a : Answer) (m : Machine E) → TakesTurn X (of_bus bases x b) s word a m → IsPlainEvent X bases x b (Turn s word) a m
   turns s word a m h =
-      let o = opened x b s h.sender h.goes in
+      let o = opened bases x b s h.sender h.goes in
       let c = o.0 in
       let z = situation_of X c in
-      let told = h.answered ∙ ap (λ v. answer.Turn (turn_answer (of_bus x b) (line_now X v) word)) o.2 ∙ ap answer.Turn (answer_is c word) in
+      let told = h.answered ∙ ap (λ v. answer.Turn (turn_answer (of_bus bases x b) (line_now X v) word)) o.2 ∙ ap answer.Turn (answer_is c word) in
       let new = record b { side = side_after X b.side s c z word } in
       record {
         bus = new;
-        is = h.after ∙ ap (λ v. machine_after (of_bus x b) s (line_now X v) word) o.2 ∙ turn_is s c word;
+        is = h.after ∙ ap (λ v. machine_after (of_bus bases x b) s (line_now X v) word) o.2 ∙ turn_is s c word;
         event = tt;
         happens = (subst (λ k. SenderDoes b.side k (λ y. side_after X b.side s y (situation_of X y) word) new.side) (sym o.1) refl, refl, refl);
         answers = subst (λ k. TurnAnswers X b.side.words k word a) (sym o.1) told;
         trails = turn_adds s word a _ c told o.1 (h.goes ∙ ap Some o.2);
       }
 
-  puts : (s : ℕ) (bytes : List ℕ) (a : Answer) (m : Machine E) → TakesPut (of_bus x b) s bytes a m → IsPlainEvent X x b (Put s bytes) a m
+  puts : (s : ℕ) (bytes : List ℕ) (a : Answer) (m : Machine E) → TakesPut (of_bus bases x b) s bytes a m → IsPlainEvent X bases x b (Put s bytes) a m
   puts s bytes a m h =
-      let o = opened x b s h.sender h.goes in
+      let o = opened bases x b s h.sender h.goes in
       let c = o.0 in
       let can = subst (λ (v : Sender E). CanPut (queue_of v.core.queue v.reuse) (length bytes)) o.2 h.can in
       let may = put_taken c.queue (length bytes) can in
@@ -103,16 +103,16 @@ module _ {E : Type 0} (X : Election E) (x : Layout) (b : Bus E) where
       let new = record b { side = plain_with b.side s put } in
       record {
         bus = new;
-        is = h.after ∙ ap (λ v. with_sender (of_bus x b) s (put_in v bytes)) o.2 ∙ ap (λ l. record (of_bus x b) { senders = l }) (sym (map-set apart b.side.senders s put));
+        is = h.after ∙ ap (λ v. with_sender (of_bus bases x b) s (put_in v bytes)) o.2 ∙ ap (λ l. record (of_bus bases x b) { senders = l }) (sym (map-set apart b.side.senders s put));
         event = h.are_bytes;
         happens = (subst (λ k. SenderDoes b.side k (λ y. plain_with b.side s (plain_put y bytes)) new.side) (sym o.1) (ap (λ t. plain_with b.side s (cond t put c)) (sym may)), refl, refl);
         answers = (next_of c.queue, subst (λ k. PutGives k (length bytes) (next_of c.queue)) (sym o.1) (can, refl), h.answered ∙ ap (λ (v : Sender E). answer.Number (next_of v.core.queue)) o.2);
-        trails = λ T. ap (λ k. record { actions = (trails_grown X (of_bus x b) (Put s bytes) a T).actions; heard = k }) (nothing_heard T.heard);
+        trails = λ T. ap (λ k. record { actions = (trails_grown X (of_bus bases x b) (Put s bytes) a T).actions; heard = k }) (nothing_heard T.heard);
       }
 
-  closes : (s : ℕ) (a : Answer) (m : Machine E) → TakesClose (of_bus x b) s a m → IsPlainEvent X x b (Close s) a m
+  closes : (s : ℕ) (a : Answer) (m : Machine E) → TakesClose (of_bus bases x b) s a m → IsPlainEvent X bases x b (Close s) a m
   closes s a m h =
-      let o = opened x b s h.sender h.goes in
+      let o = opened bases x b s h.sender h.goes in
       let c = o.0 in
       let can = subst (λ (v : Sender E). CanClose (queue_of v.core.queue v.reuse)) o.2 h.can in
       let may = close_taken c.queue can in
@@ -120,16 +120,16 @@ module _ {E : Type 0} (X : Election E) (x : Layout) (b : Bus E) where
       let new = record b { side = plain_with b.side s closed } in
       record {
         bus = new;
-        is = h.after ∙ ap (λ v. with_sender (of_bus x b) s (close_in v)) o.2 ∙ ap (λ l. record (of_bus x b) { senders = l }) (sym (map-set apart b.side.senders s closed));
+        is = h.after ∙ ap (λ v. with_sender (of_bus bases x b) s (close_in v)) o.2 ∙ ap (λ l. record (of_bus bases x b) { senders = l }) (sym (map-set apart b.side.senders s closed));
         event = tt;
         happens = (subst (λ k. SenderDoes b.side k (λ y. plain_with b.side s (plain_close y)) new.side) (sym o.1) (ap (λ t. plain_with b.side s (cond t closed c)) (sym may)), refl, refl);
         answers = (subst CloseGives (sym o.1) can, h.answered);
-        trails = λ T. ap (λ k. record { actions = (trails_grown X (of_bus x b) (Close s) a T).actions; heard = k }) (nothing_heard T.heard);
+        trails = λ T. ap (λ k. record { actions = (trails_grown X (of_bus bases x b) (Close s) a T).actions; heard = k }) (nothing_heard T.heard);
       }
 
-  stops : (s : ℕ) (a : Answer) (m : Machine E) → StopsNow (of_bus x b) s a m → IsPlainEvent X x b (Stop s) a m
+  stops : (s : ℕ) (a : Answer) (m : Machine E) → StopsNow (of_bus bases x b) s a m → IsPlainEvent X bases x b (Stop s) a m
   stops s a m h =
-      let o = opened x b s h.sender h.goes in
+      let o = opened bases x b s h.sender h.goes in
       let new = record b { stopped = slice_set b.stopped s true } in
       record {
         bus = new;
@@ -140,7 +140,7 @@ module _ {E : Type 0} (X : Election E) (x : Layout) (b : Bus E) where
         trails = λ T. ap (λ k. record { actions = k; heard = λ r. T.heard r ++ [] }) (nothing_done T.actions) ∙ ap (λ k. record { actions = T.actions; heard = k }) (nothing_heard T.heard);
       }
 
-  hears : (r : ℕ) (a : Answer) (m : Machine E) → Hears (of_bus x b) r a m → IsPlainEvent X x b (Recv r) a m
+  hears : (r : ℕ) (a : Answer) (m : Machine E) → Hears (of_bus bases x b) r a m → IsPlainEvent X bases x b (Recv r) a m
   hears r a m h =
       let new = record b { receivers = slice_set b.receivers r h.next } in
       record {
@@ -152,24 +152,25 @@ module _ {E : Type 0} (X : Election E) (x : Layout) (b : Bus E) where
         trails = λ T.
             ap (λ k. record { actions = k; heard = λ q. T.heard q ++ heard_of (Recv r) a q }) (nothing_done T.actions)
             ∙ ap (λ w. record { actions = T.actions; heard = λ q. T.heard q ++ heard_of (Recv r) w q }) h.answered
-            ∙ ap (λ w. plain_trails (trails_grown X (of_bus x b) (Recv r) w T)) (sym h.answered);
+            ∙ ap (λ w. plain_trails (trails_grown X (of_bus bases x b) (Recv r) w T)) (sym h.answered);
       }
 
 pub happens_at_none : {E : Type 0} (X : Election E) → HappensAtNone X
-happens_at_none X x b (Put s bytes) a m h = puts X x b s bytes a m h
-happens_at_none X x b (Close s) a m h = closes X x b s a m h
-happens_at_none X x b (Turn s word) a m h = turns X x b s word a m h
-happens_at_none X x b (Recv r) a m h = hears X x b r a m h
-happens_at_none X x b (Stop s) a m h = stops X x b s a m h
+happens_at_none X bases x b (Put s bytes) a m h = puts X bases x b s bytes a m h
+happens_at_none X bases x b (Close s) a m h = closes X bases x b s a m h
+happens_at_none X bases x b (Turn s word) a m h = turns X bases x b s word a m h
+happens_at_none X bases x b (Recv r) a m h = hears X bases x b r a m h
+happens_at_none X bases x b (Stop s) a m h = stops X bases x b s a m h
 
 -- ---- what is reached
 module _ {E : Type 0} (X : Election E) where
   new_plain : (w : Machine E) → IsNew w → w.reuse ≡ None → IsPlain X w no_machine_trails
   new_plain w new e = record {
     bus = b;
-    is = ap (λ r. record w { reuse = r }) e ∙ ap (λ l. record w { reuse = None; senders = l }) (sym (rebuilt w.senders (λ p v at. let i = (new.senders p v at).1 in ap (λ (y : Sender E). apart y.core) i ∙ ap (λ r. new_sender w.layout p r) (sym e) ∙ sym i)))
+    is = ap (λ r. record w { reuse = r }) e ∙ ap (λ l. record w { reuse = None; senders = l }) (sym (rebuilt w.senders (λ p v at. let i = (new.senders p v at).1 in ap (λ (y : Sender E). apart y.core) i ∙ ap (λ r. new_sender w.layout p r (base_of w p)) (sym e) ∙ sym i)))
         ∙ ap (λ o. record w { reuse = None; senders = map apart b.side.senders; owners = o }) new.owners;
     reached = New b record {
+      bases_are = new.bases_are;
       words = new.words ∙ ap (λ r. replicate (log_place w.layout r + w.layout.capacity) 0) e;
       home = new.home;
       senders = λ p c at. core_new p c (slice_get w.senders p) refl (sym (slice_get-map (λ v. v.core) w.senders p) ∙ at);
@@ -181,19 +182,20 @@ module _ {E : Type 0} (X : Election E) where
     b : Bus E
     b = record { side = record { words = w.words; home = w.home; senders = map (λ v. v.core) w.senders; owners = [] }; receivers = w.receivers; stopped = w.stopped }
 
-    core_new : (p : ℕ) (c : Core E) (o : Option (Sender E)) → slice_get w.senders p ≡ o → option_map (λ v. v.core) o ≡ Some c → (p < w.layout.senders) × (c ≡ new_core w.layout p)
+    core_new : (p : ℕ) (c : Core E) (o : Option (Sender E)) → slice_get w.senders p ≡ o → option_map (λ v. v.core) o ≡ Some c → (p < w.layout.senders) × (c ≡ new_core w.layout (base_of w p) p)
     core_new p c None i j = absurd cc
     core_new p c (Some v) i j = let n = new.senders p v i in (n.0, sym (same_Some _ _ j) ∙ ap (λ (y : Sender E). y.core) n.1)
 
   pub next_plain : (w m : Machine E) (T : Trails) (e : Event) (a : Answer) → Happens X w e a m → IsPlain X w T → IsPlain X m (trails_grown X w e a T)
   next_plain w m T e a h i =
-      let k = happens_at_none X w.layout i.bus e a m (subst (λ y. Happens X y e a m) i.is h) in
+      let k = happens_at_none X w.bases w.layout i.bus e a m (subst (λ y. Happens X y e a m) i.is h) in
       record {
         bus = k.bus;
-        is = k.is ∙ ap (λ l. of_bus l k.bus) (sym (ap (λ (y : Machine E). y.layout) k.is));
-        reached = subst (λ l. PlainReached X l k.bus (plain_trails (trails_grown X w e a T))) (sym (ap (λ (y : Machine E). y.layout) k.is))
-            (subst (λ y. PlainReached X w.layout k.bus (plain_trails (trails_grown X y e a T))) (sym i.is)
-            (subst (λ U. PlainReached X w.layout k.bus U) (k.trails T) (Then i.bus k.bus (plain_trails T) e a i.reached k.event k.happens k.answers)));
+        is = k.is ∙ ap (λ l. of_bus w.bases l k.bus) (sym (ap (λ (y : Machine E). y.layout) k.is)) ∙ ap (λ l. of_bus l m.layout k.bus) (sym (ap (λ (y : Machine E). y.bases) k.is));
+        reached = subst (λ l. PlainReached X l m.layout k.bus (plain_trails (trails_grown X w e a T))) (sym (ap (λ (y : Machine E). y.bases) k.is))
+            (subst (λ l. PlainReached X w.bases l k.bus (plain_trails (trails_grown X w e a T))) (sym (ap (λ (y : Machine E). y.layout) k.is))
+            (subst (λ y. PlainReached X w.bases w.layout k.bus (plain_trails (trails_grown X y e a T))) (sym i.is)
+            (subst (λ U. PlainReached X w.bases w.layout k.bus U) (k.trails T) (Then i.bus k.bus (plain_trails T) e a i.reached k.event k.happens k.answers))));
       }
 
   pub event_reuse : (w m : Machine E) (e : Event) (a : Answer) → Happens X w e a m → (m.layout ≡ w.layout) × (m.reuse ≡ w.reuse)
@@ -202,6 +204,14 @@ module _ {E : Type 0} (X : Election E) where
   event_reuse w m (Turn s word) a h = (ap (λ (y : Machine E). y.layout) h.after, ap (λ (y : Machine E). y.reuse) h.after)
   event_reuse w m (Recv r) a h = (ap (λ (y : Machine E). y.layout) h.after, ap (λ (y : Machine E). y.reuse) h.after)
   event_reuse w m (Stop s) a h = (ap (λ (y : Machine E). y.layout) h.after, ap (λ (y : Machine E). y.reuse) h.after)
+
+  -- the numbers that the sitting began with stay
+  pub event_bases : (w m : Machine E) (e : Event) (a : Answer) → Happens X w e a m → m.bases ≡ w.bases
+  event_bases w m (Put s bytes) a h = ap (λ (y : Machine E). y.bases) h.after
+  event_bases w m (Close s) a h = ap (λ (y : Machine E). y.bases) h.after
+  event_bases w m (Turn s word) a h = ap (λ (y : Machine E). y.bases) h.after
+  event_bases w m (Recv r) a h = ap (λ (y : Machine E). y.bases) h.after
+  event_bases w m (Stop s) a h = ap (λ (y : Machine E). y.bases) h.after
 
   -- whatever leads to it, leads to the bus with a row for each tenure
   pub reached_at_none : (m : Machine E) (T : Trails) → Reached X m T → m.reuse ≡ None → IsPlain X m T

@@ -44,7 +44,7 @@ use Rattle.bus_world.specs.declared.events.Answer.TheVariants as answer
 use Rattle.bus_machine.proofs.AtNone.{close_taken, event_reuse}
 use Rattle.bus_machine.proofs.Takes.{takes_told}
 use Rattle.bus_machine.specs.Proved.Bridge.{of_ring, of_cyclic, ring_trails, AreSized, IsCyclicEvent, HappensAtSome, IsCyclicOf}
-use Rattle.bus_machine.specs.Machine.{Machine, Trails, Reached, New as Start, Then as Next, TakesTurn, TakesPut, TakesClose, StopsNow, Hears, Happens, IsNew, IsOnWord, no_machine_trails, log_place, last_of, going, with_sender, put_in, close_in, moved, machine_after, found, turn_answer, turn_trails, turn_grown, trails_grown}
+use Rattle.bus_machine.specs.Machine.{base_of, Machine, Trails, Reached, New as Start, Then as Next, TakesTurn, TakesPut, TakesClose, StopsNow, Hears, Happens, IsNew, IsOnWord, no_machine_trails, log_place, last_of, going, with_sender, put_in, close_in, moved, machine_after, found, turn_answer, turn_trails, turn_grown, trails_grown}
 
 -- ---- layout and rows stay
 moved_layout : {E : Type 0} (m : PageMove) (home : Option Page) (c : Core E) → (core_moved m home c).layout ≡ c.layout
@@ -146,9 +146,6 @@ module _ {E : Type 0} (X : Election E) where
 
     abbrev grown_by : Participant E → Situation E → CyclicTrails
     grown_by v z = ring_trails (turn_trails z (line X (again v) z) s (found (of_ring b []) (line X (again v) z) word) word a T)
-
-    Fits : Participant E → Type 0
-    Fits v = (v.core.layout ≡ b.layout) × (v.rows ≡ b.rows)
 
     grown_own : (v : Participant E) (z : Own E) → v.core.layout ≡ b.layout → v.rows ≡ b.rows → grown_by v (Does z) ≡ ring_grown v (Goes z)
     grown_own v z i j =
@@ -393,10 +390,11 @@ module _ {E : Type 0} (X : Election E) where
   pub new_ring : (w : Machine E) → IsNew w → (rows : ℕ) → w.reuse ≡ Some rows → IsCyclicOf X w no_machine_trails
   new_ring w new rows e = record {
     bus = record { ring = b; owners = [] };
-    is = ap (λ r. record w { reuse = r }) e ∙ ap (λ l. record w { reuse = Some rows; senders = l }) (sym (rebuilt rows w.senders (λ p v at. let i = (new.senders p v at).1 in ap (λ y. again (new_participant rows y)) i ∙ ap (λ r. new_sender w.layout p r) (sym e) ∙ sym i)))
+    is = ap (λ r. record w { reuse = r }) e ∙ ap (λ l. record w { reuse = Some rows; senders = l }) (sym (rebuilt rows w.senders (λ p v at. let i = (new.senders p v at).1 in ap (λ y. again (new_participant rows y)) i ∙ ap (λ r. new_sender w.layout p r (base_of w p)) (sym e) ∙ sym i)))
         ∙ ap (λ o. record w { reuse = Some rows; senders = map again b.participants; owners = o }) new.owners;
     sized = λ p v at. let n = participant_new p v (slice_get w.senders p) refl (sym (slice_get-map (new_participant rows) w.senders p) ∙ at) in (ap (λ y. y.core.layout) n.1, ap (λ y. y.rows) n.1);
     reached = NewCyclic b record {
+      bases_are = new.bases_are;
       words = new.words ∙ ap (λ r. replicate (log_place w.layout r + w.layout.capacity) 0) e;
       home = new.home;
       participants = λ p v at. participant_new p v (slice_get w.senders p) refl (sym (slice_get-map (new_participant rows) w.senders p) ∙ at);
@@ -405,9 +403,9 @@ module _ {E : Type 0} (X : Election E) where
     };
   } where
     b : CyclicMachine E
-    b = record { layout = w.layout; rows = rows; words = w.words; home = w.home; participants = map (new_participant rows) w.senders; receivers = w.receivers; stopped = w.stopped }
+    b = record { layout = w.layout; rows = rows; bases = w.bases; words = w.words; home = w.home; participants = map (new_participant rows) w.senders; receivers = w.receivers; stopped = w.stopped }
 
-    participant_new : (p : ℕ) (v : Participant E) (o : Option (Sender E)) → slice_get w.senders p ≡ o → option_map (new_participant rows) o ≡ Some v → (p < w.layout.senders) × (v ≡ record { core = new_core w.layout p; pin = Away; reclaimer = None; lost = None; rows = rows })
+    participant_new : (p : ℕ) (v : Participant E) (o : Option (Sender E)) → slice_get w.senders p ≡ o → option_map (new_participant rows) o ≡ Some v → (p < w.layout.senders) × (v ≡ record { core = new_core w.layout (base_of w p) p; pin = Away; reclaimer = None; lost = None; rows = rows })
     participant_new p v None i j = absurd cc
     participant_new p v (Some y) i j = let n = new.senders p y i in (n.0, sym (same_Some _ _ j) ∙ ap (new_participant rows) n.1)
 

@@ -41,7 +41,7 @@ use Rattle.bus_world.specs.declared.events.Answer.TheVariants as answer
 use Rattle.bus_machine.proofs.Framed.{IsFramed, framed}
 use Rattle.bus_machine.proofs.Leading.{Sits, sits_before}
 use Rattle.bus_machine.specs.Bounding.{is_of_holder, is_towards, steps_towards, AreBounded}
-use Rattle.bus_machine.specs.Machine.{Machine, Trails, Reached, New as Start, Then as Next, Happens, TakesTurn, IsNew, trails_grown, turn_trails, turn_grown, turn_answer, found, has_stopped, moved, put_in, close_in, no_machine_trails}
+use Rattle.bus_machine.specs.Machine.{base_of, Machine, Trails, Reached, New as Start, Then as Next, Happens, TakesTurn, IsNew, trails_grown, turn_trails, turn_grown, turn_answer, found, has_stopped, moved, put_in, close_in, no_machine_trails}
 use Rattle.bus_machine.specs.Promise.{pin_of}
 
 -- ---- how many steps
@@ -152,10 +152,6 @@ module _ {E : Type 0} (left : E → ℕ) (bound : ℕ) where
 
   abbrev pub CountsOf : Sender E → List Action → Type 0
   CountsOf v D = Counts v.core.phase v.core.least (pin_of v.reuse) D
-
-  -- no pin is on its way to a tenure
-  away_from : (u : Pin) (t : ℕ) → ((w : ℕ) → u ≡ Announcing w → ⊥) → ((w : ℕ) → u ≡ Validating w → ⊥) → IsOnWay u t → ⊥
-  away_from u t a b e = elim e [ inl i ↦ a t i | inr i ↦ b t i ]
 
   -- a pin on its way is one of a sender at rest
   rests_on_way : (ph : Phase E) (least : ℕ) (u : Pin) (D : List Action) → Counts ph least u D → (ph ≡ phase.Resting → ⊥) → (t : ℕ)
@@ -370,7 +366,7 @@ module _ {E : Type 0} (X : Election E) (P : Protocol E (Unit {0}) ℕ) (m : Mach
   abbrev Counted : Sender E → List Action → Type 0
   Counted = CountsOf P.left bound
 
-  part : Part m.layout f.V f.frames p v.core
+  part : Part (base_of m) m.layout f.V f.frames p v.core
   part = f.sending.parts p v.core (f.core_of p v at)
 
   few : n ≤ 64

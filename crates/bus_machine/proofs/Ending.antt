@@ -30,16 +30,16 @@ closing_is Open e = absurd cc
 closing_is Closing e = refl
 closing_is Closed e = absurd cc
 
-module _ {E : Type 0} (V : ℕ → ℕ) (frames : List Frame) (c : Core E) (t : ℕ) where
+module _ (base : ℕ → ℕ) {E : Type 0} (V : ℕ → ℕ) (frames : List Frame) (c : Core E) (t : ℕ) where
   -- its frame is published, and is an end mark
-  pub published_ends : (ph : Phase E) → HasPublished t ph → c.queue.phase ≡ Closing → Fits V frames c ph → has_end frames ≡ true
+  pub published_ends : (ph : Phase E) → HasPublished t ph → c.queue.phase ≡ Closing → Fits base V frames c ph → has_end frames ≡ true
   published_ends ph (Published page stored) closing fits =
       let w = fits.1 in
       ap has_end w.frames_are ∙ has_end_last w.front (frame_of c.queue t) (ap (λ p. body_of p c.queue.first c.queue.messages) closing)
   published_ends ph HandsOnSent closing fits = absurd fits
 
   -- its page says that the order has ended
-  pub found_ends : (ph : Phase E) → FindsEnd t ph → Fits V frames c ph → has_end frames ≡ true
+  pub found_ends : (ph : Phase E) → FindsEnd t ph → Fits base V frames c ph → has_end frames ≡ true
   found_ends ph (Ended page stored end) fits = sym fits.1.page_knows.ended ∙ end
   found_ends ph HandsOnEnd fits = absurd fits
 

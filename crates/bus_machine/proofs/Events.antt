@@ -1,5 +1,5 @@
 -- What the calls of a program say of each event, by what it holds.
-use Rattle.std.proofs.Common.{◌≡◌, ℕ, ◌<◌, ◌≤◌, Bool, true, false, cond, Option, Some, None, List, [], ◌∷◌, ◌++◌, get_or, length, slice_get, slice_index, slice_set, refl, sym, ◌∙◌, ap, subst, arith}
+use Rattle.std.proofs.Common.{◌≡◌, ℕ, ◌<◌, ◌≤◌, Bool, true, false, cond, Option, Some, None, List, [], ◌∷◌, ◌++◌, get_or, length, slice_get, slice_index, slice_set, refl, sym, ◌∙◌, ap, subst}
 use Rattle.std.specs.Prelude.{All, IfSome, Result, Ok, Err, IfOk, IfErr, OnOk, OnErr}
 use Rattle.std.proofs.lemmas.Option.{slice_get_past}
 use Rattle.bus_core.specs.Senders.{Sender, situation}
@@ -108,9 +108,6 @@ module _ {E : Type 0} where
 module _ {E : Type 0} (X : Election E) (m : Machine E) (h : IsHeld X m) (now : Machine E) (is : m ≡ now) where
   pub senders_many : (p : ℕ) → p < length now.senders → p < length m.senders
   senders_many p l = subst (λ (y : Machine E). p < length y.senders) (sym is) l
-
-  pub stops_fit : (p : ℕ) → p < length m.senders → p < 8
-  stops_fit p l = let many = h.senders in let few = h.senders_few in omega arith
 
   -- ---- a sender that goes on
   module _ (p : ℕ) (v : Sender E) (at : slice_get m.senders p ≡ Some v) (free : has_stopped now p ≡ false) where

@@ -1,5 +1,5 @@
 -- Whatever happens, the new machine follows the old one, and what is answered is so.
-use Rattle.std.proofs.Common.{◌≡◌, inl, ℕ, ◌+◌, ◌-◌, ◌/◌, ◌≤◌, ◌==◌, nat_le, Bool, true, false, cond, Option, Some, None, List, [], ◌∷◌, ◌++◌, filter, length, map, take, slice_get, arith}
+use Rattle.std.proofs.Common.{slice_index, ◌≡◌, inl, ℕ, ◌+◌, ◌-◌, ◌/◌, ◌≤◌, ◌==◌, nat_le, Bool, true, false, cond, Option, Some, None, List, [], ◌∷◌, ◌++◌, filter, length, map, take, slice_get, arith}
 use Rattle.std.proofs.Common.{refl, sym, ◌∙◌, ap, subst}
 use Rattle.std.proofs.Math.Seq.{take-length}
 use Rattle.std.proofs.lemmas.List.{length-append, take-append-le}
@@ -60,7 +60,7 @@ use Rattle.bus_machine.proofs.Leading.{Sits, sits_after, led_ring, ring_serves, 
 use Rattle.bus_machine.proofs.Promised.{promised, participant_at}
 use Rattle.bus_machine.proofs.Staying.{promise_stays, grown_longer}
 use Rattle.bus_machine.specs.Proved.Bridge.{of_bus, of_cyclic, plain_trails, ring_trails, IsPlainEvent, IsCyclicEvent}
-use Rattle.bus_machine.specs.Machine.{Machine, Trails, Reached, Then, Happens, TakesTurn, trails_grown, going, has_stopped, found, log_of, stage_of}
+use Rattle.bus_machine.specs.Machine.{base_of, Machine, Trails, Reached, Then, Happens, TakesTurn, trails_grown, going, has_stopped, found, log_of, stage_of}
 use Rattle.bus_machine.specs.Remembering.{HasEnded, NoneIsLeft, Remembers}
 use Rattle.bus_machine.specs.Promise.{HasGoneOn, is_in, actions_in, Follows, ReusesSafely, words_joined}
 use Rattle.bus_machine.specs.Telling.{TurnTells, PutTells, SenderTells, EventTells, Tells, LossesAreSeen}
@@ -100,43 +100,43 @@ LastIsTold m s (Some v) actions answer.Stopped = Unit {0}
 
 -- of a put, or of such a turn
 abbrev PutIsTold : {E : Type 0} → Machine E → Event → Answer → Trails → Type 0
-PutIsTold m (Put s bytes) a T = PutTells (T.actions s) a
+PutIsTold m (Put s bytes) a T = PutTells (base_of m s) (T.actions s) a
 PutIsTold m (Close s) a T = Unit {0}
 PutIsTold m (Turn s word) a T = LastIsTold m s (going m s) (T.actions s) a
 PutIsTold m (Recv r) a T = Unit {0}
 PutIsTold m (Stop s) a T = Unit {0}
 
 -- a put that is numbered by the trails
-number_told : (xs : List Action) (n : ℕ) (bytes : List ℕ)
+number_told : (first : ℕ) (xs : List Action) (n : ℕ) (bytes : List ℕ)
     → ((place : ℕ) → slice_get (xs ++ HasPut n bytes ∷ []) place ≡ Some (HasPut n bytes)
-    → n ≡ length (puts (take place (xs ++ HasPut n bytes ∷ []))))
-    → n + 1 ≡ length (puts (xs ++ HasPut n bytes ∷ []))
-number_told xs n bytes numbered =
+    → n ≡ first + length (puts (take place (xs ++ HasPut n bytes ∷ []))))
+    → n + 1 ≡ first + length (puts (xs ++ HasPut n bytes ∷ []))
+number_told first xs n bytes numbered =
     let d = HasPut n bytes in
     let before : take (length xs) (xs ++ d ∷ []) ≡ xs = take-append-le (length xs) xs (d ∷ []) (omega arith) ∙ take-length xs in
-    let here = numbered (length xs) (push_here xs d (length xs) refl) ∙ ap (λ l. length (puts l)) before in
+    let here = numbered (length xs) (push_here xs d (length xs) refl) ∙ ap (λ l. first + length (puts l)) before in
     let all = ap length (flat_map-append put_of xs (d ∷ [])) ∙ length-append (puts xs) (bytes ∷ []) in
     omega arith
 
-put_told : (s : ℕ) (bytes : List ℕ) (a : Answer) (T : Trails) (P : Trails) → P.actions ≡ actions_with s (put_actions bytes a) T.actions
+put_told : (first s : ℕ) (bytes : List ℕ) (a : Answer) (T : Trails) (P : Trails) → P.actions ≡ actions_with s (put_actions bytes a) T.actions
     → ((place number : ℕ) (sent : List ℕ) → slice_get (P.actions s) place ≡ Some (HasPut number sent)
-    → number ≡ length (puts (take place (P.actions s)))) → PutTells (P.actions s) a
-put_told s bytes (answer.Number n) T P is numbered =
+    → number ≡ first + length (puts (take place (P.actions s)))) → PutTells first (P.actions s) a
+put_told first s bytes (answer.Number n) T P is numbered =
     let now : P.actions s ≡ T.actions s ++ HasPut n bytes ∷ [] = ap (λ (D : ℕ → List Action). D s) is
     ∙ actions_of_it s (HasPut n bytes ∷ []) T.actions s refl in
-    number_told (T.actions s) n bytes (λ place at. subst (λ l. slice_get l place ≡ Some (HasPut n bytes) → n ≡ length (puts (take place l)))
+    number_told first (T.actions s) n bytes (λ place at. subst (λ l. slice_get l place ≡ Some (HasPut n bytes) → n ≡ first + length (puts (take place l)))
     now (numbered place n bytes) at)
-    ∙ sym (ap (λ l. length (puts l)) now)
-put_told s bytes answer.Closing T P is numbered = tt
-put_told s bytes (answer.Turn t) T P is numbered = tt
-put_told s bytes (answer.Recv r) T P is numbered = tt
-put_told s bytes answer.Stopped T P is numbered = tt
+    ∙ sym (ap (λ l. first + length (puts l)) now)
+put_told first s bytes answer.Closing T P is numbered = tt
+put_told first s bytes (answer.Turn t) T P is numbered = tt
+put_told first s bytes (answer.Recv r) T P is numbered = tt
+put_told first s bytes answer.Stopped T P is numbered = tt
 
-module _ {E : Type 0} (x : Layout) (b : Bus E) where
-  turn_at_none : (s : ℕ) (c : Core E) (actions : List Action) (t : Answered) → EndIsTold (of_bus x b) s actions t
-      → plain.TurnTells x (log_of (of_bus x b)) s c actions t → TurnTells (of_bus x b) s (apart c) actions t
+module _ {E : Type 0} (bases : List ℕ) (x : Layout) (b : Bus E) where
+  turn_at_none : (s : ℕ) (c : Core E) (actions : List Action) (t : Answered) → EndIsTold (of_bus bases x b) s actions t
+      → plain.TurnTells x (log_of (of_bus bases x b)) s c actions t → TurnTells (of_bus bases x b) s (apart c) actions t
   turn_at_none s c actions t k h = by t k h where
-    by : (t : Answered) → EndIsTold (of_bus x b) s actions t → plain.TurnTells x (log_of (of_bus x b)) s c actions t → TurnTells (of_bus x b) s (apart c) actions t
+    by : (t : Answered) → EndIsTold (of_bus bases x b) s actions t → plain.TurnTells x (log_of (of_bus bases x b)) s c actions t → TurnTells (of_bus bases x b) s (apart c) actions t
     by turn.Idle k h = h
     by turn.Waiting k h = h
     by turn.Going k h = h
@@ -148,21 +148,21 @@ module _ {E : Type 0} (x : Layout) (b : Bus E) where
     by turn.Spent k h = k
     by (turn.Behind u p) k h = h
 
-  sender_at_none : (s word : ℕ) (T : Trails) (a : Answer) (o : Option (Sender E)) → going (of_bus x b) s ≡ o → LastIsTold (of_bus x b) s o (T.actions s) a → plain.EventTells x b (Turn s word) a (plain_trails T) → SenderTells (of_bus x b) s o (T.actions s) a
+  sender_at_none : (s word : ℕ) (T : Trails) (a : Answer) (o : Option (Sender E)) → going (of_bus bases x b) s ≡ o → LastIsTold (of_bus bases x b) s o (T.actions s) a → plain.EventTells x b (Turn s word) a (plain_trails T) → SenderTells (of_bus bases x b) s o (T.actions s) a
   sender_at_none s word T a None i k h = tt
   sender_at_none s word T (answer.Number n) (Some v) i k h = tt
   sender_at_none s word T answer.Closing (Some v) i k h = tt
   sender_at_none s word T (answer.Turn t) (Some v) i k h =
-      let o = none.opened x b s v i in
-      subst (λ y. TurnTells (of_bus x b) s y (T.actions s) t) (sym o.2) (turn_at_none s o.0 (T.actions s) t k (subst (λ y. plain.SenderTells x (log_of (of_bus x b)) s y (T.actions s) t) o.1 h))
+      let o = none.opened bases x b s v i in
+      subst (λ y. TurnTells (of_bus bases x b) s y (T.actions s) t) (sym o.2) (turn_at_none s o.0 (T.actions s) t k (subst (λ y. plain.SenderTells x (log_of (of_bus bases x b)) s y (T.actions s) t) o.1 h))
   sender_at_none s word T (answer.Recv r) (Some v) i k h = tt
   sender_at_none s word T answer.Stopped (Some v) i k h = tt
 
-  tells_at_none : (e : Event) (a : Answer) (T : Trails) → PutIsTold (of_bus x b) e a T → plain.EventTells x b e a (plain_trails T)
-      → EventTells (of_bus x b) e a T
+  tells_at_none : (e : Event) (a : Answer) (T : Trails) → PutIsTold (of_bus bases x b) e a T → plain.EventTells x b e a (plain_trails T)
+      → EventTells (of_bus bases x b) e a T
   tells_at_none (Put s bytes) a T p h = p
   tells_at_none (Close s) a T p h = tt
-  tells_at_none (Turn s word) a T p h = sender_at_none s word T a (going (of_bus x b) s) refl p h
+  tells_at_none (Turn s word) a T p h = sender_at_none s word T a (going (of_bus bases x b) s) refl p h
   tells_at_none (Recv r) a T p h = tt
   tells_at_none (Stop s) a T p h = tt
 
@@ -206,7 +206,7 @@ module _ {E : Type 0} (X : Election E) (P : Protocol E (Unit {0}) ℕ) (m : Mach
   abbrev Told : Answered → Type 0
   Told t = EndIsTold m p actions t
 
-  part : Part m.layout f.V f.frames p v.core
+  part : Part (base_of m) m.layout f.V f.frames p v.core
   part = f.sending.parts p v.core (f.core_of p v at)
 
   -- no tenure is left to whom none is left that it may enter
@@ -233,9 +233,9 @@ module _ {E : Type 0} (X : Election E) (P : Protocol E (Unit {0}) ℕ) (m : Mach
   returned : (t : ℕ) (reason : Reason) → Shows v.core t v.core.phase reason → Told (answer_of_return v.core.queue t reason)
   returned t Sent w = by (is_closing v.core.queue.phase) refl where
     by : (b : Bool) → is_closing v.core.queue.phase ≡ b → Told (cond b turn.Closed (turn.Delivered t v.core.queue.first (next_of v.core.queue - 1)))
-    by true i = ended_of P m T f (published_ends f.V f.frames v.core t v.core.phase w (closing_is v.core.queue.phase i) part.fits)
+    by true i = ended_of P m T f (published_ends (base_of m) f.V f.frames v.core t v.core.phase w (closing_is v.core.queue.phase i) part.fits)
     by false i = tt
-  returned t FoundEnd w = ended_of P m T f (found_ends f.V f.frames v.core t v.core.phase w part.fits)
+  returned t FoundEnd w = ended_of P m T f (found_ends (base_of m) f.V f.frames v.core t v.core.phase w part.fits)
   returned t NoRoom w = tt
 
   -- who withdraws, and who reclaims
@@ -260,7 +260,7 @@ module _ {E : Type 0} (X : Election E) (P : Protocol E (Unit {0}) ℕ) (m : Mach
     by (Does (StoresWord t page stored)) i = tt
     by (Does (StoresLength t page stored)) i = tt
     by (Does (GivesBack t page reason)) i = returned t reason (gives_shows X v.core t page reason (own_is X v (GivesBack t page reason) i))
-    by (Does (HasHanded t reason)) i = absurd (subst (Fits f.V f.frames v.core) (tells_phase X v.core (HasHanded t reason) (own_is X v (HasHanded t reason) i)) part.fits)
+    by (Does (HasHanded t reason)) i = absurd (subst (Fits (base_of m) f.V f.frames v.core) (tells_phase X v.core (HasHanded t reason) (own_is X v (HasHanded t reason) i)) part.fits)
     by (Announces t) i = tt
     by (Validates t) i = tt
     by (Unpins t) i = lost t (lost_of v.reuse)
@@ -290,8 +290,9 @@ module _ {E : Type 0} (X : Election E) (P : Protocol E (Unit {0}) ℕ) (m m' : M
     by : (g : Event) → e ≡ g → PutIsTold m g a T'
     by (Put p bytes) i =
         let k = promised X P m' T' (sits_after X P m m' e a h s) (Then m m' T e a r h) in
-        put_told p bytes a T T' (ap (λ f. (trails_grown X m f a T).actions) i)
-        (λ place number sent at. k.by.promises.numbered p place number sent at)
+        put_told (base_of m p) p bytes a T T' (ap (λ f. (trails_grown X m f a T).actions) i)
+        (λ place number sent at. subst (λ l. number ≡ slice_index l p + length (puts (take place (T'.actions p)))) (none.event_bases X m m' e a h)
+        (k.by.promises.numbered p place number sent at))
     by (Close p) i = tt
     by (Turn p word) i = last p word i
     by (Recv q) i = tt
@@ -302,29 +303,29 @@ module _ {E : Type 0} (X : Election E) (P : Protocol E (Unit {0}) ℕ) (m m' : M
     i : Rattle.bus_machine.specs.Proved.Bridge.IsPlain X m T
     i = none.reached_at_none X m T r fresh
 
-    k : IsPlainEvent X m.layout i.bus e a m'
-    k = none.happens_at_none X m.layout i.bus e a m' (subst (λ y. Happens X y e a m') i.is h)
+    k : IsPlainEvent X m.bases m.layout i.bus e a m'
+    k = none.happens_at_none X m.bases m.layout i.bus e a m' (subst (λ y. Happens X y e a m') i.is h)
 
-    kept : Rattle.bus_world.proofs.EventTrails.Kept X P s.serves.laws m.layout s.ok s.serves.width s.serves.starts s.serves.owner_is s.serves.named s.serves.announces s.serves.apart i.bus (plain_trails T)
-    kept = reached_kept X P s.serves.laws m.layout s.ok s.serves.width s.serves.starts s.serves.owner_is s.serves.named s.serves.announces s.serves.apart i.bus (plain_trails T) i.reached
+    kept : Rattle.bus_world.proofs.EventTrails.Kept m.bases X P s.serves.laws m.layout s.ok s.serves.width s.serves.starts s.serves.owner_is s.serves.named s.serves.announces s.serves.apart i.bus (plain_trails T)
+    kept = reached_kept m.bases X P s.serves.laws m.layout s.ok s.serves.width s.serves.starts s.serves.owner_is s.serves.named s.serves.announces s.serves.apart i.bus (plain_trails T) i.reached
 
     after : Rattle.bus_world.proofs.WorldLaws.After X P s.serves.laws m.layout s.ok s.serves.width s.serves.starts s.serves.owner_is
-        kept.frames (event_frames X i.bus e kept.frames) k.bus
+        (slice_index m.bases) kept.frames (event_frames X i.bus e kept.frames) k.bus
     after = event_left X P s.serves.laws m.layout s.ok s.serves.width s.serves.starts s.serves.owner_is i.bus kept.frames kept.lawful k.bus
         e k.event k.happens
 
-    left : Rattle.bus_world.proofs.WorldLaws.Left X P s.serves.laws m.layout s.ok s.serves.width s.serves.starts s.serves.owner_is kept.frames k.bus
+    left : Rattle.bus_world.proofs.WorldLaws.Left X P s.serves.laws m.layout s.ok s.serves.width s.serves.starts s.serves.owner_is (slice_index m.bases) kept.frames k.bus
     left = after.left
 
-    both_plain : (C : Machine E → Machine E → Type 0) → C (of_bus m.layout i.bus) (of_bus m.layout k.bus) → C m m'
-    both_plain C c = subst (λ y. C y m') (sym i.is) (subst (C (of_bus m.layout i.bus)) (sym k.is) c)
+    both_plain : (C : Machine E → Machine E → Type 0) → C (of_bus m.bases m.layout i.bus) (of_bus m.bases m.layout k.bus) → C m m'
+    both_plain C c = subst (λ y. C y m') (sym i.is) (subst (C (of_bus m.bases m.layout i.bus)) (sym k.is) c)
 
     -- the frame of who stores the length joins
     plain_joins : log_of m' ≡ log_of m ++ words_joined X m e
     unfolding left after
     plain_joins = both_plain (λ y z. log_of z ≡ log_of y ++ words_joined X y e) (
-        left.lawful.keeps.sending.log.words_are ∙ ap log_words after.now_is ∙ event_words X m.layout i.bus kept.frames e
-        ∙ ap (λ w. w ++ words_joined X (of_bus m.layout i.bus) e) (sym kept.lawful.keeps.sending.log.words_are)
+        left.lawful.keeps.sending.log.words_are ∙ ap log_words after.now_is ∙ event_words X m.bases m.layout i.bus kept.frames e
+        ∙ ap (λ w. w ++ words_joined X (of_bus m.bases m.layout i.bus) e) (sym kept.lawful.keeps.sending.log.words_are)
         )
 
     plain_told : EventTells m e a (trails_grown X m e a T)
@@ -332,7 +333,7 @@ module _ {E : Type 0} (X : Election E) (P : Protocol E (Unit {0}) ℕ) (m m' : M
         let q = s.serves in
         let so = event_tells X P q.laws m.layout s.ok q.width q.starts q.owner_is q.named q.announces q.apart i.bus k.bus (plain_trails T) i.reached e a k.happens k.answers in
         subst (λ y. EventTells y e a (trails_grown X y e a T)) (sym i.is)
-        (tells_at_none m.layout i.bus e a (trails_grown X (of_bus m.layout i.bus) e a T)
+        (tells_at_none m.bases m.layout i.bus e a (trails_grown X (of_bus m.bases m.layout i.bus) e a T)
         (subst (λ y. PutIsTold y e a (trails_grown X y e a T)) i.is put_is_told)
         (subst (plain.EventTells m.layout i.bus e a) (k.trails T) so))
 
@@ -355,9 +356,6 @@ module _ {E : Type 0} (X : Election E) (P : Protocol E (Unit {0}) ℕ) (m m' : M
 
     l : Rattle.bus_world.proofs.CyclicMachineLaws.IsLed X P c.laws c.owner_is c.named c.announces c.apart z.ring (ring_trails T)
     l = led X P z c (ring_ok X P m s z j.is) (ring_two X P m s z j.is) (ring_trails T) j.leads
-
-    both_cyclic : (C : Machine E → Machine E → Type 0) → C (of_cyclic z) (of_cyclic d.bus) → C m m'
-    both_cyclic C q = subst (λ y. C y m') (sym j.is) (subst (C (of_cyclic z)) (sym d.is) q)
 
     -- and so here
     cyclic_joins : log_of m' ≡ log_of m ++ words_joined X m e

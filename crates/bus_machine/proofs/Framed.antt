@@ -29,7 +29,7 @@ use Rattle.bus_world.specs.CyclicProtocols.{CyclicProtocol, IsKeptProtocol}
 use Rattle.bus_machine.proofs.AtNone.{reached_at_none}
 use Rattle.bus_machine.proofs.Leading.{Sits, led_ring, ring_serves, ring_ok, ring_two}
 use Rattle.bus_machine.specs.Proved.Bridge.{of_bus, of_cyclic, plain_trails, ring_trails, AreSized}
-use Rattle.bus_machine.specs.Machine.{Machine, Trails, Reached, log_place, log_of, stage_of}
+use Rattle.bus_machine.specs.Machine.{base_of, Machine, Trails, Reached, log_place, log_of, stage_of}
 use Rattle.bus_machine.specs.Remembering.{rows_in}
 
 -- words that are alike are read alike
@@ -45,7 +45,7 @@ pub record IsFramed {E : Type 0} (P : Protocol E (Unit {0}) ℕ) (m : Machine E)
   pub frames : List Frame
   pub cores : ℕ → Option (Core E)
   pub owners : List ℕ
-  pub sending : Sending P m.layout V m.home cores owners frames
+  pub sending : Sending (base_of m) P m.layout V m.home cores owners frames
   pub core_of : (p : ℕ) (v : Sender E) → slice_get m.senders p ≡ Some v → cores p ≡ Some v.core
   pub sender_of : (p : ℕ) (c : Core E) → cores p ≡ Some c → (v : Sender E) × (slice_get m.senders p ≡ Some v) × (v.core ≡ c)
   pub starts : (p : ℕ) (v : Sender E) → slice_get m.senders p ≡ Some v → log_start m.layout v.reuse ≡ log_place m.layout m.reuse
@@ -69,9 +69,9 @@ log_framed P m T f =
 
 module _ {E : Type 0} (X : Election E) (P : Protocol E (Unit {0}) ℕ) where
   -- ---- with a row for each tenure
-  module _ (x : Layout) (q : Serves X P x) (ok : IsLayout x) (b : Bus E) (T : Trails) (r : PlainReached X x b (plain_trails T)) where
-    k : plain.Kept X P q.laws x ok q.width q.starts q.owner_is q.named q.announces q.apart b (plain_trails T)
-    k = plain.reached_kept X P q.laws x ok q.width q.starts q.owner_is q.named q.announces q.apart b (plain_trails T) r
+  module _ (bases : List ℕ) (x : Layout) (q : Serves X P x) (ok : IsLayout x) (b : Bus E) (T : Trails) (r : PlainReached X bases x b (plain_trails T)) where
+    k : plain.Kept bases X P q.laws x ok q.width q.starts q.owner_is q.named q.announces q.apart b (plain_trails T)
+    k = plain.reached_kept bases X P q.laws x ok q.width q.starts q.owner_is q.named q.announces q.apart b (plain_trails T) r
 
     -- a sender of the machine is one of the bus
     core_there : (v : Sender E) (o : Option (Core E)) → option_map apart o ≡ Some v → (o ≡ Some v.core) × (v.reuse ≡ None)
@@ -80,12 +80,12 @@ module _ {E : Type 0} (X : Election E) (P : Protocol E (Unit {0}) ℕ) where
         same_Some _ _ e in (ap (λ (y : Sender E). Some y.core) same, sym (ap (λ (y : Sender E). y.reuse) same))
 
     -- the same by its number
-    core_at : (p : ℕ) (v : Sender E) → slice_get (of_bus x b).senders p ≡ Some v → (slice_get b.side.senders p ≡ Some v.core)
+    core_at : (p : ℕ) (v : Sender E) → slice_get (of_bus bases x b).senders p ≡ Some v → (slice_get b.side.senders p ≡ Some v.core)
         × (v.reuse ≡ None)
     core_at p v at = core_there v (slice_get b.side.senders p) (sym (slice_get-map apart b.side.senders p) ∙ at)
 
     -- the bus with a row for each tenure is framed
-    pub framed_at_none : IsFramed P (of_bus x b) T
+    pub framed_at_none : IsFramed P (of_bus bases x b) T
     framed_at_none = record {
       V = slice_index b.side.words;
       frames = k.frames;
@@ -101,7 +101,7 @@ module _ {E : Type 0} (X : Election E) (P : Protocol E (Unit {0}) ℕ) where
       length = refl;
       stage = refl;
       log = λ j low. refl;
-      takers = (plain.by_frames X P q.laws x ok q.width q.starts q.owner_is q.named q.announces q.apart b (plain_trails T) k).takers;
+      takers = (plain.by_frames bases X P q.laws x ok q.width q.starts q.owner_is q.named q.announces q.apart b (plain_trails T) k).takers;
     }
 
   -- ---- with rows that are used again
@@ -176,7 +176,7 @@ module _ {E : Type 0} (X : Election E) (P : Protocol E (Unit {0}) ℕ) where
     by : (o : Option ℕ) → m.reuse ≡ o → IsFramed P m T
     by None e =
         let i = reached_at_none X m T r e in
-        subst (λ y. IsFramed P y T) (sym i.is) (framed_at_none m.layout s.serves s.ok i.bus T i.reached)
+        subst (λ y. IsFramed P y T) (sym i.is) (framed_at_none m.bases m.layout s.serves s.ok i.bus T i.reached)
     by (Some rows) e =
         let i = led_ring X P m T s r rows e in
         subst (λ y. IsFramed P y T) (sym i.is)

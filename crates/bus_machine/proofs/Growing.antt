@@ -1,5 +1,5 @@
 -- Whatever happens, the log is extended and the stage does not fall.
-use Rattle.std.proofs.Common.{◌≡◌, ℕ, ◌≤◌, Option, Some, None, ◌++◌, refl, sym, ◌∙◌, ap, subst}
+use Rattle.std.proofs.Common.{slice_index, ◌≡◌, ℕ, ◌≤◌, Option, Some, None, ◌++◌, refl, sym, ◌∙◌, ap, subst}
 use Rattle.std.proofs.lemmas.Grind.{flat_map-append}
 use Rattle.bus_batch.specs.Frames.{frame_words, log_words}
 use Rattle.bus_machine.proofs.Cyclic.CyclicLaws.{led, layout_served}
@@ -28,22 +28,22 @@ module _ {E : Type 0} (X : Election E) (P : Protocol E (Unit {0}) ℕ) (m m' : M
     i : Rattle.bus_machine.specs.Proved.Bridge.IsPlain X m T
     i = none.reached_at_none X m T r fresh
 
-    k : IsPlainEvent X m.layout i.bus e a m'
-    k = none.happens_at_none X m.layout i.bus e a m' (subst (λ y. Happens X y e a m') i.is h)
+    k : IsPlainEvent X m.bases m.layout i.bus e a m'
+    k = none.happens_at_none X m.bases m.layout i.bus e a m' (subst (λ y. Happens X y e a m') i.is h)
 
-    kept : Rattle.bus_world.proofs.EventTrails.Kept X P s.serves.laws m.layout s.ok s.serves.width s.serves.starts s.serves.owner_is s.serves.named s.serves.announces s.serves.apart i.bus (plain_trails T)
-    kept = reached_kept X P s.serves.laws m.layout s.ok s.serves.width s.serves.starts s.serves.owner_is s.serves.named s.serves.announces s.serves.apart i.bus (plain_trails T) i.reached
+    kept : Rattle.bus_world.proofs.EventTrails.Kept m.bases X P s.serves.laws m.layout s.ok s.serves.width s.serves.starts s.serves.owner_is s.serves.named s.serves.announces s.serves.apart i.bus (plain_trails T)
+    kept = reached_kept m.bases X P s.serves.laws m.layout s.ok s.serves.width s.serves.starts s.serves.owner_is s.serves.named s.serves.announces s.serves.apart i.bus (plain_trails T) i.reached
 
     after : Rattle.bus_world.proofs.WorldLaws.After X P s.serves.laws m.layout s.ok s.serves.width s.serves.starts s.serves.owner_is
-        kept.frames (event_frames X i.bus e kept.frames) k.bus
+        (slice_index m.bases) kept.frames (event_frames X i.bus e kept.frames) k.bus
     after = event_left X P s.serves.laws m.layout s.ok s.serves.width s.serves.starts s.serves.owner_is i.bus kept.frames kept.lawful k.bus
         e k.event k.happens
 
-    left : Rattle.bus_world.proofs.WorldLaws.Left X P s.serves.laws m.layout s.ok s.serves.width s.serves.starts s.serves.owner_is kept.frames k.bus
+    left : Rattle.bus_world.proofs.WorldLaws.Left X P s.serves.laws m.layout s.ok s.serves.width s.serves.starts s.serves.owner_is (slice_index m.bases) kept.frames k.bus
     left = after.left
 
-    both_plain : (C : Machine E → Machine E → Type 0) → C (of_bus m.layout i.bus) (of_bus m.layout k.bus) → C m m'
-    both_plain C c = subst (λ y. C y m') (sym i.is) (subst (C (of_bus m.layout i.bus)) (sym k.is) c)
+    both_plain : (C : Machine E → Machine E → Type 0) → C (of_bus m.bases m.layout i.bus) (of_bus m.bases m.layout k.bus) → C m m'
+    both_plain C c = subst (λ y. C y m') (sym i.is) (subst (C (of_bus m.bases m.layout i.bus)) (sym k.is) c)
 
     plain_grows : IsPrefix (log_of m) (log_of m')
     plain_grows = both_plain (λ y z. IsPrefix (log_of y) (log_of z)) record {

@@ -4,6 +4,7 @@ use Rattle.std.specs.Prelude.{IfSome, option_map}
 use Rattle.std.proofs.Math.ListN.{length-set}
 use Rattle.std.proofs.lemmas.List.{length-map, length-drop}
 use Rattle.std.proofs.lemmas.Option.{slice_get-map, same_Some}
+use Rattle.bus_register.specs.declared.limits.TheConstants.{MOST_SENDERS}
 use Rattle.bus_batch.specs.Batches.{next_of}
 use Rattle.bus_batch.specs.Frames.{Frame, Order, AreFrames, log_words}
 use Rattle.bus_core.proofs.Bridged.{at_none, at_some}
@@ -20,7 +21,6 @@ use Rattle.bus_tenure.specs.Core.{Core, Election, Layout}
 use Rattle.bus_tenure.specs.Seen.{AwaitsItsPage}
 use Rattle.bus_tenure.specs.declared.turns.Turn.TheVariants as turn
 use Rattle.bus_world.proofs.EventTrails as plain_trails_of
-use Rattle.bus_world.proofs.LogLaws.{length-read}
 use Rattle.bus_world.proofs.PlayingLaws as plain
 use Rattle.bus_world.proofs.Serving.{Serves}
 use Rattle.bus_world.proofs.CyclicMachineFits as fits
@@ -38,7 +38,7 @@ use Rattle.bus_machine.proofs.AtNone as none
 use Rattle.bus_machine.proofs.Leading.{Sits, led_ring, ring_serves, ring_ok, ring_two}
 use Rattle.bus_machine.proofs.Promised.{participant_at}
 use Rattle.bus_machine.specs.Proved.Bridge.{of_bus, of_cyclic, plain_trails, ring_trails}
-use Rattle.bus_machine.specs.Machine.{Machine, Trails, Reached, Then, Happens, trails_grown, log_place, log_of, turn_answer, going}
+use Rattle.bus_machine.specs.Machine.{base_of, Machine, Trails, Reached, Then, Happens, trails_grown, log_place, log_of, turn_answer, going}
 use Rattle.bus_machine.specs.Playing.{IsHeld, AreRows}
 use Rattle.bus_machine.specs.Promise.{HasRows}
 
@@ -55,7 +55,7 @@ module _ {E : Type 0} (X : Election E) where
   held_after m m' e a h d =
       let i = none.event_reuse X m m' e a d in
       record {
-        senders_few = subst (λ x. x.senders ≤ 8) (sym i.0) h.senders_few;
+        senders_few = subst (λ x. x.senders ≤ MOST_SENDERS) (sym i.0) h.senders_few;
         rows = subst (λ x. AreRows x m'.reuse) (sym i.0) (subst (AreRows m.layout) (sym i.1) h.rows);
         capacity_few = subst (λ x. x.capacity ≤ 65536) (sym i.0) h.capacity_few;
         senders = many_after m m' e a d ∙ h.senders ∙ sym (ap (λ x. x.senders) i.0);
@@ -65,7 +65,7 @@ module _ {E : Type 0} (X : Election E) where
 
 module _ {E : Type 0} (X : Election E) (P : Protocol E (Unit {0}) ℕ) where
   -- ---- its sizes are served
-  layout_ok : (x : Layout) (o : Option ℕ) → x.senders ≤ 8 → x.capacity ≤ 65536 → AreRows x o → IsLayout x
+  layout_ok : (x : Layout) (o : Option ℕ) → x.senders ≤ MOST_SENDERS → x.capacity ≤ 65536 → AreRows x o → IsLayout x
   layout_ok x None few small r = record { senders = few; rows = omega arith; capacity = omega arith }
   layout_ok x (Some rows) few small r = record { senders = few; rows = (let e = r.1 in omega arith); capacity = omega arith }
 
@@ -79,8 +79,8 @@ module _ {E : Type 0} (X : Election E) (P : Protocol E (Unit {0}) ℕ) where
   -- ---- as each of the two kinds of rows has it
   pub record HeldPlain (m : Machine E) : Type 0 where
     pub bus : Bus E
-    pub is : m ≡ of_bus m.layout bus
-    pub served : MachineInvariant X P record { layout = m.layout; bus = bus }
+    pub is : m ≡ of_bus m.bases m.layout bus
+    pub served : MachineInvariant X m.bases P record { layout = m.layout; bus = bus }
 
   pub record HeldCyclic (m : Machine E) : Type 0 where
     pub bus : OwnedCyclicMachine E
@@ -92,7 +92,7 @@ module _ {E : Type 0} (X : Election E) (P : Protocol E (Unit {0}) ℕ) where
     held_plain fresh =
         let t = sits m s h in
         let i = none.reached_at_none X m h.trails h.reached fresh in
-        let k = plain_trails_of.reached_kept X P s.laws m.layout t.ok s.width s.starts s.owner_is s.named s.announces s.apart i.bus (plain_trails h.trails) i.reached in
+        let k = plain_trails_of.reached_kept m.bases X P s.laws m.layout t.ok s.width s.starts s.owner_is s.named s.announces s.apart i.bus (plain_trails h.trails) i.reached in
         record {
           bus = i.bus;
           is = i.is;
@@ -119,7 +119,7 @@ module _ {E : Type 0} (X : Election E) (P : Protocol E (Unit {0}) ℕ) where
           bus = z;
           is = i.is;
           served = record {
-            senders_few = subst (λ (y : Machine E). y.layout.senders ≤ 8) i.is h.senders_few;
+            senders_few = subst (λ (y : Machine E). y.layout.senders ≤ MOST_SENDERS) i.is h.senders_few;
             rows_some = r.0.0;
             rows_few = r.0.1;
             capacity_few = subst (λ (y : Machine E). y.layout.capacity ≤ 65536) i.is h.capacity_few;
@@ -177,9 +177,6 @@ module _ {E : Type 0} (X : Election E) (P : Protocol E (Unit {0}) ℕ) where
         ap (λ k. take k (drop (length words - capacity) words)) many ∙ ap (λ k. take (slice_index m.words 0) (drop k words)) at ∙ ap (λ l. take (slice_index m.words 0) (drop (log_place m.layout m.reuse) l)) words_are
         ∙ sym (read-list m.words (log_place m.layout m.reuse) (slice_index m.words 0) (let w = words_many in omega arith))
 
-    length-log : length (log_of m) ≡ slice_index m.words 0
-    length-log = length-read (slice_index m.words) (log_place m.layout m.reuse) (slice_index m.words 0)
-
     -- at most so many owners are told
     pub owners_few : (rows : ℕ) → m.reuse ≡ Some rows → length m.owners ≤ rows
     owners_few rows used =
@@ -225,7 +222,7 @@ module _ {E : Type 0} (X : Election E) (P : Protocol E (Unit {0}) ℕ) where
         by : (r : Option ℕ) → m.reuse ≡ r → ⊥
         by None fresh = let k = held_plain fresh in let c = plain_at k in
             let f = (k.served.lawful.keeps.sending.parts p c.0 c.1).fits in
-            subst (Fits (slice_index k.bus.side.words) k.served.frames c.0) (sym (ap (λ (w : Sender E). w.core.phase) c.2) ∙ waits.is) f
+            subst (Fits (base_of m) (slice_index k.bus.side.words) k.served.frames c.0) (sym (ap (λ (w : Sender E). w.core.phase) c.2) ∙ waits.is) f
         by (Some rows) used = let k = held_ring rows used in let u = ring_at k in
             cyclic.laid X P k.bus (ring_served k) k.served p u.0 u.1 (subst (λ (w : Sender E). AwaitsItsPage w.core.phase) u.2 waits)
 
@@ -243,9 +240,9 @@ module _ {E : Type 0} (X : Election E) (P : Protocol E (Unit {0}) ℕ) where
       by : (r : Option ℕ) → m.reuse ≡ r → length m.owners < 256
       by None fresh =
           let k = held_plain fresh in
-          let c = none.opened m.layout k.bus p v (subst (λ (y : Machine E). going y p ≡ Some v) k.is goes) in
+          let c = none.opened m.bases m.layout k.bus p v (subst (λ (y : Machine E). going y p ≡ Some v) k.is goes) in
           let here = subst (λ (y : Machine E). turn_answer y (line_now X v) word ≡ turn.Own t) k.is told in
-          let own = sym (ap (λ l. turn_answer (of_bus m.layout k.bus) l word) (at_none X c.0)) ∙ subst (λ w. turn_answer (of_bus m.layout k.bus) (line_now X w) word ≡ turn.Own t) c.2 here in
+          let own = sym (ap (λ l. turn_answer (of_bus m.bases m.layout k.bus) l word) (at_none X c.0)) ∙ subst (λ w. turn_answer (of_bus m.bases m.layout k.bus) (line_now X w) word ≡ turn.Own t) c.2 here in
           subst (λ (y : Machine E). length y.owners < 256) (sym k.is)
           (plain.owner_fits X P m.layout s.laws s.width s.starts s.owner_is k.bus k.served _ refl p c.0 (Rattle.bus_world.proofs.Stopping.is_there k.bus p c.0 c.1) (not_stopped k.bus p c.0 c.1) word t own)
       by (Some rows) used = let a = owners_few rows used in let b = (rows_within rows used).1 in omega arith
@@ -282,10 +279,10 @@ module _ {E : Type 0} (X : Election E) (P : Protocol E (Unit {0}) ℕ) where
       by None fresh =
           let i = none.reached_at_none X m T reached fresh in
           let ok = (sits m s h).ok in
-          let k = plain_trails_of.reached_kept X P s.laws m.layout ok s.width s.starts s.owner_is s.named s.announces s.apart i.bus (plain_trails T) i.reached in
+          let k = plain_trails_of.reached_kept m.bases X P s.laws m.layout ok s.width s.starts s.owner_is s.named s.announces s.apart i.bus (plain_trails T) i.reached in
           let words = subst (λ (y : Machine E). log_of y ≡ log_words k.frames) (sym i.is) k.lawful.keeps.sending.log.words_are in
           stands k.frames there.0 k.lawful.keeps.sending.log.lawful words there.1
-          ∙ sym (plain_trails_of.given_below X P s.laws m.layout ok s.width s.starts s.owner_is s.named s.announces s.apart i.bus (plain_trails T) i.reached k.frames k.lawful.keeps.sending.log.lawful k.lawful.keeps.sending.log.words_are r there.0 (subst (λ (y : Machine E). slice_get y.receivers r ≡ Some there.0) i.is there.1))
+          ∙ sym (plain_trails_of.given_below m.bases X P s.laws m.layout ok s.width s.starts s.owner_is s.named s.announces s.apart i.bus (plain_trails T) i.reached k.frames k.lawful.keeps.sending.log.lawful k.lawful.keeps.sending.log.words_are r there.0 (subst (λ (y : Machine E). slice_get y.receivers r ≡ Some there.0) i.is there.1))
       by (Some rows) used =
           let t = sits m s h in
           let i = led_ring X P m T t reached rows used in

@@ -40,7 +40,7 @@ use Rattle.bus_machine.proofs.Clearing.{clearing, clears_at}
 use Rattle.bus_machine.proofs.Framed.{IsFramed, read_alike}
 use Rattle.bus_machine.proofs.Knowing.{its_part, writes}
 use Rattle.bus_machine.specs.Proved.Bridge.{of_bus}
-use Rattle.bus_machine.specs.Machine.{Machine, Trails, TakesTurn, Happens, IsOnWord, has_stopped, going, log_place, log_of, machine_after}
+use Rattle.bus_machine.specs.Machine.{base_of, Machine, Trails, TakesTurn, Happens, IsOnWord, has_stopped, going, log_place, log_of, machine_after}
 use Rattle.bus_machine.specs.Promise.{ReusesRows, reclamation_of, frame_next, words_of_frame, words_joined}
 
 -- ---- with a row for each tenure
@@ -49,9 +49,9 @@ with_words : (o : Option Frame) (frames : List Frame) → log_words (with_frame 
 with_words None frames = sym (append-nil (log_words frames))
 with_words (Some f) frames = log_words-append frames f
 
-module _ {E : Type 0} (X : Election E) (x : Layout) (b : Bus E) (frames : List Frame) where
+module _ {E : Type 0} (X : Election E) (bases : List ℕ) (x : Layout) (b : Bus E) (frames : List Frame) where
   -- a sender that goes on
-  going_is : (s : ℕ) → going (of_bus x b) s ≡ option_map apart (plain_going b s)
+  going_is : (s : ℕ) → going (of_bus bases x b) s ≡ option_map apart (plain_going b s)
   going_is s = by (is_set (slice_get b.stopped s)) where
     by : (t : Bool) → cond t None (slice_get (map apart b.side.senders) s) ≡ option_map apart (cond t None (slice_get b.side.senders s))
     by true = refl
@@ -67,10 +67,10 @@ module _ {E : Type 0} (X : Election E) (x : Layout) (b : Bus E) (frames : List F
       ∙ ap (λ y. log_words frames ++ words_of_frame (frame_next X y)) (sym e)
 
   -- what joins with an event
-  pub event_words : (e : Event) → log_words (event_frames X b e frames) ≡ log_words frames ++ words_joined X (of_bus x b) e
+  pub event_words : (e : Event) → log_words (event_frames X b e frames) ≡ log_words frames ++ words_joined X (of_bus bases x b) e
   event_words (Put s bytes) = sym (append-nil (log_words frames))
   event_words (Close s) = sym (append-nil (log_words frames))
-  event_words (Turn s word) = sender_words (plain_going b s) (going (of_bus x b) s) (going_is s)
+  event_words (Turn s word) = sender_words (plain_going b s) (going (of_bus bases x b) s) (going_is s)
   event_words (Recv r) = sym (append-nil (log_words frames))
   event_words (Stop s) = sym (append-nil (log_words frames))
 
@@ -186,7 +186,7 @@ module _ {E : Type 0} (X : Election E) (P : Protocol E (Unit {0}) ℕ) (m m' : M
     tests = length_tests held.0 page.ended (has_room v.core page) (nat_lt stored (frame_len v.core)) t t stored stored page page
         (sym (ap (situation_at X v.core) held.1) ∙ own)
 
-    writing : Rattle.bus_world.specs.Bus.IsWriting f.V f.frames v.core t page stored
+    writing : Rattle.bus_world.specs.Bus.IsWriting (base_of m) f.V f.frames v.core t page stored
     writing = writes X P m T f s v at t page stored (held.1 ∙ ap (phase.Holding t page stored) tests.0)
 
     all_stored : stored ≡ frame_len v.core

@@ -33,7 +33,7 @@ use Rattle.bus_world.specs.Tenures.Stage.{Open, Held}
 use Rattle.bus_world.specs.Tenures.{Standing}
 use Rattle.bus_world.specs.Tenures.Standing.{Holds}
 use Rattle.bus_machine.proofs.Framed.{IsFramed, log_framed}
-use Rattle.bus_machine.specs.Machine.{Machine, Trails, log_place, log_of}
+use Rattle.bus_machine.specs.Machine.{base_of, Machine, Trails, log_place, log_of}
 use Rattle.bus_machine.specs.Promise.{TakersTold, KnowsOrder, KnowsFront, IsWithOwner}
 
 -- ---- a phase
@@ -55,9 +55,9 @@ held_stands (phase.Taken u) t e = ap Holds (same_Some _ _ e)
 held_stands (phase.Holding u page stored published) t e = ap Holds (same_Some _ _ e)
 held_stands (phase.Giving u reason) t e = ap Holds (same_Some _ _ e)
 
-module _ {E : Type 0} (words : ℕ → ℕ) (frames : List Rattle.bus_batch.specs.Frames.Frame) (c : Core E) where
+module _ (base : ℕ → ℕ) {E : Type 0} (words : ℕ → ℕ) (frames : List Rattle.bus_batch.specs.Frames.Frame) (c : Core E) where
   -- between turns the page that is held is in the phase
-  page_held : (t : ℕ) (ph : Phase E) → Fits words frames c ph → stands_at ph ≡ Holds t → HasPage t ph
+  page_held : (t : ℕ) (ph : Phase E) → Fits base words frames c ph → stands_at ph ≡ Holds t → HasPage t ph
   page_held t phase.Resting fits e = absurd cc
   page_held t (phase.Electing u f) fits e = absurd cc
   page_held t (phase.Taken u) fits e = absurd fits
@@ -92,14 +92,14 @@ module _ {E : Type 0} (X : Election E) (P : Protocol E (Unit {0}) ℕ) (m : Mach
 
   -- a page at home knows the order
   pub knows : (order : Order) (owners : List (ℕ × SenderNo)) → Spells m.layout.senders (log_of m) order owners → (page : Page)
-      → m.home ≡ Some page → KnowsOrder page order
+      → m.home ≡ Some page → KnowsOrder (base_of m) page order
   knows order owners s page at = elim f.sending.tenures.stage_is [
     | Open stage here many ↦
         let k = (f.sending.page_knows page f.sending.tenures.ended at stage).0 in
         record {
           entries = k.entries;
           next = λ q low. k.next q low
-              ∙ ap (λ (o : Order). length (of_sender q o)) (order_same order owners s);
+              ∙ ap (λ (o : Order). base_of m q + length (of_sender q o)) (order_same order owners s);
         }
     | Held holder stage away many holds ↦ absurd (true≢false (sym (ap is_some at) ∙ away))
   ]
@@ -109,19 +109,19 @@ module _ {E : Type 0} (X : Election E) (P : Protocol E (Unit {0}) ℕ) (m : Mach
     core : (c : Core E) × (f.cores holder ≡ Some c)
     core = core_found (f.cores holder) (Holds t) holds
 
-    abbrev part : Part m.layout f.V f.frames holder core.0
+    abbrev part : Part (base_of m) m.layout f.V f.frames holder core.0
     part = f.sending.parts holder core.0 core.1
 
     stands : stands_at core.0.phase ≡ Holds t
     stands = same_Some _ _ (sym (ap (of_some standing_of) core.1) ∙ holds)
 
     has_page : HasPage t core.0.phase
-    has_page = page_held f.V f.frames core.0 t core.0.phase part.fits stands
+    has_page = page_held (base_of m) f.V f.frames core.0 t core.0.phase part.fits stands
 
     -- what the page knows, and what stands behind it
     record IsFront (page : Page) (published : Bool) : Type 0 where
       front : List ℕ
-      known : KnowsFront m.layout.senders t page front
+      known : KnowsFront (base_of m) m.layout.senders t page front
       behind : log_of m ≡ front ++ cond published (frame_words (frame_of core.0.queue t)) []
 
     -- the log has as many words as its length says
@@ -129,8 +129,8 @@ module _ {E : Type 0} (X : Election E) (P : Protocol E (Unit {0}) ℕ) (m : Mach
     many_words = sym (ap length f.sending.log.words_are) ∙ length-read f.V (log_at m.layout) (f.V 0)
 
     fits_in : (stored : ℕ) (page : Page) (published : Bool) → core.0.phase ≡ phase.Holding t page stored published
-        → Fits f.V f.frames core.0 (phase.Holding t page stored published)
-    fits_in stored page published ph = subst (Fits f.V f.frames core.0) ph part.fits
+        → Fits (base_of m) f.V f.frames core.0 (phase.Holding t page stored published)
+    fits_in stored page published ph = subst (Fits (base_of m) f.V f.frames core.0) ph part.fits
 
     front_of : (page : Page) (stored : ℕ) (published : Bool) → core.0.phase ≡ phase.Holding t page stored published → IsFront page published
     front_of page stored false ph =
@@ -226,7 +226,7 @@ module _ {E : Type 0} (X : Election E) (P : Protocol E (Unit {0}) ℕ) (m : Mach
 
   -- ---- a word of the log
   module _ (p : ℕ) (v : Sender E) (at : slice_get m.senders p ≡ Some v) where
-    pub its_part : Part m.layout f.V f.frames p v.core
+    pub its_part : Part (base_of m) m.layout f.V f.frames p v.core
     its_part = f.sending.parts p v.core (f.core_of p v at)
 
     -- its log begins where that of the machine does
@@ -241,8 +241,8 @@ module _ {E : Type 0} (X : Election E) (P : Protocol E (Unit {0}) ℕ) (m : Mach
 
     -- the page of who has not published knows the length
     pub writes : (t : ℕ) (page : Page) (stored : ℕ) → v.core.phase ≡ phase.Holding t page stored false
-        → IsWriting f.V f.frames v.core t page stored
-    writes t page stored ph = let fits = subst (Fits f.V f.frames v.core) ph its_part.fits in fits.1
+        → IsWriting (base_of m) f.V f.frames v.core t page stored
+    writes t page stored ph = let fits = subst (Fits (base_of m) f.V f.frames v.core) ph its_part.fits in fits.1
 
     -- it is stored past the length
     pub past : (t : ℕ) (page : Page) (stored word : ℕ) (o : Op) → situation X v ≡ Does (StoresWord t page stored)

@@ -1,5 +1,5 @@
 -- What is appended to senders at their starts, and a machine that has them.
-use Rattle.std.proofs.Common.{◌≡◌, ℕ, ◌+◌, ◌*◌, ◌<◌, Bool, Option, Some, None, List, [], ◌∷◌, ◌++◌, length, slice_get, arith, refl, sym, ◌∙◌, ap, subst}
+use Rattle.std.proofs.Common.{slice_index, ◌≡◌, ℕ, ◌+◌, ◌*◌, ◌<◌, Bool, Option, Some, None, List, [], ◌∷◌, ◌++◌, length, slice_get, arith, refl, sym, ◌∙◌, ap, subst}
 use Rattle.std.specs.Prelude.{replicate}
 use Rattle.std.proofs.lemmas.List.{length-append}
 use Rattle.bus_adoptcommit.specs.declared.verdicts.Verdict.{Verdict}
@@ -10,21 +10,23 @@ use Rattle.bus_deliverylog.specs.Receiving.{Receiving}
 use Rattle.bus_register.proofs.PushLaws.{each_more}
 use Rattle.bus_register.specs.Protocol.{Protocol}
 use Rattle.bus_tenure.specs.Core.{Election, Layout}
+use Rattle.bus_tenure.specs.declared.pages.Page.{Page}
 use Rattle.bus_world.specs.Starting.{AreNewReaders}
-use Rattle.bus_world.specs.World.{no_stops, new_page}
+use Rattle.bus_world.specs.World.{no_stops, AreBases, first_page}
+use Rattle.bus_world.specs.declared.shapes.MakeFault.TheVariants as make
 use Rattle.bus_world.specs.declared.shapes.Shape.{Shape}
 use Rattle.bus_machine.specs.Machine.{Machine, IsNew, New, log_place, no_machine_trails}
-use Rattle.bus_machine.specs.Playing.{layout_of, log_with, machine_of, ShapeOf, IsServed, IsHeld, AreRows}
+use Rattle.bus_machine.specs.Playing.{layout_of, log_with, machine_of, ShapeOf, IsServed, IsHeld, AreRows, MayFollow, MakeRefusedAfter}
 use Rattle.bus_machine.specs.Turning.{AreNewSenders}
 
-pub no_senders : {E : Type 0} (x : Layout) (reuse : Option ℕ) (senders : List (Sender E)) → senders ≡ [] → AreNewSenders x reuse 0 senders
-no_senders {E} x reuse senders none = record { many_are = ap length none; each = λ p v e. absurd (let bad : None ≡ Some v = sym (ap (λ l. slice_get l p) none) ∙ e in cc) }
+pub no_senders : {E : Type 0} (x : Layout) (reuse : Option ℕ) (bases : List ℕ) (senders : List (Sender E)) → senders ≡ [] → AreNewSenders x reuse bases 0 senders
+no_senders {E} x reuse bases senders none = record { many_are = ap length none; each = λ p v e. absurd (let bad : None ≡ Some v = sym (ap (λ l. slice_get l p) none) ∙ e in cc) }
 
-pub one_more_sender : {E : Type 0} (x : Layout) (reuse : Option ℕ) (many : ℕ) (senders : List (Sender E)) (v : Sender E) → AreNewSenders x reuse many senders → v ≡ new_sender x many reuse → AreNewSenders x reuse (many + 1) (senders ++ v ∷ [])
-one_more_sender x reuse many senders v h e = record {
+pub one_more_sender : {E : Type 0} (x : Layout) (reuse : Option ℕ) (bases : List ℕ) (many : ℕ) (senders : List (Sender E)) (v : Sender E) → AreNewSenders x reuse bases many senders → v ≡ new_sender x many reuse (slice_index bases many) → AreNewSenders x reuse bases (many + 1) (senders ++ v ∷ [])
+one_more_sender x reuse bases many senders v h e = record {
   many_are = length-append senders (v ∷ []) ∙ (let z = h.many_are in omega arith);
-  each = each_more (λ p y. (p < many + 1) × (y ≡ new_sender x p reuse)) senders v (λ p y i. let k = h.each p y i in (let z = k.0 in omega arith, k.1))
-      (let z = h.many_are in omega arith, e ∙ ap (λ p. new_sender x p reuse) (sym h.many_are));
+  each = each_more (λ p y. (p < many + 1) × (y ≡ new_sender x p reuse (slice_index bases p))) senders v (λ p y i. let k = h.each p y i in (let z = k.0 in omega arith, k.1))
+      (let z = h.many_are in omega arith, e ∙ ap (λ p. new_sender x p reuse (slice_index bases p)) (sym h.many_are));
 }
 
 -- where the log begins
@@ -47,12 +49,13 @@ module _ {S : Type 0} (P : Protocol S Bool Verdict) (shape : Shape) (reuse : Opt
   log_is : log ≡ log_place (layout_of P shape reuse) reuse
   log_is = at ∙ log_at_place P shape reuse w width
 
-  pub made_new : {E : Type 0} (words : List ℕ) → words ≡ replicate (log + shape.log_words) 0 → (senders : List (Sender E)) → AreNewSenders (layout_of P shape reuse) reuse shape.senders senders
+  pub made_new : {E : Type 0} (bases : List ℕ) → AreBases bases → (home : Option Page) → home ≡ Some (first_page bases) → (words : List ℕ) → words ≡ replicate (log + shape.log_words) 0 → (senders : List (Sender E)) → AreNewSenders (layout_of P shape reuse) reuse bases shape.senders senders
       → (many : ℕ) (receivers : List Receiving) → AreNewReaders shape.senders log shape.log_words many receivers → (stopped : List Bool) → stopped ≡ no_stops → (owners : List ℕ) → owners ≡ []
-      → IsNew (machine_of P shape reuse words (Some new_page) senders receivers stopped owners)
-  made_new words words_are senders new many receivers readers stopped nobody owners none = record {
+      → IsNew (machine_of P shape reuse bases words home senders receivers stopped owners)
+  made_new bases are home home_is words words_are senders new many receivers readers stopped nobody owners none = record {
+    bases_are = are;
     words = words_are ∙ ap (λ n. replicate (n + shape.log_words) 0) log_is ∙ ap (λ n. replicate (log_place (layout_of P shape reuse) reuse + n) 0) (sym (capacity_is P shape reuse));
-    home = refl;
+    home = home_is;
     senders = λ p v e. let k = new.each p v e in (let a = senders_are P shape reuse in let b = k.0 in omega arith, k.1);
     receivers = λ r v e. let i = readers.each r v e in (i.senders_are ∙ sym (senders_are P shape reuse), i.log_is ∙ log_is, i.length_is, i.words_are ∙ sym (capacity_is P shape reuse), i.known, i.place, i.going, subst (λ n. HasRead n [] [] v.frames) (sym (senders_are P shape reuse)) i.read);
     stopped = nobody;
@@ -73,3 +76,8 @@ made_held X P shape reuse served same m new layout_is reuse_is many = record {
   trails = no_machine_trails;
   reached = New m new;
 }
+
+-- where memory is refused
+pub no_memory_after : (shape : Shape) (reuse : Option ℕ) (page : Option Page) → IsServed shape reuse → MayFollow page → MakeRefusedAfter shape reuse page make.NoMemory
+no_memory_after shape reuse None served follows = served
+no_memory_after shape reuse (Some page) served follows = (served, follows)

@@ -34,7 +34,7 @@ use Rattle.bus_machine.proofs.Bounding.{Counts, counted, may_enter, announces_of
 use Rattle.bus_machine.proofs.Growing.{rises}
 use Rattle.bus_machine.proofs.Leading.{Sits, sits_before}
 use Rattle.bus_machine.specs.Bounding.{named_by, named_from, is_tenure, pins_from, steps_of_pin, IsNamedFirst, PinsAreBounded}
-use Rattle.bus_machine.specs.Machine.{Machine, Trails, Reached, New as Start, Then as Next, Happens, TakesTurn, trails_grown, turn_trails, turn_grown, turn_answer, entered, found, has_stopped, moved, put_in, close_in, stage_of}
+use Rattle.bus_machine.specs.Machine.{base_of, Machine, Trails, Reached, New as Start, Then as Next, Happens, TakesTurn, trails_grown, turn_trails, turn_grown, turn_answer, entered, found, has_stopped, moved, put_in, close_in, stage_of}
 use Rattle.bus_machine.specs.Promise.{pin_of}
 
 -- ---- lists of steps
@@ -867,9 +867,9 @@ module _ {E : Type 0} (X : Election E) (P : Protocol E (Unit {0}) ℕ) (m m' : M
   event_kept (Stop s) a h up = none_more m m' T (trails_grown X m (Stop s) a T) c up (ap (λ (y : Machine E). y.senders) h.after) refl
 
 -- ---- whatever leads to it
-new_kept : {E : Type 0} (w : Machine E) (q : ℕ) (r : Option ℕ) → Kept (new_reuse r) (new_sender {E = E} w.layout q r).core (stage_of w) []
-new_kept w q None = refl
-new_kept w q (Some rows) = record {
+new_kept : {E : Type 0} (w : Machine E) (q : ℕ) (r : Option ℕ) (first : ℕ) → Kept (new_reuse r) (new_sender {E = E} w.layout q r first).core (stage_of w) []
+new_kept w q None first = refl
+new_kept w q (Some rows) first = record {
   most = λ t. omega arith;
   fresh = λ t low up other apart. refl;
   announcing = λ t i. absurd cc;
@@ -886,7 +886,7 @@ module _ {E : Type 0} (X : Election E) (P : Protocol E (Unit {0}) ℕ) where
   pins_kept : (m : Machine E) (T : Trails) → Sits X P m → Reached X m T → AreKept m T
   pins_kept m T s (Start w new) = record {
     bounded = record { most = λ q t. omega arith; first = λ q. tt };
-    each = λ q v at. subst (λ (y : Sender E). Kept y.reuse y.core (stage_of w) []) (sym (new.senders q v at).1) (new_kept w q w.reuse);
+    each = λ q v at. subst (λ (y : Sender E). Kept y.reuse y.core (stage_of w) []) (sym (new.senders q v at).1) (new_kept w q w.reuse (base_of w q));
   }
   pins_kept m T s (Next w v U e a before h) =
       let t = sits_before X P w v e a h s in

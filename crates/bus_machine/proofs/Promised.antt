@@ -164,22 +164,22 @@ module _ {E : Type 0} (X : Election E) where
 -- whatever leads to a machine, the promise holds of it
 module _ {E : Type 0} (X : Election E) (P : Protocol E (Unit {0}) ℕ) where
   -- ---- with a row for each tenure
-  module _ (x : Layout) (q : Serves X P x) (ok : IsLayout x) (b : Bus E) (T : Trails) (r : PlainReached X x b (plain_trails T))
-      (f : IsFramed P (of_bus x b) T)
-      (remembers : (s : ℕ) (v : Sender E) → slice_get (of_bus x b).senders s ≡ Some v → Remembers (of_bus x b) s v (T.actions s)) where
-    k : plain.Kept X P q.laws x ok q.width q.starts q.owner_is q.named q.announces q.apart b (plain_trails T)
-    k = plain.reached_kept X P q.laws x ok q.width q.starts q.owner_is q.named q.announces q.apart b (plain_trails T) r
+  module _ (bases : List ℕ) (x : Layout) (q : Serves X P x) (ok : IsLayout x) (b : Bus E) (T : Trails) (r : PlainReached X bases x b (plain_trails T))
+      (f : IsFramed P (of_bus bases x b) T)
+      (remembers : (s : ℕ) (v : Sender E) → slice_get (of_bus bases x b).senders s ≡ Some v → Remembers (of_bus bases x b) s v (T.actions s)) where
+    k : plain.Kept bases X P q.laws x ok q.width q.starts q.owner_is q.named q.announces q.apart b (plain_trails T)
+    k = plain.reached_kept bases X P q.laws x ok q.width q.starts q.owner_is q.named q.announces q.apart b (plain_trails T) r
 
     core_there : (v : Sender E) (o : Option (Core E)) → option_map apart o ≡ Some v → (c : Core E) × (o ≡ Some c) × (v ≡ apart c)
     core_there v None e = absurd cc
     core_there v (Some c) e = (c, refl, sym (same_Some _ _ e))
 
-    core_at : (p : ℕ) (v : Sender E) → slice_get (of_bus x b).senders p ≡ Some v → (c : Core E) × (slice_get b.side.senders p ≡ Some c) × (v ≡ apart c)
+    core_at : (p : ℕ) (v : Sender E) → slice_get (of_bus bases x b).senders p ≡ Some v → (c : Core E) × (slice_get b.side.senders p ≡ Some c) × (v ≡ apart c)
     core_at p v at = core_there v (slice_get b.side.senders p) (sym (slice_get-map apart b.side.senders p) ∙ at)
 
-    promised_at_none : IsPromised X (of_bus x b) T
+    promised_at_none : IsPromised X (of_bus bases x b) T
     promised_at_none =
-        let p = plain.by_frames X P q.laws x ok q.width q.starts q.owner_is q.named q.announces q.apart b (plain_trails T) k in
+        let p = plain.by_frames bases X P q.laws x ok q.width q.starts q.owner_is q.named q.announces q.apart b (plain_trails T) k in
         let sending = k.lawful.keeps.sending in
         record {
           order = order_of k.frames;
@@ -197,12 +197,12 @@ module _ {E : Type 0} (X : Election E) (P : Protocol E (Unit {0}) ℕ) where
             holds = λ s v t at held.
                 let c = core_at s v at in
                 holds_page X P q.laws x ok q.width q.starts q.owner_is (slice_index b.side.words) b.side.home (slice_get b.side.senders) b.side.owners k.frames sending s c.0 c.1 t (subst (λ (y : Sender E). held_of y.core.phase ≡ Some t) c.2 held);
-            owns = λ s v t at held. owns X P (of_bus x b) T f record { all = b.side.owners; takers = p.takers; told = refl } s v t at held;
-            counts = counts X P (of_bus x b) T f record { all = b.side.owners; takers = p.takers; told = refl };
+            owns = λ s v t at held. owns X P (of_bus bases x b) T f record { all = b.side.owners; takers = p.takers; told = refl } s v t at held;
+            counts = counts X P (of_bus bases x b) T f record { all = b.side.owners; takers = p.takers; told = refl };
             remembers = remembers;
-            knows = knows X P (of_bus x b) T f (order_of k.frames) (map tenure_and_owner k.frames) p.spelled;
-            out = out X P (of_bus x b) T f record { all = b.side.owners; takers = p.takers; told = refl };
-            past = λ s v t page stored word o at. past X P (of_bus x b) T f s v at t page stored word o;
+            knows = knows X P (of_bus bases x b) T f (order_of k.frames) (map tenure_and_owner k.frames) p.spelled;
+            out = out X P (of_bus bases x b) T f record { all = b.side.owners; takers = p.takers; told = refl };
+            past = λ s v t page stored word o at. past X P (of_bus bases x b) T f s v at t page stored word o;
             sent = λ s v at. let c = core_at s v at in
                 subst (λ (y : Sender E). puts (T.actions s) ≡ map (λ i. i.message) (of_sender s (order_of k.frames)) ++ waiting_at y.core y.core.phase) (sym c.2)
                 (k.tied.puts s ∙ ap (λ o. map (λ i. i.message) (of_sender s (order_of k.frames)) ++ waiting_of o) c.1);
@@ -261,7 +261,7 @@ module _ {E : Type 0} (X : Election E) (P : Protocol E (Unit {0}) ℕ) where
     by : (o : Option ℕ) → m.reuse ≡ o → IsPromised X m T
     by None e =
         let i = reached_at_none X m T r e in
-        subst (λ y. IsPromised X y T) (sym i.is) (promised_at_none m.layout s.serves s.ok i.bus T i.reached
+        subst (λ y. IsPromised X y T) (sym i.is) (promised_at_none m.bases m.layout s.serves s.ok i.bus T i.reached
         (subst (λ y. IsFramed P y T) i.is (framed X P m T s r))
         (subst (λ y. (p : ℕ) (v : Sender E) → slice_get y.senders p ≡ Some v → Remembers y p v (T.actions p)) i.is (remembered X P m T s r)))
     by (Some rows) e =

@@ -1,5 +1,5 @@
 -- Answers, memories and machines that the definitions refuse.
-use Rattle.std.proofs.Common.{◌≡◌, inl, inr, ℕ, ◌≤◌, true, false, Option, Some, None, List, [], ◌∷◌, ◌++◌, drop, length, slice_get, slice_index, arith, refl, sym, ◌∙◌, ap, subst}
+use Rattle.std.proofs.Common.{◌+◌, ◌≡◌, inl, inr, ℕ, ◌≤◌, true, false, Option, Some, None, List, [], ◌∷◌, ◌++◌, drop, length, slice_get, slice_index, arith, refl, sym, ◌∙◌, ap, subst}
 use Rattle.std.proofs.lemmas.Bool.{true≢false}
 use Rattle.std.proofs.lemmas.Option.{same_Some}
 use Rattle.std.proofs.lemmas.List.{append-nil, length-append}
@@ -23,7 +23,7 @@ use Rattle.bus_world.specs.World.{Event}
 use Rattle.bus_world.specs.declared.events.Answer.{Answer}
 use Rattle.bus_machine.proofs.Following.{actions_same}
 use Rattle.bus_machine.specs.Bounding.{steps_towards, steps_of_pin, IsNamedFirst}
-use Rattle.bus_machine.specs.Machine.{Machine, Trails, log_of, stage_of}
+use Rattle.bus_machine.specs.Machine.{base_of, Machine, Trails, log_of, stage_of}
 use Rattle.bus_machine.specs.Promise.{IsPagedBy, ReusesSafely, actions_in, words_of_frame}
 use Rattle.bus_machine.specs.Refusals.{LossesRefuse, AnswersRefuse, SaysNoMore, SaysMore, NumbersRefuse, BoundsRefuse, FollowsRefuse, PagesRefuse, MemoriesRefuse, WordsRefuse}
 use Rattle.bus_machine.specs.Remembering.{HasEnded, rows_in}
@@ -121,6 +121,7 @@ module _ {E : Type 0} (m : Machine E) where
 pub numbers_refused : NumbersRefuse
 numbers_refused = record {
   first_as_one = λ bytes told. let e : 2 ≡ 1 = told in omega arith;
+  starts_anew = λ bytes told. let e : 1 ≡ 6 = told in omega arith;
   second_as_zero = λ bytes more told. let e : 1 ≡ 2 = told in omega arith;
   unput = λ told. let e : 1 ≡ 0 = told in omega arith;
 }
@@ -181,7 +182,7 @@ pages_refused X m T = record {
   other_tenure = λ page home apart p. apart (subst (IsPagedBy (stage_of m) _ _) home p.by.paged).0;
   other_items = λ page order owners s home spelled few apart p.
       let one = spells_one m.layout.senders (log_of m) order p.order owners p.owners spelled p.by.spelled in
-      apart ((p.by.knows page home).next s few ∙ ap (λ (o : Order). length (of_sender s o)) (sym one.0));
+      apart ((p.by.knows page home).next s few ∙ ap (λ (o : Order). base_of m s + length (of_sender s o)) (sym one.0));
   counts_untaken = λ page home one idle p.
       let all = p.by.takers.all in
       let many : length all ≡ 1 = sym (p.by.counts page home) ∙ one in

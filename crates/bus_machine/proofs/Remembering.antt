@@ -31,10 +31,10 @@ use Rattle.bus_tenure.specs.declared.phases.Reason.{Reason}
 use Rattle.bus_tenure.specs.declared.phases.Reason.TheVariants.{Sent, FoundEnd, NoRoom}
 use Rattle.bus_world.specs.Bus.{Part, Fits, standing_of, stands_at}
 use Rattle.bus_world.specs.Headline.{Action, Stepped, Elected, puts}
-use Rattle.bus_world.specs.Log.{sent_count}
+use Rattle.bus_world.specs.Log.{next_number, sent_count}
 use Rattle.bus_world.specs.Waiting.{waiting_at}
 use Rattle.bus_world.proofs.FrameOfBatch.{length-items}
-use Rattle.bus_world.proofs.LogLaws.{sent-append_owner}
+use Rattle.bus_world.proofs.LogLaws.{next-append_owner}
 use Rattle.bus_world.specs.Tenures.Stage.{Open, Held}
 use Rattle.bus_world.specs.Tenures.Standing.{Holds}
 use Rattle.bus_world.specs.Trails.{step_action}
@@ -49,17 +49,17 @@ use Rattle.bus_machine.proofs.Framed.{IsFramed, framed}
 use Rattle.bus_machine.proofs.Growing.{grows, rises}
 use Rattle.bus_machine.proofs.Leading.{Sits, sits_before, sits_after}
 use Rattle.bus_machine.proofs.Staying.{grown_longer}
-use Rattle.bus_machine.specs.Machine.{Machine, Trails, Reached, New as Start, Then as Next, Happens, TakesTurn, IsNew, IsOnWord, trails_grown, turn_grown, turn_answer, found, has_stopped, moved, put_in, close_in, no_machine_trails, stage_of}
+use Rattle.bus_machine.specs.Machine.{base_of, Machine, Trails, Reached, New as Start, Then as Next, Happens, TakesTurn, IsNew, IsOnWord, trails_grown, turn_grown, turn_answer, found, has_stopped, moved, put_in, close_in, no_machine_trails, stage_of}
 use Rattle.bus_machine.specs.Remembering.{HasEnded, HasLost, IsPastFor, IsItself, Remembers}
 
 -- ---- by the frames of the log
 module _ {E : Type 0} (P : Protocol E (Unit {0}) ℕ) (m : Machine E) (T : Trails) (f : IsFramed P m T) (p : ℕ) (v : Sender E)
     (at : slice_get m.senders p ≡ Some v) where
-  part : Part m.layout f.V f.frames p v.core
+  part : Part (base_of m) m.layout f.V f.frames p v.core
   part = f.sending.parts p v.core (f.core_of p v at)
 
   -- in a tenure its batch is on its way
-  busy_in : (ph : Phase E) → Fits f.V f.frames v.core ph → (t : ℕ) → tenure_of ph ≡ Some t → v.core.queue.busy ≡ true
+  busy_in : (ph : Phase E) → Fits (base_of m) f.V f.frames v.core ph → (t : ℕ) → tenure_of ph ≡ Some t → v.core.queue.busy ≡ true
   busy_in phase.Resting fits t e = absurd cc
   busy_in (phase.Electing u k) fits t e = fits.0.busy
   busy_in (phase.Taken u) fits t e = absurd fits
@@ -68,7 +68,7 @@ module _ {E : Type 0} (P : Protocol E (Unit {0}) ℕ) (m : Machine E) (T : Trail
   busy_in (phase.Giving u reason) fits t e = absurd fits
 
   -- and at rest it is not
-  idle_at : (ph : Phase E) → Fits f.V f.frames v.core ph → ph ≡ phase.Resting → v.core.queue.busy ≡ false
+  idle_at : (ph : Phase E) → Fits (base_of m) f.V f.frames v.core ph → ph ≡ phase.Resting → v.core.queue.busy ≡ false
   idle_at phase.Resting fits e = fits.0
   idle_at (phase.Electing u k) fits e = absurd cc
   idle_at (phase.Taken u) fits e = absurd cc
@@ -105,6 +105,9 @@ module _ {E : Type 0} (P : Protocol E (Unit {0}) ℕ) (m : Machine E) (T : Trail
     by (phase.Giving u reason) is e = holds_it u t e (stands (phase.Giving u reason) is)
 
   -- its next number, by what is in the order and what waits
+  abbrev its_next : ℕ
+  its_next = next_number (base_of m) p f.frames
+
   abbrev its_count : ℕ
   its_count = sent_count p f.frames
 
@@ -113,23 +116,23 @@ module _ {E : Type 0} (P : Protocol E (Unit {0}) ℕ) (m : Machine E) (T : Trail
       let sent_now = map (λ (i : Item). i.message) (of_sender p (order_of f.frames)) in
       length-append sent_now (waiting_at v.core ph) ∙ ap (λ n. n + length (waiting_at v.core ph)) (length-map (of_sender p (order_of f.frames)) (λ (i : Item). i.message))
 
-  numbers_by : (ph : Phase E) → Fits f.V f.frames v.core ph → next_of v.core.queue ≡ its_count + length (waiting_at v.core ph)
-  numbers_by phase.Resting fits = ap (λ n. n + length v.core.queue.messages) (fits.1 ∙ ap (λ z. sent_count z f.frames) part.me)
-  numbers_by (phase.Electing u k) fits = ap (λ n. n + length v.core.queue.messages) (fits.1 ∙ ap (λ z. sent_count z f.frames) part.me)
+  numbers_by : (ph : Phase E) → Fits (base_of m) f.V f.frames v.core ph → next_of v.core.queue ≡ its_next + length (waiting_at v.core ph)
+  numbers_by phase.Resting fits = ap (λ n. n + length v.core.queue.messages) (fits.1 ∙ ap (λ z. next_number (base_of m) z f.frames) part.me)
+  numbers_by (phase.Electing u k) fits = ap (λ n. n + length v.core.queue.messages) (fits.1 ∙ ap (λ z. next_number (base_of m) z f.frames) part.me)
   numbers_by (phase.Taken u) fits = absurd fits
-  numbers_by (phase.Holding u page stored false) fits = ap (λ n. n + length v.core.queue.messages) (fits.1.base ∙ ap (λ z. sent_count z f.frames) part.me)
+  numbers_by (phase.Holding u page stored false) fits = ap (λ n. n + length v.core.queue.messages) (fits.1.first ∙ ap (λ z. next_number (base_of m) z f.frames) part.me)
   numbers_by (phase.Holding u page stored true) fits =
       let w = fits.1 in
       let b = frame_of v.core.queue u in
       let mine : v.core.me ≡ b.owner.0 = part.me ∙ sym part.sender in
-      let all = ap (λ n. n + length v.core.queue.messages) (w.base ∙ ap (λ z. sent_count z w.front) mine)
-      ∙ ap (λ n. sent_count b.owner.0 w.front + n) (sym (length-items v.core.queue u part.queue))
-      ∙ sym (sent-append_owner w.front b) ∙ ap (λ z. sent_count z (w.front ++ b ∷ [])) part.sender ∙ ap (sent_count p) (sym w.frames_are) in
+      let all = ap (λ n. n + length v.core.queue.messages) (w.first ∙ ap (λ z. next_number (base_of m) z w.front) mine)
+      ∙ ap (λ n. next_number (base_of m) b.owner.0 w.front + n) (sym (length-items v.core.queue u part.queue))
+      ∙ sym (next-append_owner (base_of m) w.front b) ∙ ap (λ z. next_number (base_of m) z (w.front ++ b ∷ [])) part.sender ∙ ap (next_number (base_of m) p) (sym w.frames_are) in
       omega arith
   numbers_by (phase.Giving u reason) fits = absurd fits
 
-  pub numbered : next_of v.core.queue ≡ length (puts (T.actions p))
-  numbered = numbers_by v.core.phase part.fits ∙ sym (many_put v.core.phase) ∙ sym (ap length (f.puts p v at))
+  pub numbered : next_of v.core.queue ≡ base_of m p + length (puts (T.actions p))
+  numbered = let a = numbers_by v.core.phase part.fits in let b = many_put v.core.phase in let d = ap length (f.puts p v at) in omega arith
 
   pub itself : IsItself m p v
   itself = record { me = part.me; layout = part.layout; marks = part.sender }
@@ -204,7 +207,7 @@ module _ {E : Type 0} (X : Election E) (P : Protocol E (Unit {0}) ℕ) (m m' : M
   f : IsFramed P m T
   f = framed X P m T sits r
 
-  its : Part m.layout f.V f.frames s v.core
+  its : Part (base_of m) m.layout f.V f.frames s v.core
   its = f.sending.parts s v.core (f.core_of s v at)
 
   w : Recalls m s v.core (T.actions s)
@@ -343,8 +346,8 @@ module _ {E : Type 0} (X : Election E) (P : Protocol E (Unit {0}) ℕ) (m m' : M
 
   shut : (t : ℕ) (reason : Reason) → Shows v.core t v.core.phase reason → (core_at_rest v.core reason t).queue.phase ≡ batch.Closed → HasEnded m
   shut t Sent y j = shut_sent v.core.queue.phase refl
-      (λ closing. published_ends f.V f.frames v.core t v.core.phase y closing its.fits) j
-  shut t FoundEnd y j = ended_of P m T f (found_ends f.V f.frames v.core t v.core.phase y its.fits)
+      (λ closing. published_ends (base_of m) f.V f.frames v.core t v.core.phase y closing its.fits) j
+  shut t FoundEnd y j = ended_of P m T f (found_ends (base_of m) f.V f.frames v.core t v.core.phase y its.fits)
   shut t NoRoom y j = w.closed j
 
   gives : (t : ℕ) (page : Page) (reason : Reason) → situation X v ≡ Does (GivesBack t page reason) → Good (core_at_rest v.core reason t)
@@ -368,7 +371,7 @@ module _ {E : Type 0} (X : Election E) (P : Protocol E (Unit {0}) ℕ) (m m' : M
   by_turn (Does (StoresWord t page stored)) i = good (record v.core { phase = phase.Holding t page (stored + 1) false }) (λ j. j) refl
   by_turn (Does (StoresLength t page stored)) i = good (record v.core { phase = phase.Holding t page stored true }) (λ j. j) refl
   by_turn (Does (GivesBack t page reason)) i = gives t page reason i
-  by_turn (Does (HasHanded t reason)) i = absurd (subst (Fits f.V f.frames v.core) (tells X v.core (HasHanded t reason) (own_is X v (HasHanded t reason) i)) its.fits)
+  by_turn (Does (HasHanded t reason)) i = absurd (subst (Fits (base_of m) f.V f.frames v.core) (tells X v.core (HasHanded t reason) (own_is X v (HasHanded t reason) i)) its.fits)
   by_turn (Announces t) i = good v.core (λ j. j) refl
   by_turn (Validates t) i = validated t (got (Validates t) / 2 == t)
   by_turn (Unpins t) i = good v.core (λ j. j) refl

@@ -24,7 +24,7 @@ stage_by ended stage home owners standing (Held holder at here many holds) = inr
 prefix_many : {A : Type 0} (xs ys : List A) → IsPrefix xs ys → length xs ≤ length ys
 prefix_many xs ys p = let a = length-append xs p.rest in let b = ap length p.together in omega arith
 
-module _ {E : Type 0} (X : Election E) (P : Protocol E (Unit {0}) ℕ) (x : Layout) (b b' : Bus E) (frames frames' : List Frame) (h : LawfulBus P x b frames) (h' : LawfulBus P x b' frames') where
+module _ {base : ℕ → ℕ} {E : Type 0} (X : Election E) (P : Protocol E (Unit {0}) ℕ) (x : Layout) (b b' : Bus E) (frames frames' : List Frame) (h : LawfulBus base P x b frames) (h' : LawfulBus base P x b' frames') where
   -- the page leaves home only with a taker
   abbrev Leaves : Type 0
   Leaves = is_some b.side.home ≡ true → is_some b'.side.home ≡ false → length b'.side.owners ≡ length b.side.owners + 1
@@ -46,7 +46,7 @@ module _ {E : Type 0} (X : Election E) (P : Protocol E (Unit {0}) ℕ) (x : Layo
 
   turn_leaves : (s : ℕ) (c : Core E) → slice_get b.side.senders s ≡ Some c → (z : Situation E) → situation_of X c ≡ z → is_some b.side.home ≡ true → is_some (home_after X c z b.side.home) ≡ false → length (owners_after X c z s b.side.owners) ≡ length b.side.owners + 1
   turn_leaves s c at (TakesPage t) i here gone = length-append b.side.owners (s ∷ [])
-  turn_leaves s c at (AwaitsPage t) i here gone = absurd (subst (Fits (slice_index b.side.words) frames c) (tells X c (AwaitsPage t) i) (h.keeps.sending.parts s c at).fits)
+  turn_leaves s c at (AwaitsPage t) i here gone = absurd (subst (Fits base (slice_index b.side.words) frames c) (tells X c (AwaitsPage t) i) (h.keeps.sending.parts s c at).fits)
   turn_leaves s c at (GivesBack t page reason) i here gone = absurd (true≢false gone)
   turn_leaves s c at z i here gone = absurd (true≢false (sym here ∙ gone))
 

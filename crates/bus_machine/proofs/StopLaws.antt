@@ -6,6 +6,7 @@ use Rattle.std.proofs.lemmas.List.{append-nil, length-replicate, set-set, set_co
 use Rattle.std.proofs.lemmas.List.Elements.{All-head, All-tail}
 use Rattle.std.proofs.lemmas.Option.{slice_get_within}
 use Rattle.std.proofs.Math.ListN.{length-set}
+use Rattle.bus_register.specs.declared.limits.TheConstants.{MOST_SENDERS}
 use Rattle.bus_register.specs.Proved.TableLaws.{some_or_none, here_not, get_set_same, get_set_other}
 use Rattle.bus_register.specs.declared.registers.Op.{Op}
 use Rattle.bus_core.specs.Senders.{Sender, Situation, Does, Announces, Validates, Unpins, Withdraws, Scans, Clears, situation}
@@ -39,9 +40,9 @@ module _ {E : Type 0} (X : Election E) where
   stops_after w m (Recv r) a h = ap (λ (y : Machine E). length y.stopped) h.after
   stops_after w m (Stop s) a h = ap (λ (y : Machine E). length y.stopped) h.after ∙ length-set w.stopped s true
 
-  -- it is told of 8 senders whether they have stopped
-  reached_stops : (m : Machine E) (T : Trails) → Reached X m T → length m.stopped ≡ 8
-  reached_stops m T (Start w new) = ap length new.stopped ∙ length-replicate 8 false
+  -- it is told of each sender that there can be whether they have stopped
+  reached_stops : (m : Machine E) (T : Trails) → Reached X m T → length m.stopped ≡ MOST_SENDERS
+  reached_stops m T (Start w new) = ap length new.stopped ∙ length-replicate MOST_SENDERS false
   reached_stops m T (Next w v U e a before h) = stops_after w v e a h ∙ reached_stops w U before
 
   -- the senders are as many, and the sizes the same
@@ -200,7 +201,7 @@ module _ {E : Type 0} (X : Election E) where
   happens_before m s went_on e g next other h =
       subst (λ y. Happens X y e g (with_stop_of s false next)) (ap (λ l. record m { stopped = l }) (taken_back m.stopped s went_on)) (happens_alike X (with_stop_of s true m) s false e g next other h)
 
-  stops : (old new : Machine E) (T : Trails) (s : ℕ) (a : Answer) → Reached X old T → old.layout.senders ≤ 8 → Happens X old (Stop s) a new → JustStopped X old s a new
+  stops : (old new : Machine E) (T : Trails) (s : ℕ) (a : Answer) → Reached X old T → old.layout.senders ≤ MOST_SENDERS → Happens X old (Stop s) a new → JustStopped X old s a new
   stops old new T s a r few h =
       let free = not_stopped old s h.sender h.goes in
       let below : s < old.layout.senders = reached_below X old T r s (slice_get_within old.senders s h.sender (shown_there (has_stopped old s) (slice_get old.senders s) h.sender h.goes)) in

@@ -2,7 +2,7 @@
 use Rattle.std.proofs.Common.{◌≡◌, inl, inr, ℕ, ◌+◌, ◌<◌, ◌/◌, ◌==◌, Bool, true, false, cond, nat_le, length, Option, Some, None, List, refl, sym, ◌∙◌, ap, subst, slice_index}
 use Rattle.std.specs.Prelude.{◌⊎◌, IsSome, IfSome}
 use Rattle.std.proofs.lemmas.Bool.{true≢false}
-use Rattle.bus_core.specs.Keeping.{core_without, page_out}
+use Rattle.bus_core.specs.Keeping.{core_without}
 use Rattle.bus_core.specs.Senders.{Sender, Situation, Does, Announces, Validates, Unpins, Withdraws, Scans, Clears, situation, situation_by, pinning}
 use Rattle.bus_core.specs.Table.{Line, line, line_now, rest_at, in_row, seen}
 use Rattle.bus_core.specs.Telling.{FeedTells, RestTells}
@@ -29,15 +29,6 @@ use Rattle.bus_machine.specs.Telling.{StepTells}
 use Rattle.bus_machine.specs.Turning.{HasStepped, HasTurned}
 
 -- ---- pages
--- where a page comes out of the sender's hands, it is home
-abbrev pub or_home : Option Page → Option Page → Option Page
-or_home None home = home
-or_home (Some page) home = Some page
-
-pub home_given : (m : PageMove) (home p : Option Page) → p ≡ page_out m → or_home p home ≡ home_moved (before_step m) home
-home_given Stays home p e = ap (λ q. or_home q home) e
-home_given (Comes t) home p e = ap (λ q. or_home q home) e
-home_given (Returns t reason page) home p e = ap (λ q. or_home q home) e
 
 module _ {E : Type 0} where
   -- ---- a sender that has handed the page on

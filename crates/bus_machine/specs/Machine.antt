@@ -19,7 +19,7 @@ use Rattle.bus_world.specs.Headline.{Action}
 use Rattle.bus_world.specs.Log.{words_read_from}
 use Rattle.bus_world.specs.Trails.{step_action, put_actions, close_actions}
 use Rattle.bus_world.specs.Turning.{words_after, number_found, home_moved, core_moved, after_step}
-use Rattle.bus_world.specs.World.{Event, Put, Close, Turn, Recv, Stop, is_set, no_stops, new_page, IsNewReceiver, RecvDoes}
+use Rattle.bus_world.specs.World.{Event, Put, Close, Turn, Recv, Stop, is_set, no_stops, AreBases, first_page, IsNewReceiver, RecvDoes}
 use Rattle.bus_world.specs.CyclicProtocols.{no_actions, no_answers, actions_with, answers_with}
 use Rattle.bus_world.specs.declared.events.Answer.{Answer}
 use Rattle.bus_world.specs.declared.events.Answer.TheVariants as answer
@@ -28,6 +28,8 @@ pub record Machine (E : Type 0) : Type 0 where
   pub layout : Layout
   -- how many rows are used again: None where each tenure has a row
   pub reuse : Option ℕ
+  -- the numbers that the sitting began with, by sender
+  pub bases : List ℕ
   pub words : List ℕ
   pub home : Option Page
   pub senders : List (Sender E)
@@ -36,6 +38,10 @@ pub record Machine (E : Type 0) : Type 0 where
   pub stopped : List Bool
   -- who took the pages, by tenure: all of them, or the last, of which there are at most as many as rows that are used again
   pub owners : List ℕ
+
+-- the number of a sender's first message
+abbrev pub base_of : {E : Type 0} → Machine E → ℕ → ℕ
+base_of m = slice_index m.bases
 
 -- where the log begins
 abbrev pub log_place : Layout → Option ℕ → ℕ
@@ -204,9 +210,10 @@ trails_grown X b (Stop s) a T = T
 -- ---- what is reached
 -- nothing has happened: words of zero, the page at home, senders and receivers at their starts, none of which has stopped
 pub record IsNew {E : Type 0} (b : Machine E) : Type 0 where
+  pub bases_are : AreBases b.bases
   pub words : b.words ≡ replicate (log_place b.layout b.reuse + b.layout.capacity) 0
-  pub home : b.home ≡ Some new_page
-  pub senders : (p : ℕ) (v : Sender E) → slice_get b.senders p ≡ Some v → (p < b.layout.senders) × (v ≡ new_sender b.layout p b.reuse)
+  pub home : b.home ≡ Some (first_page b.bases)
+  pub senders : (p : ℕ) (v : Sender E) → slice_get b.senders p ≡ Some v → (p < b.layout.senders) × (v ≡ new_sender b.layout p b.reuse (base_of b p))
   pub receivers : (r : ℕ) (v : Receiving) → slice_get b.receivers r ≡ Some v → IsNewReceiver b.layout (log_place b.layout b.reuse) v
   pub stopped : b.stopped ≡ no_stops
   pub owners : b.owners ≡ []

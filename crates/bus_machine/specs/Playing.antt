@@ -1,6 +1,6 @@
 -- The machine as a program holds it: which shapes are served, what each call tells, and what is said of events one after another.
-use Rattle.std.specs.Prelude.{◌≡◌, ℕ, ◌+◌, ◌*◌, ◌^◌, ◌≤◌, Bool, true, false, Option, Some, None, List, [], ◌∷◌, ◌++◌, length, take}
-use Rattle.std.specs.Prelude.{slice_get}
+use Rattle.std.specs.Prelude.{◌≡◌, ℕ, ◌+◌, ◌*◌, ◌^◌, ◌<◌, ◌≤◌, Bool, true, false, Option, Some, None, List, [], ◌∷◌, ◌++◌, length, take}
+use Rattle.std.specs.Prelude.{slice_get, slice_index}
 use Rattle.bus_register.specs.declared.limits.TheConstants.{MOST_SENDERS, MOST_RECEIVERS, MOST_ROUNDS, MOST_ROWS, LEAST_LOG_WORDS, MOST_LOG_WORDS, TENURES}
 use Rattle.bus_register.specs.Protocol.{Protocol}
 use Rattle.bus_adoptcommit.specs.declared.verdicts.Verdict.{Verdict}
@@ -15,7 +15,8 @@ use Rattle.bus_tenure.specs.Core.{Election, Layout, words_of}
 use Rattle.bus_tenure.specs.Elections.{Elector, layout_with}
 use Rattle.bus_tenure.specs.declared.pages.Page.{Page}
 use Rattle.bus_world.specs.Playing.{Within, Beyond, RecvRefused}
-use Rattle.bus_world.specs.World.{Event, Put, Close, Turn, Recv, Stop}
+use Rattle.bus_world.specs.World.{Event, Put, Close, Turn, Recv, Stop, no_bases}
+use Rattle.bus_world.specs.declared.limits.TheConstants.{FIRST_NUMBERS}
 use Rattle.bus_world.specs.declared.events.Answer.{Answer}
 use Rattle.bus_world.specs.declared.events.StepFault.{StepFault}
 use Rattle.bus_world.specs.declared.events.StepFault.TheVariants as fault
@@ -56,8 +57,8 @@ log_with shape None width = 2 + shape.rows * width
 log_with shape (Some rows) width = 2 + shape.senders + rows * width
 
 -- the bus of these parts
-abbrev pub machine_of : {E S : Type 0} → Protocol S Bool Verdict → Shape → Option ℕ → List ℕ → Option Page → List (Sender E) → List Receiving → List Bool → List ℕ → Machine E
-machine_of P shape reuse words home senders receivers stopped owners = record { layout = layout_of P shape reuse; reuse = reuse; words = words; home = home; senders = senders; receivers = receivers; stopped = stopped; owners = owners }
+abbrev pub machine_of : {E S : Type 0} → Protocol S Bool Verdict → Shape → Option ℕ → List ℕ → List ℕ → Option Page → List (Sender E) → List Receiving → List Bool → List ℕ → Machine E
+machine_of P shape reuse bases words home senders receivers stopped owners = record { layout = layout_of P shape reuse; reuse = reuse; bases = bases; words = words; home = home; senders = senders; receivers = receivers; stopped = stopped; owners = owners }
 
 -- a bus of this shape is served
 pub record IsServed (shape : Shape) (reuse : Option ℕ) : Type 0 where
@@ -75,13 +76,63 @@ MakeRefused shape reuse make.Rounds = Within 1 MOST_SENDERS shape.senders × Wit
 MakeRefused shape reuse make.Rows = Within 1 MOST_SENDERS shape.senders × Within 1 MOST_RECEIVERS shape.receivers × Within 1 MOST_ROUNDS shape.rounds × Beyond (least_rows reuse) (most_rows reuse) shape.rows
 MakeRefused shape reuse make.LogWords =
     Within 1 MOST_SENDERS shape.senders × Within 1 MOST_RECEIVERS shape.receivers × Within 1 MOST_ROUNDS shape.rounds × Within (least_rows reuse) (most_rows reuse) shape.rows × Beyond LEAST_LOG_WORDS MOST_LOG_WORDS shape.log_words
+-- of a bus of which no sitting was before
+MakeRefused shape reuse make.NotEnded = ⊥
+MakeRefused shape reuse make.Numbers = ⊥
 MakeRefused shape reuse make.NoMemory = IsServed shape reuse
 
--- a new bus of this shape, over such ratifiers
-pub record IsMade {E S : Type 0} (X : Election E) (P : Protocol S Bool Verdict) (shape : Shape) (reuse : Option ℕ) (m : Machine E) : Type 0 where
+-- ---- a next sitting
+-- the page of a sitting that a bus can go on with: it has ended, and each next number leaves room for a whole log
+pub record IsFollowed (page : Page) : Type 0 where
+  pub ended : page.ended ≡ true
+  pub low : (s : ℕ) → slice_index page.next s < FIRST_NUMBERS
+
+-- why no bus is made that is to go on with it: of all 64 senders the next number is looked at, whatever the shape
+abbrev pub AfterRefused : Shape → Option ℕ → Page → MakeFault → Type 0
+AfterRefused shape reuse page make.Senders = MakeRefused shape reuse make.Senders
+AfterRefused shape reuse page make.Receivers = MakeRefused shape reuse make.Receivers
+AfterRefused shape reuse page make.Rounds = MakeRefused shape reuse make.Rounds
+AfterRefused shape reuse page make.Rows = MakeRefused shape reuse make.Rows
+AfterRefused shape reuse page make.LogWords = MakeRefused shape reuse make.LogWords
+AfterRefused shape reuse page make.NotEnded = IsServed shape reuse × (page.ended ≡ false)
+AfterRefused shape reuse page make.Numbers = IsServed shape reuse × (page.ended ≡ true) × (s : ℕ) × (s < MOST_SENDERS) × (FIRST_NUMBERS ≤ slice_index page.next s)
+AfterRefused shape reuse page make.NoMemory = IsServed shape reuse × IsFollowed page
+
+-- what is wrong with the page itself
+abbrev pub PageRefused : Page → MakeFault → Type 0
+PageRefused page make.Senders = ⊥
+PageRefused page make.Receivers = ⊥
+PageRefused page make.Rounds = ⊥
+PageRefused page make.Rows = ⊥
+PageRefused page make.LogWords = ⊥
+PageRefused page make.NotEnded = page.ended ≡ false
+PageRefused page make.Numbers = (page.ended ≡ true) × (s : ℕ) × (s < MOST_SENDERS) × (FIRST_NUMBERS ≤ slice_index page.next s)
+PageRefused page make.NoMemory = ⊥
+
+abbrev pub MayNotFollow : Option Page → MakeFault → Type 0
+MayNotFollow None why = ⊥
+MayNotFollow (Some page) why = PageRefused page why
+
+-- with this page, if with any
+abbrev pub MakeRefusedAfter : Shape → Option ℕ → Option Page → MakeFault → Type 0
+MakeRefusedAfter shape reuse None why = MakeRefused shape reuse why
+MakeRefusedAfter shape reuse (Some page) why = AfterRefused shape reuse page why
+
+-- and the numbers that the sitting begins with: nothing else of the page is carried over
+abbrev pub bases_after : Option Page → List ℕ
+bases_after None = no_bases
+bases_after (Some page) = page.next
+
+abbrev pub MayFollow : Option Page → Type 0
+MayFollow None = Unit {0}
+MayFollow (Some page) = IsFollowed page
+
+-- a new bus of this shape, over such ratifiers, of a sitting that begins with these numbers
+pub record IsMade {E S : Type 0} (X : Election E) (P : Protocol S Bool Verdict) (shape : Shape) (reuse : Option ℕ) (bases : List ℕ) (m : Machine E) : Type 0 where
   pub served : IsServed shape reuse
   pub layout : m.layout ≡ layout_of P shape reuse
   pub rows : m.reuse ≡ reuse
+  pub bases_are : m.bases ≡ bases
   pub new : IsNew m
   pub senders : length m.senders ≡ shape.senders
   pub receivers : length m.receivers ≡ shape.receivers

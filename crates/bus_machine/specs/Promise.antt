@@ -29,7 +29,7 @@ use Rattle.bus_world.specs.Trails.{Takers}
 use Rattle.bus_world.specs.Waiting.{waiting_at}
 use Rattle.bus_world.specs.World.{Event, Put, Close, Turn, Recv, Stop}
 use Rattle.bus_world.specs.declared.events.Answer.{Answer}
-use Rattle.bus_machine.specs.Machine.{Machine, Trails, Reached, trails_grown, owners_told, log_place, log_of, stage_of, going}
+use Rattle.bus_machine.specs.Machine.{Machine, Trails, base_of, Reached, trails_grown, owners_told, log_place, log_of, stage_of, going}
 use Rattle.bus_machine.specs.Remembering.{Remembers}
 
 -- a row for each tenure, or two rows or more
@@ -88,18 +88,18 @@ abbrev pub IsPagedBy : (stage len : ℕ) → Bool → Option Page → Type 0
 IsPagedBy stage len ended None = (t : ℕ) × (stage ≡ 2 * t + 1)
 IsPagedBy stage len ended (Some page) = (stage ≡ 2 * page.tenures) × (page.words ≡ len) × (page.ended ≡ ended)
 
--- it knows how many items of each sender this order has
-pub record KnowsOrder (page : Page) (order : Order) : Type 0 where
+-- it knows the next number of each sender behind this order
+pub record KnowsOrder (base : ℕ → ℕ) (page : Page) (order : Order) : Type 0 where
   pub entries : length page.next ≡ MOST_SENDERS
-  pub next : (s : ℕ) → s < MOST_SENDERS → slice_index page.next s ≡ length (of_sender s order)
+  pub next : (s : ℕ) → s < MOST_SENDERS → slice_index page.next s ≡ base s + length (of_sender s order)
 
 -- A page that is out knows what the log was when it left home: how many words it had, the order that these spell, and the tenures.
-pub record KnowsFront (senders tenure : ℕ) (page : Page) (front : List ℕ) : Type 0 where
+pub record KnowsFront (base : ℕ → ℕ) (senders tenure : ℕ) (page : Page) (front : List ℕ) : Type 0 where
   pub order : Order
   pub owners : List (ℕ × SenderNo)
   pub spelled : Spells senders front order owners
   pub words : page.words ≡ length front
-  pub knows : KnowsOrder page order
+  pub knows : KnowsOrder base page order
   pub ended : page.ended ≡ order.ended
   pub tenures : page.tenures ≡ tenure
 
@@ -119,7 +119,7 @@ pub record IsWithOwner {E : Type 0} (m : Machine E) (T : Trails) (owners : List 
   pub published : Bool
   pub has : sender.core.phase ≡ Holding tenure page stored published
   pub front : List ℕ
-  pub knows : KnowsFront m.layout.senders tenure page front
+  pub knows : KnowsFront (base_of m) m.layout.senders tenure page front
   pub behind : log_of m ≡ front ++ (if published then frame_words (frame_of sender.core.queue tenure) else [])
 
 -- the page is at home, and the stage is that of this tenure
@@ -133,7 +133,7 @@ pub record FindsPage {E : Type 0} (m : Machine E) (t : ℕ) : Type 0 where
 pub record IsPromisedBy {E : Type 0} (X : Election E) (m : Machine E) (T : Trails) (order : Order) (owners : List (ℕ × SenderNo)) : Type 0 where
   pub spelled : Spells m.layout.senders (log_of m) order owners
   pub takers : TakersTold m.reuse m.owners T.actions
-  pub promises : Promises T.actions T.heard order owners
+  pub promises : Promises (base_of m) T.actions T.heard order owners
   pub paged : IsPagedBy (stage_of m) (slice_index m.words 0) order.ended m.home
   -- who takes the page of a tenure with its next step finds it at home, in that tenure; and who holds it, holds that of the tenure
   pub finds : (s : ℕ) (v : Sender E) (t : ℕ) → slice_get m.senders s ≡ Some v → situation X v ≡ Does (TakesPage t) → FindsPage m t
@@ -142,8 +142,8 @@ pub record IsPromisedBy {E : Type 0} (X : Election E) (m : Machine E) (T : Trail
   pub owns : (s : ℕ) (v : Sender E) (t : ℕ) → slice_get m.senders s ≡ Some v → held_of v.core.phase ≡ Some t → slice_get takers.all t ≡ Some s
   -- a page at home counts the pages that were taken
   pub counts : (page : Page) → m.home ≡ Some page → page.tenures ≡ length takers.all
-  -- it knows how many items of each sender the order has; a page that is out is with the owner of the tenure that is held
-  pub knows : (page : Page) → m.home ≡ Some page → KnowsOrder page order
+  -- it knows the next number of each sender behind the order; a page that is out is with the owner of the tenure that is held
+  pub knows : (page : Page) → m.home ≡ Some page → KnowsOrder (base_of m) page order
   pub out : m.home ≡ None → IsWithOwner m T takers.all
   -- a word of the log is stored past its length, behind those of the same frame that are stored
   pub past : (s : ℕ) (v : Sender E) (t : ℕ) (page : Page) (stored word : ℕ) (o : Op) → slice_get m.senders s ≡ Some v

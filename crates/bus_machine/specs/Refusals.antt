@@ -30,7 +30,7 @@ use Rattle.bus_world.specs.World.{Event}
 use Rattle.bus_world.specs.declared.events.Answer.{Answer}
 use Rattle.bus_world.specs.declared.events.Answer.TheVariants as answer
 use Rattle.bus_machine.specs.Bounding.{named_by, AreBounded, PinsAreBounded}
-use Rattle.bus_machine.specs.Machine.{Machine, Trails, log_place, log_of, stage_of}
+use Rattle.bus_machine.specs.Machine.{Machine, Trails, base_of, log_place, log_of, stage_of}
 use Rattle.bus_machine.specs.Promise.{IsPromised, Follows, actions_in, pin_of, frame_published}
 use Rattle.bus_machine.specs.Telling.{TurnTells, PutTells, LossesAreSeen}
 
@@ -74,9 +74,11 @@ pub record AnswersRefuse {E : Type 0} (m : Machine E) (s : ℕ) (v : Sender E) (
 
 -- a first message that is accepted as number 1, a second one as number 0, and one that was not put
 pub record NumbersRefuse : Type 0 where
-  pub first_as_one : (bytes : List ℕ) → ¬ PutTells (HasPut 1 bytes ∷ []) (answer.Number 1)
-  pub second_as_zero : (bytes more : List ℕ) → ¬ PutTells (HasPut 0 bytes ∷ HasPut 0 more ∷ []) (answer.Number 0)
-  pub unput : ¬ PutTells [] (answer.Number 0)
+  pub first_as_one : (bytes : List ℕ) → ¬ PutTells 0 (HasPut 1 bytes ∷ []) (answer.Number 1)
+  pub second_as_zero : (bytes more : List ℕ) → ¬ PutTells 0 (HasPut 0 bytes ∷ HasPut 0 more ∷ []) (answer.Number 0)
+  pub unput : ¬ PutTells 0 [] (answer.Number 0)
+  -- of a sender whose sitting began with the number 5, numbers that start anew
+  pub starts_anew : (bytes : List ℕ) → ¬ PutTells 5 (HasPut 0 bytes ∷ []) (answer.Number 0)
 
 -- more steps towards a page than an election has turns, or no turn left while one runs
 pub record BoundsRefuse {E : Type 0} (X : Election E) (bound : ℕ) (m : Machine E) (T : Trails) : Type 0 where
@@ -118,9 +120,9 @@ pub record PagesRefuse {E : Type 0} (X : Election E) (m : Machine E) (T : Trails
   pub home_while_held : (page : Page) (t : ℕ) → m.home ≡ Some page → stage_of m ≡ 2 * t + 1 → ¬ IsPromised X m T
   pub out_while_open : (t : ℕ) → m.home ≡ None → stage_of m ≡ 2 * t → ¬ IsPromised X m T
   pub other_tenure : (page : Page) → m.home ≡ Some page → stage_of m ≢ 2 * page.tenures → ¬ IsPromised X m T
-  -- or another number of items of a sender than the log spells
+  -- or another next number of a sender than that behind the log
   pub other_items : (page : Page) (order : Order) (owners : List (ℕ × SenderNo)) (s : ℕ) → m.home ≡ Some page
-      → Spells m.layout.senders (log_of m) order owners → s < MOST_SENDERS → slice_index page.next s ≢ length (of_sender s order)
+      → Spells m.layout.senders (log_of m) order owners → s < MOST_SENDERS → slice_index page.next s ≢ base_of m s + length (of_sender s order)
       → ¬ IsPromised X m T
   -- a page at home that counts a tenure, while nobody has done anything
   pub counts_untaken : (page : Page) → m.home ≡ Some page → page.tenures ≡ 1 → ((s : ℕ) → T.actions s ≡ []) → ¬ IsPromised X m T
@@ -144,7 +146,7 @@ pub record MemoriesRefuse {E : Type 0} (X : Election E) (m : Machine E) (T : Tra
   pub other_rows : (s : ℕ) (v : Sender E) (r : Reuse) (rows : ℕ) → slice_get m.senders s ≡ Some v → m.reuse ≡ Some rows → v.reuse ≡ Some r
       → r.rows ≢ rows → ¬ IsPromised X m T
   -- its next message is the second one, and it has done nothing
-  pub first_as_one : (s : ℕ) (v : Sender E) → slice_get m.senders s ≡ Some v → next_of v.core.queue ≡ 1 → T.actions s ≡ [] → ¬ IsPromised X m T
+  pub first_as_one : (s : ℕ) (v : Sender E) → slice_get m.senders s ≡ Some v → next_of v.core.queue ≡ base_of m s + 1 → T.actions s ≡ [] → ¬ IsPromised X m T
   -- its batch is closed while the order goes on
   pub closed_too_soon : (s : ℕ) (v : Sender E) (order : Order) (owners : List (ℕ × SenderNo)) → slice_get m.senders s ≡ Some v
       → v.core.queue.phase ≡ batch.Closed → Spells m.layout.senders (log_of m) order owners → order.ended ≡ false → ¬ IsPromised X m T

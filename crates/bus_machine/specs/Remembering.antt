@@ -9,7 +9,7 @@ use Rattle.bus_register.specs.declared.registers.SenderNo.{SenderNo}
 use Rattle.bus_tenure.specs.Seen.{tenure_of}
 use Rattle.bus_tenure.specs.declared.phases.Phase.TheVariants.{Resting}
 use Rattle.bus_world.specs.Headline.{Action, Elected, puts}
-use Rattle.bus_machine.specs.Machine.{Machine, log_of, stage_of}
+use Rattle.bus_machine.specs.Machine.{Machine, base_of, log_of, stage_of}
 
 -- the order that the log spells has ended
 pub record HasEnded {E : Type 0} (m : Machine E) : Type 0 where
@@ -49,8 +49,8 @@ pub record Remembers {E : Type 0} (m : Machine E) (s : ℕ) (v : Sender E) (acti
   -- it is who it is, and uses as many rows again as the machine
   pub is : IsItself m s v
   pub rows : rows_in v.reuse ≡ m.reuse
-  -- its next message has the number of how many it has put
-  pub numbers : next_of v.core.queue ≡ length (puts actions)
+  -- its next message has the number of its base and how many it has put
+  pub numbers : next_of v.core.queue ≡ base_of m s + length (puts actions)
   -- its batch is closed only once the order has ended
   pub closed : v.core.queue.phase ≡ Closed → HasEnded m
   -- each tenure below the first that it may enter has ended, or it has lost it

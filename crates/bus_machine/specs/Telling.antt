@@ -20,7 +20,7 @@ use Rattle.bus_world.specs.Telling.{HasDelivered}
 use Rattle.bus_world.specs.World.{Event, Put, Close, Turn, Recv, Stop}
 use Rattle.bus_world.specs.declared.events.Answer.{Answer}
 use Rattle.bus_world.specs.declared.events.Answer.TheVariants as answer
-use Rattle.bus_machine.specs.Machine.{Machine, Trails, Reached, trails_grown, going, log_of, stage_of}
+use Rattle.bus_machine.specs.Machine.{Machine, Trails, Reached, base_of, trails_grown, going, log_of, stage_of}
 use Rattle.bus_machine.specs.Promise.{pin_of}
 use Rattle.bus_machine.specs.Remembering.{HasEnded, NoneIsLeft}
 
@@ -95,17 +95,17 @@ SenderTells m s (Some v) actions (answer.Turn t) = TurnTells m s v actions t
 SenderTells m s (Some v) actions (answer.Recv r) = Unit {0}
 SenderTells m s (Some v) actions answer.Stopped = Unit {0}
 
--- a message that was accepted has the number of those that its sender had put before it, by the actions with this put
-abbrev pub PutTells : List Action → Answer → Type 0
-PutTells actions (answer.Number n) = n + 1 ≡ length (puts actions)
-PutTells actions answer.Closing = Unit {0}
-PutTells actions (answer.Turn t) = Unit {0}
-PutTells actions (answer.Recv r) = Unit {0}
-PutTells actions answer.Stopped = Unit {0}
+-- a message that was accepted has the number of its sender's base and of those that it had put before it, by the actions with this put
+abbrev pub PutTells : ℕ → List Action → Answer → Type 0
+PutTells first actions (answer.Number n) = n + 1 ≡ first + length (puts actions)
+PutTells first actions answer.Closing = Unit {0}
+PutTells first actions (answer.Turn t) = Unit {0}
+PutTells first actions (answer.Recv r) = Unit {0}
+PutTells first actions answer.Stopped = Unit {0}
 
 -- an event of the machine as it was, with its answer, by the trails that lead to the machine as it is then
 abbrev pub EventTells : {E : Type 0} → Machine E → Event → Answer → Trails → Type 0
-EventTells m (Put s bytes) a T = PutTells (T.actions s) a
+EventTells m (Put s bytes) a T = PutTells (base_of m s) (T.actions s) a
 EventTells m (Close s) a T = Unit {0}
 EventTells m (Turn s word) a T = SenderTells m s (going m s) (T.actions s) a
 EventTells m (Recv r) a T = Unit {0}

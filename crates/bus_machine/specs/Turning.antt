@@ -38,6 +38,6 @@ pub record HasShut {E : Type 0} (old new : Sender E) : Type 0 where
   pub sender_is : new ≡ close_in old
 
 -- so many senders, each at its start
-pub record AreNewSenders {E : Type 0} (x : Layout) (reuse : Option ℕ) (many : ℕ) (senders : List (Sender E)) : Type 0 where
+pub record AreNewSenders {E : Type 0} (x : Layout) (reuse : Option ℕ) (bases : List ℕ) (many : ℕ) (senders : List (Sender E)) : Type 0 where
   pub many_are : length senders ≡ many
-  pub each : (p : ℕ) (v : Sender E) → slice_get senders p ≡ Some v → (p < many) × (v ≡ new_sender x p reuse)
+  pub each : (p : ℕ) (v : Sender E) → slice_get senders p ≡ Some v → (p < many) × (v ≡ new_sender x p reuse (slice_index bases p))

@@ -102,8 +102,8 @@ pub fn losses_refuse<Q: Ratifier>()
     ensures { (machine : Machine (Elector Q)) → LossesRefuse machine }
 {}
 
-/// No answer is true that accepts a message with another number than how many its sender had put
-/// before it; or that is Lost to an owner whose election the sender did not see, or to itself; Own
+/// No answer is true that accepts a message with another number than its sender's first one and how
+/// many that had put before it; or that is Lost to an owner whose election the sender did not see, or to itself; Own
 /// of a tenure whose page it did not take; Delivered or Closed where the log is empty; Delivered of
 /// another tenure, sender or first number than those of the last frame; Closed while the order
 /// goes on; Full where the frame fits; Spent in the first of two tenures, or in the only one before

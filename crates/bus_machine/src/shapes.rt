@@ -1,14 +1,22 @@
 //! Which shapes are served, and how many words a bus of them has.
 
-ghost use Rattle.std.specs.Prelude.{◌≡◌, ◌≢◌, ◌≤◌, ◌^◌, IfSome, None};
+ghost use Rattle.std.specs.Prelude.{◌≡◌, ◌≢◌, ℕ, ◌<◌, ◌≤◌, ◌^◌, IfErr, IfOk, IfSome, None, OnOk, false};
+ghost use Rattle.std.specs.Prelude.{slice_index, true};
+ghost use Rattle.std.specs.Option.{option_copied};
 ghost use Rattle.bus_machine.specs.Playing.{IsServed, MakeRefused, least_rows as spec_least_rows};
 ghost use Rattle.bus_machine.specs.Playing.{most_rows as spec_most_rows, ShapeOf, log_with};
+ghost use Rattle.bus_machine.specs.Playing.{MayFollow, MayNotFollow, bases_after};
+ghost use Rattle.bus_register.specs.declared.limits.TheConstants.{MOST_SENDERS};
+ghost use Rattle.bus_world.specs.World.{AreBases};
+ghost use Rattle.bus_world.specs.declared.limits.TheConstants.{FIRST_NUMBERS};
 ghost use Rattle.bus_world.specs.declared.shapes.MakeFault.TheVariants.{NoMemory};
 
 use bus_core::limits::{LEAST_ROWS_AGAIN, MOST_ROWS_AGAIN};
 use bus_register::limits::{
     LEAST_LOG_WORDS, MOST_LOG_WORDS, MOST_RECEIVERS, MOST_ROUNDS, MOST_ROWS, MOST_SENDERS,
 };
+use bus_tenure::Page;
+use bus_world::limits::FIRST_NUMBERS;
 use bus_world::{MakeFault, Shape};
 
 /// The least number of rows: a row for each tenure, or rows that are used again.
@@ -50,6 +58,40 @@ pub fn fault_of(shape: Shape, reuse: Option<u64>) -> Option<MakeFault>
     } else {
         None
     }
+}
+
+/// Whether each of these numbers leaves room for a whole log.
+fn are_low(next: [u64; MOST_SENDERS]) -> bool
+    ensures low { result ≡ true → AreBases next }
+    ensures high { result ≡ false
+        → (s : ℕ) × (s < MOST_SENDERS) × (FIRST_NUMBERS ≤ slice_index next s) }
+{
+    for sender in 0..MOST_SENDERS {
+        if next[sender] >= FIRST_NUMBERS {
+            return false;
+        }
+    }
+    true
+}
+
+/// The numbers that a sitting begins with, by sender: those of the page, if it goes on with one, of
+/// which nothing else is carried over.
+pub fn first_numbers(page: Option<&Page>) -> Result<[u64; MOST_SENDERS], MakeFault>
+    ensures bases { IfOk result (λ bases. bases ≡ bases_after (option_copied page.entry)) }
+    ensures are { IfOk result (λ bases. AreBases bases) }
+    ensures follows { OnOk result (MayFollow (option_copied page.entry)) }
+    ensures fault { IfErr result (MayNotFollow (option_copied page.entry)) }
+{
+    let Some(page) = page else {
+        return Ok([0; MOST_SENDERS]);
+    };
+    if !page.ended {
+        return Err(MakeFault::NotEnded);
+    }
+    if !are_low(page.next) {
+        return Err(MakeFault::Numbers);
+    }
+    Ok(page.next)
 }
 
 /// Where the log begins, where a row has so many words.

@@ -5,6 +5,8 @@ ghost use Rattle.bus_core.specs.Keeping.{new_sender as spec_new_sender};
 ghost use Rattle.bus_tenure.specs.Core.{words_of};
 ghost use Rattle.bus_machine.specs.Playing.{layout_of, IsServed, RoomFor, ShapeOf};
 ghost use Rattle.bus_machine.specs.Turning.{AreNewSenders};
+ghost use Rattle.bus_register.specs.declared.limits.TheConstants.{NUMBERS};
+ghost use Rattle.bus_world.specs.World.{AreBases};
 
 use bus_adoptcommit::Ratifier;
 use bus_core::SenderCore;
@@ -12,36 +14,45 @@ use bus_register::{NoMemory, SenderNo};
 use bus_world::Shape;
 use std::alloc::Global;
 
-/// A sender with nothing pending.
-fn new_sender<Q: Ratifier + Drop>(shape: Shape, reuse: Option<u64>, me: SenderNo) -> SenderCore<Q>
+/// A sender with nothing pending, whose first message gets the number `first`.
+fn new_sender<Q: Ratifier + Drop>(
+    shape: Shape,
+    reuse: Option<u64>,
+    me: SenderNo,
+    first: u64,
+) -> SenderCore<Q>
     requires served { IsServed shape reuse }
     requires shape { ShapeOf shape reuse }
     requires room { RoomFor Q.protocol shape reuse }
     requires below { me.0 < shape.senders }
-    ensures { result ≡ spec_new_sender (layout_of Q.protocol shape reuse) me.0 reuse }
+    requires numbers { first ≤ NUMBERS }
+    ensures { result ≡ spec_new_sender (layout_of Q.protocol shape reuse) me.0 reuse first }
 {
     let (senders, rounds, words) = (shape.senders, shape.rounds, shape.log_words);
     match reuse {
-        None => SenderCore::new(senders, me, rounds, shape.rows, words),
-        Some(rows) => SenderCore::cyclic(senders, me, rounds, rows, words),
+        None => SenderCore::new(senders, me, rounds, shape.rows, words, first),
+        Some(rows) => SenderCore::cyclic(senders, me, rounds, rows, words, first),
     }
 }
 
-/// A sender for each number, with nothing pending.
+/// A sender for each number, with nothing pending, whose messages count from its base.
 pub fn new_senders<Q: Ratifier + Drop>(
     alloc: Global,
     shape: Shape,
     reuse: Option<u64>,
+    bases: &[u64],
 ) -> Result<Vec<SenderCore<Q>>, NoMemory>
     requires served { IsServed shape reuse }
     requires shape { ShapeOf shape reuse }
     requires room { RoomFor Q.protocol shape reuse }
+    requires bases { AreBases bases.now }
     ensures { IfOk result (λ senders. AreNewSenders (layout_of Q.protocol shape reuse) reuse
-        shape.senders senders.items) }
+        bases.now shape.senders senders.items) }
 {
     let mut senders = Vec::new(alloc);
     for me in 0..shape.senders {
-        senders.push(new_sender(shape, reuse, SenderNo(me as u8)))?;
+        let first = bases[me as usize];
+        senders.push(new_sender(shape, reuse, SenderNo(me as u8), first))?;
     }
     Ok(senders)
 }

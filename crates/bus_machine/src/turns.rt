@@ -22,11 +22,11 @@ use bus_adoptcommit::Ratifier;
 use bus_core::SenderCore;
 use bus_register::limits::{MOST_ROWS, NUMBERS};
 use bus_register::{Cells, SenderNo};
-use bus_tenure::{Page, Turn};
+use bus_tenure::{OwnedPage, Turn};
 use bus_world::StepFault;
 
 /// The page comes home from a sender that is to give it back.
-fn hand_home<Q: Ratifier + Drop>(home: &mut Option<Page>, core: &mut SenderCore<Q>)
+fn hand_home<Q: Ratifier + Drop>(home: &mut Option<OwnedPage>, core: &mut SenderCore<Q>)
     ensures home { let X = election_of Q.Ratifier in
         home.new ≡ home_moved (before_step (line_now X core.old).move) home.old }
     ensures core { let X = election_of Q.Ratifier in
@@ -63,7 +63,7 @@ fn take_step<Q: Ratifier + Drop>(cells: &mut Cells, core: &mut SenderCore<Q>, wo
 }
 
 /// The page is laid before a sender that has taken it.
-fn lay_page<Q: Ratifier + Drop>(home: &mut Option<Page>, core: &mut SenderCore<Q>)
+fn lay_page<Q: Ratifier + Drop>(home: &mut Option<OwnedPage>, core: &mut SenderCore<Q>)
     ensures core { core.new ≡ moved (laying core.old.core.phase) home.old core.old }
     ensures home { home.new ≡ home_moved (laying core.old.core.phase) home.old }
 {
@@ -78,7 +78,7 @@ fn lay_page<Q: Ratifier + Drop>(home: &mut Option<Page>, core: &mut SenderCore<Q
 /// home.
 pub fn turn_sender<Q: Ratifier + Drop>(
     cells: &mut Cells,
-    home: &mut Option<Page>,
+    home: &mut Option<OwnedPage>,
     core: &mut SenderCore<Q>,
     word: u32,
 ) -> Turn

@@ -11,16 +11,18 @@ ghost use Rattle.bus_tenure.specs.Elections.{election_of};
 ghost use Rattle.bus_world.specs.declared.events.Answer.TheVariants as answer;
 ghost use Rattle.bus_world.specs.Headline.{order_given};
 ghost use Rattle.bus_world.specs.Playing.{event_told};
-ghost use Rattle.bus_world.specs.World.{Put, Close, Turn as SenderTurn, Recv, Stop};
+ghost use Rattle.bus_world.specs.World.{no_bases, Put, Close, Turn as SenderTurn, Recv, Stop};
 ghost use Rattle.bus_ownerbits.specs.Sizes.{election_bound};
 ghost use Rattle.bus_machine.specs.Bounding.{AreBounded, PinsAreBounded};
 ghost use Rattle.bus_machine.specs.Machine.{Trails, Reached, Happens, has_stopped, log_of};
 ghost use Rattle.bus_machine.specs.Playing.{IsMade, MakeRefused, ShapeOf, Answers, Refused};
+ghost use Rattle.bus_machine.specs.Playing.{AfterRefused, IsFollowed, MakeRefusedAfter, MayFollow};
+ghost use Rattle.bus_machine.specs.Playing.{bases_after};
 ghost use Rattle.bus_machine.specs.Playing.{Refuses, Played, Stops};
 ghost use Rattle.bus_machine.specs.Promise.{IsPromised, TakersTold};
 ghost use Rattle.bus_machine.specs.Telling.{Causes, Says, LossesAreSeen};
 
-use crate::shapes::{fault_of, log_word};
+use crate::shapes::{fault_of, first_numbers, log_word};
 use crate::starts::new_senders;
 use crate::turns::{close_to, note_owner, put_to, turn_sender};
 use arrayvec::ArrayVec;
@@ -31,8 +33,8 @@ use bus_ownerbits::Election;
 use bus_ownerbits::laws::election_is_lawful;
 use bus_register::limits::{MOST_ROWS, MOST_SENDERS};
 use bus_register::{Cells, NoMemory, Reg, SenderNo};
-use bus_tenure::Page;
-use bus_world::starts::{NEW_PAGE, new_receivers};
+use bus_tenure::{OwnedPage, Page};
+use bus_world::starts::{first_page, new_receivers};
 use bus_world::turns::turn_receiver;
 use bus_world::{Answer, Event, MakeFault, PlayFault, Shape, StepFault};
 use std::alloc::Global;
@@ -51,8 +53,10 @@ pub struct World<Q: Ratifier> {
     shape: Shape,
     /// How many rows are used again.
     reuse: Option<u64>,
+    /// The numbers that the sitting began with, by sender.
+    bases: [u64; MOST_SENDERS],
     cells: Cells,
-    home: Option<Page>,
+    home: Option<OwnedPage>,
     senders: Vec<SenderCore<Q>>,
     receivers: Vec<Reader>,
     /// Who took the pages, by tenure; where rows are used again the last, as many as there are
@@ -70,11 +74,11 @@ impl<Q: Ratifier> Model for World<Q> {
 
     ghost Value = { Machine (Elector Q) };
 
-    ghost view = { λ w. machine_of Q.protocol w.shape w.reuse w.cells w.home w.senders.items
+    ghost view = { λ w. machine_of Q.protocol w.shape w.reuse w.bases w.cells w.home w.senders.items
         w.receivers.items w.stopped (map (λ s. s.0) w.owners.items) };
 
     ghost invariant = { λ w. IsHeld (election_with Q.kind_of Q.op Q.fed Q.protocol)
-        (machine_of Q.protocol w.shape w.reuse w.cells w.home w.senders.items
+        (machine_of Q.protocol w.shape w.reuse w.bases w.cells w.home w.senders.items
         w.receivers.items w.stopped (map (λ s. s.0) w.owners.items)) };
 }
 
@@ -82,41 +86,66 @@ impl<Q: Ratifier + Drop> World<Q> {
     /// A new bus with a row of words for each tenure, its words at zero and its page at home.
     pub fn new(alloc: Global, shape: Shape) -> Result<World<Q>, MakeFault>
         ensures made { let X = election_of Q.Ratifier in
-            IfOk result (IsMade X Q.protocol shape None) }
+            IfOk result (IsMade X Q.protocol shape None no_bases) }
         ensures fault { IfErr result (MakeRefused shape None) }
     {
-        World::make(alloc, shape, None)
+        World::make(alloc, shape, None, None)
     }
 
-    /// A new bus whose rows of words are used again: `rows` of its shape, 2 to 8.
-    pub fn cyclic(alloc: Global, shape: Shape) -> Result<World<Q>, MakeFault>
+    /// The next sitting: a new bus with a row of words for each tenure, whose senders go on with
+    /// the numbers of this page. That is the page of a sitting that has ended. Nothing else of it
+    /// is carried over.
+    pub fn after(alloc: Global, shape: Shape, page: &Page) -> Result<World<Q>, MakeFault>
         ensures made { let X = election_of Q.Ratifier in
-            IfOk result (IsMade X Q.protocol shape (Some shape.rows)) }
-        ensures fault { IfErr result (MakeRefused shape (Some shape.rows)) }
+            IfOk result (IsMade X Q.protocol shape None page.now.next) }
+        ensures follows { OnOk result (IsFollowed page.now) }
+        ensures fault { IfErr result (AfterRefused shape None page.now) }
     {
-        World::make(alloc, shape, Some(shape.rows))
+        World::make(alloc, shape, None, Some(page))
+    }
+
+    /// A new bus whose rows of words are used again: `rows` of its shape, 2 to 8. With a page it is
+    /// the next sitting, as `after`.
+    pub fn cyclic(alloc: Global, shape: Shape, page: Option<&Page>) -> Result<World<Q>, MakeFault>
+        ensures made { let X = election_of Q.Ratifier in
+            IfOk result (IsMade X Q.protocol shape (Some shape.rows)
+            (bases_after (option_copied page.entry))) }
+        ensures follows { OnOk result (MayFollow (option_copied page.entry)) }
+        ensures fault { IfErr result
+            (MakeRefusedAfter shape (Some shape.rows) (option_copied page.entry)) }
+    {
+        World::make(alloc, shape, Some(shape.rows), page)
     }
 
     /// A new bus of either kind.
-    fn make(alloc: Global, shape: Shape, reuse: Option<u64>) -> Result<World<Q>, MakeFault>
+    fn make(
+        alloc: Global,
+        shape: Shape,
+        reuse: Option<u64>,
+        page: Option<&Page>,
+    ) -> Result<World<Q>, MakeFault>
         requires { ShapeOf shape reuse }
         ensures made { let X = election_of Q.Ratifier in
-            IfOk result (IsMade X Q.protocol shape reuse) }
-        ensures fault { IfErr result (MakeRefused shape reuse) }
+            IfOk result (IsMade X Q.protocol shape reuse (bases_after (option_copied page.entry))) }
+        ensures follows { OnOk result (MayFollow (option_copied page.entry)) }
+        ensures fault { IfErr result (MakeRefusedAfter shape reuse (option_copied page.entry)) }
     {
         if let Some(fault) = fault_of(shape, reuse) {
             return Err(fault);
         }
+        let bases = first_numbers(page)?;
         let width = Election::<Q>::width(shape.senders, shape.rounds);
         let log = log_word(shape, reuse, width);
         let cells = Cells::new(alloc, log + shape.log_words)?;
-        let senders = new_senders(alloc, shape, reuse)?;
+        let home = first_page(alloc, bases)?;
+        let senders = new_senders(alloc, shape, reuse, &bases)?;
         let receivers = new_receivers(alloc, shape, Reg(log))?;
         Ok(World {
             shape,
             reuse,
+            bases,
             cells,
-            home: Some(NEW_PAGE),
+            home: Some(home),
             senders,
             receivers,
             owners: ArrayVec::new(),
@@ -329,7 +358,10 @@ impl<Q: Ratifier + Drop> World<Q> {
     pub fn page(&self) -> Option<&Page>
         ensures { option_copied result ≡ self.now.home }
     {
-        self.home.as_ref()
+        match &self.home {
+            None => None,
+            Some(home) => Some(home.get()),
+        }
     }
 
     /// A sender, where there is one of this number.

@@ -5,12 +5,12 @@ use mathlib.Core.Option as maybe
 use lib.ListN.{get_elem?}
 use Rattle.std.proofs.lemmas.Bool.{true≢false}
 use Rattle.atomic_table.specs.Table.{Final, Seen}
-use Rattle.bus_batch.specs.Frames.{order_of, tenure_and_owner}
+use Rattle.bus_batch.specs.Frames.{Order, Spells}
+use Rattle.bus_deliverylog.specs.Orders.{of_sender}
 use Rattle.bus_tenure.specs.declared.pages.Page.{Page}
 use Rattle.bus_world.specs.Headline.{IsPrefix}
 use Rattle.bus_world.specs.Log.{words_read_from}
 use Rattle.bus_world.proofs.LogLaws.{length-read}
-use Rattle.bus_world.proofs.ViewingLaws.{frames_spell}
 use Rattle.bus_pageslot.specs.ReceiverViews.{ReceiverView}
 use Rattle.bus_pageslot.specs.declared.rule.View.{View}
 use Rattle.bus_pageslot.specs.declared.rule.View.TheVariants.{Tap}
@@ -46,20 +46,22 @@ slot_is (Some other) page e = some-injective (Some other) (Some page) e
 
 module _ {C : Type 0} (P : Process C) (A : Automaton C) (L : AutomatonLaws P A) where
   -- the page at home knows the frames
-  pub outcome_of : (v : View C) (log : List ℕ) (page : Page) → IsLeft P A v log (Some page) → IsOutcome record { senders = A.table_layout.senders; log = log; page = page }
+  pub outcome_of : (v : View C) (log : List ℕ) (page : Page) → IsLeft P A v log (Some page) → IsOutcome record { senders = A.table_layout.senders; bases = A.bases; log = log; page = page }
   outcome_of v log page h =
       let z = h.shown.state in
-      let has = L.log z h.shown.reached in
+      let q = L.promised z h.shown.reached in
       let log_is : log_in A z ≡ log = ap (λ (ws : List ℕ). log_below A.table_layout ws) (sym h.shown.words) ∙ h.log_is in
       let same : slot_of (A.home z) ∷ [] ≡ slot_of (Some page) ∷ [] = sym h.shown.slot ∙ h.home_is in
       let home : A.home z ≡ Some page = slot_is (A.home z) page (some-injective _ _ (ap (λ (hs : List (maybe.Option (Option Page))). get_elem? hs 0) same)) in
-      let knows = (L.page_knows z page has.frames h.shown.reached home has.lawful has.words_are).1 in
+      let s = q.spelled in
+      let knows = (L.page_knows z page s.frames h.shown.reached home s.lawful s.words_are).1 in
       record {
-        order = order_of has.frames;
-        owners = map tenure_and_owner has.frames;
-        spells = frames_spell A.table_layout.senders has.frames log has.lawful (sym log_is ∙ sym has.words_are);
-        counts = knows.next;
-        ended = knows.ended;
+        order = q.order;
+        owners = q.owners;
+        spells = subst (λ ws. Spells A.table_layout.senders ws q.order q.owners) log_is s;
+        numbered = q.promises.faithful.numbered;
+        counts = λ p l. knows.next p l ∙ ap (λ (o : Order). slice_index A.bases p + length (of_sender p o)) s.order_is;
+        ended = knows.ended ∙ ap (λ (o : Order). o.ended) s.order_is;
         words = knows.words ∙ sym (length-read (slice_index (A.words z)) A.table_layout.log (slice_index (A.words z) 0)) ∙ ap length log_is;
       }
 

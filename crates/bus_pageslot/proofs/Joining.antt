@@ -1,9 +1,7 @@
 -- Joined seats: how seats are joined, what they learn, and how they are cut apart again.
-use Rattle.std.proofs.Common.{◌≡◌, ◌≢◌, ℕ, ◌≤◌, Option, Some, None, List, [], ◌∷◌, ◌++◌, length, map, set, slice_index, arith, refl, sym, ◌∙◌, ap, subst, ⊎_elim}
+use Rattle.std.proofs.Common.{◌≡◌, ◌≢◌, ℕ, ◌≤◌, Option, List, [], ◌∷◌, ◌++◌, length, map, set, slice_index, arith, refl, sym, ◌∙◌, ap, subst, ⊎_elim}
 use mathlib.Core.Option.{some}
 use lib.ListN.{get_elem?}
-use Rattle.std.specs.Prelude.{IsSome}
-use Rattle.atomic_table.specs.declared.shared.Seat.{Seat}
 use Rattle.atomic_table.specs.Seated.{TableId}
 use Rattle.atomic_table.specs.Table.{State, keeps, Allows, Splits, Joins}
 use Rattle.atomic_table.proofs.Lists.{at_set, at_snoc, set_else}
@@ -21,7 +19,7 @@ use Rattle.bus_automaton.specs.Processes.{TableLayout, Process, Automaton, log_b
 use Rattle.bus_automaton.specs.Lawful.{AutomatonLaws}
 use Rattle.bus_pageslot.specs.Rule.{Sat, Seats, IsSeated, KnowsLog, IsTrueOf, TableInvariant, views_joined, first_of, second_of, all_knowing, receiver_view_in, with_receiver_view, known_in, capacity_in, IsFirst}
 use Rattle.bus_pageslot.specs.Steps.{Accepts, Meets, Met, Learns, KnowsSent}
-use Rattle.bus_pageslot.specs.Seats.{ReceiverSeat, receiver_seat_of, IsTap}
+use Rattle.bus_pageslot.specs.Seats.{ReceiverSeat, IsTap}
 use Rattle.bus_automaton.specs.SenderTrails.{SenderTrail}
 use Rattle.bus_pageslot.proofs.AllSeats.{still_seen, seen_longer}
 use Rattle.bus_pageslot.proofs.Hearing.{agree}
@@ -31,7 +29,7 @@ use Rattle.bus_pageslot.proofs.Reaching.{accepted}
 
 -- two seats that were joined
 abbrev pub IsPair : {C : Type 0} → View C → Type 0
-IsPair (Maker c) = ⊥
+IsPair (Maker x made) = ⊥
 IsPair (Sender c sender_trail stored) = ⊥
 IsPair (Tap x e) = ⊥
 IsPair (Meeting x e y f) = Unit {0}
@@ -57,7 +55,7 @@ module _ {C : Type 0} (P : Process C) (A : Automaton C) where
 
   -- a receiver's seat goes into another
   pub joins_allowed : (v : View C) → IsFirst v → (y : TableLayout) (l : ReceiverView) (id other : ℕ) → Joins (TableInvariant P A) id v other (Tap y l) (views_joined v (Tap y l)) Spent
-  joins_allowed (Maker c) is y l id other = absurd is
+  joins_allowed (Maker x made) is y l id other = absurd is
   joins_allowed (Sender c t stored) is y l id other = λ s r at apart there.
       let w : View C = Telling c t stored y l in
       let h = r.views id (Sender c t stored) at in
@@ -92,7 +90,7 @@ module _ {C : Type 0} (P : Process C) (A : Automaton C) where
 
   -- joined seats are cut apart
   pub parts_allowed : (v : View C) → IsPair v → (id : ℕ) → Splits (TableInvariant P A) id v (first_of v) (second_of v)
-  parts_allowed (Maker c) is id = absurd is
+  parts_allowed (Maker x made) is id = absurd is
   parts_allowed (Sender c t stored) is id = absurd is
   parts_allowed (Tap x k) is id = absurd is
   parts_allowed (Meeting x k y l) is id = λ s r at. let h = r.views id (Meeting x k y l) at in parted s r id (Meeting x k y l) (Tap x k) at (λ p is. is) h.0 y l h.1
@@ -100,7 +98,7 @@ module _ {C : Type 0} (P : Process C) (A : Automaton C) where
   parts_allowed Spent is id = absurd is
 
   pub pairs : (v : View C) → IsFirst v → (y : TableLayout) (l : ReceiverView) → IsPair (views_joined v (Tap y l))
-  pairs (Maker c) is y l = absurd is
+  pairs (Maker x made) is y l = absurd is
   pairs (Sender c t stored) is y l = tt
   pairs (Tap x k) is y l = tt
   pairs (Meeting x k z m) is y l = absurd is
@@ -108,7 +106,7 @@ module _ {C : Type 0} (P : Process C) (A : Automaton C) where
   pairs Spent is y l = absurd is
 
   pub still_pair : (v : View C) (known : List ℕ) → IsPair v → IsPair (all_knowing v known)
-  still_pair (Maker c) known is = absurd is
+  still_pair (Maker x made) known is = absurd is
   still_pair (Sender c t stored) known is = absurd is
   still_pair (Tap x k) known is = absurd is
   still_pair (Meeting x k y l) known is = tt
@@ -148,7 +146,7 @@ module _ {C : Type 0} (P : Process C) (A : Automaton C) (L : AutomatonLaws P A) 
 
   -- joined seats load the length
   pub meets_allowed : (v : View C) (carried : List (ℕ × Option Page)) → IsPair v → (slots id : ℕ) → Allows (TableInvariant P A) slots id (v, carried) 0 (λ n. n) (λ n. Meets P (v, carried) n)
-  meets_allowed (Maker c) carried is slots id = absurd is
+  meets_allowed (Maker x made) carried is slots id = absurd is
   meets_allowed (Sender c t stored) carried is slots id = absurd is
   meets_allowed (Tap x k) carried is slots id = absurd is
   meets_allowed (Meeting x k y l) carried is slots id = λ s r count at range.
@@ -211,13 +209,3 @@ module _ {C : Type 0} (P : Process C) where
         sits = record { table_layout = t.table_layout; receiver_view = receiver_view_knowing t.receiver_view l.known; me = now; log_is = t.log_is; within = within; room = t.room; few = t.few; behind = t.behind; wide = wide ∙ t.wide; fit = fits_learnt t.table_layout.senders t.receiver_view (receiver_view_knowing t.receiver_view l.known) r t.fit refl refl grows };
         known_is = sym l.length_is ∙ ap (λ (y : Sat C). length (known_in y.0)) (sym now);
       }
-
-  pub is_here : (s : Option (Seat (Option Page) (View C))) (log known : ℕ) (r : Receiving) → IsTap (receiver_seat_of s) log known r → IsSome s
-  is_here (Some s) log known r h = refl
-  is_here None log known r h = absurd (let bad : Spent ≡ Tap h.sits.table_layout h.sits.receiver_view = ap (λ (y : Sat C). y.0) h.sits.me in let wrong : ⊥ = cc in wrong)
-
-  pub first_of_tap : (m : Sat C) (x : TableLayout) (k : ReceiverView) → m ≡ (Tap x k, []) → IsFirst m.0
-  first_of_tap m x k e = subst (λ (y : Sat C). IsFirst y.0) (sym e) tt
-
-  pub first_of_sender : (m : Sat C) (c : C) (t : SenderTrail) (stored : ℕ) (carried : List (ℕ × Option Page)) → m ≡ (Sender c t stored, carried) → IsFirst m.0
-  first_of_sender m c t stored carried e = subst (λ (y : Sat C). IsFirst y.0) (sym e) tt

@@ -16,7 +16,7 @@ use Rattle.bus_pageslot.specs.Promised.{Fits, ShowsActions, IsPromised}
 
 -- what a view shows of a sender is what it is true of
 same_at : {C : Type 0} (P : Process C) (actions actions' : ℕ → List Action) (log : List ℕ) (p : ℕ) (v : View C) → ShowsActions P p (actions p) v → Fits P actions' log v → actions p ≡ actions' p
-same_at P actions actions' log p (Maker c) h f = h.1 ∙ sym (f p h.0)
+same_at P actions actions' log p (Maker x made) h f = h.1 ∙ sym (f p h.0)
 same_at P actions actions' log p (Sender c t stored) h f = h.1 ∙ sym f ∙ ap actions' h.0
 same_at P actions actions' log p (Tap x e) h f = absurd h
 same_at P actions actions' log p (Meeting x e y k) h f = absurd h
@@ -27,14 +27,14 @@ the_one : {A : Type 0} (a b : A) (j : ℕ) → get_elem? (a ∷ []) j ≡ some b
 the_one a b zero e = some-injective a b e
 the_one a b (suc j) e = absurd (some-ne-none b (sym e))
 
-module _ {C : Type 0} (P : Process C) (x : TableLayout) (s : State (Option Page) (View C)) where
-  same_actions : (h k : IsPromised P x s) (p : ℕ) → h.actions p ≡ k.actions p
+module _ {C : Type 0} (P : Process C) (x : TableLayout) (base : ℕ → ℕ) (s : State (Option Page) (View C)) where
+  same_actions : (h k : IsPromised P x base s) (p : ℕ) → h.actions p ≡ k.actions p
   same_actions h k p = elim (cases_lt p x.senders) [
     | inl below ↦ let w = h.shown p below in same_at P h.actions k.actions (log_below x s.words) p w.1 w.3 (k.views w.0 w.1 w.2)
     | inr past ↦ h.nobody p past ∙ sym (k.nobody p past)
   ]
 
-  pub one_page : (h k : IsPromised P x s) → ((p : ℕ) → h.actions p ≡ k.actions p) × (h.order ≡ k.order) × (h.owners ≡ k.owners)
+  pub one_page : (h k : IsPromised P x base s) → ((p : ℕ) → h.actions p ≡ k.actions p) × (h.order ≡ k.order) × (h.owners ≡ k.owners)
   one_page h k = let o = spells_one x.senders (log_below x s.words) h.order k.order h.owners k.owners h.spelled k.spelled in (same_actions h k, o.0, o.1)
 
   -- the seat of sender 0 alone, of two or more
@@ -42,7 +42,7 @@ module _ {C : Type 0} (P : Process C) (x : TableLayout) (s : State (Option Page)
     only : (j : ℕ) (v : View C) → get_elem? s.views j ≡ some v → Sender c sender_trail stored ≡ v
     only j v at = the_one (Sender c sender_trail stored) v j (subst (λ (vs : List (View C)). get_elem? vs j ≡ some v) is at)
 
-    pub no_page : ¬ IsPromised P x s
+    pub no_page : ¬ IsPromised P x base s
     no_page r = let h = r.shown 1 many in let one : (P.me c ≡ 1) × (r.actions 1 ≡ sender_trail.actions) = subst (ShowsActions P 1 (r.actions 1)) (sym (only h.0 h.1 h.2)) h.3 in let wrong = one.0 in omega arith
 
 pub no_bus : {C : Type 0} (P : Process C) (A : Automaton C) (s : State (Option Page) (View C)) → 1 < A.table_layout.senders → (c : C) (sender_trail : SenderTrail) (stored : ℕ) → P.me c ≡ 0 → s.views ≡ Sender c sender_trail stored ∷ [] → ¬ TableInvariant P A s

@@ -13,18 +13,18 @@ use Rattle.atomic_table.proofs.Lists.{at_set, at_last}
 use Rattle.bus_register.specs.Proved.TableLaws.{push_here, push_beside}
 use Rattle.bus_batch.specs.Frames.{Frame, AreFrames, log_words}
 use Rattle.bus_tenure.specs.declared.pages.Page.{Page}
-use Rattle.bus_world.specs.World.{new_page}
+use Rattle.bus_world.specs.World.{first_page}
 use Rattle.bus_pageslot.specs.ReceiverViews.{new_receiver_view}
 use Rattle.bus_pageslot.specs.declared.rule.View.{View}
 use Rattle.bus_pageslot.specs.declared.rule.View.TheVariants.{Maker, Sender, Tap, Meeting, Telling, Spent}
-use Rattle.bus_automaton.specs.Processes.{TableLayout, Process, Automaton, IsCounted, log_in}
+use Rattle.bus_automaton.specs.Processes.{TableLayout, Process, Automaton, IsCounted, base_in, log_in}
 use Rattle.bus_automaton.specs.Lawful.{AutomatonLaws, Opens}
 use Rattle.bus_pageslot.specs.Rule.{slot_of, Sat, tap_left, tap_right, sender_trail_in, stored_in, cut_left, cut_right, KnowsLog, IsTrueOf, TableInvariant}
 use Rattle.bus_pageslot.specs.Steps.{Numbers, carried_of}
 use Rattle.bus_pageslot.specs.Steps.Accepts.{Nothing}
 use Rattle.bus_pageslot.specs.Seats.{SenderSeat, ReceiverSeat, Shows, table_of}
 use Rattle.bus_pageslot.specs.Buses.{IsNewSeat, AreNewSeats, IsNewTap, AreNewTaps}
-use Rattle.bus_automaton.specs.SenderTrails.{SenderTrail, no_sender_trail}
+use Rattle.bus_automaton.specs.SenderTrails.{SenderTrail, new_sender_trail}
 use Rattle.bus_pageslot.proofs.AllSeats.{still_seen, seen_longer}
 use Rattle.bus_pageslot.proofs.Hearing.{heard_new}
 use Rattle.bus_pageslot.proofs.Numbering.{numbers_next}
@@ -54,14 +54,14 @@ knows_new A z x table_layout frames lawful words = record { table_layout = table
 
 module _ {C : Type 0} (P : Process C) (A : Automaton C) (L : AutomatonLaws P A) where
   abbrev first : View C
-  first = Maker (A.started 0)
+  first = Maker A.table_layout 0
 
   module _ (o : Opens P A) where
     only : (j : ℕ) (v : View C) → get_elem? (first ∷ []) j ≡ some v → IsTrueOf P A o.state (λ p. 0) j v
-    only zero v e = subst (IsTrueOf P A o.state (λ p. 0) 0) (some-injective first v e) (ap A.started (sym (L.started_me 0)), λ p low high. record { here = refl; core = o.senders p high; sender_trail_is = o.sender_trail p })
+    only zero v e = subst (IsTrueOf P A o.state (λ p. 0) 0) (some-injective first v e) (refl, λ p low high. record { here = refl; core = o.senders p high; sender_trail_is = o.sender_trail p })
     only (suc j) v e = absurd (some-ne-none v (sym e))
 
-    pub opens : (ws : List ℕ) → ws ≡ replicate A.table_layout.words 0 → TableInvariant P A (opening ws (Some new_page ∷ []) first)
+    pub opens : (ws : List ℕ) → ws ≡ replicate A.table_layout.words 0 → TableInvariant P A (opening ws (Some (first_page A.bases) ∷ []) first)
     opens ws zeros = record {
       state = o.state;
       reached = o.reached;
@@ -69,7 +69,7 @@ module _ {C : Type 0} (P : Process C) (A : Automaton C) (L : AutomatonLaws P A) 
       slot = ap (λ (h : Option Page). slot_of h ∷ []) (sym o.home);
       seat = λ p. 0;
       views = only;
-      all = λ p below. (0, first, refl, let z = L.started_me 0 in omega arith);
+      all = λ p below. (0, first, refl, omega arith);
     }
 
   module _ (z : A.State) (seat : ℕ → ℕ) (k id count : ℕ) (mine : seat k ≡ id) (j : ℕ) (other : j ≢ id) where
@@ -77,7 +77,7 @@ module _ {C : Type 0} (P : Process C) (A : Automaton C) (L : AutomatonLaws P A) 
     seats_still q at = sit_else seat k count q (λ e. other (sym at ∙ ap seat e ∙ mine)) ∙ at
 
     cut_others : (v : View C) → IsTrueOf P A z seat j v → IsTrueOf P A z (sit seat k count) j v
-    cut_others (Maker c) h = (h.0, λ q low high. let u = h.1 q low high in record { here = seats_still q u.here; core = u.core; sender_trail_is = u.sender_trail_is })
+    cut_others (Maker x made) h = (h.0, λ q low high. let u = h.1 q low high in record { here = seats_still q u.here; core = u.core; sender_trail_is = u.sender_trail_is })
     cut_others (Sender c t stored) h = record { here = seats_still (P.me c) h.here; core = h.core; sender_trail_is = h.sender_trail_is; reached = h.reached }
     cut_others (Tap x e) h = h
     cut_others (Meeting x e y f) h = h
@@ -85,65 +85,69 @@ module _ {C : Type 0} (P : Process C) (A : Automaton C) (L : AutomatonLaws P A) 
     cut_others Spent h = tt
 
   -- a seat for one more sender
-  pub cut_allowed : (id : ℕ) (c : C) → P.me c < (P.table_layout c).senders → Splits (TableInvariant P A) id (Maker c) (cut_left P (Maker c)) (cut_right (Maker c))
-  cut_allowed id c below s r at =
-      let old = r.views id (Maker c) at in
-      let table_layout : P.table_layout c ≡ A.table_layout = ap P.table_layout old.0 ∙ L.started_table_layout (P.me c) in
-      let within : P.me c < A.table_layout.senders = subst (λ (z : TableLayout). P.me c < z.senders) table_layout below in
-      let mine = old.1 (P.me c) (omega arith) within in
+  pub cut_allowed : (id : ℕ) (x : TableLayout) (made : ℕ) → made < A.table_layout.senders → Splits (TableInvariant P A) id (Maker x made) (cut_left (Maker x made)) (cut_right (Some (A.started made)) (base_in A made))
+  cut_allowed id x made below s r at =
+      let old = r.views id (Maker x made) at in
+      let c : C = A.started made in
+      let me : P.me c ≡ made = L.started_me made in
+      let mine = old.1 made (omega arith) below in
       let count : ℕ = length s.views in
-      let seat : ℕ → ℕ = sit r.seat (P.me c) count in
-      let next : P.successor c ≡ A.started (P.me c + 1) = ap P.successor old.0 ∙ L.started_next (P.me c) in
-      let next_me : P.me (P.successor c) ≡ P.me c + 1 = ap P.me next ∙ L.started_me (P.me c + 1) in
-      let left : View C = Maker (P.successor c) in
-      let right : View C = Sender c no_sender_trail 0 in
+      let seat : ℕ → ℕ = sit r.seat made count in
+      let left : View C = Maker x (made + 1) in
+      let right : View C = Sender c (new_sender_trail (base_in A made)) 0 in
       record {
         state = r.state;
         reached = r.reached;
         words = r.words;
         slot = r.slot;
         seat = seat;
-        all = λ p in_range. elim (cases_eq p (P.me c)) [
-          | inl e ↦ (count, right, at_last (set s.views id left) right count (length-set s.views id left), sym e)
-          | inr n ↦ seen_longer P (set s.views id left) right p (still_seen P s.views id (Maker c) left at p (λ is. omega (arith, n)) (r.all p in_range))
+        all = λ p in_range. elim (cases_eq p made) [
+          | inl e ↦ (count, right, at_last (set s.views id left) right count (length-set s.views id left), me ∙ sym e)
+          | inr n ↦ seen_longer P (set s.views id left) right p (still_seen P s.views id (Maker x made) left at p (λ is. omega (arith, n)) (r.all p in_range))
         ];
         views = λ j v e. elim (at_end (set s.views id left) right v j e) [
           | inl u ↦ ⊎_elim
               (λ (y : (j ≡ id) × (left ≡ v)). subst (λ (z : ℕ × View C). IsTrueOf P A r.state seat z.0 z.1) (λ i. (sym y.0 i, y.1 i))
-              (next ∙ ap A.started (sym next_me), λ q low high. let w = old.1 q (let m = next_me in omega arith) high in record { here = sit_else r.seat (P.me c) count q (λ y. let m = next_me in omega (arith, y)) ∙ w.here; core = w.core; sender_trail_is = w.sender_trail_is }))
-              (λ (y : (j ≢ id) × (get_elem? s.views j ≡ some v)). cut_others r.state r.seat (P.me c) id count mine.here j y.0 v (r.views j v y.1))
+              (old.0, λ q low high. let w = old.1 q (omega arith) high in record { here = sit_else r.seat made count q (λ y. omega (arith, y)) ∙ w.here; core = w.core; sender_trail_is = w.sender_trail_is }))
+              (λ (y : (j ≢ id) × (get_elem? s.views j ≡ some v)). cut_others r.state r.seat made id count mine.here j y.0 v (r.views j v y.1))
               (at_set s.views id j left v u)
           | inr u ↦ subst (λ (z : ℕ × View C). IsTrueOf P A r.state seat z.0 z.1) (λ i. (sym (u.0 ∙ length-set s.views id left) i, u.1 i))
-              (record { here = sit_here r.seat (P.me c) count; core = mine.core ∙ ap Some (sym old.0); sender_trail_is = mine.sender_trail_is; reached = omega arith })
+              (record {
+                here = ap seat me ∙ sit_here r.seat made count;
+                core = ap (A.sender r.state) me ∙ mine.core;
+                sender_trail_is = ap (A.sender_trail r.state) me ∙ mine.sender_trail_is;
+                reached = omega arith;
+              })
         ];
       }
 
   -- a seat for one more receiver
-  pub tap_allowed : (id : ℕ) (c : C) → Splits (TableInvariant P A) id (Maker c) (tap_left (Maker c)) (tap_right P (Maker c))
-  tap_allowed id c s r at =
+  pub tap_allowed : (id : ℕ) (x : TableLayout) (made : ℕ) → Splits (TableInvariant P A) id (Maker x made) (tap_left (Maker x made)) (tap_right (Maker x made))
+  tap_allowed id x made s r at =
       let log = L.log r.state r.reached in
-      let old = r.views id (Maker c) at in
-      let tap : View C = Tap (P.table_layout c) new_receiver_view in
+      let maker : View C = Maker x made in
+      let old = r.views id maker at in
+      let tap : View C = Tap x new_receiver_view in
       record {
         state = r.state;
         reached = r.reached;
         words = r.words;
         slot = r.slot;
         seat = r.seat;
-        all = λ p below. seen_longer P (set s.views id (Maker c)) tap p (still_seen P s.views id (Maker c) (Maker c) at p (λ is. is) (r.all p below));
-        views = λ j v e. elim (at_end (set s.views id (Maker c)) tap v j e) [
+        all = λ p below. seen_longer P (set s.views id maker) tap p (still_seen P s.views id maker maker at p (λ is. is) (r.all p below));
+        views = λ j v e. elim (at_end (set s.views id maker) tap v j e) [
           | inl u ↦ ⊎_elim
-              (λ (y : (j ≡ id) × (Maker c ≡ v)). subst (λ (z : ℕ × View C). IsTrueOf P A r.state r.seat z.0 z.1) (λ i. (sym y.0 i, y.1 i)) old)
+              (λ (y : (j ≡ id) × (maker ≡ v)). subst (λ (z : ℕ × View C). IsTrueOf P A r.state r.seat z.0 z.1) (λ i. (sym y.0 i, y.1 i)) old)
               (λ (y : (j ≢ id) × (get_elem? s.views j ≡ some v)). r.views j v y.1)
-              (at_set s.views id j (Maker c) v u)
-          | inr u ↦ subst (IsTrueOf P A r.state r.seat j) u.1 (knows_new A r.state (P.table_layout c) (ap P.table_layout old.0 ∙ L.started_table_layout (P.me c)) log.frames log.lawful log.words_are)
+              (at_set s.views id j maker v u)
+          | inr u ↦ subst (IsTrueOf P A r.state r.seat j) u.1 (knows_new A r.state x old.0 log.frames log.lawful log.words_are)
         ];
       }
 
 -- a sender shows the seat that was made for it
-pub shows_new : {C : Type 0} (P : Process C) (A : Automaton C) → AutomatonLaws P A → Opens P A → (k : ℕ) → k < A.table_layout.senders → (c : C) (v : View C) (s : Seat (Option Page) (View C)) → c ≡ A.started k → v ≡ Maker (A.started k) → s.me ≡ (cut_right v, []) → s.table_id.words ≡ A.table_layout.words → s.table_id.slots ≡ 1 → Shows P c s
-shows_new {C} P A L o k below c v s is maker me words slots =
-    let now : s.me ≡ (Sender c no_sender_trail 0, []) = me ∙ ap (λ (y : View C). (cut_right y, [])) maker ∙ ap (λ (y : C). (Sender y no_sender_trail 0, [])) (sym is) in
+pub shows_new : {C : Type 0} (P : Process C) (A : Automaton C) → AutomatonLaws P A → Opens P A → (k : ℕ) → k < A.table_layout.senders → (c : C) (s : Seat (Option Page) (View C)) → c ≡ A.started k → s.me ≡ (cut_right (Some (A.started k)) (base_in A k), []) → s.table_id.words ≡ A.table_layout.words → s.table_id.slots ≡ 1 → Shows P c s
+shows_new {C} P A L o k below c s is me words slots =
+    let now : s.me ≡ (Sender c (new_sender_trail (base_in A k)) 0, []) = me ∙ ap (λ (y : C). (Sender y (new_sender_trail (base_in A k)) 0, [])) (sym is) in
     let away : P.holds c ≡ false = ap P.holds is ∙ L.started_away k in
     record {
       shown = c;
@@ -151,8 +155,8 @@ shows_new {C} P A L o k below c v s is maker me words slots =
       accepts = Nothing;
       counted = subst (IsCounted P) (sym is) (o.counted k);
       laid = ap P.awaits is ∙ L.started_laid k;
-      numbered = subst (λ (y : C × SenderTrail). Numbers P y.0 y.1.actions) (λ i. (sym is i, sym (ap (λ (m : Sat C). sender_trail_in m.0) now) i))
-          (numbers_next P A L o.state o.reached k (A.started k) (L.started_me k) (o.senders k below) [] (ap (λ (t : SenderTrail). t.actions) (o.sender_trail k)));
+      numbered = subst (λ (y : C × SenderTrail). Numbers P y.0 y.1) (λ i. (sym is i, sym (ap (λ (m : Sat C). sender_trail_in m.0) now) i))
+          (numbers_next P A L o.state o.reached k (A.started k) (L.started_me k) (o.senders k below) (new_sender_trail (base_in A k)) (o.sender_trail k));
       me = now ∙ (λ i. (Sender c (sender_trail_in (sym now i).0) (stored_in (sym now i).0), carried_of (sym away i)));
       words = words ∙ ap (λ (x : TableLayout). x.words) (sym (ap P.table_layout is ∙ L.started_table_layout k));
       slots = slots;

@@ -44,22 +44,22 @@ gone_in : {E : Type 0} (m : Machine E) (reuse : Option ℕ) (t : ℕ) → HasGon
 gone_in m None t h = h
 gone_in m (Some rows) t h = h
 
-pub past_is_left : {E : Type 0} (X : Election E) (x : Layout) (reuse : Option ℕ) (L : AutomatonLaws (process_of X) (bus_of X x reuse))
-    (s : State (Option Page) (View (Sender E))) (r : TableInvariant (process_of X) (bus_of X x reuse) s) (id : ℕ) (m : Sat (Sender E))
+pub past_is_left : {E : Type 0} (X : Election E) (x : Layout) (reuse : Option ℕ) (bases : List ℕ) (L : AutomatonLaws (process_of X) (bus_of X x reuse bases))
+    (s : State (Option Page) (View (Sender E))) (r : TableInvariant (process_of X) (bus_of X x reuse bases) s) (id : ℕ) (m : Sat (Sender E))
     (at : get_elem? s.views id ≡ some m.0) (d : Sender E) (word many : ℕ) (o : Op) (is_due : IsDue (process_of X) d word m many o)
     → stepping.OfEvents X (Follows X) x → LeavesPast (process_of X) reuse s.words d word o
-past_is_left {E} X x reuse L s r id m at d word many o is_due law =
-    let z = stepping.z X x reuse L s r id m at d word many o is_due in
+past_is_left {E} X x reuse bases L s r id m at d word many o is_due law =
+    let z = stepping.z X x reuse bases L s r id m at d word many o is_due in
     let p = is_due.shown.core.me in
-    let h = stepping.is_history X x reuse L s r id m at d word many o is_due in
-    let here = stepping.here X x reuse L s r id m at d word many o is_due in
-    let low = stepping.low X x reuse L s r id m at d word many o is_due in
-    let follows = stepping.turn_is X x reuse L s r id m at d word many o is_due (Follows X) law in
-    let trail = grown_trail X x reuse z h p d here word o is_due.due low in
+    let h = stepping.is_history X x reuse bases L s r id m at d word many o is_due in
+    let here = stepping.here X x reuse bases L s r id m at d word many o is_due in
+    let low = stepping.low X x reuse bases L s r id m at d word many o is_due in
+    let follows = stepping.turn_is X x reuse bases L s r id m at d word many o is_due (Follows X) law in
+    let trail = grown_trail X x reuse bases z h p d here word o is_due.due low in
     let more = ((process_of X).adds d (slice_index z.machine.words (register o)) word).actions in
-    subst (λ w. LeavesPast (process_of X) reuse w d word o) (sym (stepping.words_are X x reuse L s r id m at d word many o is_due)) (record {
+    subst (λ w. LeavesPast (process_of X) reuse w d word o) (sym (stepping.words_are X x reuse bases L s r id m at d word many o is_due)) (record {
       rises = subst (λ w. slice_index z.machine.words 1 ≤ slice_index w 1)
-          (stepping.words_now X x reuse L s r id m at d word many o is_due) follows.rises;
+          (stepping.words_now X x reuse bases L s r id m at d word many o is_due) follows.rises;
       leaves = λ t gone. none_added t (z.trails.actions p) more
           (ap (actions_in t) (sym (ap (λ (u : SenderTrail). u.actions) trail))
           ∙ follows.stays z.trails h.reached t p (subst (λ n. HasGoneOnIn z.machine n t) (sym h.rows_are) (gone_in z.machine reuse t gone)));

@@ -141,10 +141,6 @@ module _ {S : Type 0} (kind_of : S → Option Kind) (op : S → ℕ → Option O
   unfolding process_with
   awaits_is b h = awaited v.core.phase b h
 
-  pub awaits_page : P.awaits v ≡ true → AwaitsItsPage v.core.phase
-  unfolding process_with
-  awaits_page e = awaits_by v.core.phase e
-
   pub laid_is : (page : Page) (new : Sender (Elector S)) → P.awaits v ≡ true → Lays v page new → new ≡ P.laid v page
   unfolding process_with
   laid_is page new e h = laid_by v page new h (awaits_by v.core.phase e)

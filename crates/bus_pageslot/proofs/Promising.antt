@@ -15,7 +15,7 @@ use Rattle.bus_world.specs.Headline.{IsPrefix, order_given, heads}
 use Rattle.bus_pageslot.specs.ReceiverViews.{ReceiverView, IsSilent}
 use Rattle.bus_pageslot.specs.declared.rule.View.{View}
 use Rattle.bus_pageslot.specs.declared.rule.View.TheVariants.{Maker, Sender, Tap, Meeting, Telling, Spent}
-use Rattle.bus_automaton.specs.Processes.{TableLayout, Process, Automaton, log_below, log_in, actions_at}
+use Rattle.bus_automaton.specs.Processes.{TableLayout, Process, Automaton, base_in, log_below, log_in, actions_at}
 use Rattle.bus_automaton.specs.Lawful.{AutomatonLaws}
 use Rattle.bus_pageslot.specs.Rule.{KnowsLog, IsTrueOf, Seats, TableInvariant}
 use Rattle.bus_pageslot.specs.Promised.{Fits, ShowsActions, ShowsTrail, IsShownTrail, IsPromised}
@@ -24,7 +24,7 @@ use Rattle.bus_pageslot.proofs.Hearing.{begins_order, begins_owners}
 -- ---- actions
 module _ {C : Type 0} (P : Process C) (A : Automaton C) (z : A.State) (seat : ℕ → ℕ) (j : ℕ) where
   view_fits : ((p : ℕ) → A.table_layout.senders ≤ p → actions_at A z p ≡ []) → (v : View C) → IsTrueOf P A z seat j v → Fits P (actions_at A z) (log_in A z) v
-  view_fits nobody (Maker c) h = λ p past. elim (cases_lt p A.table_layout.senders) [ inl below ↦ ap (λ t. t.actions) (h.1 p past below).sender_trail_is | inr none ↦ nobody p none ]
+  view_fits nobody (Maker x made) h = λ p past. elim (cases_lt p A.table_layout.senders) [ inl below ↦ ap (λ t. t.actions) (h.1 p past below).sender_trail_is | inr none ↦ nobody p none ]
   view_fits nobody (Sender c t stored) h = ap (λ t. t.actions) h.sender_trail_is
   view_fits nobody (Tap x e) h = h.front
   view_fits nobody (Meeting x e y f) h = (h.0.front, h.1.front)
@@ -32,7 +32,7 @@ module _ {C : Type 0} (P : Process C) (A : Automaton C) (z : A.State) (seat : �
   view_fits nobody Spent h = tt
 
   view_shows : (v : View C) → IsTrueOf P A z seat j v → (p : ℕ) → p < A.table_layout.senders → Seats P p v → ShowsActions P p (actions_at A z p) v
-  view_shows (Maker c) h p below is = (is, ap (λ t. t.actions) (h.1 p is below).sender_trail_is)
+  view_shows (Maker x made) h p below is = (is, ap (λ t. t.actions) (h.1 p is below).sender_trail_is)
   view_shows (Sender c t stored) h p below is = (is, ap (actions_at A z) (sym is) ∙ ap (λ t. t.actions) h.sender_trail_is)
   view_shows (Tap x e) h p below is = is
   view_shows (Meeting x e y f) h p below is = is
@@ -62,7 +62,7 @@ module _ {C : Type 0} (P : Process C) (A : Automaton C) (z : A.State) (order : O
   same_good x e h trail is = subst (IsGood order owners) (sym is) (receiver_view_good x e h)
 
   view_good : (seat : ℕ → ℕ) (j : ℕ) (v : View C) → IsTrueOf P A z seat j v → (trail : List RecvTurn) → ShowsTrail trail v → IsGood order owners trail
-  view_good seat j (Maker c) h trail is = absurd is
+  view_good seat j (Maker x made) h trail is = absurd is
   view_good seat j (Sender c t stored) h trail is = absurd is
   view_good seat j (Tap x e) h trail is = same_good x e h trail is
   view_good seat j (Meeting x e y f) h trail is = ⊎_elim (λ (i : trail ≡ e.answers). same_good x e h.0 trail i) (λ (i : trail ≡ f.answers). same_good y f h.1 trail i) is
@@ -77,7 +77,7 @@ module _ {C : Type 0} (P : Process C) (A : Automaton C) (z : A.State) (order : O
     silent = λ j k a at l here. absurd (let bad : None ≡ Some turn.End = at in let wrong : ⊥ = cc in wrong);
   }
 
-pub seats_promised : {C : Type 0} (P : Process C) (A : Automaton C) → AutomatonLaws P A → (s : State (Option Page) (View C)) → TableInvariant P A s → IsPromised P A.table_layout s
+pub seats_promised : {C : Type 0} (P : Process C) (A : Automaton C) → AutomatonLaws P A → (s : State (Option Page) (View C)) → TableInvariant P A s → IsPromised P A.table_layout (base_in A) s
 seats_promised {C} P A L s r =
     let p = L.promised r.state r.reached in
     let same : log_in A r.state ≡ log_below A.table_layout s.words = ap (log_below A.table_layout) (sym r.words) in

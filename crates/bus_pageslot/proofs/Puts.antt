@@ -1,5 +1,5 @@
 -- A sender that has accepted a message or a close still shows its seat, which no step has changed; and its actions have that one more.
-use Rattle.std.proofs.Common.{◌≡◌, ℕ, ◌<◌, ◌≤◌, Option, List, [], ◌∷◌, ◌++◌, length, arith, sym, ◌∙◌, ap, subst, append_assoc}
+use Rattle.std.proofs.Common.{◌≡◌, ℕ, ◌+◌, ◌<◌, ◌≤◌, Option, List, [], ◌∷◌, ◌++◌, length, arith, sym, ◌∙◌, ap, subst, append_assoc}
 use Rattle.std.specs.Prelude.{All, Result, Ok, Err, IfOk, OnOk, OnErr}
 use Rattle.std.proofs.lemmas.List.{length-append}
 use Rattle.atomic_table.specs.Seated.{TableId}
@@ -37,11 +37,7 @@ module _ {C : Type 0} (P : Process C) (L : ProcessLaws P) (d : C) (s : Seat (Opt
     shown = h.shown;
     actions = actions;
     accepts = more;
-    counted = record {
-      first = (let a = h.counted.first in let x = ap (λ (z : TableLayout). z.capacity) keeps.table_layout in omega arith);
-      few = few;
-      capacity = (let a = h.counted.capacity in let x = ap (λ (z : TableLayout). z.capacity) keeps.table_layout in omega arith);
-    };
+    counted = record { first = (let a = h.counted.first in omega arith); few = few };
     laid = keeps.awaits ∙ h.laid;
     numbered = h.numbered;
     me = h.me ∙ ap (λ b. (Sender h.shown (sender_trail_in s.me.0) (stored_in s.me.0), carried_of b)) (sym keeps.holds);
@@ -76,7 +72,7 @@ module _ {C : Type 0} (P : Process C) (L : ProcessLaws P) (d : C) (s : Seat (Opt
     accepts = h.accepts;
     counted = h.counted;
     laid = h.laid;
-    numbered = subst (λ (m : Sat C). Numbers P h.shown (sender_trail_in m.0).actions) (sym same) h.numbered;
+    numbered = subst (λ (m : Sat C). Numbers P h.shown (sender_trail_in m.0)) (sym same) h.numbered;
     me = same ∙ h.me ∙ (λ i. (Sender h.shown (sender_trail_in (sym same i).0) (stored_in (sym same i).0), carried_of (P.holds d)));
     words = ap (λ (z : TableId). z.words) table ∙ h.words;
     slots = ap (λ (z : TableId). z.slots) table ∙ h.slots;
@@ -84,7 +80,7 @@ module _ {C : Type 0} (P : Process C) (L : ProcessLaws P) (d : C) (s : Seat (Opt
 
   -- the number that a message gets is in its range
   pub number_fits : next_of (P.queue d) < 281474976710656
-  number_fits = let a = h.counted.first in let b = h.counted.few in let c = h.counted.capacity in omega arith
+  number_fits = let a = h.counted.first in let b = h.counted.few in omega arith
 
   pub shows_put : (d' : C) (bytes : List ℕ) (r : Result ℕ PutFault) → All (λ byte. byte < 256) bytes → OnOk r (d' ≡ P.with_message d bytes) → OnOk r (CanPut (P.queue d) (length bytes)) → OnErr r (d' ≡ d) → Shows P d' s
   shows_put d' bytes (Ok n) small taken could same = subst (λ z. Shows P z s) (sym taken) (shows_message bytes small could)
@@ -96,11 +92,11 @@ module _ {C : Type 0} (P : Process C) (L : ProcessLaws P) (d : C) (s : Seat (Opt
       (ap (actions_in P s.me.0) taken ∙ more_actions (P.with_message d bytes) (HasPut (next_of (P.queue d)) bytes) (one_message bytes small could))
   put_done d' bytes (Err e) small number taken could = tt
 
-  -- the number that a message gets is how many it has put before
+  -- the number that a message gets is how many it has put before, from its first number on
   pub put_counts : (bytes : List ℕ) (r : Result ℕ PutFault) → IfOk r (λ number. number ≡ next_of (P.queue d)) → OnOk r (CanPut (P.queue d) (length bytes))
-      → IfOk r (λ number. number ≡ length (puts (actions_in P s.me.0 d)))
+      → IfOk r (λ number. number ≡ (sender_trail_in s.me.0).first + length (puts (actions_in P s.me.0 d)))
   put_counts bytes (Ok n) number could = number ∙ h.numbered d h.actions h.accepts (length bytes) could
-      ∙ ap (λ l. length (puts l)) (sym (actions_are d h.actions h.accepts))
+      ∙ ap (λ l. (sender_trail_in s.me.0).first + length (puts l)) (sym (actions_are d h.actions h.accepts))
   put_counts bytes (Err e) number could = tt
 
   pub shows_close : (d' : C) (r : Result (Unit {0}) CloseFault) → OnOk r (d' ≡ P.with_close d) → OnOk r (CanClose (P.queue d)) → OnErr r (d' ≡ d) → Shows P d' s

@@ -1,12 +1,13 @@
 -- What a receiver's reader keeps beside its seat, and what each load makes of it.
-use Rattle.std.proofs.Common.{◌≡◌, ◌≢◌, ℕ, ◌+◌, ◌<◌, ◌≤◌, ◌^◌, cond, true, false, List, [], ◌∷◌, ◌++◌, length, take, drop, slice_get, slice_index, inl, inr, arith, refl, sym, ◌∙◌, ap, subst, append_assoc}
-use Rattle.std.specs.Prelude.{Option}
+use Rattle.std.proofs.Common.{◌≡◌, ◌≢◌, ℕ, ◌+◌, ◌<◌, ◌≤◌, ◌^◌, cond, false, List, [], ◌∷◌, ◌++◌, length, take, drop, slice_get, slice_index, inl, inr, arith, refl, sym, ◌∙◌, ap, subst, append_assoc}
+use Rattle.std.specs.Prelude.{Option, Some, None}
 use Rattle.std.proofs.lemmas.Bool.{cases_eq, cases_lt}
 use Rattle.std.proofs.lemmas.Bool.Decides.{eqb_tells}
 use Rattle.std.proofs.lemmas.List.{length-append, length-take, take-append-drop, take-append-le, take_more}
 use Rattle.std.proofs.lemmas.Option.{same_Some}
 use Rattle.bus_batch.specs.declared.messages.Piece.{Piece}
-use Rattle.bus_batch.specs.Frames.{AreFrames, GivesPiece, log_words, log_pieces}
+use Rattle.bus_batch.specs.declared.messages.Piece.TheVariants as piece
+use Rattle.bus_batch.specs.Frames.{AreFrames, GivesPiece, log_words, log_pieces, is_end}
 use Rattle.bus_deliverylog.specs.declared.receiving.RecvTurn.{RecvTurn}
 use Rattle.bus_deliverylog.specs.declared.receiving.RecvTurn.TheVariants as turn
 use Rattle.bus_deliverylog.specs.Receiving.{Receiving, HasReceived, TakesLength, TakesWord, TakesGood, turn_of}
@@ -51,25 +52,6 @@ fits_knowing senders k e r h a b = record {
   pieces = h.pieces;
   received = record { read = h.received.read; place = h.received.place };
 }
-
--- at the length that its reader knows it knows all that its seat knows
-pub caught_up : (senders : ℕ) (e : ReceiverView) (old new : Receiving) → IsFit senders e old → (old.place ≡ old.known → new ≡ knows (length e.known) old) → (old.place ≢ old.known → new ≡ old) → IsFit senders e new
-caught_up senders e old new h here there = elim (cases_lt old.place old.known) [
-  | inl l ↦ subst (IsFit senders e) (sym (there (λ i. absurd (omega arith)))) h
-  | inr l ↦ (let w = h.within in let b = h.below in subst (IsFit senders e) (sym (here (omega arith))) (fits_knowing senders (length e.known) e old h (omega arith) (omega arith)))
-]
-
-pub caught_at : (k : ℕ) (old new : Receiving) → (old.place ≡ old.known → new ≡ knows k old) → (old.place ≢ old.known → new ≡ old) → new.place ≡ new.known → new.known ≡ k
-caught_at k old new here there at = elim (cases_eq old.place old.known) [
-  | inl e ↦ ap (λ (z : Receiving). z.known) (here e)
-  | inr ne ↦ absurd (ne (ap (λ (z : Receiving). z.place) (sym (there ne)) ∙ at ∙ ap (λ (z : Receiving). z.known) (there ne)))
-]
-
-pub caught_going : (k : ℕ) (old new : Receiving) → (old.place ≡ old.known → new ≡ knows k old) → (old.place ≢ old.known → new ≡ old) → new.ended ≡ old.ended
-caught_going k old new here there = elim (cases_eq old.place old.known) [
-  | inl e ↦ ap (λ (z : Receiving). z.ended) (here e)
-  | inr ne ↦ ap (λ (z : Receiving). z.ended) (there ne)
-]
 
 -- ---- a load of the length, by a turn
 at_length : (place known got : ℕ) (answer : RecvTurn) → place ≡ known → (got ≡ known → answer ≡ turn.Empty) → (got ≢ known → answer ≡ turn.Going) → answer ≡ length_turn place got
@@ -214,54 +196,20 @@ module _ {C : Type 0} (m m' : Sat C) (words words' log : ℕ) (r r' : Receiving)
   pub word_heard : HearsWord m answer m'
   word_heard = subst (λ (y : Sat C). HearsWord y answer m') (sym h.me) (word_is_heard h.table_layout h.receiver_view r r' got answer m' h.fit unread senders takes_it there)
 
+-- a word that says nothing by itself is not the end
+no_end : (found : Option Piece) → turn.Going ≡ turn_of found → is_end found ≡ false
+no_end None e = refl
+no_end (Some (piece.Head t o)) e = refl
+no_end (Some (piece.Item i)) e = refl
+no_end (Some piece.End) e = absurd (let no : turn.Going ≡ turn.End = e in cc)
+
+pub goes_on_after : {C : Type 0} (m : Sat C) (words log : ℕ) (r r' : Receiving) (got : ℕ) → IsReceiverView m words log r → r.ended ≡ false → ((ws : List ℕ) (pieces : List (Option Piece)) → HasReceived ws pieces r → TakesWord ws pieces r got turn.Going r') → r'.ended ≡ false
+goes_on_after m words log r r' got h going takes = elim (takes _ _ h.fit.received) [
+  | inl bad ↦ ap (λ (z : Receiving). z.ended) bad.2 ∙ going
+  | inr good ↦ ap (λ (z : Receiving). z.ended) good.new_is ∙ no_end good.found good.answer_is
+]
+
 -- ---- a turn, once its reader has caught up
-pub caught_receiver_view : {C : Type 0} (m : Sat C) (words log k : ℕ) (old new : Receiving) → IsReceiverView m words log old → k ≡ length (known_in m.0) → (old.place ≡ old.known → new ≡ knows k old) → (old.place ≢ old.known → new ≡ old) → IsReceiverView m words log new
-caught_receiver_view {C} m words log k old new h known here there =
-    let k_is : k ≡ length h.receiver_view.known = known ∙ ap (λ (y : Sat C). length (known_in y.0)) h.me in
-    record {
-      table_layout = h.table_layout;
-      receiver_view = h.receiver_view;
-      me = h.me;
-      log_is = h.log_is;
-      within = h.within;
-      room = h.room;
-      few = h.few;
-      behind = h.behind;
-      wide = h.wide;
-      fit = caught_up h.table_layout.senders h.receiver_view old new h.fit (λ e. here e ∙ ap (λ n. knows n old) k_is) there;
-    }
-
-pub hears_length : {C : Type 0} (m m' : Sat C) (words log : ℕ) (r : Receiving) (answer : RecvTurn) → IsReceiverView m words log r → r.ended ≡ false → r.place ≡ length (known_in m.0) → HearsLength m answer m' → Hears m answer m'
-hears_length {C} m m' words log r answer h going at heard =
-    let on : (receiver_view_in m.0).ended ≡ false = ap (λ (y : Sat C). (receiver_view_in y.0).ended) h.me ∙ sym h.fit.ended ∙ going in
-    let place : (receiver_view_in m.0).place ≡ r.place = ap (λ (y : Sat C). (receiver_view_in y.0).place) h.me ∙ sym h.fit.place in
-    record {
-      ended = λ e. absurd (let bad : true ≡ false = sym e ∙ on in cc);
-      at_length = λ goes here. heard;
-      at_word = λ goes l. absurd (omega arith);
-    }
-
-pub hears_word : {C : Type 0} (m m' : Sat C) (words log : ℕ) (r : Receiving) (answer : RecvTurn) → IsReceiverView m words log r → r.ended ≡ false → r.place ≢ r.known → HearsWord m answer m' → Hears m answer m'
-hears_word {C} m m' words log r answer h going unread heard =
-    let on : (receiver_view_in m.0).ended ≡ false = ap (λ (y : Sat C). (receiver_view_in y.0).ended) h.me ∙ sym h.fit.ended ∙ going in
-    let place : (receiver_view_in m.0).place ≡ r.place = ap (λ (y : Sat C). (receiver_view_in y.0).place) h.me ∙ sym h.fit.place in
-    let size : length (known_in m.0) ≡ length h.receiver_view.known = ap (λ (y : Sat C). length (known_in y.0)) h.me in
-    let a = h.fit.within in
-    let b = h.fit.below in
-    record {
-      ended = λ e. absurd (let bad : true ≡ false = sym e ∙ on in cc);
-      at_length = λ goes here. absurd (unread (omega arith));
-      at_word = λ goes l. heard;
-    }
-
-pub hears_end : {C : Type 0} (m : Sat C) (words log : ℕ) (r : Receiving) → IsReceiverView m words log r → r.ended ≡ true → Hears m turn.End m
-hears_end {C} m words log r h over =
-    let off : (receiver_view_in m.0).ended ≡ true = ap (λ (y : Sat C). (receiver_view_in y.0).ended) h.me ∙ sym h.fit.ended ∙ over in
-    record {
-      ended = λ e. (refl, refl);
-      at_length = λ goes here. absurd (let bad : true ≡ false = sym off ∙ goes in cc);
-      at_word = λ goes l. absurd (let bad : true ≡ false = sym off ∙ goes in cc);
-    }
 
 -- a turn that takes no step is none, but after the end
 pub no_still_turn : {C : Type 0} (x : TableLayout) (e : ReceiverView) (answer : RecvTurn) → e.ended ≡ false → e.place ≤ length e.known → Hears {C = C} (Tap x e, []) answer (Tap x e, []) → ⊥

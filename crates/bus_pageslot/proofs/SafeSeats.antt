@@ -16,8 +16,8 @@ use Rattle.bus_pageslot.specs.Histories.{Shown, HasHistory}
 use Rattle.bus_pageslot.specs.SafeSeats.{AreSafe, tenure_in}
 use Rattle.bus_pageslot.specs.declared.rule.View.{View}
 
-module _ {E : Type 0} (X : Election E) (x : Layout) (reuse : Option ℕ) (s : State (Option Page) (View (Sender E)))
-    (most : ℕ → ℕ → ℕ) (h : HasHistory X x reuse most s) (rows : ℕ) (is : reuse ≡ Some rows) where
+module _ {E : Type 0} (X : Election E) (x : Layout) (reuse : Option ℕ) (bases : List ℕ) (s : State (Option Page) (View (Sender E)))
+    (most : ℕ → ℕ → ℕ) (h : HasHistory X x reuse bases most s) (rows : ℕ) (is : reuse ≡ Some rows) where
   abbrev m : Machine E
   m = h.history.machine
 

@@ -1,5 +1,5 @@
 -- The stage of an open tenure is left by its owner alone, which takes the page.
-use Rattle.std.proofs.Common.{◌≡◌, ◌≢◌, ℕ, ◌*◌, Bool, true, false, cond, Option, Some, [], ◌∷◌, slice_index, refl, sym, ◌∙◌, ap}
+use Rattle.std.proofs.Common.{◌≡◌, ◌≢◌, ℕ, ◌*◌, Bool, true, false, cond, Option, Some, List, [], ◌∷◌, slice_index, refl, sym, ◌∙◌, ap}
 use Rattle.std.proofs.lemmas.Bool.{true≢false}
 use Rattle.std.proofs.lemmas.Option.{same_Some}
 use mathlib.Core.Option.{some}
@@ -59,28 +59,28 @@ module _ {E : Type 0} (X : Election E) (v : Sender E) (t : ℕ) where
 same_turn : (a b : Answered) → answer.Turn a ≡ answer.Turn b → a ≡ b
 same_turn a b e = cc
 
-pub owners_leave : {E : Type 0} (X : Election E) (P : Protocol E (Unit {0}) ℕ) (x : Layout) (y : Serves X P x) (reuse : Option ℕ)
-    (L : AutomatonLaws (process_of X) (bus_of X x reuse)) (s : State (Option Page) (View (Sender E)))
-    (r : TableInvariant (process_of X) (bus_of X x reuse) s) (id : ℕ) (m : Sat (Sender E)) (at : get_elem? s.views id ≡ some m.0)
+pub owners_leave : {E : Type 0} (X : Election E) (P : Protocol E (Unit {0}) ℕ) (x : Layout) (y : Serves X P x) (reuse : Option ℕ) (bases : List ℕ)
+    (L : AutomatonLaws (process_of X) (bus_of X x reuse bases)) (s : State (Option Page) (View (Sender E)))
+    (r : TableInvariant (process_of X) (bus_of X x reuse bases) s) (id : ℕ) (m : Sat (Sender E)) (at : get_elem? s.views id ≡ some m.0)
     (d : Sender E) (word many : ℕ) (o : Op) (is_due : IsDue (process_of X) d word m many o) → stepping.OfEvents X (OpensOnly X) x
     → (t : ℕ) → slice_index s.words 1 ≡ 2 * t → slice_index (words_after s.words (Some o)) 1 ≢ 2 * t → TakesPageOf X d t o
-owners_leave {E} X P x y reuse L s r id m at d word many o is_due law t is_open leaves =
-    let z = stepping.z X x reuse L s r id m at d word many o is_due in
+owners_leave {E} X P x y reuse bases L s r id m at d word many o is_due law t is_open leaves =
+    let z = stepping.z X x reuse bases L s r id m at d word many o is_due in
     let p = is_due.shown.core.me in
-    let h = stepping.is_history X x reuse L s r id m at d word many o is_due in
-    let here = stepping.here X x reuse L s r id m at d word many o is_due in
-    let same = stepping.words_are X x reuse L s r id m at d word many o is_due in
-    let now = stepping.words_now X x reuse L s r id m at d word many o is_due in
-    let opens = stepping.turn_is X x reuse L s r id m at d word many o is_due (OpensOnly X) law t
+    let h = stepping.is_history X x reuse bases L s r id m at d word many o is_due in
+    let here = stepping.here X x reuse bases L s r id m at d word many o is_due in
+    let same = stepping.words_are X x reuse bases L s r id m at d word many o is_due in
+    let now = stepping.words_now X x reuse bases L s r id m at d word many o is_due in
+    let opens = stepping.turn_is X x reuse bases L s r id m at d word many o is_due (OpensOnly X) law t
     (ap (λ w. slice_index w 1) (sym same) ∙ is_open)
     (λ e. leaves (ap (λ w. slice_index (words_after w (Some o)) 1) same ∙ ap (λ w. slice_index w 1) (sym now) ∙ e)) in
     let takes : situation X d ≡ Does (TakesPage t) =
     owns_page X d t (situation X d) (found z.machine (line_now X d) word) word (same_turn _ _ opens.own) in
-    let own = owner_at X P x y reuse z h p d here t (own_of d.reuse (situation_of X d.core) (TakesPage t) takes) in
+    let own = owner_at X P x y reuse bases z h p d here t (own_of d.reuse (situation_of X d.core) (TakesPage t) takes) in
     record {
       election = own.election;
       elects = own.elects;
-      chosen = own.chosen ∙ ap Some (sym (stepping.me_is X x reuse L s r id m at d word many o is_due));
+      chosen = own.chosen ∙ ap Some (sym (stepping.me_is X x reuse bases L s r id m at d word many o is_due));
       kind = ap (λ u. (line X d u).kind) takes;
       step = sym (same_Some _ _ (ap (λ u. (line X d u).op word) (sym takes) ∙ is_due.due));
     }

@@ -1,5 +1,5 @@
 -- A step that is due of a sender of a table is a turn of the machine behind it.
-use Rattle.std.proofs.Common.{◌≡◌, ℕ, ◌<◌, Option, Some, length, slice_get, sym, ◌∙◌, ap, subst}
+use Rattle.std.proofs.Common.{◌≡◌, ℕ, ◌<◌, Option, Some, List, length, slice_get, sym, ◌∙◌, ap, subst}
 use mathlib.Core.Option.{some}
 use lib.ListN.{get_elem?}
 use Rattle.atomic_table.specs.Table.{State}
@@ -32,8 +32,8 @@ abbrev pub OfEvents : {E : Type 0} → Election E → (Machine E → Event → A
 OfEvents {E} X G x = IsLayout x → (old : Machine E) (T : Trails) → old.layout ≡ x → HasRows old.reuse → Reached X old T
     → (event : Event) (given : Answer) (new : Machine E) → Happens X old event given new → G old event given new
 
-module _ {E : Type 0} (X : Election E) (x : Layout) (reuse : Option ℕ) (L : AutomatonLaws (process_of X) (bus_of X x reuse))
-    (s : State (Option Page) (View (Sender E))) (r : TableInvariant (process_of X) (bus_of X x reuse) s) (id : ℕ) (m : Sat (Sender E))
+module _ {E : Type 0} (X : Election E) (x : Layout) (reuse : Option ℕ) (bases : List ℕ) (L : AutomatonLaws (process_of X) (bus_of X x reuse bases))
+    (s : State (Option Page) (View (Sender E))) (r : TableInvariant (process_of X) (bus_of X x reuse bases) s) (id : ℕ) (m : Sat (Sender E))
     (at : get_elem? s.views id ≡ some m.0) (d : Sender E) (word many : ℕ) (o : Op) (is_due : IsDue (process_of X) d word m many o) where
   abbrev pub c : Sender E
   c = is_due.shown
@@ -41,12 +41,12 @@ module _ {E : Type 0} (X : Election E) (x : Layout) (reuse : Option ℕ) (L : Au
   abbrev pub p : ℕ
   p = c.core.me
 
-  pub seated : IsSeated (process_of X) (bus_of X x reuse) r.state r.seat id c (sender_trail_in m.0) (stored_in m.0)
+  pub seated : IsSeated (process_of X) (bus_of X x reuse bases) r.state r.seat id c (sender_trail_in m.0) (stored_in m.0)
   seated = r.views id (view.Sender c (sender_trail_in m.0) (stored_in m.0)) (at ∙ ap (λ (y : Sat (Sender E)). some y.0) is_due.me)
 
   -- with what it has accepted since its last step
-  pub grown : AcceptsIn (bus_of X x reuse) r.state p d is_due.actions
-  grown = accepted (process_of X) (bus_of X x reuse) L r.state r.reached c seated.core d is_due.actions is_due.accepts
+  pub grown : AcceptsIn (bus_of X x reuse bases) r.state p d is_due.actions
+  grown = accepted (process_of X) (bus_of X x reuse bases) L r.state r.reached c seated.core d is_due.actions is_due.accepts
 
   abbrev pub z : MachineHistory E
   z = grown.state
@@ -60,13 +60,13 @@ module _ {E : Type 0} (X : Election E) (x : Layout) (reuse : Option ℕ) (L : Au
   abbrev pub new : Machine E
   new = machine_after b p l word
 
-  pub is_history : IsMachineHistory X x reuse z
+  pub is_history : IsMachineHistory X x reuse bases z
   is_history = grown.changes.reached
 
   pub here : slice_get b.senders p ≡ Some d
   here = grown.changes.here
 
-  its : IsSender (process_of X) (bus_of X x reuse) p d
+  its : IsSender (process_of X) (bus_of X x reuse bases) p d
   its = L.senders z p d grown.changes.reached grown.changes.here
 
   pub me_is : d.core.me ≡ p
@@ -84,7 +84,7 @@ module _ {E : Type 0} (X : Election E) (x : Layout) (reuse : Option ℕ) (L : Au
       → G b (Turn p word) (answer.Turn (turn_answer b l word)) new
   turn_is G law = law is_history.served b z.trails is_history.layout
       (subst HasRows (sym is_history.rows_are) is_history.has_rows) is_history.reached _ _ _
-      (takes_turn X x reuse z is_history p d here word o is_due.due low)
+      (takes_turn X x reuse bases z is_history p d here word o is_due.due low)
 
   -- its words
   pub words_now : new.words ≡ words_after b.words (Some o)

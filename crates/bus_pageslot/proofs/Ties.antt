@@ -81,7 +81,7 @@ module _ {C : Type 0} (P : Process C) (A : Automaton C) (z z' : A.State) (seat :
       }
 
   pub others_know : (v : View C) → IsTrueOf P A z seat j v → IsTrueOf P A z' seat j v
-  others_know (Maker c) h = (h.0, λ q low high. unseated_still q (h.1 q low high))
+  others_know (Maker x made) h = (h.0, λ q low high. unseated_still q (h.1 q low high))
   others_know (Sender c t stored) h = seated_still c t stored h
   others_know (Tap x e) h = log_still x e h
   others_know (Meeting x e y f) h = (log_still x e h.0, log_still y f h.1)
@@ -254,7 +254,7 @@ module _ {C : Type 0} (P : Process C) (A : Automaton C) (K : ProcessLaws P) (L :
         answer = mute n;
         counted = is_now.counted;
         laid = is_now.laid;
-        numbered = numbers_next P A L done.state done.changes.reached p d_now is_now.me placed sender_trail.actions (ap (λ (t : SenderTrail). t.actions) did);
+        numbered = numbers_next P A L done.state done.changes.reached p d_now is_now.me placed sender_trail did;
         ends = L.ends z p d word o grown.changes.reached grown.changes.here due.due (A.home r.state) (g n);
         now = λ i. (Sender d_now sender_trail stored, moved.carried_now i);
       },

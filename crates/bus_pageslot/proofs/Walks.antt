@@ -87,8 +87,8 @@ module _ {C : Type 0} (P : Process C) (K : ProcessLaws P) (d : C) where
       pub laid_now : P.awaits d3 ≡ false
       laid_now = ap P.awaits core_is ∙ gone.laid
 
-      pub numbered_now : Numbers P d3 (sender_trail_in m3.0).actions
-      numbered_now = subst (λ (y : C × SenderTrail). Numbers P y.0 y.1.actions) (λ i. (sym core_is i, same_trail i)) gone.numbered
+      pub numbered_now : Numbers P d3 (sender_trail_in m3.0)
+      numbered_now = subst (λ (y : C × SenderTrail). Numbers P y.0 y.1) (λ i. (sym core_is i, same_trail i)) gone.numbered
 
       pub stored_now : stored_in m3.0 ≡ stored_by (P.op d word) (stored_in m.0)
       stored_now = ap (λ (y : Sat C). stored_in y.0) me_is ∙ ap (λ (y : Sat C). stored_in y.0) gone.now ∙ ap (λ (y : Sat C). stored_by (P.op d word) (stored_in y.0)) put_me

@@ -7,10 +7,10 @@ use Rattle.bus_pageslot.specs.declared.rule.View.{View}
 use Rattle.bus_pageslot.specs.declared.rule.View.TheVariants.{Maker}
 use Rattle.bus_pageslot.specs.Seats.{SenderSeat, ReceiverSeat, table_of, sender_trail_of, stored_of}
 use Rattle.bus_pageslot.specs.ReceiverViews.{new_receiver_view}
-use Rattle.bus_automaton.specs.Processes.{TableLayout, Process, Automaton}
+use Rattle.bus_automaton.specs.Processes.{TableLayout, Process, Automaton, base_in}
 use Rattle.bus_automaton.specs.declared.plans.Plan.{Plan}
 use Rattle.bus_pageslot.specs.Rule.{receiver_view_in, table_layout_in}
-use Rattle.bus_automaton.specs.SenderTrails.{no_sender_trail}
+use Rattle.bus_automaton.specs.SenderTrails.{new_sender_trail}
 
 -- a bus: its table, and what it was made by
 pub record BusId : Type 0 where
@@ -23,13 +23,13 @@ pub record IsBusTable {C : Type 0} (A : Automaton C) (table : TableId) (maker : 
   pub room : A.table_layout.words ≤ 2 ^ 63
   pub words : table.words ≡ A.table_layout.words
   pub slots : table.slots ≡ 1
-  pub me : maker.me ≡ (Maker (A.started 0), [])
+  pub me : maker.me ≡ (Maker A.table_layout 0, [])
 
 -- a sender of this table before its first turn
 pub record IsNewSeat {C : Type 0} (P : Process C) (A : Automaton C) (table : TableId) (p : ℕ) (s : SenderSeat C) : Type 0 where
   pub core : s.core ≡ A.started p
   pub table_is : table_of s ≡ table
-  pub sender_trail : sender_trail_of P s ≡ no_sender_trail
+  pub sender_trail : sender_trail_of P s ≡ new_sender_trail (base_in A p)
   pub stored : stored_of s ≡ 0
 
 -- so many of them, in order

@@ -7,7 +7,7 @@ use Rattle.bus_tenure.specs.declared.pages.Page.{Page}
 use Rattle.bus_world.specs.Headline.{IsPrefix}
 use Rattle.bus_pageslot.specs.declared.rule.View.{View}
 use Rattle.bus_pageslot.specs.Rule.{slot_of, known_in, TableInvariant}
-use Rattle.bus_automaton.specs.Processes.{Process, Automaton, log_below}
+use Rattle.bus_automaton.specs.Processes.{Process, Automaton, base_in, log_below}
 use Rattle.bus_pageslot.specs.Promised.{IsPromised}
 
 -- A table of which the rule holds, with this log below the length and this page at home, where a receiver's seat shows what it showed
@@ -18,5 +18,5 @@ pub record IsLeft {C : Type 0} (P : Process C) (A : Automaton C) (seen : View C)
   pub here : (seat : ℕ) × (get_elem? table.views seat ≡ some seen)
   pub log_is : log_below A.table_layout table.words ≡ log
   pub home_is : table.homes ≡ slot_of home ∷ []
-  pub promised : IsPromised P A.table_layout table
+  pub promised : IsPromised P A.table_layout (base_in A) table
   pub front : IsPrefix (known_in seen) log

@@ -1,5 +1,5 @@
 -- The machine that stands behind a table, and what led to it.
-use Rattle.std.specs.Prelude.{◌≡◌, ◌⊎◌, ℕ, ◌<◌, Option, Some, [], ◌∷◌, slice_get}
+use Rattle.std.specs.Prelude.{◌≡◌, ◌⊎◌, ℕ, ◌<◌, Option, Some, List, [], ◌∷◌, slice_get, slice_index}
 use mathlib.Core.Option.{some}
 use lib.ListN.{get_elem?}
 use Rattle.atomic_table.specs.Table.{State}
@@ -11,7 +11,7 @@ use Rattle.bus_tenure.specs.Core.{Election, Layout}
 use Rattle.bus_tenure.specs.declared.pages.Page.{Page}
 use Rattle.bus_automaton.specs.OneAutomaton.{MachineHistory, IsMachineHistory, trail_of}
 use Rattle.bus_automaton.specs.Processes.{TableLayout}
-use Rattle.bus_automaton.specs.SenderTrails.{SenderTrail, no_sender_trail}
+use Rattle.bus_automaton.specs.SenderTrails.{SenderTrail, new_sender_trail}
 use Rattle.bus_pageslot.specs.ReceiverViews.{ReceiverView}
 use Rattle.bus_pageslot.specs.Rule.{slot_of}
 use Rattle.bus_pageslot.specs.declared.rule.View.{View}
@@ -32,17 +32,17 @@ pub record IsShown {E : Type 0} (s : State (Option Page) (View (Sender E))) (p :
 
 -- Some events led to a machine of these sizes, with the words and the page of this table; its senders are those that the seats show, and
 -- did what these show. The machine's promise holds of it, and whoever lost a tenure saw that.
-pub record HasHistory {E : Type 0} (X : Election E) (x : Layout) (reuse : Option ℕ) (most : ℕ → ℕ → ℕ) (s : State (Option Page) (View (Sender E))) : Type 0 where
+pub record HasHistory {E : Type 0} (X : Election E) (x : Layout) (reuse : Option ℕ) (bases : List ℕ) (most : ℕ → ℕ → ℕ) (s : State (Option Page) (View (Sender E))) : Type 0 where
   pub history : MachineHistory E
-  pub reached : IsMachineHistory X x reuse history
+  pub reached : IsMachineHistory X x reuse bases history
   pub words : s.words ≡ history.machine.words
   pub homes : s.homes ≡ slot_of history.machine.home ∷ []
   pub senders : (j : ℕ) (v : Sender E) (sender_trail : SenderTrail) → Shown s j v sender_trail
       → slice_get history.machine.senders v.core.me ≡ Some v
   pub trails : (j : ℕ) (v : Sender E) (sender_trail : SenderTrail) → Shown s j v sender_trail
-      → trail_of history.trails v.core.me ≡ sender_trail
+      → trail_of bases history.trails v.core.me ≡ sender_trail
   -- each sender shows in a seat, or has none yet and has done nothing
-  pub all : (p : ℕ) → p < x.senders → IsShown s p ⊎ (trail_of history.trails p ≡ no_sender_trail)
+  pub all : (p : ℕ) → p < x.senders → IsShown s p ⊎ (trail_of bases history.trails p ≡ new_sender_trail (slice_index bases p))
   pub promised : IsPromised X history.machine history.trails
   pub losses : LossesAreSeen history.machine history.trails.actions
   -- with so many senders and rounds an election has so many turns

@@ -1,11 +1,14 @@
 -- A receiver's turns: what one load makes of its seat, and what is answered.
-use Rattle.std.specs.Prelude.{◌≡◌, ℕ, ◌<◌, ◌≤◌, Bool, true, false, Option, Some, List, ◌++◌, length, take, slice_get, slice_index}
+use Rattle.std.specs.Prelude.{◌≡◌, ℕ, ◌<◌, ◌≤◌, Bool, true, false, Option, Some, None, List, ◌++◌, length, take, slice_get, slice_index}
+use Rattle.bus_batch.specs.declared.messages.Item.{Item}
 use Rattle.bus_batch.specs.declared.messages.Piece.{Piece}
 use Rattle.bus_batch.specs.Frames.{Frame, AreFrames, GivesPiece, log_words, log_pieces}
 use Rattle.bus_deliverylog.specs.declared.receiving.RecvTurn.{RecvTurn}
 use Rattle.bus_deliverylog.specs.declared.receiving.RecvTurn.TheVariants as turn
 use Rattle.bus_deliverylog.specs.Receiving.{turn_of}
 use Rattle.bus_world.specs.Headline.{IsPrefix}
+use Rattle.bus_pageslot.specs.declared.listening.ItemTurn.{ItemTurn}
+use Rattle.bus_pageslot.specs.declared.listening.ItemTurn.TheVariants as item_turn
 use Rattle.bus_pageslot.specs.ReceiverViews.{heard_length, heard_word, length_turn}
 use Rattle.bus_pageslot.specs.Rule.{Sat, receiver_view_in, known_in, with_receiver_view, senders_in, capacity_in}
 
@@ -55,3 +58,41 @@ pub record Hears {C : Type 0} (m : Sat C) (answer : RecvTurn) (m' : Sat C) : Typ
   pub ended : (receiver_view_in m.0).ended ≡ true → (answer ≡ turn.End) × (m' ≡ m)
   pub at_length : (receiver_view_in m.0).ended ≡ false → (receiver_view_in m.0).place ≡ length (known_in m.0) → HearsLength m answer m'
   pub at_word : (receiver_view_in m.0).ended ≡ false → (receiver_view_in m.0).place < length (known_in m.0) → HearsWord m answer m'
+
+-- ---- an answer of which an item is written in its place
+abbrev pub item_turn_of : RecvTurn → ItemTurn
+item_turn_of turn.Going = item_turn.Going
+item_turn_of turn.Empty = item_turn.Empty
+item_turn_of (turn.Head tenure owner) = item_turn.Going
+item_turn_of (turn.Item item) = item_turn.Item
+item_turn_of turn.End = item_turn.End
+
+-- what stands in that place then; any other answer leaves what stood there before
+abbrev pub item_after : RecvTurn → Option Item → Option Item
+item_after turn.Going before = before
+item_after turn.Empty before = before
+item_after (turn.Head tenure owner) before = before
+item_after (turn.Item item) before = Some item
+item_after turn.End before = before
+
+pub record Writes (answer : RecvTurn) (before : Option Item) (told : ItemTurn) (after : Option Item) : Type 0 where
+  pub told_is : told ≡ item_turn_of answer
+  pub after_is : after ≡ item_after answer before
+
+-- the same, where none is told of a word that says nothing by itself
+abbrev pub WritesOrPlain : RecvTurn → Option Item → Option ItemTurn → Option Item → Type 0
+WritesOrPlain answer before None after = (answer ≡ turn.Going) × (after ≡ before)
+WritesOrPlain answer before (Some told) after = Writes answer before told after
+
+-- turns that answered Going led from one seat to another
+pub data GoesOnTo {C : Type 0} (first : Sat C) : Sat C → Type 0 where
+  At : GoesOnTo first first
+  Onward : (old new : Sat C) → GoesOnTo first old → Hears old turn.Going new → GoesOnTo first new
+
+-- Such turns, and a last one, of which an item is written in its place.
+pub record HearsAfter {C : Type 0} (first : Sat C) (before : Option Item) (told : ItemTurn) (after : Option Item) (new : Sat C) : Type 0 where
+  pub old : Sat C
+  pub going : GoesOnTo first old
+  pub answer : RecvTurn
+  pub hears : Hears old answer new
+  pub writes : Writes answer before told after

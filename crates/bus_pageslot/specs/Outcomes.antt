@@ -1,22 +1,26 @@
 -- What a bus leaves behind.
-use Rattle.std.specs.Prelude.{◌≡◌, ℕ, ◌<◌, List, length, slice_index}
+use Rattle.std.specs.Prelude.{◌≡◌, ℕ, ◌+◌, ◌<◌, List, Some, length, slice_get, slice_index}
 use Rattle.bus_register.specs.declared.limits.TheConstants.{MOST_SENDERS}
 use Rattle.bus_register.specs.declared.registers.SenderNo.{SenderNo}
+use Rattle.bus_batch.specs.declared.messages.Item.{Item}
 use Rattle.bus_batch.specs.Frames.{Order, Spells}
 use Rattle.bus_deliverylog.specs.Orders.{of_sender}
 use Rattle.bus_tenure.specs.declared.pages.Page.{Page}
 
--- how many senders it had, the words of its log below the length, and its page
+-- how many senders it had, the numbers that it began with, the words of its log below the length, and its page
 pub record Outcome : Type 0 where
   pub senders : ℕ
+  pub bases : List ℕ
   pub log : List ℕ
   pub page : Page
 
--- The words spell an order, and the page knows of it: how many items each sender has in it, whether it has ended, and how many words there are. They spell one order alone.
+-- The words spell an order, in which each sender's items have its numbers from its first one on. The page knows of it: the next number of each
+-- sender behind it, whether it has ended, and how many words there are. The words spell one order alone.
 pub record IsOutcome (z : Outcome) : Type 0 where
   pub order : Order
   pub owners : List (ℕ × SenderNo)
   pub spells : Spells z.senders z.log order owners
-  pub counts : (s : ℕ) → s < MOST_SENDERS → slice_index z.page.next s ≡ length (of_sender s order)
+  pub numbered : (s k : ℕ) (i : Item) → slice_get (of_sender s order) k ≡ Some i → i.number ≡ slice_index z.bases s + k
+  pub counts : (s : ℕ) → s < MOST_SENDERS → slice_index z.page.next s ≡ slice_index z.bases s + length (of_sender s order)
   pub ended : z.page.ended ≡ order.ended
   pub words : z.page.words ≡ length z.log

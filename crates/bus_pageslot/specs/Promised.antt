@@ -14,7 +14,7 @@ use Rattle.bus_pageslot.specs.declared.rule.View.TheVariants.{Maker, Sender, Tap
 
 -- a view is true of these actions of senders, and shows a beginning of this log of its receivers
 abbrev pub Fits : {C : Type 0} → Process C → (ℕ → List Action) → List ℕ → View C → Type 0
-Fits P actions log (Maker c) = (p : ℕ) → P.me c ≤ p → actions p ≡ []
+Fits P actions log (Maker x made) = (p : ℕ) → made ≤ p → actions p ≡ []
 Fits P actions log (Sender c sender_trail stored) = actions (P.me c) ≡ sender_trail.actions
 Fits P actions log (Tap x e) = IsPrefix e.known log
 Fits P actions log (Meeting x e y f) = IsPrefix e.known log × IsPrefix f.known log
@@ -23,7 +23,7 @@ Fits P actions log Spent = Unit {0}
 
 -- a view shows that the sender p did just these actions: those of its trail, or none while it has no seat of its own
 abbrev pub ShowsActions : {C : Type 0} → Process C → ℕ → List Action → View C → Type 0
-ShowsActions P p actions (Maker c) = (P.me c ≤ p) × (actions ≡ [])
+ShowsActions P p actions (Maker x made) = (made ≤ p) × (actions ≡ [])
 ShowsActions P p actions (Sender c sender_trail stored) = (P.me c ≡ p) × (actions ≡ sender_trail.actions)
 ShowsActions P p actions (Tap x e) = ⊥
 ShowsActions P p actions (Meeting x e y f) = ⊥
@@ -32,7 +32,7 @@ ShowsActions P p actions Spent = ⊥
 
 -- a view shows this trail of a receiver of its
 abbrev pub ShowsTrail : {C : Type 0} → List RecvTurn → View C → Type 0
-ShowsTrail trail (Maker c) = ⊥
+ShowsTrail trail (Maker x made) = ⊥
 ShowsTrail trail (Sender c actions stored) = ⊥
 ShowsTrail trail (Tap x e) = trail ≡ e.answers
 ShowsTrail trail (Meeting x e y f) = (trail ≡ e.answers) ⊎ (trail ≡ f.answers)
@@ -43,15 +43,15 @@ ShowsTrail trail Spent = ⊥
 abbrev pub IsShownTrail : {C : Type 0} → State (Option Page) (View C) → List RecvTurn → Type 0
 IsShownTrail {C} s trail = (trail ≡ []) ⊎ ((j : ℕ) × (v : View C) × (get_elem? s.views j ≡ some v) × ShowsTrail trail v)
 
--- The page of promises holds of the actions that the seats show, and of what they show that receivers were answered, however these are
+-- Of a sitting whose numbers begin with these, the page of promises holds of the actions that the seats show, and of what they show that receivers were answered, however these are
 -- numbered, with the order and the owners that the words below the length spell; and what a receiver knows is a beginning of these
 -- words. There are no other actions than those that are shown: each sender shows all of its own up to its last step, and nobody else has any.
-pub record IsPromised {C : Type 0} (P : Process C) (x : TableLayout) (s : State (Option Page) (View C)) : Type 0 where
+pub record IsPromised {C : Type 0} (P : Process C) (x : TableLayout) (base : ℕ → ℕ) (s : State (Option Page) (View C)) : Type 0 where
   pub actions : ℕ → List Action
   pub shown : (p : ℕ) → p < x.senders → (j : ℕ) × (v : View C) × (get_elem? s.views j ≡ some v) × ShowsActions P p (actions p) v
   pub nobody : (p : ℕ) → x.senders ≤ p → actions p ≡ []
   pub order : Order
   pub owners : List (ℕ × SenderNo)
   pub spelled : Spells x.senders (log_below x s.words) order owners
-  pub promises : (heard : ℕ → List RecvTurn) → ((r : ℕ) → IsShownTrail s (heard r)) → Promises actions heard order owners
+  pub promises : (heard : ℕ → List RecvTurn) → ((r : ℕ) → IsShownTrail s (heard r)) → Promises base actions heard order owners
   pub views : (j : ℕ) (v : View C) → get_elem? s.views j ≡ some v → Fits P actions (log_below x s.words) v

@@ -1,6 +1,6 @@
 -- The rule of the table. Its words and its slot are those of a state that executions of a bus lead to, of senders that did what the views
 -- of its seats show: so between any two steps all that is promised of the machine holds of what threads did.
-use Rattle.std.specs.Prelude.{◌≡◌, ℕ, ◌<◌, ◌≤◌, List, [], ◌∷◌, length, Option, Some, None, slice_index}
+use Rattle.std.specs.Prelude.{◌≡◌, ℕ, ◌+◌, ◌<◌, ◌≤◌, List, [], ◌∷◌, length, Option, Some, None, slice_index}
 use mathlib.Core.Option.{some, none}
 use mathlib.Core.Option as maybe
 use lib.ListN.{get_elem?}
@@ -9,8 +9,8 @@ use Rattle.bus_batch.specs.Frames.{Frame, AreFrames, log_words}
 use Rattle.bus_tenure.specs.declared.pages.Page.{Page}
 use Rattle.bus_world.specs.Headline.{IsPrefix}
 use Rattle.bus_pageslot.specs.ReceiverViews.{ReceiverView, new_receiver_view, receiver_view_knowing, HasHeard}
-use Rattle.bus_automaton.specs.Processes.{TableLayout, no_table_layout, Process, Automaton, log_in}
-use Rattle.bus_automaton.specs.SenderTrails.{SenderTrail, no_sender_trail}
+use Rattle.bus_automaton.specs.Processes.{TableLayout, no_table_layout, Process, Automaton, base_in, log_in}
+use Rattle.bus_automaton.specs.SenderTrails.{SenderTrail, new_sender_trail, no_sender_trail}
 use Rattle.bus_pageslot.specs.declared.rule.View.{View}
 use Rattle.bus_pageslot.specs.declared.rule.View.TheVariants.{Maker, Sender, Tap, Meeting, Telling, Spent}
 
@@ -23,7 +23,7 @@ abbrev pub Sat : Type 0 → Type 0
 Sat C = Me (Option Page) (View C)
 
 abbrev pub sender_trail_in : {C : Type 0} → View C → SenderTrail
-sender_trail_in (Maker c) = no_sender_trail
+sender_trail_in (Maker x made) = no_sender_trail
 sender_trail_in (Sender c sender_trail stored) = sender_trail
 sender_trail_in (Tap x e) = no_sender_trail
 sender_trail_in (Meeting x e y f) = no_sender_trail
@@ -32,7 +32,7 @@ sender_trail_in Spent = no_sender_trail
 
 -- the last length that its sender has stored; 0 before the first
 abbrev pub stored_in : {C : Type 0} → View C → ℕ
-stored_in (Maker c) = 0
+stored_in (Maker x made) = 0
 stored_in (Sender c sender_trail stored) = stored
 stored_in (Tap x e) = 0
 stored_in (Meeting x e y f) = 0
@@ -40,37 +40,34 @@ stored_in (Telling c sender_trail stored x e) = stored
 stored_in Spent = 0
 
 -- the view of the maker of seats, before and after a seat is made
-abbrev pub cut_left : {C : Type 0} → Process C → View C → View C
-cut_left P (Maker c) = Maker (P.successor c)
-cut_left P (Sender c sender_trail stored) = Sender c sender_trail stored
-cut_left P (Tap x e) = Tap x e
-cut_left P (Meeting x e y f) = Meeting x e y f
-cut_left P (Telling c sender_trail stored x e) = Telling c sender_trail stored x e
-cut_left P Spent = Spent
+abbrev pub cut_left : {C : Type 0} → View C → View C
+cut_left (Maker x made) = Maker x (made + 1)
+cut_left (Sender c sender_trail stored) = Sender c sender_trail stored
+cut_left (Tap x e) = Tap x e
+cut_left (Meeting x e y f) = Meeting x e y f
+cut_left (Telling c sender_trail stored x e) = Telling c sender_trail stored x e
+cut_left Spent = Spent
 
-abbrev pub cut_right : {C : Type 0} → View C → View C
-cut_right (Maker c) = Sender c no_sender_trail 0
-cut_right (Sender c sender_trail stored) = Spent
-cut_right (Tap x e) = Spent
-cut_right (Meeting x e y f) = Spent
-cut_right (Telling c sender_trail stored x e) = Spent
-cut_right Spent = Spent
+-- and the view of the new seat: of the sender that the call picks, whose first message has this number
+abbrev pub cut_right : {C : Type 0} → Option C → ℕ → View C
+cut_right None first = Spent
+cut_right (Some c) first = Sender c (new_sender_trail first) 0
 
 -- the view of the maker of seats, before and after a receiver's seat is made
 abbrev pub tap_left : {C : Type 0} → View C → View C
 tap_left v = v
 
-abbrev pub tap_right : {C : Type 0} → Process C → View C → View C
-tap_right P (Maker c) = Tap (P.table_layout c) new_receiver_view
-tap_right P (Sender c sender_trail stored) = Spent
-tap_right P (Tap x e) = Spent
-tap_right P (Meeting x e y f) = Spent
-tap_right P (Telling c sender_trail stored x e) = Spent
-tap_right P Spent = Spent
+abbrev pub tap_right : {C : Type 0} → View C → View C
+tap_right (Maker x made) = Tap x new_receiver_view
+tap_right (Sender c sender_trail stored) = Spent
+tap_right (Tap x e) = Spent
+tap_right (Meeting x e y f) = Spent
+tap_right (Telling c sender_trail stored x e) = Spent
+tap_right Spent = Spent
 
 -- what a receiver's seat knows, has read and was answered
 abbrev pub receiver_view_in : {C : Type 0} → View C → ReceiverView
-receiver_view_in (Maker c) = new_receiver_view
+receiver_view_in (Maker x made) = new_receiver_view
 receiver_view_in (Sender c sender_trail stored) = new_receiver_view
 receiver_view_in (Tap x e) = e
 receiver_view_in (Meeting x e y f) = e
@@ -81,7 +78,7 @@ abbrev pub known_in : {C : Type 0} → View C → List ℕ
 known_in v = (receiver_view_in v).known
 
 abbrev pub with_receiver_view : {C : Type 0} → View C → ReceiverView → View C
-with_receiver_view (Maker c) e = Maker c
+with_receiver_view (Maker x made) e = Maker x made
 with_receiver_view (Sender c sender_trail stored) e = Sender c sender_trail stored
 with_receiver_view (Tap x old) e = Tap x e
 with_receiver_view (Meeting x old y f) e = Meeting x e y f
@@ -90,7 +87,7 @@ with_receiver_view Spent e = Spent
 
 -- how large a receiver's bus is
 abbrev pub table_layout_in : {C : Type 0} → View C → TableLayout
-table_layout_in (Maker c) = no_table_layout
+table_layout_in (Maker x made) = no_table_layout
 table_layout_in (Sender c sender_trail stored) = no_table_layout
 table_layout_in (Tap x e) = x
 table_layout_in (Meeting x e y f) = x
@@ -107,13 +104,13 @@ capacity_in v = (table_layout_in v).capacity
 abbrev pub views_joined : {C : Type 0} → View C → View C → View C
 views_joined (Tap x e) (Tap y f) = Meeting x e y f
 views_joined (Sender c sender_trail stored) (Tap x e) = Telling c sender_trail stored x e
-views_joined (Maker c) w = Spent
-views_joined (Sender c sender_trail stored) (Maker d) = Spent
+views_joined (Maker x made) w = Spent
+views_joined (Sender c sender_trail stored) (Maker x made) = Spent
 views_joined (Sender c sender_trail stored) (Sender d other length) = Spent
 views_joined (Sender c sender_trail stored) (Meeting x e y f) = Spent
 views_joined (Sender c sender_trail stored) (Telling d other length x e) = Spent
 views_joined (Sender c sender_trail stored) Spent = Spent
-views_joined (Tap x e) (Maker d) = Spent
+views_joined (Tap x e) (Maker y made) = Spent
 views_joined (Tap x e) (Sender d sender_trail stored) = Spent
 views_joined (Tap x e) (Meeting y f z g) = Spent
 views_joined (Tap x e) (Telling d sender_trail length y f) = Spent
@@ -124,7 +121,7 @@ views_joined Spent w = Spent
 
 -- a seat that another may go into
 abbrev pub IsFirst : {C : Type 0} → View C → Type 0
-IsFirst (Maker c) = ⊥
+IsFirst (Maker x made) = ⊥
 IsFirst (Sender c sender_trail stored) = Unit {0}
 IsFirst (Tap x e) = Unit {0}
 IsFirst (Meeting x e y f) = ⊥
@@ -133,7 +130,7 @@ IsFirst Spent = ⊥
 
 -- and cut apart again
 abbrev pub first_of : {C : Type 0} → View C → View C
-first_of (Maker c) = Maker c
+first_of (Maker x made) = Maker x made
 first_of (Sender c sender_trail stored) = Sender c sender_trail stored
 first_of (Tap x e) = Tap x e
 first_of (Meeting x e y f) = Tap x e
@@ -141,7 +138,7 @@ first_of (Telling c sender_trail stored x e) = Sender c sender_trail stored
 first_of Spent = Spent
 
 abbrev pub second_of : {C : Type 0} → View C → View C
-second_of (Maker c) = Spent
+second_of (Maker x made) = Spent
 second_of (Sender c sender_trail stored) = Spent
 second_of (Tap x e) = Spent
 second_of (Meeting x e y f) = Tap y f
@@ -150,7 +147,7 @@ second_of Spent = Spent
 
 -- the receivers that are joined have loaded the length, and know this
 abbrev pub all_knowing : {C : Type 0} → View C → List ℕ → View C
-all_knowing (Maker c) known = Maker c
+all_knowing (Maker x made) known = Maker x made
 all_knowing (Sender c sender_trail stored) known = Sender c sender_trail stored
 all_knowing (Tap x e) known = Tap x (receiver_view_knowing e known)
 all_knowing (Meeting x e y f) known = Meeting x (receiver_view_knowing e known) y (receiver_view_knowing f known)
@@ -169,7 +166,7 @@ pub record IsSeated {C : Type 0} (P : Process C) (A : Automaton C) (z : A.State)
 pub record IsUnseated {C : Type 0} (A : Automaton C) (z : A.State) (seat : ℕ → ℕ) (j p : ℕ) : Type 0 where
   pub here : seat p ≡ j
   pub core : A.sender z p ≡ Some (A.started p)
-  pub sender_trail_is : A.sender_trail z p ≡ no_sender_trail
+  pub sender_trail_is : A.sender_trail z p ≡ new_sender_trail (base_in A p)
 
 -- A receiver knows a beginning of the log, which has some frames; and its turns have answered just what these give, up to its place.
 pub record KnowsLog {C : Type 0} (A : Automaton C) (z : A.State) (x : TableLayout) (e : ReceiverView) : Type 0 where
@@ -182,7 +179,7 @@ pub record KnowsLog {C : Type 0} (A : Automaton C) (z : A.State) (x : TableLayou
   pub heard : HasHeard frames e
 
 abbrev pub IsTrueOf : {C : Type 0} → Process C → (A : Automaton C) → A.State → (ℕ → ℕ) → ℕ → View C → Type 0
-IsTrueOf P A z seat j (Maker c) = (c ≡ A.started (P.me c)) × ((p : ℕ) → P.me c ≤ p → p < A.table_layout.senders → IsUnseated A z seat j p)
+IsTrueOf P A z seat j (Maker x made) = (x ≡ A.table_layout) × ((p : ℕ) → made ≤ p → p < A.table_layout.senders → IsUnseated A z seat j p)
 IsTrueOf P A z seat j (Sender c sender_trail stored) = IsSeated P A z seat j c sender_trail stored
 IsTrueOf P A z seat j (Tap x e) = KnowsLog A z x e
 IsTrueOf P A z seat j (Meeting x e y f) = KnowsLog A z x e × KnowsLog A z y f
@@ -191,7 +188,7 @@ IsTrueOf P A z seat j Spent = Unit {0}
 
 -- the sender p shows in this view: in its own, or in that of the maker of seats while it has none of its own
 abbrev pub Seats : {C : Type 0} → Process C → ℕ → View C → Type 0
-Seats P p (Maker c) = P.me c ≤ p
+Seats P p (Maker x made) = made ≤ p
 Seats P p (Sender c sender_trail stored) = P.me c ≡ p
 Seats P p (Tap x e) = ⊥
 Seats P p (Meeting x e y f) = ⊥

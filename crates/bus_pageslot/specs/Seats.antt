@@ -30,6 +30,10 @@ table_of s = s.seat.table_id
 abbrev pub sender_trail_of : {C : Type 0} → Process C → SenderSeat C → SenderTrail
 sender_trail_of P s = all_in P s.seat.me.0 s.core
 
+-- the number of its first message
+abbrev pub first_number_of : {C : Type 0} → Process C → SenderSeat C → ℕ
+first_number_of P s = (sender_trail_of P s).first
+
 abbrev pub actions_of : {C : Type 0} → Process C → SenderSeat C → List Action
 actions_of P s = (sender_trail_of P s).actions
 
@@ -45,7 +49,7 @@ pub record Shows {C : Type 0} (P : Process C) (d : C) (s : Seat (Option Page) (V
   pub counted : IsCounted P d
   -- no page is under way to it
   pub laid : P.awaits d ≡ false
-  pub numbered : Numbers P shown (sender_trail_in s.me.0).actions
+  pub numbered : Numbers P shown (sender_trail_in s.me.0)
   pub me : s.me ≡ (Sender shown (sender_trail_in s.me.0) (stored_in s.me.0), carried_of (P.holds d))
   pub words : s.table_id.words ≡ (P.table_layout d).words
   pub slots : s.table_id.slots ≡ 1

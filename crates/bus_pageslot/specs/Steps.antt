@@ -27,9 +27,9 @@ pub data Accepts {C : Type 0} (P : Process C) (c : C) : C → List Action → Ty
   Message : (d : C) (actions : List Action) (bytes : List ℕ) → Accepts P c d actions → CanPut (P.queue d) (length bytes) → All (λ byte. byte < 256) bytes → Accepts P c (P.with_message d bytes) (actions ++ HasPut (next_of (P.queue d)) bytes ∷ [])
   Close : (d : C) (actions : List Action) → Accepts P c d actions → CanClose (P.queue d) → Accepts P c (P.with_close d) (actions ++ HasClosed ∷ [])
 
--- Whatever a sender that has done this accepts next, it numbers each message by how many it has put before.
-abbrev pub Numbers : {C : Type 0} → Process C → C → List Action → Type 0
-Numbers {C} P c did = (d : C) (actions : List Action) → Accepts P c d actions → (size : ℕ) → CanPut (P.queue d) size → next_of (P.queue d) ≡ length (puts (did ++ actions))
+-- Whatever a sender that has done this accepts next, it numbers each message by how many it has put before, from its first number on.
+abbrev pub Numbers : {C : Type 0} → Process C → C → SenderTrail → Type 0
+Numbers {C} P c did = (d : C) (actions : List Action) → Accepts P c d actions → (size : ℕ) → CanPut (P.queue d) size → next_of (P.queue d) ≡ did.first + length (puts (did.actions ++ actions))
 
 -- the same actions, as the batches show them: the messages of the one that the other does not have yet, and the close
 abbrev pub puts_from : ℕ → List (List ℕ) → List Action
@@ -45,7 +45,7 @@ accepted_since before now = puts_from (next_of before) (drop (length before.mess
 
 -- since the last step of a seat with this view its sender, which is now d, has accepted this
 abbrev pub since_in : {C : Type 0} → Process C → View C → C → List Action
-since_in P (Maker c) d = []
+since_in P (Maker x made) d = []
 since_in P (Sender c sender_trail stored) d = accepted_since (P.queue c) (P.queue d)
 since_in P (Tap x e) d = []
 since_in P (Meeting x e y f) d = []
@@ -119,7 +119,7 @@ pub record Gone {C : Type 0} (P : Process C) (d : C) (word : ℕ) (m : Sat C) (g
   pub answer : P.answer d got word ≡ P.answer d found word
   pub counted : IsCounted P (P.after d home got word)
   pub laid : P.awaits (P.after d home got word) ≡ false
-  pub numbered : Numbers P (P.after d home got word) (with_sender_trail (all_in P m.0 d) (P.adds d found word)).actions
+  pub numbered : Numbers P (P.after d home got word) (with_sender_trail (all_in P m.0 d) (P.adds d found word))
   pub ends : EndsBy P d (P.fed d got word) (P.after d home got word) home (P.move d)
   pub now : m' ≡ (Sender (P.after d home got word) (with_sender_trail (all_in P m.0 d) (P.adds d found word)) (stored_by (P.op d word) (stored_in m.0)), carried_by (P.move d) home m.1)
 
@@ -162,7 +162,7 @@ pub record KnowsSent {C : Type 0} (P : Process C) (c : C) (actions : List Action
 
 -- what the joined seats know of the log grows to this; a sender may have accepted more since its last step; and two receivers agree
 abbrev pub GrowsTo : {C : Type 0} → Process C → View C → List ℕ → Type 0
-GrowsTo P (Maker c) known = Unit {0}
+GrowsTo P (Maker x made) known = Unit {0}
 GrowsTo P (Sender c sender_trail stored) known = Unit {0}
 GrowsTo P (Tap x e) known = Unit {0}
 GrowsTo P (Meeting x e y f) known = IsPrefix e.known known × IsPrefix f.known known × (length known ≤ x.capacity) × (length known ≤ y.capacity) × Agree e f

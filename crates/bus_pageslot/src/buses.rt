@@ -1,11 +1,13 @@
 //! The bus: how it is made, and how it ends.
 
-ghost use Rattle.std.specs.Prelude.{All, ◌≡◌, ℕ, List, Some, None, IfOk, OnErr, IfErr, []};
+ghost use Rattle.std.specs.Prelude.{All, ◌≡◌, ℕ, List, Some, None, IfOk, OnOk, OnErr, IfErr, []};
 ghost use Rattle.std.specs.Prelude.{◌≤◌};
 ghost use Rattle.std.specs.Vec.{vec_len, vec_capacity};
-ghost use Rattle.bus_machine.specs.Playing.{IsServed, MakeRefused, ShapeOf};
+ghost use Rattle.std.specs.Option.{option_copied};
+ghost use Rattle.bus_machine.specs.Playing.{IsServed, MakeRefused, ShapeOf, MayFollow};
+ghost use Rattle.bus_machine.specs.Playing.{IsFollowed, AfterRefused, MakeRefusedAfter};
 ghost use Rattle.bus_automaton.specs.Buses.{process_by, automaton_by, Serves, Refuses};
-ghost use Rattle.bus_automaton.specs.declared.plans.Plan.{Plan};
+ghost use Rattle.bus_automaton.specs.Buses.{plan_after, plan_apart, plan_again};
 ghost use Rattle.bus_pageslot.specs.Buses.{AreNewSeats, AreNewTaps};
 ghost use Rattle.bus_pageslot.specs.Seats.{table_of};
 ghost use Rattle.bus_pageslot.specs.Endings.{IsLeft};
@@ -19,6 +21,8 @@ use bus_adoptcommit::{Ratifier, ThreeWord};
 use bus_automaton::Plan;
 use bus_machine::shapes::fault_of;
 use bus_register::NoMemory;
+use bus_register::limits::MOST_SENDERS;
+use bus_tenure::Page;
 use bus_world::{MakeFault, Shape};
 use std::alloc::Global;
 use std::marker::Model;
@@ -32,6 +36,8 @@ type Made<Q> = (Bus<Q>, Vec<Sender<Q>>, Vec<Tap<Q>>);
 pub struct Bus<Q: Ratifier = ThreeWord> {
     pub(crate) table: BusTable<Q>,
     senders: u64,
+    /// The numbers that its sitting began with.
+    bases: [u64; MOST_SENDERS],
     /// The place of the log's first word.
     log: u64,
     log_words: u64,
@@ -52,6 +58,8 @@ impl<Q: Ratifier> Model for Bus<Q> {
         let A = automaton_with Q.kind_of Q.op Q.fed Q.protocol b.table.shared.key in
         (b.senders ≡ b.table.shared.key.shape.senders)
         × (b.senders ≡ A.table_layout.senders)
+        × (b.bases ≡ b.table.shared.key.bases)
+        × (b.bases ≡ A.bases)
         × (b.log ≡ A.table_layout.log)
         × (b.log_words ≡ A.table_layout.capacity)
         × (b.room.items ≡ []) × (vec_len b.room ≡ 0)
@@ -66,23 +74,52 @@ impl<Q: Ratifier + Drop> Bus<Q> {
         alloc: Global,
         shape: Shape,
     ) -> Result<(Bus<Q>, Vec<Sender<Q>>, Vec<Tap<Q>>), MakeFault>
-        ensures plan { IfOk result (λ made. made.0.plan ≡ record { shape = shape; reuse = None }) }
-        ensures senders { let plan : Plan = record { shape = shape; reuse = None } in IfOk result
-            (λ made. AreNewSeats (process_by Q.Ratifier) (automaton_by Q.Ratifier plan)
-            made.0.table shape.senders made.1.items) }
-        ensures taps { let plan : Plan = record { shape = shape; reuse = None } in IfOk result
-            (λ made. AreNewTaps (automaton_by Q.Ratifier plan).table_layout made.0.table
-            shape.receivers made.2.items) }
+        ensures plan { IfOk result (λ made. made.0.plan ≡ plan_apart shape None) }
+        ensures senders { IfOk result
+            (λ made. AreNewSeats (process_by Q.Ratifier)
+            (automaton_by Q.Ratifier (plan_apart shape None)) made.0.table shape.senders
+            made.1.items) }
+        ensures taps { IfOk result
+            (λ made. AreNewTaps (automaton_by Q.Ratifier (plan_apart shape None)).table_layout
+            made.0.table shape.receivers made.2.items) }
         ensures table { IfOk result (λ made. All (λ s. table_of s ≡ made.0.table) made.1.items
             × All (λ t. t.table_id ≡ made.0.table) made.2.items) }
         ensures served { IfOk result (λ _. IsServed shape None) }
         ensures fault { IfErr result (MakeRefused shape None) }
     {
-        make(alloc, Plan::apart(shape))
+        make(alloc, Plan::apart(shape), None)
     }
 
-    /// The same with two to eight rows of words that are used again, for up to 2^40 tenures: `rows`
-    /// of its shape is how many there are.
+    /// The next sitting: a new bus with a row of words for each tenure, whose senders go on with
+    /// the numbers of this page. That is the page of a bus that was ended once its order had ended
+    /// (`Ended::page`). Nothing else of it is carried over, and the shape may be another. Of a page
+    /// whose order has not ended the answer is NotEnded, and Numbers where a next number is
+    /// 2^48 - 65,536 or more.
+    pub fn after(
+        alloc: Global,
+        shape: Shape,
+        page: &Page,
+    ) -> Result<(Bus<Q>, Vec<Sender<Q>>, Vec<Tap<Q>>), MakeFault>
+        ensures plan { IfOk result (λ made. made.0.plan ≡ plan_apart shape (Some page.now)) }
+        ensures senders { IfOk result
+            (λ made. AreNewSeats (process_by Q.Ratifier)
+            (automaton_by Q.Ratifier (plan_apart shape (Some page.now))) made.0.table shape.senders
+            made.1.items) }
+        ensures taps { IfOk result
+            (λ made. AreNewTaps
+            (automaton_by Q.Ratifier (plan_apart shape (Some page.now))).table_layout
+            made.0.table shape.receivers made.2.items) }
+        ensures table { IfOk result (λ made. All (λ s. table_of s ≡ made.0.table) made.1.items
+            × All (λ t. t.table_id ≡ made.0.table) made.2.items) }
+        ensures served { IfOk result (λ _. IsServed shape None) }
+        ensures follows { OnOk result (IsFollowed page.now) }
+        ensures fault { IfErr result (AfterRefused shape None page.now) }
+    {
+        make(alloc, Plan::apart(shape), Some(page))
+    }
+
+    /// As `new`, with two to eight rows of words that are used again, for up to 2^40 tenures:
+    /// `rows` of its shape is how many there are. With a page it is the next sitting, as `after`.
     ///
     /// Who holds the page makes the row of the next tenure ready before it gives the page back. It
     /// asks each sender once which tenure it pins, and where that is the one that used the row
@@ -91,23 +128,26 @@ impl<Q: Ratifier + Drop> Bus<Q> {
     pub fn cyclic(
         alloc: Global,
         shape: Shape,
+        page: Option<&Page>,
     ) -> Result<(Bus<Q>, Vec<Sender<Q>>, Vec<Tap<Q>>), MakeFault>
         ensures plan { IfOk result
-            (λ made. made.0.plan ≡ record { shape = shape; reuse = Some shape.rows }) }
-        ensures senders { let plan : Plan = record { shape = shape; reuse = Some shape.rows } in
-            IfOk result
-            (λ made. AreNewSeats (process_by Q.Ratifier) (automaton_by Q.Ratifier plan)
-            made.0.table shape.senders made.1.items) }
-        ensures taps { let plan : Plan = record { shape = shape; reuse = Some shape.rows } in
-            IfOk result
-            (λ made. AreNewTaps (automaton_by Q.Ratifier plan).table_layout made.0.table
-            shape.receivers made.2.items) }
+            (λ made. made.0.plan ≡ plan_again shape (option_copied page.entry)) }
+        ensures senders { IfOk result
+            (λ made. AreNewSeats (process_by Q.Ratifier)
+            (automaton_by Q.Ratifier (plan_again shape (option_copied page.entry))) made.0.table
+            shape.senders made.1.items) }
+        ensures taps { IfOk result
+            (λ made. AreNewTaps
+            (automaton_by Q.Ratifier (plan_again shape (option_copied page.entry))).table_layout
+            made.0.table shape.receivers made.2.items) }
         ensures table { IfOk result (λ made. All (λ s. table_of s ≡ made.0.table) made.1.items
             × All (λ t. t.table_id ≡ made.0.table) made.2.items) }
         ensures served { IfOk result (λ _. IsServed shape (Some shape.rows)) }
-        ensures fault { IfErr result (MakeRefused shape (Some shape.rows)) }
+        ensures follows { OnOk result (MayFollow (option_copied page.entry)) }
+        ensures fault { IfErr result
+            (MakeRefusedAfter shape (Some shape.rows) (option_copied page.entry)) }
     {
-        make(alloc, Plan::again(shape))
+        make(alloc, Plan::again(shape), page)
     }
 
     /// Ends the bus, by a receiver of it: its log and its page, where the page is at home, and
@@ -119,6 +159,7 @@ impl<Q: Ratifier + Drop> Bus<Q> {
             (λ left. IsLeft (process_by Q.Ratifier) (automaton_by Q.Ratifier self.plan)
             tap.me.0 left.log (Some left.page)) }
         ensures senders { IfOk result (λ left. left.senders ≡ self.plan.shape.senders) }
+        ensures bases { IfOk result (λ left. left.bases ≡ self.plan.bases) }
         ensures out { OnErr result ((log : List ℕ)
             × IsLeft (process_by Q.Ratifier) (automaton_by Q.Ratifier self.plan)
             tap.me.0 log None) }
@@ -126,17 +167,48 @@ impl<Q: Ratifier + Drop> Bus<Q> {
         let Bus {
             table,
             senders,
+            bases,
             log,
             log_words,
             room,
         } = self;
-        leave(table, tap.into_seat(), senders, log, log_words, room)
+        leave(table, tap.into_seat(), senders, bases, log, log_words, room)
     }
 }
 
-/// A new bus of this plan.
-fn make<Q: Ratifier + Drop>(alloc: Global, plan: Plan) -> Result<Made<Q>, MakeFault>
+/// A new bus of this plan, which goes on with the numbers of this page, if of any.
+fn make<Q: Ratifier + Drop>(
+    alloc: Global,
+    plan: Plan,
+    page: Option<&Page>,
+) -> Result<Made<Q>, MakeFault>
     requires { ShapeOf plan.shape plan.reuse }
+    ensures plan { IfOk result (λ made. made.0.plan ≡ plan_after plan (option_copied page.entry)) }
+    ensures senders { IfOk result
+        (λ made. AreNewSeats (process_by Q.Ratifier)
+        (automaton_by Q.Ratifier (plan_after plan (option_copied page.entry))) made.0.table
+        plan.shape.senders made.1.items) }
+    ensures taps { IfOk result
+        (λ made. AreNewTaps
+        (automaton_by Q.Ratifier (plan_after plan (option_copied page.entry))).table_layout
+        made.0.table plan.shape.receivers made.2.items) }
+    ensures table { IfOk result (λ made. All (λ s. table_of s ≡ made.0.table) made.1.items
+        × All (λ t. t.table_id ≡ made.0.table) made.2.items) }
+    ensures served { IfOk result (λ _. IsServed plan.shape plan.reuse) }
+    ensures follows { OnOk result (MayFollow (option_copied page.entry)) }
+    ensures fault { IfErr result (Refuses plan (option_copied page.entry)) }
+{
+    if let Some(fault) = fault_of(plan.shape, plan.reuse) {
+        return Err(fault);
+    }
+    let next = plan.after(page)?;
+    let made = build(alloc, next)?;
+    Ok(made)
+}
+
+/// A new bus of a plan that is served.
+fn build<Q: Ratifier + Drop>(alloc: Global, plan: Plan) -> Result<Made<Q>, NoMemory>
+    requires { Serves plan }
     ensures plan { IfOk result (λ made. made.0.plan ≡ plan) }
     ensures senders { IfOk result
         (λ made. AreNewSeats (process_by Q.Ratifier) (automaton_by Q.Ratifier plan) made.0.table
@@ -146,20 +218,17 @@ fn make<Q: Ratifier + Drop>(alloc: Global, plan: Plan) -> Result<Made<Q>, MakeFa
         plan.shape.receivers made.2.items) }
     ensures table { IfOk result (λ made. All (λ s. table_of s ≡ made.0.table) made.1.items
         × All (λ t. t.table_id ≡ made.0.table) made.2.items) }
-    ensures served { IfOk result (λ _. Serves plan) }
-    ensures fault { IfErr result (Refuses plan) }
 {
-    if let Some(fault) = fault_of(plan.shape, plan.reuse) {
-        return Err(fault);
-    }
     let (table, maker) = bus_table(alloc, plan)?;
     let log = log_at::<Q>(plan);
     let (senders, maker) = seat_all(alloc, plan, &table.shared, maker)?;
     let taps = tap_all(alloc, plan, &table.shared, maker, log)?;
     let room = roomy(alloc, plan.shape.log_words)?;
+    let bases = plan.bases;
     let bus = Bus {
         table,
         senders: plan.shape.senders,
+        bases,
         log,
         log_words: plan.shape.log_words,
         room,

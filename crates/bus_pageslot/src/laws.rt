@@ -24,7 +24,7 @@ ghost use Rattle.bus_tenure.specs.declared.turns.Turn.TheVariants.{Behind};
 ghost use Rattle.bus_world.specs.Headline.{IsPrefix};
 ghost use Rattle.bus_world.specs.Turning.{words_after};
 ghost use Rattle.bus_automaton.specs.Buses.{process_by, automaton_by};
-ghost use Rattle.bus_automaton.specs.Processes.{TableLayout, log_below};
+ghost use Rattle.bus_automaton.specs.Processes.{TableLayout, base_in, log_below};
 ghost use Rattle.bus_automaton.specs.SenderTrails.{SenderTrail, with_sender_trail};
 ghost use Rattle.bus_automaton.specs.declared.plans.Plan.{Plan};
 ghost use Rattle.bus_pageslot.specs.ReceiverViews.{ReceiverView};
@@ -52,7 +52,8 @@ use bus_ownerbits::laws::election_is_lawful;
 pub fn seats_keep_promises<Q: Ratifier>()
     ensures { let P = process_by Q.Ratifier in let A = automaton_by Q.Ratifier in
         (plan : Plan) (s : State (Option Page) (View (Sender (Elector Q))))
-        → TableInvariant P (A plan) s → IsPromised P (A plan).table_layout s }
+        → TableInvariant P (A plan) s
+        → IsPromised P (A plan).table_layout (base_in (A plan)) s }
 {
     threads_may_go_by::<Q>();
 }
@@ -60,8 +61,8 @@ pub fn seats_keep_promises<Q: Ratifier>()
 /// What the seats show is one page: of each sender its actions, which its seat shows, and one order
 /// and one list of owners, which the words below the length spell.
 pub fn seats_show_one_page<Q: Ratifier>()
-    ensures { (x : TableLayout) (s : State (Option Page) (View (Sender (Elector Q))))
-        → (h k : IsPromised (process_by Q.Ratifier) x s)
+    ensures { (x : TableLayout) (base : ℕ → ℕ) (s : State (Option Page) (View (Sender (Elector Q))))
+        → (h k : IsPromised (process_by Q.Ratifier) x base s)
         → ((p : ℕ) → h.actions p ≡ k.actions p) × (h.order ≡ k.order) × (h.owners ≡ k.owners) }
 {}
 
@@ -75,10 +76,10 @@ pub fn no_page_without_each_sender<Q: Ratifier>()
         → P.me v ≡ 0 → s.views ≡ view.Sender v sender_trail stored ∷ []
         → ¬ TableInvariant P (A plan) s }
     ensures promised { let P = process_by Q.Ratifier in
-        (x : TableLayout) (s : State (Option Page) (View (Sender (Elector Q))))
+        (x : TableLayout) (base : ℕ → ℕ) (s : State (Option Page) (View (Sender (Elector Q))))
         (v : Sender (Elector Q)) (sender_trail : SenderTrail) (stored : ℕ) → 1 < x.senders
         → P.me v ≡ 0 → s.views ≡ view.Sender v sender_trail stored ∷ []
-        → ¬ IsPromised P x s }
+        → ¬ IsPromised P x base s }
 {}
 
 /// A sender's step leaves a log that begins with the one before it, whatever the step is for: so no
@@ -114,7 +115,7 @@ pub fn tables_are_machines<Q: Ratifier>()
     ensures { let X = election_of Q.Ratifier in
         (plan : Plan) (s : State (Option Page) (View (Sender (Elector Q))))
         → TableInvariant (process_by Q.Ratifier) (automaton_by Q.Ratifier plan) s
-        → HasHistory X (layout_of Q.protocol plan.shape plan.reuse) plan.reuse
+        → HasHistory X (layout_of Q.protocol plan.shape plan.reuse) plan.reuse plan.bases
         (election_bound Q.protocol.steps) s }
 {
     machine_keeps_promise::<Q>();

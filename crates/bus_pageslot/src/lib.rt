@@ -30,7 +30,8 @@ mod steps;
 mod taps;
 
 pub use buses::Bus;
+pub use listening::ItemTurn;
 pub use outcomes::{EndFault, Ended};
-pub use rule::{BusRule, OfBus, ReceiverView, SenderTrail, TableLayout, Told, View};
+pub use rule::{BusRule, OfBus, ReceiverView, Seated, SenderTrail, TableLayout, Told, View};
 pub use seats::{SendFault, Sender, Unsent};
 pub use taps::Tap;

@@ -1,16 +1,32 @@
 //! A receiver's turn: one load, and what its reader makes of it.
 
-ghost use Rattle.std.specs.Prelude.{◌≡◌, ◌≢◌, ℕ, ◌-◌, ◌≤◌, ◌^◌, length};
-ghost use Rattle.std.specs.Prelude.{false};
+ghost use Rattle.std.specs.Prelude.{◌≡◌, ◌≢◌, ℕ, ◌+◌, ◌-◌, ◌<◌, ◌≤◌, ◌^◌, length};
+ghost use Rattle.std.specs.Prelude.{None, false};
 ghost use Rattle.bus_pageslot.specs.Rule.{known_in};
 ghost use Rattle.bus_pageslot.specs.Seats.{IsReceiverView, knows};
+ghost use Rattle.bus_deliverylog.specs.declared.receiving.RecvTurn.{RecvTurn};
 ghost use Rattle.bus_deliverylog.specs.Receiving.{HasReceived, TakesWord};
 ghost use Rattle.bus_pageslot.specs.Listening.{Hears, HearsLength, HearsWord, answer_of};
+ghost use Rattle.bus_pageslot.specs.Listening.{Writes, WritesOrPlain, HearsAfter};
 
 use crate::rule::{BusSeat, LoadsLengthInTurn, LoadsWordInTurn, SharedTable};
 use bus_adoptcommit::Ratifier;
 use bus_automaton::laws::threads_may_go_by;
+use bus_batch::Item;
 use bus_deliverylog::{Reader, RecvTurn};
+
+/// What a turn of a receiver answers where an item is written in its place.
+#[derive(Clone, Copy, Debug, PartialEq, Eq)]
+pub enum ItemTurn {
+    /// A head, a longer length, or a word that is not taken.
+    Going,
+    /// The length is the one that it knew, and its place is there.
+    Empty,
+    /// The item was written.
+    Item,
+    /// The order has ended.
+    End,
+}
 
 /// A reader that has read all that it knows is told the length that its seat knows.
 #[inline(always)]
@@ -53,8 +69,20 @@ fn hear_length<Q: Ratifier + Drop>(
     *answer = reader.feed(length);
 }
 
-/// A word that may say something, or be bad, is taken, and the answer is written.
+/// Any word is taken, and the answer is written.
 #[inline(never)]
+fn feed_word(reader: &mut Reader, word: u64, answer: &mut RecvTurn)
+    requires going { reader.old.ended ≡ false }
+    requires below { reader.old.place ≢ reader.old.known }
+    ensures word { (words : _) (pieces : _) → HasReceived words pieces reader.old
+        → TakesWord words pieces reader.old word answer.new reader.new }
+    ensures senders { reader.new.frames.senders ≡ reader.old.frames.senders }
+{
+    *answer = reader.feed(word);
+}
+
+/// A word that may say something, or be bad, is taken, and the answer is written.
+#[inline(always)]
 fn take_word(reader: &mut Reader, word: u64, answer: &mut RecvTurn)
     requires going { reader.old.ended ≡ false }
     requires below { reader.old.place ≢ reader.old.known }
@@ -64,7 +92,7 @@ fn take_word(reader: &mut Reader, word: u64, answer: &mut RecvTurn)
 {
     match reader.take_item(word) {
         Some(item) => *answer = RecvTurn::Item(item),
-        None => *answer = reader.feed(word),
+        None => feed_word(reader, word, answer),
     }
 }
 
@@ -123,4 +151,169 @@ pub(crate) fn hear<Q: Ratifier + Drop>(
         return false;
     }
     hear_word(shared, seat, log, reader, answer)
+}
+
+/// The answer with its item written in place; any other answer leaves that as it was.
+#[inline(never)]
+fn tell(answer: RecvTurn, item: &mut Option<Item>) -> ItemTurn
+    ensures { Writes answer item.old result item.new }
+{
+    match answer {
+        RecvTurn::Item(given) => {
+            *item = Some(given);
+            ItemTurn::Item
+        }
+        RecvTurn::End => ItemTurn::End,
+        RecvTurn::Empty => ItemTurn::Empty,
+        RecvTurn::Going | RecvTurn::Head { .. } => ItemTurn::Going,
+    }
+}
+
+/// Any word is taken, and an item is written in place.
+#[inline(never)]
+fn feed_in_place(reader: &mut Reader, got: u64, item: &mut Option<Item>) -> ItemTurn
+    requires going { reader.old.ended ≡ false }
+    requires below { reader.old.place ≢ reader.old.known }
+    ensures word { (answer : RecvTurn) × Writes answer item.old result item.new
+        × ((words : _) (pieces : _) → HasReceived words pieces reader.old
+        → TakesWord words pieces reader.old got answer reader.new) }
+    ensures senders { reader.new.frames.senders ≡ reader.old.frames.senders }
+{
+    let answer = reader.feed(got);
+    tell(answer, item)
+}
+
+/// A word that may say something, or be bad, is taken, and an item is written in place.
+#[inline(always)]
+fn take_in_place(reader: &mut Reader, word: u64, item: &mut Option<Item>) -> ItemTurn
+    requires going { reader.old.ended ≡ false }
+    requires below { reader.old.place ≢ reader.old.known }
+    ensures word { (answer : RecvTurn) × Writes answer item.old result item.new
+        × ((words : _) (pieces : _) → HasReceived words pieces reader.old
+        → TakesWord words pieces reader.old word answer reader.new) }
+    ensures senders { reader.new.frames.senders ≡ reader.old.frames.senders }
+{
+    match reader.take_item(word) {
+        Some(found) => {
+            *item = Some(found);
+            ItemTurn::Item
+        }
+        None => feed_in_place(reader, word, item),
+    }
+}
+
+/// The length is loaded, and no item is written.
+#[inline(never)]
+fn hear_length_in_place<Q: Ratifier + Drop>(
+    shared: &SharedTable<Q>,
+    seat: &mut BusSeat<Q>,
+    reader: &mut Reader,
+    item: &mut Option<Item>,
+) -> ItemTurn
+    requires table { seat.old.table_id ≡ shared.now.table_id }
+    requires receiver_view { (log : ℕ)
+        × IsReceiverView seat.old.me seat.old.table_id.words log reader.old }
+    requires going { reader.old.ended ≡ false }
+    requires known { reader.old.known ≡ length (known_in seat.old.me.0) }
+    requires at { reader.old.place ≡ reader.old.known }
+    ensures table { seat.new.table_id ≡ seat.old.table_id }
+    ensures receiver_view { (log : ℕ)
+        → IsReceiverView seat.old.me seat.old.table_id.words log reader.old
+        → IsReceiverView seat.new.me seat.new.table_id.words log reader.new }
+    ensures known { reader.new.known ≡ length (known_in seat.new.me.0) }
+    ensures hears { (answer : RecvTurn) × Writes answer item.old result item.new
+        × HearsLength seat.old.me answer seat.new.me }
+{
+    let mut answer = RecvTurn::Going;
+    hear_length(shared, seat, reader, &mut answer);
+    tell(answer, item)
+}
+
+/// The word at the reader's place is loaded, and an item is written in place; none where it says
+/// nothing by itself.
+#[inline(always)]
+fn hear_word_in_place<Q: Ratifier + Drop>(
+    shared: &SharedTable<Q>,
+    seat: &mut BusSeat<Q>,
+    log: u64,
+    reader: &mut Reader,
+    item: &mut Option<Item>,
+) -> Option<ItemTurn>
+    requires table { seat.old.table_id ≡ shared.now.table_id }
+    requires receiver_view { IsReceiverView seat.old.me seat.old.table_id.words log reader.old }
+    requires going { reader.old.ended ≡ false }
+    requires below { reader.old.place ≢ reader.old.known }
+    ensures table { seat.new.table_id ≡ seat.old.table_id }
+    ensures receiver_view { IsReceiverView seat.new.me seat.new.table_id.words log reader.new }
+    ensures known { known_in seat.new.me.0 ≡ known_in seat.old.me.0 }
+    ensures hears { (answer : RecvTurn) × WritesOrPlain answer item.old result item.new
+        × HearsWord seat.old.me answer seat.new.me }
+    ensures plain { result ≡ None → (reader.new.place ≡ reader.old.place + 1)
+        × (reader.new.ended ≡ false) }
+{
+    let word = shared.load::<LoadsWordInTurn<Q>>(seat, (log + reader.place()) as usize);
+    if reader.take_plain(word) {
+        return None;
+    }
+    Some(take_in_place(reader, word, item))
+}
+
+/// The turn of a receiver that has not ended, as `hear`. An item is written in place; none where it
+/// took a word that says nothing by itself.
+#[inline(always)]
+fn turn_in_place<Q: Ratifier + Drop>(
+    shared: &SharedTable<Q>,
+    seat: &mut BusSeat<Q>,
+    log: u64,
+    known: &mut u64,
+    reader: &mut Reader,
+    item: &mut Option<Item>,
+) -> Option<ItemTurn>
+    requires table { seat.old.table_id ≡ shared.now.table_id }
+    requires receiver_view { IsReceiverView seat.old.me seat.old.table_id.words log reader.old }
+    requires going { reader.old.ended ≡ false }
+    requires known { known.old ≡ length (known_in seat.old.me.0) }
+    ensures table { seat.new.table_id ≡ seat.old.table_id }
+    ensures receiver_view { IsReceiverView seat.new.me seat.new.table_id.words log reader.new }
+    ensures known { known.new ≡ length (known_in seat.new.me.0) }
+    ensures hears { (answer : RecvTurn) × WritesOrPlain answer item.old result item.new
+        × Hears seat.old.me answer seat.new.me }
+    ensures plain { result ≡ None
+        → (known.new - reader.new.place < known.old - reader.old.place)
+        × (reader.new.ended ≡ false) }
+{
+    catch_up(reader, *known);
+    if reader.place() == reader.known() {
+        let turn = hear_length_in_place(shared, seat, reader, item);
+        *known = reader.known();
+        return Some(turn);
+    }
+    hear_word_in_place(shared, seat, log, reader, item)
+}
+
+/// Turns of a receiver that has not ended, up to the first that takes no word which says nothing by
+/// itself. An item is written in place.
+#[inline(always)]
+pub(crate) fn hear_in_place<Q: Ratifier + Drop>(
+    shared: &SharedTable<Q>,
+    seat: &mut BusSeat<Q>,
+    log: u64,
+    known: &mut u64,
+    reader: &mut Reader,
+    item: &mut Option<Item>,
+) -> ItemTurn
+    requires table { seat.old.table_id ≡ shared.now.table_id }
+    requires receiver_view { IsReceiverView seat.old.me seat.old.table_id.words log reader.old }
+    requires going { reader.old.ended ≡ false }
+    requires known { known.old ≡ length (known_in seat.old.me.0) }
+    ensures table { seat.new.table_id ≡ seat.old.table_id }
+    ensures receiver_view { IsReceiverView seat.new.me seat.new.table_id.words log reader.new }
+    ensures known { known.new ≡ length (known_in seat.new.me.0) }
+    ensures hears { HearsAfter seat.old.me item.old result item.new seat.new.me }
+{
+    loop {
+        if let Some(turn) = turn_in_place(shared, seat, log, known, reader, item) {
+            return turn;
+        }
+    }
 }

@@ -2,10 +2,11 @@
 
 ghost use Rattle.std.specs.Prelude.{◌≡◌, ℕ, ◌+◌, ◌<◌, ◌≤◌, List, [], Some};
 ghost use Rattle.std.specs.Prelude.{None};
-ghost use Rattle.std.specs.Prelude.{codes, length, slice_index, IfOk, OnErr};
+ghost use Rattle.std.specs.Prelude.{codes, length, slice_get, slice_index, IfOk, OnErr};
 ghost use Rattle.std.specs.Vec.{vec_len, vec_capacity};
 ghost use Rattle.std.specs.Slots.{slots_items, slots_len, IsFull};
 ghost use Rattle.bus_register.specs.declared.registers.SenderNo.{SenderNo as Number};
+ghost use Rattle.bus_batch.specs.declared.messages.Item.{Item};
 ghost use Rattle.bus_batch.specs.Frames.{Order, Spells};
 ghost use Rattle.bus_deliverylog.specs.Orders.{of_sender};
 ghost use Rattle.bus_world.specs.Log.{words_read_from};
@@ -21,7 +22,7 @@ use bus_automaton::laws::threads_may_go_by;
 use bus_batch::laws::spells_one;
 use bus_register::SenderNo;
 use bus_register::limits::MOST_SENDERS;
-use bus_tenure::Page;
+use bus_tenure::{OwnedPage, Page};
 use std::alloc::Global;
 use std::error::Error;
 use std::fmt;
@@ -48,8 +49,9 @@ impl fmt::Display for EndFault {
 #[derive(Drop)]
 pub struct Ended {
     senders: u64,
+    bases: [u64; MOST_SENDERS],
     log: Vec<u64>,
-    page: Page,
+    page: OwnedPage,
 }
 
 impl Model for Ended {
@@ -57,10 +59,16 @@ impl Model for Ended {
 
     ghost Value = { Outcome };
 
-    ghost view = { λ e. record { senders = e.senders; log = e.log.items; page = e.page } };
+    ghost view = { λ e. record {
+      senders = e.senders;
+      bases = e.bases;
+      log = e.log.items;
+      page = e.page;
+    } };
 
     ghost invariant = { λ e. IsOutcome (record {
       senders = e.senders;
+      bases = e.bases;
       log = e.log.items;
       page = e.page;
     }) };
@@ -74,17 +82,36 @@ impl Ended {
         self.log.as_slice()
     }
 
-    /// The page, as its last owner gave it back. It has the number of the log's words, and whether
-    /// the order that they spell has ended.
+    /// The page, as its last owner gave it back. It has the number of the log's words, whether the
+    /// order that they spell has ended, and for each sender the number that its next message would
+    /// have behind it.
     pub fn page(&self) -> &Page
         ensures page { result.now ≡ self.now.page }
         ensures words { result.now.words ≡ length self.now.log }
         ensures ended { (order : Order) (owners : List (ℕ × Number))
             → Spells self.now.senders self.now.log order owners
             → result.now.ended ≡ order.ended }
+        ensures next { (sender : ℕ) (order : Order) (owners : List (ℕ × Number))
+            → sender < MOST_SENDERS → Spells self.now.senders self.now.log order owners
+            → slice_index result.now.next sender
+            ≡ slice_index self.now.bases sender + length (of_sender sender order) }
     {
         spells_one();
-        &self.page
+        self.page.get()
+    }
+
+    /// The number that the sender's first item has in this sitting: 0, but where the bus went on
+    /// with the numbers of another.
+    pub fn base(&self, sender: SenderNo) -> u64
+        requires { sender.0 < MOST_SENDERS }
+        ensures base { result ≡ slice_index self.now.bases sender.0 }
+        ensures numbered { (order : Order) (owners : List (ℕ × Number)) (place : ℕ) (item : Item)
+            → Spells self.now.senders self.now.log order owners
+            → slice_get (of_sender sender.0 order) place ≡ Some item
+            → item.number ≡ result + place }
+    {
+        spells_one();
+        self.bases[usize::from(sender.0)]
     }
 
     /// How many items the sender has in the order that the log spells. It spells one alone.
@@ -97,7 +124,8 @@ impl Ended {
             × Spells self.now.senders self.now.log order owners }
     {
         spells_one();
-        self.page.next[usize::from(sender.0)]
+        let place = usize::from(sender.0);
+        self.page.get().next[place] - self.bases[place]
     }
 }
 
@@ -106,6 +134,7 @@ pub(crate) fn leave<Q: Ratifier + Drop>(
     table: BusTable<Q>,
     seat: BusSeat<Q>,
     senders: u64,
+    bases: [u64; MOST_SENDERS],
     log: u64,
     log_words: u64,
     room: Vec<u64>,
@@ -114,6 +143,7 @@ pub(crate) fn leave<Q: Ratifier + Drop>(
     requires tap { (d : _) × (e : ReceiverView) × (seat.me ≡ (Tap d e, [])) }
     requires empty { (room.items ≡ []) × (vec_len room ≡ 0) }
     requires senders { senders ≡ (automaton_by Q.Ratifier table.shared.key).table_layout.senders }
+    requires bases { bases ≡ (automaton_by Q.Ratifier table.shared.key).bases }
     requires log { log ≡ (automaton_by Q.Ratifier table.shared.key).table_layout.log }
     requires log_words { log_words
         ≡ (automaton_by Q.Ratifier table.shared.key).table_layout.capacity }
@@ -122,6 +152,7 @@ pub(crate) fn leave<Q: Ratifier + Drop>(
         (λ left. IsLeft (process_by Q.Ratifier) (automaton_by Q.Ratifier table.shared.key)
         seat.me.0 left.log (Some left.page)) }
     ensures senders { IfOk result (λ left. left.senders ≡ senders) }
+    ensures bases { IfOk result (λ left. left.bases ≡ bases) }
     ensures out { OnErr result ((log : List ℕ)
         × IsLeft (process_by Q.Ratifier) (automaton_by Q.Ratifier table.shared.key)
         seat.me.0 log None) }
@@ -138,6 +169,7 @@ pub(crate) fn leave<Q: Ratifier + Drop>(
     }
     Ok(Ended {
         senders,
+        bases,
         log: words,
         page: page.unwrap(),
     })
@@ -145,7 +177,7 @@ pub(crate) fn leave<Q: Ratifier + Drop>(
 
 /// So many words, from a place on.
 fn words_from(
-    closed: &Closed<Option<Page>, Global>,
+    closed: &Closed<Option<OwnedPage>, Global>,
     first: u64,
     many: u64,
     mut room: Vec<u64>,

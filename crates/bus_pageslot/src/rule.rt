@@ -4,7 +4,7 @@ use atomic_table::{Join, Play, Seat, Shared, Split, Table, TableRule};
 use bus_adoptcommit::Ratifier;
 use bus_automaton::Plan;
 use bus_core::SenderCore;
-use bus_tenure::Page;
+use bus_tenure::OwnedPage;
 use std::alloc::Global;
 use std::marker::{Brand, Model, PhantomData};
 
@@ -50,8 +50,8 @@ impl Model for ReceiverView {
 
 /// What a seat shows, of a bus whose senders are of type C. No value of it is made.
 pub enum View<C> {
-    /// The senders from this one on have no seat yet.
-    Maker(C),
+    /// Of a bus that is so large the senders from this one on have no seat yet.
+    Maker(TableLayout, u64),
     /// A sender as it was after its last step, all that it did until then, and the last length
     /// that it has stored.
     Sender(C, SenderTrail, u64),
@@ -70,7 +70,7 @@ pub struct BusRule<Q> {
     of: PhantomData<Q>,
 }
 
-impl<Q: Ratifier> TableRule<Option<Page>, View<SenderCore<Q>>, Plan> for BusRule<Q> {
+impl<Q: Ratifier> TableRule<Option<OwnedPage>, View<SenderCore<Q>>, Plan> for BusRule<Q> {
     ghost use Rattle.bus_automaton.specs.Buses.{process_with, automaton_with};
     ghost use Rattle.bus_pageslot.specs.declared.rule.View.TheVariants.{Maker};
     ghost use Rattle.bus_pageslot.specs.Rule.{TableInvariant};
@@ -79,7 +79,7 @@ impl<Q: Ratifier> TableRule<Option<Page>, View<SenderCore<Q>>, Plan> for BusRule
         (automaton_with Q.kind_of Q.op Q.fed Q.protocol key) };
 
     ghost first = { λ key.
-        Maker ((automaton_with Q.kind_of Q.op Q.fed Q.protocol key).started 0) };
+        Maker (automaton_with Q.kind_of Q.op Q.fed Q.protocol key).table_layout 0 };
 }
 
 /// Which bus it is: the table of one, which whoever makes it picks. A struct that is generic in it
@@ -118,7 +118,8 @@ pub(crate) struct Goes<Q, K> {
     of: PhantomData<(Q, K)>,
 }
 
-impl<Q: Ratifier, K: Told<SenderCore<Q>>> Play<Option<Page>, View<SenderCore<Q>>> for Goes<Q, K> {
+impl<Q: Ratifier, K: Told<SenderCore<Q>>> Play<Option<OwnedPage>, View<SenderCore<Q>>>
+    for Goes<Q, K> {
     ghost use Rattle.bus_automaton.specs.Buses.{process_with};
     ghost use Rattle.bus_pageslot.specs.Steps.{GoesOn};
 
@@ -126,18 +127,34 @@ impl<Q: Ratifier, K: Told<SenderCore<Q>>> Play<Option<Page>, View<SenderCore<Q>>
         K.core K.word m got m' };
 }
 
-/// The next sender's seat is made.
-pub(crate) struct Cut<Q> {
-    of: PhantomData<Q>,
+/// The sender that a call picks for the seat that it makes, and the number of its first message.
+pub trait Seated<C> {
+    ghost use Rattle.std.specs.Prelude.{ℕ, Option};
+
+    ghost core: { Option C };
+
+    ghost first: { ℕ };
 }
 
-impl<Q: Ratifier> Split<View<SenderCore<Q>>> for Cut<Q> {
-    ghost use Rattle.bus_automaton.specs.Buses.{process_with};
+impl<C> Seated<C> for Brand {
+    ghost use Rattle.std.specs.Prelude.{None};
+
+    ghost core = { None };
+
+    ghost first = { 0 };
+}
+
+/// The next sender's seat is made.
+pub(crate) struct Cut<Q, K> {
+    of: PhantomData<(Q, K)>,
+}
+
+impl<Q: Ratifier, K: Seated<SenderCore<Q>>> Split<View<SenderCore<Q>>> for Cut<Q, K> {
     ghost use Rattle.bus_pageslot.specs.Rule.{cut_left, cut_right};
 
-    ghost left = { cut_left (process_with Q.kind_of Q.op Q.fed Q.protocol) };
+    ghost left = { cut_left };
 
-    ghost right = { cut_right };
+    ghost right = { λ _. cut_right K.core K.first };
 }
 
 /// A receiver's seat is made.
@@ -146,12 +163,11 @@ pub(crate) struct CutTap<Q> {
 }
 
 impl<Q: Ratifier> Split<View<SenderCore<Q>>> for CutTap<Q> {
-    ghost use Rattle.bus_automaton.specs.Buses.{process_with};
     ghost use Rattle.bus_pageslot.specs.Rule.{tap_left, tap_right};
 
     ghost left = { tap_left };
 
-    ghost right = { tap_right (process_with Q.kind_of Q.op Q.fed Q.protocol) };
+    ghost right = { tap_right };
 }
 
 /// A receiver's seat loaded the length.
@@ -159,7 +175,7 @@ pub(crate) struct LoadsLength<Q> {
     of: PhantomData<Q>,
 }
 
-impl<Q: Ratifier> Play<Option<Page>, View<SenderCore<Q>>> for LoadsLength<Q> {
+impl<Q: Ratifier> Play<Option<OwnedPage>, View<SenderCore<Q>>> for LoadsLength<Q> {
     ghost use Rattle.bus_pageslot.specs.Steps.{Learns};
 
     ghost then = { λ _ m got m'. Learns m got m' };
@@ -170,7 +186,7 @@ pub(crate) struct LoadsWord<Q> {
     of: PhantomData<Q>,
 }
 
-impl<Q: Ratifier> Play<Option<Page>, View<SenderCore<Q>>> for LoadsWord<Q> {
+impl<Q: Ratifier> Play<Option<OwnedPage>, View<SenderCore<Q>>> for LoadsWord<Q> {
     ghost use Rattle.bus_pageslot.specs.Steps.{Reads};
 
     ghost then = { λ step m got m'. Reads m step.word got m' };
@@ -181,7 +197,7 @@ pub(crate) struct LoadsLengthInTurn<Q> {
     of: PhantomData<Q>,
 }
 
-impl<Q: Ratifier> Play<Option<Page>, View<SenderCore<Q>>> for LoadsLengthInTurn<Q> {
+impl<Q: Ratifier> Play<Option<OwnedPage>, View<SenderCore<Q>>> for LoadsLengthInTurn<Q> {
     ghost use Rattle.bus_pageslot.specs.Listening.{FindsLength};
 
     ghost then = { λ _ m got m'. FindsLength m got m' };
@@ -192,7 +208,7 @@ pub(crate) struct LoadsWordInTurn<Q> {
     of: PhantomData<Q>,
 }
 
-impl<Q: Ratifier> Play<Option<Page>, View<SenderCore<Q>>> for LoadsWordInTurn<Q> {
+impl<Q: Ratifier> Play<Option<OwnedPage>, View<SenderCore<Q>>> for LoadsWordInTurn<Q> {
     ghost use Rattle.bus_pageslot.specs.Listening.{FindsWord};
 
     ghost then = { λ _ m got m'. FindsWord m got m' };
@@ -230,15 +246,21 @@ pub(crate) struct LoadsJoined<Q> {
     of: PhantomData<Q>,
 }
 
-impl<Q: Ratifier> Play<Option<Page>, View<SenderCore<Q>>> for LoadsJoined<Q> {
+impl<Q: Ratifier> Play<Option<OwnedPage>, View<SenderCore<Q>>> for LoadsJoined<Q> {
     ghost use Rattle.bus_automaton.specs.Buses.{process_with};
     ghost use Rattle.bus_pageslot.specs.Steps.{Meets};
 
     ghost then = { λ _ m got m'. Meets (process_with Q.kind_of Q.op Q.fed Q.protocol) m got m' };
 }
 
-pub(crate) type BusTable<Q> = Table<Option<Page>, View<SenderCore<Q>>, Plan, BusRule<Q>, Global>;
+pub(crate) type BusTable<Q> = Table<
+    Option<OwnedPage>,
+    View<SenderCore<Q>>,
+    Plan,
+    BusRule<Q>,
+    Global,
+>;
 
-pub(crate) type SharedTable<Q> = Shared<Option<Page>, View<SenderCore<Q>>, Plan, BusRule<Q>>;
+pub(crate) type SharedTable<Q> = Shared<Option<OwnedPage>, View<SenderCore<Q>>, Plan, BusRule<Q>>;
 
-pub(crate) type BusSeat<Q> = Seat<Option<Page>, View<SenderCore<Q>>>;
+pub(crate) type BusSeat<Q> = Seat<Option<OwnedPage>, View<SenderCore<Q>>>;

@@ -1,13 +1,14 @@
 //! The table of a new bus, and the seats of its senders and receivers.
 
-ghost use Rattle.std.specs.Prelude.{◌≡◌, ℕ, ◌+◌, ◌<◌, ◌≤◌, ◌^◌, List, []};
+ghost use Rattle.std.specs.Prelude.{◌≡◌, ℕ, ◌+◌, ◌<◌, ◌≤◌, ◌^◌, List, [], Some};
 ghost use Rattle.std.specs.Prelude.{IfOk};
 ghost use Rattle.bus_automaton.specs.Buses.{process_by, automaton_by, Serves};
+ghost use Rattle.bus_automaton.specs.Processes.{base_in};
 ghost use Rattle.bus_pageslot.specs.declared.rule.View.TheVariants.{Maker};
 ghost use Rattle.bus_pageslot.specs.Buses.{IsBusTable, IsNewSeat, AreNewSeats};
 ghost use Rattle.bus_pageslot.specs.Buses.{IsNewTap, AreNewTaps};
 
-use crate::rule::{BusSeat, BusTable, Cut, CutTap, SharedTable};
+use crate::rule::{BusSeat, BusTable, Cut, CutTap, Seated, SharedTable};
 use crate::seats::Sender;
 use crate::taps::Tap;
 use atomic_table::Table;
@@ -18,8 +19,9 @@ use bus_core::SenderCore;
 use bus_machine::shapes::log_word;
 use bus_ownerbits::Election;
 use bus_register::{NoMemory, SenderNo};
-use bus_world::starts::NEW_PAGE;
+use bus_world::starts::first_page;
 use std::alloc::Global;
+use std::marker::Brand;
 
 /// The place of the first word of the log, which comes last.
 pub(crate) fn log_at<Q: Ratifier + Drop>(plan: Plan) -> u64
@@ -31,6 +33,7 @@ pub(crate) fn log_at<Q: Ratifier + Drop>(plan: Plan) -> u64
         ≡ (automaton_by Q.Ratifier plan).table_layout.capacity }
     ensures senders { plan.shape.senders
         ≡ (automaton_by Q.Ratifier plan).table_layout.senders }
+    ensures bases { plan.bases ≡ (automaton_by Q.Ratifier plan).bases }
     ensures few { result + plan.shape.log_words ≤ 2 ^ 63 }
 {
     let width = Election::<Q>::width(plan.shape.senders, plan.shape.rounds);
@@ -44,11 +47,13 @@ fn start<Q: Ratifier + Drop>(plan: Plan, me: SenderNo) -> SenderCore<Q>
     requires room { (automaton_by Q.Ratifier plan).table_layout.words ≤ 2 ^ 63 }
     ensures { result ≡ (automaton_by Q.Ratifier plan).started me.0 }
 {
+    threads_may_go_by::<Q>();
     let shape = plan.shape;
     let (senders, rounds, words) = (shape.senders, shape.rounds, shape.log_words);
+    let first = plan.bases[usize::from(me.0)];
     match plan.reuse {
-        None => SenderCore::new(senders, me, rounds, shape.rows, words),
-        Some(rows) => SenderCore::cyclic(senders, me, rounds, rows, words),
+        None => SenderCore::new(senders, me, rounds, shape.rows, words, first),
+        Some(rows) => SenderCore::cyclic(senders, me, rounds, rows, words, first),
     }
 }
 
@@ -64,8 +69,9 @@ pub(crate) fn bus_table<Q: Ratifier + Drop>(
 {
     threads_may_go_by::<Q>();
     let words = vec![in alloc; 0u64; (log_at::<Q>(plan) + plan.shape.log_words) as usize]?;
+    let page = first_page(alloc, plan.bases)?;
     let mut slots = Vec::with_capacity(alloc, 1)?;
-    slots.push(Some(NEW_PAGE))?;
+    slots.push(Some(page))?;
     match Table::new(alloc, words.as_slice(), slots, &plan) {
         Ok(made) => Ok(made),
         Err(_) => Err(NoMemory),
@@ -73,27 +79,32 @@ pub(crate) fn bus_table<Q: Ratifier + Drop>(
 }
 
 /// The next sender, with its seat.
-fn seat_next<Q: Ratifier + Drop>(
+fn seat_next<Q: Ratifier + Drop, K: Seated<SenderCore<Q>>>(
     shared: &SharedTable<Q>,
     maker: &mut BusSeat<Q>,
     plan: Plan,
     me: u64,
 ) -> Sender<Q>
     requires table { maker.old.table_id ≡ shared.now.table_id }
+    requires key { shared.now.key ≡ plan }
+    requires seated { K.core ≡ Some ((automaton_by Q.Ratifier plan).started me) }
+    requires first { K.first ≡ base_in (automaton_by Q.Ratifier plan) me }
     requires served { Serves plan }
     requires room { (automaton_by Q.Ratifier plan).table_layout.words ≤ 2 ^ 63 }
     requires wide { (maker.old.table_id.words ≡ (automaton_by Q.Ratifier plan).table_layout.words)
         × (maker.old.table_id.slots ≡ 1) }
     requires below { me < plan.shape.senders }
     requires senders { plan.shape.senders ≡ (automaton_by Q.Ratifier plan).table_layout.senders }
-    requires maker { maker.old.me ≡ (Maker ((automaton_by Q.Ratifier plan).started me), []) }
+    requires maker { maker.old.me
+        ≡ (Maker (automaton_by Q.Ratifier plan).table_layout me, []) }
     ensures table { maker.new.table_id ≡ maker.old.table_id }
-    ensures maker { maker.new.me ≡ (Maker ((automaton_by Q.Ratifier plan).started (me + 1)), []) }
+    ensures maker { maker.new.me
+        ≡ (Maker (automaton_by Q.Ratifier plan).table_layout (me + 1), []) }
     ensures seat { let P = process_by Q.Ratifier in let A = automaton_by Q.Ratifier plan in
         IsNewSeat P A maker.old.table_id me result }
 {
     threads_may_go_by::<Q>();
-    let seat = shared.split_seat::<Cut<Q>>(maker);
+    let seat = shared.split_seat::<Cut<Q, K>>(maker);
     let core = start(plan, SenderNo(me as u8));
     Sender::seated(core, seat)
 }
@@ -106,16 +117,17 @@ pub(crate) fn seat_all<Q: Ratifier + Drop>(
     mut maker: BusSeat<Q>,
 ) -> Result<(Vec<Sender<Q>>, BusSeat<Q>), NoMemory>
     requires served { Serves plan }
+    requires key { shared.now.key ≡ plan }
     requires bus_table { IsBusTable (automaton_by Q.Ratifier plan) shared.now.table_id maker }
     requires senders { plan.shape.senders ≡ (automaton_by Q.Ratifier plan).table_layout.senders }
     ensures senders { let P = process_by Q.Ratifier in let A = automaton_by Q.Ratifier plan in
         IfOk result (λ made. AreNewSeats P A shared.now.table_id plan.shape.senders made.0.items) }
     ensures maker { IfOk result (λ made. (made.1.table_id ≡ shared.now.table_id)
-        × (made.1.me ≡ (Maker ((automaton_by Q.Ratifier plan).started plan.shape.senders), []))) }
+        × (made.1.me ≡ (Maker (automaton_by Q.Ratifier plan).table_layout plan.shape.senders, []))) }
 {
     let mut senders = Vec::new(alloc);
     for me in 0..plan.shape.senders {
-        let sender = seat_next(shared, &mut maker, plan, me);
+        let sender = seat_next::<Q, Brand>(shared, &mut maker, plan, me);
         senders.push(sender)?;
     }
     Ok((senders, maker))
@@ -134,7 +146,8 @@ fn tap_next<Q: Ratifier + Drop>(
     requires wide { maker.old.table_id.words ≡ (automaton_by Q.Ratifier plan).table_layout.words }
     requires log { log ≡ (automaton_by Q.Ratifier plan).table_layout.log }
     requires senders { plan.shape.senders ≡ (automaton_by Q.Ratifier plan).table_layout.senders }
-    requires maker { maker.old.me ≡ (Maker ((automaton_by Q.Ratifier plan).started made), []) }
+    requires maker { maker.old.me
+        ≡ (Maker (automaton_by Q.Ratifier plan).table_layout made, []) }
     ensures table { maker.new.table_id ≡ maker.old.table_id }
     ensures maker { maker.new.me ≡ maker.old.me }
     ensures tap { IsNewTap (automaton_by Q.Ratifier plan).table_layout maker.old.table_id result }
@@ -159,7 +172,7 @@ pub(crate) fn tap_all<Q: Ratifier + Drop>(
     requires log { log ≡ (automaton_by Q.Ratifier plan).table_layout.log }
     requires senders { plan.shape.senders ≡ (automaton_by Q.Ratifier plan).table_layout.senders }
     requires maker { maker.me
-        ≡ (Maker ((automaton_by Q.Ratifier plan).started plan.shape.senders), []) }
+        ≡ (Maker (automaton_by Q.Ratifier plan).table_layout plan.shape.senders, []) }
     ensures { let A = automaton_by Q.Ratifier plan in
         IfOk result (λ taps. AreNewTaps A.table_layout shared.now.table_id plan.shape.receivers
         taps.items) }

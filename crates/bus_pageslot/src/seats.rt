@@ -1,6 +1,6 @@
 //! A sender with its seat.
 
-ghost use Rattle.std.specs.Prelude.{◌≡◌, ℕ, ◌<◌, List, [], ◌∷◌, ◌++◌, None};
+ghost use Rattle.std.specs.Prelude.{◌≡◌, ℕ, ◌+◌, ◌<◌, List, [], ◌∷◌, ◌++◌, None};
 ghost use Rattle.std.specs.Prelude.{Some, IfSome, IfNone, IfOk, IfErr, IsSome};
 ghost use Rattle.std.specs.Prelude.{OnOk, OnErr, length, ◌-◌, ◌≤◌, IsTrue, false};
 ghost use Rattle.bus_batch.specs.Batches.{next_of, CanPut, IsPutFault, CanClose, IsCloseFault};
@@ -15,7 +15,7 @@ ghost use Rattle.bus_pageslot.specs.declared.rule.View.TheVariants.{Tap};
 ghost use Rattle.bus_pageslot.specs.ReceiverViews.{ReceiverView};
 ghost use Rattle.bus_pageslot.specs.Rule.{known_in, stored_in};
 ghost use Rattle.bus_pageslot.specs.Steps.{Learns, KnowsSent};
-ghost use Rattle.bus_pageslot.specs.Seats.{Shows, TookAndTold, table_of, actions_of, stored_of};
+ghost use Rattle.bus_pageslot.specs.Seats.{Shows, TookAndTold, table_of, first_number_of, actions_of, stored_of};
 ghost use Rattle.bus_pageslot.specs.Turns.{tells_by, Sends, is_waiting};
 ghost use Rattle.bus_pageslot.specs.Turns.{SendsAsking, StopsWaiting, DrawsOn, word_drawn};
 ghost use Rattle.bus_automaton.specs.Buses.{process_by};
@@ -184,12 +184,14 @@ impl<Q: Ratifier + Drop> Sender<Q> {
     }
 
     /// Appends a message of at most 56 bytes to its batch of at most 16, and gives its number,
-    /// which counts the messages of this sender from 0 on. Takes no step. A fault changes nothing.
+    /// which counts the messages of this sender from its first number on: that is 0, but where the
+    /// bus went on with the numbers of another. Takes no step. A fault changes nothing.
     pub fn put(&mut self, bytes: &[u8]) -> Result<u64, PutFault>
         ensures number { let P = process_by Q.Ratifier in
             IfOk result (λ number. number ≡ next_of (P.queue self.old.core)) }
         ensures counts { let P = process_by Q.Ratifier in
-            IfOk result (λ number. number ≡ length (puts (actions_of P self.old))) }
+            IfOk result
+            (λ number. number ≡ first_number_of P self.old + length (puts (actions_of P self.old))) }
         ensures taken { OnOk result
             (self.new.core ≡ (process_by Q.Ratifier).with_message self.old.core bytes.now) }
         ensures action { let P = process_by Q.Ratifier in

@@ -7,15 +7,16 @@ ghost use Rattle.bus_pageslot.specs.declared.rule.View.TheVariants as View;
 ghost use Rattle.bus_pageslot.specs.Rule.{receiver_view_in, known_in, with_receiver_view};
 ghost use Rattle.bus_pageslot.specs.Steps.{Learns, KnowsSent};
 ghost use Rattle.bus_pageslot.specs.Seats.{IsFresh, receiver_seat, table_of, actions_of, stored_of};
-ghost use Rattle.bus_pageslot.specs.Listening.{Hears, answer_of};
+ghost use Rattle.bus_pageslot.specs.Listening.{Hears, HearsAfter, answer_of};
 
 use crate::buses::Bus;
-use crate::listening::hear;
+use crate::listening::{ItemTurn, hear, hear_in_place};
 use crate::meetings::meeting;
 use crate::rule::{BusSeat, LoadsLength, LoadsWord};
 use crate::seats::Sender;
 use bus_adoptcommit::{Ratifier, ThreeWord};
 use bus_automaton::laws::threads_may_go_by;
+use bus_batch::Item;
 use bus_deliverylog::{Reader, RecvTurn};
 use bus_register::Reg;
 use std::marker::Model;
@@ -129,6 +130,30 @@ impl<Q: Ratifier + Drop> Tap<Q> {
         );
         self.seat = Some(seat);
         went
+    }
+
+    /// One turn or more. All but the last take words that say nothing by themselves: what the last
+    /// one answers, with an item written in its place. Any other answer leaves that as it was.
+    #[inline(always)]
+    pub fn item_turns(&mut self, bus: &Bus<Q>, item: &mut Option<Item>) -> ItemTurn
+        requires { self.old.table_id ≡ bus.now.table }
+        ensures table { self.new.table_id ≡ self.old.table_id }
+        ensures hears { HearsAfter self.old.me item.old result item.new self.new.me }
+    {
+        if self.reader.has_ended() {
+            return ItemTurn::End;
+        }
+        let mut seat = self.seat.take().unwrap();
+        let turn = hear_in_place(
+            &bus.table.shared,
+            &mut seat,
+            self.log,
+            &mut self.known,
+            &mut self.reader,
+            item,
+        );
+        self.seat = Some(seat);
+        turn
     }
 
     /// Loads the length, in words, and gives it: it knows the log up to it from then on.

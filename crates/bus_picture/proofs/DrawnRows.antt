@@ -1,5 +1,5 @@
 -- Each row of a trace is drawn in its picture.
-use Rattle.std.proofs.Common.{◌≡◌, ℕ, zero, suc, ◌+◌, List, [], ◌∷◌, ◌++◌, Option, Some, None, codes, length, take, slice_get, refl, ap, ◌∙◌, subst, append_assoc, arith}
+use Rattle.std.proofs.Common.{◌≡◌, ℕ, zero, suc, ◌+◌, List, [], ◌∷◌, ◌++◌, Option, Some, codes, length, take, slice_get, refl, ap, ◌∙◌, subst, append_assoc, arith}
 use Rattle.std.proofs.lemmas.Option.{none-some, same_Some}
 use Rattle.bus_picture.specs.declared.columns.Columns.{Columns}
 use Rattle.bus_picture.specs.declared.finding.Found.{Found}

@@ -1,16 +1,19 @@
 -- A line of nine columns is read as a row.
-use Rattle.std.proofs.Common.{◌≡◌, ℕ, zero, suc, ◌<◌, false, List, [], ◌∷◌, ◌++◌, ◌==◌, Option, Some, None, Contains, IsSome, codes, decimal, slice_get, append_assoc, refl, sym, ap, ◌∙◌, subst, arith}
-use Rattle.std.specs.Fmt.{digits}
+use Rattle.std.proofs.Common.{◌≡◌, ℕ, zero, suc, ◌^◌, ◌<◌, false, cond, List, [], ◌∷◌, ◌++◌, ◌==◌, Option, Some, None, Contains, IsSome, codes, decimal, slice_get, append_assoc, refl, sym, ap, ◌∙◌, subst, arith}
 use Rattle.std.specs.List.{slice_split}
-use Rattle.std.proofs.lemmas.Bool.{false≢true}
+use Rattle.std.specs.Option.{option_map}
+use Rattle.std.proofs.lemmas.Bool.{false≢true, lt-ltb}
 use Rattle.std.proofs.lemmas.List.Splits.{slice_split_at, slice_split_none}
-use Rattle.std.proofs.lemmas.List.Elements.{All-nil, All-cons, All-append, All-contains}
+use Rattle.std.proofs.lemmas.List.Elements.{All-nil, All-cons, All-append, All-contains, All-from_recursion}
 use Rattle.std.proofs.lemmas.Option.{none-some, same_Some}
+use Rattle.bus_register.specs.declared.limits.TheConstants.{MOST_SENDERS, MOST_RECEIVERS}
+use Rattle.bus_script.specs.Grammar.{words_of, number_of}
+use Rattle.bus_script.proofs.SpelledLaws.{is_space, NoSpace, number_plain, number_read}
 use Rattle.bus_picture.specs.declared.families.Family.{Family}
 use Rattle.bus_picture.specs.declared.processes.Process.{Process}
 use Rattle.bus_picture.specs.declared.processes.Process.TheVariants.{Sender, Receiver}
 use Rattle.bus_picture.specs.Families.{family_of}
-use Rattle.bus_picture.specs.Processes.{process_of}
+use Rattle.bus_picture.specs.Processes.{below, process_in, process_of}
 use Rattle.bus_picture.specs.Rows.{row_of, shown_with}
 use Rattle.bus_picture.proofs.PlainTexts.{IsPlain, HasNoTab, HasNoEnd, no_tab, no_end}
 
@@ -77,7 +80,7 @@ middle_ends_none text m = subst HasNoEnd (sym m.is) (
     ends_none (column m.tenure ++ column m.kind ++ column m.word) (column m.found) (
     ends_none (column m.tenure ++ column m.kind) (column m.word) (ends_none (column m.tenure) (column m.kind) (column_ends_none m.tenure m.plain_tenure) (column_ends_none m.kind m.plain_kind)) (column_ends_none m.word m.plain_word)) (column_ends_none m.found m.plain_found)) (column_ends_none m.after m.plain_after))
 
--- who is asked: one of the sixteen
+-- who is asked: one that a bus can have
 pub record IsWho (who : List ℕ) : Type 0 where
   pub process : Process
   pub known : process_of who ≡ Some process
@@ -109,25 +112,28 @@ readable line who middle answer plain_line w m plain_answer = record {
       subst (λ z. IsSome (row_of z)) (sym split) (some_row (process_of who) (family_of m.kind) w.process m.family w.known m.known number who m.tenure m.kind m.word m.found m.after answer);
 }
 
--- ---- the sixteen
-below_eight : (P : ℕ → Type 0) → P 0 → P 1 → P 2 → P 3 → P 4 → P 5 → P 6 → P 7 → (n : ℕ) → n < 8 → P n
-below_eight P a b c d e f g h zero lt = a
-below_eight P a b c d e f g h (suc zero) lt = b
-below_eight P a b c d e f g h (suc (suc zero)) lt = c
-below_eight P a b c d e f g h (suc (suc (suc zero))) lt = d
-below_eight P a b c d e f g h (suc (suc (suc (suc zero)))) lt = e
-below_eight P a b c d e f g h (suc (suc (suc (suc (suc zero))))) lt = f
-below_eight P a b c d e f g h (suc (suc (suc (suc (suc (suc zero)))))) lt = g
-below_eight P a b c d e f g h (suc (suc (suc (suc (suc (suc (suc zero))))))) lt = h
-below_eight P a b c d e f g h (suc (suc (suc (suc (suc (suc (suc (suc n)))))))) lt = absurd (omega arith)
+-- ---- two words
+two_words : (role : List ℕ) (n : ℕ) → n < 2 ^ 64 → NoSpace role → words_of (role ++ 32 ∷ decimal n) ≡ role ∷ decimal n ∷ []
+two_words role n small clean =
+    slice_split_at is_space role 32 (decimal n) (All-from_recursion (λ b. is_space b ≡ false) role clean) refl
+    ∙ ap (λ z. role ∷ z) (slice_split_none is_space (decimal n) (All-from_recursion (λ b. is_space b ≡ false) (decimal n) (number_plain n small)))
 
-pub sender_known : (s : ℕ) → s < 8 → process_of (codes "sender" ++ 32 ∷ decimal s) ≡ Some (Sender s)
-unfolding digits
-sender_known = below_eight (λ s. process_of (codes "sender" ++ 32 ∷ decimal s) ≡ Some (Sender s)) refl refl refl refl refl refl refl refl
+number_known : (n most : ℕ) → n < most → most < 2 ^ 64 → below most (number_of (decimal n)) ≡ Some n
+number_known n most lt small =
+    let fits : n < 2 ^ 64 = omega arith in
+    ap (below most) (number_read n fits) ∙ ap (λ z. cond z (Some n) None) (lt-ltb n most lt)
 
-pub receiver_known : (r : ℕ) → r < 8 → process_of (codes "receiver" ++ 32 ∷ decimal r) ≡ Some (Receiver r)
-unfolding digits
-receiver_known = below_eight (λ r. process_of (codes "receiver" ++ 32 ∷ decimal r) ≡ Some (Receiver r)) refl refl refl refl refl refl refl refl
+pub sender_known : (s : ℕ) → s < MOST_SENDERS → process_of (codes "sender" ++ 32 ∷ decimal s) ≡ Some (Sender s)
+unfolding process_of
+sender_known s lt =
+    ap process_in (two_words (codes "sender") s (omega arith) (refl, (refl, (refl, (refl, (refl, (refl, tt)))))))
+    ∙ ap (option_map Sender) (number_known s MOST_SENDERS lt (omega arith))
+
+pub receiver_known : (r : ℕ) → r < MOST_RECEIVERS → process_of (codes "receiver" ++ 32 ∷ decimal r) ≡ Some (Receiver r)
+unfolding process_of
+receiver_known r lt =
+    ap process_in (two_words (codes "receiver") r (omega arith) (refl, (refl, (refl, (refl, (refl, (refl, (refl, (refl, tt)))))))))
+    ∙ ap (option_map Receiver) (number_known r MOST_RECEIVERS lt (omega arith))
 
 -- ---- lines
 -- a line with columns, at any place of these

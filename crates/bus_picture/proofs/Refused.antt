@@ -8,6 +8,7 @@ use Rattle.bus_picture.specs.Rows.{Shown, reads, writes}
 use Rattle.bus_picture.specs.Arrows.{IsArrow}
 use Rattle.std.specs.List.{join_with_byte}
 use Rattle.bus_picture.specs.AllLines.{HasAllLines}
+use Rattle.bus_picture.specs.Processes.{process_of}
 use Rattle.bus_picture.specs.Refusals.{unread_text, stage, stores, loads, exchanges, at, ArrowsRefuse}
 
 -- the row that an arrow goes to, and the one that it comes from, where they are known
@@ -80,8 +81,8 @@ refuses = record {
 
 -- ---- a line that is left out
 its_line : List ℕ
-its_line = join_with_byte 9 (codes "1" ∷ codes "2" ∷ codes "sender 8" ∷ codes "-" ∷ codes "put" ∷ codes "-" ∷ codes "-" ∷ codes "-" ∷ codes "number 0" ∷ [])
+its_line = join_with_byte 9 (codes "1" ∷ codes "2" ∷ codes "sender 64" ∷ codes "-" ∷ codes "put" ∷ codes "-" ∷ codes "-" ∷ codes "-" ∷ codes "number 0" ∷ [])
 
 pub left_out : ¬ HasAllLines unread_text
-unfolding its_line
+unfolding its_line process_of
 left_out h = false≢true (h 1 its_line (lit< tt) refl (1, lit< tt, refl))

@@ -64,4 +64,4 @@ pub record ArrowsRefuse : Type 0 where
 -- ---- a line that is left out
 -- a first line, and a line of a sender that no bus has
 abbrev pub unread_text : List ℕ
-unread_text = codes "number" ++ 10 ∷ join_with_byte 9 (codes "1" ∷ codes "2" ∷ codes "sender 8" ∷ codes "-" ∷ codes "put" ∷ codes "-" ∷ codes "-" ∷ codes "-" ∷ codes "number 0" ∷ [])
+unread_text = codes "number" ++ 10 ∷ join_with_byte 9 (codes "1" ∷ codes "2" ∷ codes "sender 64" ∷ codes "-" ∷ codes "put" ∷ codes "-" ∷ codes "-" ∷ codes "-" ∷ codes "number 0" ∷ [])

@@ -9,7 +9,7 @@ use Rattle.bus_register.specs.declared.limits.TheConstants.{MOST_SENDERS}
 use Rattle.bus_batch.specs.declared.messages.Item.{Item}
 use Rattle.bus_deliverylog.specs.declared.receiving.RecvTurn.{RecvTurn}
 use Rattle.bus_deliverylog.specs.declared.receiving.RecvTurn.TheVariants as turn
-use Rattle.bus_receiver.specs.Hearing.{Hearing, nothing, goes_on, has_room, takes, hearing_after}
+use Rattle.bus_receiver.specs.Hearing.{Hearing, nothing_after, goes_on, has_room, expected, takes, hearing_after}
 use Rattle.bus_receiver.specs.HearingRuns.{hears, item_taken, hearing_after_all, items_taken}
 
 -- one answer more
@@ -31,20 +31,20 @@ first false b h = h
 one_item : (s : ℕ) (h : Hearing) (item : Item) → length h.counts ≡ MOST_SENDERS → (b : Bool) → takes h (turn.Item item) ≡ b → CountsOne s h (cond b (hearing_after h (turn.Item item)) h) (cond b (item ∷ []) [])
 one_item s h item e false is = (omega arith, e, omega arith)
 one_item s h item e true is =
-    let fits = both (goes_on h && has_room h) (nat_lt item.sender.0 MOST_SENDERS && (item.number == slice_index h.counts item.sender.0)) is in
-    let below : item.sender.0 < MOST_SENDERS = (let t = first (nat_lt item.sender.0 MOST_SENDERS) (item.number == slice_index h.counts item.sender.0) fits in grind (arith, nat_tests, t)) in
-    let next : item.number ≡ slice_index h.counts item.sender.0 = (let t = both (nat_lt item.sender.0 MOST_SENDERS) (item.number == slice_index h.counts item.sender.0) fits in grind (arith, nat_tests, t)) in
-    let many = length-set h.counts item.sender.0 (item.number + 1) in
+    let fits = both (goes_on h && has_room h) (nat_lt item.sender.0 MOST_SENDERS && (item.number == expected h item.sender.0)) is in
+    let below : item.sender.0 < MOST_SENDERS = (let t = first (nat_lt item.sender.0 MOST_SENDERS) (item.number == expected h item.sender.0) fits in grind (arith, nat_tests, t)) in
+    let now : ℕ = slice_index h.counts item.sender.0 + 1 in
+    let many = length-set h.counts item.sender.0 now in
     elim (eqb_tells item.sender.0 s) [
       | inl own ↦
-          let here = get_or-set_same h.counts item.sender.0 (item.number + 1) 0 (omega arith) in
+          let here = get_or-set_same h.counts item.sender.0 now 0 (omega arith) in
           let one : count_by (λ i. i.sender.0 == s) (item ∷ []) ≡ 1 = ap (λ z. 0 + cond z 1 0) own.0 in
-          let there : slice_index (slice_set h.counts item.sender.0 (item.number + 1)) s ≡ item.number + 1 = ap (slice_index (slice_set h.counts item.sender.0 (item.number + 1))) (sym own.1) ∙ here in
-          let old : slice_index h.counts s ≡ item.number = ap (slice_index h.counts) (sym own.1) ∙ sym next in
+          let there : slice_index (slice_set h.counts item.sender.0 now) s ≡ now = ap (slice_index (slice_set h.counts item.sender.0 now)) (sym own.1) ∙ here in
+          let old : slice_index h.counts s ≡ slice_index h.counts item.sender.0 = ap (slice_index h.counts) (sym own.1) in
           (omega arith, many ∙ e, omega arith)
       | inr other ↦
           let none : count_by (λ i. i.sender.0 == s) (item ∷ []) ≡ 0 = ap (λ z. 0 + cond z 1 0) other.0 in
-          let same = get_or-set_other h.counts item.sender.0 s (item.number + 1) 0 (λ z. other.1 (sym z)) in
+          let same = get_or-set_other h.counts item.sender.0 s now 0 (λ z. other.1 (sym z)) in
           (omega arith, many ∙ e, omega arith)
     ]
 
@@ -70,8 +70,11 @@ counts_all s (t ∷ turns) h e =
     let lengths = length-append (item_taken h t) (items_taken (hears h t) turns) in
     (omega (arith, sums), omega (arith, lengths))
 
-pub counts_each : (turns : List RecvTurn) (s : ℕ) → s < MOST_SENDERS → slice_index (hearing_after_all nothing turns).counts s ≡ count_by (λ item. item.sender.0 == s) (items_taken nothing turns)
-counts_each turns s l = let all = (counts_all s turns nothing refl).0 in let zero_is : slice_index (replicate MOST_SENDERS 0) s ≡ 0 = get_or-replicate MOST_SENDERS s 0 0 l in omega arith
+module _ (bases : List ℕ) (turns : List RecvTurn) where
+  pub counts_each : (s : ℕ) → s < MOST_SENDERS → slice_index (hearing_after_all (nothing_after bases) turns).counts s ≡ count_by (λ item. item.sender.0 == s) (items_taken (nothing_after bases) turns)
+  counts_each s l =
+      let all = (counts_all s turns (nothing_after bases) refl).0 in
+      let zero_is : slice_index (replicate MOST_SENDERS 0) s ≡ 0 = get_or-replicate MOST_SENDERS s 0 0 l in omega arith
 
-pub counts_items : (turns : List RecvTurn) → (hearing_after_all nothing turns).items ≡ length (items_taken nothing turns)
-counts_items turns = let all = (counts_all 0 turns nothing refl).1 in omega arith
+  pub counts_items : (hearing_after_all (nothing_after bases) turns).items ≡ length (items_taken (nothing_after bases) turns)
+  counts_items = let all = (counts_all 0 turns (nothing_after bases) refl).1 in omega arith

@@ -4,15 +4,24 @@ use Rattle.bus_register.specs.declared.limits.TheConstants.{MOST_SENDERS}
 use Rattle.bus_deliverylog.specs.declared.receiving.RecvTurn.{RecvTurn}
 use Rattle.bus_deliverylog.specs.declared.receiving.RecvTurn.TheVariants as turn
 
--- how many items of each sender, how many in all, and whether the end was among the answers
+-- the number that each sender's first item is to have, how many items of each, how many in all, and whether the end was among the answers
 pub record Hearing : Type 0 where
+  pub bases : List ℕ
   pub counts : List ℕ
   pub items : ℕ
   pub ended : Bool
 
--- before any answer
+-- before any answer, where the first items are to have these numbers
+abbrev pub nothing_after : List ℕ → Hearing
+nothing_after bases = record { bases = bases; counts = replicate MOST_SENDERS 0; items = 0; ended = false }
+
+-- of a first sitting, which begins with 0
 abbrev pub nothing : Hearing
-nothing = record { counts = replicate MOST_SENDERS 0; items = 0; ended = false }
+nothing = nothing_after (replicate MOST_SENDERS 0)
+
+-- the number that the next item of a sender is to have
+abbrev pub expected : Hearing → ℕ → ℕ
+expected h sender = slice_index h.bases sender + slice_index h.counts sender
 
 abbrev pub goes_on : Hearing → Bool
 goes_on h = if h.ended then false else true
@@ -26,7 +35,7 @@ abbrev pub takes : Hearing → RecvTurn → Bool
 takes h turn.Going = goes_on h
 takes h turn.Empty = goes_on h
 takes h (turn.Head tenure owner) = goes_on h
-takes h (turn.Item item) = goes_on h && has_room h && (nat_lt item.sender.0 MOST_SENDERS && (item.number == slice_index h.counts item.sender.0))
+takes h (turn.Item item) = goes_on h && has_room h && (nat_lt item.sender.0 MOST_SENDERS && (item.number == expected h item.sender.0))
 takes h turn.End = true
 
 -- what is counted with an answer that is taken
@@ -34,5 +43,5 @@ abbrev pub hearing_after : Hearing → RecvTurn → Hearing
 hearing_after h turn.Going = h
 hearing_after h turn.Empty = h
 hearing_after h (turn.Head tenure owner) = h
-hearing_after h (turn.Item item) = record h { counts = slice_set h.counts item.sender.0 (item.number + 1); items = h.items + 1 }
+hearing_after h (turn.Item item) = record h { counts = slice_set h.counts item.sender.0 (slice_index h.counts item.sender.0 + 1); items = h.items + 1 }
 hearing_after h turn.End = record h { ended = true }

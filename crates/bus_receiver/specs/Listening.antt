@@ -74,6 +74,12 @@ last_of (next.Item item) = turn.Item item
 last_of next.End = turn.End
 last_of next.Stopped = turn.Empty
 
+-- what a call found that says whether it was told to stop, and else leaves an item, or none at the end
+abbrev pub next_of : Bool → Option Item → Next
+next_of true left = next.Stopped
+next_of false (Some item) = next.Item item
+next_of false None = next.End
+
 -- such turns, and a last one, which answered so; after an Empty the function was asked and told to stop
 pub record PassesWhile {C F : Type 0} (Tells : F → Bool → F → Type 0) (first : Sat C) (given : F) (found : Next) (new : Sat C) : Type 0 where
   pub old : Sat C

@@ -6,12 +6,14 @@ ghost use Rattle.std.specs.Prelude.{nat_lt, slice_index, slice_set, true, false}
 use bus_deliverylog::RecvTurn;
 use bus_register::SenderNo;
 use bus_register::limits::MOST_SENDERS;
+use bus_tenure::Page;
 use std::marker::Model;
 
 /// A listener: it counts the items of each sender, and refuses an item that is not the next of its
 /// sender or cannot be counted, and after the end all but the end.
 #[derive(Debug, Drop)]
 pub struct Heard {
+    bases: [u64; MOST_SENDERS],
     counts: [u64; MOST_SENDERS],
     items: u64,
     ended: bool,
@@ -23,19 +25,39 @@ impl Model for Heard {
 
     ghost Value = { Hearing };
 
-    ghost view = { λ h. record { counts = h.counts; items = h.items; ended = h.ended } };
+    ghost view = { λ h. record {
+      bases = h.bases;
+      counts = h.counts;
+      items = h.items;
+      ended = h.ended;
+    } };
 
     ghost invariant = { λ h. total h.counts ≡ h.items };
 }
 
 impl Heard {
-    ghost use Rattle.bus_receiver.specs.Hearing.{nothing, goes_on, has_room, takes, hearing_after};
+    ghost use Rattle.bus_receiver.specs.Hearing.{nothing, nothing_after, goes_on, has_room};
+    ghost use Rattle.bus_receiver.specs.Hearing.{expected, takes, hearing_after};
 
-    /// A listener that has heard nothing.
+    /// A listener of a first sitting that has heard nothing: it expects numbers from 0 on.
     pub fn new() -> Heard
         ensures { result ≡ nothing }
     {
         Heard {
+            bases: [0; MOST_SENDERS],
+            counts: [0; MOST_SENDERS],
+            items: 0,
+            ended: false,
+        }
+    }
+
+    /// A listener of the sitting that goes on after this page: of each sender it expects the
+    /// numbers from that on which the page has for its next message. It has heard nothing.
+    pub fn after(page: &Page) -> Heard
+        ensures { result ≡ nothing_after page.now.next }
+    {
+        Heard {
+            bases: page.next,
             counts: [0; MOST_SENDERS],
             items: 0,
             ended: false,
@@ -64,11 +86,11 @@ impl Heard {
     fn note_item(&mut self, sender: SenderNo, number: u64) -> bool
         ensures takes { result
             ≡ (goes_on self.old && has_room self.old &&
-            (nat_lt sender.0 MOST_SENDERS && (number == slice_index self.old.counts sender.0))) }
+            (nat_lt sender.0 MOST_SENDERS && (number == expected self.old sender.0))) }
         ensures taken { result ≡ true
             → self.new ≡ record self.old {
               counts = slice_set self.old.counts sender.0
-                  (number + 1);
+                  (slice_index self.old.counts sender.0 + 1);
               items = self.old.items + 1;
             } }
         ensures refused { result ≡ false → self.new ≡ self.old }
@@ -77,14 +99,15 @@ impl Heard {
         if self.ended || place >= MOST_SENDERS {
             return false;
         }
-        if number != self.counts[place] {
+        let base = self.bases[place];
+        if number < base || number - base != self.counts[place] {
             return false;
         }
         if self.items == u64::MAX {
             return false;
         }
         self.items += 1;
-        self.counts[place] = number + 1;
+        self.counts[place] += 1;
         true
     }
 

@@ -4,15 +4,16 @@ ghost use Rattle.std.specs.Prelude.{◌≡◌, ℕ, ◌<◌, ◌==◌, List, len
 ghost use Rattle.std.specs.Prelude.{count_by};
 ghost use Rattle.bus_register.specs.declared.limits.TheConstants.{MOST_SENDERS};
 ghost use Rattle.bus_deliverylog.specs.declared.receiving.RecvTurn.{RecvTurn};
-ghost use Rattle.bus_receiver.specs.Hearing.{nothing};
+ghost use Rattle.bus_receiver.specs.Hearing.{nothing_after};
 ghost use Rattle.bus_receiver.specs.HearingRuns.{hearing_after_all, items_taken};
 
 /// Of any answers in a row a listener counts just those items that it takes, for each sender and in
-/// all.
+/// all, whatever numbers it began with.
 pub fn counts_what_it_takes()
-    ensures each { (turns : List RecvTurn) (s : ℕ) → s < MOST_SENDERS
-        → slice_index (hearing_after_all nothing turns).counts s
-        ≡ count_by (λ item. item.sender.0 == s) (items_taken nothing turns) }
-    ensures all { (turns : List RecvTurn)
-        → (hearing_after_all nothing turns).items ≡ length (items_taken nothing turns) }
+    ensures each { (bases : List ℕ) (turns : List RecvTurn) (s : ℕ) → s < MOST_SENDERS
+        → slice_index (hearing_after_all (nothing_after bases) turns).counts s
+        ≡ count_by (λ item. item.sender.0 == s) (items_taken (nothing_after bases) turns) }
+    ensures all { (bases : List ℕ) (turns : List RecvTurn)
+        → (hearing_after_all (nothing_after bases) turns).items
+        ≡ length (items_taken (nothing_after bases) turns) }
 {}

@@ -6,15 +6,15 @@ ghost use Rattle.std.specs.Ordering.{nat_cmp};
 ghost use Rattle.bus_automaton.specs.Buses.{process_by, automaton_by};
 ghost use Rattle.bus_pageslot.specs.Endings.{IsLeft};
 ghost use Rattle.bus_pageslot.specs.Rule.{receiver_view_in, known_in};
-ghost use Rattle.bus_pageslot.specs.Listening.{Hears, answer_of};
+ghost use Rattle.bus_pageslot.specs.Listening.{Hears, HearsAfter};
 ghost use Rattle.bus_pageslot.specs.Seats.{table_of, actions_of, stored_of};
 ghost use Rattle.bus_receiver.specs.Listening.{bus_of, is_found, Takes, HaveMet, IsTold};
-ghost use Rattle.bus_receiver.specs.Listening.{PassesTo, PassesWhile, item_or_end};
+ghost use Rattle.bus_receiver.specs.Listening.{PassesTo, PassesWhile, item_or_end, next_of};
 
 use bus_adoptcommit::{Ratifier, ThreeWord};
 use bus_batch::Item;
 use bus_deliverylog::RecvTurn;
-use bus_pageslot::{Bus, EndFault, Ended, Sender, Tap};
+use bus_pageslot::{Bus, EndFault, Ended, ItemTurn, Sender, Tap};
 use crossbeam_utils::Backoff;
 use std::cmp::Ordering;
 use std::marker::Model;
@@ -83,14 +83,14 @@ impl<Q: Ratifier + Drop> Receiver<Q> {
         self.tap.turn(bus)
     }
 
-    /// One turn, as the tap's.
+    /// Turns, as the tap's.
     #[inline(always)]
-    fn quick_turn(&mut self, bus: &Bus<Q>, answer: &mut RecvTurn) -> bool
+    fn item_turns(&mut self, bus: &Bus<Q>, item: &mut Option<Item>) -> ItemTurn
         requires { bus_of self.old ≡ bus.now.table }
         ensures table { bus_of self.new ≡ bus_of self.old }
-        ensures hears { Hears self.old.me (answer_of result answer.new) self.new.me }
+        ensures hears { HearsAfter self.old.me item.old result item.new self.new.me }
     {
-        self.tap.quick_turn(bus, answer)
+        self.tap.item_turns(bus, item)
     }
 
     /// Turns, until one finds a head, an item or the end. That it ends is not promised.
@@ -121,10 +121,19 @@ impl<Q: Ratifier + Drop> Receiver<Q> {
         ensures table { bus_of self.new ≡ bus_of self.old }
         ensures passes { PassesTo self.old.me (item_or_end result) self.new.me }
     {
-        match self.next_item_while(wait, bus, || true) {
-            Next::Item(item) => Some(item),
-            Next::End => None,
-            Next::Stopped => unreachable!(),
+        let mut item = None;
+        self.next_item_in_place(wait, bus, &mut item);
+        item
+    }
+
+    /// As `next_item`, with its answer written in place: a large one is moved once less.
+    pub fn next_item_in_place<W: Wait>(&mut self, wait: &W, bus: &Bus<Q>, item: &mut Option<Item>)
+        requires { bus_of self.old ≡ bus.now.table }
+        ensures table { bus_of self.new ≡ bus_of self.old }
+        ensures passes { PassesTo self.old.me (item_or_end item.new) self.new.me }
+    {
+        if self.pass_while(wait, bus, || true, item) {
+            unreachable!()
         }
     }
 
@@ -135,30 +144,51 @@ impl<Q: Ratifier + Drop> Receiver<Q> {
         &mut self,
         wait: &W,
         bus: &Bus<Q>,
-        mut go_on: F,
+        go_on: F,
     ) -> Next
         requires table { bus_of self.old ≡ bus.now.table }
         requires callable { F.IsAlwaysCallable go_on }
         ensures table { bus_of self.new ≡ bus_of self.old }
         ensures passes { PassesWhile F.step self.old.me go_on result self.new.me }
     {
+        let mut item = None;
+        if self.pass_while(wait, bus, go_on, &mut item) {
+            return Next::Stopped;
+        }
+        match item {
+            Some(item) => Next::Item(item),
+            None => Next::End,
+        }
+    }
+
+    /// As `next_item_while`, with an item written in place, and none where there is none. It says
+    /// whether it was told to stop.
+    #[inline(always)]
+    fn pass_while<W: Wait, F: FnMut() -> bool>(
+        &mut self,
+        wait: &W,
+        bus: &Bus<Q>,
+        mut go_on: F,
+        item: &mut Option<Item>,
+    ) -> bool
+        requires table { bus_of self.old ≡ bus.now.table }
+        requires callable { F.IsAlwaysCallable go_on }
+        ensures table { bus_of self.new ≡ bus_of self.old }
+        ensures passes { PassesWhile F.step self.old.me go_on (next_of result item.new)
+            self.new.me }
+    {
+        *item = None;
         let backoff = Backoff::new();
         for _ in wait.forever() {
-            let mut answer = RecvTurn::Going;
-            if self.quick_turn(bus, &mut answer) {
-                backoff.reset();
-                continue;
-            }
-            match answer {
-                RecvTurn::Item(item) => return Next::Item(item),
-                RecvTurn::End => return Next::End,
-                RecvTurn::Empty => {
+            match self.item_turns(bus, item) {
+                ItemTurn::Item | ItemTurn::End => return false,
+                ItemTurn::Empty => {
                     if !go_on() {
-                        return Next::Stopped;
+                        return true;
                     }
                     backoff.snooze();
                 }
-                RecvTurn::Going | RecvTurn::Head { .. } => backoff.reset(),
+                ItemTurn::Going => backoff.reset(),
             }
         }
         unreachable!()
@@ -211,6 +241,7 @@ impl<Q: Ratifier + Drop> Receiver<Q> {
             (λ left. IsLeft (process_by Q.Ratifier) (automaton_by Q.Ratifier bus.plan)
             receiver.me.0 left.log (Some left.page)) }
         ensures senders { IfOk result (λ left. left.senders ≡ bus.plan.shape.senders) }
+        ensures bases { IfOk result (λ left. left.bases ≡ bus.plan.bases) }
         ensures out { OnErr result ((log : List ℕ)
             × IsLeft (process_by Q.Ratifier) (automaton_by Q.Ratifier bus.plan)
             receiver.me.0 log None) }

@@ -3,8 +3,8 @@
 /// Processes that share one object of a protocol, as an adopt-commit object or a coin: at most 64.
 pub const MOST_PROCESSES: u64 = 64;
 
-/// Senders of a bus: 1 to 8.
-pub const MOST_SENDERS: usize = 8;
+/// Senders of a bus: 1 to 64.
+pub const MOST_SENDERS: usize = 64;
 
 /// Receivers of a bus: 1 to 8.
 pub const MOST_RECEIVERS: u64 = 8;

@@ -9,6 +9,7 @@ use Rattle.bus_batch.specs.Frames.{Order, Spells}
 use Rattle.bus_tenure.specs.Core.{Election}
 use Rattle.bus_tenure.specs.Elections.{Elector}
 use Rattle.bus_machine.specs.Machine.{Machine, Trails, Reached, log_of}
+use Rattle.bus_world.specs.World.{no_bases}
 use Rattle.bus_machine.specs.Playing.{IsMade}
 use Rattle.bus_machine.specs.Promise.{TakersTold}
 use Rattle.bus_script.specs.declared.answers.Outcome.{Outcome}
@@ -131,7 +132,7 @@ module _ {S : Type 0} (X : Election (Elector S)) (P : Protocol S Bool Verdict) w
 
   -- a new bus was made, and the lines behind the first one moved it
   pub begun : (number : ℕ) (first : FirstLine) (lines : List (ℕ × List ℕ)) (b : Machine (Elector S)) (o : Outcome) (whole : List ℕ)
-      → IsMade X P (shape_in first) (reuse_in first) b
+      → IsMade X P (shape_in first) (reuse_in first) no_bases b
       → (text : List ℕ) × (end : End (Elector S)) × Prints X P b lines text end × Ends X P end text o whole
       → Begins X P number (Some first) lines o whole
   begun number first lines b o whole made answered = inr (b, made, answered.0, answered.1, answered.2, answered.3)

@@ -14,6 +14,7 @@ use Rattle.bus_world.specs.declared.events.StepFault.{StepFault}
 use Rattle.bus_world.specs.declared.shapes.MakeFault.{MakeFault}
 use Rattle.bus_world.specs.declared.shapes.MakeFault.TheVariants as make
 use Rattle.bus_machine.specs.Machine.{Machine, Trails, Reached as ReachedBy, log_of}
+use Rattle.bus_world.specs.World.{no_bases}
 use Rattle.bus_machine.specs.Playing.{IsMade, MakeRefused, Answers, Refused as RefusedBy}
 use Rattle.bus_machine.specs.Promise.{TakersTold}
 use Rattle.bus_script.specs.declared.line_numbers.LineNumber.TheVariants.{AtLine, AtEnd}
@@ -79,7 +80,7 @@ module _ {S : Type 0} (X : Election (Elector S)) (P : Protocol S Bool Verdict) w
   Begins number (Some first) lines outcome whole =
       ((why : MakeFault) × MakeRefused (shape_in first) (reuse_in first) why × (why ≢ make.NoMemory) × (outcome ≡ Refused)
       × (whole ≡ refusal_line (AtLine number) (make_fault_name why)))
-      ⊎ ((m : Machine (Elector S)) × IsMade X P (shape_in first) (reuse_in first) m × (text : List ℕ) × (end : End (Elector S))
+      ⊎ ((m : Machine (Elector S)) × IsMade X P (shape_in first) (reuse_in first) no_bases m × (text : List ℕ) × (end : End (Elector S))
       × Prints m lines text end × Ends end text outcome whole)
 
   abbrev pub Replays : List (ℕ × List ℕ) → Outcome → List ℕ → Type 0

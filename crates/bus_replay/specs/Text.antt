@@ -70,6 +70,8 @@ make_fault_name make.Receivers = codes "Receivers"
 make_fault_name make.Rounds = codes "Rounds"
 make_fault_name make.Rows = codes "Rows"
 make_fault_name make.LogWords = codes "LogWords"
+make_fault_name make.NotEnded = codes "NotEnded"
+make_fault_name make.Numbers = codes "Numbers"
 make_fault_name make.NoMemory = codes "NoMemory"
 
 -- ---- the closing lines

@@ -3,6 +3,7 @@
 ghost use Rattle.std.specs.Prelude.{◌≡◌, ℕ, List, Some, IfOk, IfErr, string_bytes};
 ghost use Rattle.bus_tenure.specs.Elections.{Elector, election_of};
 ghost use Rattle.bus_machine.specs.Playing.{IsMade, MakeRefused};
+ghost use Rattle.bus_world.specs.World.{no_bases};
 ghost use Rattle.bus_script.specs.LineNumbers.{refusal_line};
 ghost use Rattle.bus_replay.specs.Lines.{shape_in, reuse_in};
 ghost use Rattle.bus_replay.specs.Answers.{End, Prints, Ends, Begins, IsReplay};
@@ -21,12 +22,12 @@ use std::alloc::Global;
 /// A new bus, such as the first line of a script asks for.
 pub fn new_bus<Q: Ratifier + Drop>(alloc: Global, first: FirstLine) -> Result<World<Q>, MakeFault>
     ensures made { let X = election_of Q.Ratifier in
-        IfOk result (IsMade X Q.protocol (shape_in first) (reuse_in first)) }
+        IfOk result (IsMade X Q.protocol (shape_in first) (reuse_in first) no_bases) }
     ensures fault { IfErr result (MakeRefused (shape_in first) (reuse_in first)) }
 {
     match first {
         FirstLine::Shape(shape) => World::new(alloc, shape),
-        FirstLine::Cycle(shape) => World::cyclic(alloc, shape),
+        FirstLine::Cycle(shape) => World::cyclic(alloc, shape, None),
     }
 }
 

@@ -51,6 +51,8 @@ pub fn make_fault_name(fault: MakeFault) -> &'static str
         MakeFault::Rounds => "Rounds",
         MakeFault::Rows => "Rows",
         MakeFault::LogWords => "LogWords",
+        MakeFault::NotEnded => "NotEnded",
+        MakeFault::Numbers => "Numbers",
         MakeFault::NoMemory => "NoMemory",
     }
 }

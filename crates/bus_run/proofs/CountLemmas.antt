@@ -1,10 +1,11 @@
 -- What a note has counted of each sender is, in all, what the order has.
-use Rattle.std.proofs.Common.{◌≡◌, ℕ, zero, suc, ◌+◌, ◌<◌, ◌≤◌, Bool, true, false, cond, ◌==◌, inl, inr, List, [], ◌∷◌, ◌++◌, length, map, take, slice_index, All, arith, refl, sym, ap, subst, ◌∙◌}
+use Rattle.std.proofs.Common.{◌≡◌, ℕ, zero, suc, ◌+◌, ◌<◌, ◌≤◌, Bool, true, false, cond, ◌==◌, inl, inr, List, [], ◌∷◌, ◌++◌, length, map, take, get_or, slice_index, All, arith, refl, sym, ap, subst, ◌∙◌}
 use Rattle.std.specs.Prelude.{filter, flat_map, sum}
 use Rattle.std.proofs.lemmas.Bool.{cases_lt}
 use Rattle.std.proofs.lemmas.Bool.Decides.{eqb_tells}
 use Rattle.std.proofs.lemmas.List.{take_all}
 use Rattle.std.proofs.lemmas.List.Sums.{sum_by_more}
+use Rattle.bus_register.specs.declared.limits.TheConstants.{MOST_SENDERS}
 use Rattle.bus_register.specs.declared.registers.SenderNo.{SenderNo}
 use Rattle.bus_batch.specs.declared.messages.Item.{Item}
 use Rattle.bus_batch.specs.Messages.{Numbered}
@@ -112,10 +113,10 @@ sum_all : (counts : List ℕ) (many : ℕ) → length counts ≡ many → sum co
 sum_all counts many is = ap sum (sym (take_all many counts (omega arith))) ∙ sum_to counts many (omega arith)
 
 -- a note that counted, of each sender of a bus, what the order has, and whose total is the sum of these, has counted all items
-counts_all : (senders : ℕ) (words : List ℕ) (order : Order) (owners : List (ℕ × SenderNo)) (h : Hearing) → senders ≤ 8 → Spells senders words order owners → IsSummed h → IsFair order h → CountsAll order h
+counts_all : (senders : ℕ) (words : List ℕ) (order : Order) (owners : List (ℕ × SenderNo)) (h : Hearing) → senders ≤ MOST_SENDERS → Spells senders words order owners → IsSummed h → IsFair order h → CountsAll order h
 counts_all senders words order owners h few spells summed fair =
-    let below : Below 8 order.items = subst (λ (o : Order). Below 8 o.items) spells.order_is (below_frames senders 8 0 spells.frames few spells.lawful) in
-    sym summed.1 ∙ sum_all h.counts 8 summed.0 ∙ total_same 8 (slice_index h.counts) (has_of order.items) (λ s l. fair.0 s l) ∙ all_of 8 order.items below
+    let below : Below MOST_SENDERS order.items = subst (λ (o : Order). Below MOST_SENDERS o.items) spells.order_is (below_frames senders MOST_SENDERS 0 spells.frames few spells.lawful) in
+    sym summed.1 ∙ sum_all h.counts MOST_SENDERS summed.0 ∙ total_same MOST_SENDERS (slice_index h.counts) (has_of order.items) (λ s l. fair.0 s l) ∙ all_of MOST_SENDERS order.items below
 
-pub all_counted : (senders : ℕ) (words : List ℕ) (order : Order) (owners : List (ℕ × SenderNo)) (heards : List Hearing) → senders ≤ 8 → Spells senders words order owners → All IsSummed heards → All (IsFair order) heards → All (CountsAll order) heards
-all_counted senders words order owners heards few spells summed fair k d l = counts_all senders words order owners _ few spells (summed k d l) (fair k d l)
+pub all_counted : (senders : ℕ) (words : List ℕ) (order : Order) (owners : List (ℕ × SenderNo)) (heards : List Hearing) → senders ≤ MOST_SENDERS → Spells senders words order owners → All IsSummed heards → All (IsFair order) heards → All (CountsAll order) heards
+all_counted senders words order owners heards few spells summed fair k d l = counts_all senders words order owners (get_or heards k d) few spells (summed k d l) (fair k d l)

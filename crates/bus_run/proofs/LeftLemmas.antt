@@ -17,7 +17,7 @@ use Rattle.bus_run.specs.Stops.{LeavesNoPage, LeavesOrder, IsOpen}
 -- ---- what a seat has learnt
 
 same_view : (v : Shown) → v ≡ with_receiver_view v (record (receiver_view_in v) { known = known_in v; loads = (receiver_view_in v).loads + 0 })
-same_view (Maker c) = refl
+same_view (Maker x made) = refl
 same_view (Sender c trail stored) = refl
 same_view (Tap c e) = ap (λ l. Tap c (record e { loads = l })) (sym (add-zero e.loads))
 same_view (Meeting c e d f) = ap (λ l. Meeting c (record e { loads = l }) d f) (sym (add-zero e.loads))
@@ -28,7 +28,7 @@ one_later : (a n : ℕ) → a + n + 1 ≡ a + (n + 1)
 one_later a n = omega arith
 
 one_more : (v : Shown) (k k' : List ℕ) (n : ℕ) → (let w = with_receiver_view v (record (receiver_view_in v) { known = k; loads = (receiver_view_in v).loads + n }) in with_receiver_view w (record (receiver_view_in w) { known = k'; loads = (receiver_view_in w).loads + 1 })) ≡ with_receiver_view v (record (receiver_view_in v) { known = k'; loads = (receiver_view_in v).loads + (n + 1) })
-one_more (Maker c) k k' n = refl
+one_more (Maker x made) k k' n = refl
 one_more (Sender c trail stored) k k' n = refl
 one_more (Tap c e) k k' n = ap (λ l. Tap c (record e { known = k'; loads = l })) (one_later e.loads n)
 one_more (Meeting c e d f) k k' n = ap (λ l. Meeting c (record e { known = k'; loads = l }) d f) (one_later e.loads n)
@@ -39,7 +39,7 @@ nothing_before : (k : List ℕ) → IsPrefix [] k
 nothing_before k = record { rest = k; together = refl }
 
 knows_more : (v : Shown) (k : List ℕ) (l : ℕ) → IsPrefix (known_in v) k → IsPrefix (known_in v) (known_in (with_receiver_view v (record (receiver_view_in v) { known = k; loads = l })))
-knows_more (Maker c) k l h = nothing_before []
+knows_more (Maker x made) k l h = nothing_before []
 knows_more (Sender c trail stored) k l h = nothing_before []
 knows_more (Tap c e) k l h = h
 knows_more (Meeting c e d f) k l h = h
@@ -70,16 +70,16 @@ one_learnt m got m' h = record { known = h.known; now = ap (λ (z : Sat Held). z
 
 -- ---- what is left
 -- how many senders the bus of a plan has
-senders_of : (shape : Shape) (reuse : Option ℕ) → (run_automaton (record { shape = shape; reuse = reuse })).table_layout.senders ≡ shape.senders
+senders_of : (shape : Shape) (reuse : Option ℕ) (bases : List ℕ) → (run_automaton (record { shape = shape; reuse = reuse; bases = bases })).table_layout.senders ≡ shape.senders
 unfolding automaton_with
-senders_of shape None = refl
-senders_of shape (Some rows) = refl
+senders_of shape None bases = refl
+senders_of shape (Some rows) bases = refl
 
 -- the words that were left spell an order
 pub spelled_behind : (plan : Plan) (left : Outcome) → IsLeftBehind plan left → left.senders ≡ plan.shape.senders → IsSpelled left
 spelled_behind plan left h of =
     let promised = h.left.promised in
-    (promised.order, promised.owners, subst (λ n. Spells n left.log promised.order promised.owners) (sym of) (subst (λ (z : ℕ × List ℕ). Spells z.0 z.1 promised.order promised.owners) (λ k. (senders_of plan.shape plan.reuse k, h.left.log_is k)) promised.spelled))
+    (promised.order, promised.owners, subst (λ n. Spells n left.log promised.order promised.owners) (sym of) (subst (λ (z : ℕ × List ℕ). Spells z.0 z.1 promised.order promised.owners) (λ k. (senders_of plan.shape plan.reuse plan.bases k, h.left.log_is k)) promised.spelled))
 
 -- a bus that a seat has ended with its page at home leaves an order
 pub leaves : (a b : Plan) → a ≡ b → (Ends : Shown → Type 0) (last : Shown) (left : Outcome) (P : Order → Type 0) → Ends last → left.senders ≡ a.shape.senders → IsLeftBy a last left.log (Some left.page) → OfOrder left P → LeavesOrder b Ends P

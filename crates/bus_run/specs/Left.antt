@@ -1,5 +1,5 @@
 -- Which bus a run goes by, what that leaves behind, and by which seat.
-use Rattle.std.specs.Prelude.{◌≡◌, ℕ, ◌+◌, List, All, Option, Some, length, slice_get}
+use Rattle.std.specs.Prelude.{◌≡◌, ℕ, ◌+◌, List, All, Option, Some, None, length, slice_get}
 use Rattle.bus_adoptcommit.specs.ThreeWord.{Local, kind_at, op_of, fed_of}
 use Rattle.bus_adoptcommit.specs.ThreeWordKeeps.{three_word}
 use Rattle.bus_core.specs.Senders.{Sender}
@@ -12,7 +12,7 @@ use Rattle.bus_world.specs.declared.shapes.Shape.{Shape}
 use Rattle.bus_pageslot.specs.declared.rule.View.{View}
 use Rattle.bus_pageslot.specs.Endings.{IsLeft}
 use Rattle.bus_pageslot.specs.Outcomes.{Outcome}
-use Rattle.bus_automaton.specs.Buses.{process_with, automaton_with}
+use Rattle.bus_automaton.specs.Buses.{process_with, automaton_with, plan_again}
 use Rattle.bus_automaton.specs.Processes.{Process, Automaton}
 use Rattle.bus_automaton.specs.declared.plans.Plan.{Plan}
 use Rattle.bus_pageslot.specs.Rule.{receiver_view_in, known_in, with_receiver_view}
@@ -40,7 +40,7 @@ run_automaton plan = automaton_with (λ s. kind_at s.progress) (λ s word. op_of
 
 -- what the bus of a run is made by: its shape, and its rows of words are used again
 abbrev pub run_plan : Shape → Plan
-run_plan shape = record { shape = shape; reuse = Some shape.rows }
+run_plan shape = plan_again shape None
 
 -- such a bus is served; and why none is made
 abbrev pub RunServes : Shape → Type 0

@@ -12,6 +12,8 @@ make_text make.Receivers = codes "shape refused"
 make_text make.Rounds = codes "shape refused"
 make_text make.Rows = codes "shape refused"
 make_text make.LogWords = codes "shape refused"
+make_text make.NotEnded = codes "shape refused"
+make_text make.Numbers = codes "shape refused"
 make_text make.NoMemory = codes "no memory"
 
 -- what is wrong where a command could not do its work

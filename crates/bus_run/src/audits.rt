@@ -39,7 +39,7 @@ pub fn audit(ended: &Ended, heards: &[Heard]) -> Result<(), AuditFault>
     Ok(())
 }
 
-/// The lowest sender below 8 whose items the listener did not count.
+/// The lowest sender below `MOST_SENDERS` whose items the listener did not count.
 fn first_miscount(ended: &Ended, heard: &Heard) -> Option<u64>
     ensures none { result ≡ None
         → OfOrder ended.now (λ order. CountsBelow MOST_SENDERS order heard.now) }

@@ -52,7 +52,7 @@ pub fn run<R: Threads + Wait + Sync, G: Gate + Sync>(
         rows: ROWS,
         log_words: MOST_LOG_WORDS,
     };
-    let made = Bus::cyclic(alloc, shape)?;
+    let made = Bus::cyclic(alloc, shape, None)?;
     run_on::<Brand, R, G>(rt, alloc, made, shape, Load { messages, seed }, gate)
 }
 

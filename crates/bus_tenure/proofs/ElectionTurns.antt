@@ -1,5 +1,5 @@
 -- What an election's sender is after a step of it, from what its calls gave.
-use Rattle.std.proofs.Common.{◌≡◌, ℕ, ◌+◌, ◌==◌, false, cond, Option, Some, None, is_some, refl, sym, ◌∙◌, ap, subst}
+use Rattle.std.proofs.Common.{◌≡◌, ℕ, ◌+◌, ◌==◌, false, cond, Option, Some, None, is_some, sym, ◌∙◌, ap, subst}
 use Rattle.std.proofs.lemmas.Option.{same_Some}
 use Rattle.bus_register.specs.declared.registers.SenderNo.{SenderNo}
 use Rattle.bus_batch.specs.Batches.{Pending}
@@ -22,10 +22,6 @@ no_owner (Some k) y e same me o f = absurd cc
 -- the owner is the sender itself
 pub own_owner : (x y : Option ℕ) (v : SenderNo) → sender x ≡ Some v → x ≡ y → (me : ℕ) → v.0 ≡ me → (o : ℕ) → y ≡ Some o → o ≡ me
 own_owner x y v e same me own o f = let g : Some o ≡ Some v.0 = sym f ∙ sym same ∙ sender_some x v e in same_Some _ _ g ∙ own
-
-pub sender_tells : (x : Option ℕ) → is_some (sender x) ≡ is_some x
-sender_tells None = refl
-sender_tells (Some k) = refl
 
 module _ {E : Type 0} (X : Election E) (c s : Core E) (same : c ≡ s) (t : ℕ) (e : E) (at : c.phase ≡ Electing t e) (unowned : is_some (X.owner e) ≡ false) where
   here : situation_of X c ≡ Elects t e

@@ -1,6 +1,5 @@
 -- The law of the elections that a sender takes part in, over any ratifier.
-use Rattle.std.proofs.Common.{◌≡◌, ℕ, ◌+◌, ◌*◌, ◌-◌, ◌<◌, ◌≤◌, Bool, true, false, Option, Some, None, IsSome, IfSome, refl, sym, ◌∙◌, subst, arith}
-use Rattle.bus_register.specs.Words.{register}
+use Rattle.std.proofs.Common.{◌≡◌, ℕ, ◌+◌, ◌*◌, ◌-◌, ◌<◌, ◌≤◌, Bool, true, false, Option, Some, None, IsSome, refl, sym, ◌∙◌, arith}
 use Rattle.bus_register.specs.declared.registers.Op.{Op}
 use Rattle.bus_register.specs.Protocol.{Protocol, Laws}
 use Rattle.bus_adoptcommit.specs.Agreement.{Legal}
@@ -15,23 +14,13 @@ use Rattle.bus_coinconc.specs.ConciliatorProtocol.{conciliator_protocol}
 use Rattle.bus_ownerbits.specs.Election.{election_op, election_fed}
 use Rattle.bus_ownerbits.specs.OneOwner.{OneOwner}
 use Rattle.bus_ownerbits.proofs.ElectionIsLawful.{election_laws}
-use Rattle.bus_ownerbits.proofs.ElectionSteps.{row_within, turns_after}
+use Rattle.bus_ownerbits.proofs.ElectionSteps.{turns_after}
 use Rattle.bus_ownerbits.specs.Sizes.{decision_cost}
-use Rattle.bus_tenure.specs.declared.phases.Phase.TheVariants.{Electing}
-use Rattle.bus_tenure.specs.Core.{Core, row_at, words_of}
 use Rattle.bus_tenure.specs.Elections.{Elector, ElectorKeeps, elections}
-use Rattle.bus_tenure.specs.Keeping.{SenderInvariant, PhaseKeeps, IsElecting}
 
 some_of : (x : Option Op) → IsSome x → (o : Op) × (x ≡ Some o)
 some_of None h = absurd (let q : false ≡ true = h in cc)
 some_of (Some o) h = (o, refl)
-
-for_some : (x y : Option Op) (most : ℕ) → x ≡ y → ((o : Op) → y ≡ Some o → register o < most) → IfSome x (λ o. register o < most)
-for_some None y most e f = tt
-for_some (Some o) y most e f = f o (sym e)
-
-row_place : (r t rows w width capacity : ℕ) → r < 2 + t * w + width → w ≡ width → t < rows → r < 2 + rows * w + capacity
-row_place r t rows w width capacity h e below = let m = row_within t rows w below in omega arith
 
 module _ {S : Type 0} (op : S → ℕ → Option Op) (fed : S → ℕ → ℕ → S) (P : Protocol S Bool Verdict) (laws : Laws op fed P Legal) (wordless : (s : S) → P.wants_word s ≡ false) where
   law : DecideLaw op fed P conciliator_op conciliator_fed conciliator_protocol
@@ -52,15 +41,6 @@ module _ {S : Type 0} (op : S → ℕ → Option Op) (fed : S → ℕ → ℕ �
       let o = some_of (election_op (decide_op op conciliator_op) e word) h in
       let goes = (elections_law rounds).goes n me at e got word o.0 b.belongs o.1 in
       record { belongs = goes.belongs; unbegun = λ f. absurd (let g = sym goes.begun ∙ f in cc g); unlost = unlost }
-
-  -- its words are words of the bus
-  pub place_below : (rounds n me : ℕ) (c s : Core (Elector S)) → c ≡ s → SenderInvariant ((elections P rounds).width n) (ElectorKeeps P rounds n me) c → (t : ℕ) (e : Elector S) → c.phase ≡ Electing t e → (word : ℕ) (x : Option Op) → x ≡ election_op (decide_op op conciliator_op) e word → IfSome x (λ o. register o < words_of s.layout)
-  place_below rounds n me c s same k t e at word x told =
-      let h : IsElecting (ElectorKeeps P rounds n me) c t e = subst (PhaseKeeps (ElectorKeeps P rounds n me) c) at k.phase in
-      subst (λ z. IfSome x (λ o. register o < words_of z.layout)) same
-      (for_some x (election_op (decide_op op conciliator_op) e word) (words_of c.layout) told (λ o q.
-      let goes = (elections_law rounds).goes n me (row_at c.layout t) e 0 word o h.belongs.belongs q in
-      row_place (register o) t c.layout.rows c.layout.width ((elections P rounds).width n) c.layout.capacity goes.below k.sizes.width_is h.in_tenure.below))
 
   -- a step takes one turn
   pub turns_fall : (e : Elector S) (got word : ℕ) → (election_fed (decide_protocol P conciliator_protocol) (decide_fed P conciliator_protocol fed conciliator_fed) e got word).turns ≡ e.turns - 1

@@ -24,7 +24,7 @@ pub mod turning;
 pub mod turns;
 
 pub use doings::Doing;
-pub use pages::Page;
+pub use pages::{OwnedPage, Page};
 pub use phases::{Phase, Reason};
 pub use turning::Turns;
 pub use turns::Turn;

@@ -1,6 +1,11 @@
 //! What the holder of the lock guards.
 
+ghost use Rattle.std.specs.Prelude.{◌≡◌, ◌<◌, IfOk, slice_set};
+
 use bus_register::limits::MOST_SENDERS;
+use bus_register::{NoMemory, SenderNo};
+use std::alloc::Global;
+use std::marker::Model;
 
 /// The page: what the next owner has to know of the bus. It is at home, or with one sender.
 #[derive(Clone, Copy, Debug, PartialEq, Eq)]
@@ -13,4 +18,57 @@ pub struct Page {
     pub tenures: u64,
     /// How many words of the log stand below the length.
     pub words: u64,
+}
+
+/// The page as it is passed on: on the heap, so that passing it moves one pointer.
+#[derive(Drop)]
+pub struct OwnedPage {
+    page: Box<Page>,
+}
+
+impl Model for OwnedPage {
+    ghost use Rattle.bus_tenure.specs.declared.pages.Page.{Page};
+
+    ghost Value = { Page };
+
+    ghost view = { λ p. p.page.value };
+}
+
+impl OwnedPage {
+    /// Puts this page on the heap. Memory is its only refusal.
+    pub fn new(alloc: Global, page: Page) -> Result<OwnedPage, NoMemory>
+        ensures { IfOk result (λ p. p ≡ page) }
+    {
+        let page = Box::new(alloc, page)?;
+        Ok(OwnedPage { page })
+    }
+
+    /// The page itself.
+    pub fn get(&self) -> &Page
+        ensures { result.now ≡ self.now }
+    {
+        &self.page
+    }
+
+    /// So many tenures have ended.
+    pub(crate) fn end_tenure(&mut self, tenures: u64)
+        ensures { self.new ≡ record self.old { tenures = tenures } }
+    {
+        self.page.tenures = tenures;
+    }
+
+    /// A frame of this sender stands in the log, and `number` is that of its next message.
+    pub(crate) fn take_frame(&mut self, sender: SenderNo, number: u64, ended: bool, words: u64)
+        requires { sender.0 < MOST_SENDERS }
+        ensures { self.new ≡ record self.old {
+          next = slice_set self.old.next sender.0 number;
+          ended = ended;
+          words = words;
+        } }
+    {
+        let page = &mut *self.page;
+        page.next[usize::from(sender.0)] = number;
+        page.ended = ended;
+        page.words = words;
+    }
 }

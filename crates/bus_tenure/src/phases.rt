@@ -1,6 +1,6 @@
 //! How far a sender has come with a tenure.
 
-use super::pages::Page;
+use super::pages::OwnedPage;
 
 /// Why a holder gives the page back.
 #[derive(Clone, Copy, Debug, PartialEq, Eq)]
@@ -30,7 +30,7 @@ pub enum Phase<E> {
     /// The page lies before it. So many words of its frame are stored, and the length is or is not.
     Holding {
         tenure: u64,
-        page: Page,
+        page: OwnedPage,
         stored: u64,
         published: bool,
     },

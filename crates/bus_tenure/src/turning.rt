@@ -19,12 +19,13 @@ ghost use Rattle.bus_tenure.specs.Situations.{holding, situation_of, kind_at, op
 ghost use Rattle.bus_tenure.specs.Situations.{core_after_stage, tenure_begun, fed_at};
 ghost use Rattle.bus_tenure.specs.Situations.{answer_of_stage, answer_of_return, answer_at};
 ghost use Rattle.bus_tenure.specs.Situations.{wants_at};
+ghost use Rattle.bus_tenure.specs.declared.pages.Page.{Page};
 ghost use Rattle.bus_tenure.specs.declared.phases.Phase.TheVariants as phase;
 ghost use Rattle.bus_tenure.specs.Doings.{doing_of, Ends, IsWord};
 ghost use Rattle.bus_tenure.specs.declared.doings.Doing.TheVariants as doing;
 
 use super::doings::Doing;
-use super::pages::Page;
+use super::pages::{OwnedPage, Page};
 use super::phases::{Phase, Reason};
 use super::turns::Turn;
 use bus_adoptcommit::Ratifier;
@@ -33,6 +34,7 @@ use bus_ownerbits::Election;
 use bus_register::limits::{MOST_BODY_WORDS, MOST_ROUNDS, MOST_SENDERS, NUMBERS, TENURES};
 use bus_register::{Kind, Machine, Op, Reg, SenderNo};
 use std::marker::Model;
+use std::mem;
 
 /// The sizes of a bus, with how many words each row has.
 #[derive(Clone, Copy)]
@@ -98,8 +100,15 @@ impl<Q: Ratifier> Model for Turns<Q> {
 
 impl<Q: Ratifier + Drop> Turns<Q> {
     /// Sender `me` of so many, with nothing pending, of a bus of so many rounds for each bit, rows
-    /// and log words.
-    pub fn new(senders: u64, me: SenderNo, rounds: u64, rows: u64, log_words: u64) -> Turns<Q>
+    /// and log words. Its first message gets the number `first`.
+    pub fn new(
+        senders: u64,
+        me: SenderNo,
+        rounds: u64,
+        rows: u64,
+        log_words: u64,
+        first: u64,
+    ) -> Turns<Q>
         requires me_below { me.0 < senders }
         requires few { senders ≤ MOST_SENDERS }
         requires rounds_some { 1 ≤ rounds }
@@ -107,12 +116,13 @@ impl<Q: Ratifier + Drop> Turns<Q> {
         requires rows_few { rows ≤ TENURES }
         requires log_few { log_words ≤ 2 ^ 20 }
         requires room { words_of (layout_with Q.protocol senders rounds rows log_words) ≤ 2 ^ 63 }
+        requires numbers { first ≤ NUMBERS }
         ensures { result ≡ record {
           layout = layout_with Q.protocol senders rounds rows log_words;
           me = me.0;
           queue = record {
             sender = me;
-            first = 0;
+            first = first;
             messages = [];
             phase = queue_phase.Open;
             busy = false;
@@ -130,7 +140,7 @@ impl<Q: Ratifier + Drop> Turns<Q> {
                 capacity: log_words,
             },
             me,
-            batch: Batch::new(me, 0),
+            batch: Batch::new(me, first),
             least: 0,
             phase: Phase::Resting,
         }
@@ -322,7 +332,7 @@ impl<Q: Ratifier + Drop> Turns<Q> {
                 page,
                 stored,
                 published,
-            } => self.hold(*tenure, page, *stored, *published),
+            } => self.hold(*tenure, page.get(), *stored, *published),
             Phase::Giving { tenure, reason } => Doing::Handed {
                 tenure: *tenure,
                 reason: *reason,
@@ -346,7 +356,7 @@ impl<Q: Ratifier + Drop> Turns<Q> {
         else {
             return false;
         };
-        match self.hold(*tenure, page, *stored, *published) {
+        match self.hold(*tenure, page.get(), *stored, *published) {
             Doing::Word {
                 tenure,
                 words,
@@ -492,6 +502,10 @@ impl<Q: Ratifier + Drop> Turns<Q> {
         let sizes = self.sizes;
         let row = Reg(2 + tenure * sizes.width);
         self.batch.begin();
+        // With the phase that it leaves no page is to be freed.
+        let Phase::Resting = &self.phase else {
+            unreachable!()
+        };
         self.phase = Phase::Electing {
             tenure,
             election: Election::start(sizes.senders, self.me, sizes.rounds, row),
@@ -640,7 +654,7 @@ impl<Q: Ratifier + Drop> Turns<Q> {
     }
 
     /// Lays the page before it, which it has taken.
-    pub fn lay(&mut self, page: Page)
+    pub fn lay(&mut self, page: OwnedPage)
         requires { AwaitsItsPage self.old.phase }
         ensures { (t : ℕ) → self.old.phase ≡ phase.Taken t
             → self.new ≡ record self.old { phase = phase.Holding t page 0 false } }
@@ -655,32 +669,27 @@ impl<Q: Ratifier + Drop> Turns<Q> {
         }
     }
 
-    /// The page as the next owner is to have it. After a frame the sender's number, the end mark
-    /// and the words are brought up to date.
-    fn page_handed(&self, tenure: u64, page: &Page, reason: Reason) -> Page
+    /// Brings the page up to date for the next owner: the tenures, and after a frame the sender's
+    /// number, the end mark and the words.
+    fn update(&self, tenure: u64, page: &mut OwnedPage, reason: Reason)
         requires below { tenure < 2 ^ 63 }
-        requires room { reason ≡ Reason.Sent → page.now.words + frame_len self.now < 2 ^ 64 }
+        requires room { reason ≡ Reason.Sent → page.old.words + frame_len self.now < 2 ^ 64 }
         requires something { HasSomething self.now.queue }
-        ensures { result ≡ page_after self.now tenure page.now reason }
+        ensures { page.new ≡ page_after self.now tenure page.old reason }
     {
         let tenures = tenure + 1;
+        page.end_tenure(tenures);
         match reason {
             Reason::Sent => {
-                let mut next = page.next;
-                next[usize::from(self.me.0)] = self.next_number();
-                Page {
-                    next,
-                    ended: self.is_closing(),
-                    tenures,
-                    words: page.words + self.frame_len(),
-                }
+                let words = page.get().words + self.frame_len();
+                page.take_frame(self.me, self.next_number(), self.is_closing(), words);
             }
-            Reason::FoundEnd | Reason::NoRoom => Page { tenures, ..*page },
+            Reason::FoundEnd | Reason::NoRoom => {}
         }
     }
 
-    /// Takes the page from it, to be given back.
-    pub fn hand(&mut self, tenure: u64, reason: Reason) -> Page
+    /// Takes the page from it, brought up to date, to be given back.
+    pub fn hand(&mut self, tenure: u64, reason: Reason) -> OwnedPage
         requires { let X = election_of Q.Ratifier in
             doing_of (situation_of X self.old) ≡ doing.Back tenure reason }
         ensures page { let X = election_of Q.Ratifier in
@@ -688,12 +697,12 @@ impl<Q: Ratifier + Drop> Turns<Q> {
             → result ≡ page_after self.old tenure page reason }
         ensures state { self.new ≡ record self.old { phase = phase.Giving tenure reason } }
     {
-        let Phase::Holding { page, .. } = &self.phase else {
+        let held = mem::replace(&mut self.phase, Phase::Giving { tenure, reason });
+        let Phase::Holding { mut page, .. } = held else {
             unreachable!()
         };
-        let handed = self.page_handed(tenure, page, reason);
-        self.phase = Phase::Giving { tenure, reason };
-        handed
+        self.update(tenure, &mut page, reason);
+        page
     }
 
     /// Where the log begins with a row for each tenure.

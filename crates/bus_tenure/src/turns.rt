@@ -6,7 +6,8 @@ ghost use Rattle.bus_tenure.specs.Text.{turn_text};
 use bus_register::SenderNo;
 use std::fmt;
 
-/// The answer to one turn of a sender. Tenures and message numbers count from 0.
+/// The answer to one turn of a sender. Tenures count from 0, and message numbers from that with
+/// which its sitting began.
 ///
 /// It is written in the words of `replay`, as `lost 2 0` or `delivered 1 0 3`.
 #[derive(Clone, Copy, Debug, PartialEq, Eq)]

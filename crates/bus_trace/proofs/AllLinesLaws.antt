@@ -6,6 +6,7 @@ use Rattle.std.proofs.lemmas.Bool.{false≢true}
 use Rattle.std.proofs.lemmas.List.Splits.{slice_split_at}
 use Rattle.std.proofs.lemmas.List.Elements.{All-nil, All-cons}
 use Rattle.std.proofs.lemmas.Option.{slice_get_within}
+use Rattle.bus_register.specs.declared.limits.TheConstants.{MOST_SENDERS, MOST_RECEIVERS}
 use Rattle.bus_register.specs.Protocol.{Protocol}
 use Rattle.bus_adoptcommit.specs.declared.verdicts.Verdict.{Verdict}
 use Rattle.bus_batch.specs.declared.batches.CloseFault.{CloseFault}
@@ -76,6 +77,8 @@ plain_make make.Receivers = plain_by (codes "Receivers") refl
 plain_make make.Rounds = plain_by (codes "Rounds") refl
 plain_make make.Rows = plain_by (codes "Rows") refl
 plain_make make.LogWords = plain_by (codes "LogWords") refl
+plain_make make.NotEnded = plain_by (codes "NotEnded") refl
+plain_make make.Numbers = plain_by (codes "Numbers") refl
 plain_make make.NoMemory = plain_by (codes "NoMemory") refl
 
 -- ---- lines behind the header
@@ -122,19 +125,19 @@ all_lines rest h =
 -- ---- who is asked is there
 module _ {E : Type 0} (X : Election E) where
   abbrev HasFew : Machine E → Type 0
-  HasFew m = (length m.senders ≤ 8) × (length m.receivers ≤ 8)
+  HasFew m = (length m.senders ≤ MOST_SENDERS) × (length m.receivers ≤ MOST_RECEIVERS)
 
-  few_set : {A : Type 0} (xs : List A) (i : ℕ) (x : A) → length xs ≤ 8 → length (slice_set xs i x) ≤ 8
-  few_set xs i x few = subst (λ n. n ≤ 8) (sym (length-set xs i x)) few
+  few_set : {A : Type 0} (most : ℕ) (xs : List A) (i : ℕ) (x : A) → length xs ≤ most → length (slice_set xs i x) ≤ most
+  few_set most xs i x few = subst (λ n. n ≤ most) (sym (length-set xs i x)) few
 
   few_kept : (m : Machine E) (e : Event) (a : Answer) (new : Machine E) → HasFew m → Happens X m e a new → HasFew new
-  few_kept m (Put s bytes) a new few h = subst HasFew (sym h.after) (few_set m.senders s _ few.0, few.1)
-  few_kept m (Close s) a new few h = subst HasFew (sym h.after) (few_set m.senders s _ few.0, few.1)
-  few_kept m (Turn s word) a new few h = subst HasFew (sym h.after) (few_set m.senders s _ few.0, few.1)
-  few_kept m (Recv r) a new few h = subst HasFew (sym h.after) (few.0, few_set m.receivers r _ few.1)
+  few_kept m (Put s bytes) a new few h = subst HasFew (sym h.after) (few_set MOST_SENDERS m.senders s _ few.0, few.1)
+  few_kept m (Close s) a new few h = subst HasFew (sym h.after) (few_set MOST_SENDERS m.senders s _ few.0, few.1)
+  few_kept m (Turn s word) a new few h = subst HasFew (sym h.after) (few_set MOST_SENDERS m.senders s _ few.0, few.1)
+  few_kept m (Recv r) a new few h = subst HasFew (sym h.after) (few.0, few_set MOST_RECEIVERS m.receivers r _ few.1)
   few_kept m (Stop s) a new few h = subst HasFew (sym h.after) few
 
-  sender_few : (m : Machine E) (s : ℕ) (v : Sender E) → HasFew m → going m s ≡ Some v → s < 8
+  sender_few : (m : Machine E) (s : ℕ) (v : Sender E) → HasFew m → going m s ≡ Some v → s < MOST_SENDERS
   sender_few m s v few goes = let lt = slice_get_within m.senders s v (there (has_stopped m s) (slice_get m.senders s) v goes) in omega
       (arith, lt, few.0)
 

@@ -3,6 +3,7 @@ use Rattle.std.proofs.Common.{◌≡◌, ℕ, ◌+◌, ◌-◌, ◌/◌, ◌%◌
 use Rattle.std.proofs.lemmas.List.Elements.{All-nil}
 use Rattle.bus_register.specs.declared.kinds.Kind.{Kind}
 use Rattle.bus_register.specs.declared.kinds.Kind.TheVariants as kind
+use Rattle.bus_register.specs.declared.limits.TheConstants.{MOST_SENDERS, MOST_RECEIVERS}
 use Rattle.bus_register.specs.declared.registers.Op.{Op}
 use Rattle.bus_register.specs.Names.{kind_name}
 use Rattle.bus_register.specs.Words.{register, after}
@@ -220,18 +221,18 @@ of_sender p X words (Some v) word = of_due p words (line_now X v).tenure (line_n
 a_stop : IsMiddle (no_step (codes "stop"))
 a_stop = without_step (codes "stop") family.Call refl (plain_by (codes "stop") refl)
 
--- ---- who is asked, where the number is below 8
+-- ---- who is asked, where a bus can have it
 abbrev pub AsksFew : Event → Type 0
-AsksFew (Put s bytes) = s < 8
-AsksFew (Close s) = s < 8
-AsksFew (Turn s word) = s < 8
-AsksFew (Recv r) = r < 8
-AsksFew (Stop s) = s < 8
+AsksFew (Put s bytes) = s < MOST_SENDERS
+AsksFew (Close s) = s < MOST_SENDERS
+AsksFew (Turn s word) = s < MOST_SENDERS
+AsksFew (Recv r) = r < MOST_RECEIVERS
+AsksFew (Stop s) = s < MOST_SENDERS
 
-a_sender : (s : ℕ) → s < 8 → IsWho (codes "sender" ++ behind s)
+a_sender : (s : ℕ) → s < MOST_SENDERS → IsWho (codes "sender" ++ behind s)
 a_sender s few = record { process = Sender s; known = sender_known s few; plain = numbered_word (codes "sender") s (plain_by (codes "sender") refl) }
 
-a_receiver : (r : ℕ) → r < 8 → IsWho (codes "receiver" ++ behind r)
+a_receiver : (r : ℕ) → r < MOST_RECEIVERS → IsWho (codes "receiver" ++ behind r)
 a_receiver r few = record { process = Receiver r; known = receiver_known r few; plain = numbered_word (codes "receiver") r (plain_by (codes "receiver") refl) }
 
 -- ---- lines

@@ -7,6 +7,7 @@ use Rattle.bus_tenure.specs.Core.{Election}
 use Rattle.bus_tenure.specs.Elections.{Elector}
 use Rattle.bus_world.specs.declared.events.StepFault.{StepFault}
 use Rattle.bus_machine.specs.Machine.{Machine}
+use Rattle.bus_world.specs.World.{no_bases}
 use Rattle.bus_machine.specs.Playing.{IsMade, Refused as RefusedBy}
 use Rattle.bus_script.specs.declared.answers.Outcome.{Outcome}
 use Rattle.bus_script.specs.declared.answers.Outcome.TheVariants as outcome
@@ -181,6 +182,6 @@ module _ {S : Type 0} (X : Election (Elector S)) (P : Protocol S Bool Verdict) (
 -- a new bus was made
 pub begun : {S : Type 0} (X : Election (Elector S)) (P : Protocol S Bool Verdict) (p : TraceSizes) (line : ℕ) (first : FirstLine)
     (lines : List (ℕ × List ℕ)) (b : Machine (Elector S)) (o : Outcome) (whole : List ℕ)
-    → IsMade X P (shape_in first) (reuse_in first) b → p ≡ sizes_of P (shape_in first) (reuse_in first) → ArePrinted X P p b lines o whole
+    → IsMade X P (shape_in first) (reuse_in first) no_bases b → p ≡ sizes_of P (shape_in first) (reuse_in first) → ArePrinted X P p b lines o whole
     → Begins X P line (Some first) lines o whole
 begun X P p line first lines b o whole made sizes rows = inr (b, made, subst (λ q. ArePrinted X P q b lines o whole) sizes rows)

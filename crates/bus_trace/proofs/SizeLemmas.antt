@@ -1,6 +1,7 @@
 -- How many words a bus has such as the first line of a script asks for.
 use Rattle.std.proofs.Common.{◌≡◌, ℕ, ◌+◌, ◌*◌, ◌-◌, ◌≤◌, None, Some, subst, arith}
 use Rattle.std.proofs.Math.Nat.{mul-le-mul}
+use Rattle.bus_register.specs.declared.limits.TheConstants.{MOST_SENDERS}
 use Rattle.bus_core.proofs.Reusing.Widths.{few_words}
 use Rattle.bus_machine.specs.Playing.{IsServed}
 use Rattle.bus_ownerbits.specs.Sizes.{bits_of}
@@ -10,10 +11,10 @@ use Rattle.bus_replay.specs.Lines.{shape_in, reuse_in}
 use Rattle.bus_world.specs.declared.shapes.Shape.{Shape}
 
 pub record AreFew (shape : Shape) (presences : ℕ) : Type 0 where
-  pub senders : shape.senders ≤ 8
+  pub senders : shape.senders ≤ MOST_SENDERS
   pub rounds : shape.rounds ≤ 8
   pub rows : shape.rows ≤ 256
-  pub presences_few : presences ≤ 8
+  pub presences_few : presences ≤ MOST_SENDERS
 
 pub few_apart : (first : FirstLine) (shape : Shape) → first ≡ Shaped shape → IsServed (shape_in first) (reuse_in first) → AreFew shape 0
 few_apart first shape is served =

@@ -11,6 +11,7 @@ use Rattle.bus_world.specs.declared.events.Answer.{Answer}
 use Rattle.bus_world.specs.declared.shapes.MakeFault.{MakeFault}
 use Rattle.bus_world.specs.declared.shapes.MakeFault.TheVariants as make
 use Rattle.bus_machine.specs.Machine.{Machine}
+use Rattle.bus_world.specs.World.{no_bases}
 use Rattle.bus_machine.specs.Playing.{IsMade, MakeRefused}
 use Rattle.bus_script.specs.declared.line_numbers.LineNumber.TheVariants.{AtLine, AtEnd}
 use Rattle.bus_script.specs.declared.answers.Outcome.{Outcome}
@@ -82,7 +83,7 @@ module _ {S : Type 0} (X : Election (Elector S)) (P : Protocol S Bool Verdict) w
   Begins line (Some first) lines outcome whole =
       ((why : MakeFault) × MakeRefused (shape_in first) (reuse_in first) why × (why ≢ make.NoMemory)
       × IsRefused (refusal_line (AtLine line) (make_fault_name why)) outcome whole)
-      ⊎ ((m : Machine (Elector S)) × IsMade X P (shape_in first) (reuse_in first) m
+      ⊎ ((m : Machine (Elector S)) × IsMade X P (shape_in first) (reuse_in first) no_bases m
       × ArePrinted (sizes_of P (shape_in first) (reuse_in first)) m lines outcome whole)
 
   abbrev pub Traces : List (ℕ × List ℕ) → Outcome → List ℕ → Type 0

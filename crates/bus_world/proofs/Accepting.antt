@@ -1,5 +1,5 @@
 -- What a sender accepts between its turns keeps what senders, words, page and owners keep: said of words and senders by number.
-use Rattle.std.proofs.Common.{◌≡◌, ℕ, suc, ◌<◌, ◌≤◌, ◌^◌, Bool, true, false, cond, ◌&&◌, ◌==◌, nat_lt, nat_le, Option, Some, inl, inr, List, [], ◌∷◌, ◌++◌, length, filter, map, flat_map, arith, refl, sym, ◌∙◌, ap, subst}
+use Rattle.std.proofs.Common.{◌+◌, ◌*◌, ◌≡◌, ℕ, suc, ◌<◌, ◌≤◌, ◌^◌, Bool, true, false, cond, ◌&&◌, ◌==◌, nat_lt, nat_le, Option, Some, inl, inr, List, [], ◌∷◌, ◌++◌, length, filter, arith, refl, sym, ◌∙◌, ap, subst}
 use mathlib.Core.Path.{fun_ext}
 use Rattle.std.specs.Prelude.{All}
 use Rattle.std.proofs.lemmas.Bool.{and_parts, cases_eq, leb-true, ltb-true, true≢false}
@@ -12,9 +12,9 @@ use Rattle.bus_register.specs.Proved.TableLaws.{put_here, put_beside}
 use Rattle.bus_batch.specs.declared.batches.Phase.{Phase}
 use Rattle.bus_batch.specs.declared.batches.Phase.TheVariants.{Open, Closing, Closed}
 use Rattle.bus_batch.specs.declared.messages.Item.{Item}
-use Rattle.bus_batch.specs.Messages.{IsMessage, Numbered}
+use Rattle.bus_batch.specs.Messages.{IsMessage}
 use Rattle.bus_batch.specs.Batches.{Pending, IsKept, next_of, frame_of}
-use Rattle.bus_batch.specs.Frames.{Frame, Body, Messages, EndMark, order_of, items_of, body_items, item_of, log_words, frame_words, body_words, message_words}
+use Rattle.bus_batch.specs.Frames.{AreFrames, Frame, order_of, log_words, frame_words}
 use Rattle.bus_tenure.specs.Core.{Core, Election, Layout, log_at, is_empty}
 use Rattle.bus_tenure.specs.declared.pages.Page.{Page}
 use Rattle.bus_tenure.specs.declared.phases.Phase.{Phase as SenderPhase}
@@ -24,6 +24,8 @@ use Rattle.bus_world.specs.Log.{sent_count}
 use Rattle.bus_world.proofs.LogLaws.{length-read, log_words-append}
 use Rattle.bus_world.specs.Bus.{IsLayout, Part, Fits, Sending}
 use Rattle.bus_world.proofs.BusLaws as bus
+use Rattle.bus_world.proofs.Framing.{front_lawful}
+use Rattle.bus_world.proofs.Bounds.{items_few}
 use Rattle.bus_world.specs.World.{is_open, can_put, can_close, put_in, close_in}
 
 -- ---- what a sender accepts
@@ -45,7 +47,7 @@ AreAccepted [] = Unit {0}
 AreAccepted (Puts bytes ∷ more) = All (λ byte. byte < 256) bytes × AreAccepted more
 AreAccepted (Closes ∷ more) = AreAccepted more
 
--- ---- each item has a word
+-- ---- fewer items than words
 shorter : {A : Type 0} (b : Bool) (x : A) (ys : List A) (n : ℕ) → length ys ≤ n → length (cond b (x ∷ ys) ys) ≤ suc n
 shorter true x ys n l = omega arith
 shorter false x ys n l = omega arith
@@ -54,21 +56,8 @@ filter_short : (p : Item → Bool) (xs : List Item) → length (filter p xs) ≤
 filter_short p [] = omega arith
 filter_short p (x ∷ xs) = shorter (p x) x (filter p xs) (length xs) (filter_short p xs)
 
-items_short : (owner : SenderNo) (ms : List Numbered) → length (map (item_of owner) ms) ≤ length (flat_map message_words ms)
-items_short owner [] = omega arith
-items_short owner (m ∷ ms) = let a = length-append (message_words m) (flat_map message_words ms) in let b = items_short owner ms in omega arith
-
-body_short : (owner : SenderNo) (b : Body) → length (body_items owner b) ≤ length (body_words b)
-body_short owner (Messages ms) = items_short owner ms
-body_short owner EndMark = omega arith
-
-order_short : (frames : List Frame) → length (order_of frames).items ≤ length (log_words frames)
-order_short [] = omega arith
-order_short (f ∷ frames) =
-    let a = length-append (items_of f) (order_of frames).items in let b = length-append (frame_words f) (log_words frames) in let d = body_short f.owner f.body in let e = order_short frames in omega arith
-
-sent_short : (s : ℕ) (frames : List Frame) → sent_count s frames ≤ length (log_words frames)
-sent_short s frames = let a = filter_short (λ i. i.sender.0 == s) (order_of frames).items in let b = order_short frames in omega arith
+pub sent_short : (senders s : ℕ) (frames : List Frame) → AreFrames senders frames → 17 * sent_count s frames ≤ 16 * length (log_words frames)
+sent_short senders s frames lawful = let a = filter_short (λ i. i.sender.0 == s) (order_of frames).items in let b = items_few senders frames lawful in omega arith
 
 -- ---- tests
 pub open_is : (ph : Phase) → is_open ph ≡ true → ph ≡ Open
@@ -85,41 +74,41 @@ empty_is [] e = refl
 empty_is (x ∷ xs) e = absurd (true≢false (sym e))
 
 -- a batch that is not on its way is that of a sender that has begun no tenure
-pub idle_rests : {E : Type 0} (words : ℕ → ℕ) (frames : List Frame) (c : Core E) (ph : SenderPhase E) → Fits words frames c ph → c.queue.busy ≡ false → ph ≡ phase.Resting
-idle_rests words frames c phase.Resting f e = refl
-idle_rests words frames c (phase.Electing t u) f e = absurd (true≢false (sym f.0.busy ∙ e))
-idle_rests words frames c (phase.Taken t) f e = absurd f
-idle_rests words frames c (phase.Holding t page stored true) f e = absurd (true≢false (sym f.0.busy ∙ e))
-idle_rests words frames c (phase.Holding t page stored false) f e = absurd (true≢false (sym f.0.busy ∙ e))
-idle_rests words frames c (phase.Giving t reason) f e = absurd f
+pub idle_rests : (base : ℕ → ℕ) {E : Type 0} (words : ℕ → ℕ) (frames : List Frame) (c : Core E) (ph : SenderPhase E) → Fits base words frames c ph → c.queue.busy ≡ false → ph ≡ phase.Resting
+idle_rests base words frames c phase.Resting f e = refl
+idle_rests base words frames c (phase.Electing t u) f e = absurd (true≢false (sym f.0.busy ∙ e))
+idle_rests base words frames c (phase.Taken t) f e = absurd f
+idle_rests base words frames c (phase.Holding t page stored true) f e = absurd (true≢false (sym f.0.busy ∙ e))
+idle_rests base words frames c (phase.Holding t page stored false) f e = absurd (true≢false (sym f.0.busy ∙ e))
+idle_rests base words frames c (phase.Giving t reason) f e = absurd f
 
 module _ {E : Type 0} (X : Election E) (P : Protocol E (Unit {0}) ℕ) (laws : Laws X.op X.fed P OneOwner) (x : Layout) (ok : IsLayout x) (width : x.width ≡ P.width x.senders)
-    (words : ℕ → ℕ) (home : Option Page) (owners : List ℕ) (frames : List Frame) (p : ℕ) where
-  module _ (senders : ℕ → Option (Core E)) (h : Sending P x words home senders owners frames) (c : Core E) (old : senders p ≡ Some c) where
-    own : Part x words frames p c
+    {base : ℕ → ℕ} (words : ℕ → ℕ) (home : Option Page) (owners : List ℕ) (frames : List Frame) (p : ℕ) where
+  module _ (senders : ℕ → Option (Core E)) (h : Sending base P x words home senders owners frames) (c : Core E) (old : senders p ≡ Some c) where
+    own : Part base x words frames p c
     own = h.parts p c old
 
     -- its numbers stay far below their range
-    first_below : (ph : SenderPhase E) → Fits words frames c ph → c.queue.first ≤ length (log_words frames)
-    first_below phase.Resting f = let short = sent_short c.me frames in let base = f.1 in omega arith
-    first_below (phase.Electing t u) f = let short = sent_short c.me frames in let base = f.1 in omega arith
+    first_below : (ph : SenderPhase E) → Fits base words frames c ph → 17 * c.queue.first ≤ 17 * base c.me + 16 * length (log_words frames)
+    first_below phase.Resting f = let short = sent_short x.senders c.me frames h.log.lawful in let first = f.1 in omega arith
+    first_below (phase.Electing t u) f = let short = sent_short x.senders c.me frames h.log.lawful in let first = f.1 in omega arith
     first_below (phase.Taken t) f = absurd f
     first_below (phase.Holding t page stored true) f =
-        let written = f.1 in let short = sent_short c.me written.front in let base = written.base in
+        let written = f.1 in let short = sent_short x.senders c.me written.front (front_lawful x.senders 0 written.front (frame_of c.queue t) (subst (AreFrames x.senders) written.frames_are h.log.lawful)).0 in let first = written.first in
         let more = ap length (ap log_words written.frames_are ∙ log_words-append written.front (frame_of c.queue t)) ∙ length-append (log_words written.front) (frame_words (frame_of c.queue t)) in
         omega arith
-    first_below (phase.Holding t page stored false) f = let short = sent_short c.me frames in let base = f.1.base in omega arith
+    first_below (phase.Holding t page stored false) f = let short = sent_short x.senders c.me frames h.log.lawful in let first = f.1.first in omega arith
     first_below (phase.Giving t reason) f = absurd f
 
     pub numbers_fit : next_of c.queue < 2 ^ 48
     numbers_fit =
-        let few = own.queue.few in let first = first_below c.phase own.fits in let cap = ok.capacity in let within = h.log.fits in
+        let few = own.queue.few in let low = h.log.low c.me in let first = first_below c.phase own.fits in let cap = ok.capacity in let within = h.log.fits in
         let size : length (log_words frames) ≡ words 0 = sym (ap length h.log.words_are) ∙ length-read words (log_at x) (words 0) in
         omega arith
 
     module _ (senders' : ℕ → Option (Core E)) (beside : Beside p senders senders') where
-      unchanged : senders' p ≡ Some c → Sending P x words home senders' owners frames
-      unchanged new = subst (λ z. Sending P x words home z owners frames) (sym (fun_ext same)) h
+      unchanged : senders' p ≡ Some c → Sending base P x words home senders' owners frames
+      unchanged new = subst (λ z. Sending base P x words home z owners frames) (sym (fun_ext same)) h
         where
           same : (q : ℕ) → senders' q ≡ senders q
           same q = elim (cases_eq q p) [
@@ -127,10 +116,10 @@ module _ {E : Type 0} (X : Election E) (P : Protocol E (Unit {0}) ℕ) (laws : L
             | inr ne ↦ beside q ne
           ]
 
-      replaced : (q : Pending) → c.queue.busy ≡ false → q.busy ≡ false → q.sender ≡ c.queue.sender → q.first ≡ c.queue.first → IsKept q → senders' p ≡ Some (record c { queue = q }) → Sending P x words home senders' owners frames
+      replaced : (q : Pending) → c.queue.busy ≡ false → q.busy ≡ false → q.sender ≡ c.queue.sender → q.first ≡ c.queue.first → IsKept q → senders' p ≡ Some (record c { queue = q }) → Sending base P x words home senders' owners frames
       replaced q idle idle' sender first kept new =
-          let rests = idle_rests words frames c c.phase own.fits idle in
-          let fits = subst (Fits words frames c) rests own.fits in
+          let rests = idle_rests base words frames c c.phase own.fits idle in
+          let fits = subst (Fits base words frames c) rests own.fits in
           bus.spends X P laws x ok width words home senders owners frames h p c (record c { queue = q }) senders' old new beside rests rests (omega arith)
           record {
             layout = own.layout;
@@ -138,13 +127,13 @@ module _ {E : Type 0} (X : Election E) (P : Protocol E (Unit {0}) ℕ) (laws : L
             below = own.below;
             sender = ap (λ (z : SenderNo). z.0) sender ∙ own.sender;
             queue = kept;
-            fits = subst (Fits words frames (record c { queue = q })) (sym rests) (idle', first ∙ fits.1);
+            fits = subst (Fits base words frames (record c { queue = q })) (sym rests) (idle', first ∙ fits.1);
           }
 
-      put_kept : (bytes : List ℕ) → All (λ byte. byte < 256) bytes → senders' p ≡ Some (put_in c bytes) → Sending P x words home senders' owners frames
+      put_kept : (bytes : List ℕ) → All (λ byte. byte < 256) bytes → senders' p ≡ Some (put_in c bytes) → Sending base P x words home senders' owners frames
       put_kept bytes small new = by_test (can_put c.queue (length bytes)) refl new
         where
-          by_test : (b : Bool) → can_put c.queue (length bytes) ≡ b → senders' p ≡ Some (cond b (record c { queue = record c.queue { messages = c.queue.messages ++ bytes ∷ [] } }) c) → Sending P x words home senders' owners frames
+          by_test : (b : Bool) → can_put c.queue (length bytes) ≡ b → senders' p ≡ Some (cond b (record c { queue = record c.queue { messages = c.queue.messages ++ bytes ∷ [] } }) c) → Sending base P x words home senders' owners frames
           by_test false e now = unchanged now
           by_test true e now =
               let opened = and_parts (is_open c.queue.phase) (cond c.queue.busy false true && (nat_le (length bytes) 56 && nat_lt (length c.queue.messages) 16)) e in
@@ -165,10 +154,10 @@ module _ {E : Type 0} (X : Election E) (P : Protocol E (Unit {0}) ℕ) (laws : L
                 owner_bits = own.queue.owner_bits;
               } now
 
-      close_kept : senders' p ≡ Some (close_in c) → Sending P x words home senders' owners frames
+      close_kept : senders' p ≡ Some (close_in c) → Sending base P x words home senders' owners frames
       close_kept new = by_test (can_close c.queue) refl new
         where
-          by_test : (b : Bool) → can_close c.queue ≡ b → senders' p ≡ Some (cond b (record c { queue = record c.queue { phase = Closing } }) c) → Sending P x words home senders' owners frames
+          by_test : (b : Bool) → can_close c.queue ≡ b → senders' p ≡ Some (cond b (record c { queue = record c.queue { phase = Closing } }) c) → Sending base P x words home senders' owners frames
           by_test false e now = unchanged now
           by_test true e now =
               let tests = and_parts (cond c.queue.busy false true) (is_empty c.queue.messages) (and_parts (is_open c.queue.phase) (cond c.queue.busy false true && is_empty c.queue.messages) e).1 in
@@ -177,8 +166,8 @@ module _ {E : Type 0} (X : Election E) (P : Protocol E (Unit {0}) ℕ) (laws : L
               replaced (record c.queue { phase = Closing }) idle idle refl refl record { few = own.queue.few; each = own.queue.each; numbers = own.queue.numbers; alone = λ z. none; owner_bits = own.queue.owner_bits } now
 
   -- a sender with all that it has accepted, in the place of the one before
-  pub grows : (more : List Accepted) → AreAccepted more → (senders : ℕ → Option (Core E)) → Sending P x words home senders owners frames → (c : Core E) → senders p ≡ Some c
-      → (senders' : ℕ → Option (Core E)) → Beside p senders senders' → senders' p ≡ Some (accepting c more) → Sending P x words home senders' owners frames
+  pub grows : (more : List Accepted) → AreAccepted more → (senders : ℕ → Option (Core E)) → Sending base P x words home senders owners frames → (c : Core E) → senders p ≡ Some c
+      → (senders' : ℕ → Option (Core E)) → Beside p senders senders' → senders' p ≡ Some (accepting c more) → Sending base P x words home senders' owners frames
   grows [] each senders h c old senders' beside new = unchanged senders h c old senders' beside new
   grows (Puts bytes ∷ more) each senders h c old senders' beside new =
       let mid : ℕ → Option (Core E) = put p (Some (put_in c bytes)) senders in

@@ -8,6 +8,7 @@ use Rattle.std.specs.Prelude.{All}
 use Rattle.std.proofs.lemmas.List.Elements.{All-from_recursion}
 use Rattle.bus_batch.specs.Messages.{IsMessage}
 use Rattle.std.proofs.lemmas.Option.{same_Some, slice_get_within}
+use Rattle.bus_register.specs.declared.limits.TheConstants.{MOST_SENDERS}
 use Rattle.bus_register.specs.declared.registers.Op.{Op}
 use Rattle.bus_register.specs.declared.registers.SenderNo.{SenderNo}
 use Rattle.bus_register.specs.Words.{register, after}
@@ -22,10 +23,10 @@ use Rattle.bus_tenure.specs.declared.phases.Reason.TheVariants.{Sent, FoundEnd, 
 use Rattle.bus_tenure.specs.declared.pages.Page.{Page}
 use Rattle.bus_tenure.specs.declared.phases.Phase.{Phase}
 use Rattle.bus_tenure.specs.declared.phases.Phase.TheVariants as phase
-use Rattle.bus_world.specs.Log.{words_read_from, sent_count, AreCounted, AreEarlier, Logged, Knows}
+use Rattle.bus_world.specs.Log.{words_read_from, next_number, AreCounted, AreEarlier, Logged, Knows}
 use Rattle.bus_register.specs.Tables.{put}
 use Rattle.bus_register.specs.Proved.TableLaws.{put_here, put_beside, some_or_none, push_beside}
-use Rattle.bus_world.proofs.LogLaws.{read-agree, Logged-agree, Logged-publish, sent-append_other, sent-append_owner, has_end-append, AreEarlier-append, AreEarlier-later}
+use Rattle.bus_world.proofs.LogLaws.{read-agree, Logged-agree, Logged-publish, next-append_other, next-append_owner, has_end-append, AreEarlier-append, AreEarlier-later}
 use Rattle.bus_batch.proofs.BatchLaws.{is_frame}
 use Rattle.bus_world.proofs.FrameOfBatch.{counted_frame, length-items, ends-body}
 use Rattle.bus_ownerbits.specs.OneOwner.{OneOwner}
@@ -41,14 +42,14 @@ pub record Changes (o : Op) (words words' : ℕ → ℕ) : Type 0 where
   pub elsewhere : (r : ℕ) → r ≢ register o → words' r ≡ words r
 
 -- the other words are the same
-pub Knows-len : (page : Page) (frames : List Frame) (past len len' : ℕ) → len' ≡ len → Knows page frames past len → Knows page frames past len'
-Knows-len page frames past len len' e k = subst (λ z. Knows page frames past z) (sym e) k
+pub Knows-len : {base : ℕ → ℕ} (page : Page) (frames : List Frame) (past len len' : ℕ) → len' ≡ len → Knows base page frames past len → Knows base page frames past len'
+Knows-len {base} page frames past len len' e k = subst (λ z. Knows base page frames past z) (sym e) k
 
-module _ {E : Type 0} (x : Layout) (words words' : ℕ → ℕ) (frames : List Frame) (c : Core E) (layout : c.layout ≡ x)
+module _ (base : ℕ → ℕ) {E : Type 0} (x : Layout) (words words' : ℕ → ℕ) (frames : List Frame) (c : Core E) (layout : c.layout ≡ x)
     (agree : Agree (log_at x) x.capacity words words') (len : words' 0 ≡ words 0) where
-  writing_stays : (t : ℕ) (page : Page) (stored : ℕ) → IsWriting words frames c t page stored → IsWriting words' frames c t page stored
+  writing_stays : (t : ℕ) (page : Page) (stored : ℕ) → IsWriting base words frames c t page stored → IsWriting base words' frames c t page stored
   writing_stays t page stored w = record {
-    base = w.base;
+    first = w.first;
     page_knows = Knows-len page frames t (words 0) (words' 0) len w.page_knows;
     earlier = w.earlier;
     stored_below = w.stored_below;
@@ -62,36 +63,36 @@ module _ {E : Type 0} (x : Layout) (words words' : ℕ → ℕ) (frames : List F
         let room = (w.allowed positive).1 in let knows = w.page_knows.words in let below = w.stored_below in
         omega arith
 
-  Fits-agree : (ph : Phase E) → Fits words frames c ph → Fits words' frames c ph
+  Fits-agree : (ph : Phase E) → Fits base words frames c ph → Fits base words' frames c ph
   Fits-agree phase.Resting f = f
   Fits-agree (phase.Electing t e) f = f
   Fits-agree (phase.Taken t) f = f
   Fits-agree (phase.Holding t page stored false) f = (f.0, writing_stays t page stored f.1)
-  Fits-agree (phase.Holding t page stored true) f = (f.0, let h = f.1 in record { front = h.front; frames_are = h.frames_are; base = h.base; page_knows = h.page_knows; earlier = h.earlier; is_open = h.is_open; len_is = len ∙ h.len_is })
+  Fits-agree (phase.Holding t page stored true) f = (f.0, let h = f.1 in record { front = h.front; frames_are = h.frames_are; first = h.first; page_knows = h.page_knows; earlier = h.earlier; is_open = h.is_open; len_is = len ∙ h.len_is })
   Fits-agree (phase.Giving t reason) f = f
 
-pub Part-agree : {E : Type 0} (x : Layout) (words words' : ℕ → ℕ) (frames : List Frame) (p : ℕ) (c : Core E) → Agree (log_at x) x.capacity words words' → words' 0 ≡ words 0 → Part x words frames p c → Part x words' frames p c
-Part-agree x words words' frames p c agree len h = record { layout = h.layout; me = h.me; below = h.below; sender = h.sender; queue = h.queue; fits = Fits-agree x words words' frames c h.layout agree len c.phase h.fits }
+pub Part-agree : {base : ℕ → ℕ} {E : Type 0} (x : Layout) (words words' : ℕ → ℕ) (frames : List Frame) (p : ℕ) (c : Core E) → Agree (log_at x) x.capacity words words' → words' 0 ≡ words 0 → Part base x words frames p c → Part base x words' frames p c
+Part-agree {base} x words words' frames p c agree len h = record { layout = h.layout; me = h.me; below = h.below; sender = h.sender; queue = h.queue; fits = Fits-agree base x words words' frames c h.layout agree len c.phase h.fits }
 
 -- a sender that holds no page only counts its own items
-Fits-rests : {E : Type 0} (words words' : ℕ → ℕ) (frames frames' : List Frame) (c : Core E) (ph : Phase E) → ((t : ℕ) → stands_at ph ≡ Holds t → ⊥) → sent_count c.me frames' ≡ sent_count c.me frames → Fits words frames c ph → Fits words' frames' c ph
-Fits-rests words words' frames frames' c phase.Resting free e f = (f.0, f.1 ∙ sym e)
-Fits-rests words words' frames frames' c (phase.Electing t u) free e f = (f.0, f.1 ∙ sym e)
-Fits-rests words words' frames frames' c (phase.Taken t) free e f = absurd (free t refl)
-Fits-rests words words' frames frames' c (phase.Holding t page stored published) free e f = absurd (free t refl)
-Fits-rests words words' frames frames' c (phase.Giving t reason) free e f = absurd (free t refl)
+Fits-rests : (base : ℕ → ℕ) {E : Type 0} (words words' : ℕ → ℕ) (frames frames' : List Frame) (c : Core E) (ph : Phase E) → ((t : ℕ) → stands_at ph ≡ Holds t → ⊥) → next_number base c.me frames' ≡ next_number base c.me frames → Fits base words frames c ph → Fits base words' frames' c ph
+Fits-rests base words words' frames frames' c phase.Resting free e f = (f.0, f.1 ∙ sym e)
+Fits-rests base words words' frames frames' c (phase.Electing t u) free e f = (f.0, f.1 ∙ sym e)
+Fits-rests base words words' frames frames' c (phase.Taken t) free e f = absurd (free t refl)
+Fits-rests base words words' frames frames' c (phase.Holding t page stored published) free e f = absurd (free t refl)
+Fits-rests base words words' frames frames' c (phase.Giving t reason) free e f = absurd (free t refl)
 
-pub Part-rests : {E : Type 0} (x : Layout) (words words' : ℕ → ℕ) (frames frames' : List Frame) (p : ℕ) (c : Core E) → ((t : ℕ) → stands_at c.phase ≡ Holds t → ⊥) → sent_count p frames' ≡ sent_count p frames → Part x words frames p c → Part x words' frames' p c
-Part-rests x words words' frames frames' p c free e h = record {
+pub Part-rests : {base : ℕ → ℕ} {E : Type 0} (x : Layout) (words words' : ℕ → ℕ) (frames frames' : List Frame) (p : ℕ) (c : Core E) → ((t : ℕ) → stands_at c.phase ≡ Holds t → ⊥) → next_number base p frames' ≡ next_number base p frames → Part base x words frames p c → Part base x words' frames' p c
+Part-rests {base} x words words' frames frames' p c free e h = record {
   layout = h.layout;
   me = h.me;
   below = h.below;
   sender = h.sender;
   queue = h.queue;
-  fits = Fits-rests words words' frames frames' c c.phase free (subst (λ z. sent_count z frames' ≡ sent_count z frames) (sym h.me) e) h.fits;
+  fits = Fits-rests base words words' frames frames' c c.phase free (subst (λ z. next_number base z frames' ≡ next_number base z frames) (sym h.me) e) h.fits;
 }
 
-pub part_of : {E : Type 0} (x : Layout) (words words' : ℕ → ℕ) (frames frames' : List Frame) (p : ℕ) (c : Core E) (ph : Phase E) → Part x words frames p c → Fits words' frames' (record c { phase = ph }) ph → Part x words' frames' p (record c { phase = ph })
+pub part_of : {base : ℕ → ℕ} {E : Type 0} (x : Layout) (words words' : ℕ → ℕ) (frames frames' : List Frame) (p : ℕ) (c : Core E) (ph : Phase E) → Part base x words frames p c → Fits base words' frames' (record c { phase = ph }) ph → Part base x words' frames' p (record c { phase = ph })
 part_of x words words' frames frames' p c ph h f = record { layout = h.layout; me = h.me; below = h.below; sender = h.sender; queue = h.queue; fits = f }
 
 pub resting_apart : {E : Type 0} (t : ℕ) (e : E) → phase.Resting ≡ phase.Electing t e → ⊥
@@ -132,7 +133,7 @@ unsent_queue Sent u q is = absurd u
 unsent_queue FoundEnd u q is = record { few = is.few; each = is.each; numbers = is.numbers; alone = λ e. absurd cc; owner_bits = is.owner_bits }
 unsent_queue NoRoom u q is = record { few = is.few; each = is.each; numbers = is.numbers; alone = is.alone; owner_bits = is.owner_bits }
 
-unsent_knows : {E : Type 0} (reason : Reason) → IsUnsent reason → (c : Core E) (t : ℕ) (page : Page) (frames : List Frame) (len : ℕ) → Knows page frames t len → Knows (page_after c t page reason) frames (t + 1) len
+unsent_knows : {base : ℕ → ℕ} {E : Type 0} (reason : Reason) → IsUnsent reason → (c : Core E) (t : ℕ) (page : Page) (frames : List Frame) (len : ℕ) → Knows base page frames t len → Knows base (page_after c t page reason) frames (t + 1) len
 unsent_knows Sent u c t page frames len k = absurd u
 unsent_knows FoundEnd u c t page frames len k = record { entries = k.entries; next = k.next; ended = k.ended; tenures = refl; words = k.words }
 unsent_knows NoRoom u c t page frames len k = record { entries = k.entries; next = k.next; ended = k.ended; tenures = refl; words = k.words }
@@ -146,7 +147,7 @@ AreOwned-append owners [] f a e = (e, tt)
 AreOwned-append owners (g ∷ frames) f a e = (a.0, AreOwned-append owners frames f a.1 e)
 
 module _ {E : Type 0} (X : Election E) (P : Protocol E (Unit {0}) ℕ) (laws : Laws X.op X.fed P OneOwner) (x : Layout) (ok : IsLayout x) (width : x.width ≡ P.width x.senders) where
-  module _ (words : ℕ → ℕ) (home : Option Page) (senders : ℕ → Option (Core E)) (owners : List ℕ) (frames : List Frame) (h : Sending P x words home senders owners frames) where
+  module _ {base : ℕ → ℕ} (words : ℕ → ℕ) (home : Option Page) (senders : ℕ → Option (Core E)) (owners : List ℕ) (frames : List Frame) (h : Sending base P x words home senders owners frames) where
     abbrev S : ℕ → Option (Standing E)
     S q = of_some standing_of (senders q)
 
@@ -201,9 +202,9 @@ module _ {E : Type 0} (X : Election E) (P : Protocol E (Unit {0}) ℕ) (laws : L
         | inr ne ↦ S-beside q ne
       ]
 
-      parts_from : (words' : ℕ → ℕ) (frames' : List Frame) → ((q : ℕ) (d : Core E) → q ≢ p → senders q ≡ Some d → Part x words' frames' q d) → Part x words' frames' p c' → (q : ℕ) (d : Core E) → senders' q ≡ Some d → Part x words' frames' q d
+      parts_from : (words' : ℕ → ℕ) (frames' : List Frame) → ((q : ℕ) (d : Core E) → q ≢ p → senders q ≡ Some d → Part base x words' frames' q d) → Part base x words' frames' p c' → (q : ℕ) (d : Core E) → senders' q ≡ Some d → Part base x words' frames' q d
       parts_from words' frames' others own q d e = elim (cases_eq q p) [
-        | inl i ↦ subst (λ z. Part x words' frames' z d) (sym i) (subst (Part x words' frames' p) (same_Some _ _ (sym new ∙ ap senders' (sym i) ∙ e)) own)
+        | inl i ↦ subst (λ z. Part base x words' frames' z d) (sym i) (subst (Part base x words' frames' p) (same_Some _ _ (sym new ∙ ap senders' (sym i) ∙ e)) own)
         | inr ne ↦ others q d ne (sym (beside q ne) ∙ e)
       ]
 
@@ -220,14 +221,14 @@ module _ {E : Type 0} (X : Election E) (P : Protocol E (Unit {0}) ℕ) (laws : L
       chosen_holding u page k published holds = chosen_from (λ t e o a b. absurd (holding_apart u page k published t e (sym holds ∙ a)))
 
       -- the others, where p alone may hold the page
-      others_rest : (t : ℕ) (words' : ℕ → ℕ) (frames' : List Frame) → S p ≡ Some (Holds t) → ((q : ℕ) → q ≢ p → sent_count q frames' ≡ sent_count q frames) → (q : ℕ) (d : Core E) → q ≢ p → senders q ≡ Some d → Part x words' frames' q d
+      others_rest : (t : ℕ) (words' : ℕ → ℕ) (frames' : List Frame) → S p ≡ Some (Holds t) → ((q : ℕ) → q ≢ p → next_number base q frames' ≡ next_number base q frames) → (q : ℕ) (d : Core E) → q ≢ p → senders q ≡ Some d → Part base x words' frames' q d
       others_rest t words' frames' holds same q d ne e = Part-rests x words words' frames frames' q d (λ u f. ne (sym (one_holder p q t u holds (stand q d e ∙ ap Some f)))) (same q ne) (h.parts q d e)
 
-      others_agree : (words' : ℕ → ℕ) → Agree (log_at x) x.capacity words words' → words' 0 ≡ words 0 → (q : ℕ) (d : Core E) → q ≢ p → senders q ≡ Some d → Part x words' frames q d
+      others_agree : (words' : ℕ → ℕ) → Agree (log_at x) x.capacity words words' → words' 0 ≡ words 0 → (q : ℕ) (d : Core E) → q ≢ p → senders q ≡ Some d → Part base x words' frames q d
       others_agree words' agree len q d ne e = Part-agree x words words' frames q d agree len (h.parts q d e)
 
       -- ── a load of the stage that raises the first tenure it may enter ──
-      pub spends : c'.phase ≡ phase.Resting → c.phase ≡ phase.Resting → c.least ≤ c'.least → Part x words frames p c' → Sending P x words home senders' owners frames
+      pub spends : c'.phase ≡ phase.Resting → c.phase ≡ phase.Resting → c.least ≤ c'.least → Part base x words frames p c' → Sending base P x words home senders' owners frames
       spends rests core_at_rest more part = record {
         tenures = tenures.same X.op X.fed P laws x.senders x.rows 2 words (words 1) (is_some home) S L' owners
             (tenures.raises X.op X.fed P laws x.senders x.rows 2 words (words 1) (is_some home) S L owners h.tenures p L' (stand p c old ∙ ap (λ z. Some (stands_at z)) core_at_rest) L-beside
@@ -241,7 +242,7 @@ module _ {E : Type 0} (X : Election E) (P : Protocol E (Unit {0}) ℕ) (laws : L
       }
 
       -- ── a load of the stage that begins a tenure which was opened ──
-      pub begins : (t : ℕ) → c.phase ≡ phase.Resting → 2 * t ≤ words 1 → c.least ≤ t → t < x.rows → p < x.senders → c'.phase ≡ phase.Electing t (P.started x.senders p tt (2 + t * P.width x.senders)) → c'.least ≡ c.least → Part x words frames p c' → Sending P x words home senders' owners frames
+      pub begins : (t : ℕ) → c.phase ≡ phase.Resting → 2 * t ≤ words 1 → c.least ≤ t → t < x.rows → p < x.senders → c'.phase ≡ phase.Electing t (P.started x.senders p tt (2 + t * P.width x.senders)) → c'.least ≡ c.least → Part base x words frames p c' → Sending base P x words home senders' owners frames
       begins t core_at_rest reached enters room below began least part = record {
         tenures = tenures.same X.op X.fed P laws x.senders x.rows 2 words (words 1) (is_some home) S' L owners
             (tenures.begins X.op X.fed P laws x.senders x.rows 2 words (words 1) (is_some home) S L owners h.tenures p t below (omega (arith, ok.senders)) (stand p c old ∙ ap (λ z. Some (stands_at z)) core_at_rest) reached
@@ -281,14 +282,14 @@ module _ {E : Type 0} (X : Election E) (P : Protocol E (Unit {0}) ℕ) (laws : L
         log_agrees : Agree (log_at x) x.capacity words words'
         log_agrees r a b = outside r (inr a)
 
-        row_log : Logged x.senders x.capacity (log_at x) words' (words' 0) frames
-        row_log = subst (λ z. Logged x.senders x.capacity (log_at x) words' z frames) (sym (outside 0 (inl (omega arith)))) (Logged-agree x.senders x.capacity (log_at x) words (words 0) frames h.log words' (λ r a b. log_agrees r a (let z = h.log.fits in omega arith)))
+        row_log : Logged base x.senders x.capacity (log_at x) words' (words' 0) frames
+        row_log = subst (λ z. Logged base x.senders x.capacity (log_at x) words' z frames) (sym (outside 0 (inl (omega arith)))) (Logged-agree x.senders x.capacity (log_at x) words (words 0) frames h.log words' (λ r a b. log_agrees r a (let z = h.log.fits in omega arith)))
 
-        knows_row : (page : Page) (u : ℕ) → home ≡ Some page → words' 1 ≡ 2 * u → Knows page frames u (words' 0) × AreEarlier u frames
+        knows_row : (page : Page) (u : ℕ) → home ≡ Some page → words' 1 ≡ 2 * u → Knows base page frames u (words' 0) × AreEarlier u frames
         knows_row page u a b = let k = h.page_knows page u a (sym (outside 1 (inl (omega arith))) ∙ b) in (Knows-len page frames u (words 0) (words' 0) (outside 0 (inl (omega arith))) k.0, k.1)
 
         -- ── a step of its election ──
-        pub elects_on : c'.phase ≡ phase.Electing t later → c'.least ≡ c.least → ((u : ℕ) → P.output later ≡ Some u → u ≡ p) → Part x words' frames p c' → Sending P x words' home senders' owners frames
+        pub elects_on : c'.phase ≡ phase.Electing t later → c'.least ≡ c.least → ((u : ℕ) → P.output later ≡ Some u → u ≡ p) → Part base x words' frames p c' → Sending base P x words' home senders' owners frames
         elects_on goes least mine part = record {
           tenures = tenures.same X.op X.fed P laws x.senders x.rows 2 words' (words 1) (is_some home) S' L owners
               (tenures.elects X.op X.fed P laws x.senders x.rows 2 words (words 1) (is_some home) S L owners h.tenures p t e word o runs next words' stepped S' (now ∙ ap (λ z. Some (stands_at z)) goes) S-beside)
@@ -301,7 +302,7 @@ module _ {E : Type 0} (X : Election E) (P : Protocol E (Unit {0}) ℕ) (laws : L
         }
 
         -- ── its last step, which chooses another ──
-        pub loses : (u : ℕ) → P.output later ≡ Some u → u ≢ p → c'.phase ≡ phase.Resting → c'.least ≡ t + 1 → Part x words' frames p c' → Sending P x words' home senders' owners frames
+        pub loses : (u : ℕ) → P.output later ≡ Some u → u ≢ p → c'.phase ≡ phase.Resting → c'.least ≡ t + 1 → Part base x words' frames p c' → Sending base P x words' home senders' owners frames
         loses u out other rests least part =
             let mid : ℕ → Option (Standing E) = put p (Some (Runs t later)) S in
             let at_mid = tenures.elects X.op X.fed P laws x.senders x.rows 2 words (words 1) (is_some home) S L owners h.tenures p t e word o runs next words' stepped mid (put_here p (Some (Runs t later)) S) (put_beside p (Some (Runs t later)) S) in
@@ -326,16 +327,16 @@ module _ {E : Type 0} (X : Election E) (P : Protocol E (Unit {0}) ℕ) (laws : L
         opened : words 1 ≡ 2 * t
         opened = (tenures.finds_home X.op X.fed P laws x.senders x.rows 2 words (words 1) (is_some home) S L owners h.tenures p t e elected out).0
 
-        part : Part x words frames p c
+        part : Part base x words frames p c
         part = h.parts p c old
 
-        fits_then : HasBegun c.queue × IsWriting words' frames (record c { phase = phase.Holding t page 0 false }) t page 0
+        fits_then : HasBegun c.queue × IsWriting base words' frames (record c { phase = phase.Holding t page 0 false }) t page 0
         fits_then =
-            let f = subst (Fits words frames c) elects part.fits in
+            let f = subst (Fits base words frames c) elects part.fits in
             let k = h.page_knows page t at_home opened in (
               f.0,
               record {
-                base = f.1;
+                first = f.1;
                 page_knows = Knows-len page frames t (words 0) (words' 0) (elsewhere 0 (omega arith)) k.0;
                 earlier = k.1;
                 stored_below = omega arith;
@@ -350,22 +351,22 @@ module _ {E : Type 0} (X : Election E) (P : Protocol E (Unit {0}) ℕ) (laws : L
         log_past : (r : ℕ) → log_at x ≤ r → words' r ≡ words r
         log_past r a = elsewhere r (omega arith)
 
-        pub takes : Sending P x words' None senders' (owners ++ p ∷ []) frames
+        pub takes : Sending base P x words' None senders' (owners ++ p ∷ []) frames
         takes = record {
           tenures = tenures.same X.op X.fed P laws x.senders x.rows 2 words (2 * t + 1) false S' L (owners ++ p ∷ [])
               (tenures.takes X.op X.fed P laws x.senders x.rows 2 words (words 1) (is_some home) S L owners h.tenures p t e elected out S' (now ∙ ap (λ z. Some (stands_at z.phase)) goes) S-beside)
               words' (words' 1) false S' L' (owners ++ p ∷ []) (λ r a b. stage_past r a) stage refl (λ q. refl) (L-same (ap (λ z. z.least) goes)) refl;
-          log = subst (λ z. Logged x.senders x.capacity (log_at x) words' z frames) (sym (elsewhere 0 (omega arith))) (Logged-agree x.senders x.capacity (log_at x) words (words 0) frames h.log words' (λ r a b. log_past r a));
+          log = subst (λ z. Logged base x.senders x.capacity (log_at x) words' z frames) (sym (elsewhere 0 (omega arith))) (Logged-agree x.senders x.capacity (log_at x) words (words 0) frames h.log words' (λ r a b. log_past r a));
           owned = AreOwned-push owners p frames h.owned;
           page_knows = λ g u a b. absurd cc;
           parts = parts_from words' frames (others_agree words' (λ r a b. log_past r a) (elsewhere 0 (omega arith)))
-              (subst (Part x words' frames p) (sym goes) (part_of x words words' frames frames p c (phase.Holding t page 0 false) part fits_then));
+              (subst (Part base x words' frames p) (sym goes) (part_of x words words' frames frames p c (phase.Holding t page 0 false) part fits_then));
           chosen = chosen_holding t page 0 false (ap (λ z. z.phase) goes);
         }
 
       -- ── what a holder does ──
       module _ (t : ℕ) (page : Page) (stored : ℕ) (published : Bool) (holds : c.phase ≡ phase.Holding t page stored published) where
-        own_part : Part x words frames p c
+        own_part : Part base x words frames p c
         own_part = h.parts p c old
 
         is_holder : S p ≡ Some (Holds t)
@@ -378,8 +379,8 @@ module _ {E : Type 0} (X : Election E) (P : Protocol E (Unit {0}) ℕ) (laws : L
         module _ (words' : ℕ → ℕ) (none_yet : published ≡ false) (is_open : page.ended ≡ false) (room : page.words + frame_len c ≤ c.layout.capacity) (more : stored < frame_len c)
             (word : words' (log_at c.layout + page.words + stored) ≡ slice_index (frame_words (frame_of c.queue t)) stored) (elsewhere : (r : ℕ) → r ≢ log_at c.layout + page.words + stored → words' r ≡ words r)
             (goes : c' ≡ record c { phase = phase.Holding t page (stored + 1) false }) where
-          writing : HasBegun c.queue × IsWriting words frames c t page stored
-          writing = subst (λ z. Fits words frames c (phase.Holding t page stored z)) none_yet (subst (Fits words frames c) holds own_part.fits)
+          writing : HasBegun c.queue × IsWriting base words frames c t page stored
+          writing = subst (λ z. Fits base words frames c (phase.Holding t page stored z)) none_yet (subst (Fits base words frames c) holds own_part.fits)
 
           place : log_at c.layout + page.words + stored ≡ log_at x + words 0 + stored
           place = ap (λ z. log_at z + page.words + stored) own_part.layout ∙ ap (λ z. log_at x + z + stored) writing.1.page_knows.words
@@ -393,9 +394,9 @@ module _ {E : Type 0} (X : Election E) (P : Protocol E (Unit {0}) ℕ) (laws : L
           stage_same : words' 1 ≡ words 1
           stage_same = past 1 (omega arith)
 
-          one_more : IsWriting words' frames (record c { phase = phase.Holding t page (stored + 1) false }) t page (stored + 1)
+          one_more : IsWriting base words' frames (record c { phase = phase.Holding t page (stored + 1) false }) t page (stored + 1)
           one_more = let w = writing.1 in record {
-            base = w.base;
+            first = w.first;
             page_knows = Knows-len page frames t (words 0) (words' 0) len_same w.page_knows;
             earlier = w.earlier;
             stored_below = omega arith;
@@ -410,14 +411,14 @@ module _ {E : Type 0} (X : Election E) (P : Protocol E (Unit {0}) ℕ) (laws : L
                 ∙ sym (take_more (frame_words (frame_of c.queue t)) stored 0 more);
           }
 
-          pub writes : Sending P x words' home senders' owners frames
+          pub writes : Sending base P x words' home senders' owners frames
           writes = record {
             tenures = tenures.same X.op X.fed P laws x.senders x.rows 2 words (words 1) (is_some home) S L owners h.tenures words' (words' 1) (is_some home) S' L' owners
                 (λ r a b. past r (let w = ap (λ z. x.rows * z) width in omega arith)) stage_same refl (S-same (ap (λ z. stands_at z.phase) goes ∙ sym (ap stands_at holds))) (L-same (ap (λ z. z.least) goes)) refl;
-            log = subst (λ z. Logged x.senders x.capacity (log_at x) words' z frames) (sym len_same) (Logged-agree x.senders x.capacity (log_at x) words (words 0) frames h.log words' (λ r a b. past r (omega arith)));
+            log = subst (λ z. Logged base x.senders x.capacity (log_at x) words' z frames) (sym len_same) (Logged-agree x.senders x.capacity (log_at x) words (words 0) frames h.log words' (λ r a b. past r (omega arith)));
             owned = h.owned;
             page_knows = λ g u a b. let k = h.page_knows g u a (sym stage_same ∙ b) in (Knows-len g frames u (words 0) (words' 0) len_same k.0, k.1);
-            parts = parts_from words' frames (others_rest t words' frames is_holder (λ q ne. refl)) (subst (Part x words' frames p) (sym goes) (part_of x words words' frames frames p c (phase.Holding t page (stored + 1) false) own_part (writing.0, one_more)));
+            parts = parts_from words' frames (others_rest t words' frames is_holder (λ q ne. refl)) (subst (Part base x words' frames p) (sym goes) (part_of x words words' frames frames p c (phase.Holding t page (stored + 1) false) own_part (writing.0, one_more)));
             chosen = chosen_holding t page (stored + 1) false (ap (λ z. z.phase) goes);
           }
 
@@ -428,8 +429,8 @@ module _ {E : Type 0} (X : Election E) (P : Protocol E (Unit {0}) ℕ) (laws : L
           abbrev f : Frame
           f = frame_of c.queue t
 
-          written : HasBegun c.queue × IsWriting words frames c t page stored
-          written = subst (λ z. Fits words frames c (phase.Holding t page stored z)) none_yet (subst (Fits words frames c) holds own_part.fits)
+          written : HasBegun c.queue × IsWriting base words frames c t page stored
+          written = subst (λ z. Fits base words frames c (phase.Holding t page stored z)) none_yet (subst (Fits base words frames c) holds own_part.fits)
 
           in_rows : t < x.rows
           in_rows = (h.tenures.owned t p held.2).0
@@ -454,27 +455,27 @@ module _ {E : Type 0} (X : Election E) (P : Protocol E (Unit {0}) ℕ) (laws : L
           len_now : words' 0 ≡ words 0 + length (frame_words f)
           len_now = word ∙ ap (λ z. z + frame_len c) written.1.page_knows.words
 
-          counts : AreCounted (sent_count f.owner.0 frames) (items_of f)
-          counts = subst (λ z. AreCounted z (items_of f)) (written.1.base ∙ ap (λ z. sent_count z frames) (own_part.me ∙ sym sender_is)) (counted_frame c.queue t)
+          counts : AreCounted (next_number base f.owner.0 frames) (items_of f)
+          counts = subst (λ z. AreCounted z (items_of f)) (written.1.first ∙ ap (λ z. next_number base z frames) (own_part.me ∙ sym sender_is)) (counted_frame c.queue t)
 
-          pub publishes : Sending P x words' home senders' owners (frames ++ f ∷ [])
+          pub publishes : Sending base P x words' home senders' owners (frames ++ f ∷ [])
           publishes = record {
             tenures = tenures.same X.op X.fed P laws x.senders x.rows 2 words (words 1) (is_some home) S L owners h.tenures words' (words' 1) (is_some home) S' L' owners
                 (λ r a b. elsewhere r (omega arith)) (elsewhere 1 (omega arith)) refl (S-same (ap (λ z. stands_at z.phase) goes ∙ sym (ap stands_at holds))) (L-same (ap (λ z. z.least) goes)) refl;
-            log = subst (λ z. Logged x.senders x.capacity (log_at x) words' z (frames ++ f ∷ [])) (sym len_now)
+            log = subst (λ z. Logged base x.senders x.capacity (log_at x) words' z (frames ++ f ∷ [])) (sym len_now)
                 (Logged-agree x.senders x.capacity (log_at x) words (words 0 + length (frame_words f)) (frames ++ f ∷ [])
                 (Logged-publish x.senders x.capacity (log_at x) words (words 0) frames h.log f frame_lawful still_open written.1.earlier counts whole
                 (let a = written.1.page_knows.words in let b = ap (λ (z : Layout). z.capacity) own_part.layout in omega arith))
                 words' (λ r a b. elsewhere r (omega arith)));
             owned = AreOwned-append owners frames f h.owned (held.2 ∙ ap Some (sym sender_is));
             page_knows = λ g u a b. absurd (let y = elsewhere 1 (omega arith) in let z = held.1 in omega arith);
-            parts = parts_from words' (frames ++ f ∷ []) (others_rest t words' (frames ++ f ∷ []) is_holder (λ q ne. sent-append_other q frames f (λ e. ne (e ∙ sender_is))))
-                (subst (Part x words' (frames ++ f ∷ []) p) (sym goes) (part_of x words words' frames (frames ++ f ∷ []) p c (phase.Holding t page stored true) own_part (
+            parts = parts_from words' (frames ++ f ∷ []) (others_rest t words' (frames ++ f ∷ []) is_holder (λ q ne. next-append_other base q frames f (λ e. ne (e ∙ sender_is))))
+                (subst (Part base x words' (frames ++ f ∷ []) p) (sym goes) (part_of x words words' frames (frames ++ f ∷ []) p c (phase.Holding t page stored true) own_part (
                   written.0,
                   record {
                     front = frames;
                     frames_are = refl;
-                    base = written.1.base;
+                    first = written.1.first;
                     page_knows = Knows-len page frames t (words 0) page.words written.1.page_knows.words written.1.page_knows;
                     earlier = written.1.earlier;
                     is_open = is_open;
@@ -486,24 +487,24 @@ module _ {E : Type 0} (X : Election E) (P : Protocol E (Unit {0}) ℕ) (laws : L
 
         -- ── it gives the page back ──
         module _ (reason : Reason) (words' : ℕ → ℕ) (stage : words' 1 ≡ 2 * t + 2) (elsewhere : (r : ℕ) → r ≢ 1 → words' r ≡ words r) (goes : c' ≡ core_at_rest c reason t)
-            (base_now : (queue_after reason c.queue).first ≡ sent_count c.me frames) (queue_now : IsKept (queue_after reason c.queue)) (knows_now : Knows (page_after c t page reason) frames (t + 1) (words 0)) (earlier_now : AreEarlier (t + 1) frames) where
-          rests_now : Fits words' frames (core_at_rest c reason t) phase.Resting
+            (base_now : (queue_after reason c.queue).first ≡ next_number base c.me frames) (queue_now : IsKept (queue_after reason c.queue)) (knows_now : Knows base (page_after c t page reason) frames (t + 1) (words 0)) (earlier_now : AreEarlier (t + 1) frames) where
+          rests_now : Fits base words' frames (core_at_rest c reason t) phase.Resting
           rests_now = (not_busy reason c.queue, base_now)
 
-          pub gives_back : Sending P x words' (Some (page_after c t page reason)) senders' owners frames
+          pub gives_back : Sending base P x words' (Some (page_after c t page reason)) senders' owners frames
           gives_back = record {
             tenures = tenures.same X.op X.fed P laws x.senders x.rows 2 words (2 * t + 2) true S' L' owners
                 (tenures.gives X.op X.fed P laws x.senders x.rows 2 words (words 1) (is_some home) S L owners h.tenures p t is_holder S' (now ∙ ap (λ z. Some (stands_at z.phase)) goes) S-beside L' (ap least_of new ∙ ap (λ z. z.least) goes) L-beside)
                 words' (words' 1) true S' L' owners (λ r a b. elsewhere r (omega arith)) stage refl (λ q. refl) (λ q. refl) refl;
-            log = subst (λ z. Logged x.senders x.capacity (log_at x) words' z frames) (sym (elsewhere 0 (omega arith))) (Logged-agree x.senders x.capacity (log_at x) words (words 0) frames h.log words' (λ r a b. elsewhere r (omega arith)));
+            log = subst (λ z. Logged base x.senders x.capacity (log_at x) words' z frames) (sym (elsewhere 0 (omega arith))) (Logged-agree x.senders x.capacity (log_at x) words (words 0) frames h.log words' (λ r a b. elsewhere r (omega arith)));
             owned = h.owned;
             page_knows = λ g u a b.
                 let g_is : page_after c t page reason ≡ g = same_Some _ _ a in
                 let u_is : t + 1 ≡ u = omega arith in (
-                  subst (λ z. Knows z frames u (words' 0)) g_is (subst (λ z. Knows (page_after c t page reason) frames z (words' 0)) u_is (Knows-len (page_after c t page reason) frames (t + 1) (words 0) (words' 0) (elsewhere 0 (omega arith)) knows_now)),
+                  subst (λ z. Knows base z frames u (words' 0)) g_is (subst (λ z. Knows base (page_after c t page reason) frames z (words' 0)) u_is (Knows-len (page_after c t page reason) frames (t + 1) (words 0) (words' 0) (elsewhere 0 (omega arith)) knows_now)),
                   subst (λ z. AreEarlier z frames) u_is earlier_now,
                 );
-            parts = parts_from words' frames (others_agree words' (λ r a b. elsewhere r (omega arith)) (elsewhere 0 (omega arith))) (subst (Part x words' frames p) (sym goes) record {
+            parts = parts_from words' frames (others_agree words' (λ r a b. elsewhere r (omega arith)) (elsewhere 0 (omega arith))) (subst (Part base x words' frames p) (sym goes) record {
               layout = own_part.layout;
               me = own_part.me;
               below = own_part.below;
@@ -516,28 +517,28 @@ module _ {E : Type 0} (X : Election E) (P : Protocol E (Unit {0}) ℕ) (laws : L
 
         -- what was not published changes nothing
         module _ (words' : ℕ → ℕ) (stage : words' 1 ≡ 2 * t + 2) (elsewhere : (r : ℕ) → r ≢ 1 → words' r ≡ words r) where
-          pub gives_unsent : (reason : Reason) → IsUnsent reason → published ≡ false → c' ≡ core_at_rest c reason t → Sending P x words' (Some (page_after c t page reason)) senders' owners frames
+          pub gives_unsent : (reason : Reason) → IsUnsent reason → published ≡ false → c' ≡ core_at_rest c reason t → Sending base P x words' (Some (page_after c t page reason)) senders' owners frames
           gives_unsent reason unsent none_yet goes =
-              let w = subst (λ z. Fits words frames c (phase.Holding t page stored z)) none_yet (subst (Fits words frames c) holds own_part.fits) in
-              gives_back reason words' stage elsewhere goes (unsent_base reason unsent c.queue ∙ w.1.base) (unsent_queue reason unsent c.queue own_part.queue) (unsent_knows reason unsent c t page frames (words 0) w.1.page_knows) (AreEarlier-later t (t + 1) frames (omega arith) w.1.earlier)
+              let w = subst (λ z. Fits base words frames c (phase.Holding t page stored z)) none_yet (subst (Fits base words frames c) holds own_part.fits) in
+              gives_back reason words' stage elsewhere goes (unsent_base reason unsent c.queue ∙ w.1.first) (unsent_queue reason unsent c.queue own_part.queue) (unsent_knows reason unsent c t page frames (words 0) w.1.page_knows) (AreEarlier-later t (t + 1) frames (omega arith) w.1.earlier)
 
-          pub gives_sent : published ≡ true → c' ≡ core_at_rest c Sent t → Sending P x words' (Some (page_after c t page Sent)) senders' owners frames
+          pub gives_sent : published ≡ true → c' ≡ core_at_rest c Sent t → Sending base P x words' (Some (page_after c t page Sent)) senders' owners frames
           gives_sent sent_yet goes =
-              let w = subst (λ z. Fits words frames c (phase.Holding t page stored z)) sent_yet (subst (Fits words frames c) holds own_part.fits) in
+              let w = subst (λ z. Fits base words frames c (phase.Holding t page stored z)) sent_yet (subst (Fits base words frames c) holds own_part.fits) in
               let f = frame_of c.queue t in
               let me_is : c.queue.sender.0 ≡ c.me = own_part.sender ∙ sym own_part.me in
-              let base_now : next_of c.queue ≡ sent_count c.me frames =
-              ap (λ z. z + length c.queue.messages) w.1.base ∙ ap (λ z. sent_count c.me w.1.front + z) (sym (length-items c.queue t own_part.queue))
-              ∙ ap (λ z. sent_count z w.1.front + length (items_of f)) (sym me_is) ∙ sym (sent-append_owner w.1.front f) ∙ ap (λ z. sent_count z (w.1.front ++ f ∷ [])) me_is ∙ ap (sent_count c.me) (sym w.1.frames_are) in
+              let base_now : next_of c.queue ≡ next_number base c.me frames =
+              ap (λ z. z + length c.queue.messages) w.1.first ∙ ap (λ z. next_number base c.me w.1.front + z) (sym (length-items c.queue t own_part.queue))
+              ∙ ap (λ z. next_number base z w.1.front + length (items_of f)) (sym me_is) ∙ sym (next-append_owner base w.1.front f) ∙ ap (λ z. next_number base z (w.1.front ++ f ∷ [])) me_is ∙ ap (next_number base c.me) (sym w.1.frames_are) in
               let k = w.1.page_knows in
-              let small : c.me < 8 = let a = own_part.me in let b = own_part.below in let d = ok.senders in omega arith in
+              let small : c.me < MOST_SENDERS = let a = own_part.me in let b = own_part.below in let d = ok.senders in omega arith in
               gives_back Sent words' stage elsewhere goes base_now
               record { few = omega arith; each = none_short; numbers = (let a = own_part.queue.numbers in omega arith); alone = λ z. refl; owner_bits = own_part.queue.owner_bits }
               record {
                 entries = length-set page.next c.me (next_of c.queue) ∙ k.entries;
                 next = λ s l. elim (cases_eq s c.me) [
-                  | inl i ↦ ap (slice_index (slice_set page.next c.me (next_of c.queue))) i ∙ get_or-set_same page.next c.me (next_of c.queue) 0 (let a = k.entries in omega arith) ∙ base_now ∙ ap (λ z. sent_count z frames) (sym i)
-                  | inr ne ↦ get_or-set_other page.next c.me s (next_of c.queue) 0 ne ∙ k.next s l ∙ sym (sent-append_other s w.1.front f (λ e. ne (e ∙ me_is))) ∙ ap (sent_count s) (sym w.1.frames_are)
+                  | inl i ↦ ap (slice_index (slice_set page.next c.me (next_of c.queue))) i ∙ get_or-set_same page.next c.me (next_of c.queue) 0 (let a = k.entries in omega arith) ∙ base_now ∙ ap (λ z. next_number base z frames) (sym i)
+                  | inr ne ↦ get_or-set_other page.next c.me s (next_of c.queue) 0 ne ∙ k.next s l ∙ sym (next-append_other base s w.1.front f (λ e. ne (e ∙ me_is))) ∙ ap (next_number base s) (sym w.1.frames_are)
                 ];
                 ended = sym (ends-body c.queue) ∙ sym (has_end-append w.1.front f (sym k.ended ∙ w.1.is_open)) ∙ ap has_end (sym w.1.frames_are);
                 tenures = refl;

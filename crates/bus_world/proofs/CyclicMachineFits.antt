@@ -25,7 +25,6 @@ use Rattle.bus_presence.proofs.ReclamationLaws.{keeps}
 use Rattle.bus_presence.proofs.RowLaws.{IsLive, alive_pinned}
 use Rattle.bus_tenure.specs.Core.{Election, row_at, log_at, stage_at}
 use Rattle.bus_tenure.specs.Situations.{Situation, IsClosed, IsIdle, IsSpent, LooksAtStage, Elects, TakesPage, AwaitsPage, StoresWord, StoresLength, GivesBack, HasHanded, situation_of}
-use Rattle.bus_tenure.specs.declared.phases.Reason.{Reason}
 use Rattle.bus_tenure.specs.declared.phases.Phase.TheVariants as phase
 use Rattle.bus_tenure.proofs.Situated.{tells}
 use Rattle.bus_core.specs.Reusing.Participants.{Goes, sizes_with, log_from, place_for, reclaim_due, due_reclaimed, due_home, due_beside}
@@ -109,7 +108,7 @@ module _ {E : Type 0} (X : Election E) (P : Protocol E (Unit {0}) ℕ) (laws : L
     old : y.senders s ≡ Some v.core
     old = ap core_in at
 
-    part : Part b.layout k.V k.frames s v.core
+    part : Part (slice_index b.bases) b.layout k.V k.frames s v.core
     part = k.kept.sending.parts s v.core old
 
     pub layout_is : v.core.layout ≡ b.layout
@@ -123,10 +122,7 @@ module _ {E : Type 0} (X : Election E) (P : Protocol E (Unit {0}) ℕ) (laws : L
 
     -- between turns no page is under way
     pub no_wait : (t : ℕ) → situation_of X v.core ≡ AwaitsPage t → ⊥
-    no_wait t here = subst (Fits k.V k.frames v.core) (tells X v.core (AwaitsPage t) here) part.fits
-
-    pub no_hand : (t : ℕ) (reason : Reason) → situation_of X v.core ≡ HasHanded t reason → ⊥
-    no_hand t reason here = subst (Fits k.V k.frames v.core) (tells X v.core (HasHanded t reason) here) part.fits
+    no_wait t here = subst (Fits (slice_index b.bases) k.V k.frames v.core) (tells X v.core (AwaitsPage t) here) part.fits
 
     -- ---- what it adds
     place_same : (w : Situation E) → place_for v.core.layout v.rows w ≡ place_for b.layout b.rows w

@@ -85,16 +85,14 @@ placed_found f w None = refl
 placed_found f w (Some o) = ap w (same_register f o)
 
 -- ---- yards alike
-yards_same : {E : Type 0} (w w' : ℕ → ℕ) (v v' : ℕ → Pin) (c c' : ℕ → Option (Core E)) (reclaimer : Option Reclaiming) (home : Option Page) (receivers : ℕ → Option Receiving) (owners : List ℕ) → w ≡ w' → v ≡ v' → c ≡ c'
-    → ◌≡◌ {A = CyclicProtocol E} record { reclamation = record { words = w; pins = v; reclaimer = reclaimer }; home = home; senders = c; receivers = receivers; owners = owners } record { reclamation = record { words = w'; pins = v'; reclaimer = reclaimer }; home = home; senders = c'; receivers = receivers; owners = owners }
-yards_same w w' v v' c c' reclaimer home receivers owners i j k =
-    ap (λ a. record { reclamation = record { words = a; pins = v; reclaimer = reclaimer }; home = home; senders = c; receivers = receivers; owners = owners }) i
-    ∙ ap (λ a. record { reclamation = record { words = w'; pins = a; reclaimer = reclaimer }; home = home; senders = c; receivers = receivers; owners = owners }) j
-    ∙ ap (λ a. record { reclamation = record { words = w'; pins = v'; reclaimer = reclaimer }; home = home; senders = a; receivers = receivers; owners = owners }) k
+yards_same : {E : Type 0} (bases : List ℕ) (w w' : ℕ → ℕ) (v v' : ℕ → Pin) (c c' : ℕ → Option (Core E)) (reclaimer : Option Reclaiming) (home : Option Page) (receivers : ℕ → Option Receiving) (owners : List ℕ) → w ≡ w' → v ≡ v' → c ≡ c'
+    → ◌≡◌ {A = CyclicProtocol E} record { bases = bases; reclamation = record { words = w; pins = v; reclaimer = reclaimer }; home = home; senders = c; receivers = receivers; owners = owners } record { bases = bases; reclamation = record { words = w'; pins = v'; reclaimer = reclaimer }; home = home; senders = c'; receivers = receivers; owners = owners }
+yards_same bases w w' v v' c c' reclaimer home receivers owners i j k =
+    ap (λ a. record { bases = bases; reclamation = record { words = a; pins = v; reclaimer = reclaimer }; home = home; senders = c; receivers = receivers; owners = owners }) i
+    ∙ ap (λ a. record { bases = bases; reclamation = record { words = w'; pins = a; reclaimer = reclaimer }; home = home; senders = c; receivers = receivers; owners = owners }) j
+    ∙ ap (λ a. record { bases = bases; reclamation = record { words = w'; pins = v'; reclaimer = reclaimer }; home = home; senders = a; receivers = receivers; owners = owners }) k
 
 -- ---- what is due
-none_due : (o : Op) → ◌≡◌ {A = Option Op} None (Some o) → ⊥
-none_due o e = cc
 
 -- a step of a reclamation is due only of who would give the page back
 record IsReclaiming {E : Type 0} (z : Situation E) (s : Option Reclaiming) (t : Reclaiming) : Type 0 where
@@ -147,7 +145,7 @@ module _ {E : Type 0} (X : Election E) (P : Protocol E (Unit {0}) ℕ) (laws : L
   k = led_kept X P laws b.layout ok width starts owner_is named announces apart b.rows two H y T D l.led
 
   -- ---- who holds the page
-  held_as : (c : Core E) (p : Phase E) (t : ℕ) → Fits k.V k.frames c p → held_of p ≡ Some t → stands_at p ≡ Holds t
+  held_as : (c : Core E) (p : Phase E) (t : ℕ) → Fits (slice_index b.bases) k.V k.frames c p → held_of p ≡ Some t → stands_at p ≡ Holds t
   held_as c phase.Resting t fits e = absurd cc
   held_as c (phase.Electing u f) t fits e = absurd cc
   held_as c (phase.Taken u) t fits e = absurd fits
@@ -171,7 +169,7 @@ module _ {E : Type 0} (X : Election E) (P : Protocol E (Unit {0}) ℕ) (laws : L
     within : s < length b.participants
     within = slice_get_within b.participants s v at
 
-    part : Part b.layout k.V k.frames s v.core
+    part : Part (slice_index b.bases) b.layout k.V k.frames s v.core
     part = k.kept.sending.parts s v.core old
 
     pin_is : y.reclamation.pins s ≡ v.pin
@@ -249,7 +247,7 @@ module _ {E : Type 0} (X : Election E) (P : Protocol E (Unit {0}) ℕ) (laws : L
           reclaimer = l.reclaimer;
           holder = holder_after v' l.reclaimer (λ t f. l.holder s v t at (looked_held v.pin got t f)) (λ p w t ne here f. refl);
           led = subst (λ yy. Led X b.layout b.rows yy (ring_trails b s (Pins o) T) (ring_actions X b s v (Pins o) word answer D) H)
-              (yards_same _ _ _ _ _ _ l.reclaimer b.home y.receivers l.owners
+              (yards_same b.bases _ _ _ _ _ _ l.reclaimer b.home y.receivers l.owners
               (sym (index_put b.words (register o) (after o got) low))
               (ap (λ u. put s (pin_fed u got) y.reclamation.pins) pin_is ∙ sym (list_put pin_in b.participants s v' within))
               (ap (λ u. put s (Some (core_looked X v.core u got)) y.senders) pin_is ∙ sym (list_put core_in b.participants s v' within)))
@@ -268,7 +266,7 @@ module _ {E : Type 0} (X : Election E) (P : Protocol E (Unit {0}) ℕ) (laws : L
           reclaimer = Some (reclaim_fed r got);
           holder = holder_after v' (Some (reclaim_fed r got)) (λ t f. refl) (nobody_else by.tenure held (Some (reclaim_fed r got)));
           led = subst (λ yy. Led X b.layout b.rows yy (ring_trails b s (Reclaims r o) T) (ring_actions X b s v (Reclaims r o) word answer D) H)
-              (yards_same _ _ _ _ _ _ (Some (reclaim_fed r got)) b.home y.receivers l.owners
+              (yards_same b.bases _ _ _ _ _ _ (Some (reclaim_fed r got)) b.home y.receivers l.owners
               (sym (index_put b.words (register o) (after o got) low))
               (sym (put_is s v.pin y.reclamation.pins pin_is) ∙ sym (list_put pin_in b.participants s v' within))
               (sym (put_is s (Some v.core) y.senders old) ∙ sym (list_put core_in b.participants s v' within)))
@@ -302,7 +300,7 @@ module _ {E : Type 0} (X : Election E) (P : Protocol E (Unit {0}) ℕ) (laws : L
         reclaimer = reclaimer';
         holder = holder_after v' reclaimer' own others;
         led = subst (λ yy. Led X b.layout b.rows yy (ring_trails b s (Goes z) T) (ring_actions X b s v (Goes z) word answer D) H)
-            (yards_same _ _ _ _ _ _ reclaimer' (home_after X v.core z b.home) y.receivers (yard_after X b.layout b.rows y s v.core (Goes z) word).owners
+            (yards_same b.bases _ _ _ _ _ _ reclaimer' (home_after X v.core z b.home) y.receivers (yard_after X b.layout b.rows y s v.core (Goes z) word).owners
             (sym (ap (λ f. slice_index (words_after b.words (op_placed f step))) (place_same z) ∙ placed_words (place_for b.layout b.rows z) b.words step (λ o i. low o (ap (λ f. op_placed f step) (place_same z) ∙ i))))
             (ap (λ u. put s (pin_going X v.core u z (word_found (place_for b.layout b.rows z) y.reclamation.words step) word) y.reclamation.pins) pin_is ∙ ap (λ g. put s (pin_going X v.core v.pin z g word) y.reclamation.pins) (sym got_is) ∙ sym (list_put pin_in b.participants s v' within))
             (ap (λ g. put s (Some (core_moved (after_step (line_of X v.core z).move) b.home (core_going X v.core z g word))) y.senders) (sym got_is) ∙ sym (list_put core_in b.participants s v' within)))
@@ -356,11 +354,11 @@ module _ {E : Type 0} (X : Election E) (P : Protocol E (Unit {0}) ℕ) (laws : L
     goes_lead (Elects t g) here e = goes_as (Elects t g) here e (λ r f. absurd (elected_held t (X.fed g (got (Elects t g) here e) word) (X.owner (X.fed g (got (Elects t g) here e) word)) r f)) (λ p w r ne there f. refl)
     goes_lead (TakesPage t) here e = goes_as (TakesPage t) here e
         (λ r f. ap (λ x. reclaimer_after (sizes_with x v.rows) t) part.layout ∙ ap (λ n. reclaimer_after (sizes_with b.layout n) t) (is.rows s v at)) (at_home t here (reclaimer_after (sizes_with b.layout b.rows) t))
-    goes_lead (AwaitsPage t) here e = absurd (subst (Fits k.V k.frames v.core) (tells X v.core (AwaitsPage t) here) part.fits)
+    goes_lead (AwaitsPage t) here e = absurd (subst (Fits (slice_index b.bases) k.V k.frames v.core) (tells X v.core (AwaitsPage t) here) part.fits)
     goes_lead (StoresWord t page stored) here e = let f = tells X v.core (StoresWord t page stored) here in goes_as (StoresWord t page stored) here e (λ r g. kept_reclaimer t (ap held_of f.1)) (λ p w r ne there g. refl)
     goes_lead (StoresLength t page stored) here e = let f = tells X v.core (StoresLength t page stored) here in goes_as (StoresLength t page stored) here e (λ r g. kept_reclaimer t (ap held_of f.1)) (λ p w r ne there g. refl)
     goes_lead (GivesBack t page reason) here e = goes_as (GivesBack t page reason) here e (λ r f. refl) (nobody_else t (gives_held t page reason here) None)
-    goes_lead (HasHanded t reason) here e = absurd (subst (Fits k.V k.frames v.core) (tells X v.core (HasHanded t reason) here) part.fits)
+    goes_lead (HasHanded t reason) here e = absurd (subst (Fits (slice_index b.bases) k.V k.frames v.core) (tells X v.core (HasHanded t reason) here) part.fits)
 
     goes_owners : (z : Situation E) (here : situation_of X v.core ≡ z) (e : due X v ≡ Goes z) (low : (o : Op) → op_due X v (Goes z) word ≡ Some o → register o < length b.words)
         (told : answer ≡ answer_going X v.core z (number_found (slice_index b.words) (op_due X v (Goes z) word)) word) → (goes_lead z here e low told).owners ≡ owners_after X v.core z s l.owners
@@ -371,11 +369,11 @@ module _ {E : Type 0} (X : Election E) (P : Protocol E (Unit {0}) ℕ) (laws : L
     goes_owners LooksAtStage here e low told = refl
     goes_owners (Elects t g) here e low told = refl
     goes_owners (TakesPage t) here e low told = refl
-    goes_owners (AwaitsPage t) here e low told = absurd (subst (Fits k.V k.frames v.core) (tells X v.core (AwaitsPage t) here) part.fits)
+    goes_owners (AwaitsPage t) here e low told = absurd (subst (Fits (slice_index b.bases) k.V k.frames v.core) (tells X v.core (AwaitsPage t) here) part.fits)
     goes_owners (StoresWord t page stored) here e low told = refl
     goes_owners (StoresLength t page stored) here e low told = refl
     goes_owners (GivesBack t page reason) here e low told = refl
-    goes_owners (HasHanded t reason) here e low told = absurd (subst (Fits k.V k.frames v.core) (tells X v.core (HasHanded t reason) here) part.fits)
+    goes_owners (HasHanded t reason) here e low told = absurd (subst (Fits (slice_index b.bases) k.V k.frames v.core) (tells X v.core (HasHanded t reason) here) part.fits)
 
 -- ---- who goes on as a sender is in its situation
 pub due_goes : {E : Type 0} (v : Option Op) (s : Option Reclaiming) (z w : Situation E) → due_beside v s z ≡ Goes w → z ≡ w
@@ -455,7 +453,7 @@ module _ {E : Type 0} (X : Election E) (b : CyclicMachine E) (new : IsNewCyclic 
   new_pin p None e = refl
   new_pin p (Some v) e = ap (λ (u : Participant E). u.pin) (new.participants p v e).1
 
-  new_core_is : (p : ℕ) (c : Core E) (o : Option (Participant E)) → slice_get b.participants p ≡ o → core_in o ≡ Some c → (p < b.layout.senders) × (c ≡ new_core b.layout p)
+  new_core_is : (p : ℕ) (c : Core E) (o : Option (Participant E)) → slice_get b.participants p ≡ o → core_in o ≡ Some c → (p < b.layout.senders) × (c ≡ new_core b.layout (slice_index b.bases p) p)
   new_core_is p c None e i = absurd (let bad : None ≡ Some c = i in cc)
   new_core_is p c (Some v) e i = let n = new.participants p v e in (n.0, sym (same_Some _ _ i) ∙ ap (λ (u : Participant E). u.core) n.1)
 
@@ -469,6 +467,7 @@ module _ {E : Type 0} (X : Election E) (b : CyclicMachine E) (new : IsNewCyclic 
     holder = λ p v t e held. absurd (let bad : None ≡ Some t = ap (λ (u : Participant E). held_of u.core.phase) (sym (new.participants p v e).1) ∙ held in cc);
     led = NewProtocol (yard_of b None []) record {
       reclamation = ap (λ w. record { words = w; pins = λ p. pin_in (slice_get b.participants p); reclaimer = None }) no_word ∙ ap (λ v. record { words = λ r. 0; pins = v; reclaimer = None }) (fun_ext (λ p. new_pin p (slice_get b.participants p) refl));
+      bases_are = new.bases_are;
       home = new.home;
       senders = λ p c e. new_core_is p c (slice_get b.participants p) refl e;
       receivers = new.receivers;
@@ -545,7 +544,7 @@ module _ {E : Type 0} (X : Election E) (P : Protocol E (Unit {0}) ℕ) (laws : L
           reclaimer = h.leads.reclaimer;
           holder = holder_after X P laws b x.ok x.width x.starts owner_is named announces apart x.two h.is T.pins T.actions T.heard h.leads s v at 0 turn.Going v' h.leads.reclaimer (λ t e. h.leads.holder s v t at e) (λ p w t ne here e. refl);
           led = subst (λ yy. Led X b.layout b.rows yy T.pins (actions_with s ds T.actions) T.heard)
-              (yards_same _ _ _ _ _ _ h.leads.reclaimer b.home y.receivers h.leads.owners refl
+              (yards_same b.bases _ _ _ _ _ _ h.leads.reclaimer b.home y.receivers h.leads.owners refl
               (sym (put_is s v.pin y.reclamation.pins (ap pin_in at)) ∙ sym (list_put pin_in b.participants s v' within))
               (sym (list_put core_in b.participants s v' within)))
               led;

@@ -81,7 +81,7 @@ all_after x rows receivers frames f H h = record { each = λ r v e. hears_after 
 
 -- ---- a turn
 -- words whose log lies elsewhere
-module _ (x : Layout) (rows : ℕ) (frames : List Frame) (W V : ℕ → ℕ) (log : Logged x.senders x.capacity (log_at x) V (V 0) frames) (first : W 0 ≡ V 0) (same : (k : ℕ) → k < x.capacity → W (log_from x rows + k) ≡ V (log_at x + k))
+module _ {base : ℕ → ℕ} (x : Layout) (rows : ℕ) (frames : List Frame) (W V : ℕ → ℕ) (log : Logged base x.senders x.capacity (log_at x) V (V 0) frames) (first : W 0 ≡ V 0) (same : (k : ℕ) → k < x.capacity → W (log_from x rows + k) ≡ V (log_at x + k))
     (v : Receiving) (trail : List RecvTurn) (h : HearsCyclic x rows frames v trail) (answer : RecvTurn) (next : Receiving) where
   size_is : length (log_words frames) ≡ V 0
   size_is = sym (ap length log.words_are) ∙ length-read V (log_at x) (V 0)

@@ -37,7 +37,7 @@ use Rattle.bus_world.specs.Bus.{IsLayout, Part, Fits, Sending, standing_of, leas
 use Rattle.bus_core.specs.Reusing.Participants.{Due, sizes_with, log_from, place_for, reclaim_due, due_reclaimed, due_home, due_beside, core_looked, core_seen, pin_seen, pin_elected}
 use Rattle.bus_world.specs.Turning.{number_found, core_with_page, core_after, home_after, owners_after}
 use Rattle.bus_world.specs.CyclicProtocols.{CyclicProtocol, IsNewProtocol, Led, IsKeptProtocol, NewProtocol, Turned, PutIn, ClosedIn, Heard, no_answers, answers_with, going_actions, due_actions, actions_with, no_actions, due_in, words_stepped, word_found, yard_pin_stepped, yard_reclaimed, yard_after_going, yard_after, trails_with}
-use Rattle.bus_world.specs.World.{new_page, RecvDoes, can_put, can_close}
+use Rattle.bus_world.specs.World.{first_page, RecvDoes, can_put, can_close}
 use Rattle.bus_world.proofs.Accepting.{Accepted, Puts, Closes, AreAccepted, accept, grows}
 use Rattle.bus_world.proofs.Beginning.{new_sending}
 use Rattle.bus_world.proofs.BusLaws as bus
@@ -46,7 +46,8 @@ use Rattle.bus_world.proofs.TurningLaws.{Steps, open_stage, begins_opened, turn_
 use Rattle.bus_world.proofs.Waiting.{frames_after}
 use Rattle.bus_world.specs.Headline.{Action, HasPut, HasClosed, Stepped, Took, IsPrefix}
 use Rattle.bus_world.specs.Log.{words_read_from}
-use Rattle.bus_world.proofs.FrameOwners.{counted_from, owner_took, rise}
+use Rattle.bus_world.proofs.WorldLaws.{counted_at}
+use Rattle.bus_world.proofs.FrameOwners.{owner_took, rise}
 use Rattle.bus_world.proofs.Framing.{framed, last_frame}
 use Rattle.std.proofs.lemmas.List.{map-append}
 use Rattle.bus_world.specs.Trails.{step_action}
@@ -161,10 +162,10 @@ module _ {E : Type 0} (X : Election E) (P : Protocol E (Unit {0}) ℕ) (laws : L
   pub record Kept (H : ℕ → List RecvTurn) (y : CyclicProtocol E) (T : Trails) (D : ℕ → List Action) (V : ℕ → ℕ) (frames : List Frame) : Type 0 where
     pub hears : AllHear x rows y.receivers frames H
     pub reached : Reached z y.reclamation T
-    pub sending : Sending P x V y.home y.senders y.owners frames
+    pub sending : Sending (slice_index y.bases) P x V y.home y.senders y.owners frames
     pub laid : Laid x rows y.reclamation V
     pub ties : TiesOf P x V y.senders y.owners D
-    pub notes : IsNoted y.senders frames D
+    pub notes : IsNoted (slice_index y.bases) y.senders frames D
     pub participants : (p : ℕ) (c : Core E) → y.senders p ≡ Some c → IsParticipant (y.reclamation.pins p) c
     pub ready : (t : ℕ) → y.reclamation.words 1 ≡ 2 * t + 1 → y.reclamation.reclaimer ≡ None → t + 1 < rows
 
@@ -178,7 +179,7 @@ module _ {E : Type 0} (X : Election E) (P : Protocol E (Unit {0}) ℕ) (laws : L
     h : Reclamation
     h = y.reclamation
 
-    part : Part x V frames p c
+    part : Part (slice_index y.bases) x V frames p c
     part = k.sending.parts p c old
 
     participant : IsParticipant (y.reclamation.pins p) c
@@ -205,10 +206,10 @@ module _ {E : Type 0} (X : Election E) (P : Protocol E (Unit {0}) ℕ) (laws : L
     tied_put V' c' ds = tied V' c' (put p (Some c') y.senders) (put_beside p (Some c') y.senders) (put_here p (Some c') y.senders) ds
 
     -- its messages wait on, and the frames are the same
-    noted : (c' : Core E) (senders' : ℕ → Option (Core E)) → Beside p y.senders senders' → senders' p ≡ Some c' → (ds : List Action) → PutsNothing ds → waiting_of (Some c') ≡ waiting_of (Some c) → (c'.queue.phase ≡ Closing → c.queue.phase ≡ Closing) → IsNoted senders' frames (actions_with p ds D)
+    noted : (c' : Core E) (senders' : ℕ → Option (Core E)) → Beside p y.senders senders' → senders' p ≡ Some c' → (ds : List Action) → PutsNothing ds → waiting_of (Some c') ≡ waiting_of (Some c) → (c'.queue.phase ≡ Closing → c.queue.phase ≡ Closing) → IsNoted (slice_index y.bases) senders' frames (actions_with p ds D)
     noted c' senders' beside new ds = noted_over y.senders frames D k.notes p c old senders' beside c' new ds
 
-    noted_as : (c' : Core E) (ds : List Action) → PutsNothing ds → waiting_of (Some c') ≡ waiting_of (Some c) → (c'.queue.phase ≡ Closing → c.queue.phase ≡ Closing) → IsNoted (put p (Some c') y.senders) frames (actions_with p ds D)
+    noted_as : (c' : Core E) (ds : List Action) → PutsNothing ds → waiting_of (Some c') ≡ waiting_of (Some c) → (c'.queue.phase ≡ Closing → c.queue.phase ≡ Closing) → IsNoted (slice_index y.bases) (put p (Some c') y.senders) frames (actions_with p ds D)
     noted_as c' ds = noted c' (put p (Some c') y.senders) (put_beside p (Some c') y.senders) (put_here p (Some c') y.senders) ds
 
     abbrev same_actions : ℕ → List Action
@@ -242,7 +243,7 @@ module _ {E : Type 0} (X : Election E) (P : Protocol E (Unit {0}) ℕ) (laws : L
         kept = record {
           hears = k.hears;
           reached = reached';
-          sending = subst (λ s. Sending P x V y.home s y.owners frames) (sym (put_is p (Some (core_looked X c (y.reclamation.pins p) got)) y.senders (old ∙ ap Some (sym (ap (λ w. core_looked X c w got) at ∙ same))))) k.sending;
+          sending = subst (λ s. Sending (slice_index y.bases) P x V y.home s y.owners frames) (sym (put_is p (Some (core_looked X c (y.reclamation.pins p) got)) y.senders (old ∙ ap Some (sym (ap (λ w. core_looked X c w got) at ∙ same))))) k.sending;
           laid = laid';
           ties = tied V c (put p (Some (core_looked X c (y.reclamation.pins p) got)) y.senders) (put_beside p (Some (core_looked X c (y.reclamation.pins p) got)) y.senders)
               (put_here p (Some (core_looked X c (y.reclamation.pins p) got)) y.senders ∙ ap Some (ap (λ w. core_looked X c w got) at ∙ same)) [] (λ q a b. refl) (omega arith) (λ t e i. i) plain_none;
@@ -370,7 +371,7 @@ module _ {E : Type 0} (X : Election E) (P : Protocol E (Unit {0}) ℕ) (laws : L
         kept = record {
           hears = k.hears;
           reached = subst (λ v. Reached z (record { words = y.reclamation.words; pins = v; reclaimer = y.reclamation.reclaimer }) T) (sym (put_is p (y.reclamation.pins p) y.reclamation.pins refl)) k.reached;
-          sending = subst (λ s. Sending P x V y.home s y.owners frames) (sym (put_is p (Some c) y.senders old)) k.sending;
+          sending = subst (λ s. Sending (slice_index y.bases) P x V y.home s y.owners frames) (sym (put_is p (Some c) y.senders old)) k.sending;
           laid = laid_quiet x rows y.reclamation (record { words = y.reclamation.words; pins = put p (y.reclamation.pins p) y.reclamation.pins; reclaimer = y.reclamation.reclaimer }) V (quiet_same x rows y.reclamation (record { words = y.reclamation.words; pins = put p (y.reclamation.pins p) y.reclamation.pins; reclaimer = y.reclamation.reclaimer }) refl refl) k.laid;
           ties = tied_put V c ds (λ q a b. refl) (omega arith) (λ t e i. i) plain;
           notes = noted_as c ds nothing refl (λ i. i);
@@ -416,7 +417,7 @@ module _ {E : Type 0} (X : Election E) (P : Protocol E (Unit {0}) ℕ) (laws : L
         spent_kept more =
             let c' : Core E = record c { least = stage / 2 } in
             let pins_same = put_is p Away y.reclamation.pins away in
-            let fits = subst (Fits V frames c) rests part.fits in
+            let fits = subst (Fits (slice_index y.bases) V frames c) rests part.fits in
             record {
               V = V;
               frames = frames;
@@ -424,7 +425,7 @@ module _ {E : Type 0} (X : Election E) (P : Protocol E (Unit {0}) ℕ) (laws : L
                 hears = k.hears;
                 reached = subst (λ v. Reached z (record { words = y.reclamation.words; pins = v; reclaimer = y.reclamation.reclaimer }) T) (sym pins_same) k.reached;
                 sending = bus.spends X P laws x ok width V y.home y.senders y.owners frames k.sending p c c' (put p (Some c') y.senders) old (put_here p (Some c') y.senders) (put_beside p (Some c') y.senders) rests rests more
-                    record { layout = part.layout; me = part.me; below = part.below; sender = part.sender; queue = part.queue; fits = subst (Fits V frames c') (sym rests) fits };
+                    record { layout = part.layout; me = part.me; below = part.below; sender = part.sender; queue = part.queue; fits = subst (Fits (slice_index y.bases) V frames c') (sym rests) fits };
                 laid = laid_quiet x rows y.reclamation (record { words = y.reclamation.words; pins = put p Away y.reclamation.pins; reclaimer = y.reclamation.reclaimer }) V (quiet_same x rows y.reclamation (record { words = y.reclamation.words; pins = put p Away y.reclamation.pins; reclaimer = y.reclamation.reclaimer }) refl refl) k.laid;
                 ties = tied_put V c' looked (λ q a b. refl) (let a = ap (next_at c) rests in let b = ap (next_at c') rests in omega arith) (λ t e i. i) looked_plain;
                 notes = noted_as c' looked looked_nothing (ap (waiting_at c') rests ∙ sym (ap (waiting_at c) rests)) (λ i. i);
@@ -443,7 +444,7 @@ module _ {E : Type 0} (X : Election E) (P : Protocol E (Unit {0}) ℕ) (laws : L
               kept = record {
                 hears = k.hears;
                 reached = Then y.reclamation reclamation' T T k.reached (Begins y.reclamation T p t part.below away);
-                sending = subst (λ s. Sending P x V y.home s y.owners frames) (sym (put_is p (Some c) y.senders old)) k.sending;
+                sending = subst (λ s. Sending (slice_index y.bases) P x V y.home s y.owners frames) (sym (put_is p (Some c) y.senders old)) k.sending;
                 laid = laid_quiet x rows y.reclamation reclamation' V (quiet_same x rows y.reclamation reclamation' refl refl) k.laid;
                 ties = tied_put V c looked (λ q a b. refl) (omega arith) (λ u e i. i) looked_plain;
                 notes = noted_as c looked looked_nothing refl (λ i. i);
@@ -468,8 +469,8 @@ module _ {E : Type 0} (X : Election E) (P : Protocol E (Unit {0}) ℕ) (laws : L
 
       -- ---- the turn, in words with a row for each tenure
       turn_on : (zz : Situation E) → situation_of X c ≡ zz → (V' : ℕ → ℕ) (c' : Core E) → Steps (op_at X c zz word) V V' → c' ≡ core_after X c zz y.home (word_found (λ r. r) V (op_at X c zz word)) word
-          → Sending P x V' (home_after X c zz y.home) (put p (Some c') y.senders) (owners_after X c zz p y.owners) (frames_after X c zz frames)
-      turn_on zz at V' c' = subst (λ s. Steps (op_at X c s word) V V' → c' ≡ core_after X c s y.home (word_found (λ r. r) V (op_at X c s word)) word → Sending P x V' (home_after X c s y.home) (put p (Some c') y.senders) (owners_after X c s p y.owners) (frames_after X c s frames)) at
+          → Sending (slice_index y.bases) P x V' (home_after X c zz y.home) (put p (Some c') y.senders) (owners_after X c zz p y.owners) (frames_after X c zz frames)
+      turn_on zz at V' c' = subst (λ s. Steps (op_at X c s word) V V' → c' ≡ core_after X c s y.home (word_found (λ r. r) V (op_at X c s word)) word → Sending (slice_index y.bases) P x V' (home_after X c s y.home) (put p (Some c') y.senders) (owners_after X c s p y.owners) (frames_after X c s frames)) at
           (λ steps same. turn_keeps X P laws x ok width starts owner_is V y.home y.senders y.owners frames k.sending p c old word V' (put p (Some c') y.senders) (put_beside p (Some c') y.senders) steps (put_here p (Some c') y.senders ∙ ap Some same ∙ found_same (op_at X c (situation_of X c) word)))
         where
           found_same : (d : Option Op) → Some (core_after X c (situation_of X c) y.home (word_found (λ r. r) V d) word) ≡ Some (core_after X c (situation_of X c) y.home (number_found V d) word)
@@ -533,7 +534,7 @@ module _ {E : Type 0} (X : Election E) (P : Protocol E (Unit {0}) ℕ) (laws : L
           worked : Reached z (reclamation_with y.reclamation.pins) T
           worked = Works y.reclamation T p t far n k.reached stands low
 
-          sending' : Sending P x V' y.home (put p (Some c') y.senders) y.owners frames
+          sending' : Sending (slice_index y.bases) P x V' y.home (put p (Some c') y.senders) y.owners frames
           sending' = turn_on (Elects t e) at V' c' (subst (λ d. Steps d V V') (sym next) (changes_put o (row_at x t + far) n (sym above) (ap (after o) met_is)))
               (ap (λ g. core_elected c t (X.fed e g word) (X.owner (X.fed e g word))) met_is ∙ sym (ap (λ d. core_elected c t (X.fed e (word_found (λ r. r) V d) word) (X.owner (X.fed e (word_found (λ r. r) V d) word))) next))
 
@@ -777,11 +778,11 @@ module _ {E : Type 0} (X : Election E) (P : Protocol E (Unit {0}) ℕ) (laws : L
           owner_of : (o : Option ℕ) → is_some o ≡ true → (u : ℕ) × (o ≡ Some u)
           owner_of None i = absurd (true≢false (sym i))
           owner_of (Some u) i = (u, refl)
-      goes_kept (AwaitsPage t) at yard_reclaimed = absurd (subst (Fits V frames c) (tells X c (AwaitsPage t) at) part.fits)
+      goes_kept (AwaitsPage t) at yard_reclaimed = absurd (subst (Fits (slice_index y.bases) V frames c) (tells X c (AwaitsPage t) at) part.fits)
       goes_kept (StoresWord t page stored) at yard_reclaimed = let f = tells X c (StoresWord t page stored) at in stores_kept t page stored f.0 f.1 (stores_unpublished t page stored f.0 page.ended (has_room c page) (nat_lt stored (frame_len c)) (sym (ap (situation_at X c) f.1) ∙ at)) at
       goes_kept (StoresLength t page stored) at yard_reclaimed = let f = tells X c (StoresLength t page stored) at in tells_kept t page stored f.0 f.1 (tells_unpublished t page stored f.0 page.ended (has_room c page) (nat_lt stored (frame_len c)) (sym (ap (situation_at X c) f.1) ∙ at)) at
       goes_kept (GivesBack t page reason) at yard_reclaimed = let f = tells X c (GivesBack t page reason) at in gives_kept t page f.0 f.1 f.2 reason at (yard_reclaimed t page reason refl)
-      goes_kept (HasHanded t reason) at yard_reclaimed = absurd (subst (Fits V frames c) (tells X c (HasHanded t reason) at) part.fits)
+      goes_kept (HasHanded t reason) at yard_reclaimed = absurd (subst (Fits (slice_index y.bases) V frames c) (tells X c (HasHanded t reason) at) part.fits)
 
     -- ---- any turn
     abbrev KeptDue : ℕ → Answered → Due E → Type 0
@@ -865,15 +866,15 @@ module _ {E : Type 0} (X : Election E) (P : Protocol E (Unit {0}) ℕ) (laws : L
       by_can true q d plain = batch_now q (d ∷ []) plain
       by_can false q d plain = batch_now c.queue [] plain_none
 
-      accepted_notes : (a : Accepted) → IsNoted (put p (Some (accept c a)) y.senders) frames (actions_with p (accepted_actions a) D)
+      accepted_notes : (a : Accepted) → IsNoted (slice_index y.bases) (put p (Some (accept c a)) y.senders) frames (actions_with p (accepted_actions a) D)
       accepted_notes (Puts bytes) = by_put (can_put c.queue (length bytes)) refl
         where
-          by_put : (b : Bool) → can_put c.queue (length bytes) ≡ b → IsNoted (put p (Some (cond b (record c { queue = record c.queue { messages = c.queue.messages ++ bytes ∷ [] } }) c)) y.senders) frames (actions_with p (cond b (HasPut (next_of c.queue) bytes ∷ []) []) D)
+          by_put : (b : Bool) → can_put c.queue (length bytes) ≡ b → IsNoted (slice_index y.bases) (put p (Some (cond b (record c { queue = record c.queue { messages = c.queue.messages ++ bytes ∷ [] } }) c)) y.senders) frames (actions_with p (cond b (HasPut (next_of c.queue) bytes ∷ []) []) D)
           by_put true e = noted_put y.senders frames D k.notes p c old V part.fits part.me bytes e
           by_put false e = noted_as c [] nothing_put refl (λ i. i)
       accepted_notes Closes = by_close (can_close c.queue) refl
         where
-          by_close : (b : Bool) → can_close c.queue ≡ b → IsNoted (put p (Some (cond b (record c { queue = record c.queue { phase = Closing } }) c)) y.senders) frames (actions_with p (cond b (HasClosed ∷ []) []) D)
+          by_close : (b : Bool) → can_close c.queue ≡ b → IsNoted (slice_index y.bases) (put p (Some (cond b (record c { queue = record c.queue { phase = Closing } }) c)) y.senders) frames (actions_with p (cond b (HasClosed ∷ []) []) D)
           by_close true e = noted_close y.senders frames D k.notes p c old V part.fits part.me e
           by_close false e = noted_as c [] nothing_put refl (λ i. i)
 
@@ -910,8 +911,8 @@ module _ {E : Type 0} (X : Election E) (P : Protocol E (Unit {0}) ℕ) (laws : L
     kept = record {
       hears = all_new x rows y.receivers new.receivers;
       reached = subst (λ w. Reached z w no_trails) (sym new.reclamation) New;
-      sending = subst (λ w. Sending P x (λ r. 0) w y.senders y.owners []) (sym new.home) (subst (λ w. Sending P x (λ r. 0) (Some new_page) y.senders w []) (sym new.owners)
-          (new_sending X P laws x ok (λ r. 0) (λ r. refl) y.senders new.senders));
+      sending = subst (λ w. Sending (slice_index y.bases) P x (λ r. 0) w y.senders y.owners []) (sym new.home) (subst (λ w. Sending (slice_index y.bases) P x (λ r. 0) (Some (first_page y.bases)) y.senders w []) (sym new.owners)
+          (new_sending X P laws x ok y.bases new.bases_are (λ r. 0) (λ r. refl) y.senders new.senders));
       laid = subst (λ w. Laid x rows w (λ r. 0)) (sym new.reclamation) record { length = refl; stage = refl; log = λ j low. refl; row = λ t j room low live. refl; late = λ t j late room low. refl };
       ties = record {
         tables = start_tables y new;
@@ -1010,7 +1011,7 @@ module _ {E : Type 0} (X : Election E) (P : Protocol E (Unit {0}) ℕ) (laws : L
             delivered = λ r. delivered_to x.senders k.frames lawful _ (H r) (told r);
             told = λ r. heads_to k.frames _ (H r) (told r);
             faithful = record {
-              numbered = λ s q i e. counted_from 0 (of_sender s (order_of k.frames)) q i (h.sending.log.counted s) refl e;
+              numbered = λ s q i e. counted_at (slice_index y.bases s) (of_sender s (order_of k.frames)) q i (h.sending.log.counted s) e;
               messages = λ s. subst (IsPrefix (sent_by k.frames s)) (sym (h.notes.put s)) (record { rest = waiting_of (y.senders s); together = refl });
             };
             numbered = h.notes.counted;

@@ -1,5 +1,5 @@
 -- What senders have noted stays true: what each has put, how its messages were numbered, and who closed.
-use Rattle.std.proofs.Common.{◌≡◌, ◌≢◌, ℕ, true, false, cond, ◌&&◌, nat_lt, nat_le, Option, Some, None, inl, inr, List, [], ◌∷◌, ◌++◌, length, map, slice_get, arith, refl, sym, ◌∙◌, ap, subst}
+use Rattle.std.proofs.Common.{◌+◌, ◌≡◌, ◌≢◌, ℕ, true, false, cond, ◌&&◌, nat_lt, nat_le, Option, Some, None, inl, inr, List, [], ◌∷◌, ◌++◌, length, map, slice_get, arith, refl, sym, ◌∙◌, ap, subst}
 use Rattle.std.proofs.lemmas.Bool.{and_parts, cases_eq}
 use Rattle.std.proofs.lemmas.Bool.Decides.{eqb_tells}
 use Rattle.std.proofs.lemmas.Grind.{flat_map-append}
@@ -15,7 +15,7 @@ use Rattle.bus_tenure.specs.Core.{Core, is_empty}
 use Rattle.bus_tenure.specs.declared.phases.Phase.TheVariants as phase
 use Rattle.bus_world.specs.Bus.{Fits}
 use Rattle.bus_world.specs.Headline.{Action, HasPut, HasClosed, Closed, put_of, puts}
-use Rattle.bus_world.specs.Log.{sent_count}
+use Rattle.bus_world.specs.Log.{next_number}
 use Rattle.bus_world.proofs.Waiting.{waiting_at, waiting_of}
 use Rattle.bus_world.specs.World.{is_open, can_put, can_close}
 use Rattle.bus_world.specs.CyclicProtocols.{actions_with}
@@ -31,10 +31,10 @@ use Rattle.bus_world.proofs.Tying.{AreNumbered}
 abbrev pub sent_by : List Frame → ℕ → List (List ℕ)
 sent_by frames q = map (λ (i : Item). i.message) (of_sender q (order_of frames))
 
-pub record IsNoted {E : Type 0} (senders : ℕ → Option (Core E)) (frames : List Frame) (D : ℕ → List Action) : Type 0 where
+pub record IsNoted {E : Type 0} (base : ℕ → ℕ) (senders : ℕ → Option (Core E)) (frames : List Frame) (D : ℕ → List Action) : Type 0 where
   -- what a sender has put: its messages in the order, and those that wait
   pub put : (s : ℕ) → puts (D s) ≡ sent_by frames s ++ waiting_of (senders s)
-  pub counted : (s : ℕ) → AreNumbered (D s)
+  pub counted : (s : ℕ) → AreNumbered (base s) (D s)
   pub closings : Closings senders frames D
 
 length_mapped : (xs : List Item) → length (map (λ (i : Item). i.message) xs) ≡ length xs
@@ -46,7 +46,7 @@ pub record PutsNothing (ds : List Action) : Type 0 where
   pub none : puts ds ≡ []
   pub never : (j n : ℕ) (bytes : List ℕ) → slice_get ds j ≡ Some (HasPut n bytes) → ⊥
 
-module _ {E : Type 0} (senders : ℕ → Option (Core E)) (frames : List Frame) (D : ℕ → List Action) (n : IsNoted senders frames D) (p : ℕ) (c : Core E) (old : senders p ≡ Some c) where
+module _ {base : ℕ → ℕ} {E : Type 0} (senders : ℕ → Option (Core E)) (frames : List Frame) (D : ℕ → List Action) (n : IsNoted base senders frames D) (p : ℕ) (c : Core E) (old : senders p ≡ Some c) where
   -- of the others nothing is noted
   noted_other : (ds : List Action) (q : ℕ) → q ≢ p → actions_with p ds D q ≡ D q
   noted_other ds q ne = elim (eqb_tells q p) [ inl y ↦ absurd (ne y.1) | inr z ↦ ap (λ b. D q ++ cond b ds []) z.0 ∙ append-nil (D q) ]
@@ -57,33 +57,33 @@ module _ {E : Type 0} (senders : ℕ → Option (Core E)) (frames : List Frame) 
   -- a turn: messages go from a batch into the order
   pub noted_turn : (senders' : ℕ → Option (Core E)) → Beside p senders senders' → (c' : Core E) → senders' p ≡ Some c' → (frames' : List Frame) (ds : List Action) → PutsNothing ds
       → ((q : ℕ) → sent_by frames' q ++ waiting_of (senders' q) ≡ sent_by frames q ++ waiting_of (senders q)) → (c'.queue.phase ≡ Closing → c.queue.phase ≡ Closing)
-      → ((i : ℕ) (f : Frame) → slice_get frames' i ≡ Some f → f.body ≡ EndMark → Closed (actions_with p ds D f.owner.0)) → IsNoted senders' frames' (actions_with p ds D)
+      → ((i : ℕ) (f : Frame) → slice_get frames' i ≡ Some f → f.body ≡ EndMark → Closed (actions_with p ds D f.owner.0)) → IsNoted base senders' frames' (actions_with p ds D)
   noted_turn senders' beside c' new frames' ds nothing waits closing ends = record {
     put = λ q. elim (cases_eq q p) [
       | inl e ↦ ap puts (noted_own ds q e) ∙ flat_map-append put_of (D q) ds ∙ ap (λ z. puts (D q) ++ z) nothing.none ∙ append-nil (puts (D q)) ∙ n.put q ∙ sym (waits q)
       | inr ne ↦ ap puts (noted_other ds q ne) ∙ n.put q ∙ sym (waits q)
     ];
     counted = λ q. elim (cases_eq q p) [
-      | inl e ↦ subst AreNumbered (sym (noted_own ds q e)) (numbered_more (D q) ds (n.counted q) (λ j m bytes at. absurd (nothing.never j m bytes at)))
-      | inr ne ↦ subst AreNumbered (sym (noted_other ds q ne)) (n.counted q)
+      | inl e ↦ subst (AreNumbered (base q)) (sym (noted_own ds q e)) (numbered_more (base q) (D q) ds (n.counted q) (λ j m bytes at. absurd (nothing.never j m bytes at)))
+      | inr ne ↦ subst (AreNumbered (base q)) (sym (noted_other ds q ne)) (n.counted q)
     ];
     closings = closings_on senders frames D n.closings p c old ds senders' beside c' new frames' (λ e. own_closed senders frames D n.closings p c old ds (closing e)) ends;
   }
 
   -- where the frames stay
   pub noted_over : (senders' : ℕ → Option (Core E)) → Beside p senders senders' → (c' : Core E) → senders' p ≡ Some c' → (ds : List Action) → PutsNothing ds → waiting_of (Some c') ≡ waiting_of (Some c) → (c'.queue.phase ≡ Closing → c.queue.phase ≡ Closing)
-      → IsNoted senders' frames (actions_with p ds D)
+      → IsNoted base senders' frames (actions_with p ds D)
   noted_over senders' beside c' new ds nothing waits closing = noted_turn senders' beside c' new frames ds nothing (λ q. elim (cases_eq q p) [
     | inl e ↦ ap (λ z. sent_by frames q ++ waiting_of z) (ap senders' e ∙ new) ∙ ap (λ z. sent_by frames q ++ z) waits ∙ ap (λ z. sent_by frames q ++ waiting_of z) (sym (ap senders e ∙ old))
     | inr ne ↦ ap (λ z. sent_by frames q ++ waiting_of z) (beside q ne)
   ]) closing (frames_later senders frames D n.closings p c old ds)
 
   -- ---- what it accepts
-  module _ (words : ℕ → ℕ) (fits : Fits words frames c c.phase) (me : c.me ≡ p) where
+  module _ (words : ℕ → ℕ) (fits : Fits base words frames c c.phase) (me : c.me ≡ p) where
     abbrev with_batch : Pending → ℕ → Option (Core E)
     with_batch q = put p (Some (record c { queue = q })) senders
 
-    pub noted_put : (bytes : List ℕ) → can_put c.queue (length bytes) ≡ true → IsNoted (with_batch (record c.queue { messages = c.queue.messages ++ bytes ∷ [] })) frames (actions_with p (HasPut (next_of c.queue) bytes ∷ []) D)
+    pub noted_put : (bytes : List ℕ) → can_put c.queue (length bytes) ≡ true → IsNoted base (with_batch (record c.queue { messages = c.queue.messages ++ bytes ∷ [] })) frames (actions_with p (HasPut (next_of c.queue) bytes ∷ []) D)
     noted_put bytes can = record {
       put = λ q. elim (cases_eq q p) [
         | inl e ↦ ap puts (noted_own ds q e) ∙ flat_map-append put_of (D q) ds ∙ ap (λ z. z ++ bytes ∷ []) (n.put q) ∙ append_assoc (sent_by frames q) (waiting_of (senders q)) (bytes ∷ [])
@@ -91,10 +91,10 @@ module _ {E : Type 0} (senders : ℕ → Option (Core E)) (frames : List Frame) 
         | inr ne ↦ ap puts (noted_other ds q ne) ∙ n.put q ∙ sym (ap (λ z. sent_by frames q ++ waiting_of z) (put_beside p (Some c') senders q ne))
       ];
       counted = λ q. elim (cases_eq q p) [
-        | inl e ↦ subst AreNumbered (sym (noted_own ds q e)) (numbered_more (D q) ds (n.counted q) (λ j m b at.
+        | inl e ↦ subst (AreNumbered (base q)) (sym (noted_own ds q e)) (numbered_more (base q) (D q) ds (n.counted q) (λ j m b at.
             let one = only_action (HasPut (next_of c.queue) bytes) j (HasPut m b) at in
-            (one.0, sym (same_number (next_of c.queue) m bytes b one.1) ∙ number ∙ sym (ap (λ z. length (puts (D z))) e))))
-        | inr ne ↦ subst AreNumbered (sym (noted_other ds q ne)) (n.counted q)
+            (one.0, sym (same_number (next_of c.queue) m bytes b one.1) ∙ number ∙ sym (ap (λ z. base z + length (puts (D z))) e))))
+        | inr ne ↦ subst (AreNumbered (base q)) (sym (noted_other ds q ne)) (n.counted q)
       ];
       closings = closings_on senders frames D n.closings p c old ds later (put_beside p (Some c') senders) c' (put_here p (Some c') senders) frames (λ e. own_closed senders frames D n.closings p c old ds e) (frames_later senders frames D n.closings p c old ds);
     } where
@@ -110,7 +110,7 @@ module _ {E : Type 0} (senders : ℕ → Option (Core E)) (frames : List Frame) 
       rests : c.phase ≡ phase.Resting
       rests =
           let tests = (and_parts (is_open c.queue.phase) (cond c.queue.busy false true && (nat_le (length bytes) 56 && nat_lt (length c.queue.messages) 16)) can).1 in
-          idle_rests words frames c c.phase fits (not_busy c.queue.busy (and_parts (cond c.queue.busy false true) (nat_le (length bytes) 56 && nat_lt (length c.queue.messages) 16) tests).0)
+          idle_rests base words frames c c.phase fits (not_busy c.queue.busy (and_parts (cond c.queue.busy false true) (nat_le (length bytes) 56 && nat_lt (length c.queue.messages) 16) tests).0)
 
       before : waiting_of (Some c) ≡ c.queue.messages
       before = ap (waiting_at c) rests
@@ -118,15 +118,15 @@ module _ {E : Type 0} (senders : ℕ → Option (Core E)) (frames : List Frame) 
       after : waiting_of (Some c') ≡ c.queue.messages ++ bytes ∷ []
       after = ap (waiting_at c') rests
 
-      first : c.queue.first ≡ sent_count p frames
-      first = (subst (Fits words frames c) rests fits).1 ∙ ap (λ z. sent_count z frames) me
+      first : c.queue.first ≡ next_number base p frames
+      first = (subst (Fits base words frames c) rests fits).1 ∙ ap (λ z. next_number base z frames) me
 
-      number : next_of c.queue ≡ length (puts (D p))
+      number : next_of c.queue ≡ base p + length (puts (D p))
       number =
           let a = ap length (n.put p ∙ ap (λ z. sent_by frames p ++ waiting_of z) old ∙ ap (λ z. sent_by frames p ++ z) before) in
           let b = length-append (sent_by frames p) c.queue.messages in let d = length_mapped (of_sender p (order_of frames)) in let e = first in omega arith
 
-    pub noted_close : can_close c.queue ≡ true → IsNoted (with_batch (record c.queue { phase = Closing })) frames (actions_with p (HasClosed ∷ []) D)
+    pub noted_close : can_close c.queue ≡ true → IsNoted base (with_batch (record c.queue { phase = Closing })) frames (actions_with p (HasClosed ∷ []) D)
     noted_close can = record {
       put = λ q. elim (cases_eq q p) [
         | inl e ↦ ap puts (noted_own (HasClosed ∷ []) q e) ∙ flat_map-append put_of (D q) (HasClosed ∷ []) ∙ append-nil (puts (D q)) ∙ n.put q ∙ ap (λ z. sent_by frames q ++ waiting_of z) (ap senders e ∙ old) ∙ ap (λ z. sent_by frames q ++ z) (ap (waiting_at c) rests)
@@ -134,8 +134,8 @@ module _ {E : Type 0} (senders : ℕ → Option (Core E)) (frames : List Frame) 
         | inr ne ↦ ap puts (noted_other (HasClosed ∷ []) q ne) ∙ n.put q ∙ sym (ap (λ z. sent_by frames q ++ waiting_of z) (put_beside p (Some c') senders q ne))
       ];
       counted = λ q. elim (cases_eq q p) [
-        | inl e ↦ subst AreNumbered (sym (noted_own (HasClosed ∷ []) q e)) (numbered_more (D q) (HasClosed ∷ []) (n.counted q) (λ j m b at. absurd (closed_apart m b (only_action HasClosed j (HasPut m b) at).1)))
-        | inr ne ↦ subst AreNumbered (sym (noted_other (HasClosed ∷ []) q ne)) (n.counted q)
+        | inl e ↦ subst (AreNumbered (base q)) (sym (noted_own (HasClosed ∷ []) q e)) (numbered_more (base q) (D q) (HasClosed ∷ []) (n.counted q) (λ j m b at. absurd (closed_apart m b (only_action HasClosed j (HasPut m b) at).1)))
+        | inr ne ↦ subst (AreNumbered (base q)) (sym (noted_other (HasClosed ∷ []) q ne)) (n.counted q)
       ];
       closings = closings_on senders frames D n.closings p c old (HasClosed ∷ []) later (put_beside p (Some c') senders) c' (put_here p (Some c') senders) frames (λ e. own_closes senders frames D n.closings p c old (HasClosed ∷ []) (0, refl)) (frames_later senders frames D n.closings p c old (HasClosed ∷ []));
     } where
@@ -148,7 +148,7 @@ module _ {E : Type 0} (senders : ℕ → Option (Core E)) (frames : List Frame) 
       rests : c.phase ≡ phase.Resting
       rests =
           let tests = (and_parts (is_open c.queue.phase) (cond c.queue.busy false true && is_empty c.queue.messages) can).1 in
-          idle_rests words frames c c.phase fits (not_busy c.queue.busy (and_parts (cond c.queue.busy false true) (is_empty c.queue.messages) tests).0)
+          idle_rests base words frames c c.phase fits (not_busy c.queue.busy (and_parts (cond c.queue.busy false true) (is_empty c.queue.messages) tests).0)
 
 -- a turn's actions are steps
 pub steps_put_nothing : (k : Option Kind) (tenure : Option ℕ) (got : ℕ) (chose : Option ℕ) (a : Answered) → PutsNothing (step_action k tenure got chose a)

@@ -1,5 +1,5 @@
 -- Every event keeps what ties the trails to the bus, and the promise follows from it.
-use Rattle.std.proofs.Common.{◌≡◌, ℕ, zero, suc, ◌+◌, ◌*◌, ◌<◌, ◌≤◌, Bool, true, false, cond, ◌&&◌, ◌==◌, nat_lt, nat_le, Option, Some, None, is_some, inl, inr, List, [], ◌∷◌, ◌++◌, length, map, take, flat_map, slice_get, slice_index, slice_set, arith, refl, sym, ◌∙◌, ap, subst, append_assoc}
+use Rattle.std.proofs.Common.{◌≡◌, ℕ, zero, suc, ◌+◌, ◌*◌, ◌<◌, ◌≤◌, Bool, true, false, cond, ◌&&◌, ◌==◌, nat_lt, nat_le, Option, Some, None, is_some, inl, inr, List, [], ◌∷◌, ◌++◌, length, map, take, flat_map, slice_get, slice_index, slice_set, arith, refl, sym, ◌∙◌, ap, subst}
 use mathlib.Core.Path.{fun_ext}
 use Rattle.std.proofs.lemmas.Bool.Decides.{eqb_tells}
 use Rattle.std.proofs.lemmas.Grind.{flat_map-append}
@@ -37,20 +37,20 @@ use Rattle.std.proofs.lemmas.Bool.Decides.{nat_tests}
 use Rattle.std.specs.Prelude.{◌||◌}
 use Rattle.std.specs.List.{list_any}
 use Rattle.bus_world.specs.Bus.{IsLayout, Fits}
-use Rattle.bus_world.proofs.FrameOwners.{counted_from, owner_took, rise}
+use Rattle.bus_world.proofs.FrameOwners.{owner_took, rise}
 use Rattle.bus_world.proofs.Beginning.{zeros}
 use Rattle.bus_world.proofs.BusLaws as bus
 use Rattle.bus_world.specs.Headline.{Action, HasPut, HasClosed, Stepped, puts, Took, Closed, item_heard, end_heard, order_given, IsPrefix, Promises}
-use Rattle.bus_world.specs.Log.{sent_count}
+use Rattle.bus_world.specs.Log.{next_number, sent_count}
 use Rattle.bus_world.proofs.LogLaws.{length-read}
 use Rattle.bus_world.specs.Turning.{Side, side_after, core_after, number_found}
 use Rattle.bus_world.specs.World.{Bus, Event, Put, Close, Turn, Recv, Stop, going, IsEvent, Happens, SenderDoes, with_sender, can_put, can_close, put_in, close_in, LawfulBus, IsNew, is_open, given_at}
 use Rattle.bus_world.proofs.TurningLaws.{side_of}
-use Rattle.bus_world.proofs.WorldLaws.{event_left, event_puts, new_is_lawful}
-use Rattle.bus_world.specs.Playing.{AllAnswered, Answers, PutGives, CloseGives, TurnAnswers, RecvAnswers, log_of}
+use Rattle.bus_world.proofs.WorldLaws.{counted_at, event_left, event_puts, new_is_lawful}
+use Rattle.bus_world.specs.Playing.{Answers, PutGives, CloseGives, TurnAnswers, RecvAnswers, log_of}
 use Rattle.bus_world.specs.declared.events.Answer.{Answer}
 use Rattle.bus_world.specs.declared.events.Answer.TheVariants as answer
-use Rattle.bus_world.specs.Trails.{Trails, no_trails, trails_grown, trails_after, actions_of, put_actions, close_actions, turning_actions, step_action, heard_of, answer_heard, IsPromisedBy, IsPromised, StaysPromised, Follows, Played, Reached}
+use Rattle.bus_world.specs.Trails.{Trails, no_trails, trails_grown, actions_of, put_actions, close_actions, turning_actions, step_action, heard_of, answer_heard, IsPromisedBy, IsPromised, StaysPromised, Follows, Reached}
 use Rattle.bus_world.specs.Trails.Reached.{New, Then}
 use Rattle.bus_world.proofs.Stopping.{is_there}
 use Rattle.bus_world.proofs.Waiting.{frames_after, put_by, waiting_of, waiting_at, accepted, accepted_by, event_frames, frames_by}
@@ -61,7 +61,7 @@ use Rattle.bus_world.proofs.TurnTrails.{Ties, turn_ties, batch_ties}
 use Rattle.bus_world.proofs.HearTrails.{IsTold, hears_later, hears_more, delivered_to, heads_to, silent_to}
 use Rattle.bus_world.proofs.Closings.{Closings, still_closed, closings_after, frames_later, own_closed, own_closes, turn_closing, turn_frames}
 use Rattle.bus_world.proofs.Framing.{framed, last_frame, order_grows, owners_grow}
-use Rattle.bus_world.proofs.Growing.{event_takers, same_prefix, prefix_after}
+use Rattle.bus_world.proofs.Growing.{event_takers}
 
 open_apart : Open ≡ Closing → ⊥
 open_apart e = cc
@@ -101,10 +101,10 @@ closed_apart n bytes e = cc
 pub stepped_apart : (tn : Option ℕ) (k : Kind) (got : ℕ) (ch : Option ℕ) (t : Answered) (n : ℕ) (bytes : List ℕ) → Stepped tn k got ch t ≡ HasPut n bytes → ⊥
 stepped_apart tn k got ch t n bytes e = cc
 
-pub numbered_more : (xs ds : List Action) → AreNumbered xs → ((j n : ℕ) (bytes : List ℕ) → slice_get ds j ≡ Some (HasPut n bytes) → (j ≡ 0) × (n ≡ length (puts xs))) → AreNumbered (xs ++ ds)
-numbered_more xs ds h more place number bytes e = elim (got_split xs ds place (HasPut number bytes) e) [
-  | inl l ↦ h place number bytes l ∙ ap (λ z. length (puts z)) (sym (take-append-le place xs ds (let w = slice_get_within xs place _ l in omega arith)))
-  | inr r ↦ (let m = more r.0 number bytes r.2 in m.1 ∙ ap (λ z. length (puts z)) (sym (take_at xs ds place (let a = r.1 in let d = m.0 in omega arith))))
+pub numbered_more : (first : ℕ) (xs ds : List Action) → AreNumbered first xs → ((j n : ℕ) (bytes : List ℕ) → slice_get ds j ≡ Some (HasPut n bytes) → (j ≡ 0) × (n ≡ first + length (puts xs))) → AreNumbered first (xs ++ ds)
+numbered_more first xs ds h more place number bytes e = elim (got_split xs ds place (HasPut number bytes) e) [
+  | inl l ↦ h place number bytes l ∙ ap (λ z. first + length (puts z)) (sym (take-append-le place xs ds (let w = slice_get_within xs place _ l in omega arith)))
+  | inr r ↦ (let m = more r.0 number bytes r.2 in m.1 ∙ ap (λ z. first + length (puts z)) (sym (take_at xs ds place (let a = r.1 in let d = m.0 in omega arith))))
 ]
 
 -- ---- what an event puts
@@ -122,10 +122,6 @@ pub put_taken : (q : Pending) (len : ℕ) → CanPut q len → can_put q len ≡
 put_taken q len can =
     ap (λ z. is_open z && (cond q.busy false true && (nat_le len 56 && nat_lt (length q.messages) 16))) can.is_open ∙ ap (λ z. cond z false true && (nat_le len 56 && nat_lt (length q.messages) 16)) can.idle
     ∙ ap (λ z. z && nat_lt (length q.messages) 16) (within len 56 can.short) ∙ below_most (length q.messages) 16 can.room
-
-arms : {A : Type 0} (t : Bool) (x : A) → cond t x x ≡ x
-arms true x = refl
-arms false x = refl
 
 module _ {E : Type 0} (X : Election E) where
   put_puts_at : (t : Bool) (o : Option (Core E)) (bytes : List ℕ) (n : ℕ) → PutGives o (length bytes) n → puts (cond t (HasPut n bytes ∷ []) []) ≡ cond t (accepted_by o bytes) []
@@ -149,11 +145,11 @@ module _ {E : Type 0} (X : Election E) where
   actions_put b (Recv r) a b' q w = refl
   actions_put b (Stop s) a b' q w = refl
 
-module _ {E : Type 0} (X : Election E) (P : Protocol E (Unit {0}) ℕ) (laws : Laws X.op X.fed P OneOwner) (x : Layout) (ok : IsLayout x) (width : x.width ≡ P.width x.senders)
+module _ (bases : List ℕ) {E : Type 0} (X : Election E) (P : Protocol E (Unit {0}) ℕ) (laws : Laws X.op X.fed P OneOwner) (x : Layout) (ok : IsLayout x) (width : x.width ≡ P.width x.senders)
     (starts : (n me at : ℕ) → X.started n me x.rounds at ≡ P.started n me tt at) (owner_is : (e : E) → X.owner e ≡ P.output e)
     (named : (e : E) (word : ℕ) → is_some (X.kind_of e) ≡ is_some (X.op e word)) (announces : (e : E) → P.has_begun e ≡ false → X.kind_of e ≡ Some kind.Announce) (apart : (e : E) → X.kind_of e ≡ Some kind.TakePage → ⊥) where
   -- ---- the senders' side
-  module _ (b b' : Bus E) (frames : List Frame) (h : LawfulBus P x b frames) (D : ℕ → List Action) (T : Ties P x b.side D) where
+  module _ (b b' : Bus E) (frames : List Frame) (h : LawfulBus (slice_index bases) P x b frames) (D : ℕ → List Action) (T : Ties P x b.side D) where
     put_ties : (s : ℕ) (bytes : List ℕ) (o : Option (Core E)) → going b s ≡ o → SenderDoes b.side o (λ c. with_sender b.side s (put_in c bytes)) b'.side → (n : ℕ) → PutGives o (length bytes) n → Ties P x b'.side (λ q. D q ++ cond (q == s) (HasPut n bytes ∷ []) [])
     put_ties s bytes None i d n gives = absurd gives
     put_ties s bytes (Some c) i d n gives = subst (λ z. Ties P x z (λ q. D q ++ cond (q == s) (HasPut n bytes ∷ []) [])) (sym d) (by_test (can_put c.queue (length bytes)))
@@ -183,7 +179,7 @@ module _ {E : Type 0} (X : Election E) (P : Protocol E (Unit {0}) ℕ) (laws : L
     event_ties (Stop s) a d w = subst (λ z. Ties P x z (λ q. D q ++ [])) (sym d.0) (subst (Ties P x b.side) (sym (fun_ext (λ q. append-nil (D q)))) T)
 
   -- ---- who closed
-  module _ (b b' : Bus E) (frames : List Frame) (h : LawfulBus P x b frames) (D : ℕ → List Action) (C : Closings (slice_get b.side.senders) frames D) where
+  module _ (b b' : Bus E) (frames : List Frame) (h : LawfulBus (slice_index bases) P x b frames) (D : ℕ → List Action) (C : Closings (slice_get b.side.senders) frames D) where
     -- a sender goes on with another batch, and the frames stay
     goes_on_closing : (s : ℕ) (c c' : Core E) (i : slice_get b.side.senders s ≡ Some c) (ds : List Action) → (c'.queue.phase ≡ Closing → Closed (D s ++ cond (s == s) ds [])) → b'.side.senders ≡ slice_set b.side.senders s c' → Closings (slice_get b'.side.senders) frames (λ q. D q ++ cond (q == s) ds [])
     goes_on_closing s c c' i ds own same = subst (λ z. Closings (slice_get z) frames (λ q. D q ++ cond (q == s) ds [])) (sym same)
@@ -228,7 +224,7 @@ module _ {E : Type 0} (X : Election E) (P : Protocol E (Unit {0}) ℕ) (laws : L
     each : (r : ℕ) (v : Receiving) → slice_get receivers r ≡ Some v → Hears frames v (A r)
     silent : (r : ℕ) → slice_get receivers r ≡ None → A r ≡ []
 
-  module _ (b b' : Bus E) (frames more : List Frame) (h : LawfulBus P x b frames) (A : ℕ → List RecvTurn) (H : Heard frames b.receivers A) where
+  module _ (b b' : Bus E) (frames more : List Frame) (h : LawfulBus (slice_index bases) P x b frames) (A : ℕ → List RecvTurn) (H : Heard frames b.receivers A) where
     below : (r : ℕ) (v : Receiving) → slice_get b.receivers r ≡ Some v → v.place ≤ length (log_words frames)
     below r v i =
         let own = (h.keeps.receiving r v i).receives in
@@ -242,7 +238,7 @@ module _ {E : Type 0} (X : Election E) (P : Protocol E (Unit {0}) ℕ) (laws : L
       silent = λ r i. append-nil (A r) ∙ H.silent r (ap (λ z. slice_get z r) (sym same) ∙ i);
     }
 
-    one_hears : b'.side ≡ b.side → (lawful : LawfulBus P x b' (frames ++ more)) → (q : ℕ) (o : Option Receiving) → slice_get b.receivers q ≡ o → (a : Answer) → RecvAnswers b.side.words b.receivers q o a b'.receivers → Heard (frames ++ more) b'.receivers (λ r. A r ++ cond (r == q) (answer_heard a) [])
+    one_hears : b'.side ≡ b.side → (lawful : LawfulBus (slice_index bases) P x b' (frames ++ more)) → (q : ℕ) (o : Option Receiving) → slice_get b.receivers q ≡ o → (a : Answer) → RecvAnswers b.side.words b.receivers q o a b'.receivers → Heard (frames ++ more) b'.receivers (λ r. A r ++ cond (r == q) (answer_heard a) [])
     one_hears side lawful q None i a w = absurd w
     one_hears side lawful q (Some v) i a w = subst (λ z. Heard (frames ++ more) b'.receivers (λ r. A r ++ cond (r == q) (answer_heard z) [])) (sym w.4) record {
       each = λ r u j. elim (eqb_tells r q) [
@@ -271,7 +267,7 @@ module _ {E : Type 0} (X : Election E) (P : Protocol E (Unit {0}) ℕ) (laws : L
           let same : slice_index b'.side.words 0 ≡ slice_index b.side.words 0 = ap (λ (z : Side E). slice_index z.words 0) side in
           let a = own.place_below in let d = own.known_below in omega arith
 
-    event_heard : LawfulBus P x b' (frames ++ more) → (e : Event) (a : Answer) → Happens X b e b' → Answers X b e a b' → Heard (frames ++ more) b'.receivers (λ r. A r ++ heard_of e a r)
+    event_heard : LawfulBus (slice_index bases) P x b' (frames ++ more) → (e : Event) (a : Answer) → Happens X b e b' → Answers X b e a b' → Heard (frames ++ more) b'.receivers (λ r. A r ++ heard_of e a r)
     event_heard lawful (Put s bytes) a d w = nobody_hears d.1
     event_heard lawful (Close s) a d w = nobody_hears d.1
     event_heard lawful (Turn s word) a d w = nobody_hears d.1
@@ -279,19 +275,19 @@ module _ {E : Type 0} (X : Election E) (P : Protocol E (Unit {0}) ℕ) (laws : L
     event_heard lawful (Stop s) a d w = nobody_hears d.1
 
   -- ---- the numbers of messages
-  module _ (b : Bus E) (frames : List Frame) (h : LawfulBus P x b frames) where
+  module _ (b : Bus E) (frames : List Frame) (h : LawfulBus (slice_index bases) P x b frames) where
     busy_apart : (busy : Bool) → busy ≡ true → cond busy false true ≡ true → ⊥
     busy_apart true e f = let z : false ≡ true = f in cc
     busy_apart false e f = let z : false ≡ true = e in cc
 
-    number_at : (s : ℕ) (c : Core E) → slice_get b.side.senders s ≡ Some c → (ph : SenderPhase E) → c.phase ≡ ph → Fits (slice_index b.side.words) frames c ph → cond c.queue.busy false true ≡ true → next_of c.queue ≡ length (put_by b frames s)
+    number_at : (s : ℕ) (c : Core E) → slice_get b.side.senders s ≡ Some c → (ph : SenderPhase E) → c.phase ≡ ph → Fits (slice_index bases) (slice_index b.side.words) frames c ph → cond c.queue.busy false true ≡ true → next_of c.queue ≡ slice_index bases s + length (put_by b frames s)
     number_at s c i phase.Resting e fits idle =
         let part = h.keeps.sending.parts s c i in
         let sent_now = map (λ (v : Item). v.message) (of_sender s (order_of frames)) in
         let waits : waiting_of (slice_get b.side.senders s) ≡ c.queue.messages = ap waiting_of i ∙ ap (waiting_at c) e in
         let size : length (put_by b frames s) ≡ length sent_now + length c.queue.messages = ap (λ z. length (sent_now ++ z)) waits ∙ length-append sent_now c.queue.messages in
         let many : length sent_now ≡ sent_count s frames = length-map (of_sender s (order_of frames)) (λ (v : Item). v.message) in
-        let first : c.queue.first ≡ sent_count s frames = fits.1 ∙ ap (λ z. sent_count z frames) part.me in
+        let first : c.queue.first ≡ next_number (slice_index bases) s frames = fits.1 ∙ ap (λ z. next_number (slice_index bases) z frames) part.me in
         omega arith
     number_at s c i (phase.Electing t u) e fits idle = absurd (busy_apart c.queue.busy fits.0.busy idle)
     number_at s c i (phase.Taken t) e fits idle = absurd fits
@@ -299,15 +295,15 @@ module _ {E : Type 0} (X : Election E) (P : Protocol E (Unit {0}) ℕ) (laws : L
     number_at s c i (phase.Holding t page stored false) e fits idle = absurd (busy_apart c.queue.busy fits.0.busy idle)
     number_at s c i (phase.Giving t reason) e fits idle = absurd fits
 
-    put_number : (s : ℕ) (o : Option (Core E)) → going b s ≡ o → (len n : ℕ) → PutGives o len n → n ≡ length (put_by b frames s)
+    put_number : (s : ℕ) (o : Option (Core E)) → going b s ≡ o → (len n : ℕ) → PutGives o len n → n ≡ slice_index bases s + length (put_by b frames s)
     put_number s None i len n gives = absurd gives
     put_number s (Some c) i len n gives = gives.1 ∙ number_at s c (is_there b s c i) c.phase refl (h.keeps.sending.parts s c (is_there b s c i)).fits (ap (λ z. cond z false true) gives.0.idle)
 
-    numbers : (b' : Bus E) (e : Event) (a : Answer) → Answers X b e a b' → (q j n : ℕ) (bytes : List ℕ) → slice_get (actions_of X b e a q) j ≡ Some (HasPut n bytes) → (j ≡ 0) × (n ≡ length (put_by b frames q))
+    numbers : (b' : Bus E) (e : Event) (a : Answer) → Answers X b e a b' → (q j n : ℕ) (bytes : List ℕ) → slice_get (actions_of X b e a q) j ≡ Some (HasPut n bytes) → (j ≡ 0) × (n ≡ slice_index bases q + length (put_by b frames q))
     numbers b' (Put s bytes') a w q j n bytes e = elim (eqb_tells q s) [
       | inl y ↦
           let one = only_action (HasPut w.0 bytes') j _ (ap (λ t. slice_get (put_actions bytes' t) j) (sym w.2) ∙ ap (λ t. slice_get (cond t (put_actions bytes' a) []) j) (sym y.0) ∙ e) in
-          (one.0, sym (same_number _ _ _ _ one.1) ∙ subst (λ z. w.0 ≡ length (put_by b frames z)) (sym y.1) (put_number s (going b s) refl (length bytes') w.0 w.1))
+          (one.0, sym (same_number _ _ _ _ one.1) ∙ subst (λ z. w.0 ≡ slice_index bases z + length (put_by b frames z)) (sym y.1) (put_number s (going b s) refl (length bytes') w.0 w.1))
       | inr y ↦ absurd (none_in j _ (ap (λ t. slice_get (cond t (put_actions bytes' a) []) j) (sym y.0) ∙ e))
     ]
     numbers b' (Close s) a w q j n bytes e = absurd (by_test (q == s) (ap (λ t. slice_get (cond (q == s) (close_actions t) []) j) (sym w.1) ∙ e))
@@ -331,21 +327,21 @@ module _ {E : Type 0} (X : Election E) (P : Protocol E (Unit {0}) ℕ) (laws : L
   -- ---- one event, and any list of them
   pub record Kept (b : Bus E) (T : Trails) : Type 0 where
     pub frames : List Frame
-    pub lawful : LawfulBus P x b frames
-    pub tied : Tied P x b frames T
+    pub lawful : LawfulBus (slice_index bases) P x b frames
+    pub tied : Tied bases P x b frames T
 
   -- with these frames and more
   pub record KeptOn (frames : List Frame) (b : Bus E) (T : Trails) : Type 0 where
     pub more : List Frame
-    pub lawful : LawfulBus P x b (frames ++ more)
-    pub tied : Tied P x b (frames ++ more) T
+    pub lawful : LawfulBus (slice_index bases) P x b (frames ++ more)
+    pub tied : Tied bases P x b (frames ++ more) T
 
   event_on : (b b' : Bus E) (e : Event) (a : Answer) (T : Trails) (k : Kept b T) → IsEvent e → Happens X b e b' → Answers X b e a b' → KeptOn k.frames b' (trails_grown X b e a T)
   event_on b b' e a T k is d w =
       let after = event_left X P laws x ok width starts owner_is b k.frames k.lawful b' e is d in
       let more = after.left.continues.more in
       let frames_are : k.frames ++ more ≡ event_frames X b e k.frames = after.left.continues.together ∙ after.now_is in
-      let lawful = subst (LawfulBus P x b') (sym after.left.continues.together) after.left.lawful in
+      let lawful = subst (LawfulBus (slice_index bases) P x b') (sym after.left.continues.together) after.left.lawful in
       let t = event_ties b b' k.frames k.lawful T.actions record { tables = k.tied.tables; takers = k.tied.takers } e a d w in
       let heard = event_heard b b' k.frames more k.lawful T.heard record { each = k.tied.heard; silent = k.tied.silent } lawful e a d w in
       record {
@@ -356,7 +352,7 @@ module _ {E : Type 0} (X : Election E) (P : Protocol E (Unit {0}) ℕ) (laws : L
           takers = t.takers;
           puts = λ s. flat_map-append _ (T.actions s) (actions_of X b e a s) ∙ ap (λ z. z ++ puts (actions_of X b e a s)) (k.tied.puts s) ∙ ap (λ z. put_by b k.frames s ++ z) (actions_put X b e a b' s w)
               ∙ sym (event_puts X P laws x ok width starts owner_is b k.frames k.lawful b' e d s) ∙ ap (λ z. put_by b' z s) (sym frames_are);
-          counted = λ s. numbered_more (T.actions s) (actions_of X b e a s) (k.tied.counted s) (λ j n bytes i. let z = numbers b k.frames k.lawful b' e a w s j n bytes i in (z.0, z.1 ∙ ap length (sym (k.tied.puts s))));
+          counted = λ s. numbered_more (slice_index bases s) (T.actions s) (actions_of X b e a s) (k.tied.counted s) (λ j n bytes i. let z = numbers b k.frames k.lawful b' e a w s j n bytes i in (z.0, z.1 ∙ ap (λ y. slice_index bases s + length y) (sym (k.tied.puts s))));
           heard = heard.each;
           silent = heard.silent;
           closings = subst (λ z. Closings (slice_get b'.side.senders) z (λ q. T.actions q ++ actions_of X b e a q)) (sym frames_are) (event_closings b b' k.frames k.lawful T.actions k.tied.closings e a d w);
@@ -366,20 +362,11 @@ module _ {E : Type 0} (X : Election E) (P : Protocol E (Unit {0}) ℕ) (laws : L
   abbrev kept_of : (frames : List Frame) (b : Bus E) (T : Trails) → KeptOn frames b T → Kept b T
   kept_of frames b T k = record { frames = frames ++ k.more; lawful = k.lawful; tied = k.tied }
 
-  kept_on : (frames more : List Frame) (b : Bus E) (T : Trails) → KeptOn (frames ++ more) b T → KeptOn frames b T
-  kept_on frames more b T k = record { more = more ++ k.more; lawful = subst (LawfulBus P x b) (append_assoc frames more k.more) k.lawful; tied = subst (λ z. Tied P x b z T) (append_assoc frames more k.more) k.tied }
-
   event_kept : (b b' : Bus E) (e : Event) (a : Answer) (T : Trails) → Kept b T → IsEvent e → Happens X b e b' → Answers X b e a b' → Kept b' (trails_grown X b e a T)
   event_kept b b' e a T k is d w = kept_of k.frames b' (trails_grown X b e a T) (event_on b b' e a T k is d w)
 
-  run_on : (events : List Event) (frames : List Frame) (b b' : Bus E) (T : Trails) → LawfulBus P x b frames → Tied P x b frames T → (run : AllAnswered X b events b') → KeptOn frames b' (trails_after X b events b' run T)
-  run_on [] frames b b' T h t run = subst (λ z. KeptOn frames z T) (sym run) record { more = []; lawful = subst (LawfulBus P x b) (sym (append-nil frames)) h; tied = subst (λ z. Tied P x b z T) (sym (append-nil frames)) t }
-  run_on (e ∷ events) frames b b' T h t run =
-      let m = event_on b run.0 e run.1 T (record { frames = frames; lawful = h; tied = t }) run.2 run.3 run.4 in
-      kept_on frames m.more b' (trails_after X run.0 events b' run.5 (trails_grown X b e run.1 T)) (run_on events (frames ++ m.more) run.0 b' (trails_grown X b e run.1 T) m.lawful m.tied run.5)
-
   -- ---- a new bus
-  module _ (b : Bus E) (new : IsNew x b) where
+  module _ (b : Bus E) (new : IsNew bases x b) where
     zero_at : (r : ℕ) → slice_index b.side.words r ≡ 0
     zero_at r = ap (λ z. slice_index z r) new.words ∙ zeros (words_of x) r
 
@@ -393,7 +380,7 @@ module _ {E : Type 0} (X : Election E) (P : Protocol E (Unit {0}) ℕ) (laws : L
     start_kept : Kept b no_trails
     start_kept = record {
       frames = [];
-      lawful = new_is_lawful X P laws x ok width starts owner_is b new;
+      lawful = new_is_lawful X P laws x ok width starts owner_is bases b new;
       tied = record {
         tables = record {
           elections = λ t p. None;
@@ -436,7 +423,7 @@ module _ {E : Type 0} (X : Election E) (P : Protocol E (Unit {0}) ℕ) (laws : L
     told_by : (r : ℕ) → IsTold frames (slice_get b.receivers r) (T.heard r)
     told_by r = told_of r (slice_get b.receivers r) refl
 
-    pub page : Promises T.actions T.heard (order_of frames) (map tenure_and_owner frames)
+    pub page : Promises (slice_index bases) T.actions T.heard (order_of frames) (map tenure_and_owner frames)
     page = record {
       one_owner = λ t s s' o o' e f. let a = k.tied.tables.only_elected t s o e in let d = k.tied.tables.only_elected t s' o' f in (one t a.0).equal s s' o o' a.1 d.1;
       announced = λ t s o e. let a = k.tied.tables.only_elected t s o e in k.tied.tables.announced t o ((one t a.0).announcer s o a.1);
@@ -449,7 +436,7 @@ module _ {E : Type 0} (X : Election E) (P : Protocol E (Unit {0}) ℕ) (laws : L
       delivered = λ r. delivered_to x.senders frames k.lawful.keeps.sending.log.lawful (slice_get b.receivers r) (T.heard r) (told_by r);
       told = λ r. heads_to frames (slice_get b.receivers r) (T.heard r) (told_by r);
       faithful = record {
-        numbered = λ s q i e. counted_from 0 (of_sender s (order_of frames)) q i (k.lawful.keeps.sending.log.counted s) refl e;
+        numbered = λ s q i e. counted_at (slice_index bases s) (of_sender s (order_of frames)) q i (k.lawful.keeps.sending.log.counted s) e;
         messages = λ s. subst (IsPrefix (map (λ i. i.message) (of_sender s (order_of frames)))) (sym (k.tied.puts s)) (record { rest = waiting_of (slice_get b.side.senders s); together = refl });
       };
       numbered = k.tied.counted;
@@ -466,7 +453,7 @@ module _ {E : Type 0} (X : Election E) (P : Protocol E (Unit {0}) ℕ) (laws : L
       framed = framed x.senders 0 frames k.lawful.keeps.sending.log.lawful;
     }
 
-    pub by_frames : IsPromisedBy x b T (order_of frames) (map tenure_and_owner frames)
+    pub by_frames : IsPromisedBy bases x b T (order_of frames) (map tenure_and_owner frames)
     by_frames = record {
       spelled = record { frames = frames; lawful = k.lawful.keeps.sending.log.lawful; words_are = sym k.lawful.keeps.sending.log.words_are; order_is = refl; owners_are = refl };
       takers = record { took = k.tied.takers.took; only = k.tied.takers.only };
@@ -474,11 +461,11 @@ module _ {E : Type 0} (X : Election E) (P : Protocol E (Unit {0}) ℕ) (laws : L
     }
 
   -- whatever trails lead to a bus, the promise holds of them
-  pub reached_kept : (b : Bus E) (T : Trails) → Reached X x b T → Kept b T
+  pub reached_kept : (b : Bus E) (T : Trails) → Reached X bases x b T → Kept b T
   reached_kept b T (New start new) = start_kept start new
   reached_kept b T (Then old new T' e a r is d w) = event_kept old new e a T' (reached_kept old T' r) is d w
 
-  pub promised : (b : Bus E) (T : Trails) → Reached X x b T → IsPromised x b T
+  pub promised : (b : Bus E) (T : Trails) → Reached X bases x b T → IsPromised bases x b T
   promised b T r = let k = reached_kept b T r in record { order = order_of k.frames; owners = map tenure_and_owner k.frames; by = by_frames b T k }
 
   -- the promise stays, where trails and frames have grown
@@ -492,7 +479,7 @@ module _ {E : Type 0} (X : Election E) (P : Protocol E (Unit {0}) ℕ) (laws : L
     heard_grows : (r : ℕ) → IsPrefixOfOrder (order_given (T.heard r)) (order_given (T'.heard r))
     heard_grows r = given_more (T.heard r) (T'.heard r) (more r) (order_of k.frames) (order_of (k.frames ++ m.more)) ((page old T k).delivered r) ((page new T' later).delivered r) grown
 
-    pub stays : StaysPromised x old T new T'
+    pub stays : StaysPromised bases x old T new T'
     stays = record {
       before = record { order = order_of k.frames; owners = map tenure_and_owner k.frames; by = by_frames old T k };
       after = record { order = order_of (k.frames ++ m.more); owners = map tenure_and_owner (k.frames ++ m.more); by = by_frames new T' later };
@@ -502,37 +489,14 @@ module _ {E : Type 0} (X : Election E) (P : Protocol E (Unit {0}) ℕ) (laws : L
       given = heard_grows;
     }
 
-  pub follows : (old new : Bus E) (e : Event) (a : Answer) → IsEvent e → Happens X old e new → Answers X old e a new → Follows X x old e a new
+  pub follows : (old new : Bus E) (e : Event) (a : Answer) → IsEvent e → Happens X old e new → Answers X old e a new → Follows X bases x old e a new
   follows old new e a is d w = record {
     reached = λ T r. Then old new T e a r is d w;
     promised = λ T r. let k = reached_kept old T r in stays old new T (trails_grown X old e a T) k (event_on old new e a T k is d w) (λ q. record { rest = heard_of e a q; together = refl }) (event_takers X old new e d);
   }
 
-  reached_more : (events : List Event) (old new : Bus E) (T : Trails) → Reached X x old T → (run : AllAnswered X old events new) → Reached X x new (trails_after X old events new run T)
-  reached_more [] old new T r run = subst (λ z. Reached X x z T) (sym run) r
-  reached_more (e ∷ events) old new T r run = reached_more events run.0 new (trails_grown X old e run.1 T) (Then old run.0 T e run.1 r run.2 run.3 run.4) run.5
-
-  heard_more : (events : List Event) (old new : Bus E) (T : Trails) (run : AllAnswered X old events new) (q : ℕ) → IsPrefix (T.heard q) ((trails_after X old events new run T).heard q)
-  heard_more [] old new T run q = record { rest = []; together = append-nil (T.heard q) }
-  heard_more (e ∷ events) old new T run q =
-      let later = heard_more events run.0 new (trails_grown X old e run.1 T) run.5 q in
-      record { rest = heard_of e run.1 q ++ later.rest; together = sym (append_assoc (T.heard q) (heard_of e run.1 q) later.rest) ∙ later.together }
-
-  takers_grow : (events : List Event) (old new : Bus E) → AllAnswered X old events new → IsPrefix old.side.owners new.side.owners
-  takers_grow [] old new run = same_prefix old.side.owners new.side.owners (ap (λ (z : Bus E). z.side.owners) run)
-  takers_grow (e ∷ events) old new run = prefix_after old.side.owners run.0.side.owners new.side.owners (event_takers X old run.0 e run.3) (takers_grow events run.0 new run.5)
-
-  pub played : (events : List Event) (old new : Bus E) → AllAnswered X old events new → Played X x old events new
-  played events old new run = record {
-    answered = run;
-    reached = λ T r. reached_more events old new T r run;
-    promised = λ T r.
-        let k = reached_kept old T r in
-        stays old new T (trails_after X old events new run T) k (run_on events k.frames old new T k.lawful k.tied run) (λ q. heard_more events old new T run q) (takers_grow events old new run);
-  }
-
   -- what each receiver was given is what stands below its place
-  pub given_below : (b : Bus E) (T : Trails) (r : Reached X x b T) (frames : List Frame) → AreFrames x.senders frames → log_of (record { layout = x; bus = b }) ≡ log_words frames → (q : ℕ) (v : Receiving) → slice_get b.receivers q ≡ Some v → order_given (T.heard q) ≡ given_at frames v
+  pub given_below : (b : Bus E) (T : Trails) (r : Reached X bases x b T) (frames : List Frame) → AreFrames x.senders frames → log_of (record { layout = x; bus = b }) ≡ log_words frames → (q : ℕ) (v : Receiving) → slice_get b.receivers q ≡ Some v → order_given (T.heard q) ≡ given_at frames v
   given_below b T r frames lawful words q v i = let k = reached_kept b T r in let log = k.lawful.keeps.sending.log in
       (k.tied.heard q v i).given_is ∙ ap (λ z. given_at z v) (same_log x.senders 0 0 k.frames frames log.lawful lawful (sym log.words_are ∙ words))
 

@@ -1,16 +1,10 @@
 -- What frames say of their owners, and of the numbers of their items.
-use Rattle.std.proofs.Common.{◌≡◌, ℕ, zero, suc, ◌+◌, ◌<◌, ◌≤◌, Some, List, [], ◌∷◌, map, slice_get, arith, ◌∙◌, ap, subst}
+use Rattle.std.proofs.Common.{◌≡◌, ℕ, zero, suc, ◌+◌, ◌<◌, ◌≤◌, Some, List, [], ◌∷◌, map, slice_get, arith, ap, subst}
 use Rattle.std.proofs.lemmas.Option.{same_Some}
 use Rattle.bus_register.specs.declared.registers.SenderNo.{SenderNo}
-use Rattle.bus_batch.specs.declared.messages.Item.{Item}
 use Rattle.bus_batch.specs.Frames.{Frame, AreFramesFrom, tenure_and_owner}
 use Rattle.bus_world.specs.Bus.{AreOwned}
-use Rattle.bus_world.specs.Log.{AreCounted}
 use Rattle.bus_world.proofs.TableTrails.{none_in}
-use Rattle.bus_world.proofs.WorldLaws.{counted_at}
-
-pub counted_from : (first : ℕ) (items : List Item) (k : ℕ) (i : Item) → AreCounted first items → first ≡ 0 → slice_get items k ≡ Some i → i.number ≡ k
-counted_from first items k i a z e = counted_at first items k i a e ∙ (let same : first + k ≡ k = omega arith in same)
 
 pub owner_took : (owners : List ℕ) (fs : List Frame) → AreOwned owners fs → (j t : ℕ) (o : SenderNo) → slice_get (map tenure_and_owner fs) j ≡ Some (t, o) → slice_get owners t ≡ Some o.0
 owner_took owners [] a j t o e = absurd (none_in j (t, o) e)

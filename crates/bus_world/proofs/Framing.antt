@@ -16,11 +16,6 @@ use Rattle.bus_world.specs.Headline.{AreFramed, Nothing, TheEnd, Batch, IsPrefix
 own_items : (o : SenderNo) (ms : List Numbered) → All (λ i. i.sender ≡ o) (map (item_of o) ms)
 own_items o ms = All-map (λ i. i.sender ≡ o) (item_of o) ms (λ k d l. refl)
 
--- every item is its owner's
-pub items_owned : (o : SenderNo) (b : Body) → All (λ i. i.sender ≡ o) (body_items o b)
-items_owned o (Messages ms) = own_items o ms
-items_owned o EndMark = λ k d l. absurd (omega arith)
-
 framed_by : (t : ℕ) (o : SenderNo) (b : Body) (fs : List Frame) → IsBody b → (b ≡ EndMark → fs ≡ []) → AreFramed (map tenure_and_owner fs) (order_of fs).items (has_end fs)
     → AreFramed ((t, o) ∷ map tenure_and_owner fs) (body_items o b ++ (order_of fs).items) (ends b || has_end fs)
 framed_by t o (Messages ms) fs body last rest = Batch t o (map (item_of o) ms) (map tenure_and_owner fs) (order_of fs).items (has_end fs) (let many = length-map ms (item_of o) in let some = body.0 in omega arith) (own_items o ms) rest

@@ -8,10 +8,9 @@ use Rattle.bus_tenure.specs.Core.{Core, Election}
 use Rattle.bus_tenure.specs.Situations.{situation_of, line_of}
 use Rattle.bus_world.specs.Headline.{IsPrefix}
 use Rattle.bus_world.specs.Turning.{Side, side_after}
-use Rattle.bus_world.specs.World.{Bus, Event, Put, Close, Turn, Recv, Stop, going, IsEvent, Happens, SenderDoes, with_sender, put_in, close_in}
+use Rattle.bus_world.specs.World.{Bus, Event, Put, Close, Turn, Recv, Stop, going, Happens, SenderDoes, with_sender, put_in, close_in}
 use Rattle.bus_world.specs.declared.events.Event.{Event as Told}
-use Rattle.bus_world.specs.Playing.{event_told, Answers, AllAnswered}
-use Rattle.bus_world.specs.declared.events.Answer.{Answer}
+use Rattle.bus_world.specs.Playing.{event_told}
 
 -- ---- owners
 nothing_more : {A : Type 0} (xs : List A) → IsPrefix xs xs
@@ -44,11 +43,6 @@ event_takers X b b' (Close s) d = same_owners b.side b'.side (going b s) (λ c. 
 event_takers X b b' (Turn s word) d = turn_owners X b.side b'.side s word (going b s) d.0
 event_takers X b b' (Recv r) d = same_prefix b.side.owners b'.side.owners (ap (λ (z : Side _). z.owners) d.0)
 event_takers X b b' (Stop s) d = same_prefix b.side.owners b'.side.owners (ap (λ (z : Side _). z.owners) d.0)
-
--- ---- all events
-pub answered_more : {E : Type 0} (X : Election E) (events : List Event) (old mid new : Bus E) (e : Event) (a : Answer) → AllAnswered X old events mid → IsEvent e → Happens X mid e new → Answers X mid e a new → AllAnswered X old (events ++ e ∷ []) new
-answered_more X [] old mid new e a h is d w = (new, a, is, subst (λ z. Happens X z e new) h d, subst (λ z. Answers X z e a new) h w, refl)
-answered_more X (f ∷ events) old mid new e a h is d w = (h.0, h.1, h.2, h.3, h.4, answered_more X events h.0 mid new e a h.5 is d w)
 
 -- ---- the events that a program tells
 pub told_more : (events : List Told) (k : ℕ) (e : Told) → k < length events → e ≡ get_or events k e → map event_told (take k events) ++ event_told e ∷ [] ≡ map event_told (take (k + 1) events)

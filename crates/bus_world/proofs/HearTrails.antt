@@ -179,7 +179,7 @@ module _ (frames : List Frame) (v : Receiving) (trail : List RecvTurn) (h : Hear
         silent = silent_more trail answer h.silent (inl told);
       }
 
-module _ (x : Layout) (frames : List Frame) (words : ℕ → ℕ) (log : Logged x.senders x.capacity (log_at x) words (words 0) frames) (v : Receiving) (own : IsReceiver x frames (words 0) v) (trail : List RecvTurn) (h : Hears frames v trail) (answer : RecvTurn) (next : Receiving) where
+module _ {base : ℕ → ℕ} (x : Layout) (frames : List Frame) (words : ℕ → ℕ) (log : Logged base x.senders x.capacity (log_at x) words (words 0) frames) (v : Receiving) (own : IsReceiver x frames (words 0) v) (trail : List RecvTurn) (h : Hears frames v trail) (answer : RecvTurn) (next : Receiving) where
   size_is : length (log_words frames) ≡ words 0
   size_is = sym (ap length log.words_are) ∙ length-read words (log_at x) (words 0)
 

@@ -2,6 +2,7 @@ pub mod Stopping
 pub mod Waiting
 pub mod TenuresLaws
 pub mod LogLaws
+pub mod Bounds
 pub mod FrameOfBatch
 pub mod BusLaws
 pub mod TurningLaws

@@ -11,7 +11,7 @@ use Rattle.bus_batch.specs.Frames.{Frame, Body, Messages, EndMark, AreFramesFrom
 use Rattle.bus_batch.specs.Messages.{Numbered}
 use Rattle.bus_register.specs.declared.registers.SenderNo.{SenderNo}
 use Rattle.bus_deliverylog.specs.Orders.{of_sender}
-use Rattle.bus_world.specs.Log.{words_read_from, sent_count, AreCounted, AreEarlier, Logged}
+use Rattle.bus_world.specs.Log.{words_read_from, sent_count, next_number, AreCounted, AreEarlier, Logged}
 
 -- ---- words
 pub read-agree : (words words' : ℕ → ℕ) (at k : ℕ) → Agree at k words words' → words_read_from words' at k ≡ words_read_from words at k
@@ -89,24 +89,25 @@ owned_items f = owned_body f.owner f.body
 pub others_items : (s : ℕ) (f : Frame) → s ≢ f.owner.0 → filter (λ i. i.sender.0 == s) (items_of f) ≡ []
 others_items s f ne = others_body s f.owner f.body ne
 
-module _ (n capacity at : ℕ) (words : ℕ → ℕ) (len : ℕ) (frames : List Frame) (h : Logged n capacity at words len frames) where
+module _ {base : ℕ → ℕ} (n capacity at : ℕ) (words : ℕ → ℕ) (len : ℕ) (frames : List Frame) (h : Logged base n capacity at words len frames) where
   -- words past the length do not matter
-  pub Logged-agree : (words' : ℕ → ℕ) → Agree at len words words' → Logged n capacity at words' len frames
-  Logged-agree words' same = record { lawful = h.lawful; words_are = read-agree words words' at len same ∙ h.words_are; fits = h.fits; counted = h.counted }
+  pub Logged-agree : (words' : ℕ → ℕ) → Agree at len words words' → Logged base n capacity at words' len frames
+  Logged-agree words' same = record { lawful = h.lawful; words_are = read-agree words words' at len same ∙ h.words_are; fits = h.fits; low = h.low; counted = h.counted }
 
   -- a frame whose words stand past the length is published by raising the length
-  pub Logged-publish : (f : Frame) → IsFrame n f → has_end frames ≡ false → AreEarlier f.tenure frames → AreCounted (sent_count f.owner.0 frames) (items_of f) → words_read_from words (at + len) (length (frame_words f)) ≡ frame_words f
-      → len + length (frame_words f) ≤ capacity → Logged n capacity at words (len + length (frame_words f)) (frames ++ f ∷ [])
+  pub Logged-publish : (f : Frame) → IsFrame n f → has_end frames ≡ false → AreEarlier f.tenure frames → AreCounted (next_number base f.owner.0 frames) (items_of f) → words_read_from words (at + len) (length (frame_words f)) ≡ frame_words f
+      → len + length (frame_words f) ≤ capacity → Logged base n capacity at words (len + length (frame_words f)) (frames ++ f ∷ [])
   Logged-publish f is open_ended earlier counts stored fits = record {
     lawful = AreFramesFrom-append n 0 frames f h.lawful is open_ended earlier (omega arith);
     words_are = read-add words at len (length (frame_words f)) ∙ ap (λ z. z ++ words_read_from words (at + len) (length (frame_words f))) h.words_are ∙ ap (λ z. log_words frames ++ z) stored ∙ sym (log_words-append frames f);
     fits = fits;
-    counted = λ s. subst (AreCounted 0) (sym (of_sender-append s frames f)) (AreCounted-append 0 (of_sender s (order_of frames)) (filter (λ i. i.sender.0 == s) (items_of f)) (h.counted s) (by_sender s));
+    low = h.low;
+    counted = λ s. subst (AreCounted (base s)) (sym (of_sender-append s frames f)) (AreCounted-append (base s) (of_sender s (order_of frames)) (filter (λ i. i.sender.0 == s) (items_of f)) (h.counted s) (by_sender s));
   } where
-    by_sender : (s : ℕ) → AreCounted (0 + length (of_sender s (order_of frames))) (filter (λ i. i.sender.0 == s) (items_of f))
+    by_sender : (s : ℕ) → AreCounted (base s + length (of_sender s (order_of frames))) (filter (λ i. i.sender.0 == s) (items_of f))
     by_sender s = elim (cases_eq s f.owner.0) [
-      | inl i ↦ subst (λ z. AreCounted (0 + sent_count z frames) (filter (λ x. x.sender.0 == z) (items_of f))) (sym i) (subst (AreCounted (0 + sent_count f.owner.0 frames)) (sym (owned_items f)) (subst (λ z. AreCounted z (items_of f)) (omega arith) counts))
-      | inr ne ↦ subst (AreCounted (0 + sent_count s frames)) (sym (others_items s f ne)) tt
+      | inl i ↦ subst (λ z. AreCounted (base z + sent_count z frames) (filter (λ x. x.sender.0 == z) (items_of f))) (sym i) (subst (AreCounted (base f.owner.0 + sent_count f.owner.0 frames)) (sym (owned_items f)) counts)
+      | inr ne ↦ subst (AreCounted (base s + sent_count s frames)) (sym (others_items s f ne)) tt
     ]
 
 -- how many items of each sender there are then
@@ -115,3 +116,10 @@ sent-append_owner frames f = ap length (of_sender-append f.owner.0 frames f) ∙
 
 pub sent-append_other : (s : ℕ) (frames : List Frame) (f : Frame) → s ≢ f.owner.0 → sent_count s (frames ++ f ∷ []) ≡ sent_count s frames
 sent-append_other s frames f ne = ap length (of_sender-append s frames f) ∙ length-append (of_sender s (order_of frames)) _ ∙ ap (λ z. sent_count s frames + length z) (others_items s f ne) ∙ (omega arith)
+
+-- and the numbers that come next
+pub next-append_owner : (base : ℕ → ℕ) (frames : List Frame) (f : Frame) → next_number base f.owner.0 (frames ++ f ∷ []) ≡ next_number base f.owner.0 frames + length (items_of f)
+next-append_owner base frames f = let e = sent-append_owner frames f in omega arith
+
+pub next-append_other : (base : ℕ → ℕ) (s : ℕ) (frames : List Frame) (f : Frame) → s ≢ f.owner.0 → next_number base s (frames ++ f ∷ []) ≡ next_number base s frames
+next-append_other base s frames f ne = let e = sent-append_other s frames f ne in omega arith

@@ -1,17 +1,14 @@
 -- Each of the wrong behaviours is refused.
-use Rattle.std.proofs.Common.{◌≡◌, ℕ, zero, suc, ◌<◌, Bool, true, false, Option, Some, None, List, [], ◌∷◌, ◌++◌, ◌==◌, map, filter, slice_get, arith, refl, sym, ◌∙◌, ap}
+use Rattle.std.proofs.Common.{take, length, ◌+◌, ◌≡◌, ℕ, zero, suc, ◌<◌, Bool, true, false, Some, None, List, [], ◌∷◌, ◌++◌, ◌==◌, map, filter, slice_get, arith, refl, sym, ◌∙◌, ap}
 use Rattle.bus_register.specs.declared.kinds.Kind.TheVariants as kind
 use Rattle.bus_register.specs.declared.registers.SenderNo.{SenderNo}
 use Rattle.bus_batch.specs.declared.messages.Item.{Item}
 use Rattle.bus_batch.specs.Frames.{Order}
-use Rattle.bus_deliverylog.specs.Orders.{of_sender, IsPrefixOfOrder}
+use Rattle.bus_deliverylog.specs.Orders.{of_sender}
 use Rattle.bus_tenure.specs.declared.turns.Turn.TheVariants as turn
-use Rattle.bus_world.specs.Headline.{Action, HasClosed, Stepped, Elected, Took, IsPrefix, AreFramed, Nothing, TheEnd, Batch}
-use Rattle.bus_world.specs.Refusals.{each_of, elects, announces, takes, owns, item, sender, PromiseRefuses}
+use Rattle.bus_world.specs.Headline.{puts, Action, HasClosed, Stepped, Elected, Took, IsPrefix, AreFramed, Nothing, TheEnd, Batch}
+use Rattle.bus_world.specs.Refusals.{FromZero, each_of, elects, announces, takes, owns, item, sender, PromiseRefuses}
 use Rattle.bus_deliverylog.specs.declared.receiving.RecvTurn.TheVariants as recv
-
-no_some : {A : Type 0} (v : A) → ◌≡◌ {A = Option A} None (Some v) → ⊥
-no_some v e = cc
 
 none_at : {A : Type 0} (i : ℕ) (x : A) → slice_get [] i ≡ Some x → ⊥
 none_at i x e = cc
@@ -30,12 +27,11 @@ not_elected (suc i) k f o a e = cc
 first_of : (x y : Item) (xs ys : List Item) → x ∷ xs ≡ y ∷ ys → x ≡ y
 first_of x y xs ys e = cc
 
-second_of : (x y v w : Item) (xs ys : List Item) → x ∷ v ∷ xs ≡ y ∷ w ∷ ys → v ≡ w
-second_of x y v w xs ys e = cc
-
 -- ---- what receivers were given
-items_given : (items : List Item) (order : Order) → IsPrefixOfOrder (record { items = items; ended = false }) order → (later : List Item) × (order.items ≡ items ++ later)
-items_given items order h = (h.later, h.items)
+
+-- where numbers count from 0
+counted_items : (order : Order) → ((s k : ℕ) (i : Item) → slice_get (of_sender s order) k ≡ Some i → i.number ≡ 0 + k) → (s k : ℕ) (i : Item) → slice_get (of_sender s order) k ≡ Some i → i.number ≡ k
+counted_items order numbered s k i at = numbered s k i at ∙ (let same : 0 + k ≡ k = omega arith in same)
 
 -- items of sender 0 at the head of an order are numbered from 0
 head_number : (order : Order) (n : ℕ) (later : List Item) → ((s k : ℕ) (i : Item) → slice_get (of_sender s order) k ≡ Some i → i.number ≡ k) → order.items ≡ item 0 n ∷ later → n ≡ 0
@@ -95,6 +91,12 @@ foreign owners items ended (Batch t o (i ∷ own) rest later over some all frame
     let sent : i.sender ≡ o = all 0 i some in
     zero_one (ap (λ (z : SenderNo). z.0) (sym (ap (λ (z : Item). z.sender) first) ∙ sent ∙ owner_is))
 
+pub from_zero : FromZero
+from_zero = record {
+  items = λ actions heard order owners p. counted_items order p.faithful.numbered;
+  puts_are = λ actions heard order owners p s place number bytes at. p.numbered s place number bytes at ∙ (let same : 0 + length (puts (take place (actions s))) ≡ length (puts (take place (actions s))) = omega arith in same);
+}
+
 pub refuses : PromiseRefuses
 refuses = record {
   two_owners = λ heard order owners p.
@@ -119,9 +121,9 @@ refuses = record {
       let a = p.told 0 in
       let b = p.told 1 in
       zero_one (ap (λ (z : ℕ × SenderNo). z.1.0) (first_pair (0, sender 0) (0, sender 1) a.rest b.rest (a.together ∙ sym b.together)));
-  repeated = λ actions order owners p. let a = p.delivered 0 in zero_one (next_number order 0 0 a.later p.faithful.numbered a.items);
-  skipped = λ actions order owners p. let a = p.delivered 0 in let e : 1 ≡ 0 = head_number order 1 a.later p.faithful.numbered a.items in omega arith;
-  reversed = λ actions order owners p. let a = p.delivered 0 in let e : 1 ≡ 0 = head_number order 1 (item 0 0 ∷ a.later) p.faithful.numbered a.items in omega arith;
+  repeated = λ actions order owners p. let a = p.delivered 0 in zero_one (next_number order 0 0 a.later (counted_items order p.faithful.numbered) a.items);
+  skipped = λ actions order owners p. let a = p.delivered 0 in let e : 1 ≡ 0 = head_number order 1 a.later (counted_items order p.faithful.numbered) a.items in omega arith;
+  reversed = λ actions order owners p. let a = p.delivered 0 in let e : 1 ≡ 0 = head_number order 1 (item 0 0 ∷ a.later) (counted_items order p.faithful.numbered) a.items in omega arith;
   after_the_end = λ actions order owners p. item_end (p.silent 0 0 1 (recv.Item (item 0 0)) refl (omega arith) refl);
   short_of_the_end = λ actions order owners p.
       let a = p.delivered 0 in
@@ -140,5 +142,9 @@ refuses = record {
       let c = p.closed (ap (λ (z : Order). z.ended) (sym (a.ended refl))) in
       never_closed c.owner.0 c.closed.0 c.closed.1;
   foreign_item = λ actions heard p. foreign _ _ _ p.framed refl refl refl;
+  starts_anew = λ actions order owners p.
+      let a = p.delivered 0 in
+      let e : 0 ≡ 5 = p.faithful.numbered 0 0 (item 0 0) (ap (λ z. slice_get (filter (λ (i : Item). i.sender.0 == 0) z) 0) a.items) in omega arith;
+  put_from_zero = λ heard order owners p. let e : 0 ≡ 5 = p.numbered 0 0 0 [] refl in omega arith;
   one_tenure_twice = λ order actions heard p. let l = p.rising 0 1 0 0 (sender 0) (sender 0) refl refl (omega arith) in omega arith;
 }

@@ -1,11 +1,9 @@
 -- Who goes on, and who has stopped.
-use Rattle.std.proofs.Common.{◌≡◌, ℕ, zero, suc, Bool, true, false, cond, Option, Some, None, List, [], ◌∷◌, get_or, slice_get, replicate, refl, sym, ◌∙◌, ap, subst}
+use Rattle.std.proofs.Common.{◌≡◌, ℕ, zero, suc, Bool, true, false, cond, Option, Some, None, List, [], ◌∷◌, get_or, slice_get, replicate, refl, ◌∙◌, ap}
 use Rattle.bus_register.specs.declared.limits.TheConstants.{MOST_SENDERS}
 use Rattle.bus_tenure.specs.Core.{Core}
-use Rattle.bus_world.specs.Playing.{StopRefused, UnlessStopped, Refused}
-use Rattle.bus_world.specs.World.{Bus, Stop, is_set, has_stopped, going, no_stops}
+use Rattle.bus_world.specs.World.{Bus, is_set, has_stopped, going, no_stops}
 use Rattle.bus_world.specs.declared.events.StepFault.{StepFault}
-use Rattle.bus_world.specs.declared.events.StepFault.TheVariants as fault
 
 no_one : {A : Type 0} (v : A) → ◌≡◌ {A = Option A} None (Some v) → ⊥
 no_one v e = cc
@@ -47,36 +45,8 @@ all_go b none s = goes_on b s (ap (λ l. is_set (slice_get l s)) none ∙ none_s
 pub nobody_goes : {E : Type 0} (b : Bus E) (s : ℕ) → slice_get b.side.senders s ≡ None → going b s ≡ None
 nobody_goes b s e = shown_none (has_stopped b s) (slice_get b.side.senders s) e
 
--- nor who has stopped
-pub stopped_stays : {E : Type 0} (b : Bus E) (s : ℕ) → has_stopped b s ≡ true → going b s ≡ None
-stopped_stays b s e = ap (λ t. cond t None (slice_get b.side.senders s)) e
-
 -- ---- what is refused as a stop is
 pub set_there : (l : List Bool) (s : ℕ) → get_or l s false ≡ true → is_set (slice_get l s) ≡ true
 set_there [] s e = absurd (let z : false ≡ true = e in cc)
 set_there (t ∷ l) zero e = e
 set_there (t ∷ l) (suc s) e = set_there l s e
-
--- who is there and has stopped is refused as such
-pub has_stopped_is : {E : Type 0} (b : Bus E) (s : ℕ) → (c : Core E) × (slice_get b.side.senders s ≡ Some c) → get_or b.stopped s false ≡ true → Refused b (Stop s) fault.Stopped
-has_stopped_is b s there e =
-    subst (λ t. UnlessStopped t (slice_get b.side.senders s) fault.Stopped (StopRefused (slice_get b.side.senders s) fault.Stopped)) (sym (set_there b.stopped s e))
-    (subst (λ o. UnlessStopped true o fault.Stopped (StopRefused o fault.Stopped)) (sym there.1) refl)
-
-module _ {E : Type 0} (b : Bus E) (s : ℕ) (why : StepFault) where
-  pub refused_stays : Refused b (Stop s) why → going b s ≡ None
-  refused_stays r = by_test (has_stopped b s) (slice_get b.side.senders s) r
-    where
-      by_test : (t : Bool) (o : Option (Core E)) → UnlessStopped t o why (StopRefused o why) → cond t None o ≡ None
-      by_test true o r = refl
-      by_test false None r = refl
-      by_test false (Some c) r = absurd r
-
-  pub refused_as : (own : Option (Core E) → Type 0) → (why ≡ fault.NoSuchSender → own None) → Refused b (Stop s) why → UnlessStopped (has_stopped b s) (slice_get b.side.senders s) why (own (slice_get b.side.senders s))
-  refused_as own unknown r = by_test (has_stopped b s) (slice_get b.side.senders s) r
-    where
-      by_test : (t : Bool) (o : Option (Core E)) → UnlessStopped t o why (StopRefused o why) → UnlessStopped t o why (own o)
-      by_test true (Some c) r = r
-      by_test true None r = unknown r
-      by_test false None r = unknown r
-      by_test false (Some c) r = absurd r

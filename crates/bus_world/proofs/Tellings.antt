@@ -40,16 +40,16 @@ some_messages : (ph : BatchPhase) (n : ℕ) → (0 < n) ⊎ (ph ≡ Closing) →
 some_messages ph n (inl some) e = some
 some_messages ph n (inr closing) e = absurd (true≢false (sym (ap is_closing closing) ∙ e))
 
-module _ {E : Type 0} (X : Election E) (P : Protocol E (Unit {0}) ℕ) (laws : Laws X.op X.fed P OneOwner) (x : Layout) (owner_is : (e : E) → X.owner e ≡ P.output e)
+module _ {E : Type 0} (X : Election E) (P : Protocol E (Unit {0}) ℕ) (laws : Laws X.op X.fed P OneOwner) (x : Layout) {base : ℕ → ℕ} (owner_is : (e : E) → X.owner e ≡ P.output e)
     (named : (e : E) (word : ℕ) → is_some (X.kind_of e) ≡ is_some (X.op e word))
-    (side : Side E) (frames : List Frame) (h : IsSide P x side frames) (p : ℕ) (c : Core E) (old : slice_get side.senders p ≡ Some c) (word : ℕ) (before : List Action) where
+    (side : Side E) (frames : List Frame) (h : IsSide base P x side frames) (p : ℕ) (c : Core E) (old : slice_get side.senders p ≡ Some c) (word : ℕ) (before : List Action) where
   abbrev W : ℕ → ℕ
   W = slice_index side.words
 
   abbrev log : List ℕ
   log = words_read_from W (log_at x) (W 0)
 
-  part : Part x W frames p c
+  part : Part base x W frames p c
   part = h.sending.parts p c old
 
   abbrev told : Situation E → Answered
@@ -116,7 +116,7 @@ module _ {E : Type 0} (X : Election E) (P : Protocol E (Unit {0}) ℕ) (laws : L
   module _ (t : ℕ) (page : Page) (stored : ℕ) where
     delivers : c.phase ≡ phase.Holding t page stored true → True (GivesBack t page Sent)
     delivers is own =
-        let fits = subst (Fits W frames c) is part.fits in
+        let fits = subst (Fits base W frames c) is part.fits in
         by_closing (is_closing c.queue.phase) refl fits.1.front fits.1.frames_are (some_messages c.queue.phase (length c.queue.messages) fits.0.something)
       where
         by_closing : (b : Bool) → is_closing c.queue.phase ≡ b → (front : List Frame) → frames ≡ front ++ frame_of c.queue t ∷ [] → (is_closing c.queue.phase ≡ false → 0 < length c.queue.messages)
@@ -136,7 +136,7 @@ module _ {E : Type 0} (X : Election E) (P : Protocol E (Unit {0}) ℕ) (laws : L
 
     is_full : c.phase ≡ phase.Holding t page stored false → has_room c page ≡ false → True (GivesBack t page NoRoom)
     is_full is no_room own =
-        let writing = (subst (Fits W frames c) is part.fits).1 in
+        let writing = (subst (Fits base W frames c) is part.fits).1 in
         let words_are = writing.page_knows.words in
         let past = leb-false (page.words + frame_len c) c.layout.capacity no_room in
         let capacity_is = ap (λ (z : Layout). z.capacity) part.layout in
@@ -152,9 +152,9 @@ module _ {E : Type 0} (X : Election E) (P : Protocol E (Unit {0}) ℕ) (laws : L
   true_at : (ph : Phase E) → c.phase ≡ ph → True (situation_at X c ph)
   true_at phase.Resting is = rest_true
   true_at (phase.Electing t e) is = elect_true t e
-  true_at (phase.Taken t) is = absurd (subst (Fits W frames c) is part.fits)
+  true_at (phase.Taken t) is = absurd (subst (Fits base W frames c) is part.fits)
   true_at (phase.Holding t page stored published) is = hold_true t page stored published is
-  true_at (phase.Giving t reason) is = absurd (subst (Fits W frames c) is part.fits)
+  true_at (phase.Giving t reason) is = absurd (subst (Fits base W frames c) is part.fits)
 
   -- whatever a turn answers is so
   pub turn_true : True (situation_of X c)
@@ -163,16 +163,16 @@ module _ {E : Type 0} (X : Election E) (P : Protocol E (Unit {0}) ℕ) (laws : L
 same_turn : (t u : Answered) → answer.Turn t ≡ answer.Turn u → t ≡ u
 same_turn t u e = cc
 
-module _ {E : Type 0} (X : Election E) (P : Protocol E (Unit {0}) ℕ) (laws : Laws X.op X.fed P OneOwner) (x : Layout) (ok : IsLayout x) (width : x.width ≡ P.width x.senders)
+module _ {E : Type 0} (X : Election E) (P : Protocol E (Unit {0}) ℕ) (laws : Laws X.op X.fed P OneOwner) (x : Layout) {bases : List ℕ} (ok : IsLayout x) (width : x.width ≡ P.width x.senders)
     (starts : (n me at : ℕ) → X.started n me x.rounds at ≡ P.started n me tt at) (owner_is : (e : E) → X.owner e ≡ P.output e)
     (named : (e : E) (word : ℕ) → is_some (X.kind_of e) ≡ is_some (X.op e word)) (announces : (e : E) → P.has_begun e ≡ false → X.kind_of e ≡ Some kind.Announce) (apart : (e : E) → X.kind_of e ≡ Some kind.TakePage → ⊥)
-    (old new : Bus E) (T : Trails) (r : Reached X x old T) where
+    (old new : Bus E) (T : Trails) (r : Reached X bases x old T) where
   sender_tells : (s word : ℕ) (o : Option (Core E)) → going old s ≡ o → (t : Answered) → TurnAnswers X old.side.words o word (answer.Turn t)
       → ((u place : ℕ) → Took (T.actions s ++ turning_actions X old.side.words o word (answer.Turn t)) u place → Elected (T.actions s ++ turning_actions X old.side.words o word (answer.Turn t)) u s)
       → SenderTells x (log_of record { layout = x; bus = old }) s o (T.actions s ++ turning_actions X old.side.words o word (answer.Turn t)) t
   sender_tells s word None i t told own = absurd told
   sender_tells s word (Some c) i t told own =
-      let k = reached_kept X P laws x ok width starts owner_is named announces apart old T r in
+      let k = reached_kept bases X P laws x ok width starts owner_is named announces apart old T r in
       let is = same_turn t _ told in
       subst (λ z. ((u place : ℕ) → Took (T.actions s ++ turning_actions X old.side.words (Some c) word (answer.Turn z)) u place → Elected (T.actions s ++ turning_actions X old.side.words (Some c) word (answer.Turn z)) u s)
       → TurnTells x (log_of record { layout = x; bus = old }) s c (T.actions s ++ turning_actions X old.side.words (Some c) word (answer.Turn z)) z) (sym is)
@@ -180,7 +180,7 @@ module _ {E : Type 0} (X : Election E) (P : Protocol E (Unit {0}) ℕ) (laws : L
 
   turn_tells : (s word : ℕ) (t : Answered) → Happens X old (Turn s word) new → Answers X old (Turn s word) (answer.Turn t) new → EventTells x old (Turn s word) (answer.Turn t) (trails_grown X old (Turn s word) (answer.Turn t) T)
   turn_tells s word t d w =
-      let f = (follows X P laws x ok width starts owner_is named announces apart old new (Turn s word) (answer.Turn t) tt d w).promised T r in
+      let f = (follows bases X P laws x ok width starts owner_is named announces apart old new (Turn s word) (answer.Turn t) tt d w).promised T r in
       by_same (s == s) (eqb_tells s s) (λ u place. f.after.by.promises.took_own u s place)
     where
       by_same : (b : Bool) → ((b ≡ true) × (s ≡ s)) ⊎ ((b ≡ false) × (s ≡ s → ⊥)) → ((u place : ℕ) → Took (T.actions s ++ cond b (turning_actions X old.side.words (going old s) word (answer.Turn t)) []) u place → Elected (T.actions s ++ cond b (turning_actions X old.side.words (going old s) word (answer.Turn t)) []) u s)

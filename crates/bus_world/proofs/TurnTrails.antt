@@ -84,13 +84,13 @@ module _ {E : Type 0} (c : Core E) (t : ℕ) (later : E) where
       by_test true j = same_phase t u later f j
       by_test false j = absurd (rests_apart u f j)
 
-module _ {E : Type 0} (X : Election E) (P : Protocol E (Unit {0}) ℕ) (laws : Laws X.op X.fed P OneOwner) (x : Layout) (ok : IsLayout x) (width : x.width ≡ P.width x.senders)
+module _ {base : ℕ → ℕ} {E : Type 0} (X : Election E) (P : Protocol E (Unit {0}) ℕ) (laws : Laws X.op X.fed P OneOwner) (x : Layout) (ok : IsLayout x) (width : x.width ≡ P.width x.senders)
     (starts : (n me at : ℕ) → X.started n me x.rounds at ≡ P.started n me tt at) (owner_is : (e : E) → X.owner e ≡ P.output e)
     (named : (e : E) (word : ℕ) → is_some (X.kind_of e) ≡ is_some (X.op e word)) (announces : (e : E) → P.has_begun e ≡ false → X.kind_of e ≡ Some kind.Announce) (apart : (e : E) → X.kind_of e ≡ Some kind.TakePage → ⊥)
-    (words : ℕ → ℕ) (home : Option Page) (senders : ℕ → Option (Core E)) (owners : List ℕ) (frames : List Frame) (h : Sending P x words home senders owners frames)
+    (words : ℕ → ℕ) (home : Option Page) (senders : ℕ → Option (Core E)) (owners : List ℕ) (frames : List Frame) (h : Sending base P x words home senders owners frames)
     (p : ℕ) (c : Core E) (old : senders p ≡ Some c) (D : ℕ → List Action) (T : TiesOf P x words senders owners D)
     (words' : ℕ → ℕ) (senders' : ℕ → Option (Core E)) (beside : Beside p senders senders') where
-  part : Part x words frames p c
+  part : Part base x words frames p c
   part = h.parts p c old
 
   abbrev with_actions : List Action → ℕ → List Action
@@ -353,9 +353,9 @@ module _ {E : Type 0} (X : Election E) (P : Protocol E (Unit {0}) ℕ) (laws : L
     turn_at : (ph : Phase E) → c.phase ≡ ph → KeptTies (situation_at X c ph)
     turn_at phase.Resting e = rest_kept e
     turn_at (phase.Electing t u) e = elect_kept t u e
-    turn_at (phase.Taken t) e = absurd (subst (Fits words frames c) e part.fits)
+    turn_at (phase.Taken t) e = absurd (subst (Fits base words frames c) e part.fits)
     turn_at (phase.Holding t page stored published) e = hold_kept t page stored published e
-    turn_at (phase.Giving t reason) e = absurd (subst (Fits words frames c) e part.fits)
+    turn_at (phase.Giving t reason) e = absurd (subst (Fits base words frames c) e part.fits)
 
     pub turn_tied : KeptTies (situation_of X c)
     turn_tied = turn_at c.phase refl
@@ -372,10 +372,10 @@ module _ {E : Type 0} (X : Election E) (P : Protocol E (Unit {0}) ℕ) (laws : L
       by_phase (phase.Giving t reason) = refl
 
 -- ---- on lists
-module _ {E : Type 0} (X : Election E) (P : Protocol E (Unit {0}) ℕ) (laws : Laws X.op X.fed P OneOwner) (x : Layout) (ok : IsLayout x) (width : x.width ≡ P.width x.senders)
+module _ {base : ℕ → ℕ} {E : Type 0} (X : Election E) (P : Protocol E (Unit {0}) ℕ) (laws : Laws X.op X.fed P OneOwner) (x : Layout) (ok : IsLayout x) (width : x.width ≡ P.width x.senders)
     (starts : (n me at : ℕ) → X.started n me x.rounds at ≡ P.started n me tt at) (owner_is : (e : E) → X.owner e ≡ P.output e)
     (named : (e : E) (word : ℕ) → is_some (X.kind_of e) ≡ is_some (X.op e word)) (announces : (e : E) → P.has_begun e ≡ false → X.kind_of e ≡ Some kind.Announce) (apart : (e : E) → X.kind_of e ≡ Some kind.TakePage → ⊥)
-    (side : Side E) (frames : List Frame) (h : IsSide P x side frames) (p : ℕ) (c : Core E) (old : slice_get side.senders p ≡ Some c) (word : ℕ) (D : ℕ → List Action) (T : Ties P x side D) where
+    (side : Side E) (frames : List Frame) (h : IsSide base P x side frames) (p : ℕ) (c : Core E) (old : slice_get side.senders p ≡ Some c) (word : ℕ) (D : ℕ → List Action) (T : Ties P x side D) where
   abbrev W : ℕ → ℕ
   W = slice_index side.words
 

@@ -30,7 +30,7 @@ use Rattle.bus_world.specs.Tenures.Standing.{Runs}
 use Rattle.bus_world.proofs.TenuresLaws as tenures
 use Rattle.bus_world.specs.Bus.{IsLayout, least_of, standing_of, Part, Fits, HasBegun, Sending, stands_at}
 use Rattle.bus_world.proofs.BusLaws as bus
-use Rattle.bus_world.specs.Log.{sent_count}
+use Rattle.bus_world.specs.Log.{next_number}
 use Rattle.bus_world.specs.Turning.{Side, words_after, number_found, core_with_page, home_after, core_after, owners_after, side_after}
 use Rattle.bus_world.specs.World.{Bus, LawfulBus}
 use Rattle.bus_world.proofs.Waiting.{frames_after}
@@ -69,11 +69,11 @@ loaded r words words' step q = elim (cases_eq q r) [
   | inr ne ↦ step.elsewhere q ne
 ]
 
-module _ {E : Type 0} (X : Election E) (P : Protocol E (Unit {0}) ℕ) (laws : Laws X.op X.fed P OneOwner) (x : Layout) (ok : IsLayout x) (width : x.width ≡ P.width x.senders)
+module _ {base : ℕ → ℕ} {E : Type 0} (X : Election E) (P : Protocol E (Unit {0}) ℕ) (laws : Laws X.op X.fed P OneOwner) (x : Layout) (ok : IsLayout x) (width : x.width ≡ P.width x.senders)
     (starts : (n me at : ℕ) → X.started n me x.rounds at ≡ P.started n me tt at) (owner_is : (e : E) → X.owner e ≡ P.output e)
-    (words : ℕ → ℕ) (home : Option Page) (senders : ℕ → Option (Core E)) (owners : List ℕ) (frames : List Frame) (h : Sending P x words home senders owners frames)
+    (words : ℕ → ℕ) (home : Option Page) (senders : ℕ → Option (Core E)) (owners : List ℕ) (frames : List Frame) (h : Sending base P x words home senders owners frames)
     (p : ℕ) (c : Core E) (old : senders p ≡ Some c) (word : ℕ) where
-  part : Part x words frames p c
+  part : Part base x words frames p c
   part = h.parts p c old
 
   -- an elected sender finds the page at home
@@ -115,7 +115,7 @@ module _ {E : Type 0} (X : Election E) (P : Protocol E (Unit {0}) ℕ) (laws : L
     abbrev pub Kept : Situation E → Type 0
     Kept z = ((o : Op) → op_at X c z word ≡ Some o → register o < words_of x)
         × (Steps (op_at X c z word) words words' → senders' p ≡ Some (core_after X c z home (number_found words (op_at X c z word)) word)
-        → Sending P x words' (home_after X c z home) senders' (owners_after X c z p owners) (frames_after X c z frames))
+        → Sending base P x words' (home_after X c z home) senders' (owners_after X c z p owners) (frames_after X c z frames))
 
     choose : (b : Bool) (s u : Situation E) → Kept s → Kept u → Kept (cond b s u)
     choose true s u e f = e
@@ -125,8 +125,8 @@ module _ {E : Type 0} (X : Election E) (P : Protocol E (Unit {0}) ℕ) (laws : L
     only o below o' same = subst (λ z. register z < words_of x) (same_Some _ _ same) below
 
     -- nothing happens
-    unchanged : senders' p ≡ Some c → Sending P x words home senders' owners frames
-    unchanged new = subst (λ z. Sending P x words home z owners frames) (sym (fun_ext same)) h
+    unchanged : senders' p ≡ Some c → Sending base P x words home senders' owners frames
+    unchanged new = subst (λ z. Sending base P x words home z owners frames) (sym (fun_ext same)) h
       where
         same : (q : ℕ) → senders' q ≡ senders q
         same q = elim (cases_eq q p) [
@@ -134,18 +134,18 @@ module _ {E : Type 0} (X : Election E) (P : Protocol E (Unit {0}) ℕ) (laws : L
           | inr ne ↦ beside q ne
         ]
 
-    idle : ((o : Op) → None ≡ Some o → register o < words_of x) × (Steps None words words' → senders' p ≡ Some c → Sending P x words' home senders' owners frames)
-    idle = (λ o bad. absurd cc, λ same new. subst (λ w. Sending P x w home senders' owners frames) (sym (fun_ext same)) (unchanged new))
+    idle : ((o : Op) → None ≡ Some o → register o < words_of x) × (Steps None words words' → senders' p ≡ Some c → Sending base P x words' home senders' owners frames)
+    idle = (λ o bad. absurd cc, λ same new. subst (λ w. Sending base P x w home senders' owners frames) (sym (fun_ext same)) (unchanged new))
 
     -- ---- a load of the stage
     module _ (rests : c.phase ≡ phase.Resting) where
-      resting_fits : (c.queue.busy ≡ false) × (c.queue.first ≡ sent_count c.me frames)
-      resting_fits = subst (Fits words frames c) rests part.fits
+      resting_fits : (c.queue.busy ≡ false) × (c.queue.first ≡ next_number base c.me frames)
+      resting_fits = subst (Fits base words frames c) rests part.fits
 
-      part_least : (k : ℕ) → Part x words frames p (record c { least = k })
-      part_least k = record { layout = part.layout; me = part.me; below = part.below; sender = part.sender; queue = part.queue; fits = subst (Fits words frames (record c { least = k })) (sym rests) resting_fits }
+      part_least : (k : ℕ) → Part base x words frames p (record c { least = k })
+      part_least k = record { layout = part.layout; me = part.me; below = part.below; sender = part.sender; queue = part.queue; fits = subst (Fits base words frames (record c { least = k })) (sym rests) resting_fits }
 
-      part_begun : (t : ℕ) → (c.queue.phase ≡ Closed → ⊥) → HasSomething c.queue → Part x words frames p (core_begun X c t)
+      part_begun : (t : ℕ) → (c.queue.phase ≡ Closed → ⊥) → HasSomething c.queue → Part base x words frames p (core_begun X c t)
       part_begun t is_open something = record {
         layout = part.layout;
         me = part.me;
@@ -167,26 +167,26 @@ module _ {E : Type 0} (X : Election E) (P : Protocol E (Unit {0}) ℕ) (laws : L
           ∙ ap (λ z. X.started x.senders z x.rounds (row_at x t)) (sym part.me) ∙ ap (λ (z : Layout). X.started z.senders c.me z.rounds (row_at z t)) (sym part.layout)
 
       -- it may begin any tenure that was opened
-      pub begins_opened : (t : ℕ) → resting c ≡ LooksAtStage → 2 * t ≤ words 1 → c.least ≤ t → t < x.rows → senders' p ≡ Some (core_begun X c t) → Sending P x words home senders' owners frames
+      pub begins_opened : (t : ℕ) → resting c ≡ LooksAtStage → 2 * t ≤ words 1 → c.least ≤ t → t < x.rows → senders' p ≡ Some (core_begun X c t) → Sending base P x words home senders' owners frames
       begins_opened t looks reached enters room new =
           let has = looks_has c.queue.phase c.queue.messages (nat_le c.layout.rows c.least) looks in
           bus.begins X P laws x ok width words home senders owners frames h p c (core_begun X c t) senders' old new beside
           t rests reached enters room part.below (ap (phase.Electing t) (sym (start_is t))) refl (part_begun t has.0 has.1)
 
       module _ (is_open : c.queue.phase ≡ Closed → ⊥) (something : HasSomething c.queue) where
-        by_room : (b : Bool) → nat_le c.layout.rows (got / 2) ≡ b → waits c got ≡ false → senders' p ≡ Some (cond b (record c { least = got / 2 }) (core_begun X c (got / 2))) → Sending P x words home senders' owners frames
+        by_room : (b : Bool) → nat_le c.layout.rows (got / 2) ≡ b → waits c got ≡ false → senders' p ≡ Some (cond b (record c { least = got / 2 }) (core_begun X c (got / 2))) → Sending base P x words home senders' owners frames
         by_room true d e new = let stage = open_stage c got e in bus.spends X P laws x ok width words home senders owners frames h p c (record c { least = got / 2 }) senders' old new beside rests rests stage.1 (part_least (got / 2))
         by_room false d e new =
             let stage = open_stage c got e in
             bus.begins X P laws x ok width words home senders owners frames h p c (core_begun X c (got / 2)) senders' old new beside
             (got / 2) rests (omega (arith, stage.0)) stage.1 (let a = leb-false c.layout.rows (got / 2) d in let b = rows_is in omega arith) part.below (ap (phase.Electing (got / 2)) (sym (start_is (got / 2)))) refl (part_begun (got / 2) is_open something)
 
-        by_waits : (b : Bool) → waits c got ≡ b → senders' p ≡ Some (cond b c (cond (nat_le c.layout.rows (got / 2)) (record c { least = got / 2 }) (core_begun X c (got / 2)))) → Sending P x words home senders' owners frames
+        by_waits : (b : Bool) → waits c got ≡ b → senders' p ≡ Some (cond b c (cond (nat_le c.layout.rows (got / 2)) (record c { least = got / 2 }) (core_begun X c (got / 2)))) → Sending base P x words home senders' owners frames
         by_waits true e new = unchanged new
         by_waits false e new = by_room (nat_le c.layout.rows (got / 2)) refl e new
 
         looks : Kept LooksAtStage
-        looks = (only (Load record { 0 = 1 }) (omega arith), λ step new. subst (λ z. Sending P x z home senders' owners frames) (sym (fun_ext (loaded 1 words words' step))) (by_waits (waits c got) refl new))
+        looks = (only (Load record { 0 = 1 }) (omega arith), λ step new. subst (λ z. Sending base P x z home senders' owners frames) (sym (fun_ext (loaded 1 words words' step))) (by_waits (waits c got) refl new))
 
       rest_kept : Kept (resting c)
       rest_kept = by_closed c.queue.phase refl
@@ -211,14 +211,14 @@ module _ {E : Type 0} (X : Election E) (P : Protocol E (Unit {0}) ℕ) (laws : L
 
     -- ---- an election
     module _ (t : ℕ) (e : E) (elects : c.phase ≡ phase.Electing t e) where
-      electing_fits : HasBegun c.queue × (c.queue.first ≡ sent_count c.me frames)
-      electing_fits = subst (Fits words frames c) elects part.fits
+      electing_fits : HasBegun c.queue × (c.queue.first ≡ next_number base c.me frames)
+      electing_fits = subst (Fits base words frames c) elects part.fits
 
       -- it takes the page
       take_kept : (o : ℕ) → X.owner e ≡ Some o → Kept (TakesPage t)
       take_kept o own = (only (Store record { 0 = 1 } (2 * t + 1)) (omega arith), λ step new. taken step new (at_home t e elects o own).0 (at_home t e elects o own).1)
         where
-          taken : bus.Changes (Store record { 0 = 1 } (2 * t + 1)) words words' → senders' p ≡ Some (core_with_page c t home) → (page : Page) → home ≡ Some page → Sending P x words' None senders' (owners ++ p ∷ []) frames
+          taken : bus.Changes (Store record { 0 = 1 } (2 * t + 1)) words words' → senders' p ≡ Some (core_with_page c t home) → (page : Page) → home ≡ Some page → Sending base P x words' None senders' (owners ++ p ∷ []) frames
           taken step new page i = bus.takes X P laws x ok width words home senders owners frames h p c (record c { phase = phase.Holding t page 0 false }) senders' old (new ∙ ap (λ z. Some (core_with_page c t z)) i) beside
               t e page words' elects (own_output t e elects o own) i step.here (λ r ne. step.elsewhere r ne) refl
 
@@ -227,12 +227,12 @@ module _ {E : Type 0} (X : Election E) (P : Protocol E (Unit {0}) ℕ) (laws : L
         abbrev later : E
         later = X.fed e (words (register o)) word
 
-        going : (owner : Option ℕ) → X.owner later ≡ owner → ((u : ℕ) → owner ≡ Some u → u ≡ p) → senders' p ≡ Some (record c { phase = phase.Electing t later }) → Sending P x words' home senders' owners frames
+        going : (owner : Option ℕ) → X.owner later ≡ owner → ((u : ℕ) → owner ≡ Some u → u ≡ p) → senders' p ≡ Some (record c { phase = phase.Electing t later }) → Sending base P x words' home senders' owners frames
         going owner i mine now = bus.elects_on X P laws x ok width words home senders owners frames h p c (record c { phase = phase.Electing t later }) senders' old now beside t e word o words' elects next step refl refl
             (λ u out. mine u (sym i ∙ owner_is later ∙ out))
             record { layout = part.layout; me = part.me; below = part.below; sender = part.sender; queue = part.queue; fits = electing_fits }
 
-        losing : (u : ℕ) → X.owner later ≡ Some u → u ≢ p → senders' p ≡ Some (record c { queue = record c.queue { busy = false }; least = t + 1; phase = phase.Resting }) → Sending P x words' home senders' owners frames
+        losing : (u : ℕ) → X.owner later ≡ Some u → u ≢ p → senders' p ≡ Some (record c { queue = record c.queue { busy = false }; least = t + 1; phase = phase.Resting }) → Sending base P x words' home senders' owners frames
         losing u i other now = bus.loses X P laws x ok width words home senders owners frames h p c (record c { queue = record c.queue { busy = false }; least = t + 1; phase = phase.Resting }) senders' old now beside t e word o words' elects next step
             u (sym (owner_is later) ∙ i) other refl refl
             record {
@@ -244,7 +244,7 @@ module _ {E : Type 0} (X : Election E) (P : Protocol E (Unit {0}) ℕ) (laws : L
               fits = (refl, electing_fits.1);
             }
 
-        by_owner : (owner : Option ℕ) → X.owner later ≡ owner → senders' p ≡ Some (core_elected c t later owner) → Sending P x words' home senders' owners frames
+        by_owner : (owner : Option ℕ) → X.owner later ≡ owner → senders' p ≡ Some (core_elected c t later owner) → Sending base P x words' home senders' owners frames
         by_owner None i now = going None i (λ u b. absurd cc) now
         by_owner (Some u) i now = elim (eqb_tells u c.me) [
           | inl y ↦ going (Some u) i (λ v b. sym (same_Some _ _ b) ∙ y.1 ∙ part.me)
@@ -255,7 +255,7 @@ module _ {E : Type 0} (X : Election E) (P : Protocol E (Unit {0}) ℕ) (laws : L
 
       -- whatever its step is
       abbrev KeptBy : Option Op → Type 0
-      KeptBy z = Steps z words words' → senders' p ≡ Some (core_elected c t (X.fed e (number_found words z) word) (X.owner (X.fed e (number_found words z) word))) → Sending P x words' home senders' owners frames
+      KeptBy z = Steps z words words' → senders' p ≡ Some (core_elected c t (X.fed e (number_found words z) word) (X.owner (X.fed e (number_found words z) word))) → Sending base P x words' home senders' owners frames
 
       elect_kept : (o : Op) → X.op e word ≡ Some o → Kept (Elects t e)
       elect_kept o next = (in_row t e elects, subst KeptBy (sym next) (λ step now. by_owner o next step (X.owner (X.fed e (words (register o)) word)) refl now))
@@ -275,7 +275,7 @@ module _ {E : Type 0} (X : Election E) (P : Protocol E (Unit {0}) ℕ) (laws : L
       log_is : log_at c.layout ≡ log_at x
       log_is = ap log_at part.layout
 
-      gives : (reason : Reason) → (bus.Changes (Store record { 0 = 1 } (2 * t + 2)) words words' → senders' p ≡ Some (core_at_rest c reason t) → Sending P x words' (Some (page_after c t page reason)) senders' owners frames) → Kept (GivesBack t page reason)
+      gives : (reason : Reason) → (bus.Changes (Store record { 0 = 1 } (2 * t + 2)) words words' → senders' p ≡ Some (core_at_rest c reason t) → Sending base P x words' (Some (page_after c t page reason)) senders' owners frames) → Kept (GivesBack t page reason)
       gives reason kept = (only (Store record { 0 = 1 } (2 * t + 2)) (omega arith), kept)
 
       unsent_kept : (reason : Reason) → bus.IsUnsent reason → published ≡ false → Kept (GivesBack t page reason)
@@ -324,9 +324,9 @@ module _ {E : Type 0} (X : Election E) (P : Protocol E (Unit {0}) ℕ) (laws : L
     turn_at : (ph : Phase E) → c.phase ≡ ph → Kept (situation_at X c ph)
     turn_at phase.Resting e = rest_kept e
     turn_at (phase.Electing t u) e = election_kept t u e
-    turn_at (phase.Taken t) e = absurd (subst (Fits words frames c) e part.fits)
+    turn_at (phase.Taken t) e = absurd (subst (Fits base words frames c) e part.fits)
     turn_at (phase.Holding t page stored published) e = hold_kept t page stored published e
-    turn_at (phase.Giving t reason) e = absurd (subst (Fits words frames c) e part.fits)
+    turn_at (phase.Giving t reason) e = absurd (subst (Fits base words frames c) e part.fits)
 
     abbrev due : Option Op
     due = op_at X c (situation_of X c) word
@@ -337,16 +337,16 @@ module _ {E : Type 0} (X : Election E) (P : Protocol E (Unit {0}) ℕ) (laws : L
 
     -- a turn of a sender keeps what senders, words, page and owners keep
     pub turn_keeps : Steps due words words' → senders' p ≡ Some (core_after X c (situation_of X c) home (number_found words due) word)
-        → Sending P x words' (home_after X c (situation_of X c) home) senders' (owners_after X c (situation_of X c) p owners) (frames_after X c (situation_of X c) frames)
+        → Sending base P x words' (home_after X c (situation_of X c) home) senders' (owners_after X c (situation_of X c) p owners) (frames_after X c (situation_of X c) frames)
     turn_keeps = (turn_at c.phase refl).1
 
 -- ---- lists
 -- what the senders of a machine keep, with these frames in the log
-pub record IsSide {E : Type 0} (P : Protocol E (Unit {0}) ℕ) (x : Layout) (side : Side E) (frames : List Frame) : Type 0 where
+pub record IsSide {E : Type 0} (base : ℕ → ℕ) (P : Protocol E (Unit {0}) ℕ) (x : Layout) (side : Side E) (frames : List Frame) : Type 0 where
   pub words : length side.words ≡ words_of x
-  pub sending : Sending P x (slice_index side.words) side.home (slice_get side.senders) side.owners frames
+  pub sending : Sending base P x (slice_index side.words) side.home (slice_get side.senders) side.owners frames
 
-pub side_of : {E : Type 0} {P : Protocol E (Unit {0}) ℕ} {x : Layout} {b : Bus E} {frames : List Frame} → LawfulBus P x b frames → IsSide P x b.side frames
+pub side_of : {base : ℕ → ℕ} {E : Type 0} {P : Protocol E (Unit {0}) ℕ} {x : Layout} {b : Bus E} {frames : List Frame} → LawfulBus base P x b frames → IsSide base P x b.side frames
 side_of h = record { words = h.words; sending = h.keeps.sending }
 
 module _ (words : List ℕ) where
@@ -362,10 +362,10 @@ module _ (words : List ℕ) where
   }
 
 -- ---- a turn on lists
-module _ {E : Type 0} (X : Election E) (P : Protocol E (Unit {0}) ℕ) (laws : Laws X.op X.fed P OneOwner) (x : Layout) (ok : IsLayout x) (width : x.width ≡ P.width x.senders)
+module _ {base : ℕ → ℕ} {E : Type 0} (X : Election E) (P : Protocol E (Unit {0}) ℕ) (laws : Laws X.op X.fed P OneOwner) (x : Layout) (ok : IsLayout x) (width : x.width ≡ P.width x.senders)
     (starts : (n me at : ℕ) → X.started n me x.rounds at ≡ P.started n me tt at) (owner_is : (e : E) → X.owner e ≡ P.output e)
-    (side : Side E) (frames : List Frame) (h : IsSide P x side frames) (p : ℕ) (c : Core E) (old : slice_get side.senders p ≡ Some c) (word : ℕ) where
-  pub turn_lawful : IsSide P x (side_after X side p c (situation_of X c) word) (frames_after X c (situation_of X c) frames)
+    (side : Side E) (frames : List Frame) (h : IsSide base P x side frames) (p : ℕ) (c : Core E) (old : slice_get side.senders p ≡ Some c) (word : ℕ) where
+  pub turn_lawful : IsSide base P x (side_after X side p c (situation_of X c) word) (frames_after X c (situation_of X c) frames)
   turn_lawful =
       let W = slice_index side.words in
       let op = op_at X c (situation_of X c) word in

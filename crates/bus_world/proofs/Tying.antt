@@ -55,16 +55,16 @@ pub record Hears (frames : List Frame) (v : Receiving) (trail : List RecvTurn) :
   pub going : v.ended ≡ false → (order_given trail).ended ≡ false
   pub silent : IsSilent trail
 
--- each accepted message was answered how many were put before it
-abbrev pub AreNumbered : List Action → Type 0
-AreNumbered trail = (place number : ℕ) (bytes : List ℕ) → slice_get trail place ≡ Some (HasPut number bytes) → number ≡ length (puts (take place trail))
+-- each accepted message was answered this number and how many were put before it
+abbrev pub AreNumbered : ℕ → List Action → Type 0
+AreNumbered first trail = (place number : ℕ) (bytes : List ℕ) → slice_get trail place ≡ Some (HasPut number bytes) → number ≡ first + length (puts (take place trail))
 
 -- what trails keep with a bus
-pub record Tied {E : Type 0} (P : Protocol E (Unit {0}) ℕ) (x : Layout) (b : Bus E) (frames : List Frame) (T : Trails) : Type 0 where
+pub record Tied {E : Type 0} (bases : List ℕ) (P : Protocol E (Unit {0}) ℕ) (x : Layout) (b : Bus E) (frames : List Frame) (T : Trails) : Type 0 where
   pub tables : Tables P x (slice_index b.side.words) (slice_get b.side.senders) T.actions
   pub takers : PageTies b.side.owners T.actions
   pub puts : (s : ℕ) → puts (T.actions s) ≡ put_by b frames s
-  pub counted : (s : ℕ) → AreNumbered (T.actions s)
+  pub counted : (s : ℕ) → AreNumbered (slice_index bases s) (T.actions s)
   pub heard : (r : ℕ) (v : Receiving) → slice_get b.receivers r ≡ Some v → Hears frames v (T.heard r)
   pub silent : (r : ℕ) → slice_get b.receivers r ≡ None → T.heard r ≡ []
   pub closings : Closings (slice_get b.side.senders) frames T.actions

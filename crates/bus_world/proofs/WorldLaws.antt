@@ -37,7 +37,7 @@ use Rattle.bus_world.proofs.Accepting as accepting
 use Rattle.bus_world.proofs.Accepting.{Accepted, Puts, Closes, accept, AreAccepted, open_is, not_busy, empty_is, idle_rests}
 use Rattle.bus_tenure.specs.declared.phases.Reason.{Reason}
 use Rattle.bus_register.specs.Proved.TableLaws.{get_set_same, get_set_other}
-use Rattle.bus_world.specs.World.{Event, Put, Close, Turn, Recv, Stop, going, IsEvent, Happens, SenderDoes, ReceiverDoes, recv_found, Bus, is_open, can_put, can_close, put_in, close_in, with_sender, LawfulBus, IsReceiver, RecvStep, RecvDoes, IsNew, new_page}
+use Rattle.bus_world.specs.World.{Event, Put, Close, Turn, Recv, Stop, going, IsEvent, Happens, SenderDoes, ReceiverDoes, recv_found, Bus, is_open, can_put, can_close, put_in, close_in, with_sender, LawfulBus, IsReceiver, RecvStep, RecvDoes, IsNew, first_page}
 use Rattle.bus_world.proofs.Waiting.{with_frame, frames_after, frames_by, event_frames, accepted_by, accepted, waiting_at, put_by, waiting_of}
 
 -- ---- numbers
@@ -46,17 +46,17 @@ counted_at first [] k i a e = absurd cc
 counted_at first (x ∷ items) zero i a e = ap (λ (z : Item). z.number) (sym (same_Some _ _ e)) ∙ a.0 ∙ (let z : first ≡ first + 0 = omega arith in z)
 counted_at first (x ∷ items) (suc k) i a e = counted_at (first + 1) items k i a.1 e ∙ (let z : first + 1 + k ≡ first + suc k = omega arith in z)
 
-same_side : {E : Type 0} (P : Protocol E (Unit {0}) ℕ) (x : Layout) (frames : List Frame) (side side' : Side E) → side' ≡ side → IsSide P x side frames → IsSide P x side' frames
-same_side P x frames side side' e h = subst (λ z. IsSide P x z frames) (sym e) h
+same_side : {base : ℕ → ℕ} {E : Type 0} (P : Protocol E (Unit {0}) ℕ) (x : Layout) (frames : List Frame) (side side' : Side E) → side' ≡ side → IsSide base P x side frames → IsSide base P x side' frames
+same_side {base} P x frames side side' e h = subst (λ z. IsSide base P x z frames) (sym e) h
 
 module _ {E : Type 0} (X : Election E) (P : Protocol E (Unit {0}) ℕ) (laws : Laws X.op X.fed P OneOwner) (x : Layout) (ok : IsLayout x) (width : x.width ≡ P.width x.senders)
     (starts : (n me at : ℕ) → X.started n me x.rounds at ≡ P.started n me tt at) (owner_is : (e : E) → X.owner e ≡ P.output e) where
-  module _ (side : Side E) (frames : List Frame) (h : IsSide P x side frames) (p : ℕ) (c : Core E) (old : slice_get side.senders p ≡ Some c) where
+  module _ {base : ℕ → ℕ} (side : Side E) (frames : List Frame) (h : IsSide base P x side frames) (p : ℕ) (c : Core E) (old : slice_get side.senders p ≡ Some c) where
     pub numbers_fit : next_of c.queue < 2 ^ 48
     numbers_fit = accepting.numbers_fit X P laws x ok width (slice_index side.words) side.home side.owners frames p (slice_get side.senders) h.sending c old
 
     -- what it accepts keeps what the senders keep
-    accept_lawful : (a : Accepted) → AreAccepted (a ∷ []) → IsSide P x (with_sender side p (accept c a)) frames
+    accept_lawful : (a : Accepted) → AreAccepted (a ∷ []) → IsSide base P x (with_sender side p (accept c a)) frames
     accept_lawful a each = record {
       words = h.words;
       sending = accepting.grows X P laws x ok width (slice_index side.words) side.home side.owners frames p (a ∷ []) each (slice_get side.senders) h.sending c old (slice_get (slice_set side.senders p (accept c a)))
@@ -76,7 +76,7 @@ index-read words at (suc k) i l = elim (cases_lt i k) [
   last : (xs : List ℕ) (w : ℕ) → slice_index (xs ++ w ∷ []) (length xs) ≡ w
   last xs w = grind (arith, common_steps)
 
-module _ (x : Layout) (frames : List Frame) (words : ℕ → ℕ) (log : Logged x.senders x.capacity (log_at x) words (words 0) frames) (v : Receiving) (h : IsReceiver x frames (words 0) v) where
+module _ {base : ℕ → ℕ} (x : Layout) (frames : List Frame) (words : ℕ → ℕ) (log : Logged base x.senders x.capacity (log_at x) words (words 0) frames) (v : Receiving) (h : IsReceiver x frames (words 0) v) where
   size_is : length (log_words frames) ≡ words 0
   size_is = sym (ap length log.words_are) ∙ length-read words (log_at x) (words 0)
 
@@ -140,14 +140,14 @@ module _ (x : Layout) (frames : List Frame) (words : ℕ → ℕ) (log : Logged 
         by_end false e = goes (does.going e)
 
 -- receivers, where the log has grown
-module _ (x : Layout) (frames : List Frame) (words words' : ℕ → ℕ) (log : Logged x.senders x.capacity (log_at x) words (words 0) frames) where
-  same_len : (log' : Logged x.senders x.capacity (log_at x) words' (words' 0) frames) → words' 0 ≡ words 0
+module _ {base : ℕ → ℕ} (x : Layout) (frames : List Frame) (words words' : ℕ → ℕ) (log : Logged base x.senders x.capacity (log_at x) words (words 0) frames) where
+  same_len : (log' : Logged base x.senders x.capacity (log_at x) words' (words' 0) frames) → words' 0 ≡ words 0
   same_len log' = sym (length-read words' (log_at x) (words' 0)) ∙ ap length log'.words_are ∙ sym (ap length log.words_are) ∙ length-read words (log_at x) (words 0)
 
-  receiver_stays : (log' : Logged x.senders x.capacity (log_at x) words' (words' 0) frames) (v : Receiving) → IsReceiver x frames (words 0) v → IsReceiver x frames (words' 0) v
+  receiver_stays : (log' : Logged base x.senders x.capacity (log_at x) words' (words' 0) frames) (v : Receiving) → IsReceiver x frames (words 0) v → IsReceiver x frames (words' 0) v
   receiver_stays log' v h = subst (λ z. IsReceiver x frames z v) (sym (same_len log')) h
 
-  receiver_follows : (f : Frame) (log' : Logged x.senders x.capacity (log_at x) words' (words' 0) (frames ++ f ∷ [])) (v : Receiving) → IsReceiver x frames (words 0) v → IsReceiver x (frames ++ f ∷ []) (words' 0) v
+  receiver_follows : (f : Frame) (log' : Logged base x.senders x.capacity (log_at x) words' (words' 0) (frames ++ f ∷ [])) (v : Receiving) → IsReceiver x frames (words 0) v → IsReceiver x (frames ++ f ∷ []) (words' 0) v
   receiver_follows f log' v h =
       let size : length (log_words frames) ≡ words 0 = sym (ap length log.words_are) ∙ length-read words (log_at x) (words 0) in
       let size' : length (log_words (frames ++ f ∷ [])) ≡ words' 0 = sym (ap length log'.words_are) ∙ length-read words' (log_at x) (words' 0) in
@@ -159,7 +159,7 @@ one_or_none : (more : Option Frame) (frames : List Frame) → (with_frame more f
 one_or_none None frames = inl refl
 one_or_none (Some f) frames = inr (f, refl)
 
-lawful_of : {E : Type 0} {P : Protocol E (Unit {0}) ℕ} {x : Layout} {b : Bus E} {frames : List Frame} → IsSide P x b.side frames → ((r : ℕ) (v : Receiving) → slice_get b.receivers r ≡ Some v → IsReceiver x frames (slice_index b.side.words 0) v) → LawfulBus P x b frames
+lawful_of : {base : ℕ → ℕ} {E : Type 0} {P : Protocol E (Unit {0}) ℕ} {x : Layout} {b : Bus E} {frames : List Frame} → IsSide base P x b.side frames → ((r : ℕ) (v : Receiving) → slice_get b.receivers r ≡ Some v → IsReceiver x frames (slice_index b.side.words 0) v) → LawfulBus base P x b frames
 lawful_of side receiving = record { words = side.words; keeps = record { sending = side.sending; receiving = receiving } }
 
 -- the frames of one bus begin those of the other
@@ -170,53 +170,53 @@ pub record Continues (frames frames' : List Frame) : Type 0 where
 module _ {E : Type 0} (X : Election E) (P : Protocol E (Unit {0}) ℕ) (laws : Laws X.op X.fed P OneOwner) (x : Layout) (ok : IsLayout x) (width : x.width ≡ P.width x.senders)
     (starts : (n me at : ℕ) → X.started n me x.rounds at ≡ P.started n me tt at) (owner_is : (e : E) → X.owner e ≡ P.output e) where
   -- what an event leaves: a lawful bus, whose log continues the one before
-  pub record Left (frames : List Frame) (b : Bus E) : Type 0 where
+  pub record Left (base : ℕ → ℕ) (frames : List Frame) (b : Bus E) : Type 0 where
     pub frames_now : List Frame
-    pub lawful : LawfulBus P x b frames_now
+    pub lawful : LawfulBus base P x b frames_now
     pub continues : Continues frames frames_now
 
   -- what one event leaves, with the frames that it says
-  pub record After (frames target : List Frame) (b : Bus E) : Type 0 where
-    pub left : Left frames b
+  pub record After (base : ℕ → ℕ) (frames target : List Frame) (b : Bus E) : Type 0 where
+    pub left : Left base frames b
     pub now_is : left.frames_now ≡ target
 
-  module _ (b : Bus E) (frames : List Frame) (h : LawfulBus P x b frames) (b' : Bus E) where
+  module _ {base : ℕ → ℕ} (b : Bus E) (frames : List Frame) (h : LawfulBus base P x b frames) (b' : Bus E) where
     -- the receivers are the same, and so is the log
-    quiet : IsSide P x b'.side frames → b'.receivers ≡ b.receivers → Left frames b'
+    quiet : IsSide base P x b'.side frames → b'.receivers ≡ b.receivers → Left base frames b'
     quiet side same = record {
       frames_now = frames;
       lawful = lawful_of side (λ r v e. receiver_stays x frames (slice_index b.side.words) (slice_index b'.side.words) h.keeps.sending.log side.sending.log v (h.keeps.receiving r v (ap (λ z. slice_get z r) (sym same) ∙ e)));
       continues = record { more = []; together = append-nil frames };
     }
 
-    longer : (f : Frame) → IsSide P x b'.side (frames ++ f ∷ []) → b'.receivers ≡ b.receivers → Left frames b'
+    longer : (f : Frame) → IsSide base P x b'.side (frames ++ f ∷ []) → b'.receivers ≡ b.receivers → Left base frames b'
     longer f side same = record {
       frames_now = frames ++ f ∷ [];
       lawful = lawful_of side (λ r v e. receiver_follows x frames (slice_index b.side.words) (slice_index b'.side.words) h.keeps.sending.log f side.sending.log v (h.keeps.receiving r v (ap (λ z. slice_get z r) (sym same) ∙ e)));
       continues = record { more = f ∷ []; together = refl };
     }
 
-    put_left : (s : ℕ) (bytes : List ℕ) → All (λ byte. byte < 256) bytes → (o : Option (Core E)) → going b s ≡ o → SenderDoes b.side o (λ c. with_sender b.side s (put_in c bytes)) b'.side → b'.receivers ≡ b.receivers → After frames frames b'
+    put_left : (s : ℕ) (bytes : List ℕ) → All (λ byte. byte < 256) bytes → (o : Option (Core E)) → going b s ≡ o → SenderDoes b.side o (λ c. with_sender b.side s (put_in c bytes)) b'.side → b'.receivers ≡ b.receivers → After base frames frames b'
     unfolding quiet longer
     put_left s bytes small None i d same = record { left = quiet (same_side P x frames b.side b'.side d (side_of h)) same; now_is = refl }
     put_left s bytes small (Some c) i d same = record { left = quiet (same_side P x frames (with_sender b.side s (put_in c bytes)) b'.side d (accept_lawful X P laws x ok width starts owner_is b.side frames (side_of h) s c (is_there b s c i) (Puts bytes) (small, tt))) same; now_is = refl }
 
-    close_left : (s : ℕ) (o : Option (Core E)) → going b s ≡ o → SenderDoes b.side o (λ c. with_sender b.side s (close_in c)) b'.side → b'.receivers ≡ b.receivers → After frames frames b'
+    close_left : (s : ℕ) (o : Option (Core E)) → going b s ≡ o → SenderDoes b.side o (λ c. with_sender b.side s (close_in c)) b'.side → b'.receivers ≡ b.receivers → After base frames frames b'
     unfolding quiet longer
     close_left s None i d same = record { left = quiet (same_side P x frames b.side b'.side d (side_of h)) same; now_is = refl }
     close_left s (Some c) i d same = record { left = quiet (same_side P x frames (with_sender b.side s (close_in c)) b'.side d (accept_lawful X P laws x ok width starts owner_is b.side frames (side_of h) s c (is_there b s c i) Closes tt)) same; now_is = refl }
 
-    turn_left : (s word : ℕ) (o : Option (Core E)) → going b s ≡ o → SenderDoes b.side o (λ c. side_after X b.side s c (situation_of X c) word) b'.side → b'.receivers ≡ b.receivers → After frames (frames_by X o frames) b'
+    turn_left : (s word : ℕ) (o : Option (Core E)) → going b s ≡ o → SenderDoes b.side o (λ c. side_after X b.side s c (situation_of X c) word) b'.side → b'.receivers ≡ b.receivers → After base frames (frames_by X o frames) b'
     unfolding quiet longer
     turn_left s word None i d same = record { left = quiet (same_side P x frames b.side b'.side d (side_of h)) same; now_is = refl }
     turn_left s word (Some c) i d same =
-        let side = subst (λ z. IsSide P x z (frames_after X c (situation_of X c) frames)) (sym d) (turning.turn_lawful X P laws x ok width starts owner_is b.side frames (side_of h) s c (is_there b s c i) word) in
+        let side = subst (λ z. IsSide base P x z (frames_after X c (situation_of X c) frames)) (sym d) (turning.turn_lawful X P laws x ok width starts owner_is b.side frames (side_of h) s c (is_there b s c i) word) in
         elim (one_or_none (line_of X c (situation_of X c)).publishes frames) [
-          | inl e ↦ record { left = quiet (subst (IsSide P x b'.side) e side) same; now_is = sym e }
-          | inr f ↦ record { left = longer f.0 (subst (IsSide P x b'.side) f.1 side) same; now_is = sym f.1 }
+          | inl e ↦ record { left = quiet (subst (IsSide base P x b'.side) e side) same; now_is = sym e }
+          | inr f ↦ record { left = longer f.0 (subst (IsSide base P x b'.side) f.1 side) same; now_is = sym f.1 }
         ]
 
-    recv_left : (r : ℕ) (o : Option Receiving) → slice_get b.receivers r ≡ o → b'.side ≡ b.side → ReceiverDoes b.side.words b.receivers r o b'.receivers → After frames frames b'
+    recv_left : (r : ℕ) (o : Option Receiving) → slice_get b.receivers r ≡ o → b'.side ≡ b.side → ReceiverDoes b.side.words b.receivers r o b'.receivers → After base frames frames b'
     unfolding quiet longer
     recv_left r None i d rs = record { left = quiet (same_side P x frames b.side b'.side d (side_of h)) rs; now_is = refl }
     recv_left r (Some v) i d rs =
@@ -236,12 +236,12 @@ module _ {E : Type 0} (X : Election E) (P : Protocol E (Unit {0}) ℕ) (laws : L
           };
         }
 
-    stop_left : b'.side ≡ b.side → b'.receivers ≡ b.receivers → After frames frames b'
+    stop_left : b'.side ≡ b.side → b'.receivers ≡ b.receivers → After base frames frames b'
     unfolding quiet
     stop_left d same = record { left = quiet (same_side P x frames b.side b'.side d (side_of h)) same; now_is = refl }
 
     -- whatever happens next
-    pub event_left : (e : Event) → IsEvent e → Happens X b e b' → After frames (event_frames X b e frames) b'
+    pub event_left : (e : Event) → IsEvent e → Happens X b e b' → After base frames (event_frames X b e frames) b'
     event_left (Put s bytes) is d = put_left s bytes is (going b s) refl d.0 d.1
     event_left (Close s) is d = close_left s (going b s) refl d.0 d.1
     event_left (Turn s word) is d = turn_left s word (going b s) refl d.0 d.1
@@ -263,7 +263,7 @@ module _ {E : Type 0} (X : Election E) (P : Protocol E (Unit {0}) ℕ) (laws : L
       at_other : (q : ℕ) → q ≢ s → put_by b' frames q ≡ put_by b frames q
       at_other q ne = ap (λ z. map (λ (i : Item). i.message) (of_sender q (order_of frames)) ++ waiting_of (slice_get z q)) now ∙ ap (λ z. map (λ (i : Item). i.message) (of_sender q (order_of frames)) ++ waiting_of z) (get_set_other b.side.senders s c' q ne)
 
-    put_waits : (c : Core E) (bytes : List ℕ) → Fits (slice_index b.side.words) frames c c.phase → waiting_of (Some (put_in c bytes)) ≡ waiting_of (Some c) ++ cond (can_put c.queue (length bytes)) (bytes ∷ []) []
+    put_waits : (c : Core E) (bytes : List ℕ) → Fits base (slice_index b.side.words) frames c c.phase → waiting_of (Some (put_in c bytes)) ≡ waiting_of (Some c) ++ cond (can_put c.queue (length bytes)) (bytes ∷ []) []
     put_waits c bytes fits = by_test (can_put c.queue (length bytes)) refl
       where
         by_test : (t : Bool) → can_put c.queue (length bytes) ≡ t → waiting_of (Some (cond t (record c { queue = record c.queue { messages = c.queue.messages ++ bytes ∷ [] } }) c)) ≡ waiting_of (Some c) ++ cond t (bytes ∷ []) []
@@ -271,10 +271,10 @@ module _ {E : Type 0} (X : Election E) (P : Protocol E (Unit {0}) ℕ) (laws : L
         by_test true e =
             let tests = (and_parts (is_open c.queue.phase) (cond c.queue.busy false true && (nat_le (length bytes) 56 && nat_lt (length c.queue.messages) 16)) e).1 in
             let idle = not_busy c.queue.busy (and_parts (cond c.queue.busy false true) (nat_le (length bytes) 56 && nat_lt (length c.queue.messages) 16) tests).0 in
-            let rests = idle_rests (slice_index b.side.words) frames c c.phase fits idle in
+            let rests = idle_rests base (slice_index b.side.words) frames c c.phase fits idle in
             ap (waiting_at (record c { queue = record c.queue { messages = c.queue.messages ++ bytes ∷ [] } })) rests ∙ ap (λ z. z ++ bytes ∷ []) (sym (ap (waiting_at c) rests))
 
-    close_waits : (c : Core E) → Fits (slice_index b.side.words) frames c c.phase → waiting_of (Some (close_in c)) ≡ waiting_of (Some c) ++ []
+    close_waits : (c : Core E) → Fits base (slice_index b.side.words) frames c c.phase → waiting_of (Some (close_in c)) ≡ waiting_of (Some c) ++ []
     close_waits c fits = by_test (can_close c.queue) refl
       where
         by_test : (t : Bool) → can_close c.queue ≡ t → waiting_of (Some (cond t (record c { queue = record c.queue { phase = Closing } }) c)) ≡ waiting_of (Some c) ++ []
@@ -282,10 +282,10 @@ module _ {E : Type 0} (X : Election E) (P : Protocol E (Unit {0}) ℕ) (laws : L
         by_test true e =
             let tests = (and_parts (is_open c.queue.phase) (cond c.queue.busy false true && is_empty c.queue.messages) e).1 in
             let idle = not_busy c.queue.busy (and_parts (cond c.queue.busy false true) (is_empty c.queue.messages) tests).0 in
-            let rests = idle_rests (slice_index b.side.words) frames c c.phase fits idle in
+            let rests = idle_rests base (slice_index b.side.words) frames c c.phase fits idle in
             ap (waiting_at (record c { queue = record c.queue { phase = Closing } })) rests ∙ sym (ap (waiting_at c) rests) ∙ sym (append-nil (waiting_of (Some c)))
 
-    own_part : (s : ℕ) (c : Core E) → slice_get b.side.senders s ≡ Some c → Part x (slice_index b.side.words) frames s c
+    own_part : (s : ℕ) (c : Core E) → slice_get b.side.senders s ≡ Some c → Part base x (slice_index b.side.words) frames s c
     own_part s c i = h.keeps.sending.parts s c i
 
     put_puts : (s : ℕ) (bytes : List ℕ) (o : Option (Core E)) → going b s ≡ o → SenderDoes b.side o (λ c. with_sender b.side s (put_in c bytes)) b'.side → (q : ℕ) → put_by b' frames q ≡ put_by b frames q ++ cond (q == s) (accepted_by o bytes) []
@@ -307,8 +307,8 @@ module _ {E : Type 0} (X : Election E) (P : Protocol E (Unit {0}) ℕ) (laws : L
       | inr ne ↦ at_other s c (close_in c) (is_there b s c i) (ap (λ (z : Side E). z.senders) d) [] (close_waits c (own_part s c (is_there b s c i)).fits) q ne ∙ sym (append-nil (put_by b frames q))
     ]
 
-    never_giving : (c : Core E) (ph : SenderPhase E) → c.phase ≡ ph → Fits (slice_index b.side.words) frames c ph → (t : ℕ) (reason : Reason) → ph ≡ phase.Giving t reason → ⊥
-    never_giving c ph e fits t reason g = subst (Fits (slice_index b.side.words) frames c) g fits
+    never_giving : (c : Core E) (ph : SenderPhase E) → c.phase ≡ ph → Fits base (slice_index b.side.words) frames c ph → (t : ℕ) (reason : Reason) → ph ≡ phase.Giving t reason → ⊥
+    never_giving c ph e fits t reason g = subst (Fits base (slice_index b.side.words) frames c) g fits
 
     turn_event_puts : (s word : ℕ) (o : Option (Core E)) → going b s ≡ o → SenderDoes b.side o (λ c. side_after X b.side s c (situation_of X c) word) b'.side → (q : ℕ) → put_by b' (frames_by X o frames) q ≡ put_by b frames q ++ []
     turn_event_puts s word None i d q = bus_same d frames q ∙ sym (append-nil (put_by b frames q))
@@ -325,16 +325,16 @@ module _ {E : Type 0} (X : Election E) (P : Protocol E (Unit {0}) ℕ) (laws : L
     event_puts (Stop s) d q = bus_same d.0 frames q ∙ sym (append-nil (put_by b frames q))
 
   -- ---- a new bus is lawful
-  module _ (b : Bus E) (new : IsNew x b) where
+  module _ (bases : List ℕ) (b : Bus E) (new : IsNew bases x b) where
     zero_at : (r : ℕ) → slice_index b.side.words r ≡ 0
     zero_at r = ap (λ z. slice_index z r) new.words ∙ zeros (words_of x) r
 
-    new_sending : Sending P x (slice_index b.side.words) b.side.home (slice_get b.side.senders) b.side.owners []
-    new_sending = subst (λ z. Sending P x (slice_index b.side.words) z (slice_get b.side.senders) b.side.owners []) (sym new.home)
-        (subst (λ z. Sending P x (slice_index b.side.words) (Some new_page) (slice_get b.side.senders) z []) (sym new.owners)
-        (beginning.new_sending X P laws x ok (slice_index b.side.words) zero_at (slice_get b.side.senders) new.senders))
+    new_sending : Sending (slice_index bases) P x (slice_index b.side.words) b.side.home (slice_get b.side.senders) b.side.owners []
+    new_sending = subst (λ z. Sending (slice_index bases) P x (slice_index b.side.words) z (slice_get b.side.senders) b.side.owners []) (sym new.home)
+        (subst (λ z. Sending (slice_index bases) P x (slice_index b.side.words) (Some (first_page bases)) (slice_get b.side.senders) z []) (sym new.owners)
+        (beginning.new_sending X P laws x ok bases new.bases_are (slice_index b.side.words) zero_at (slice_get b.side.senders) new.senders))
 
-    pub new_is_lawful : LawfulBus P x b []
+    pub new_is_lawful : LawfulBus (slice_index bases) P x b []
     new_is_lawful = lawful_of (record { words = ap length new.words ∙ length-replicate (words_of x) 0; sending = new_sending }) (λ r v e.
         let n = new.receivers r v e in
         let none : take v.place (log_words []) ≡ [] = take-nil v.place in

@@ -1,6 +1,6 @@
 -- A lawful bus: words, page and local states fit one order and one list of owners.
-use Rattle.std.specs.Prelude.{◌≡◌, ℕ, ◌+◌, ◌*◌, ◌<◌, ◌≤◌, ◌^◌, true, false, Option, Some, None, List, [], ◌∷◌, ◌++◌, take, is_some, slice_get}
-use Rattle.bus_register.specs.declared.limits.TheConstants.{MOST_SENDERS, TENURES}
+use Rattle.std.specs.Prelude.{◌≡◌, ℕ, ◌+◌, ◌*◌, ◌<◌, ◌≤◌, true, false, Option, Some, None, List, [], ◌∷◌, ◌++◌, take, is_some, slice_get}
+use Rattle.bus_register.specs.declared.limits.TheConstants.{MOST_SENDERS, MOST_LOG_WORDS, TENURES}
 use Rattle.bus_register.specs.Tables.{of_some}
 use Rattle.bus_register.specs.Protocol.{Protocol}
 use Rattle.bus_batch.specs.Batches.{Pending, IsKept, HasSomething, frame_of}
@@ -10,7 +10,7 @@ use Rattle.bus_tenure.specs.Core.{Core, Layout, log_at, frame_len}
 use Rattle.bus_tenure.specs.declared.pages.Page.{Page}
 use Rattle.bus_tenure.specs.declared.phases.Phase.{Phase}
 use Rattle.bus_tenure.specs.declared.phases.Phase.TheVariants as phase
-use Rattle.bus_world.specs.Log.{words_read_from, sent_count, AreEarlier, Logged, Knows}
+use Rattle.bus_world.specs.Log.{words_read_from, next_number, AreEarlier, Logged, Knows}
 use Rattle.bus_world.specs.Tenures.{Standing, Tenures}
 use Rattle.bus_world.specs.Tenures.Standing.{Rests, Runs, Holds}
 
@@ -18,7 +18,7 @@ use Rattle.bus_world.specs.Tenures.Standing.{Rests, Runs, Holds}
 pub record IsLayout (x : Layout) : Type 0 where
   pub senders : x.senders ≤ MOST_SENDERS
   pub rows : x.rows ≤ TENURES
-  pub capacity : x.capacity < 2 ^ 40
+  pub capacity : x.capacity ≤ MOST_LOG_WORDS
 
 -- what a sender stands in, as far as tenures go
 abbrev pub stands_at : {E : Type 0} → Phase E → Standing E
@@ -36,20 +36,20 @@ least_of None = 0
 least_of (Some c) = c.least
 
 -- the frame of a holder is not published: the words that it has stored stand past the length
-pub record IsWriting {E : Type 0} (words : ℕ → ℕ) (frames : List Frame) (c : Core E) (t : ℕ) (page : Page) (stored : ℕ) : Type 0 where
-  pub base : c.queue.first ≡ sent_count c.me frames
-  pub page_knows : Knows page frames t (words 0)
+pub record IsWriting {E : Type 0} (base : ℕ → ℕ) (words : ℕ → ℕ) (frames : List Frame) (c : Core E) (t : ℕ) (page : Page) (stored : ℕ) : Type 0 where
+  pub first : c.queue.first ≡ next_number base c.me frames
+  pub page_knows : Knows base page frames t (words 0)
   pub earlier : AreEarlier t frames
   pub stored_below : stored ≤ frame_len c
   pub allowed : 0 < stored → (page.ended ≡ false) × (page.words + frame_len c ≤ c.layout.capacity)
   pub words_are : words_read_from words (log_at c.layout + words 0) stored ≡ take stored (frame_words (frame_of c.queue t))
 
 -- it is published: it is the last frame, and the page does not know it yet
-pub record HasWritten {E : Type 0} (words : ℕ → ℕ) (frames : List Frame) (c : Core E) (t : ℕ) (page : Page) : Type 0 where
+pub record HasWritten {E : Type 0} (base : ℕ → ℕ) (words : ℕ → ℕ) (frames : List Frame) (c : Core E) (t : ℕ) (page : Page) : Type 0 where
   pub front : List Frame
   pub frames_are : frames ≡ front ++ frame_of c.queue t ∷ []
-  pub base : c.queue.first ≡ sent_count c.me front
-  pub page_knows : Knows page front t page.words
+  pub first : c.queue.first ≡ next_number base c.me front
+  pub page_knows : Knows base page front t page.words
   pub earlier : AreEarlier t front
   pub is_open : page.ended ≡ false
   pub len_is : words 0 ≡ page.words + frame_len c
@@ -59,23 +59,23 @@ pub record HasBegun (q : Pending) : Type 0 where
   pub is_open : q.phase ≡ Closed → ⊥
   pub something : HasSomething q
 
-abbrev pub Fits : {E : Type 0} → (ℕ → ℕ) → List Frame → Core E → Phase E → Type 0
-Fits words frames c phase.Resting = (c.queue.busy ≡ false) × (c.queue.first ≡ sent_count c.me frames)
-Fits words frames c (phase.Electing t e) = HasBegun c.queue × (c.queue.first ≡ sent_count c.me frames)
+abbrev pub Fits : {E : Type 0} → (ℕ → ℕ) → (ℕ → ℕ) → List Frame → Core E → Phase E → Type 0
+Fits base words frames c phase.Resting = (c.queue.busy ≡ false) × (c.queue.first ≡ next_number base c.me frames)
+Fits base words frames c (phase.Electing t e) = HasBegun c.queue × (c.queue.first ≡ next_number base c.me frames)
 -- between events no page is under way
-Fits words frames c (phase.Taken t) = ⊥
-Fits words frames c (phase.Holding t page stored false) = HasBegun c.queue × IsWriting words frames c t page stored
-Fits words frames c (phase.Holding t page stored true) = HasBegun c.queue × HasWritten words frames c t page
-Fits words frames c (phase.Giving t reason) = ⊥
+Fits base words frames c (phase.Taken t) = ⊥
+Fits base words frames c (phase.Holding t page stored false) = HasBegun c.queue × IsWriting base words frames c t page stored
+Fits base words frames c (phase.Holding t page stored true) = HasBegun c.queue × HasWritten base words frames c t page
+Fits base words frames c (phase.Giving t reason) = ⊥
 
 -- one sender's part
-pub record Part {E : Type 0} (x : Layout) (words : ℕ → ℕ) (frames : List Frame) (p : ℕ) (c : Core E) : Type 0 where
+pub record Part {E : Type 0} (base : ℕ → ℕ) (x : Layout) (words : ℕ → ℕ) (frames : List Frame) (p : ℕ) (c : Core E) : Type 0 where
   pub layout : c.layout ≡ x
   pub me : c.me ≡ p
   pub below : p < x.senders
   pub sender : c.queue.sender.0 ≡ p
   pub queue : IsKept c.queue
-  pub fits : Fits words frames c c.phase
+  pub fits : Fits base words frames c c.phase
 
 -- each frame's owner took the page of its tenure
 abbrev pub AreOwned : List ℕ → List Frame → Type 0
@@ -83,12 +83,12 @@ AreOwned owners [] = Unit {0}
 AreOwned owners (f ∷ frames) = (slice_get owners f.tenure ≡ Some f.owner.0) × AreOwned owners frames
 
 -- what senders, words, page and owners always keep
-pub record Sending {E : Type 0} (P : Protocol E (Unit {0}) ℕ) (x : Layout) (words : ℕ → ℕ) (home : Option Page) (senders : ℕ → Option (Core E)) (owners : List ℕ) (frames : List Frame) : Type 0 where
+pub record Sending {E : Type 0} (base : ℕ → ℕ) (P : Protocol E (Unit {0}) ℕ) (x : Layout) (words : ℕ → ℕ) (home : Option Page) (senders : ℕ → Option (Core E)) (owners : List ℕ) (frames : List Frame) : Type 0 where
   pub tenures : Tenures P x.senders x.rows 2 words (words 1) (is_some home) (λ p. of_some standing_of (senders p)) (λ p. least_of (senders p)) owners
-  pub log : Logged x.senders x.capacity (log_at x) words (words 0) frames
+  pub log : Logged base x.senders x.capacity (log_at x) words (words 0) frames
   pub owned : AreOwned owners frames
   -- a page at home knows the frames, all of which are of tenures that have ended
-  pub page_knows : (page : Page) (t : ℕ) → home ≡ Some page → words 1 ≡ 2 * t → Knows page frames t (words 0) × AreEarlier t frames
-  pub parts : (p : ℕ) (c : Core E) → senders p ≡ Some c → Part x words frames p c
+  pub page_knows : (page : Page) (t : ℕ) → home ≡ Some page → words 1 ≡ 2 * t → Knows base page frames t (words 0) × AreEarlier t frames
+  pub parts : (p : ℕ) (c : Core E) → senders p ≡ Some c → Part base x words frames p c
   -- who stays in an election that has an owner is that owner
   pub chosen : (p : ℕ) (c : Core E) (t : ℕ) (e : E) (o : ℕ) → senders p ≡ Some c → c.phase ≡ phase.Electing t e → P.output e ≡ Some o → o ≡ p

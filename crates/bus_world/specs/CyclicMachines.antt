@@ -20,13 +20,15 @@ use Rattle.bus_tenure.specs.declared.pages.Page.{Page}
 use Rattle.bus_tenure.specs.declared.turns.Turn.{Turn as Answered}
 use Rattle.bus_world.specs.Headline.{Action, HasPut, HasClosed}
 use Rattle.bus_world.specs.Turning.{words_after, number_found, home_moved, core_moved, after_step}
-use Rattle.bus_world.specs.World.{is_set, can_put, can_close, no_stops, new_page, new_core, IsNewReceiver, RecvDoes}
+use Rattle.bus_world.specs.World.{is_set, can_put, can_close, no_stops, AreBases, first_page, new_core, IsNewReceiver, RecvDoes}
 use Rattle.bus_world.specs.CyclicProtocols.{CyclicProtocol, Led, IsKeptProtocol, no_actions, no_answers, trails_with, due_actions, actions_with, answers_with}
 
 -- its sizes, how many rows there are, and of each sender whether it has stopped
 pub record CyclicMachine (E : Type 0) : Type 0 where
   pub layout : Layout
   pub rows : ℕ
+  -- the number of each sender's first message
+  pub bases : List ℕ
   pub words : List ℕ
   pub home : Option Page
   pub participants : List (Participant E)
@@ -45,6 +47,7 @@ core_in (Some v) = Some v.core
 -- with the reclaimer of who holds the page, and who took the pages
 abbrev pub yard_of : {E : Type 0} → CyclicMachine E → Option Reclaiming → List ℕ → CyclicProtocol E
 yard_of b reclaimer owners = record {
+  bases = b.bases;
   reclamation = record { words = slice_index b.words; pins = λ p. pin_in (slice_get b.participants p); reclaimer = reclaimer };
   home = b.home;
   senders = λ p. core_in (slice_get b.participants p);
@@ -123,9 +126,10 @@ no_ring_trails = record { pins = no_trails; reclaims = no_trails; actions = no_a
 
 -- nothing has happened: words of zero, the page at home, senders and receivers at their starts, none of which has stopped
 pub record IsNewCyclic {E : Type 0} (b : CyclicMachine E) : Type 0 where
+  pub bases_are : AreBases b.bases
   pub words : b.words ≡ replicate (log_from b.layout b.rows + b.layout.capacity) 0
-  pub home : b.home ≡ Some new_page
-  pub participants : (p : ℕ) (v : Participant E) → slice_get b.participants p ≡ Some v → (p < b.layout.senders) × (v ≡ record { core = new_core b.layout p; pin = Away; reclaimer = None; lost = None; rows = b.rows })
+  pub home : b.home ≡ Some (first_page b.bases)
+  pub participants : (p : ℕ) (v : Participant E) → slice_get b.participants p ≡ Some v → (p < b.layout.senders) × (v ≡ record { core = new_core b.layout (slice_index b.bases p) p; pin = Away; reclaimer = None; lost = None; rows = b.rows })
   pub receivers : (r : ℕ) (v : Receiving) → slice_get b.receivers r ≡ Some v → IsNewReceiver b.layout (log_from b.layout b.rows) v
   pub stopped : b.stopped ≡ no_stops
 

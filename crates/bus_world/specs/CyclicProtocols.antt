@@ -1,6 +1,6 @@
 -- Senders and receivers of a bus whose rows are used again, in any order: the reclamation, with its pins and the holder's reclaimer, whose words are those
 -- of the bus, with the page, the senders, the receivers and who took the pages. Tenure t uses row t mod rows.
-use Rattle.std.specs.Prelude.{◌≡◌, ◌≢◌, ℕ, ◌+◌, ◌*◌, ◌%◌, ◌<◌, ◌≤◌, Option, Some, None, List, [], ◌∷◌, ◌++◌, All, length, ◌==◌, if◌then◌else◌}
+use Rattle.std.specs.Prelude.{◌≡◌, ℕ, ◌+◌, ◌*◌, ◌<◌, ◌≤◌, Option, Some, None, List, [], ◌∷◌, ◌++◌, All, length, slice_index, ◌==◌, if◌then◌else◌}
 use Rattle.bus_register.specs.declared.registers.Op.{Op}
 use Rattle.bus_register.specs.declared.registers.SenderNo.{SenderNo}
 use Rattle.bus_register.specs.Words.{register, after}
@@ -24,9 +24,11 @@ use Rattle.bus_world.specs.Turning.{core_moved, after_step, home_after, owners_a
 use Rattle.bus_world.specs.Headline.{Action, HasPut, HasClosed, Promises}
 use Rattle.bus_world.specs.Log.{words_read_from}
 use Rattle.bus_world.specs.Trails.{step_action, Takers}
-use Rattle.bus_world.specs.World.{new_page, new_core, IsNewReceiver, RecvDoes, can_put, can_close, put_in, close_in}
+use Rattle.bus_world.specs.World.{AreBases, first_page, new_core, IsNewReceiver, RecvDoes, can_put, can_close, put_in, close_in}
 
 pub record CyclicProtocol (E : Type 0) : Type 0 where
+  -- the number of each sender's first message
+  pub bases : List ℕ
   pub reclamation : Reclamation
   pub home : Option Page
   pub senders : ℕ → Option (Core E)
@@ -110,9 +112,10 @@ answers_with r answer H q = H q ++ (if q == r then answer ∷ [] else [])
 -- ---- what leads to such a protocol
 -- nothing has happened: words of zero, the page at home, senders and receivers at their starts
 pub record IsNewProtocol {E : Type 0} (x : Layout) (rows : ℕ) (y : CyclicProtocol E) : Type 0 where
+  pub bases_are : AreBases y.bases
   pub reclamation : y.reclamation ≡ new_reclamation
-  pub home : y.home ≡ Some new_page
-  pub senders : (p : ℕ) (c : Core E) → y.senders p ≡ Some c → (p < x.senders) × (c ≡ new_core x p)
+  pub home : y.home ≡ Some (first_page y.bases)
+  pub senders : (p : ℕ) (c : Core E) → y.senders p ≡ Some c → (p < x.senders) × (c ≡ new_core x (slice_index y.bases p) p)
   pub receivers : (r : ℕ) (v : Receiving) → y.receivers r ≡ Some v → IsNewReceiver x (log_from x rows) v
   pub owners : y.owners ≡ []
 
@@ -151,7 +154,7 @@ pub record KeepsPromises {E : Type 0} (X : Election E) (x : Layout) (rows : ℕ)
   -- the words below the length spell the order and the owners
   pub spelled : Spells x.senders (words_read_from y.reclamation.words (log_from x rows) (y.reclamation.words 0)) order owners
   -- the headline's promise, also of tenures whose rows have gone on to others
-  pub promises : Promises D H order owners
+  pub promises : Promises (slice_index y.bases) D H order owners
 
 pub record IsKeptProtocol {E : Type 0} (X : Election E) (x : Layout) (rows : ℕ) (y : CyclicProtocol E) (T : Trails) (D : ℕ → List Action) (H : ℕ → List RecvTurn) : Type 0 where
   pub order : Order

@@ -1,7 +1,7 @@
 -- THE HEADLINE of the bus, said of what happened and of nothing else: of what each sender did and what each receiver was
 -- answered, of one order, and of one list of tenures with their owners. No words, no tables, no local states.
 -- Terms: total-order broadcast with FIFO order (Hadzilacos and Toueg 1994), consensus (Aspnes 2010).
-use Rattle.std.specs.Prelude.{◌≡◌, ℕ, ◌<◌, Bool, true, false, Option, Some, List, [], ◌∷◌, ◌++◌, length, map, take, flat_map, slice_get, All}
+use Rattle.std.specs.Prelude.{◌≡◌, ℕ, ◌+◌, ◌<◌, Bool, true, false, Option, Some, List, [], ◌∷◌, ◌++◌, length, map, take, flat_map, slice_get, All}
 use Rattle.std.specs.List.{list_any}
 use Rattle.bus_register.specs.declared.kinds.Kind.{Kind}
 use Rattle.bus_register.specs.declared.kinds.Kind.TheVariants as kind
@@ -95,10 +95,10 @@ pub record IsPrefix {A : Type 0} (front whole : List A) : Type 0 where
   pub rest : List A
   pub together : front ++ rest ≡ whole
 
--- Each sender's items are numbered from 0, none skipped and none repeated, and their messages are the first that it put, in its
+-- Each sender's items are numbered from its base, none skipped and none repeated, and their messages are the first that it put, in its
 -- order (integrity, and FIFO order).
-pub record Faithful (order : Order) (put : ℕ → List (List ℕ)) : Type 0 where
-  pub numbered : (s k : ℕ) (i : Item) → slice_get (of_sender s order) k ≡ Some i → i.number ≡ k
+pub record Faithful (base : ℕ → ℕ) (order : Order) (put : ℕ → List (List ℕ)) : Type 0 where
+  pub numbered : (s k : ℕ) (i : Item) → slice_get (of_sender s order) k ≡ Some i → i.number ≡ base s + k
   pub messages : (s : ℕ) → IsPrefix (map (λ i. i.message) (of_sender s order)) (put s)
 
 -- Owners, items and an end that belong to each other: each owner's frame has items of that owner alone, one or more, and the
@@ -117,8 +117,9 @@ pub record IsClosedByLast (actions : ℕ → List Action) (owners : List (ℕ ×
   pub last : owners ≡ front ++ (tenure, owner) ∷ []
   pub closed : Closed (actions owner.0)
 
--- ---- the promise, of the actions of each sender and the answers of each receiver, by number
-pub record Promises (actions : ℕ → List Action) (heard : ℕ → List RecvTurn) (order : Order) (owners : List (ℕ × SenderNo)) : Type 0 where
+-- ---- the promise, of the actions of each sender and the answers of each receiver, by number, where a sender's first message has the number
+-- base s: 0, but in a sitting that goes on with the numbers of another
+pub record Promises (base : ℕ → ℕ) (actions : ℕ → List Action) (heard : ℕ → List RecvTurn) (order : Order) (owners : List (ℕ × SenderNo)) : Type 0 where
   -- 1. Each tenure has at most one owner: all who saw its election end, saw it end with the same sender, ..
   pub one_owner : (t s s' o o' : ℕ) → Elected (actions s) t o → Elected (actions s') t o' → o ≡ o'
   -- .. which had announced itself in that tenure.
@@ -133,9 +134,9 @@ pub record Promises (actions : ℕ → List Action) (heard : ℕ → List RecvTu
   pub delivered : (r : ℕ) → IsPrefixOfOrder (order_given (heard r)) order
   pub told : (r : ℕ) → IsPrefix (heads (heard r)) owners
   -- 4. Each sender's messages in the order are the first that it put, in its order, none skipped and none repeated.
-  pub faithful : Faithful order (λ s. puts (actions s))
-  -- The number that an accepted message was answered is how many its sender had put before it.
-  pub numbered : (s place number : ℕ) (bytes : List ℕ) → slice_get (actions s) place ≡ Some (HasPut number bytes) → number ≡ length (puts (take place (actions s)))
+  pub faithful : Faithful base order (λ s. puts (actions s))
+  -- The number that an accepted message was answered is its sender's base and how many that had put before it.
+  pub numbered : (s place number : ℕ) (bytes : List ℕ) → slice_get (actions s) place ≡ Some (HasPut number bytes) → number ≡ base s + length (puts (take place (actions s)))
   -- 5. Nothing follows the end: an order is its items and whether it has ended, after the end a receiver is answered the end alone, ..
   pub silent : (r j k : ℕ) (answer : RecvTurn) → slice_get (heard r) j ≡ Some recv.End → j < k → slice_get (heard r) k ≡ Some answer → answer ≡ recv.End
   -- .. and an order that has ended was closed by the owner of its last frame.

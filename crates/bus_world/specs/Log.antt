@@ -5,6 +5,7 @@ use Rattle.bus_batch.specs.declared.messages.Item.{Item}
 use Rattle.bus_batch.specs.Frames.{Frame, AreFrames, log_words, order_of, has_end}
 use Rattle.bus_deliverylog.specs.Orders.{of_sender}
 use Rattle.bus_tenure.specs.declared.pages.Page.{Page}
+use Rattle.bus_world.specs.declared.limits.TheConstants.{FIRST_NUMBERS}
 
 -- so many words of a table, from a place on
 abbrev pub words_read_from : (ℕ → ℕ) → ℕ → ℕ → List ℕ
@@ -25,17 +26,22 @@ abbrev pub AreEarlier : ℕ → List Frame → Type 0
 AreEarlier tenure [] = Unit {0}
 AreEarlier tenure (f ∷ frames) = (f.tenure < tenure) × AreEarlier tenure frames
 
--- the words below the length are frames, and each sender's numbers count from 0
-pub record Logged (n capacity at : ℕ) (words : ℕ → ℕ) (len : ℕ) (frames : List Frame) : Type 0 where
+-- the number of the next item of a sender, whose first one in these frames has the number base s
+abbrev pub next_number : (ℕ → ℕ) → ℕ → List Frame → ℕ
+next_number base s frames = base s + sent_count s frames
+
+-- the words below the length are frames, and each sender's numbers count from its base, which leaves room for a whole log
+pub record Logged (base : ℕ → ℕ) (n capacity at : ℕ) (words : ℕ → ℕ) (len : ℕ) (frames : List Frame) : Type 0 where
   pub lawful : AreFrames n frames
   pub words_are : words_read_from words at len ≡ log_words frames
   pub fits : len ≤ capacity
-  pub counted : (s : ℕ) → AreCounted 0 (of_sender s (order_of frames))
+  pub low : (s : ℕ) → base s < FIRST_NUMBERS
+  pub counted : (s : ℕ) → AreCounted (base s) (of_sender s (order_of frames))
 
--- the page knows how many items of each sender the frames have, whether they have ended, the tenures and the length
-pub record Knows (page : Page) (frames : List Frame) (past len : ℕ) : Type 0 where
+-- the page knows the next number of each sender behind these frames, whether they have ended, the tenures and the length
+pub record Knows (base : ℕ → ℕ) (page : Page) (frames : List Frame) (past len : ℕ) : Type 0 where
   pub entries : length page.next ≡ MOST_SENDERS
-  pub next : (s : ℕ) → s < MOST_SENDERS → slice_index page.next s ≡ sent_count s frames
+  pub next : (s : ℕ) → s < MOST_SENDERS → slice_index page.next s ≡ next_number base s frames
   pub ended : page.ended ≡ has_end frames
   pub tenures : page.tenures ≡ past
   pub words : page.words ≡ len

@@ -1,13 +1,14 @@
 -- What the promise refuses: of each named wrong behaviour one instance, of which it is false.
-use Rattle.std.specs.Prelude.{ℕ, zero, suc, Some, None, List, [], ◌∷◌, false}
+use Rattle.std.specs.Prelude.{◌≡◌, ℕ, zero, suc, Some, None, List, [], ◌∷◌, false, length, slice_get, take}
 use Rattle.bus_register.specs.declared.kinds.Kind.TheVariants as kind
 use Rattle.bus_register.specs.declared.registers.SenderNo.{SenderNo}
 use Rattle.bus_batch.specs.declared.messages.Item.{Item}
 use Rattle.bus_batch.specs.Frames.{Order}
+use Rattle.bus_deliverylog.specs.Orders.{of_sender}
 use Rattle.bus_deliverylog.specs.declared.receiving.RecvTurn.{RecvTurn}
 use Rattle.bus_deliverylog.specs.declared.receiving.RecvTurn.TheVariants as heard
 use Rattle.bus_tenure.specs.declared.turns.Turn.TheVariants as turn
-use Rattle.bus_world.specs.Headline.{Action, HasPut, Stepped, Promises}
+use Rattle.bus_world.specs.Headline.{Action, HasPut, Stepped, puts, Promises}
 
 -- two lists, of number 0 and of all others
 abbrev pub each_of : {A : Type 0} → List A → List A → ℕ → List A
@@ -38,9 +39,13 @@ sender n = record { 0 = n }
 abbrev pub item : ℕ → ℕ → Item
 item s n = record { sender = sender s; number = n; message = [] }
 
--- the promise is false of these actions and answers, for any order and owners
+-- the promise is false of these actions and answers, for any order and owners, of a sitting that begins with these numbers
+abbrev pub NoFrom : (ℕ → ℕ) → (ℕ → List Action) → (ℕ → List RecvTurn) → Type 0
+NoFrom base actions heard = (order : Order) (owners : List (ℕ × SenderNo)) → ¬ Promises base actions heard order owners
+
+-- and of one of which no sitting was before
 abbrev pub No : (ℕ → List Action) → (ℕ → List RecvTurn) → Type 0
-No actions heard = (order : Order) (owners : List (ℕ × SenderNo)) → ¬ Promises actions heard order owners
+No actions heard = NoFrom (λ s. 0) actions heard
 
 -- whatever receivers were answered
 abbrev pub NoActions : (ℕ → List Action) → Type 0
@@ -52,7 +57,7 @@ NoAnswers heard = (actions : ℕ → List Action) → No actions heard
 
 -- whatever happened, with this order and these owners
 abbrev pub NoOrder : Order → List (ℕ × SenderNo) → Type 0
-NoOrder order owners = (actions : ℕ → List Action) (heard : ℕ → List RecvTurn) → ¬ Promises actions heard order owners
+NoOrder order owners = (actions : ℕ → List Action) (heard : ℕ → List RecvTurn) → ¬ Promises (λ s. 0) actions heard order owners
 
 pub record PromiseRefuses : Type 0 where
   -- two senders that both announced saw one election end with two owners
@@ -89,5 +94,15 @@ pub record PromiseRefuses : Type 0 where
   pub unclosed : No (each_of owns []) (each_of (heard.End ∷ []) [])
   -- a frame's item is another sender's
   pub foreign_item : NoOrder record { items = item 0 0 ∷ []; ended = false } ((0, sender 1) ∷ [])
+  -- in a sitting that begins with the number 5, numbers that start anew: a first item has the number 0, or a first put is answered 0
+  pub starts_anew : (actions : ℕ → List Action) → NoFrom (λ s. 5) actions (each_of (heard.Item (item 0 0) ∷ []) [])
+  pub put_from_zero : (heard : ℕ → List RecvTurn) → NoFrom (λ s. 5) (each_of (HasPut 0 [] ∷ []) []) heard
   -- two frames of one tenure
   pub one_tenure_twice : (order : Order) → NoOrder order ((0, sender 0) ∷ (0, sender 0) ∷ [])
+
+-- Of a bus of which no sitting was before, the promise says that numbers count from 0.
+pub record FromZero : Type 0 where
+  pub items : (actions : ℕ → List Action) (heard : ℕ → List RecvTurn) (order : Order) (owners : List (ℕ × SenderNo)) → Promises (λ s. 0) actions heard order owners
+      → (s k : ℕ) (i : Item) → slice_get (of_sender s order) k ≡ Some i → i.number ≡ k
+  pub puts_are : (actions : ℕ → List Action) (heard : ℕ → List RecvTurn) (order : Order) (owners : List (ℕ × SenderNo)) → Promises (λ s. 0) actions heard order owners
+      → (s place number : ℕ) (bytes : List ℕ) → slice_get (actions s) place ≡ Some (HasPut number bytes) → number ≡ length (puts (take place (actions s)))

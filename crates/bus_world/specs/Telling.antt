@@ -1,17 +1,13 @@
 -- What the answer to a turn tells of what happened.
-use Rattle.std.specs.Prelude.{◌≡◌, ◌≢◌, ℕ, Bool, ◌+◌, ◌<◌, Option, Some, None, List, [], ◌∷◌, ◌++◌, length}
+use Rattle.std.specs.Prelude.{◌≡◌, ◌≢◌, ℕ, ◌+◌, ◌<◌, Option, Some, None, List, [], ◌∷◌, ◌++◌, length}
 use Rattle.bus_batch.specs.Frames.{Frame, AreFrames, log_words, items_of}
-use Rattle.bus_register.specs.Protocol.{Protocol}
-use Rattle.bus_adoptcommit.specs.declared.verdicts.Verdict.{Verdict}
-use Rattle.bus_tenure.specs.Causes.{IsCaused}
-use Rattle.bus_tenure.specs.Elections.{Elector}
-use Rattle.bus_tenure.specs.Core.{Core, Election, Layout, frame_len}
+use Rattle.bus_tenure.specs.Core.{Core, Layout, frame_len}
 use Rattle.bus_tenure.specs.declared.turns.Turn.{Turn as Answered}
 use Rattle.bus_tenure.specs.declared.turns.Turn.TheVariants as turn
 use Rattle.bus_world.specs.Headline.{Action, Elected, Took}
 use Rattle.bus_world.specs.Log.{AreCounted}
 use Rattle.bus_world.specs.Playing.{log_of}
-use Rattle.bus_world.specs.Trails.{Trails, Reached, trails_grown}
+use Rattle.bus_world.specs.Trails.{Trails}
 use Rattle.bus_world.specs.World.{Bus, Event, Put, Close, Turn, Recv, Stop, going}
 use Rattle.bus_world.specs.declared.events.Answer.{Answer}
 use Rattle.bus_world.specs.declared.events.Answer.TheVariants as answer
@@ -59,19 +55,3 @@ EventTells x old (Turn s word) (answer.Recv r) T' = Unit {0}
 EventTells x old (Turn s word) answer.Stopped T' = Unit {0}
 EventTells x old (Recv r) a T' = Unit {0}
 EventTells x old (Stop s) a T' = Unit {0}
-
-pub record Tells {E : Type 0} (X : Election E) (x : Layout) (old : Bus E) (e : Event) (a : Answer) : Type 0 where
-  pub truth : (T : Trails) → Reached X x old T → EventTells x old e a (trails_grown X old e a T)
-
--- ---- why a sender takes its step
-abbrev pub SenderCauses : {S : Type 0} → Election (Elector S) → Protocol S Bool Verdict → Option (Core (Elector S)) → Type 0
-SenderCauses X P None = Unit {0}
-SenderCauses X P (Some c) = IsCaused X P c
-
--- the sender whose turn it is, and which goes on, has a cause for its step, whatever that is for
-abbrev pub EventCauses : {S : Type 0} → Election (Elector S) → Protocol S Bool Verdict → Bus (Elector S) → Event → Type 0
-EventCauses X P old (Put s bytes) = Unit {0}
-EventCauses X P old (Close s) = Unit {0}
-EventCauses X P old (Turn s word) = SenderCauses X P (going old s)
-EventCauses X P old (Recv r) = Unit {0}
-EventCauses X P old (Stop s) = Unit {0}

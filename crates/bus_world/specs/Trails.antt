@@ -1,5 +1,5 @@
 -- How events extend the trails, which trails lead to a bus, and what is promised of it then.
-use Rattle.std.specs.Prelude.{◌≡◌, ℕ, ◌≤◌, Option, Some, None, List, [], ◌∷◌, ◌++◌, length, take, slice_get, slice_index, if◌then◌else◌, ◌==◌}
+use Rattle.std.specs.Prelude.{◌≡◌, ℕ, ◌≤◌, Option, Some, None, List, [], ◌∷◌, ◌++◌, length, slice_get, slice_index, if◌then◌else◌, ◌==◌}
 use Rattle.bus_register.specs.declared.limits.TheConstants.{MOST_SENDERS, MOST_ROWS, MOST_LOG_WORDS}
 use Rattle.bus_register.specs.declared.kinds.Kind.{Kind}
 use Rattle.bus_register.specs.declared.registers.SenderNo.{SenderNo}
@@ -13,10 +13,9 @@ use Rattle.bus_tenure.specs.declared.turns.Turn.{Turn as Answered}
 use Rattle.bus_world.specs.Headline.{Action, HasPut, HasClosed, Stepped, Took, order_given, IsPrefix, Promises}
 use Rattle.bus_world.specs.Turning.{number_found}
 use Rattle.bus_world.specs.World.{Bus, Event, Put, Close, Turn, Recv, Stop, going, IsEvent, Happens, IsNew, LawfulBus}
-use Rattle.bus_world.specs.Playing.{SizedBus, AllAnswered, Answers, Refused, log_of}
+use Rattle.bus_world.specs.Playing.{SizedBus, Answers, log_of}
 use Rattle.bus_world.specs.declared.events.Answer.{Answer}
 use Rattle.bus_world.specs.declared.events.Answer.TheVariants as answer
-use Rattle.bus_world.specs.declared.events.StepFault.{StepFault}
 
 abbrev pub step_action : Option Kind → Option ℕ → ℕ → Option ℕ → Answered → List Action
 step_action None tenure got chose turn = []
@@ -86,9 +85,9 @@ abbrev pub trails_grown : {E : Type 0} → Election E → Bus E → Event → An
 trails_grown X b e a T = record { actions = λ s. T.actions s ++ actions_of X b e a s; heard = λ r. T.heard r ++ heard_of e a r }
 
 -- these trails lead to this bus: from a new one, of which nothing has happened, by one event after another
-pub data Reached {E : Type 0} (X : Election E) (x : Layout) : Bus E → Trails → Type 0 where
-  New : (b : Bus E) → IsNew x b → Reached X x b no_trails
-  Then : (b b' : Bus E) (T : Trails) (e : Event) (a : Answer) → Reached X x b T → IsEvent e → Happens X b e b' → Answers X b e a b' → Reached X x b' (trails_grown X b e a T)
+pub data Reached {E : Type 0} (X : Election E) (bases : List ℕ) (x : Layout) : Bus E → Trails → Type 0 where
+  New : (b : Bus E) → IsNew bases x b → Reached X bases x b no_trails
+  Then : (b b' : Bus E) (T : Trails) (e : Event) (a : Answer) → Reached X bases x b T → IsEvent e → Happens X b e b' → Answers X b e a b' → Reached X bases x b' (trails_grown X b e a T)
 
 -- ---- what is promised of a bus
 -- who took the pages, by tenure
@@ -97,57 +96,38 @@ pub record Takers (owners : List ℕ) (actions : ℕ → List Action) : Type 0 w
   pub only : (t s place : ℕ) → Took (actions s) t place → slice_get owners t ≡ Some s
 
 -- the promise holds of these trails, with the order and the owners that the words below the length spell
-pub record IsPromisedBy {E : Type 0} (x : Layout) (b : Bus E) (T : Trails) (order : Order) (owners : List (ℕ × SenderNo)) : Type 0 where
+pub record IsPromisedBy {E : Type 0} (bases : List ℕ) (x : Layout) (b : Bus E) (T : Trails) (order : Order) (owners : List (ℕ × SenderNo)) : Type 0 where
   pub spelled : Spells x.senders (log_of record { layout = x; bus = b }) order owners
   pub takers : Takers b.side.owners T.actions
-  pub promises : Promises T.actions T.heard order owners
+  pub promises : Promises (slice_index bases) T.actions T.heard order owners
 
-pub record IsPromised {E : Type 0} (x : Layout) (b : Bus E) (T : Trails) : Type 0 where
+pub record IsPromised {E : Type 0} (bases : List ℕ) (x : Layout) (b : Bus E) (T : Trails) : Type 0 where
   pub order : Order
   pub owners : List (ℕ × SenderNo)
-  pub by : IsPromisedBy x b T order owners
+  pub by : IsPromisedBy bases x b T order owners
 
 -- As it held before, so it holds after, of more trails: the order, the owners of frames and of pages, and what each receiver was
 -- given are extended, and never otherwise changed.
-pub record StaysPromised {E : Type 0} (x : Layout) (old : Bus E) (T : Trails) (new : Bus E) (T' : Trails) : Type 0 where
-  pub before : IsPromised x old T
-  pub after : IsPromised x new T'
+pub record StaysPromised {E : Type 0} (bases : List ℕ) (x : Layout) (old : Bus E) (T : Trails) (new : Bus E) (T' : Trails) : Type 0 where
+  pub before : IsPromised bases x old T
+  pub after : IsPromised bases x new T'
   pub order : IsPrefixOfOrder before.order after.order
   pub owners : IsPrefix before.owners after.owners
   pub takers : IsPrefix old.side.owners new.side.owners
   pub given : (r : ℕ) → IsPrefixOfOrder (order_given (T.heard r)) (order_given (T'.heard r))
 
 -- Whatever trails led to the old bus, with what this event and its answer add they lead to the new one, and the promise stays.
-pub record Follows {E : Type 0} (X : Election E) (x : Layout) (old : Bus E) (e : Event) (a : Answer) (new : Bus E) : Type 0 where
-  pub reached : (T : Trails) → Reached X x old T → Reached X x new (trails_grown X old e a T)
-  pub promised : (T : Trails) → Reached X x old T → StaysPromised x old T new (trails_grown X old e a T)
-
--- the trails after a list of events with their answers
-abbrev pub trails_after : {E : Type 0} (X : Election E) (old : Bus E) (events : List Event) (new : Bus E) → AllAnswered X old events new → Trails → Trails
-trails_after X old [] new run T = T
-trails_after X old (e ∷ events) new run T = trails_after X run.0 events new run.5 (trails_grown X old e run.1 T)
-
--- All events were answered, one after another. Whatever trails led to the old bus, with what the events and their answers add
--- they lead to the new one, and the promise stays.
-pub record Played {E : Type 0} (X : Election E) (x : Layout) (old : Bus E) (events : List Event) (new : Bus E) : Type 0 where
-  pub answered : AllAnswered X old events new
-  pub reached : (T : Trails) → Reached X x old T → Reached X x new (trails_after X old events new answered T)
-  pub promised : (T : Trails) → Reached X x old T → StaysPromised x old T new (trails_after X old events new answered T)
-
--- the event at a place is the first that is refused: those before it have happened, and no other
-pub record Stops {E : Type 0} (X : Election E) (x : Layout) (old : Bus E) (events : List Event) (place : ℕ) (why : StepFault) (new : Bus E) : Type 0 where
-  pub played : Played X x old (take place events) new
-  pub event : Event
-  pub at : slice_get events place ≡ Some event
-  pub refused : Refused new event why
+pub record Follows {E : Type 0} (X : Election E) (bases : List ℕ) (x : Layout) (old : Bus E) (e : Event) (a : Answer) (new : Bus E) : Type 0 where
+  pub reached : (T : Trails) → Reached X bases x old T → Reached X bases x new (trails_grown X old e a T)
+  pub promised : (T : Trails) → Reached X bases x old T → StaysPromised bases x old T new (trails_grown X old e a T)
 
 -- what every bus that a program holds keeps: some trails lead to it
-pub record MachineInvariant {E : Type 0} (X : Election E) (P : Protocol E (Unit {0}) ℕ) (z : SizedBus E) : Type 0 where
+pub record MachineInvariant {E : Type 0} (X : Election E) (bases : List ℕ) (P : Protocol E (Unit {0}) ℕ) (z : SizedBus E) : Type 0 where
   pub senders_few : z.layout.senders ≤ MOST_SENDERS
   pub rows_few : z.layout.rows ≤ MOST_ROWS
   pub capacity_few : z.layout.capacity ≤ MOST_LOG_WORDS
   pub senders : length z.bus.side.senders ≡ z.layout.senders
   pub frames : List Frame
-  pub lawful : LawfulBus P z.layout z.bus frames
+  pub lawful : LawfulBus (slice_index bases) P z.layout z.bus frames
   pub trails : Trails
-  pub reached : Reached X z.layout z.bus trails
+  pub reached : Reached X bases z.layout z.bus trails

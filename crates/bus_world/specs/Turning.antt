@@ -3,7 +3,7 @@ use Rattle.std.specs.Prelude.{ℕ, false, Option, Some, None, List, [], ◌∷�
 use Rattle.bus_register.specs.declared.registers.Op.{Op}
 use Rattle.bus_register.specs.Words.{register, after}
 use Rattle.bus_tenure.specs.Core.{Core, Election}
-use Rattle.bus_tenure.specs.Situations.{Situation, situation_of, PageMove, Stays, Comes, Returns, line_of, op_at, fed_at}
+use Rattle.bus_tenure.specs.Situations.{Situation, PageMove, Stays, Comes, Returns, line_of, op_at, fed_at}
 use Rattle.bus_tenure.specs.declared.pages.Page.{Page}
 use Rattle.bus_tenure.specs.declared.phases.Phase.{Phase}
 use Rattle.bus_tenure.specs.declared.phases.Phase.TheVariants as phase
@@ -50,10 +50,6 @@ abbrev pub before_step : PageMove → PageMove
 before_step Stays = Stays
 before_step (Comes t) = Stays
 before_step (Returns t reason page) = Returns t reason page
-
--- that part of the turn that a sender takes
-abbrev pub handing : {E : Type 0} → Election E → Core E → PageMove
-handing X c = before_step (line_of X c (situation_of X c)).move
 
 -- and the part after it: a page that was taken is laid before the sender
 abbrev pub after_step : PageMove → PageMove

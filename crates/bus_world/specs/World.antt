@@ -17,6 +17,7 @@ use Rattle.bus_batch.specs.Reading.{HasRead}
 use Rattle.bus_tenure.specs.declared.pages.Page.{Page}
 use Rattle.bus_world.specs.Bus.{Sending}
 use Rattle.bus_world.specs.Turning.{Side, side_after}
+use Rattle.bus_world.specs.declared.limits.TheConstants.{FIRST_NUMBERS}
 
 -- the senders' side, the receivers, and of each sender whether it has stopped
 pub record Bus (E : Type 0) : Type 0 where
@@ -121,25 +122,34 @@ pub record IsReceiver (x : Layout) (frames : List Frame) (len : ℕ) (v : Receiv
   pub receives : Receives x.senders frames len v.place v.known v.frames
 
 -- words, page, senders and receivers by number, whatever holds them, with who took the pages and the frames of the log
-pub record Lawful {E : Type 0} (P : Protocol E (Unit {0}) ℕ) (x : Layout) (words : ℕ → ℕ) (home : Option Page) (senders : ℕ → Option (Core E)) (receivers : ℕ → Option Receiving) (owners : List ℕ) (frames : List Frame) : Type 0 where
-  pub sending : Sending P x words home senders owners frames
+pub record Lawful {E : Type 0} (base : ℕ → ℕ) (P : Protocol E (Unit {0}) ℕ) (x : Layout) (words : ℕ → ℕ) (home : Option Page) (senders : ℕ → Option (Core E)) (receivers : ℕ → Option Receiving) (owners : List ℕ) (frames : List Frame) : Type 0 where
+  pub sending : Sending base P x words home senders owners frames
   pub receiving : (r : ℕ) (v : Receiving) → receivers r ≡ Some v → IsReceiver x frames (words 0) v
 
 -- a machine has just the words of its layout
-pub record LawfulBus {E : Type 0} (P : Protocol E (Unit {0}) ℕ) (x : Layout) (bus : Bus E) (frames : List Frame) : Type 0 where
+pub record LawfulBus {E : Type 0} (base : ℕ → ℕ) (P : Protocol E (Unit {0}) ℕ) (x : Layout) (bus : Bus E) (frames : List Frame) : Type 0 where
   pub words : length bus.side.words ≡ words_of x
-  pub keeps : Lawful P x (slice_index bus.side.words) bus.side.home (slice_get bus.side.senders) (slice_get bus.receivers) bus.side.owners frames
+  pub keeps : Lawful base P x (slice_index bus.side.words) bus.side.home (slice_get bus.side.senders) (slice_get bus.receivers) bus.side.owners frames
 
 -- what a receiver was given: the items and the end among the pieces below its place
 abbrev pub given_at : List Frame → Receiving → Order
 given_at frames v = order_in (take v.place (log_pieces frames))
 
 -- ---- a new bus
-abbrev pub new_page : Page
-new_page = record { next = replicate MOST_SENDERS 0; ended = false; tenures = 0; words = 0 }
+-- the numbers that a sitting begins with, by sender: each is below its range by a whole log at least
+pub record AreBases (bases : List ℕ) : Type 0 where
+  pub many : length bases ≡ MOST_SENDERS
+  pub low : (s : ℕ) → slice_index bases s < FIRST_NUMBERS
 
-abbrev pub new_core : {E : Type 0} → Layout → ℕ → Core E
-new_core x p = record { layout = x; me = p; queue = record { sender = record { 0 = p }; first = 0; messages = []; phase = Open; busy = false }; least = 0; phase = phase.Resting }
+-- those of a bus of which no sitting was before
+abbrev pub no_bases : List ℕ
+no_bases = replicate MOST_SENDERS 0
+
+abbrev pub first_page : List ℕ → Page
+first_page bases = record { next = bases; ended = false; tenures = 0; words = 0 }
+
+abbrev pub new_core : {E : Type 0} → Layout → ℕ → ℕ → Core E
+new_core x first p = record { layout = x; me = p; queue = record { sender = record { 0 = p }; first = first; messages = []; phase = Open; busy = false }; least = 0; phase = phase.Resting }
 
 -- nobody has stopped
 abbrev pub no_stops : List Bool
@@ -150,10 +160,11 @@ abbrev pub IsNewReceiver : Layout → ℕ → Receiving → Type 0
 IsNewReceiver x at v = (v.frames.senders ≡ x.senders) × (v.log_at ≡ at) × (v.length_at ≡ 0) × (v.log_words ≡ x.capacity) × (v.known ≡ 0) × (v.place ≡ 0) × (v.ended ≡ false) × HasRead x.senders [] [] v.frames
 
 -- words of zero, the page at home, senders and receivers at their starts, none of which has stopped
-pub record IsNew {E : Type 0} (x : Layout) (bus : Bus E) : Type 0 where
+pub record IsNew {E : Type 0} (bases : List ℕ) (x : Layout) (bus : Bus E) : Type 0 where
+  pub bases_are : AreBases bases
   pub words : bus.side.words ≡ replicate (words_of x) 0
-  pub home : bus.side.home ≡ Some new_page
-  pub senders : (p : ℕ) (c : Core E) → slice_get bus.side.senders p ≡ Some c → (p < x.senders) × (c ≡ new_core x p)
+  pub home : bus.side.home ≡ Some (first_page bases)
+  pub senders : (p : ℕ) (c : Core E) → slice_get bus.side.senders p ≡ Some c → (p < x.senders) × (c ≡ new_core x (slice_index bases p) p)
   pub owners : bus.side.owners ≡ []
   pub stopped : bus.stopped ≡ no_stops
   pub receivers : (r : ℕ) (v : Receiving) → slice_get bus.receivers r ≡ Some v → IsNewReceiver x (log_at x) v

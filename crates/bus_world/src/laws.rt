@@ -1,8 +1,14 @@
 //! What the page of promises does not allow.
 
-ghost use Rattle.bus_world.specs.Refusals.{PromiseRefuses};
+ghost use Rattle.bus_world.specs.Refusals.{FromZero, PromiseRefuses};
 
 /// The promise is false of each of these wrong behaviours, whatever else happened.
 pub fn promise_refuses()
     ensures { PromiseRefuses }
+{}
+
+/// Of a bus of which no sitting was before, the promise says that each sender's numbers count from
+/// 0.
+pub fn first_sittings_count_from_zero()
+    ensures { FromZero }
 {}

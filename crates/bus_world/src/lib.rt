@@ -5,6 +5,7 @@
 pub mod events;
 mod faults;
 pub mod laws;
+pub mod limits;
 pub mod shapes;
 pub mod starts;
 pub mod turns;

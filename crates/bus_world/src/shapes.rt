@@ -7,7 +7,7 @@ use bus_register::NoMemory;
 /// The sizes of a bus. All others than those named here are refused.
 #[derive(Clone, Copy, Debug, PartialEq, Eq)]
 pub struct Shape {
-    /// 1 to 8.
+    /// 1 to 64.
     pub senders: u64,
     /// 1 to 8.
     pub receivers: u64,
@@ -19,7 +19,8 @@ pub struct Shape {
     pub log_words: u64,
 }
 
-/// Why no bus is made: a size out of its range, or no memory. Of several causes the first counts.
+/// Why no bus is made: a size out of its range, a page that no sitting can go on with, or no
+/// memory. Of several causes the first counts.
 #[derive(Clone, Copy, Debug, PartialEq, Eq)]
 pub enum MakeFault {
     Senders,
@@ -27,6 +28,10 @@ pub enum MakeFault {
     Rounds,
     Rows,
     LogWords,
+    /// The sitting that a bus is to go on with has not ended.
+    NotEnded,
+    /// A sender's next number is 2^48 - 65,536 or more.
+    Numbers,
     /// Memory was refused.
     NoMemory,
 }

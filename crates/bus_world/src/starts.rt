@@ -3,21 +3,27 @@
 ghost use Rattle.std.specs.Prelude.{◌≡◌, ◌+◌, ◌<◌, ◌^◌, [], IfOk};
 ghost use Rattle.bus_batch.specs.Reading.{HasRead};
 ghost use Rattle.bus_world.specs.Starting.{AreNewReaders};
+ghost use Rattle.bus_world.specs.World.{first_page as spec_first_page};
 
 use crate::shapes::Shape;
 use bus_deliverylog::Reader;
 use bus_register::limits::MOST_SENDERS;
 use bus_register::{NoMemory, Reg};
-use bus_tenure::Page;
+use bus_tenure::{OwnedPage, Page};
 use std::alloc::Global;
 
-/// The page of a new bus: nobody has an item, and no tenure has ended.
-pub const NEW_PAGE: Page = Page {
-    next: [0; MOST_SENDERS],
-    ended: false,
-    tenures: 0,
-    words: 0,
-};
+/// The page of a sitting that begins with these numbers, by sender, on the heap.
+pub fn first_page(alloc: Global, bases: [u64; MOST_SENDERS]) -> Result<OwnedPage, NoMemory>
+    ensures { IfOk result (λ page. page ≡ spec_first_page bases) }
+{
+    let page = Page {
+        next: bases,
+        ended: false,
+        tenures: 0,
+        words: 0,
+    };
+    OwnedPage::new(alloc, page)
+}
 
 /// A receiver for each number, at the first word of the log.
 pub fn new_receivers(alloc: Global, shape: Shape, log: Reg) -> Result<Vec<Reader>, NoMemory>

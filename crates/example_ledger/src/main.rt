@@ -1,19 +1,24 @@
 //! Three workers replicate a ledger over a bus: each sends transfers between accounts, and applies
 //! all that it receives, its own too. A transfer of more than an account has is refused. So which
 //! ones are refused depends on the order, and equal ledgers need one order. It may differ from run
-//! to run: the ledgers go to standard error, the verdict to standard output. `rt try` in its folder
-//! prints `3 replicas, 30 commands: all equal`.
+//! to run: the ledgers go to standard error, the verdict to standard output. They do so in three
+//! sittings, each with a bus of its own that goes on with the numbers of the one before. `rt try`
+//! in its folder prints `3 replicas, 3 sittings, 90 commands: all equal`.
 #![tactic(auto)]
 
-ghost use Rattle.std.specs.Prelude.{◌≡◌, ◌↔◌, ◌^◌, ◌<◌, IsTrue, IfOk, sum};
+ghost use Rattle.std.specs.Prelude.{◌≡◌, ◌↔◌, ◌^◌, ◌<◌, IsTrue, sum};
 ghost use Rattle.std.specs.Bool.{OnFalse};
 ghost use Rattle.example_ledger.specs.Transfers.{after_transfer, message_of, money, CanBePaid};
 
 use anyhow::{Context, ensure};
-use bus_handles::{ReceiverHandle, RecvTurn, SenderHandle, Shape, ThreeWord, open};
+use bus_handles::{
+    Ended, Page, ReceiverHandle, RecvTurn, SenderHandle, SenderNo, Shape, ThreeWord, open,
+    open_after,
+};
+use std::alloc::{AllocGlobal, Global};
 use std::marker::Model;
 use std::sync::Wait;
-use std::{io, thread};
+use std::thread::{self, Threads};
 
 /// An amount that one account is to pay to another.
 #[derive(Clone, Copy)]
@@ -66,14 +71,52 @@ fn apply(message: &[u8], balances: &mut [u64; 4]) -> bool
 }
 
 /// What the accounts have, and how many commands were applied and refused.
-#[derive(Clone, Copy, Debug, PartialEq)]
+#[derive(Debug, Drop)]
 struct Ledger {
     balances: [u64; 4],
     applied: u64,
     refused: u64,
 }
 
-/// A worker: a sender, a receiver, and its replica of the ledger.
+impl Model for Ledger {
+    ghost use Rattle.std.specs.Prelude.{◌≡◌, ℕ, List, sum};
+    ghost use Rattle.example_ledger.specs.Transfers.{money};
+
+    ghost Value = { List ℕ };
+
+    ghost view = { λ l. l.balances };
+
+    ghost invariant = { λ l. sum l.balances ≡ money };
+}
+
+impl Ledger {
+    /// A ledger of accounts of which none has paid yet.
+    fn new() -> Ledger {
+        Ledger {
+            balances: [60; 4],
+            applied: 0,
+            refused: 0,
+        }
+    }
+
+    /// What the accounts have, which is all the money.
+    fn balances(&self) -> [u64; 4]
+        ensures { sum result ≡ money }
+    {
+        self.balances
+    }
+
+    /// Applies one command, and counts it.
+    fn take_in(&mut self, message: &[u8]) {
+        if apply(message, &mut self.balances) {
+            self.applied = self.applied.wrapping_add(1);
+        } else {
+            self.refused = self.refused.wrapping_add(1);
+        }
+    }
+}
+
+/// A worker of one sitting: a sender, a receiver, and its replica of the ledger.
 #[derive(Drop)]
 struct Worker {
     sender: SenderHandle<ThreeWord>,
@@ -81,31 +124,7 @@ struct Worker {
     ledger: Ledger,
 }
 
-impl Model for Worker {
-    ghost use Rattle.std.specs.Prelude.{◌≡◌, ℕ, List, sum};
-    ghost use Rattle.example_ledger.specs.Transfers.{money};
-
-    ghost Value = { List ℕ };
-
-    ghost view = { λ w. w.ledger.balances };
-
-    ghost invariant = { λ w. sum w.ledger.balances ≡ money };
-}
-
 impl Worker {
-    /// A worker with this sender and this receiver, of whom nobody has paid yet.
-    fn new(sender: SenderHandle<ThreeWord>, receiver: ReceiverHandle<ThreeWord>) -> Worker {
-        Worker {
-            sender,
-            receiver,
-            ledger: Ledger {
-                balances: [60; 4],
-                applied: 0,
-                refused: 0,
-            },
-        }
-    }
-
     /// Sends two batches of transfers, each with one to an unknown account, and catches up.
     fn work<W: Wait>(mut self, wait: &W) -> anyhow::Result<Worker> {
         let from = self.sender.number().0;
@@ -131,55 +150,114 @@ impl Worker {
     fn catch_up<W: Wait>(&mut self, wait: &W) {
         for _ in wait.forever() {
             match self.receiver.turn() {
-                RecvTurn::Item(item) => self.take_in(item.message.as_slice()),
+                RecvTurn::Item(item) => self.ledger.take_in(item.message.as_slice()),
                 RecvTurn::Empty | RecvTurn::End => return,
                 RecvTurn::Going | RecvTurn::Head { .. } => {}
             }
         }
     }
 
-    /// Applies one command, and counts it.
-    fn take_in(&mut self, message: &[u8]) {
-        let ledger = &mut self.ledger;
-        if apply(message, &mut ledger.balances) {
-            ledger.applied = ledger.applied.wrapping_add(1);
-        } else {
-            ledger.refused = ledger.refused.wrapping_add(1);
+    /// Applies what is left of the order, which has ended, and gives its replica and its receiver.
+    fn finish<W: Wait>(mut self, wait: &W) -> (Ledger, ReceiverHandle<ThreeWord>) {
+        for _ in wait.forever() {
+            let Some(item) = self.receiver.next_item(wait) else {
+                return (self.ledger, self.receiver);
+            };
+            self.ledger.take_in(item.message.as_slice());
         }
-    }
-
-    /// Applies what has come since, prints its replica, and gives it.
-    fn finish<R: Eprint + Wait>(mut self, rt: &R) -> io::Result<Ledger>
-        ensures { IfOk result (λ ledger. sum ledger.balances ≡ money) }
-    {
-        self.catch_up(rt);
-        let ledger = self.ledger;
-        eprintln!(rt; "replica {}: {ledger:?}", self.sender.number().0)?;
-        Ok(ledger)
+        unreachable!()
     }
 }
 
-fn main(rt: HostRuntime) -> anyhow::Result<()> {
+/// The workers of a sitting, with these replicas: the first one, or the one after this page.
+fn begin(alloc: Global, ledgers: Vec<Ledger>, page: Option<&Page>) -> anyhow::Result<Vec<Worker>> {
     let shape = Shape {
         senders: 3,
         receivers: 3,
         rounds: 4,
-        rows: 64,
-        log_words: 1024,
+        rows: 8,
+        log_words: 128,
     };
-    let (senders, receivers) = open::<ThreeWord>(rt.alloc(), shape)?;
-    let mut workers = Vec::new(rt.alloc());
-    for (sender, receiver) in senders.into_iter().zip(receivers) {
-        workers.push(Worker::new(sender, receiver))?;
+    let (senders, receivers) = match page {
+        None => open::<ThreeWord>(alloc, shape)?,
+        Some(page) => open_after::<ThreeWord>(alloc, shape, page)?,
+    };
+    let mut workers = Vec::new(alloc);
+    for ((sender, receiver), ledger) in senders.into_iter().zip(receivers).zip(ledgers) {
+        workers.push(Worker {
+            sender,
+            receiver,
+            ledger,
+        })?;
     }
-    // That replicas are equal and no command is missing is tested, not proved: which commands are
-    // refused depends on the order, and no contract here ties a replica to it.
-    let mut first = None;
-    for worker in thread::map_vec(&rt, workers, &|worker| worker.work(&rt))? {
-        let ledger = worker?.finish(&rt)?;
-        ensure!(ledger == *first.get_or_insert(ledger), "they differ");
+    Ok(workers)
+}
+
+/// A sitting: all workers send, the last of them ends the order, and each comes to its end. Gives
+/// their replicas, and what the bus leaves behind.
+fn sit<R: AllocGlobal + Sync + Threads + Wait>(
+    rt: &R,
+    workers: Vec<Worker>,
+) -> anyhow::Result<(Vec<Ledger>, Ended)> {
+    let mut done = Vec::new(rt.alloc());
+    for worker in thread::map_vec(rt, workers, &|worker| worker.work(rt))? {
+        done.push(worker?)?;
+    }
+    let mut last = done.pop().context("no worker")?;
+    last.sender.end_order(rt)?;
+    let mut ledgers = Vec::new(rt.alloc());
+    for worker in done {
+        let (ledger, _) = worker.finish(rt);
+        ledgers.push(ledger)?;
+    }
+    let (ledger, receiver) = last.finish(rt);
+    ledgers.push(ledger)?;
+    Ok((ledgers, receiver.end()?))
+}
+
+/// Sees that a sitting went on with the numbers of this page, or with 0, and has ten commands of
+/// each worker.
+fn see_numbers(ended: &Ended, page: Option<&Page>) -> anyhow::Result<()> {
+    for number in 0..3_u8 {
+        let next = match page {
+            None => 0,
+            Some(page) => page.next[usize::from(number)],
+        };
+        let sender = SenderNo(number);
+        ensure!(ended.base(sender) == next, "numbers do not go on");
+        ensure!(ended.count(sender) == 10, "a command is not in the order");
+    }
+    Ok(())
+}
+
+/// Prints all replicas, and sees that they are equal and that no command is missing.
+fn compare<R: Eprint>(rt: &R, ledgers: &[Ledger]) -> anyhow::Result<()> {
+    let first = ledgers.first().context("no ledger")?;
+    for ledger in ledgers {
+        eprintln!(rt; "{ledger:?}")?;
+        ensure!(ledger.balances() == first.balances(), "they differ");
+        ensure!(ledger.applied == first.applied, "they differ");
         let commands = ledger.applied.checked_add(ledger.refused);
-        ensure!(commands == Some(30), "a command is missing");
+        ensure!(commands == Some(90), "a command is missing");
     }
-    println!(&rt; "3 replicas, 30 commands: all equal").context("no output")
+    Ok(())
+}
+
+// That replicas are equal and no command is missing is tested, not proved: which commands are
+// refused depends on the order, and no contract here ties a replica to it.
+fn main(rt: HostRuntime) -> anyhow::Result<()> {
+    let mut ledgers = Vec::new(rt.alloc());
+    for _ in 0..3 {
+        ledgers.push(Ledger::new())?;
+    }
+    let mut page = None;
+    for _ in 0..3 {
+        let workers = begin(rt.alloc(), ledgers, page.as_ref())?;
+        let (replicas, ended) = sit(&rt, workers)?;
+        see_numbers(&ended, page.as_ref())?;
+        page = Some(*ended.page());
+        ledgers = replicas;
+    }
+    compare(&rt, &ledgers)?;
+    println!(&rt; "3 replicas, 3 sittings, 90 commands: all equal").context("no output")
 }

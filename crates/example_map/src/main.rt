@@ -67,7 +67,7 @@ fn main(rt: HostRuntime) -> anyhow::Result<()> {
         rows: 4,
         log_words: words_needed(4, 160, 40),
     };
-    let (senders, receivers) = open_cyclic::<ThreeWord>(rt.alloc(), shape)?;
+    let (senders, receivers) = open_cyclic::<ThreeWord>(rt.alloc(), shape, None)?;
     let mut workers = Vec::new(rt.alloc());
     for (sender, receiver) in senders.into_iter().zip(receivers) {
         let map = BTreeMap::new(rt.alloc());

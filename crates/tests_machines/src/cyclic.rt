@@ -23,7 +23,7 @@ fn shape(senders: u64, rows: u64, log_words: u64) -> Shape {
 
 /// Wants that this bus is made.
 fn made<R: Abort + AllocGlobal>(rt: &R, shape: Shape) -> World<ThreeWord> {
-    match World::cyclic(rt.alloc(), shape) {
+    match World::cyclic(rt.alloc(), shape, None) {
         Ok(world) => world,
         Err(_) => panic!(rt; "a bus of this shape"),
     }
@@ -149,11 +149,11 @@ fn rows_come_round(rt: HostRuntime) -> Result<(), Fail> {
 
 #[test]
 fn cyclic_limits(rt: HostRuntime) {
-    let one = World::<ThreeWord>::cyclic(rt.alloc(), shape(1, 1, 16)).err();
+    let one = World::<ThreeWord>::cyclic(rt.alloc(), shape(1, 1, 16), None).err();
     assert_eq!(rt; one, Some(MakeFault::Rows));
-    let nine = World::<ThreeWord>::cyclic(rt.alloc(), shape(1, 9, 16)).err();
+    let nine = World::<ThreeWord>::cyclic(rt.alloc(), shape(1, 9, 16), None).err();
     assert_eq!(rt; nine, Some(MakeFault::Rows));
-    let crowd = World::<ThreeWord>::cyclic(rt.alloc(), shape(9, 9, 0)).err();
+    let crowd = World::<ThreeWord>::cyclic(rt.alloc(), shape(65, 9, 0), None).err();
     assert_eq!(rt; crowd, Some(MakeFault::Senders));
 }
 

@@ -94,6 +94,17 @@ fn candidate_changes(rt: HostRuntime) {
 }
 
 #[test]
+fn sixty_four_senders(rt: HostRuntime) {
+    plays(
+        &rt,
+        b"shape 64 1 1 1 64\nput 63 62\nturn 63 0 99\nturn 63 0 99\n",
+        "put 63: number 0\nturn 63: own 0\nturn 63: delivered 0 0 0\nowners 63\n\
+          order 63 0 62\ngiven 0 0\n",
+    );
+    plays(&rt, b"shape 9 1 1 1 16\n", "owners\ngiven 0 0\n");
+}
+
+#[test]
 fn late_to_an_old_tenure(rt: HostRuntime) {
     plays(
         &rt,
@@ -247,7 +258,7 @@ fn two_collects_disagree_too(rt: HostRuntime) {
 fn refused_scripts(rt: HostRuntime) {
     refuses(&rt, b"", "end: BadLine\n");
     refuses(&rt, b"# x", "end: BadLine\n");
-    refuses(&rt, b"shape 9 1 1 1 16\n", "line 1: Senders\n");
+    refuses(&rt, b"shape 65 1 1 1 16\n", "line 1: Senders\n");
     refuses(&rt, b"shape 1 1 1 1 15\n", "line 1: LogWords\n");
     refuses(&rt, b"shape 1 1 1 1\n", "line 1: BadLine\n");
     refuses(&rt, b"#\n\nput 0 61\n", "line 3: BadLine\n");

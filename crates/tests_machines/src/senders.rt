@@ -6,8 +6,9 @@ use bus_adoptcommit::ThreeWord;
 use bus_batch::PutFault;
 use bus_core::SenderCore;
 use bus_presence::Pin;
+use bus_register::limits::MOST_SENDERS;
 use bus_register::{Cells, Kind, Op, Reg, SenderNo};
-use bus_tenure::{Page, Turn};
+use bus_tenure::{OwnedPage, Page, Turn};
 use std::process::Abort;
 use std::test::Fail;
 
@@ -19,13 +20,13 @@ const WORDS: u64 = 32;
 fn made(me: u8) -> SenderCore<ThreeWord>
     requires { me < 2 }
 {
-    SenderCore::cyclic(2, SenderNo(me), 1, 2, 16)
+    SenderCore::cyclic(2, SenderNo(me), 1, 2, 16, 0)
 }
 
 /// The page of a bus that has had no tenure.
 fn first_page() -> Page {
     Page {
-        next: [0; 8],
+        next: [0; MOST_SENDERS],
         ended: false,
         tenures: 0,
         words: 0,
@@ -49,10 +50,10 @@ fn turn(
     rt: &impl Abort,
     sender: &mut SenderCore<ThreeWord>,
     cells: &mut Cells,
-    page: &mut Page,
+    page: &mut Option<OwnedPage>,
 ) -> Turn {
     if let Some(given) = sender.take_out() {
-        *page = given;
+        *page = Some(given);
     }
     let Some(op) = sender.next(0) else {
         return sender.rest();
@@ -67,7 +68,7 @@ fn turn(
     let got = cells.apply(op);
     let answer = sender.feed(got, 0);
     if sender.awaits_page() {
-        sender.lay(*page);
+        sender.lay(page.take().expect(rt, "the page is at home"));
     }
     answer
 }
@@ -77,7 +78,7 @@ fn answers(
     rt: &impl Abort,
     sender: &mut SenderCore<ThreeWord>,
     cells: &mut Cells,
-    page: &mut Page,
+    page: &mut Option<OwnedPage>,
     wanted: Turn,
 ) {
     assert_eq!(rt; turn(rt, sender, cells, page), wanted);
@@ -88,7 +89,7 @@ fn goes_on(
     rt: &impl Abort,
     sender: &mut SenderCore<ThreeWord>,
     cells: &mut Cells,
-    page: &mut Page,
+    page: &mut Option<OwnedPage>,
     turns: u64,
 ) {
     for _ in 0..turns {
@@ -101,7 +102,7 @@ fn comes_to(
     rt: &impl Abort,
     sender: &mut SenderCore<ThreeWord>,
     cells: &mut Cells,
-    page: &mut Page,
+    page: &mut Option<OwnedPage>,
     wanted: Turn,
 ) {
     let mut answer = Turn::Going;
@@ -124,7 +125,12 @@ fn delivered(tenure: u64, number: u64) -> Turn {
 }
 
 /// A sender that is alone enters the first tenure, step by step.
-fn enters(rt: &impl Abort, alone: &mut SenderCore<ThreeWord>, cells: &mut Cells, page: &mut Page) {
+fn enters(
+    rt: &impl Abort,
+    alone: &mut SenderCore<ThreeWord>,
+    cells: &mut Cells,
+    page: &mut Option<OwnedPage>,
+) {
     assert_eq!(rt; alone.kind(), Some(Kind::LoadStage));
     goes_on(rt, alone, cells, page, 1);
     assert_eq!(rt; alone.kind(), Some(Kind::Enter));
@@ -145,7 +151,12 @@ fn enters(rt: &impl Abort, alone: &mut SenderCore<ThreeWord>, cells: &mut Cells,
 }
 
 /// It takes the page, clears its presence, and gives the page back: the first rows are all new.
-fn owns(rt: &impl Abort, alone: &mut SenderCore<ThreeWord>, cells: &mut Cells, page: &mut Page) {
+fn owns(
+    rt: &impl Abort,
+    alone: &mut SenderCore<ThreeWord>,
+    cells: &mut Cells,
+    page: &mut Option<OwnedPage>,
+) {
     comes_to(rt, alone, cells, page, Turn::Own { tenure: 0 });
     assert_eq!(rt; alone.kind(), Some(Kind::Withdraw));
     goes_on(rt, alone, cells, page, 1);
@@ -160,7 +171,7 @@ fn reclaims(
     rt: &impl Abort,
     alone: &mut SenderCore<ThreeWord>,
     cells: &mut Cells,
-    page: &mut Page,
+    page: &mut Option<OwnedPage>,
 ) {
     comes_to(rt, alone, cells, page, Turn::Own { tenure: 1 });
     goes_on(rt, alone, cells, page, 5);
@@ -177,7 +188,7 @@ fn reclaims(
 #[test]
 fn alone_in_two_tenures(rt: HostRuntime) -> Result<(), Fail> {
     let mut cells = Cells::new(rt.alloc(), WORDS)?;
-    let mut page = first_page();
+    let mut page = Some(OwnedPage::new(rt.alloc(), first_page())?);
     let mut alone = made(0);
     assert_eq!(rt; alone.rest(), Turn::Idle);
     puts(&rt, &mut alone, b"a");
@@ -187,14 +198,15 @@ fn alone_in_two_tenures(rt: HostRuntime) -> Result<(), Fail> {
     owns(&rt, &mut alone, &mut cells, &mut page);
     puts(&rt, &mut alone, b"b");
     reclaims(&rt, &mut alone, &mut cells, &mut page);
-    assert_eq!(rt; page.tenures, 2);
+    let home = page.expect(&rt, "the page is at home");
+    assert_eq!(rt; home.get().tenures, 2);
     Ok(())
 }
 
 #[test]
 fn late_sender_withdraws(rt: HostRuntime) -> Result<(), Fail> {
     let mut cells = Cells::new(rt.alloc(), WORDS)?;
-    let mut page = first_page();
+    let mut page = Some(OwnedPage::new(rt.alloc(), first_page())?);
     let mut first = made(0);
     let mut late = made(1);
     puts(&rt, &mut first, b"a");
@@ -226,7 +238,7 @@ fn late_sender_withdraws(rt: HostRuntime) -> Result<(), Fail> {
 #[test]
 fn holder_waits_for_who_is_inside(rt: HostRuntime) -> Result<(), Fail> {
     let mut cells = Cells::new(rt.alloc(), WORDS)?;
-    let mut page = first_page();
+    let mut page = Some(OwnedPage::new(rt.alloc(), first_page())?);
     let mut holder = made(0);
     let mut late = made(1);
     puts(&rt, &mut holder, b"a");

@@ -34,7 +34,7 @@ fn no_bus_and_no_line(rt: HostRuntime) {
     gives(&rt, b"", Outcome::Refused, "end: BadLine\n");
     gives(
         &rt,
-        b"shape 9 1 1 4 16\n",
+        b"shape 65 1 1 4 16\n",
         Outcome::Refused,
         "line 1: Senders\n",
     );

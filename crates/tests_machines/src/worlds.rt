@@ -1,5 +1,6 @@
 //! Worked calls of a bus.
 
+mod sittings;
 mod stops;
 
 use bus_adoptcommit::ThreeWord;
@@ -70,7 +71,7 @@ fn holds_it(rt: &impl Abort, world: &World<ThreeWord>) {
     let words: [u64; 2] = [0x4000_0100_0000_0000, 0x8000_0000_0000_0000];
     assert_eq!(rt; world.log(), words.as_slice());
     let page = world.page().expect(rt, "the page is at home");
-    assert_eq!(rt; page.next, [1, 0, 0, 0, 0, 0, 0, 0]);
+    assert_eq!(rt; (page.next[0], page.next[1]), (1, 0));
     assert_eq!(rt; page.words, 2);
     assert_eq!(rt; world.owners(), [SenderNo(0)].as_slice());
     assert_eq!(rt; world.receivers(), 1);
@@ -159,6 +160,6 @@ fn what_is_refused(rt: HostRuntime) {
     };
     assert_eq!(rt; world.play(&events), Err(fault));
     assert_eq!(rt; world.play(&events[..2]), Ok(()));
-    let eleven = World::<ThreeWord>::new(rt.alloc(), shape(9, 9, 0, 0)).err();
-    assert_eq!(rt; eleven, Some(MakeFault::Senders));
+    let crowd = World::<ThreeWord>::new(rt.alloc(), shape(65, 9, 0, 0)).err();
+    assert_eq!(rt; crowd, Some(MakeFault::Senders));
 }

@@ -3,8 +3,9 @@
 use bus_adoptcommit::ThreeWord;
 use bus_core::SenderCore;
 use bus_presence::Pin;
+use bus_register::limits::MOST_SENDERS;
 use bus_register::{Cells, Kind, Op, Reg, SenderNo};
-use bus_tenure::{Page, Turn};
+use bus_tenure::{OwnedPage, Page, Turn};
 use std::process::Abort;
 use std::test::Fail;
 
@@ -17,7 +18,7 @@ const STAGE: Reg = Reg(1);
 /// The page of a bus that has had no tenure.
 fn first_page() -> Page {
     Page {
-        next: [0; 8],
+        next: [0; MOST_SENDERS],
         ended: false,
         tenures: 0,
         words: 0,
@@ -60,7 +61,7 @@ fn turns(rt: &impl Abort, core: &mut SenderCore<ThreeWord>, cells: &mut Cells) -
 #[test]
 fn alone_in_the_first_tenure(rt: HostRuntime) -> Result<(), Fail> {
     let mut cells = Cells::new(rt.alloc(), 40)?;
-    let mut core = SenderCore::<ThreeWord>::new(2, SenderNo(0), 1, 1, 16);
+    let mut core = SenderCore::<ThreeWord>::new(2, SenderNo(0), 1, 1, 16, 0);
     let number = core.put(b"a").ok().expect(&rt, "put");
     assert_eq!(rt; number, 0);
     assert_eq!(rt; core.number().0, 0);
@@ -75,7 +76,7 @@ fn alone_in_the_first_tenure(rt: HostRuntime) -> Result<(), Fail> {
     assert_eq!(rt; turns(&rt, &mut core, &mut cells), Turn::Own { tenure: 0 });
     assert_eq!(rt; word(&rt, &cells, STAGE), 1);
     assert!(rt; core.awaits_page());
-    core.lay(first_page());
+    core.lay(OwnedPage::new(rt.alloc(), first_page())?);
     for _ in 0..3 {
         assert_eq!(rt; core.kind(), Some(Kind::StoreLogWord));
         assert_eq!(rt; step(&rt, &mut core, &mut cells), Turn::Going);
@@ -83,8 +84,9 @@ fn alone_in_the_first_tenure(rt: HostRuntime) -> Result<(), Fail> {
     assert_eq!(rt; core.kind(), Some(Kind::StoreLength));
     assert_eq!(rt; step(&rt, &mut core, &mut cells), Turn::Going);
     assert_eq!(rt; word(&rt, &cells, LENGTH), 3);
-    let page = core.take_out().expect(&rt, "the page");
-    assert_eq!(rt; page.next, [1, 0, 0, 0, 0, 0, 0, 0]);
+    let taken = core.take_out().expect(&rt, "the page");
+    let page = taken.get();
+    assert_eq!(rt; (page.next[0], page.next[1]), (1, 0));
     assert_eq!(rt; page.tenures, 1);
     assert_eq!(rt; page.words, 3);
     let turn = step(&rt, &mut core, &mut cells);
@@ -108,7 +110,7 @@ fn alone_in_the_first_tenure(rt: HostRuntime) -> Result<(), Fail> {
 
 #[test]
 fn a_held_stage_makes_it_wait(rt: HostRuntime) -> Result<(), Fail> {
-    let mut core = SenderCore::<ThreeWord>::new(2, SenderNo(1), 1, 4, 16);
+    let mut core = SenderCore::<ThreeWord>::new(2, SenderNo(1), 1, 4, 16, 0);
     assert_eq!(rt; core.rest(), Turn::Idle);
     assert!(rt; core.put(b"").is_ok());
     assert!(rt; core.next(0).is_some());
@@ -122,12 +124,12 @@ fn a_held_stage_makes_it_wait(rt: HostRuntime) -> Result<(), Fail> {
 #[test]
 fn its_end_mark_closes_it(rt: HostRuntime) -> Result<(), Fail> {
     let mut cells = Cells::new(rt.alloc(), 40)?;
-    let mut core = SenderCore::<ThreeWord>::new(1, SenderNo(0), 1, 2, 16);
+    let mut core = SenderCore::<ThreeWord>::new(1, SenderNo(0), 1, 2, 16, 0);
     assert!(rt; core.close().is_ok());
     assert!(rt; core.is_closing());
     assert_eq!(rt; turns(&rt, &mut core, &mut cells), Turn::Own { tenure: 0 });
     assert!(rt; core.awaits_page());
-    core.lay(first_page());
+    core.lay(OwnedPage::new(rt.alloc(), first_page())?);
     assert_eq!(rt; turns(&rt, &mut core, &mut cells), Turn::Closed);
     assert_eq!(rt; core.rest(), Turn::Closed);
     assert!(rt; core.is_closed());
@@ -137,8 +139,8 @@ fn its_end_mark_closes_it(rt: HostRuntime) -> Result<(), Fail> {
 #[test]
 fn a_late_sender_loses(rt: HostRuntime) -> Result<(), Fail> {
     let mut cells = Cells::new(rt.alloc(), 40)?;
-    let mut first = SenderCore::<ThreeWord>::new(2, SenderNo(0), 1, 1, 16);
-    let mut late = SenderCore::<ThreeWord>::new(2, SenderNo(1), 1, 1, 16);
+    let mut first = SenderCore::<ThreeWord>::new(2, SenderNo(0), 1, 1, 16, 0);
+    let mut late = SenderCore::<ThreeWord>::new(2, SenderNo(1), 1, 1, 16, 0);
     assert!(rt; first.put(b"a").is_ok());
     assert!(rt; late.put(b"b").is_ok());
     assert_eq!(rt; step(&rt, &mut late, &mut cells), Turn::Going);
@@ -159,14 +161,14 @@ fn a_late_sender_loses(rt: HostRuntime) -> Result<(), Fail> {
 #[test]
 fn a_full_log_keeps_the_batch(rt: HostRuntime) -> Result<(), Fail> {
     let mut cells = Cells::new(rt.alloc(), 80)?;
-    let mut core = SenderCore::<ThreeWord>::new(2, SenderNo(0), 1, 4, 16);
+    let mut core = SenderCore::<ThreeWord>::new(2, SenderNo(0), 1, 4, 16, 0);
     for _ in 0..16 {
         assert!(rt; core.next_number() < 16);
         assert!(rt; core.put(b"").is_ok());
     }
     assert_eq!(rt; turns(&rt, &mut core, &mut cells), Turn::Own { tenure: 0 });
     assert!(rt; core.awaits_page());
-    core.lay(first_page());
+    core.lay(OwnedPage::new(rt.alloc(), first_page())?);
     assert_eq!(rt; turns(&rt, &mut core, &mut cells), Turn::Full);
     assert_eq!(rt; core.pending(), 16);
     Ok(())
@@ -175,14 +177,15 @@ fn a_full_log_keeps_the_batch(rt: HostRuntime) -> Result<(), Fail> {
 #[test]
 fn an_ended_page_closes_it(rt: HostRuntime) -> Result<(), Fail> {
     let mut cells = Cells::new(rt.alloc(), 40)?;
-    let mut core = SenderCore::<ThreeWord>::new(1, SenderNo(0), 1, 2, 16);
+    let mut core = SenderCore::<ThreeWord>::new(1, SenderNo(0), 1, 2, 16, 0);
     assert!(rt; core.put(b"a").is_ok());
     assert_eq!(rt; turns(&rt, &mut core, &mut cells), Turn::Own { tenure: 0 });
     assert!(rt; core.awaits_page());
-    core.lay(Page {
+    let ended = Page {
         ended: true,
         ..first_page()
-    });
+    };
+    core.lay(OwnedPage::new(rt.alloc(), ended)?);
     assert_eq!(rt; turns(&rt, &mut core, &mut cells), Turn::Closed);
     assert!(rt; core.is_closed());
     assert_eq!(rt; core.pending(), 1);
@@ -192,14 +195,14 @@ fn an_ended_page_closes_it(rt: HostRuntime) -> Result<(), Fail> {
 #[test]
 fn where_rows_are_used_again_it_pins_its_tenure(rt: HostRuntime) -> Result<(), Fail> {
     let mut cells = Cells::new(rt.alloc(), 40)?;
-    let mut core = SenderCore::<ThreeWord>::cyclic(2, SenderNo(1), 1, 2, 16);
+    let mut core = SenderCore::<ThreeWord>::cyclic(2, SenderNo(1), 1, 2, 16, 0);
     assert_eq!(rt; core.may_begin(0), Some(0));
     assert!(rt; core.put(b"a").is_ok());
     assert_eq!(rt; core.pin(), Some(Pin::Away));
     assert_eq!(rt; turns(&rt, &mut core, &mut cells), Turn::Own { tenure: 0 });
     assert_eq!(rt; core.pin(), Some(Pin::Unpinning { tenure: 0 }));
     assert!(rt; core.awaits_page());
-    core.lay(first_page());
+    core.lay(OwnedPage::new(rt.alloc(), first_page())?);
     assert_eq!(rt; core.kind(), Some(Kind::Withdraw));
     assert_eq!(rt; step(&rt, &mut core, &mut cells), Turn::Going);
     assert_eq!(rt; core.pin(), Some(Pin::Away));

@@ -58,12 +58,15 @@ fn run<M: Machine>(rt: &impl Abort, cells: &mut Cells, machine: &mut M) -> u64 {
 #[test]
 fn bounds(rt: HostRuntime) {
     assert!(rt; bits(1) == 0 && bits(2) == 1 && bits(3) == 2 && bits(5) == 3 && bits(8) == 3);
+    assert!(rt; bits(9) == 4 && bits(64) == 6);
     assert!(rt; bound::<TwoCollect>(1, 1) == 2 && bound::<TwoCollect>(1, 8) == 2);
     assert!(rt; bound::<TwoCollect>(2, 1) == 11 && bound::<TwoCollect>(2, 2) == 147);
     assert!(rt; bound::<TwoCollect>(5, 1) == 56 && bound::<TwoCollect>(8, 8) == 3191);
     assert!(rt; bound::<ThreeWord>(1, 1) == 2 && bound::<ThreeWord>(1, 8) == 2);
     assert!(rt; bound::<ThreeWord>(2, 1) == 9 && bound::<ThreeWord>(2, 2) == 143);
     assert!(rt; bound::<ThreeWord>(5, 1) == 32 && bound::<ThreeWord>(8, 8) == 2855);
+    assert!(rt; bound::<ThreeWord>(9, 1) == 58 && bound::<ThreeWord>(64, 1) == 416);
+    assert!(rt; bound::<ThreeWord>(64, 8) == 6044 && bound::<TwoCollect>(64, 8) == 12092);
 }
 
 /// Two processes of one decision, one after the other: how many words it has, and how many steps

@@ -93,3 +93,28 @@ fn a_long_answer_is_cut(rt: HostRuntime) {
         ">answers of the château<",
     );
 }
+
+/// Whether the one line of a trace is drawn, with this in the column of who.
+fn is_drawn<R: Abort + AllocGlobal>(rt: &R, who: &str) -> bool {
+    let trace = format!(in rt.alloc(); "1\t2\t{who}\t-\tput\t-\t-\t-\tidle").expect(rt, "memory");
+    let text = picture_of(rt.alloc(), trace.as_str()).expect(rt, "memory");
+    text.as_str().contains("<text class='head'")
+}
+
+#[test]
+fn who_is_drawn(rt: HostRuntime) {
+    for who in ["sender 0", "sender 63", "receiver 7"] {
+        assert!(rt; is_drawn(&rt, who), "{who}");
+    }
+    for who in [
+        "sender 64",
+        "receiver 8",
+        "sender 07",
+        "sender  7",
+        "sender 7 ",
+        "sender",
+        "7",
+    ] {
+        assert!(rt; !is_drawn(&rt, who), "{who}");
+    }
+}

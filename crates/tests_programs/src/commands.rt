@@ -180,7 +180,7 @@ fn ends_of_ranges(rt: HostRuntime) {
     let most = ["--senders=8", "--receivers=8", "--messages=400", seed];
     asks_for(&rt, most, [8, 8, 400, u64::MAX]);
     names_task(&rt, &["log", "--senders=1"], Task::Log { senders: 1 });
-    names_task(&rt, &["log", "--senders=8"], Task::Log { senders: 8 });
+    names_task(&rt, &["log", "--senders=64"], Task::Log { senders: 64 });
 }
 
 /// Wants that the words behind the program's name are refused so.
@@ -215,7 +215,7 @@ fn command_lines(rt: HostRuntime) {
         ["run", "--seed", "18446744073709551616"],
         ["run", "--seed", "x"],
         ["log", "--senders", "0"],
-        ["log", "--senders", "9"],
+        ["log", "--senders", "65"],
     ] {
         refuses_words(&rt, &rest, ErrorKind::ValueValidation);
     }

@@ -230,14 +230,14 @@ fn what_a_listener_refuses(rt: HostRuntime) {
     notes(&rt, &mut heard, &RecvTurn::Empty, true);
     notes(&rt, &mut heard, &head(0), true);
     notes(&rt, &mut heard, &item(0, 1), false);
-    notes(&rt, &mut heard, &item(8, 0), false);
+    notes(&rt, &mut heard, &item(64, 0), false);
     notes(&rt, &mut heard, &item(0, 0), true);
     notes(&rt, &mut heard, &item(0, 0), false);
-    notes(&rt, &mut heard, &item(7, 0), true);
+    notes(&rt, &mut heard, &item(63, 0), true);
     notes(&rt, &mut heard, &item(0, 1), true);
     notes(&rt, &mut heard, &RecvTurn::Going, true);
     assert_eq!(rt;
-        (heard.count(SenderNo(0)), heard.count(SenderNo(7))),
+        (heard.count(SenderNo(0)), heard.count(SenderNo(63))),
         (2, 1)
     );
     assert_eq!(rt; (heard.count(SenderNo(1)), heard.items()), (0, 3));

@@ -54,7 +54,7 @@ fn made(rt: &impl Abort, alloc: Global) -> (Bus<ThreeWord>, Sender<ThreeWord>, R
     ensures sender { table_of result.1 ≡ result.0.table }
     ensures receiver { bus_of result.2 ≡ result.0.table }
 {
-    let made = Bus::cyclic(alloc, TWO_ROWS);
+    let made = Bus::cyclic(alloc, TWO_ROWS, None);
     let (bus, mut senders, mut taps) = made.expect(rt, "memory");
     let receiver = Receiver::new(taps.pop().expect(rt, "a seat"));
     (bus, senders.pop().expect(rt, "a sender"), receiver)

@@ -24,7 +24,7 @@ fn ended_with_one<R: Abort + Wait + AllocGlobal>(rt: &R) -> Ended {
         rows: 2,
         log_words: 64,
     };
-    let (bus, mut senders, mut taps) = Bus::cyclic(rt.alloc(), shape).expect(rt, "memory");
+    let (bus, mut senders, mut taps) = Bus::cyclic(rt.alloc(), shape, None).expect(rt, "memory");
     let mut sender = senders.pop().expect(rt, "a sender");
     let tap = taps.pop().expect(rt, "a pass");
     assert_eq!(rt; sender.put(b"a"), Ok(0));

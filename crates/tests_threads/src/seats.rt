@@ -8,6 +8,7 @@ ghost use Rattle.bus_pageslot.specs.Seats.{table_of};
 mod cyclic;
 mod elections;
 mod making;
+mod sittings;
 mod stops;
 
 use self::making::{
@@ -459,7 +460,8 @@ fn has_sixty(rt: &impl Abort, ended: &Ended) {
         assert_eq!(rt; ended.count(SenderNo(sender)), 20, "of sender {sender}");
     }
     let page = ended.page();
-    assert_eq!(rt; page.next, [20, 20, 20, 0, 0, 0, 0, 0]);
+    let next = page.next;
+    assert_eq!(rt; (next[0], next[1], next[2], next[3]), (20, 20, 20, 0));
     assert_eq!(rt; (page.ended, page.tenures, page.words), (false, 60, 180));
     assert_eq!(rt; ended.log().len(), 180);
 }

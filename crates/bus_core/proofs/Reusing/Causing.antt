@@ -28,7 +28,7 @@ use Rattle.bus_core.specs.Reusing.Besides.Beside.{Reclaimer}
 use Rattle.bus_core.specs.Reusing.Causes.{HasCause, LeavesTenure, AsLoser, AsHolder, AsLate, StandsInside, MakesRowReady, ReturnsPage}
 use Rattle.bus_core.specs.Reusing.Participants.{Reclaims, Goes, due_beside}
 use Rattle.bus_core.specs.Reusing.Keeping.{IsOutside, IsPinned, PinKeeps, IsHeldReclaimer, ReclaimerKeeps, LostKeeps, ParticipantKeeps, held_of}
-use Rattle.bus_core.specs.Reusing.Turns.{Participant, sizes_of, due, kind_due, kind_of_pin, kind_of_reclaim}
+use Rattle.bus_core.specs.Reusing.Turns.{Participant, sizes_of, due, kind_of_pin, kind_of_reclaim}
 use Rattle.bus_core.proofs.Reusing.Keeps.{reclaimed_beside}
 use Rattle.bus_core.proofs.Reusing.Tells.{ChoosesItself, WhyGiven, reclaims_beside, ready_of, handed_of, given_for}
 
@@ -165,14 +165,6 @@ module _ {S : Type 0} (P : Protocol S Bool Verdict) (X : Election (Elector S)) (
     pick (Some s) e h d =
         let w = reclaiming _ v.reclaimer (situation_of X v.core) s o d in
         subst (HasCause P v) (sym (named s w.step)) (by_reclaimer s o w (subst (ReclaimerKeeps (sizes_of v) v.core.phase) e k.reclaimer) (nat_lt s.scanned s.senders) refl)
-
-  pub reclaimer_named : (o : Op) → due X v ≡ due_by (Reclaimer o) v.reclaimer (situation_of X v.core) → IsSome v.reclaimer → (r : Kind) → ((s : Reclaiming) → reclaim_op s ≡ Some o → r ≡ kind_of_reclaim s) → Some r ≡ kind_due X v (due X v)
-  reclaimer_named o d h r named = pick v.reclaimer refl h d where
-    pick : (l : Option Reclaiming) → v.reclaimer ≡ l → IsSome l → due X v ≡ reclaims_by l o (situation_of X v.core) → Some r ≡ kind_due X v (due X v)
-    pick None e h d = absurd (let q : false ≡ true = h in cc)
-    pick (Some s) e h d =
-        let w = reclaiming _ v.reclaimer (situation_of X v.core) s o d in
-        ap Some (named s w.step) ∙ sym (ap (kind_due X v) d)
 
   -- ---- of its own
   returned : v.pin ≡ Away → due X v ≡ Goes (situation_of X v.core) → LeavesPage v.core ⊎ HasHandedOn v.core → ReturnsPage v

@@ -1,17 +1,17 @@
 -- A participant keeps what it keeps with each of its steps.
-use Rattle.std.proofs.Common.{◌≡◌, ◌≢◌, ℕ, ◌+◌, ◌-◌, ◌/◌, ◌<◌, ◌≤◌, Bool, true, false, Option, Some, None, IsSome, IfSome, nat_lt, nat_le, ◌==◌, cond, refl, sym, ◌∙◌, ap, subst, arith}
+use Rattle.std.proofs.Common.{◌≡◌, ◌≢◌, ℕ, ◌+◌, ◌-◌, ◌/◌, ◌<◌, ◌≤◌, Bool, true, false, Option, Some, None, IsSome, IfSome, nat_lt, ◌==◌, cond, refl, sym, ◌∙◌, ap, subst, arith}
 use Rattle.std.proofs.lemmas.Bool.{lt-ltb}
 use Rattle.std.proofs.lemmas.Option.{same_Some}
 use Rattle.bus_register.specs.declared.registers.Op.{Op}
 use Rattle.bus_batch.specs.Batches.{Pending}
-use Rattle.bus_presence.specs.Pins.{Pinning, step_at, pin_fed}
+use Rattle.bus_presence.specs.Pins.{step_at, pin_fed}
 use Rattle.bus_presence.specs.Reclaimers.{Reclaiming, is_reclaimed}
 use Rattle.bus_presence.specs.Reclamation.{ReclamationSizes, presence_at, row_of}
 use Rattle.bus_presence.specs.declared.pins.Pin.{Pin}
 use Rattle.bus_presence.specs.declared.pins.Pin.TheVariants.{Away, Announcing, Validating, Pinned, Unpinning, Invalidated}
 use Rattle.bus_register.specs.declared.registers.SenderNo.{SenderNo}
 use Rattle.bus_tenure.specs.Core.{Core, Election, Layout, stage_at, row_at, is_closing}
-use Rattle.bus_tenure.specs.Situations.{Situation, IsClosed, IsIdle, IsSpent, LooksAtStage, Elects, TakesPage, AwaitsPage, StoresWord, StoresLength, GivesBack, HasHanded, situation_of, op_at, fed_at, answer_at, core_begun, core_after_stage, waits, tenure_begun, resting, situation_at, core_elected, answer_of_election, answer_of_return}
+use Rattle.bus_tenure.specs.Situations.{Situation, IsClosed, IsIdle, IsSpent, LooksAtStage, Elects, TakesPage, AwaitsPage, StoresWord, StoresLength, GivesBack, HasHanded, situation_of, op_at, fed_at, answer_at, core_begun, core_elected, answer_of_election, answer_of_return}
 use Rattle.bus_tenure.specs.Keeping.{AreSizes}
 use Rattle.bus_tenure.specs.declared.pages.Page.{Page}
 use Rattle.bus_tenure.specs.declared.phases.Reason.{Reason}
@@ -24,7 +24,7 @@ use Rattle.bus_tenure.proofs.Situated.{tells}
 use Rattle.bus_core.specs.Reusing.Participants.{Due, Goes, due_beside, sizes_with, core_looked, core_going, pin_going, reclaimer_going, pin_elected, answer_going, lost_elected, lost_going}
 use Rattle.bus_core.specs.Reusing.Turns.{Participant, due, sizes_of}
 use Rattle.bus_core.specs.Reusing.Following.{pin_by, lost_by, reclaimer_by, told_by}
-use Rattle.bus_core.specs.Reusing.Keeping.{IsBound, IsOutside, PinKeeps, held_of, ReclaimerKeeps, LostKeeps, ParticipantKeeps, IsTied}
+use Rattle.bus_core.specs.Reusing.Keeping.{IsBound, IsOutside, PinKeeps, held_of, ReclaimerKeeps, LostKeeps, ParticipantKeeps}
 use Rattle.bus_core.proofs.Reusing.Keeps.{runs_pinned, stays_outside, ElectionsKeep}
 
 -- nobody reclaims but a holder
@@ -216,44 +216,6 @@ module _ {E : Type 0} (X : Election E) (W : Layout → ℕ) (B : Layout → ℕ 
         record { keeps = home v k t (ap held_of (tells X v.core (HasHanded t reason) i)) stays _ (t + 1); layout = refl; me = refl; core_is = refl; pin_is = d.pin; reclaimer_is = d.reclaimer; lost_is = d.lost; told_is = d.told }
 
   -- ---- from what the calls gave
-  abbrev pub participant : Core E → Pin → Option Reclaiming → Option SenderNo → ℕ → Participant E
-  participant c v s l rows = record { core = c; pin = v; reclaimer = s; lost = l; rows = rows }
-
-  pub same_participant : (rows : ℕ) (c c' : Core E) (v v' : Pin) (s s' : Option Reclaiming) (l l' : Option SenderNo) → c ≡ c' → v ≡ v' → s ≡ s' → l ≡ l'
-      → participant c v s l rows ≡ participant c' v' s' l' rows
-  same_participant rows c c' v v' s s' l l' a b d e =
-      ap (λ z. participant z v s l rows) a ∙ ap (λ z. participant c' z s l rows) b
-      ∙ ap (λ z. participant c' v' z l rows) d ∙ ap (λ z. participant c' v' s' z rows) e
-
-  module _ (v : Participant E) (core fed : Core E) (pin : Pin) (reclaimer : Option Reclaiming) (lost : Option SenderNo) (answer told : Turn) (w : Went v core fed pin reclaimer lost answer told) (got : Turn) (same : got ≡ answer) where
-    pub joined : (c : Core E) (u : Pin) (s : Option Reclaiming) (l : Option SenderNo) (senders width : ℕ) → senders ≡ v.core.layout.senders → width ≡ v.core.layout.width → (old : Option Reclaiming) → old ≡ v.reclaimer
-        → c ≡ fed → u ≡ pin_by got v.pin → s ≡ reclaimer_by (record { at = 1; senders = senders; rows = v.rows; width = width }) got old → l ≡ lost_by got v.lost
-        → participant c u s l v.rows ≡ participant core pin reclaimer lost v.rows
-    joined c u s l senders width a b old was d e f g =
-        same_participant v.rows c core u pin s reclaimer l lost (d ∙ sym w.core_is) (e ∙ ap (λ z. pin_by z v.pin) same ∙ sym w.pin_is)
-        (f ∙ ap (λ z. reclaimer_by (record { at = 1; senders = z; rows = v.rows; width = width }) got old) a ∙ ap (λ z. reclaimer_by (record { at = 1; senders = v.core.layout.senders; rows = v.rows; width = z }) got old) b
-        ∙ ap (λ z. reclaimer_by (sizes_of v) got z) was ∙ ap (λ z. reclaimer_by (sizes_of v) z v.reclaimer) same ∙ sym w.reclaimer_is)
-        (g ∙ ap (λ z. lost_by z v.lost) same ∙ sym w.lost_is)
-
-    pub tied : (p p' : Pinning) (senders width : ℕ) → IsTied p senders width (W v.core.layout) (B v.core.layout v.core.me) v → p'.word ≡ p.word → p'.stage ≡ p.stage → (n : Participant E) → n ≡ participant core pin reclaimer lost v.rows
-        → IsTied p' senders width (W n.core.layout) (B n.core.layout n.core.me) n
-    tied p p' senders width k a b n e = subst (λ y. IsTied p' senders width (W y.core.layout) (B y.core.layout y.core.me) y) (sym e) record {
-      word = a ∙ k.word ∙ ap (λ z. 2 + z) (sym w.me);
-      stage = b ∙ k.stage;
-      senders_are = k.senders_are ∙ ap (λ z. z.senders) (sym w.layout);
-      width_is = k.width_is ∙ ap (λ z. z.width) (sym w.layout);
-      keeps = w.keeps;
-    }
-
-  pub tied_as : (v : Participant E) (p : Pinning) (senders width : ℕ) → IsTied p senders width (W v.core.layout) (B v.core.layout v.core.me) v → (m : Participant E) → m.core.layout ≡ v.core.layout → m.core.me ≡ v.core.me → Kept m → (n : Participant E) → n ≡ m
-      → IsTied p senders width (W n.core.layout) (B n.core.layout n.core.me) n
-  tied_as v p senders width k m layout me keeps n e = subst (λ y. IsTied p senders width (W y.core.layout) (B y.core.layout y.core.me) y) (sym e) record {
-    word = k.word ∙ ap (λ z. 2 + z) (sym me);
-    stage = k.stage;
-    senders_are = k.senders_are ∙ ap (λ z. z.senders) (sym layout);
-    width_is = k.width_is ∙ ap (λ z. z.width) (sym layout);
-    keeps = keeps;
-  }
 
   -- the page goes from it
   pub gives_page : (law : ElectionsKeep X W B) (v : Participant E) → Kept v → (t : ℕ) (page : Page) (reason : Reason) → situation_of X v.core ≡ GivesBack t page reason → IfSome v.reclaimer (λ y. is_reclaimed y ≡ true) → Kept record v { core = record v.core { phase = Giving t reason } }
@@ -287,67 +249,3 @@ module _ {E : Type 0} (X : Election E) (W : Layout → ℕ) (B : Layout → ℕ 
     by (Pinned t) h = again v.core (Pinned t) (λ u e. cc) refl refl h k.reclaimer
     by (Unpinning t) h = again v.core Away (λ u e. cc) refl refl h k.reclaimer
     by (Invalidated t) h = again v.core Away (λ u e. cc) refl refl h k.reclaimer
-
-  -- ---- a load of the stage with which it begins no tenure
-  pub keeps_seen : (v : Participant E) (got : ℕ) → Kept v → v.core.phase ≡ Resting → v.pin ≡ Away → tenure_begun v.core got ≡ None → Kept record v { core = core_after_stage X v.core got }
-  keeps_seen v got k rests away none = by (waits v.core got) (nat_le v.core.layout.rows (got / 2)) none where
-    out : IsOutside v.core.phase
-    out = subst IsOutside (sym rests) tt
-
-    by : (a b : Bool) → cond a None (cond b None (Some (got / 2))) ≡ None → Kept record v { core = cond a v.core (cond b (record v.core { least = got / 2 }) (core_begun X v.core (got / 2))) }
-    by true b e = k
-    by false true e = record {
-      sizes = k.sizes;
-      tenures = k.tenures;
-      rows_some = k.rows_some;
-      rows_few = k.rows_few;
-      me_below = k.me_below;
-      pin = subst (λ u. PinKeeps (B v.core.layout v.core.me) (record v.core { least = got / 2 }) u) (sym away) out;
-      reclaimer = k.reclaimer;
-      lost = k.lost;
-    }
-    by false false e = absurd cc
-
-  pub after_stage_layout : (c : Core E) (got : ℕ) → (core_after_stage X c got).layout ≡ c.layout
-  after_stage_layout c got = by (waits c got) (nat_le c.layout.rows (got / 2)) where
-    by : (a b : Bool) → (cond a c (cond b (record c { least = got / 2 }) (core_begun X c (got / 2)))).layout ≡ c.layout
-    by true b = refl
-    by false true = refl
-    by false false = refl
-
-  pub after_stage_me : (c : Core E) (got : ℕ) → (core_after_stage X c got).me ≡ c.me
-  after_stage_me c got = by (waits c got) (nat_le c.layout.rows (got / 2)) where
-    by : (a b : Bool) → (cond a c (cond b (record c { least = got / 2 }) (core_begun X c (got / 2)))).me ≡ c.me
-    by true b = refl
-    by false true = refl
-    by false false = refl
-
-  pub looked_layout : (c : Core E) (u : Pin) (got : ℕ) → (core_looked X c u got).layout ≡ c.layout
-  looked_layout c Away got = refl
-  looked_layout c (Announcing t) got = refl
-  looked_layout c (Validating t) got = by (got / 2 == t) where
-    by : (a : Bool) → (cond a (core_begun X c t) c).layout ≡ c.layout
-    by true = refl
-    by false = refl
-  looked_layout c (Pinned t) got = refl
-  looked_layout c (Unpinning t) got = refl
-  looked_layout c (Invalidated t) got = refl
-
-  pub looked_me : (c : Core E) (u : Pin) (got : ℕ) → (core_looked X c u got).me ≡ c.me
-  looked_me c Away got = refl
-  looked_me c (Announcing t) got = refl
-  looked_me c (Validating t) got = by (got / 2 == t) where
-    by : (a : Bool) → (cond a (core_begun X c t) c).me ≡ c.me
-    by true = refl
-    by false = refl
-  looked_me c (Pinned t) got = refl
-  looked_me c (Unpinning t) got = refl
-  looked_me c (Invalidated t) got = refl
-
-  -- its presence goes on beside
-  pub tied_beside : (p p' : Pinning) (senders width : ℕ) (v : Participant E) → IsTied p senders width (W v.core.layout) (B v.core.layout v.core.me) v → p'.word ≡ p.word → p'.stage ≡ p.stage → IsTied p' senders width (W v.core.layout) (B v.core.layout v.core.me) v
-  tied_beside p p' senders width v k a b = record { word = a ∙ k.word; stage = b ∙ k.stage; senders_are = k.senders_are; width_is = k.width_is; keeps = k.keeps }
-
-  -- the situation of a sender that rests and looks at the stage
-  pub looks_at : (c : Core E) → c.phase ≡ Resting → resting c ≡ LooksAtStage → situation_of X c ≡ LooksAtStage
-  looks_at c rests looks = ap (situation_at X c) rests ∙ looks

@@ -14,8 +14,7 @@ use Rattle.bus_presence.specs.Pins.{step_at}
 use Rattle.bus_presence.specs.declared.pins.Pin.{Pin}
 use Rattle.bus_presence.specs.declared.pins.Pin.TheVariants.{Away, Announcing, Validating, Pinned, Unpinning, Invalidated}
 use Rattle.bus_tenure.specs.Core.{Core, Election, stage_at, is_closing, has_room, frame_len}
-use Rattle.bus_tenure.specs.Situations.{Situation, IsClosed, IsIdle, IsSpent, LooksAtStage, Elects, TakesPage, AwaitsPage, StoresWord, StoresLength, GivesBack, HasHanded, situation_at, situation_of, waits, answer_of_stage, answer_of_return}
-use Rattle.bus_tenure.specs.Seen.{tenure_of}
+use Rattle.bus_tenure.specs.Situations.{Situation, IsClosed, IsIdle, IsSpent, LooksAtStage, Elects, TakesPage, AwaitsPage, StoresWord, StoresLength, GivesBack, HasHanded, situation_at, situation_of, waits, answer_of_return}
 use Rattle.bus_tenure.specs.declared.pages.Page.{Page}
 use Rattle.bus_tenure.specs.declared.phases.Reason.{Reason}
 use Rattle.bus_tenure.specs.declared.phases.Reason.TheVariants.{Sent, FoundEnd, NoRoom}
@@ -321,21 +320,3 @@ module _ {E : Type 0} (X : Election E) (v : Participant E) (got word : ℕ) wher
 
     pub told_own : (r : Turn) → due X v ≡ Goes (situation_of X v.core) → ChoosesItself X v.core → r ≡ answer_going X v.core (situation_of X v.core) got word → IsSome (op_next X v word) → FeedTells X v got word r
     told_own r d own a req = subst (FeedTells X v got word) (sym a) (goes own (situation_of X v.core) refl d (subst (λ y. IsSome (op_due X v y word)) d req))
-
-    stage_answer : (r : Turn) → tenure_of v.core.phase ≡ None → r ≡ answer_of_stage v.core got → (z : Situation E) → situation_of X v.core ≡ z → IsSome (op_due X v (Goes z) word) → r ≡ answer_going X v.core z got word
-    stage_answer r none a IsClosed i h = absurd (let q : false ≡ true = h in cc)
-    stage_answer r none a IsIdle i h = absurd (let q : false ≡ true = h in cc)
-    stage_answer r none a IsSpent i h = absurd (let q : false ≡ true = h in cc)
-    stage_answer r none a LooksAtStage i h = a
-    stage_answer r none a (Elects t e) i h = absurd (let q = sym none ∙ ap tenure_of (tells X v.core (Elects t e) i).0 in cc)
-    stage_answer r none a (TakesPage t) i h = absurd (let q = sym none ∙ ap tenure_of (tells X v.core (TakesPage t) i).1 in cc)
-    stage_answer r none a (AwaitsPage t) i h = absurd (let q = sym none ∙ ap tenure_of (tells X v.core (AwaitsPage t) i) in cc)
-    stage_answer r none a (StoresWord t page stored) i h = absurd (let q = sym none ∙ ap tenure_of (tells X v.core (StoresWord t page stored) i).1 in cc)
-    stage_answer r none a (StoresLength t page stored) i h = absurd (let q = sym none ∙ ap tenure_of (tells X v.core (StoresLength t page stored) i).1 in cc)
-    stage_answer r none a (GivesBack t page reason) i h = absurd (let q = sym none ∙ ap tenure_of (tells X v.core (GivesBack t page reason) i).2 in cc)
-    stage_answer r none a (HasHanded t reason) i h = absurd (let q = sym none ∙ ap tenure_of (tells X v.core (HasHanded t reason) i) in cc)
-
-    pub told_stage : (r : Turn) → due X v ≡ Goes (situation_of X v.core) → tenure_of v.core.phase ≡ None → r ≡ answer_of_stage v.core got → IsSome (op_next X v word) → FeedTells X v got word r
-    told_stage r d none a req =
-        told_own r d (λ t i. absurd (let q = sym none ∙ ap tenure_of (tells X v.core (TakesPage t) i).1 in cc))
-        (stage_answer r none a (situation_of X v.core) refl (subst (λ y. IsSome (op_due X v y word)) d req)) req

@@ -9,11 +9,10 @@ use Rattle.bus_adoptcommit.specs.declared.verdicts.Verdict.{Verdict}
 use Rattle.bus_presence.specs.Reclaimers.{Reclaiming}
 use Rattle.bus_presence.specs.declared.pins.Pin.TheVariants.{Away, Announcing, Validating, Pinned, Unpinning, Invalidated}
 use Rattle.bus_tenure.specs.Causes.{HasCause as HasCauseApart, LeavesPage, HasHandedOn}
-use Rattle.bus_tenure.specs.Core.{Election}
 use Rattle.bus_tenure.specs.Elections.{Elector}
 use Rattle.bus_tenure.specs.declared.phases.Phase.TheVariants.{Resting, Electing}
 use Rattle.bus_core.specs.Reusing.Keeping.{IsBound, IsReclaimerAfter, IsRowReady, held_of}
-use Rattle.bus_core.specs.Reusing.Turns.{Participant, sizes_of, due, kind_due}
+use Rattle.bus_core.specs.Reusing.Turns.{Participant, sizes_of}
 
 -- ---- its pin
 -- it may begin a tenure, which is not past for it, and which its presence does not name yet
@@ -101,7 +100,3 @@ HasCause P v kind.StoreLength = IsAway v × HasCauseApart P v.core kind.StoreLen
 HasCause P v kind.GivePageBack = ReturnsPage v
 HasCause P v kind.LoadLength = ⊥
 HasCause P v kind.LoadLogWord = ⊥
-
--- whatever its next step is for, it has a cause
-abbrev pub IsCaused : {S : Type 0} → Election (Elector S) → Protocol S Bool Verdict → Participant (Elector S) → Type 0
-IsCaused X P v = (k : Kind) → kind_due X v (due X v) ≡ Some k → HasCause P v k

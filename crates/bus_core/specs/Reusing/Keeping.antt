@@ -3,12 +3,11 @@ use Rattle.std.specs.Prelude.{◌≡◌, ℕ, ◌+◌, ◌<◌, ◌≤◌, false
 use Rattle.bus_register.specs.declared.registers.SenderNo.{SenderNo}
 use Rattle.bus_register.specs.declared.limits.TheConstants.{TENURES}
 use Rattle.bus_presence.specs.Reclaimers.{Reclaiming, is_reclaimed}
-use Rattle.bus_presence.specs.Pins.{Pinning}
 use Rattle.bus_presence.specs.Reclamation.{ReclamationSizes, IsReady, presence_at, row_of}
 use Rattle.bus_presence.specs.declared.pins.Pin.{Pin}
 use Rattle.bus_presence.specs.declared.pins.Pin.TheVariants.{Away, Announcing, Validating, Pinned, Unpinning, Invalidated}
-use Rattle.bus_tenure.specs.Core.{Core, Layout, length_at, stage_at, row_at, log_at, words_of}
-use Rattle.bus_tenure.specs.Situations.{Situation, IsClosed, IsIdle, IsSpent, LooksAtStage, Elects, TakesPage, AwaitsPage, StoresWord, StoresLength, GivesBack, HasHanded, resting}
+use Rattle.bus_tenure.specs.Core.{Core, row_at}
+use Rattle.bus_tenure.specs.Situations.{LooksAtStage, resting}
 use Rattle.bus_tenure.specs.Keeping.{AreSizes}
 use Rattle.bus_tenure.specs.declared.phases.Reason.{Reason}
 use Rattle.bus_tenure.specs.declared.phases.Phase.{Phase}
@@ -101,31 +100,3 @@ pub record ParticipantKeeps {E : Type 0} (width : ℕ) (Belongs : ℕ → E → 
   pub pin : PinKeeps Belongs v.core v.pin
   pub reclaimer : ReclaimerKeeps (sizes_of v) v.core.phase v.reclaimer
   pub lost : LostKeeps v.core.phase v.pin v.lost
-
--- its fields: the places of its presence and of the stage, how many senders there are, and how many words a row has
-pub record IsTied {E : Type 0} (presence : Pinning) (senders width row_width : ℕ) (Belongs : ℕ → E → Type 0) (v : Participant E) : Type 0 where
-  pub word : presence.word ≡ presence_at (sizes_of v) v.core.me
-  pub stage : presence.stage ≡ stage_at
-  pub senders_are : senders ≡ v.core.layout.senders
-  pub width_is : width ≡ v.core.layout.width
-  pub keeps : ParticipantKeeps row_width Belongs v
-
--- on which word a sender takes its step that has a row for each tenure
-pub record IsInOwnRow (x : Layout) (v : Pin) (t r : ℕ) : Type 0 where
-  pub pinned : v ≡ Pinned t
-  pub tenure : t < x.rows
-  pub above : row_at x t ≤ r
-  pub below : r < row_at x t + x.width
-
-abbrev pub LiesApart : {E : Type 0} → Layout → Pin → Situation E → ℕ → Type 0
-LiesApart x v IsClosed r = false ≡ true
-LiesApart x v IsIdle r = false ≡ true
-LiesApart x v IsSpent r = false ≡ true
-LiesApart x v LooksAtStage r = r ≡ stage_at
-LiesApart x v (Elects t e) r = IsInOwnRow x v t r
-LiesApart x v (TakesPage t) r = (v ≡ Pinned t) × (r ≡ stage_at)
-LiesApart x v (AwaitsPage t) r = false ≡ true
-LiesApart x v (StoresWord t page stored) r = (log_at x ≤ r) × (r < words_of x)
-LiesApart x v (StoresLength t page stored) r = r ≡ length_at
-LiesApart x v (GivesBack t page reason) r = r ≡ stage_at
-LiesApart x v (HasHanded t reason) r = r ≡ stage_at

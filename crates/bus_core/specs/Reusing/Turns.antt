@@ -14,10 +14,8 @@ use Rattle.bus_presence.specs.declared.reclaimers.Behind.{Behind}
 use Rattle.bus_presence.specs.declared.pins.Pin.{Pin}
 use Rattle.bus_presence.specs.declared.pins.Pin.TheVariants.{Away, Announcing, Validating, Pinned, Unpinning, Invalidated}
 use Rattle.bus_tenure.specs.Core.{Core, Election}
-use Rattle.bus_tenure.specs.Situations.{GivesBack, op_at, kind_at, wants_at, rest_at}
+use Rattle.bus_tenure.specs.Situations.{op_at, kind_at, wants_at, rest_at}
 use Rattle.bus_tenure.specs.Seen.{tenure_of}
-use Rattle.bus_tenure.specs.declared.pages.Page.{Page}
-use Rattle.bus_tenure.specs.declared.phases.Reason.{Reason}
 use Rattle.bus_tenure.specs.declared.turns.Turn.{Turn}
 use Rattle.bus_tenure.specs.declared.turns.Turn.TheVariants as turn
 use Rattle.bus_core.specs.Reusing.Participants.{sizes_with, log_from, place_for, Due, Pins, Reclaims, Goes, due_of, core_looked, core_going, pin_going, lost_going, reclaimer_going, answer_going}
@@ -155,10 +153,3 @@ queue_seen q (Validating t) = record q { busy = true }
 queue_seen q (Pinned t) = record q { busy = true }
 queue_seen q (Unpinning t) = record q { busy = true }
 queue_seen q (Invalidated t) = record q { busy = true }
-
--- the page is to be given back, and stands before it yet: the row of the next tenure is ready
-pub record GivesPageBack {E : Type 0} (d : Due E) : Type 0 where
-  pub tenure : ℕ
-  pub page : Page
-  pub reason : Reason
-  pub is : d ≡ Goes (GivesBack tenure page reason)

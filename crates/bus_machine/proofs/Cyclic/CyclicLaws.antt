@@ -19,7 +19,7 @@ use Rattle.bus_tenure.specs.Seen.{AwaitsItsPage}
 use Rattle.bus_tenure.specs.Situations.{Situation, IsClosed, IsIdle, IsSpent, LooksAtStage, Elects, TakesPage, AwaitsPage, StoresWord, StoresLength, GivesBack, HasHanded, situation_at}
 use Rattle.bus_tenure.specs.declared.turns.Turn.{Turn as Answered}
 use Rattle.bus_world.specs.Bus.{IsLayout}
-use Rattle.bus_world.specs.Headline.{Action, HasPut, HasClosed, IsPrefix}
+use Rattle.bus_world.specs.Headline.{Action, HasPut, HasClosed}
 use Rattle.bus_world.specs.Playing.{PutGives, CloseGives, StopGives}
 use Rattle.bus_world.specs.CyclicMachines.{CyclicMachine, CyclicTrails, CyclicReached, TurnTaken, PutTaken, CloseTaken, RecvTaken, StopTaken, IsKeptCyclic, IsOnWord, participant_going, ring_after, ring_trails, ring_reclaims, ring_actions, with_participant, participant_put, participant_closed}
 use Rattle.bus_world.specs.Turning.{number_found, owners_by, owners_after}
@@ -32,10 +32,9 @@ use Rattle.bus_world.proofs.PlayingLaws.{owners_told}
 use Rattle.bus_world.proofs.CyclicMachineFits as fits
 use Rattle.bus_world.proofs.CyclicMachineLaws.{IsCyclicLayout, IsLed, ring_led, ring_kept, turn_led, turn_owners, owners_due}
 use Rattle.bus_world.proofs.Serving.{Serves}
-use Rattle.bus_machine.specs.Proved.Cyclic.{OwnedCyclicMachine, LeadTo, AreLastTakers, IsServedCyclic, last_of, log_of}
-use Rattle.bus_machine.specs.Proved.Following.{Steps, Follows, ring_trails_grown, turn_grown, heard_grown, TurnsWithin}
+use Rattle.bus_machine.specs.Proved.Cyclic.{OwnedCyclicMachine, LeadTo, AreLastTakers, IsServedCyclic, last_of}
+use Rattle.bus_machine.specs.Proved.Following.{Steps, ring_trails_grown, turn_grown, heard_grown, TurnsWithin}
 use Rattle.bus_machine.specs.Proved.Following as following
-use Rattle.bus_machine.specs.Proved.Staying.{HasGoneOn, actions_in, stage_of}
 use Rattle.bus_machine.specs.Proved.Happening.{Happens, ParticipantDoes, ReaderDoes, TurnAnswers, RecvAnswers, core_found}
 use Rattle.bus_machine.proofs.Cyclic.LastTakers.{takers_one, last_told, last_beside, put_takes, close_takes}
 
@@ -239,42 +238,6 @@ module _ {E : Type 0} (X : Election E) (P : Protocol E (Unit {0}) ℕ) where
   module _ (z : OwnedCyclicMachine E) (s : Serves X P z.ring.layout) (h : IsServedCyclic X z) where
     pub ok : IsLayout z.ring.layout
     ok = record { senders = h.senders_few; rows = (let a = h.tenures in omega arith); capacity = (let a = h.capacity_few in omega arith) }
-
-    -- whatever happens to it
-    pub sits_after : (e : Event) (a : Answer) (z' : OwnedCyclicMachine E) → Steps X z e a z' → length z'.owners ≤ z.ring.rows → IsServedCyclic X z'
-    sits_after e a z' d few =
-        let same = event_sizes z.ring z'.ring e d.happens in
-        let l = leads_on z s ok h.rows_some h.trails h.leads e a z' d in
-        record {
-          senders_few = subst (λ x. x.senders ≤ 8) (sym same.layout) h.senders_few;
-          rows_some = subst (λ n. 2 ≤ n) (sym same.rows) h.rows_some;
-          rows_few = subst (λ n. n ≤ 8) (sym same.rows) h.rows_few;
-          capacity_few = subst (λ x. x.capacity ≤ 65536) (sym same.layout) h.capacity_few;
-          tenures = ap (λ x. x.rows) same.layout ∙ h.tenures;
-          senders = same.participants ∙ h.senders ∙ sym (ap (λ x. x.senders) same.layout);
-          owners_few = subst (λ n. length z'.owners ≤ n) (sym same.rows) few;
-          is = (led z' (subst (Serves X P) (sym same.layout) s) (subst IsLayout (sym same.layout) ok) (subst (λ n. 2 ≤ n) (sym same.rows) h.rows_some) (ring_trails_grown X z.ring e a h.trails) l).is;
-          trails = ring_trails_grown X z.ring e a h.trails;
-          leads = l;
-        }
-
-    pub promised : (T : CyclicTrails) → LeadTo X z T → IsKeptCyclic X z.ring T
-    promised T l = ring_kept X P s.laws s.owner_is s.named s.announces s.apart z.ring (layout_served z.ring.layout z.ring.rows s ok h.rows_some) T l.reached
-
-    pub follows : (e : Event) (a : Answer) (z' : OwnedCyclicMachine E) → Steps X z e a z' → IsPrefix (log_of z.ring) (log_of z'.ring) → stage_of z.ring ≤ stage_of z'.ring
-        → ((T : CyclicTrails) → LeadTo X z T → (t p : ℕ) → HasGoneOn z.ring t → actions_in t ((ring_trails_grown X z.ring e a T).actions p) ≡ actions_in t (T.actions p)) → Follows X z e a z'
-    follows e a z' d grows rises stays =
-        let same = event_sizes z.ring z'.ring e d.happens in
-        record {
-          reached = λ T l. leads_on z s ok h.rows_some T l e a z' d;
-          promised = λ T l.
-              let s' : Serves X P z'.ring.layout = subst (Serves X P) (sym same.layout) s in
-              ring_kept X P s'.laws s'.owner_is s'.named s'.announces s'.apart z'.ring (layout_served z'.ring.layout z'.ring.rows s' (subst IsLayout (sym same.layout) ok) (subst (λ n. 2 ≤ n) (sym same.rows) h.rows_some)) (ring_trails_grown X z.ring e a T)
-              (leads_on z s ok h.rows_some T l e a z' d).reached;
-          grows = grows;
-          rises = rises;
-          stays = stays;
-        }
 
     layout_h : IsCyclicLayout X P s.laws s.owner_is s.named s.announces s.apart z.ring.layout z.ring.rows
     layout_h = layout_served z.ring.layout z.ring.rows s ok h.rows_some

@@ -171,7 +171,7 @@ module _ {E : Type 0} (X : Election E) (P : Protocol E (Unit {0}) ℕ) (z : Owne
   )
 
   module _ (p : ℕ) (v : Participant E) (at : slice_get b.participants p ≡ Some v) (word : ℕ) where
-    part : Part b.layout k.V k.frames p v.core
+    part : Part (slice_index b.bases) b.layout k.V k.frames p v.core
     part = k.kept.sending.parts p v.core (ap core_in at)
 
     from_is : log_from v.core.layout v.rows ≡ from
@@ -213,7 +213,7 @@ module _ {E : Type 0} (X : Election E) (P : Protocol E (Unit {0}) ℕ) (z : Owne
     -- the page of who writes knows the length
     knows : (t : ℕ) (page : Page) (stored : ℕ) (published : Bool) → v.core.phase ≡ phase.Holding t page stored published → published ≡ false → page.words ≡ slice_index b.words 0
     knows t page stored published ph unpublished =
-        let fits = subst (Fits k.V k.frames v.core) (ph ∙ ap (phase.Holding t page stored) unpublished) part.fits in
+        let fits = subst (Fits (slice_index b.bases) k.V k.frames v.core) (ph ∙ ap (phase.Holding t page stored) unpublished) part.fits in
         fits.1.page_knows.words ∙ sym length_is
 
     unpublished_word : (t : ℕ) (page : Page) (stored : ℕ) (published : Bool) → v.core.phase ≡ phase.Holding t page stored published → situation_of X v.core ≡ StoresWord t page stored → published ≡ false

@@ -1,12 +1,7 @@
 -- Who did the same in a tenure says the same of it.
-use Rattle.std.proofs.Common.{◌≡◌, ℕ, zero, suc, ◌==◌, Bool, true, false, cond, eq-eqb, Some, List, [], ◌∷◌, filter, slice_get, arith, refl, sym, ◌∙◌, ap}
-use Rattle.bus_tenure.specs.Core.{Election}
+use Rattle.std.proofs.Common.{◌≡◌, ℕ, zero, suc, ◌==◌, Bool, true, false, cond, eq-eqb, Some, List, [], ◌∷◌, filter, slice_get, refl, sym, ◌∙◌, ap}
 use Rattle.bus_world.specs.Headline.{Action}
-use Rattle.bus_world.specs.World.{Event}
-use Rattle.bus_world.specs.declared.events.Answer.{Answer}
-use Rattle.bus_machine.specs.Proved.Cyclic.{OwnedCyclicMachine}
-use Rattle.bus_machine.specs.Proved.Following.{FollowsRefuse}
-use Rattle.bus_machine.specs.Proved.Staying.{actions_in, is_in, SaysNoMore, SaysMore}
+use Rattle.bus_machine.specs.Proved.Staying.{actions_in, is_in, SaysNoMore}
 
 -- ---- what passes a test
 module _ {A : Type 0} (p : A → Bool) where
@@ -48,15 +43,3 @@ module _ (t : ℕ) (before after : List Action) (same : actions_in t after ≡ a
     elected = λ o w. let was = done_before w.place _ w.at itself in record { place = was.0; step = w.step; found = w.found; answer = w.answer; at = was.1 };
     took = λ place w. let was = done_before place _ w.at itself in (was.0, record { found = w.found; chose = w.chose; answer = w.answer; at = was.1 });
   }
-
-pub says_more : (t : ℕ) (before after : List Action) → SaysMore t before after
-says_more t before after = record {
-  elected_late = λ o never late same. never ((says_no_more t before after same).elected o late);
-  taken_late = λ place never late same. let was = (says_no_more t before after same).took place late in never was.0 was.1;
-}
-
--- ---- what follows no bus
-pub follows_refused : {E : Type 0} (X : Election E) (old : OwnedCyclicMachine E) (e : Event) (a : Answer) (new : OwnedCyclicMachine E) → FollowsRefuse X old e a new
-follows_refused X old e a new = record {
-  falls = λ less f. let more = f.rises in omega arith;
-}

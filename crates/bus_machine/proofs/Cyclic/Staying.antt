@@ -39,7 +39,7 @@ use Rattle.bus_world.specs.World.{Event, Put, Close, Turn, Recv, Stop}
 use Rattle.bus_world.specs.CyclicProtocols.{CyclicProtocol, IsKeptProtocol, actions_with, due_actions}
 use Rattle.bus_world.specs.declared.events.Answer.{Answer}
 use Rattle.bus_world.specs.declared.events.Answer.TheVariants as answer
-use Rattle.bus_world.proofs.CyclicMachineLaws.{IsCyclicLayout, IsLed, ring_led, participant_there, same_register, due_goes}
+use Rattle.bus_world.proofs.CyclicMachineLaws.{IsCyclicLayout, IsLed, participant_there, same_register, due_goes}
 use Rattle.bus_world.proofs.TenuresLaws as tenures
 use Rattle.bus_world.proofs.CyclicProtocolLaws.{HasKept, led_kept, yard_promised}
 use Rattle.bus_machine.specs.Proved.Following.{StepsWithin, TurnsWithin, ring_trails_grown, turn_grown}
@@ -116,12 +116,12 @@ module _ {E : Type 0} (X : Election E) (P : Protocol E (Unit {0}) ℕ) (laws : L
     old : y.senders p ≡ Some v.core
     old = ap core_in at
 
-    part : Part b.layout k.V k.frames p v.core
+    part : Part (slice_index b.bases) b.layout k.V k.frames p v.core
     part = k.kept.sending.parts p v.core old
 
     -- between turns no page is under way
     no_wait : (t : ℕ) → situation_of X v.core ≡ AwaitsPage t → ⊥
-    no_wait t i = subst (Fits k.V k.frames v.core) (tells X v.core (AwaitsPage t) i) part.fits
+    no_wait t i = subst (Fits (slice_index b.bases) k.V k.frames v.core) (tells X v.core (AwaitsPage t) i) part.fits
 
     -- who holds the page of a tenure finds it out
     held_stage : (t : ℕ) (page : Page) (stored : ℕ) (published : Bool) → v.core.phase ≡ phase.Holding t page stored published → stage_of b ≡ 2 * t + 1
@@ -189,7 +189,7 @@ module _ {E : Type 0} (X : Election E) (P : Protocol E (Unit {0}) ℕ) (laws : L
         leaves_stage (Store record { 0 = log_from v.core.layout v.rows + place } (slice_index (frame_words (frame_of v.core.queue t)) stored)) (inr (past_rows v.core.layout.senders (v.rows * v.core.layout.width) place)) low
     goes_rises (StoresLength t page stored) i low = leaves_stage (Store record { 0 = length_at } (page.words + frame_len v.core)) (inr length_apart) low
     goes_rises (GivesBack t page reason) i low = let at = tells X v.core (GivesBack t page reason) i in let was = held_stage t page at.0 at.1 at.2 in stores_stage (2 * t + 2) (omega arith) low
-    goes_rises (HasHanded t reason) i low = absurd (subst (Fits k.V k.frames v.core) (tells X v.core (HasHanded t reason) i) part.fits)
+    goes_rises (HasHanded t reason) i low = absurd (subst (Fits (slice_index b.bases) k.V k.frames v.core) (tells X v.core (HasHanded t reason) i) part.fits)
 
     due_rises : (d : Due E) → due X v ≡ d → Rises (op_due X v d word)
     due_rises (Pins o) e low = pin_rises o (pins_due _ v.reclaimer (situation_of X v.core) o e) low
@@ -219,7 +219,7 @@ module _ {E : Type 0} (X : Election E) (P : Protocol E (Unit {0}) ℕ) (laws : L
     in_time (StoresWord t page stored) i u e = let same : t ≡ u = same_Some _ _ e in let by = tells X v.core (StoresWord t page stored) i in subst (λ n. stage_of b / 2 < n + b.rows) same (held_in_time t page stored by.0 by.1)
     in_time (StoresLength t page stored) i u e = let same : t ≡ u = same_Some _ _ e in let by = tells X v.core (StoresLength t page stored) i in subst (λ n. stage_of b / 2 < n + b.rows) same (held_in_time t page stored by.0 by.1)
     in_time (GivesBack t page reason) i u e = let same : t ≡ u = same_Some _ _ e in let by = tells X v.core (GivesBack t page reason) i in subst (λ n. stage_of b / 2 < n + b.rows) same (held_in_time t page by.0 by.1 by.2)
-    in_time (HasHanded t reason) i u e = absurd (subst (Fits k.V k.frames v.core) (tells X v.core (HasHanded t reason) i) part.fits)
+    in_time (HasHanded t reason) i u e = absurd (subst (Fits (slice_index b.bases) k.V k.frames v.core) (tells X v.core (HasHanded t reason) i) part.fits)
 
     due_apart : (t : ℕ) → HasGoneOn b t → (told : Answered) (d : Due E) → due X v ≡ d → actions_in t (due_actions X b.layout b.rows (yard_of b None []) v.core d word told) ≡ []
     due_apart t gone told (Pins o) e = refl
@@ -266,22 +266,3 @@ module _ {E : Type 0} (X : Election E) (P : Protocol E (Unit {0}) ℕ) (laws : L
   event_stays t gone (Turn p word) a s = event_turn_stays t gone p word (participant_going b p) refl a s
   event_stays t gone (Recv r) a s = refl
   event_stays t gone (Stop p) a s = refl
-
--- ---- of a history of turns, as another crate has it
-module _ {E : Type 0} (X : Election E) (P : Protocol E (Unit {0}) ℕ) (laws : Laws X.op X.fed P OneOwner) (owner_is : (e : E) → X.owner e ≡ P.output e)
-    (named : (e : E) (word : ℕ) → is_some (X.kind_of e) ≡ is_some (X.op e word)) (announces : (e : E) → P.has_begun e ≡ false → X.kind_of e ≡ Some kind.Announce) (apart : (e : E) → X.kind_of e ≡ Some kind.TakePage → ⊥)
-    (b : CyclicMachine E) (x : IsCyclicLayout X P laws owner_is named announces apart b.layout b.rows) (T : CyclicTrails) (reached : CyclicReached X b T) (p : ℕ) (v : Participant E) (goes : participant_going b p ≡ Some v) (word : ℕ) where
-  led : IsLed X P laws owner_is named announces apart b T
-  led = ring_led X P laws owner_is named announces apart b x T reached
-
-  -- the turn that this sender takes lets the stage rise, ..
-  pub taken_rises : IsOnWord b (op_due X v (due X v) word) → stage_of b ≤ stage_of (ring_after X b p v (due X v) word)
-  taken_rises = turn_rises X P laws owner_is named announces apart b x T led p v (participant_there b p v goes) word
-
-  -- .. and adds no step in a tenure whose row has gone on
-  pub taken_stays : (t : ℕ) → HasGoneOn b t → (told : Answered) (s : ℕ) → actions_in t (ring_actions X b p v (due X v) word told T.actions s) ≡ actions_in t (T.actions s)
-  taken_stays = turn_stays X P laws owner_is named announces apart b x T led p v (participant_there b p v goes) word
-
-  -- whatever it is answered: its action is in none
-  pub taken_apart : (t : ℕ) → HasGoneOn b t → (told : Answered) → actions_in t (due_actions X b.layout b.rows (yard_of b None []) v.core (due X v) word told) ≡ []
-  taken_apart t gone told = due_apart X P laws owner_is named announces apart b x T led p v (participant_there b p v goes) word t gone told (due X v) refl

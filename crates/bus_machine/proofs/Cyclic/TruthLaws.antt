@@ -38,7 +38,7 @@ use Rattle.bus_world.proofs.CyclicProtocolLaws.{HasKept, led_kept, words_read}
 use Rattle.bus_machine.specs.Proved.Cyclic.{OwnedCyclicMachine, LeadTo, IsServedCyclic, log_of}
 use Rattle.bus_machine.specs.Proved.Following.{Steps, ring_trails_grown, turn_grown}
 use Rattle.bus_machine.specs.Proved.Happening.{TurnAnswers}
-use Rattle.bus_machine.specs.Proved.Truth.{LossesAreSeen, ParticipantTells, TurnIsTrue, EventIsTrue, TellsTrue, LossesRefuse, AnswersRefuse}
+use Rattle.bus_machine.specs.Proved.Truth.{LossesAreSeen, ParticipantTells, TurnIsTrue, EventIsTrue}
 use Rattle.bus_machine.proofs.Cyclic.CyclicLaws.{layout_served, led, ok, leads_on, event_sizes, kept_at}
 use Rattle.bus_machine.proofs.Cyclic.LossLaws.{own_actions, loss_still, ring_seen}
 
@@ -88,7 +88,7 @@ module _ {E : Type 0} (X : Election E) (P : Protocol E (Unit {0}) ℕ) (z : Owne
     abbrev c : Core E
     c = v.core
 
-    part : Part b.layout k.V k.frames p c
+    part : Part (slice_index b.bases) b.layout k.V k.frames p c
     part = k.kept.sending.parts p c (ap core_in at)
 
     abbrev told : Situation E → Answered
@@ -129,7 +129,7 @@ module _ {E : Type 0} (X : Election E) (P : Protocol E (Unit {0}) ℕ) (z : Owne
     module _ (t : ℕ) (page : Page) (stored : ℕ) where
       delivers : c.phase ≡ phase.Holding t page stored true → True (GivesBack t page Sent)
       delivers is own =
-          let fits = subst (Fits k.V k.frames c) is part.fits in
+          let fits = subst (Fits (slice_index b.bases) k.V k.frames c) is part.fits in
           by_closing (is_closing c.queue.phase) refl fits.1.front fits.1.frames_are (some_messages c.queue.phase (length c.queue.messages) fits.0.something)
         where
           by_closing : (q : Bool) → is_closing c.queue.phase ≡ q → (front : List Frame) → k.frames ≡ front ++ frame_of c.queue t ∷ [] → (is_closing c.queue.phase ≡ false → 0 < length c.queue.messages)
@@ -149,7 +149,7 @@ module _ {E : Type 0} (X : Election E) (P : Protocol E (Unit {0}) ℕ) (z : Owne
 
       is_full : c.phase ≡ phase.Holding t page stored false → has_room c page ≡ false → True (GivesBack t page NoRoom)
       is_full is no_room own =
-          let writing = (subst (Fits k.V k.frames c) is part.fits).1 in
+          let writing = (subst (Fits (slice_index b.bases) k.V k.frames c) is part.fits).1 in
           let words_are = writing.page_knows.words in
           let past = leb-false (page.words + frame_len c) c.layout.capacity no_room in
           let capacity_is = ap (λ w. w.capacity) part.layout in
@@ -166,9 +166,9 @@ module _ {E : Type 0} (X : Election E) (P : Protocol E (Unit {0}) ℕ) (z : Owne
     true_at : (ph : Phase E) → c.phase ≡ ph → True (situation_at X c ph)
     true_at phase.Resting is = rest_true
     true_at (phase.Electing t e) is = elect_true t e
-    true_at (phase.Taken t) is = absurd (subst (Fits k.V k.frames c) is part.fits)
+    true_at (phase.Taken t) is = absurd (subst (Fits (slice_index b.bases) k.V k.frames c) is part.fits)
     true_at (phase.Holding t page stored published) is = hold_true t page stored published is
-    true_at (phase.Giving t reason) is = absurd (subst (Fits k.V k.frames c) is part.fits)
+    true_at (phase.Giving t reason) is = absurd (subst (Fits (slice_index b.bases) k.V k.frames c) is part.fits)
 
     -- ---- whatever is due
     abbrev answered : Due E → Answered
@@ -223,43 +223,3 @@ module _ {E : Type 0} (X : Election E) (P : Protocol E (Unit {0}) ℕ) (z : Owne
       turn_true p word (participant_going b p) refl a d.answers (λ t place. kept.kept.by.promises.took_own t p place)
   event_true (Recv r) a z' d = tt
   event_true (Stop p) a z' d = tt
-
--- ---- of what a program holds
-module _ {E : Type 0} (X : Election E) (P : Protocol E (Unit {0}) ℕ) (z : OwnedCyclicMachine E) (s : Serves X P z.ring.layout) (h : IsServedCyclic X z) (now : OwnedCyclicMachine E) (is : z ≡ now) where
-  pub tells_true : (e : Event) (a : Answer) (new : OwnedCyclicMachine E) → Steps X now e a new → TellsTrue X now e a
-  tells_true = subst (λ y. (e : Event) (a : Answer) (new : OwnedCyclicMachine E) → Steps X y e a new → TellsTrue X y e a) is
-      (λ e a new d. record { told = λ T l. event_true X P z s (ok X P z s h) h.rows_some T l e a new d })
-
-  pub losses_seen : (T : CyclicTrails) → LeadTo X now T → LossesAreSeen now.ring T.actions
-  losses_seen = subst (λ y. (T : CyclicTrails) → LeadTo X y T → LossesAreSeen y.ring T.actions) is (λ T l. seen X P z s (ok X P z s h) h.rows_some T l)
-
--- ---- what is refused
-nothing_there : (i : ℕ) (d : Action) → slice_get [] i ≡ Some d → ⊥
-nothing_there i d e = cc
-
-none_spelled : (frames : List Frame) → log_words frames ≡ [] → frames ≡ []
-none_spelled [] e = refl
-none_spelled (f ∷ frames) e = absurd cc
-
-never_last : (front : List Frame) (w : Frame) → front ++ w ∷ [] ≡ [] → ⊥
-never_last [] w e = cc
-never_last (f ∷ front) w e = cc
-
-module _ {E : Type 0} (b : CyclicMachine E) where
-  pub losses_refused : LossesRefuse b
-  losses_refused = record {
-    idle_loser = λ D p v o at lost none l. let w = l.seen p v o at lost in nothing_there w.elected.place _ (ap (λ d. slice_get d w.elected.place) (sym none) ∙ w.elected.at);
-    own_loser = λ D p v o at lost same l. (l.seen p v o at lost).other same;
-    wrong_owner = λ D p v o t u at lost parts only apart l. let w = l.seen p v o at lost in
-        apart (only o.0 (subst (λ r. Elected (D p) r o.0) (unpinning_is w.tenure t (sym w.parts ∙ parts)) w.elected));
-  }
-
-  pub answers_refused : (p : ℕ) (c : Core E) (actions : List Action) → AnswersRefuse b p c actions
-  answers_refused p c actions = record {
-    lost_unseen = λ t o unseen told. unseen told.0;
-    lost_to_itself = λ t o same told. told.1 same;
-    own_untaken = λ t untaken told. untaken told.1.0 told.1.1;
-    delivered_nothing = λ t first last empty told.
-        never_last told.earlier told.frame (none_spelled (told.earlier ++ told.frame ∷ []) (told.words_are ∙ empty));
-    full_with_room = λ room told. omega arith;
-  }

@@ -12,13 +12,13 @@ use Rattle.bus_machine.specs.Proved.Cyclic.{OwnedCyclicMachine}
 use Rattle.bus_machine.specs.Proved.Following.{Steps, ring_trails_grown}
 use Rattle.bus_machine.specs.Machine.{Machine, Happens, Trails, trails_grown}
 
--- the bus with a row for each tenure
-abbrev pub of_bus : {E : Type 0} → Layout → Bus E → Machine E
-of_bus x b = record { layout = x; reuse = None; words = b.side.words; home = b.side.home; senders = map apart b.side.senders; receivers = b.receivers; stopped = b.stopped; owners = b.side.owners }
+-- the bus with a row for each tenure, of a sitting that began with these numbers
+abbrev pub of_bus : {E : Type 0} → List ℕ → Layout → Bus E → Machine E
+of_bus bases x b = record { layout = x; reuse = None; bases = bases; words = b.side.words; home = b.side.home; senders = map apart b.side.senders; receivers = b.receivers; stopped = b.stopped; owners = b.side.owners }
 
 -- the bus whose rows are used again, with who took the last pages
 abbrev pub of_ring : {E : Type 0} → CyclicMachine E → List ℕ → Machine E
-of_ring b owners = record { layout = b.layout; reuse = Some b.rows; words = b.words; home = b.home; senders = map again b.participants; receivers = b.receivers; stopped = b.stopped; owners = owners }
+of_ring b owners = record { layout = b.layout; reuse = Some b.rows; bases = b.bases; words = b.words; home = b.home; senders = map again b.participants; receivers = b.receivers; stopped = b.stopped; owners = owners }
 
 abbrev pub of_cyclic : {E : Type 0} → OwnedCyclicMachine E → Machine E
 of_cyclic z = of_ring z.ring z.owners
@@ -31,16 +31,16 @@ ring_trails T = record { pins = T.pins; reclaims = T.reclaims; actions = T.actio
 
 -- ---- one event
 -- with a row for each tenure it happens to that bus, is answered alike, and adds the same to the trails
-pub record IsPlainEvent {E : Type 0} (X : Election E) (x : Layout) (b : Bus E) (e : Event) (a : Answer) (m : Machine E) : Type 0 where
+pub record IsPlainEvent {E : Type 0} (X : Election E) (bases : List ℕ) (x : Layout) (b : Bus E) (e : Event) (a : Answer) (m : Machine E) : Type 0 where
   pub bus : Bus E
-  pub is : m ≡ of_bus x bus
+  pub is : m ≡ of_bus bases x bus
   pub event : IsEvent e
   pub happens : PlainHappens X b e bus
   pub answers : Answers X b e a bus
-  pub trails : (T : Trails) → plain_grown X b e a (plain_trails T) ≡ plain_trails (trails_grown X (of_bus x b) e a T)
+  pub trails : (T : Trails) → plain_grown X b e a (plain_trails T) ≡ plain_trails (trails_grown X (of_bus bases x b) e a T)
 
 abbrev pub HappensAtNone : {E : Type 0} → Election E → Type 0
-HappensAtNone {E} X = (x : Layout) (b : Bus E) (e : Event) (a : Answer) (m : Machine E) → Happens X (of_bus x b) e a m → IsPlainEvent X x b e a m
+HappensAtNone {E} X = (bases : List ℕ) (x : Layout) (b : Bus E) (e : Event) (a : Answer) (m : Machine E) → Happens X (of_bus bases x b) e a m → IsPlainEvent X bases x b e a m
 
 -- each sender has the sizes of the machine
 abbrev pub AreSized : {E : Type 0} → CyclicMachine E → Type 0
@@ -61,8 +61,8 @@ HappensAtSome {E} X = (z : OwnedCyclicMachine E) (e : Event) (a : Answer) (m : M
 -- ---- what is reached
 pub record IsPlain {E : Type 0} (X : Election E) (m : Machine E) (T : Trails) : Type 0 where
   pub bus : Bus E
-  pub is : m ≡ of_bus m.layout bus
-  pub reached : PlainReached X m.layout bus (plain_trails T)
+  pub is : m ≡ of_bus m.bases m.layout bus
+  pub reached : PlainReached X m.bases m.layout bus (plain_trails T)
 
 pub record IsCyclicOf {E : Type 0} (X : Election E) (m : Machine E) (T : Trails) : Type 0 where
   pub bus : OwnedCyclicMachine E

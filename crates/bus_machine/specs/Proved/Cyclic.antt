@@ -1,36 +1,20 @@
 -- The bus whose rows of words are used again, as a program holds it.
-use Rattle.std.specs.Prelude.{◌≡◌, ℕ, ◌-◌, ◌≤◌, Bool, Option, List, drop, length, slice_index}
+use Rattle.std.specs.Prelude.{◌≡◌, ℕ, ◌-◌, ◌≤◌, List, drop, length, slice_index}
 use Rattle.bus_register.specs.declared.limits.TheConstants.{MOST_SENDERS, MOST_RECEIVERS, MOST_ROUNDS, LEAST_LOG_WORDS, MOST_LOG_WORDS, TENURES}
-use Rattle.bus_register.specs.Protocol.{Protocol}
-use Rattle.bus_adoptcommit.specs.declared.verdicts.Verdict.{Verdict}
-use Rattle.bus_deliverylog.specs.Receiving.{Receiving}
 use Rattle.bus_core.specs.declared.limits.TheConstants.{LEAST_ROWS_AGAIN, MOST_ROWS_AGAIN}
 use Rattle.bus_core.specs.Reusing.Participants.{log_from}
-use Rattle.bus_core.specs.Reusing.Turns.{Participant}
-use Rattle.bus_tenure.specs.Core.{Election, Layout}
-use Rattle.bus_tenure.specs.Elections.{layout_with}
-use Rattle.bus_tenure.specs.declared.pages.Page.{Page}
+use Rattle.bus_tenure.specs.Core.{Election}
 use Rattle.bus_world.specs.Headline.{Action}
 use Rattle.bus_world.specs.Log.{words_read_from}
-use Rattle.bus_world.specs.Playing.{Within, Beyond}
-use Rattle.bus_world.specs.CyclicMachines.{CyclicMachine, CyclicTrails, CyclicReached, IsCyclic, IsNewCyclic}
+use Rattle.bus_world.specs.Playing.{Within}
+use Rattle.bus_world.specs.CyclicMachines.{CyclicMachine, CyclicTrails, CyclicReached, IsCyclic}
 use Rattle.bus_world.specs.Trails.{Takers}
 use Rattle.bus_world.specs.declared.shapes.Shape.{Shape}
-use Rattle.bus_world.specs.declared.shapes.MakeFault.{MakeFault}
-use Rattle.bus_world.specs.declared.shapes.MakeFault.TheVariants as make
 
 -- with who took the last pages, the oldest first
 pub record OwnedCyclicMachine (E : Type 0) : Type 0 where
   pub ring : CyclicMachine E
   pub owners : List ℕ
-
--- the sizes of a bus of this shape, over such ratifiers: it has up to 2^40 tenures
-abbrev pub layout_of : {S : Type 0} → Protocol S Bool Verdict → Shape → Layout
-layout_of P shape = layout_with P shape.senders shape.rounds TENURES shape.log_words
-
--- the bus of these parts
-abbrev pub cyclic_bus : {E : Type 0} → Layout → ℕ → List ℕ → Option Page → List (Participant E) → List Receiving → List Bool → List ℕ → OwnedCyclicMachine E
-cyclic_bus x rows words home participants receivers stopped owners = record { ring = record { layout = x; rows = rows; words = words; home = home; participants = participants; receivers = receivers; stopped = stopped }; owners = owners }
 
 -- the words of its log below the length
 abbrev pub log_of : {E : Type 0} → CyclicMachine E → List ℕ
@@ -44,25 +28,6 @@ pub record IsServed (shape : Shape) : Type 0 where
   pub rounds : Within 1 MOST_ROUNDS shape.rounds
   pub rows : Within LEAST_ROWS_AGAIN MOST_ROWS_AGAIN shape.rows
   pub log_words : Within LEAST_LOG_WORDS MOST_LOG_WORDS shape.log_words
-
--- why no bus is made: each cause where it holds and no earlier one
-abbrev pub MakeRefused : Shape → MakeFault → Type 0
-MakeRefused shape make.Senders = Beyond 1 MOST_SENDERS shape.senders
-MakeRefused shape make.Receivers = Within 1 MOST_SENDERS shape.senders × Beyond 1 MOST_RECEIVERS shape.receivers
-MakeRefused shape make.Rounds = Within 1 MOST_SENDERS shape.senders × Within 1 MOST_RECEIVERS shape.receivers × Beyond 1 MOST_ROUNDS shape.rounds
-MakeRefused shape make.Rows = Within 1 MOST_SENDERS shape.senders × Within 1 MOST_RECEIVERS shape.receivers × Within 1 MOST_ROUNDS shape.rounds × Beyond LEAST_ROWS_AGAIN MOST_ROWS_AGAIN shape.rows
-MakeRefused shape make.LogWords =
-    Within 1 MOST_SENDERS shape.senders × Within 1 MOST_RECEIVERS shape.receivers × Within 1 MOST_ROUNDS shape.rounds × Within LEAST_ROWS_AGAIN MOST_ROWS_AGAIN shape.rows × Beyond LEAST_LOG_WORDS MOST_LOG_WORDS shape.log_words
-MakeRefused shape make.NoMemory = IsServed shape
-
--- a new bus of this shape
-pub record IsMade {E : Type 0} (x : Layout) (shape : Shape) (z : OwnedCyclicMachine E) : Type 0 where
-  pub served : IsServed shape
-  pub layout : z.ring.layout ≡ x
-  pub rows : z.ring.rows ≡ shape.rows
-  pub new : IsNewCyclic z.ring
-  pub senders : length z.ring.participants ≡ shape.senders
-  pub receivers : length z.ring.receivers ≡ shape.receivers
 
 -- ---- who took the last pages
 -- the last of a list, at most so many

@@ -3,17 +3,15 @@ use Rattle.std.specs.Prelude.{◌≡◌, ℕ, ◌<◌, ◌≤◌, Option, Some, 
 use Rattle.bus_deliverylog.specs.declared.receiving.RecvTurn.{RecvTurn}
 use Rattle.bus_core.specs.Reusing.Turns.{Participant, due, op_next}
 use Rattle.bus_tenure.specs.Core.{Election}
-use Rattle.bus_world.specs.Headline.{IsPrefix}
-use Rattle.bus_world.specs.CyclicMachines.{CyclicMachine, CyclicTrails, IsOnWord, IsKeptCyclic, participant_going, ring_trails, ring_reclaims, ring_actions}
+use Rattle.bus_world.specs.CyclicMachines.{CyclicMachine, CyclicTrails, IsOnWord, participant_going, ring_trails, ring_reclaims, ring_actions}
 use Rattle.bus_world.specs.Trails.{put_actions, close_actions}
 use Rattle.bus_world.specs.Turning.{owners_by}
 use Rattle.bus_world.specs.World.{Event, Put, Close, Turn, Recv, Stop, IsEvent}
 use Rattle.bus_world.specs.CyclicProtocols.{actions_with, answers_with}
 use Rattle.bus_world.specs.declared.events.Answer.{Answer}
 use Rattle.bus_world.specs.declared.events.Answer.TheVariants as answer
-use Rattle.bus_machine.specs.Proved.Cyclic.{OwnedCyclicMachine, LeadTo, last_of, log_of}
+use Rattle.bus_machine.specs.Proved.Cyclic.{OwnedCyclicMachine, last_of}
 use Rattle.bus_machine.specs.Proved.Happening.{Happens, Answers}
-use Rattle.bus_machine.specs.Proved.Staying.{HasGoneOn, actions_in, stage_of}
 
 -- the trails after a turn of the sender that there is, by its answer
 abbrev pub turn_grown : {E : Type 0} → Election E → CyclicMachine E → ℕ → Option (Participant E) → ℕ → Answer → CyclicTrails → CyclicTrails
@@ -76,18 +74,3 @@ pub record Steps {E : Type 0} (X : Election E) (old : OwnedCyclicMachine E) (e :
   pub happens : Happens X old.ring e new.ring
   pub answers : Answers X old.ring e a new.ring
   pub owners : new.owners ≡ owners_with old e a
-
--- Whatever trails led to the old bus, with what this event and its answer add they lead to the new one, and the promise holds of them.
--- The log below the length is extended, and never otherwise changed. The stage never falls; and of a tenure whose row had gone on before,
--- no sender has an action more: no step of its election, and none of who holds its page. So what was elected there stays as it is.
-pub record Follows {E : Type 0} (X : Election E) (old : OwnedCyclicMachine E) (e : Event) (a : Answer) (new : OwnedCyclicMachine E) : Type 0 where
-  pub reached : (T : CyclicTrails) → LeadTo X old T → LeadTo X new (ring_trails_grown X old.ring e a T)
-  pub promised : (T : CyclicTrails) → LeadTo X old T → IsKeptCyclic X new.ring (ring_trails_grown X old.ring e a T)
-  pub grows : IsPrefix (log_of old.ring) (log_of new.ring)
-  pub rises : stage_of old.ring ≤ stage_of new.ring
-  pub stays : (T : CyclicTrails) → LeadTo X old T → (t s : ℕ) → HasGoneOn old.ring t → actions_in t ((ring_trails_grown X old.ring e a T).actions s) ≡ actions_in t (T.actions s)
-
--- ---- what follows no bus
-pub record FollowsRefuse {E : Type 0} (X : Election E) (old : OwnedCyclicMachine E) (e : Event) (a : Answer) (new : OwnedCyclicMachine E) : Type 0 where
-  -- the stage falls
-  pub falls : stage_of new.ring < stage_of old.ring → ¬ Follows X old e a new

@@ -4,13 +4,12 @@ use Rattle.bus_deliverylog.specs.Receiving.{Receiving}
 use Rattle.bus_deliverylog.specs.declared.receiving.RecvTurn.{RecvTurn}
 use Rattle.bus_core.specs.Reusing.Turns.{Participant, due, op_due, answer_due, queue_seen}
 use Rattle.bus_tenure.specs.Core.{Core, Election}
-use Rattle.bus_world.specs.Playing.{PutGives, CloseGives, StopGives, PutRefused, CloseRefused, TurnRefused, StopRefused, RecvRefused, UnlessStopped}
+use Rattle.bus_world.specs.Playing.{PutGives, CloseGives, StopGives}
 use Rattle.bus_world.specs.CyclicMachines.{CyclicMachine, participant_going, ring_after, participant_put, participant_closed, with_participant}
 use Rattle.bus_world.specs.Turning.{number_found}
-use Rattle.bus_world.specs.World.{Event, Put, Close, Turn, Recv, Stop, is_set, RecvDoes}
+use Rattle.bus_world.specs.World.{Event, Put, Close, Turn, Recv, Stop, RecvDoes}
 use Rattle.bus_world.specs.declared.events.Answer.{Answer}
 use Rattle.bus_world.specs.declared.events.Answer.TheVariants as answer
-use Rattle.bus_world.specs.declared.events.StepFault.{StepFault}
 
 -- ---- one event
 -- of a sender that goes on: where there is none, or it has stopped, nothing happens
@@ -53,11 +52,3 @@ Answers X old (Close s) a new = CloseGives (core_found (participant_going old s)
 Answers X old (Turn s word) a new = TurnAnswers X old.words (participant_going old s) word a
 Answers X old (Recv r) a new = RecvAnswers old r (slice_get old.receivers r) a new
 Answers X old (Stop s) a new = StopGives (core_found (participant_going old s)) × (a ≡ answer.Stopped)
-
--- ---- why an event is refused: each fault where its cause holds and no earlier one
-abbrev pub Refused : {E : Type 0} → CyclicMachine E → Event → StepFault → Type 0
-Refused b (Put s bytes) why = UnlessStopped (is_set (slice_get b.stopped s)) (core_found (slice_get b.participants s)) why (PutRefused (core_found (slice_get b.participants s)) (length bytes) why)
-Refused b (Close s) why = UnlessStopped (is_set (slice_get b.stopped s)) (core_found (slice_get b.participants s)) why (CloseRefused (core_found (slice_get b.participants s)) why)
-Refused b (Turn s word) why = UnlessStopped (is_set (slice_get b.stopped s)) (core_found (slice_get b.participants s)) why (TurnRefused (core_found (slice_get b.participants s)) why)
-Refused b (Recv r) why = RecvRefused (slice_get b.receivers r) why
-Refused b (Stop s) why = UnlessStopped (is_set (slice_get b.stopped s)) (core_found (slice_get b.participants s)) why (StopRefused (core_found (slice_get b.participants s)) why)

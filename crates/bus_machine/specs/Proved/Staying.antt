@@ -29,8 +29,3 @@ pub record SaysNoMore (t : ℕ) (before after : List Action) : Type 0 where
   pub announced : Announced after t → Announced before t
   pub elected : (o : ℕ) → Elected after t o → Elected before t o
   pub took : (place : ℕ) → Took after t place → (earlier : ℕ) × Took before t earlier
-
--- Actions in a tenure are not the same as before where a sender has seen its election end since, or has taken its page.
-pub record SaysMore (t : ℕ) (before after : List Action) : Type 0 where
-  pub elected_late : (o : ℕ) → ¬ Elected before t o → Elected after t o → actions_in t after ≢ actions_in t before
-  pub taken_late : (place : ℕ) → ((k : ℕ) → ¬ Took before t k) → Took after t place → actions_in t after ≢ actions_in t before

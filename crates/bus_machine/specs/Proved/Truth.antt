@@ -4,7 +4,7 @@ use Rattle.bus_register.specs.declared.registers.SenderNo.{SenderNo}
 use Rattle.bus_core.specs.Reusing.Turns.{Participant}
 use Rattle.bus_presence.specs.declared.pins.Pin.{Pin}
 use Rattle.bus_presence.specs.declared.pins.Pin.TheVariants.{Unpinning}
-use Rattle.bus_tenure.specs.Core.{Core, Election, frame_len}
+use Rattle.bus_tenure.specs.Core.{Core, frame_len}
 use Rattle.bus_tenure.specs.declared.turns.Turn.{Turn as Answered}
 use Rattle.bus_tenure.specs.declared.turns.Turn.TheVariants as turn
 use Rattle.bus_world.specs.Headline.{Action, Elected, Took}
@@ -13,8 +13,7 @@ use Rattle.bus_world.specs.Telling.{HasDelivered}
 use Rattle.bus_world.specs.World.{Event, Put, Close, Turn, Recv, Stop}
 use Rattle.bus_world.specs.declared.events.Answer.{Answer}
 use Rattle.bus_world.specs.declared.events.Answer.TheVariants as answer
-use Rattle.bus_machine.specs.Proved.Cyclic.{OwnedCyclicMachine, LeadTo, log_of}
-use Rattle.bus_machine.specs.Proved.Following.{ring_trails_grown}
+use Rattle.bus_machine.specs.Proved.Cyclic.{log_of}
 
 -- ---- what a sender remembers that has lost a tenure
 -- sender s, whose pin has come so far, parts from a tenure, whose election it saw end with this owner by a step of its own; and it is
@@ -64,29 +63,3 @@ EventIsTrue b (Close s) a T = Unit {0}
 EventIsTrue b (Turn s word) a T = TurnIsTrue b s (participant_going b s) (T.actions s) a
 EventIsTrue b (Recv r) a T = Unit {0}
 EventIsTrue b (Stop s) a T = Unit {0}
-
--- Whatever trails led to the old bus: with what this event and its answer add to them, what the answer tells is so.
-pub record TellsTrue {E : Type 0} (X : Election E) (old : OwnedCyclicMachine E) (e : Event) (a : Answer) : Type 0 where
-  pub told : (T : CyclicTrails) → LeadTo X old T → EventIsTrue old.ring e a (ring_trails_grown X old.ring e a T)
-
--- ---- what no such bus is
-pub record LossesRefuse {E : Type 0} (b : CyclicMachine E) : Type 0 where
-  -- a sender remembers an owner, and has done nothing
-  pub idle_loser : (D : ℕ → List Action) (s : ℕ) (v : Participant E) (o : SenderNo) → slice_get b.participants s ≡ Some v → v.lost ≡ Some o → D s ≡ [] → ¬ LossesAreSeen b D
-  -- or remembers itself
-  pub own_loser : (D : ℕ → List Action) (s : ℕ) (v : Participant E) (o : SenderNo) → slice_get b.participants s ≡ Some v → v.lost ≡ Some o → o.0 ≡ s → ¬ LossesAreSeen b D
-  -- or another owner than that with which it saw the election of its tenure end
-  pub wrong_owner : (D : ℕ → List Action) (s : ℕ) (v : Participant E) (o : SenderNo) (t u : ℕ) → slice_get b.participants s ≡ Some v → v.lost ≡ Some o → v.pin ≡ Unpinning t → ((w : ℕ) → Elected (D s) t w → w ≡ u) → o.0 ≢ u → ¬ LossesAreSeen b D
-
--- an answer that names another owner, or a sender that took no page, or more than the log spells
-pub record AnswersRefuse {E : Type 0} (b : CyclicMachine E) (s : ℕ) (c : Core E) (actions : List Action) : Type 0 where
-  -- Lost to an owner with which it saw no election of this tenure end
-  pub lost_unseen : (t : ℕ) (o : SenderNo) → ¬ Elected actions t o.0 → ¬ ParticipantTells b s c actions (turn.Lost t o)
-  -- Lost to itself
-  pub lost_to_itself : (t : ℕ) (o : SenderNo) → o.0 ≡ s → ¬ ParticipantTells b s c actions (turn.Lost t o)
-  -- Own of a tenure whose page it did not take
-  pub own_untaken : (t : ℕ) → ((place : ℕ) → ¬ Took actions t place) → ¬ ParticipantTells b s c actions (turn.Own t)
-  -- Delivered with an empty log
-  pub delivered_nothing : (t first last : ℕ) → log_of b ≡ [] → ¬ ParticipantTells b s c actions (turn.Delivered t first last)
-  -- Full where there is room
-  pub full_with_room : length (log_of b) + frame_len c ≤ b.layout.capacity → ¬ ParticipantTells b s c actions turn.Full

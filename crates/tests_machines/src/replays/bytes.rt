@@ -112,7 +112,7 @@ fn cut_and_replaced_bytes(rt: HostRuntime) {
             replays(&rt, script.as_slice(), &mut answered);
         }
     }
-    assert_eq!(rt; answered.done, 169);
-    assert_eq!(rt; answered.refused, 1770);
-    assert_eq!(rt; answered.sum, 0x3ea3_90fb_6637_4936);
+    assert_eq!(rt; answered.done, 170);
+    assert_eq!(rt; answered.refused, 1769);
+    assert_eq!(rt; answered.sum, 0x357d_0852_3117_2d18);
 }

@@ -38,7 +38,7 @@ fn cyclic_limits(rt: HostRuntime) {
     ] {
         refuses(&rt, script, "line 1: Rows\n");
     }
-    refuses(&rt, b"cycle 9 1 1 9 16\n", "line 1: Senders\n");
+    refuses(&rt, b"cycle 65 1 1 9 16\n", "line 1: Senders\n");
     refuses(&rt, b"cycle 1 1 9 9 16\n", "line 1: Rounds\n");
     refuses(&rt, b"cycle 1 1 1 2 15\n", "line 1: LogWords\n");
     refuses(&rt, b"#\ncycle 1 1 1 2\n", "line 2: BadLine\n");

@@ -65,9 +65,9 @@ fn a_page_of_a_refused_script_says_so(rt: HostRuntime) {
     );
     shows(
         &rt,
-        b"shape 9 1 1 1 16",
+        b"shape 65 1 1 1 16",
         Outcome::Refused,
-        "73686170652039203120312031203136",
+        "7368617065203635203120312031203136",
         "line 1: Senders\n",
     );
 }

@@ -25,7 +25,7 @@ fn pair_again<Q: Ratifier + Drop>(
         × (table_of result.2 ≡ result.0.table) }
     ensures tap { result.3.table_id ≡ result.0.table }
 {
-    pair_of(rt, Bus::cyclic(alloc, shape).expect(rt, "memory"))
+    pair_of(rt, Bus::cyclic(alloc, shape, None).expect(rt, "memory"))
 }
 
 /// A bus of this shape, whose rows are to be used again, is refused so.
@@ -35,7 +35,7 @@ fn refuses_again<Q: Ratifier + Drop, R: Abort>(
     shape: Shape,
     fault: MakeFault,
 ) {
-    assert_eq!(rt; Bus::<Q>::cyclic(alloc, shape).err(), Some(fault));
+    assert_eq!(rt; Bus::<Q>::cyclic(alloc, shape, None).err(), Some(fault));
 }
 
 /// So many turns of a receiver are answered with so many items.

@@ -115,13 +115,42 @@ fn ballot_schedules(rt: HostRuntime) {
     one_before_the_other::<ThreeWord, HostRuntime>(&rt, rt.alloc());
     by_the_fallback::<ThreeWord, HostRuntime>(&rt, rt.alloc());
     by_coins_that_disagree::<ThreeWord, HostRuntime>(&rt, rt.alloc());
-    let nine = Shape {
-        senders: 9,
+    let crowd = Shape {
+        senders: 65,
         ..SMALL
     };
-    refuses::<ThreeWord, HostRuntime>(&rt, rt.alloc(), nine, MakeFault::Senders);
+    refuses::<ThreeWord, HostRuntime>(&rt, rt.alloc(), crowd, MakeFault::Senders);
     let no_rounds = Shape { rounds: 0, ..SMALL };
     refuses::<ThreeWord, HostRuntime>(&rt, rt.alloc(), no_rounds, MakeFault::Rounds);
+}
+
+/// The last of as many senders as there can be.
+fn is_last_of_all<Q: Ratifier + Drop, R: Abort + AllocGlobal>(rt: &R) {
+    let shape = Shape {
+        senders: 64,
+        receivers: 1,
+        rows: 1,
+        ..SMALL
+    };
+    let (bus, mut senders, mut taps) = made::<Q>(rt, rt.alloc(), shape);
+    let tap = last_tap(rt, &bus, &mut taps);
+    let mut last = last_of(rt, &bus, &mut senders);
+    puts(rt, &mut last, b"b", Ok(0));
+    delivers(rt, &bus, &mut last, 0, 0);
+    let ended = left(rt, bus, tap);
+    assert_eq!(rt; ended.log().first(), Some(&0x4fc0_0200_0000_0000));
+    leaves(
+        rt,
+        &ended,
+        64,
+        &[item(rt, 63, 0, b'b')],
+        &[(0, SenderNo(63))],
+    );
+}
+
+#[test]
+fn sixty_four_senders(rt: HostRuntime) {
+    is_last_of_all::<ThreeWord, HostRuntime>(&rt);
 }
 
 /// Senders 1 and 4 of five, each of which always has something to send, up to where 4 has the page.
@@ -149,7 +178,8 @@ fn gives_back<Q: Ratifier + Drop, R: Abort>(rt: &R, alloc: Global) {
     puts(rt, &mut four, b"c", Ok(1));
     answers(rt, &bus, &mut four, 0, Turn::Spent);
     let ended = left(rt, bus, tap);
-    assert_eq!(rt; ended.page().next, [0, 0, 0, 0, 1, 0, 0, 0]);
+    let next = ended.page().next;
+    assert_eq!(rt; (next[1], next[4], next[5]), (0, 1, 0));
     assert_eq!(rt; (ended.page().tenures, ended.page().ended), (1, false));
 }
 

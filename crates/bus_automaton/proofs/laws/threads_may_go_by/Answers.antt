@@ -1,3 +1,4 @@
+use Rattle.std.proofs.Common.{Some, None, refl}
 use Rattle.bus_machine.proofs.Served.{served}
 use Rattle.bus_machine.specs.Playing.{layout_of}
 use Rattle.bus_tenure.specs.Elections.{elections, election_with}
@@ -7,7 +8,7 @@ use Rattle.bus_automaton.proofs.Beginning.{opens}
 use Rattle.bus_automaton.proofs.HandedTells.{handed_tells}
 use Rattle.bus_automaton.proofs.Lawful.{process_laws, automaton_laws}
 use Rattle.bus_automaton.proofs.RestingTells.{rest_tells}
-use Rattle.bus_automaton.proofs.ServedPlans.{one_cause, is_layout, has_rows}
+use Rattle.bus_automaton.proofs.ServedPlans.{one_cause_after, is_layout, has_rows}
 use Rattle.bus_automaton.proofs.laws.threads_may_go_by.Goals as goal
 
 pub returns-clause-process : goal.returns-clause-process
@@ -35,7 +36,18 @@ returns-clause-rests g c v word laid none going =
     v word laid none going
 
 pub returns-clause-one_cause : goal.returns-clause-one_cause
-returns-clause-one_cause g c plan why other r s = one_cause plan.shape plan.reuse why other r s
+returns-clause-one_cause g c plan page why other r s = one_cause_after plan.shape plan.reuse page why other r s
+
+pub returns-clause-memory : goal.returns-clause-memory
+returns-clause-memory g c plan None ok are r = ((r, ok, are), tt)
+returns-clause-memory g c plan (Some page) ok are r = ((r.0, ok, are), r.1)
+
+pub returns-clause-no_memory : goal.returns-clause-no_memory
+returns-clause-no_memory g c plan None h may = h.0
+returns-clause-no_memory g c plan (Some page) h may = (h.0, may)
+
+pub returns-clause-numbers : goal.returns-clause-numbers
+returns-clause-numbers g c plan s h = h.2.low s
 
 pub returns-clause-automaton : goal.returns-clause-automaton
 unfolding process_with automaton_with
@@ -44,11 +56,15 @@ returns-clause-automaton g c plan =
     let X = election_with g.Q.Machine.kind_of g.Q.Machine.op g.Q.Machine.fed P in
     automaton_laws X (elections P plan.shape.rounds) (layout_of P plan.shape plan.reuse)
     (served g.Q.Machine.kind_of g.Q.Machine.op g.Q.Machine.fed P g.met.Q.Machine.names_each_step g.met.Q.Ratifier.own_kinds plan.shape
-    (c.election_is_lawful.ensures.lawful.laws plan.shape.rounds) plan.reuse) plan.reuse
+    (c.election_is_lawful.ensures.lawful.laws plan.shape.rounds) plan.reuse) plan.reuse plan.bases
 
 pub returns-clause-opens : goal.returns-clause-opens
 unfolding process_with automaton_with
 returns-clause-opens g c plan h =
     let P = g.Q.Ratifier.protocol in
     let X = election_with g.Q.Machine.kind_of g.Q.Machine.op g.Q.Machine.fed P in
-    opens X (layout_of P plan.shape plan.reuse) plan.reuse (is_layout P plan.shape plan.reuse h.0) (has_rows plan.shape plan.reuse h.0 h.1)
+    opens X (layout_of P plan.shape plan.reuse) plan.reuse plan.bases (is_layout P plan.shape plan.reuse h.0) (has_rows plan.shape plan.reuse h.0 h.1) h.2
+
+pub returns-clause-bases : goal.returns-clause-bases
+unfolding automaton_with
+returns-clause-bases g c plan = refl

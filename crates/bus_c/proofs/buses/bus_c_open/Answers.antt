@@ -1,17 +1,18 @@
-use Rattle.std.proofs.Common.{Ok, Err, refl, ◌∙◌}
+use Rattle.std.proofs.Common.{Ok, Err, refl}
 use Rattle.bus_world.specs.declared.shapes.MakeFault.TheVariants.{NoMemory}
 use Rattle.bus_c.proofs.buses.bus_c_open.Goals as goal
 
-pub returns-in_default : goal.returns-in_default
-returns-in_default c = record { given = Err NoMemory; opens = (c.in-Ok.ensures.served, refl, refl); code = refl }
-
-pub returns-in_default-box_receivers : goal.returns-in_default-box_receivers
-returns-in_default-box_receivers c = record { given = Err NoMemory; opens = (c.in-Ok.ensures.served, refl, refl); code = refl }
-
-pub returns-in-Ok-box_receivers : goal.returns-in-Ok-box_receivers
-returns-in-Ok-box_receivers c = record {
+pub returns-in-Ok-hand_out : goal.returns-in-Ok-hand_out
+returns-in-Ok-hand_out c = record {
   given = Ok (c.in-Ok.sending.items, c.in-Ok.receiving.items);
-  opens = (c.in-Ok.ensures.opened, c.in-Ok.ensures.served, c.fill_senders.ensures ∙ c.in-Ok-box_senders.ensures, c.fill_receivers.ensures ∙ c.in-Ok-box_receivers.ensures);
+  opens = (c.in-Ok.ensures.opened, c.in-Ok.ensures.served, tt, c.in-Ok-hand_out.ensures.filled.0, c.in-Ok-hand_out.ensures.filled.1);
+  code = refl;
+}
+
+pub returns-in-Err-hand_out : goal.returns-in-Err-hand_out
+returns-in-Err-hand_out c = record {
+  given = Err NoMemory;
+  opens = (c.in-Ok.ensures.served, c.in-Err-hand_out.ensures.refused.0, c.in-Err-hand_out.ensures.refused.1);
   code = refl;
 }
 

@@ -1,8 +1,35 @@
-use Rattle.bus_automaton.specs.Buses.{process_with, automaton_with}
-use Rattle.bus_pageslot.proofs.Openings.{all_here, all_taps_here}
+use Rattle.std.proofs.Common.{◌∙◌, refl, sym, ap, subst}
+use Rattle.std.specs.Option.{option_copied}
+use Rattle.bus_automaton.specs.Buses.{process_with, automaton_with, Serves}
+use Rattle.bus_automaton.specs.declared.plans.Plan.{Plan}
+use Rattle.bus_machine.proofs.NewSenders.{no_memory_after}
+use Rattle.bus_machine.specs.Playing.{MakeRefusedAfter}
+use Rattle.bus_pageslot.specs.Buses.{AreNewSeats, AreNewTaps}
+use Rattle.bus_world.proofs.PlayingLaws.{passed_up}
+use Rattle.bus_world.specs.World.{AreBases}
 use Rattle.bus_pageslot.proofs.buses.make.Goals as goal
 
-pub returns-clause-table : goal.returns-clause-table
-returns-clause-table g c =
-    let A = automaton_with g.Q.Machine.kind_of g.Q.Machine.op g.Q.Machine.fed g.Q.Ratifier.protocol c.args.plan in
-    (all_here (process_with g.Q.Machine.kind_of g.Q.Machine.op g.Q.Machine.fed g.Q.Ratifier.protocol) A _ c.args.plan.shape.senders _ c.in_ok-senders.ensures.senders, all_taps_here A.table_layout _ c.args.plan.shape.receivers _ c.in_ok-taps.ensures)
+pub build-requires : goal.build-requires
+build-requires g c = subst Serves (sym c.in_ok-next.ensures.plan)
+    (c.in_default.ensures.served refl, c.requires, subst AreBases (ap (λ (p : Plan). p.bases) c.in_ok-next.ensures.plan) c.in_ok-next.ensures.bases)
+
+pub returns-in_err-made-clause-fault : goal.returns-in_err-made-clause-fault
+returns-in_err-made-clause-fault g c =
+    passed_up _ _ (MakeRefusedAfter c.args.plan.shape c.args.plan.reuse (option_copied c.args.page)) c.from_residual-in_err-made.ensures
+    (no_memory_after c.args.plan.shape c.args.plan.reuse (option_copied c.args.page) (c.in_default.ensures.served refl) c.in_ok-next.ensures.follows)
+
+pub returns-clause-plan : goal.returns-clause-plan
+returns-clause-plan g c = c.in_ok-made.ensures.plan ∙ c.in_ok-next.ensures.plan
+
+pub returns-clause-senders : goal.returns-clause-senders
+returns-clause-senders g c =
+    let P = process_with g.Q.Machine.kind_of g.Q.Machine.op g.Q.Machine.fed g.Q.Ratifier.protocol in
+    let A = automaton_with g.Q.Machine.kind_of g.Q.Machine.op g.Q.Machine.fed g.Q.Ratifier.protocol in
+    let made = c.in_ok-made.made in
+    subst (λ (p : Plan). AreNewSeats P (A p) made.0.table p.shape.senders made.1.items) c.in_ok-next.ensures.plan c.in_ok-made.ensures.senders
+
+pub returns-clause-taps : goal.returns-clause-taps
+returns-clause-taps g c =
+    let A = automaton_with g.Q.Machine.kind_of g.Q.Machine.op g.Q.Machine.fed g.Q.Ratifier.protocol in
+    let made = c.in_ok-made.made in
+    subst (λ (p : Plan). AreNewTaps (A p).table_layout made.0.table p.shape.receivers made.2.items) c.in_ok-next.ensures.plan c.in_ok-made.ensures.taps

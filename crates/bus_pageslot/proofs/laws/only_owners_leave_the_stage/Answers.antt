@@ -14,7 +14,7 @@ returns g c plan s id m d word many t o r at due is_open leaves =
     let X = elector g.Q.Machine.kind_of g.Q.Machine.op g.Q.Machine.fed Q plan in
     let y = served g.Q.Machine.kind_of g.Q.Machine.op g.Q.Machine.fed Q g.met.Q.Machine.names_each_step g.met.Q.Ratifier.own_kinds plan.shape
     (c.election_is_lawful.ensures.lawful.laws plan.shape.rounds) plan.reuse in
-    owners_leave X (elections Q plan.shape.rounds) (sizes g.Q.Machine.kind_of g.Q.Machine.op g.Q.Machine.fed Q plan) y plan.reuse
+    owners_leave X (elections Q plan.shape.rounds) (sizes g.Q.Machine.kind_of g.Q.Machine.op g.Q.Machine.fed Q plan) y plan.reuse plan.bases
     (laws_are g.Q.Machine.kind_of g.Q.Machine.op g.Q.Machine.fed Q plan (c.threads_may_go_by.ensures.automaton plan)) s
     (rule_is g.Q.Machine.kind_of g.Q.Machine.op g.Q.Machine.fed Q plan s r) id m at d word many o due
     (sized Q (OfEvents X (OpensOnly X)) (λ a b d e ok old T same rows reached event given new happens.

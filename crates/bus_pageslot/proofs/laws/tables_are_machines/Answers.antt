@@ -17,7 +17,7 @@ returns g c plan s r =
     let X : Election S = election_with g.Q.Machine.kind_of g.Q.Machine.op g.Q.Machine.fed Q in
     let k = rule_is g.Q.Machine.kind_of g.Q.Machine.op g.Q.Machine.fed Q plan s r in
     let h = k.reached in
-    has_history X _ plan.reuse s k (election_bound Q.steps)
+    has_history X _ plan.reuse plan.bases s k (election_bound Q.steps)
     (sized Q (λ x. IsLayout x → (m : Machine S) (T : Trails) → m.layout ≡ x → HasRows m.reuse → Reached X m T → IsPromised X m T × LossesAreSeen m T.actions)
     c.machine_keeps_promise.ensures plan.shape plan.reuse h.served k.state.machine k.state.trails h.layout
     (subst HasRows (sym h.rows_are) h.has_rows) h.reached)

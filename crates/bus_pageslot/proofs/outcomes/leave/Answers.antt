@@ -1,4 +1,4 @@
-use Rattle.std.proofs.Common.{◌≤◌, Some, slice_index, refl, arith, sym, ◌∙◌, ap, subst}
+use Rattle.std.proofs.Common.{ℕ, ◌≤◌, Some, List, slice_index, refl, arith, sym, ◌∙◌, ap, subst}
 use Rattle.std.proofs.lemmas.Option.{same_Some}
 use Rattle.std.specs.Prelude.{IsSome}
 use Rattle.std.specs.Slots.{slots_items, slots_counts}
@@ -114,4 +114,5 @@ invariant_of-result g c =
     let read_is = c.words_from-words.ensures ∙ ap (words_read_from (slice_index ws) c.args.log) (sym (word_at ws 0 c.word-length.result c.word-length.ensures)) ∙ ap (λ k. words_read_from (slice_index ws) k (slice_index ws 0)) c.requires.log in
     let home = left_home P A L seat.id seat.me.0 n.0 n.1 is ws xs f c.word-stage.result (word_at ws 1 c.word-stage.result c.word-stage.ensures) c.if-stage-eq1.false c.take-page.result c.take-page.ensures.value c.words_from-words.result.items read_is in
     let left = subst (λ page. IsLeft P A seat.me.0 c.words_from-words.result.items (Some page)) (same_Some _ _ (sym home.1 ∙ c.unwrap.ensures)) home.2 in
-    subst (λ n. IsOutcome record { senders = n; log = c.words_from-words.result.items; page = c.unwrap.result }) (sym c.requires.senders) (outcome_of P A L seat.me.0 c.words_from-words.result.items c.unwrap.result left)
+    subst (λ (n : ℕ × List ℕ). IsOutcome record { senders = n.0; bases = n.1; log = c.words_from-words.result.items; page = c.unwrap.result })
+    (λ i. (sym c.requires.senders i, sym c.requires.bases i)) (outcome_of P A L seat.me.0 c.words_from-words.result.items c.unwrap.result left)

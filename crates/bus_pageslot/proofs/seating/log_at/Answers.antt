@@ -1,4 +1,4 @@
-use Rattle.std.proofs.Common.{◌+◌, sym, ◌∙◌, ap}
+use Rattle.std.proofs.Common.{◌+◌, refl, sym, ◌∙◌, ap}
 use Rattle.bus_automaton.specs.Buses.{automaton_with}
 use Rattle.bus_machine.proofs.NewSenders.{log_at_place, senders_are, capacity_of}
 use Rattle.bus_machine.specs.Machine.{log_place}
@@ -27,3 +27,7 @@ returns-clause-capacity g c = sym (capacity_of g.Q.Ratifier.protocol c.args.plan
 pub returns-clause-senders : goal.returns-clause-senders
 unfolding automaton_with
 returns-clause-senders g c = sym (senders_are g.Q.Ratifier.protocol c.args.plan.shape c.args.plan.reuse)
+
+pub returns-clause-bases : goal.returns-clause-bases
+unfolding automaton_with
+returns-clause-bases g c = refl

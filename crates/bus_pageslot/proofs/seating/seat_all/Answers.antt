@@ -34,4 +34,4 @@ returns-clause-maker g c =
     let P = process_with g.Q.Machine.kind_of g.Q.Machine.op g.Q.Machine.fed g.Q.Ratifier.protocol in
     let A = automaton_with g.Q.Machine.kind_of g.Q.Machine.op g.Q.Machine.fed g.Q.Ratifier.protocol c.args.plan in
     let all : c.loop-me.me ≡ c.args.plan.shape.senders = let b = c.loop-me.invariant.below in omega arith in
-    (c.loop-me.invariant.table, c.loop-me.invariant.maker ∙ ap (λ k. (Maker (A.started k), [])) all)
+    (c.loop-me.invariant.table, c.loop-me.invariant.maker ∙ ap (λ k. (Maker A.table_layout k, [])) all)

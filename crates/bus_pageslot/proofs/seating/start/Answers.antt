@@ -1,4 +1,4 @@
-use Rattle.std.proofs.Common.{◌≤◌, ◌^◌, sym, ◌∙◌, ap, subst}
+use Rattle.std.proofs.Common.{◌≤◌, ◌^◌, Some, None, slice_index, sym, ◌∙◌, ap, subst}
 use Rattle.bus_automaton.specs.Buses.{automaton_with}
 use Rattle.bus_automaton.specs.OneProcess.{table_layout_by}
 use Rattle.bus_core.specs.Keeping.{new_sender}
@@ -15,10 +15,12 @@ pub returns-in-None : goal.returns-in-None
 unfolding automaton_with
 returns-in-None g c =
     let Q = g.Q.Ratifier.protocol in
-    c.new.ensures ∙ ap (λ r. new_sender (layout_of Q c.args.plan.shape r) c.args.me.0 r) (sym c.in-None.is)
+    c.new.ensures ∙ ap (λ n. new_sender (layout_of Q c.args.plan.shape None) c.args.me.0 None (slice_index c.args.plan.bases n)) c.from.ensures
+    ∙ ap (λ r. new_sender (layout_of Q c.args.plan.shape r) c.args.me.0 r (slice_index c.args.plan.bases c.args.me.0)) (sym c.in-None.is)
 
 pub returns-in-Some : goal.returns-in-Some
 unfolding automaton_with
 returns-in-Some g c =
     let Q = g.Q.Ratifier.protocol in
-    c.cyclic.ensures ∙ ap (λ r. new_sender (layout_of Q c.args.plan.shape r) c.args.me.0 r) (sym c.in-Some.is)
+    c.cyclic.ensures ∙ ap (λ n. new_sender (layout_of Q c.args.plan.shape (Some c.in-Some.rows)) c.args.me.0 (Some c.in-Some.rows) (slice_index c.args.plan.bases n)) c.from.ensures
+    ∙ ap (λ r. new_sender (layout_of Q c.args.plan.shape r) c.args.me.0 r (slice_index c.args.plan.bases c.args.me.0)) (sym c.in-Some.is)

@@ -9,5 +9,5 @@ invariant-loop g l = record {
   below : l.counter ≤ l.plan.shape.receivers;
   taps : AreNewTaps (automaton_with g.Q.Machine.kind_of g.Q.Machine.op g.Q.Machine.fed g.Q.Ratifier.protocol l.plan).table_layout l.shared.table_id l.counter l.taps.items;
   table : l.maker.table_id ≡ l.shared.table_id;
-  maker : l.maker.me ≡ (Maker ((automaton_with g.Q.Machine.kind_of g.Q.Machine.op g.Q.Machine.fed g.Q.Ratifier.protocol l.plan).started l.plan.shape.senders), []);
+  maker : l.maker.me ≡ (Maker (automaton_with g.Q.Machine.kind_of g.Q.Machine.op g.Q.Machine.fed g.Q.Ratifier.protocol l.plan).table_layout l.plan.shape.senders, []);
 }

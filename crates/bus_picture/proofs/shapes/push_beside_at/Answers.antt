@@ -1,4 +1,4 @@
-use Rattle.std.proofs.Common.{codes, string_bytes}
+use Rattle.std.proofs.Common.{string_bytes}
 use Rattle.bus_picture.specs.Shapes.{at, short, text_body}
 use Rattle.bus_picture.proofs.TextLemmas.{grown}
 use Rattle.bus_picture.proofs.shapes.push_beside_at.Goals as goal

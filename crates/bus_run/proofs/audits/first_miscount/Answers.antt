@@ -1,13 +1,14 @@
 use Rattle.std.proofs.Common.{◌≡◌, ◌<◌, length, slice_index, inl, inr, arith, sym, ◌∙◌, subst}
 use Rattle.std.proofs.lemmas.Bool.{cases_lt}
+use Rattle.bus_register.specs.declared.limits.TheConstants.{MOST_SENDERS}
 use Rattle.bus_deliverylog.specs.Orders.{of_sender}
 use Rattle.bus_run.specs.Audit.{OfOrder, Miscounts}
 use Rattle.bus_run.proofs.audits.first_miscount.Goals as goal
 
 pub returns-then-count-clause-some : goal.returns-then-count-clause-some
 returns-then-count-clause-some c =
-    let lt : c.loop-number.number < 8 = omega arith in
-    subst (λ n. (n < 8) × OfOrder c.args.ended.now (λ order. Miscounts order c.args.heard.now n)) (sym c.from.ensures)
+    let lt : c.loop-number.number < MOST_SENDERS = omega arith in
+    subst (λ n. (n < MOST_SENDERS) × OfOrder c.args.ended.now (λ order. Miscounts order c.args.heard.now n)) (sym c.from.ensures)
     (lt, λ order owners spells. (c.loop-number.invariant order owners spells, λ e. c.if-count.true (c.count.ensures ∙ e ∙ sym (c.count-in-loop-number.ensures.counts order owners spells))))
 
 pub loop-number-preserved : goal.loop-number-preserved

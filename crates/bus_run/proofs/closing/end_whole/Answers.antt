@@ -2,6 +2,7 @@ use Rattle.std.proofs.Common.{◌<◌, ◌≤◌, inl, inr, All, Some, length, m
 use Rattle.std.specs.Vec.{vec_capacity}
 use Rattle.std.proofs.lemmas.List.{length-map}
 use Rattle.std.proofs.lemmas.Option.{slice_get_within}
+use Rattle.bus_register.specs.declared.limits.TheConstants.{MOST_SENDERS}
 use Rattle.bus_deliverylog.specs.Orders.{of_sender}
 use Rattle.bus_pageslot.specs.Rule.{known_in}
 use Rattle.bus_automaton.specs.declared.plans.Plan.{Plan}
@@ -114,7 +115,7 @@ returns-clause-report g c =
                 carries (of_sender s order) many k item (told_all s many left.log left.senders order owners has_told spells (sends s lt)) at;
             closed = c.in_ok-ended.ensures.closed order owners spells;
             fair = fair;
-            all = all_counted left.senders left.log order owners _ (subst (λ n. n ≤ 8) (sym senders_are) c.requires.senders) spells c.in_ok-first.ensures.summed fair;
+            all = all_counted left.senders left.log order owners _ (subst (λ n. n ≤ MOST_SENDERS) (sym senders_are) c.requires.senders) spells c.in_ok-first.ensures.summed fair;
           };
       each = ap length c.in_ok-first.ensures.notes ∙ length-map c.args.receive_workers.items (λ receive_worker. receive_worker.heard) ∙ c.requires.whole.all_hear;
     }

@@ -1,8 +1,18 @@
-use Rattle.std.proofs.Common.{◌∙◌, ap, sym, subst}
+use Rattle.std.proofs.Common.{◌+◌, ◌∙◌, length, slice_index, ap, sym, subst}
 use Rattle.bus_batch.specs.Frames.{Spells}
+use Rattle.bus_deliverylog.specs.Orders.{of_sender}
+use Rattle.bus_pageslot.specs.Outcomes.{Outcome}
 use Rattle.bus_pageslot.proofs.outcomes.Ended.page.Goals as goal
 
 pub returns-clause-ended : goal.returns-clause-ended
 returns-clause-ended c order owners spells =
     let own = subst (λ z. Spells z.senders z.log order owners) (sym c.self.view_is) spells in
-    c.self.invariant.ended ∙ ap (λ z. z.ended) (c.spells_one.ensures _ _ c.self.invariant.order order c.self.invariant.owners owners c.self.invariant.spells own).0
+    ap (λ p. p.ended) c.get.ensures ∙ c.self.invariant.ended ∙ ap (λ z. z.ended) (c.spells_one.ensures _ _ c.self.invariant.order order c.self.invariant.owners owners c.self.invariant.spells own).0
+
+pub returns-clause-next : goal.returns-clause-next
+returns-clause-next c sender order owners below spells =
+    let own = subst (λ z. Spells z.senders z.log order owners) (sym c.self.view_is) spells in
+    let same = (c.spells_one.ensures _ _ c.self.invariant.order order c.self.invariant.owners owners c.self.invariant.spells own).0 in
+    ap (λ p. slice_index p.next sender) c.get.ensures
+    ∙ c.self.invariant.counts sender below ∙ ap (λ z. slice_index c.self.inside.bases sender + length (of_sender sender z)) same
+    ∙ ap (λ (z : Outcome). slice_index z.bases sender + length (of_sender sender order)) c.self.view_is

@@ -1,11 +1,11 @@
 use Rattle.std.proofs.Common.{◌≡◌, ◌<◌, arith, sym, subst}
-use Rattle.std.specs.Prelude.{◌++◌, [], ◌∷◌, IfOk, IfErr, OnOk, length}
+use Rattle.std.specs.Prelude.{◌+◌, ◌++◌, [], ◌∷◌, IfOk, IfErr, OnOk, length}
 use Rattle.bus_automaton.specs.Buses.{process_with}
 use Rattle.bus_batch.specs.Batches.{next_of, CanPut, IsPutFault}
 use Rattle.bus_register.specs.declared.limits.TheConstants.{NUMBERS}
 use Rattle.bus_world.proofs.PlayingLaws.{small_bytes}
 use Rattle.bus_world.specs.Headline.{HasPut, puts}
-use Rattle.bus_pageslot.specs.Seats.{actions_of}
+use Rattle.bus_pageslot.specs.Seats.{first_number_of, actions_of}
 use Rattle.bus_pageslot.proofs.Processes.{next_is}
 use Rattle.bus_pageslot.proofs.Puts.{number_fits, shows_put, put_done, put_counts}
 use Rattle.bus_pageslot.proofs.seats.Sender.put.Goals as goal
@@ -36,7 +36,7 @@ pub returns-clause-counts : goal.returns-clause-counts
 unfolding process_with
 returns-clause-counts g c =
     let P = process_with g.Q.Machine.kind_of g.Q.Machine.op g.Q.Machine.fed g.Q.Ratifier.protocol in
-    subst (λ z. IfOk c.put.result (λ number. number ≡ length (puts (actions_of P z)))) c.self.view_is
+    subst (λ z. IfOk c.put.result (λ number. number ≡ first_number_of P z + length (puts (actions_of P z)))) c.self.view_is
     (put_counts P c.threads_may_go_by.ensures.process c.self.inside.core c.self.inside.seat c.self.invariant.0 c.args.bytes.now c.put.result
     (subst (λ n. IfOk c.put.result (λ number. number ≡ n)) (sym (next_is g.Q.Machine.kind_of g.Q.Machine.op g.Q.Machine.fed g.Q.Ratifier.protocol c.self.inside.core)) c.put.ensures.number) c.put.ensures.could)
 

@@ -1,0 +1,158 @@
+//! Runs under a seed: a sitting, or a chain of sittings, of which each goes on with the numbers of
+//! the one before.
+
+ghost use Rattle.std.specs.Prelude.{◌≤◌};
+
+use crate::storms::{Load, SHAPES, Sitting, Tale, receivers_of, senders_of, sit_on};
+use bus_receiver::{LEAST_ROWS_AGAIN, MOST_ROWS, Page, Shape};
+use bus_register::limits::{MOST_MESSAGES, MOST_SENDERS};
+use bus_run::buses::Bus;
+use rand_core::Rng;
+use rand_pcg::Pcg32;
+use std::alloc::Global;
+use std::marker::Brand;
+use std::thread::Threads;
+use std::time::Clock;
+
+/// Sittings of a chain.
+const SITTINGS: u64 = 4;
+
+/// Of 32 shapes that of the long runs.
+const LONG_SHAPE: u64 = 9;
+
+/// A sender puts no more messages at once.
+const MOST_BATCH: u32 = MOST_MESSAGES as u32;
+
+/// Words of the log of a sitting that has words for all.
+const LOG_WORDS: u64 = 16_384;
+
+/// A run under this seed, in at most so many threads, over 2 to 8 rows that are used again: its
+/// senders have at most 31 messages each. `SHAPES` seeds in a row have all shapes. In two of these
+/// runs two senders have 1,500 messages each, for a tenure each. Of two runs in which nobody is to
+/// stop one is the first sitting of a chain.
+pub fn run<R: Threads + Clock + Sync>(
+    rt: &R,
+    alloc: Global,
+    seed: u64,
+    hands: u64,
+) -> anyhow::Result<Tale> {
+    let mut dice = Pcg32::new(seed, 0);
+    let is_long = seed % SHAPES % 32 == LONG_SHAPE;
+    let load = first_load(seed, hands, is_long, &mut dice);
+    let is_scarce = !load.is_calm && !is_long && dice.next_u32() % 4 == 0;
+    let shape = Shape {
+        senders: load.senders,
+        receivers: receivers_of(seed),
+        rounds: 1 + u64::from(dice.next_u32() % 4),
+        rows: some_rows(&mut dice),
+        log_words: if is_scarce { 128 } else { LOG_WORDS },
+    };
+    let is_chain = load.is_calm && dice.next_u32() % 2 == 0;
+    let made = Bus::cyclic(alloc, shape, None)?;
+    let first = sit_on::<Brand, R>(rt, alloc, made, load, &mut dice)?;
+    if is_chain {
+        go_on(rt, alloc, first, load, &mut dice)
+    } else {
+        Ok(first.tale)
+    }
+}
+
+/// What is asked of the first sitting under this seed.
+fn first_load(seed: u64, hands: u64, is_long: bool, dice: &mut Pcg32) -> Load
+    ensures { result.senders ≤ MOST_SENDERS }
+{
+    let few = u64::from(dice.next_u32() % 32);
+    Load {
+        senders: senders_of(seed),
+        messages: if is_long { 1_500 } else { few },
+        hands: hands.max(1),
+        is_calm: dice.next_u32() % 4 == 0,
+        batch: if is_long { 1 } else { MOST_BATCH },
+        after: None,
+    }
+}
+
+/// How many rows that are used again.
+fn some_rows(dice: &mut Pcg32) -> u64 {
+    LEAST_ROWS_AGAIN + u64::from(dice.next_u32() % 7)
+}
+
+/// The sittings of a chain behind the first, each after the page that the one before it left; the
+/// last is one whose order has not ended, or the fourth.
+fn go_on<R: Threads + Clock + Sync>(
+    rt: &R,
+    alloc: Global,
+    first: Sitting,
+    load: Load,
+    dice: &mut Pcg32,
+) -> anyhow::Result<Tale>
+    requires { load.senders ≤ MOST_SENDERS }
+{
+    let Sitting {
+        mut tale,
+        page: mut left,
+    } = first;
+    for _ in 1..SITTINGS {
+        let Some(page) = left else {
+            return Ok(tale);
+        };
+        let next = sit_after(rt, alloc, page, load, dice)?;
+        tale = tale.and(next.tale);
+        left = next.page;
+    }
+    Ok(tale)
+}
+
+/// A sitting after this page, over either kind of rows, and with as many senders as this load or
+/// with others.
+fn sit_after<R: Threads + Clock + Sync>(
+    rt: &R,
+    alloc: Global,
+    page: Page,
+    load: Load,
+    dice: &mut Pcg32,
+) -> anyhow::Result<Sitting>
+    requires { load.senders ≤ MOST_SENDERS }
+{
+    let is_again = dice.next_u32() % 2 == 0;
+    let load = next_load(load, page, is_again, dice);
+    let rows = if is_again {
+        some_rows(dice)
+    } else {
+        load.senders.saturating_mul(load.messages).saturating_add(1)
+    };
+    let shape = Shape {
+        senders: load.senders,
+        receivers: receivers_of(u64::from(dice.next_u32())),
+        rounds: 1 + u64::from(dice.next_u32() % 4),
+        rows,
+        log_words: LOG_WORDS,
+    };
+    let made = if is_again {
+        Bus::cyclic(alloc, shape, Some(&page))?
+    } else {
+        Bus::after(alloc, shape, &page)?
+    };
+    sit_on::<Brand, R>(rt, alloc, made, load, dice)
+}
+
+/// What is asked of the sitting after this page. If each tenure has a row of its own there is one
+/// for each message, and one for the end. In half of these sittings all are used.
+fn next_load(load: Load, page: Page, is_again: bool, dice: &mut Pcg32) -> Load
+    requires { load.senders ≤ MOST_SENDERS }
+    ensures { result.senders ≤ MOST_SENDERS }
+{
+    let is_same = dice.next_u32() % 2 == 0;
+    let other = senders_of(u64::from(dice.next_u32()));
+    let senders = if is_same { load.senders } else { other };
+    let few = u64::from(dice.next_u32() % 32);
+    let most = (MOST_ROWS as u64 - 1) / senders.max(1);
+    let is_single = !is_again && dice.next_u32() % 2 == 0;
+    Load {
+        senders,
+        messages: if is_again { few } else { few.min(most) },
+        batch: if is_single { 1 } else { MOST_BATCH },
+        after: Some(page),
+        ..load
+    }
+}

@@ -1,0 +1,11 @@
+use Rattle.std.proofs.Common.{◌≡◌, ◌-◌, false, length}
+use Rattle.bus_pageslot.specs.Rule.{known_in}
+use Rattle.bus_pageslot.specs.Seats.{IsReceiverView}
+use Rattle.bus_pageslot.specs.Listening.{GoesOnTo}
+use Rattle.bus_pageslot.proofs.listening.hear_in_place.Given as goal
+
+abbrev pub invariant-loop-turn : goal.invariant-loop-turn
+invariant-loop-turn g l = (l.seat.table_id ≡ l.fn.seat.table_id) × IsReceiverView l.seat.me l.seat.table_id.words l.log l.reader × (l.reader.ended ≡ false) × (l.known ≡ length (known_in l.seat.me.0)) × (l.item ≡ l.fn.item) × GoesOnTo l.fn.seat.me l.seat.me
+
+abbrev pub decreases-loop-turn : goal.decreases-loop-turn
+decreases-loop-turn g l = l.known - l.reader.place
