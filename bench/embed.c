@@ -22,11 +22,11 @@ static void expect(int line, const char *what, uint64_t is, uint64_t wanted) {
 
 /* One wrong size at a time. */
 static void bad_shapes(void) {
-    kioskbasil_sender s[9] = {KIOSKBASIL_NONE};
+    kioskbasil_sender s[65] = {KIOSKBASIL_NONE};
     kioskbasil_receiver r[9] = {KIOSKBASIL_NONE};
     kioskbasil_sizes good = {1, 2, 16, false}, bad = good;
     EXPECT(kioskbasil_open(&good, s, 0, r, 1), KIOSKBASIL_BAD_SENDERS);
-    EXPECT(kioskbasil_open(&good, s, 9, r, 9), KIOSKBASIL_BAD_SENDERS);
+    EXPECT(kioskbasil_open(&good, s, 65, r, 9), KIOSKBASIL_BAD_SENDERS);
     EXPECT(kioskbasil_open(&good, s, 1, r, 0), KIOSKBASIL_BAD_RECEIVERS);
     EXPECT(kioskbasil_open(&good, s, 1, r, 9), KIOSKBASIL_BAD_RECEIVERS);
     bad.rounds = 9;
@@ -83,7 +83,8 @@ static void no_handles(void) {
     EXPECT(kioskbasil_hear(&r, NULL, 1, &many), KIOSKBASIL_NULL);
     EXPECT(kioskbasil_show_receiver(NULL, &receiver), KIOSKBASIL_NULL);
     EXPECT(kioskbasil_end(&s, 1, &r, 1, NULL, 1, &left), KIOSKBASIL_NULL);
-    for (uint32_t code = 0; code <= KIOSKBASIL_NULL; code++) {
+    EXPECT(kioskbasil_open_after(&sizes, NULL, &s, 1, &r, 1), KIOSKBASIL_NULL);
+    for (uint32_t code = 0; code <= KIOSKBASIL_NUMBERS_USED; code++) {
         int named = code <= KIOSKBASIL_END || code >= KIOSKBASIL_BAD_SENDERS;
         EXPECT(strcmp(kioskbasil_text(code), "no code of this version") != 0, named);
         EXPECT(kioskbasil_refused(code), code >= 32);
@@ -166,6 +167,8 @@ static void one_sender(bool again) {
     EXPECT(r[0].live, 0);
     EXPECT(kioskbasil_end(NULL, 0, r + 1, 1, log, 2, &left), KIOSKBASIL_OK);
     EXPECT(left.counts[0], 19);
+    EXPECT(left.bases[0], 0);
+    EXPECT(left.next[0], 19);
     EXPECT(left.words, receiver.known);
     EXPECT(left.ended, true);
     EXPECT(log[0] != 9 && log[2] == 9, 1);
@@ -188,6 +191,74 @@ static void ends(void) {
     while (kioskbasil_turn(s, 3, NULL) != KIOSKBASIL_OWN) {}
     EXPECT(kioskbasil_end(s, 1, r, 1, NULL, 0, &left), KIOSKBASIL_PAGE_OUT);
     EXPECT(s[0].live + r[0].live, 0);
+}
+
+/* The last of as many senders as there can be. */
+static void last_sender(void) {
+    kioskbasil_sender s[KIOSKBASIL_MOST_SENDERS] = {KIOSKBASIL_NONE};
+    kioskbasil_receiver r[1] = {KIOSKBASIL_NONE};
+    kioskbasil_sizes sizes = {1, 1, 64, false};
+    kioskbasil_left left;
+    uint64_t seed = 3, log[3] = {0};
+    EXPECT(kioskbasil_open(&sizes, s, KIOSKBASIL_MOST_SENDERS, r, 1), KIOSKBASIL_OK);
+    EXPECT(kioskbasil_put(&s[63], "b", 1, NULL), KIOSKBASIL_OK);
+    EXPECT(send_batch(&s[63], &seed, NULL), KIOSKBASIL_DELIVERED);
+    EXPECT(kioskbasil_end(s, KIOSKBASIL_MOST_SENDERS, r, 1, log, 3, &left), KIOSKBASIL_OK);
+    EXPECT(left.counts[62], 0);
+    EXPECT(left.counts[63], 1);
+    EXPECT(left.words, 3);
+    EXPECT(log[0], 0x4fc0020000000000);
+}
+
+/* Puts a message by this sender, which gets this number, and sends it. */
+static void send_one(kioskbasil_sender *s, uint64_t wanted, uint64_t *seed) {
+    uint64_t number = 7;
+    EXPECT(kioskbasil_put(s, "x", 1, &number), KIOSKBASIL_OK);
+    EXPECT(number, wanted);
+    EXPECT(send_batch(s, seed, NULL), KIOSKBASIL_DELIVERED);
+}
+
+/* A sitting after another: the numbers go on, and the counts begin anew. */
+static void two_sittings(bool again, bool then) {
+    kioskbasil_sender s[2] = {KIOSKBASIL_NONE};
+    kioskbasil_receiver r[1] = {KIOSKBASIL_NONE};
+    kioskbasil_sizes sizes = {1, 4, 64, again};
+    kioskbasil_left left, high;
+    kioskbasil_item items[4];
+    uint64_t seed = 11;
+    size_t many = 0;
+    EXPECT(kioskbasil_open(&sizes, s, 2, r, 1), KIOSKBASIL_OK);
+    send_one(&s[1], 0, &seed);
+    EXPECT(kioskbasil_end(s, 2, r, 1, NULL, 0, &left), KIOSKBASIL_OK);
+    EXPECT(left.ended, false);
+    EXPECT(kioskbasil_open_after(&sizes, &left, s, 2, r, 1), KIOSKBASIL_NOT_ENDED);
+    EXPECT(kioskbasil_open(&sizes, s, 2, r, 1), KIOSKBASIL_OK);
+    send_one(&s[1], 0, &seed);
+    send_one(&s[1], 1, &seed);
+    EXPECT(end_order(&s[0], &seed), KIOSKBASIL_CLOSED);
+    EXPECT(kioskbasil_end(s, 2, r, 1, NULL, 0, &left), KIOSKBASIL_OK);
+    high = left, high.next[63] = (UINT64_C(1) << 48) - 65536;
+    EXPECT(kioskbasil_open_after(&sizes, &high, s, 2, r, 1), KIOSKBASIL_NUMBERS_USED);
+    EXPECT(kioskbasil_open_after(&sizes, &high, s, 0, r, 1), KIOSKBASIL_BAD_SENDERS);
+    EXPECT(s[0].live + s[1].live + r[0].live, 0);
+    high.next[63]--;
+    EXPECT(kioskbasil_open_after(&sizes, &high, s, 2, r, 1), KIOSKBASIL_OK);
+    sizes.again = then;
+    EXPECT(kioskbasil_open_after(&sizes, &left, s, 2, r, 1), KIOSKBASIL_OK);
+    send_one(&s[1], 2, &seed);
+    send_one(&s[0], 0, &seed);
+    EXPECT(kioskbasil_hear(r, items, 4, &many), KIOSKBASIL_EMPTY);
+    EXPECT(many, 2);
+    EXPECT(items[0].number, 2);
+    EXPECT(items[1].number, 0);
+    EXPECT(end_order(&s[1], &seed), KIOSKBASIL_CLOSED);
+    EXPECT(kioskbasil_end(s, 2, r, 1, NULL, 0, &left), KIOSKBASIL_OK);
+    for (int i = 0; i < KIOSKBASIL_MOST_SENDERS; i++) {
+        EXPECT(left.counts[i], i < 2);
+        EXPECT(left.bases[i], i == 1 ? 2 : 0);
+        EXPECT(left.next[i], left.bases[i] + left.counts[i]);
+    }
+    EXPECT(left.ended, true);
 }
 
 /* ---- many short runs of four senders and four receivers, each in a thread of its own */
@@ -309,6 +380,8 @@ int main(int count, char **words) {
         one_sender(false);
         one_sender(true);
         ends();
+        last_sender();
+        for (int kinds = 0; kinds < 4; kinds++) two_sittings(kinds & 1, kinds & 2);
     }
     printf("%s: %ld passed, %ld failed\n", what, passed, failed);
     return failed != 0;

@@ -10,14 +10,14 @@ typedef uint64_t u64;
 enum { REST, ENTER, LOOK, WITHDRAW, ELECT, HOLD };
 enum { ANNOUNCE, BRING, READ_PROPOSAL, PROPOSE, READ_OTHER, MARK, OTHER_MARK, VOTE, READ_VOTES, FALLBACK, SEARCH, WON };
 struct round { u64 brought[2], proposal, mark[2], votes; }; // a conciliator, and the ratifier behind it
-struct row { u64 announced[8], fallback[3]; struct round round[3][8]; };
-struct page { u64 next[8], ended, words; } home;
+struct row { u64 announced[64], fallback[6]; struct round round[6][8]; };
+struct page { u64 next[64], ended, words; } home;
 struct sender {
     char *messages[16]; u64 len[16], count, first, least, tenure, stored, words;
     int closing, closed, stopped, busy, phase, at, bit, spelled, candidate, round, value, j;
     int own_votes, published, lost, withdrawn;
     struct page page; u64 frame[129], presence, asked, cleared;
-} S[8];
+} S[64];
 struct receiver { u64 place, known, left, tenure, owner, number, bytes, got, count, fresh; int ended; unsigned char data[64]; } M[9]; // the ninth hears the whole log in the end
 static u64 n, m, R, T, L, B, stage, length, *word_of_log, owners[256], owner_count;
 static struct row *rows; static int cyclic;
@@ -194,21 +194,21 @@ int main(int argc, char **argv) {
         if (!is_good(line, end, shaped)) { if (refused(passes, number, "BadLine")) goto stop; continue; }
         if (!shaped) {
             cyclic = *line == 'c'; sscanf(line + 6, "%lu %lu %lu %lu %lu", &n, &m, &R, &T, &L);
-            B = 0; while (1u << B < n && n <= 8) B++;
-            const char *why = n < 1 || n > 8 ? "Senders" : m < 1 || m > 8 ? "Receivers"
+            B = 0; while (1u << B < n && n <= 64) B++;
+            const char *why = n < 1 || n > 64 ? "Senders" : m < 1 || m > 8 ? "Receivers"
                 : R < 1 || R > 8 ? "Rounds" : T < (cyclic ? 2 : 1) || T > (cyclic ? 8 : 256) ? "Rows"
                 : L < 16 || L > 65536 ? "LogWords" : 0;
             if (why) { m = 0; if (refused(passes, number, why)) goto stop; continue; }
             shaped = 1; rows = calloc(T, sizeof *rows); word_of_log = calloc(L, 8);
         } else if (*line == 'p') {
-            s = strtoul(line + 4, &line, 10); struct sender *p = &S[s % 8]; line++; k = *line == '-' ? 0 : strlen(line) / 2;
+            s = strtoul(line + 4, &line, 10); struct sender *p = &S[s % 64]; line++; k = *line == '-' ? 0 : strlen(line) / 2;
             const char *why = p->stopped ? "Stopped" : p->closing || p->closed ? "Closed" : p->busy ? "Busy" : k > 56 ? "TooLong" : p->count == 16 ? "BatchFull" : 0;
             if (s >= n) why = "NoSuchSender";
             if (why) { if (refused(passes, number, why)) goto stop; continue; }
             p->messages[p->count] = malloc(k + 1); p->len[p->count] = k; for (u64 i = 0; i < k; i++) { unsigned b; sscanf(line + 2 * i, "%2x", &b); p->messages[p->count][i] = b; }
             say("put %lu: number %lu\n", s, p->first + p->count, 0, 0); p->count++;
         } else if (*line == 'c') {
-            s = strtoul(line + 6, 0, 10); struct sender *p = &S[s % 8]; const char *why = s >= n ? "NoSuchSender" : p->stopped ? "Stopped" : p->closing || p->closed ? "Closed" : p->busy ? "Busy" : p->count ? "Pending" : 0;
+            s = strtoul(line + 6, 0, 10); struct sender *p = &S[s % 64]; const char *why = s >= n ? "NoSuchSender" : p->stopped ? "Stopped" : p->closing || p->closed ? "Closed" : p->busy ? "Busy" : p->count ? "Pending" : 0;
             if (why) { if (refused(passes, number, why)) goto stop; continue; }
             p->closing = 1; say("close %lu: closing\n", s, 0, 0, 0);
         } else if (*line == 't') {

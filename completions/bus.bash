@@ -21,8 +21,8 @@ _bus() {
         compopt -o default
         return
         ;;
-    *" --senders" | *" --receivers") names="1 2 3 4 5 6 7 8" ;;
-    *" --messages" | *" --seed") ;;
+    "run --senders" | "run --receivers") names="1 2 3 4 5 6 7 8" ;;
+    "log --senders" | *" --messages" | *" --seed") ;;
     " "*) names="ratify replay trace run log" ;;
     esac
     if [[ "$word" == -* ]]; then

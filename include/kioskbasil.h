@@ -1,15 +1,16 @@
 /* kioskbasil.h: the broadcast bus of Kioskbasil for C and C++.
  *
- * A bus puts the messages of up to 8 senders into one order, which up to 8 receivers hear, each all of it.
- * No call waits, takes a lock, starts a thread, or (but for kioskbasil_open) takes memory. A call that is
- * to wait is a loop of the caller's: examples/c/waiting.h has the usual ones, to be copied.
+ * A bus puts the messages of up to 64 senders into one order, which up to 8 receivers hear, each all of it.
+ * No call waits, takes a lock, starts a thread, or (but for kioskbasil_open and kioskbasil_open_after)
+ * takes memory. A call that is to wait is a loop of the caller's: examples/c/waiting.h has the usual ones,
+ * to be copied.
  *
  * The functions bus_c_.. are those of the archive (crates/bus_c), which are proved against their contracts.
  * The functions kioskbasil_.. stand in this header: they look for NULL and call one of those. A program
  * calls kioskbasil_.. alone.
  *
  * HANDLES. A kioskbasil_sender or kioskbasil_receiver is the caller's. It starts as KIOSKBASIL_NONE, which
- * is all zeros, and kioskbasil_open fills it. It is given up by kioskbasil_free_.., which leaves it empty.
+ * is all zeros, and kioskbasil_open or kioskbasil_open_after fills it. It is given up by kioskbasil_free_.., which leaves it empty.
  * A call of an empty handle answers KIOSKBASIL_EMPTY_HANDLE and changes nothing; giving up an empty handle
  * is allowed and does nothing. A call changes no other handle.
  *
@@ -25,9 +26,8 @@
  *     that no other pointer of the same call points into and no other thread uses meanwhile;
  *   - malloc, realloc and free are those of the C library, or as good.
  *
- * ROOM FOR MORE. Codes above KIOSKBASIL_NULL and further calls may
- * come. Leaving a bus, further sittings on one bus, and telling a receiver of a sender or of another
- * receiver (`told`, `meet` of the library) are not offered to C.
+ * ROOM FOR MORE. Codes above KIOSKBASIL_NUMBERS_USED and further calls may come. Leaving a bus, and telling
+ * a receiver of a sender or of another receiver (`told`, `meet` of the library), are not offered to C.
  */
 #ifndef KIOSKBASIL_H
 #define KIOSKBASIL_H
@@ -41,7 +41,7 @@ extern "C" {
 #endif
 
 enum {
-  KIOSKBASIL_MOST_SENDERS = 8,
+  KIOSKBASIL_MOST_SENDERS = 64,
   KIOSKBASIL_MOST_RECEIVERS = 8,
   KIOSKBASIL_MOST_BYTES = 56,
   KIOSKBASIL_MOST_MESSAGES = 16
@@ -67,7 +67,7 @@ enum kioskbasil_code {
   KIOSKBASIL_ITEM = 13,      /* the next message of the order, in .item */
   KIOSKBASIL_END = 14,       /* the order has ended, and all of it was given; so it answers for good */
   /* refusals */
-  KIOSKBASIL_BAD_SENDERS = 32,    /* open: not 1 to 8 senders */
+  KIOSKBASIL_BAD_SENDERS = 32,    /* open: not 1 to 64 senders */
   KIOSKBASIL_BAD_RECEIVERS = 33,  /* open: not 1 to 8 receivers */
   KIOSKBASIL_BAD_ROUNDS = 34,     /* open: not 1 to 8 rounds */
   KIOSKBASIL_BAD_ROWS = 35,       /* open: not 1 to 256 rows; used again, not 2 to 8 */
@@ -83,7 +83,9 @@ enum kioskbasil_code {
   KIOSKBASIL_IN_USE = 45,         /* end: other handles have the bus still */
   KIOSKBASIL_PAGE_OUT = 46,       /* end: a sender that took the page has not given it back */
   KIOSKBASIL_EMPTY_HANDLE = 47,   /* the handle is empty */
-  KIOSKBASIL_NULL = 48            /* a pointer is NULL; of this header alone */
+  KIOSKBASIL_NULL = 48,           /* a pointer is NULL; of this header alone */
+  KIOSKBASIL_NOT_ENDED = 49,      /* open_after: the order of the bus before has not ended */
+  KIOSKBASIL_NUMBERS_USED = 50    /* open_after: a next number is 2^48 - 65,536 or more */
 };
 
 /* A code of 32 or more says that nothing was done. */
@@ -121,7 +123,7 @@ typedef struct kioskbasil_turn_answer {
 
 /* A message of the order. */
 typedef struct kioskbasil_item {
-  uint64_t number;                      /* among the messages of its sender, from 0 on */
+  uint64_t number;                      /* among the messages of its sender, from its base on */
   uint8_t sender;
   uint8_t length;                       /* at most 56 */
   uint8_t bytes[KIOSKBASIL_MOST_BYTES]; /* zeros behind its bytes */
@@ -152,9 +154,11 @@ typedef struct kioskbasil_receiver_shown {
   bool has_ended; /* the end was among its answers */
 } kioskbasil_receiver_shown;
 
-/* What a bus leaves behind, beside the words of its log. */
+/* What a bus leaves behind, beside the words of its log. It is plain numbers, which may be copied and kept. */
 typedef struct kioskbasil_left {
   uint64_t counts[KIOSKBASIL_MOST_SENDERS]; /* items of each sender in the order */
+  uint64_t bases[KIOSKBASIL_MOST_SENDERS];  /* the number of its first item: 0 after kioskbasil_open */
+  uint64_t next[KIOSKBASIL_MOST_SENDERS];   /* the number that its next item would have: bases + counts */
   uint64_t words;                           /* words of the log */
   uint64_t tenures;                         /* tenures that have ended */
   bool ended;                               /* the order has ended */
@@ -163,6 +167,8 @@ typedef struct kioskbasil_left {
 /* ---- the archive */
 uint32_t bus_c_open(const kioskbasil_sizes *sizes, kioskbasil_sender *senders, size_t sender_count,
                     kioskbasil_receiver *receivers, size_t receiver_count);
+uint32_t bus_c_open_after(const kioskbasil_sizes *sizes, const kioskbasil_left *left, kioskbasil_sender *senders,
+                          size_t sender_count, kioskbasil_receiver *receivers, size_t receiver_count);
 uint32_t bus_c_put(kioskbasil_sender *sender, const uint8_t *bytes, size_t length, uint64_t *number);
 uint32_t bus_c_close(kioskbasil_sender *sender);
 uint32_t bus_c_turn(kioskbasil_sender *sender, uint32_t word, kioskbasil_turn_answer *answer);
@@ -184,9 +190,25 @@ static inline uint32_t kioskbasil_open(const kioskbasil_sizes *sizes, kioskbasil
   return bus_c_open(sizes, senders, sender_count, receivers, receiver_count);
 }
 
+/* Opens the next sitting, as kioskbasil_open: a bus whose senders go on with the next numbers of the bus
+ * that left *left. Nothing else of that bus is carried over: its log and its tenures are not, and a message
+ * that waited in a batch has to be put anew. The sizes and the numbers of handles may be others, and either
+ * bus may use its rows again or not. *left is only read, and may be used for more buses than one.
+ * KIOSKBASIL_OK, or what kioskbasil_open refuses; where the sizes are good NOT_ENDED if left->ended is false,
+ * else NUMBERS_USED if one of the 64 next numbers is 2^48 - 65,536 or more, else NO_MEMORY; the first whose
+ * cause holds, and then no handle is changed.
+ * Nothing checks that kioskbasil_end filled *left: the numbers go on from left->next, whatever it has.
+ * left->ended has to be 0 or 1, and no handle may lie inside *left. */
+static inline uint32_t kioskbasil_open_after(const kioskbasil_sizes *sizes, const kioskbasil_left *left,
+                                             kioskbasil_sender *senders, size_t sender_count,
+                                             kioskbasil_receiver *receivers, size_t receiver_count) {
+  if (!sizes || !left || !senders || !receivers) return KIOSKBASIL_NULL;
+  return bus_c_open_after(sizes, left, senders, sender_count, receivers, receiver_count);
+}
+
 /* Appends a message of at most 56 bytes to the sender's batch of at most 16. Takes no step.
- * KIOSKBASIL_OK, and its number among the messages of this sender, from 0 on, in *number (which may be
- * NULL); or PUT_CLOSED, PUT_BUSY, PUT_TOO_LONG or PUT_BATCH_FULL, the first whose cause holds, and then
+ * KIOSKBASIL_OK, and its number among the messages of this sender, from its base on, in *number (which
+ * may be NULL); or PUT_CLOSED, PUT_BUSY, PUT_TOO_LONG or PUT_BATCH_FULL, the first whose cause holds, and then
  * nothing is changed. `bytes` may be NULL where `length` is 0. */
 static inline uint32_t kioskbasil_put(kioskbasil_sender *sender, const void *bytes, size_t length, uint64_t *number) {
   uint64_t own = 0;
@@ -281,7 +303,7 @@ static inline const char *kioskbasil_text(uint32_t code) {
   case KIOSKBASIL_HEAD: return "head";
   case KIOSKBASIL_ITEM: return "item";
   case KIOSKBASIL_END: return "end";
-  case KIOSKBASIL_BAD_SENDERS: return "a bus has 1 to 8 senders";
+  case KIOSKBASIL_BAD_SENDERS: return "a bus has 1 to 64 senders";
   case KIOSKBASIL_BAD_RECEIVERS: return "a bus has 1 to 8 receivers";
   case KIOSKBASIL_BAD_ROUNDS: return "a bus has 1 to 8 rounds";
   case KIOSKBASIL_BAD_ROWS: return "a bus has 1 to 256 rows, used again 2 to 8";
@@ -298,6 +320,8 @@ static inline const char *kioskbasil_text(uint32_t code) {
   case KIOSKBASIL_PAGE_OUT: return "a sender has not given the page back";
   case KIOSKBASIL_EMPTY_HANDLE: return "the handle is empty";
   case KIOSKBASIL_NULL: return "a pointer is NULL";
+  case KIOSKBASIL_NOT_ENDED: return "the order of the bus before has not ended";
+  case KIOSKBASIL_NUMBERS_USED: return "the numbers of a sender are used up";
   default: return "no code of this version";
   }
 }

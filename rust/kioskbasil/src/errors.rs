@@ -32,8 +32,8 @@ macro_rules! faults {
 faults! {
     /// Why no bus was opened: the first cause that holds.
     OpenError {
-        /// Senders are not 1 to 8.
-        Senders = 32: "a bus has 1 to 8 senders",
+        /// Senders are not 1 to 64.
+        Senders = 32: "a bus has 1 to 64 senders",
         /// Receivers are not 1 to 8.
         Receivers = 33: "a bus has 1 to 8 receivers",
         /// Rounds are not 1 to 8.
@@ -44,6 +44,10 @@ faults! {
         LogWords = 36: "a log has 16 to 65,536 words",
         /// Memory was refused.
         NoMemory = 37: "memory was refused",
+        /// The order of the bus before has not ended.
+        NotEnded = 49: "the order of the bus before has not ended",
+        /// A next number of the bus before is 2^48 - 65,536 or more.
+        Numbers = 50: "the numbers of a sender are used up",
     }
 }
 

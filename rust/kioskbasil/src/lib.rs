@@ -1,6 +1,6 @@
 //! A broadcast bus between threads, over the proved archive of `crates/bus_c`.
 //!
-//! Up to 8 senders put messages of up to 56 bytes. All of them stand in one order, and each of up to 8 receivers
+//! Up to 64 senders put messages of up to 56 bytes. All of them stand in one order, and each of up to 8 receivers
 //! hears all of it. The calls that take a turn take no lock and wait for nothing. `send`, `send_all`, `end_order` and
 //! `next_item` go on as long as it takes; that they end is not promised.
 //!
@@ -37,12 +37,18 @@ pub use errors::{CloseError, EndError, OpenError, PutError, SendError, Unsent};
 pub use receivers::{Heard, Item, Receiver};
 pub use senders::{Sender, Turn};
 
+/// Senders of a bus: at most 64.
+pub const MOST_SENDERS: usize = 64;
+
+/// Receivers of a bus: at most 8.
+pub const MOST_RECEIVERS: usize = 8;
+
 /// The sizes of a bus.
 #[derive(Clone, Copy, Debug, PartialEq, Eq)]
 pub struct Shape {
-    /// 1 to 8.
+    /// 1 to 64 (`MOST_SENDERS`).
     pub senders: usize,
-    /// 1 to 8.
+    /// 1 to 8 (`MOST_RECEIVERS`).
     pub receivers: usize,
     /// Rounds of one binary decision: 1 to 8. Any number is right.
     pub rounds: u64,
@@ -74,7 +80,11 @@ pub struct Ended {
     /// The words of its log.
     pub log: Vec<u64>,
     /// How many items of each sender the order has.
-    pub counts: [u64; 8],
+    pub counts: [u64; MOST_SENDERS],
+    /// The number of each sender's first item: 0 after `Bus::open`.
+    pub bases: [u64; MOST_SENDERS],
+    /// The number that the next item of each sender would have: its base and its count.
+    pub next: [u64; MOST_SENDERS],
     /// How many tenures have ended.
     pub tenures: u64,
     /// The order has ended.
@@ -91,13 +101,49 @@ impl Bus {
     /// ```
     /// use kioskbasil::{Bus, OpenError, Shape};
     ///
-    /// assert_eq!(Bus::open(Shape::of(9, 1)).unwrap_err(), OpenError::Senders);
+    /// assert_eq!(Bus::open(Shape::of(65, 1)).unwrap_err(), OpenError::Senders);
     /// ```
     pub fn open(shape: Shape) -> Result<(Vec<Sender>, Vec<Receiver>), OpenError> {
-        if shape.senders == 0 || shape.senders > 8 {
+        Bus::opened(shape, None)
+    }
+
+    /// Opens the next sitting: a bus whose senders go on with the next numbers of the bus that left this, once its
+    /// order has ended. Nothing else of it is carried over, and the shape may be another.
+    ///
+    /// ```
+    /// use kioskbasil::{Bus, Shape};
+    ///
+    /// let (mut senders, receivers) = Bus::open(Shape::of(1, 1))?;
+    /// senders[0].send_all(["one", "two"])?;
+    /// senders[0].end_order()?;
+    /// let ended = Bus::end(senders, receivers)?;
+    /// let (mut senders, _receivers) = Bus::open_after(Shape::of(1, 1), &ended)?;
+    /// assert_eq!(senders[0].put(b"three"), Ok(2));
+    /// # Ok::<(), Box<dyn std::error::Error>>(())
+    /// ```
+    pub fn open_after(
+        shape: Shape,
+        before: &Ended,
+    ) -> Result<(Vec<Sender>, Vec<Receiver>), OpenError> {
+        let left = raw::Left {
+            counts: before.counts,
+            bases: before.bases,
+            next: before.next,
+            words: before.log.len() as u64,
+            tenures: before.tenures,
+            ended: before.ended,
+        };
+        Bus::opened(shape, Some(&left))
+    }
+
+    fn opened(
+        shape: Shape,
+        before: Option<&raw::Left>,
+    ) -> Result<(Vec<Sender>, Vec<Receiver>), OpenError> {
+        if shape.senders == 0 || shape.senders > MOST_SENDERS {
             return Err(OpenError::Senders);
         }
-        if shape.receivers == 0 || shape.receivers > 8 {
+        if shape.receivers == 0 || shape.receivers > MOST_RECEIVERS {
             return Err(OpenError::Receivers);
         }
         let sizes = raw::Sizes {
@@ -106,17 +152,16 @@ impl Bus {
             log_words: shape.log_words,
             again: shape.again,
         };
-        let mut senders = [raw::RawSender::NONE; 8];
-        let mut receivers = [raw::RawReceiver::NONE; 8];
+        let mut senders = [raw::RawSender::NONE; MOST_SENDERS];
+        let mut receivers = [raw::RawReceiver::NONE; MOST_RECEIVERS];
+        let (sending, hearing) = (senders.as_mut_ptr(), receivers.as_mut_ptr());
+        let (many, ears) = (shape.senders, shape.receivers);
         // SAFETY: the pointers lead to so many empty handles of this function.
         let code = unsafe {
-            raw::bus_c_open(
-                &sizes,
-                senders.as_mut_ptr(),
-                shape.senders,
-                receivers.as_mut_ptr(),
-                shape.receivers,
-            )
+            match before {
+                None => raw::bus_c_open(&sizes, sending, many, hearing, ears),
+                Some(left) => raw::bus_c_open_after(&sizes, left, sending, many, hearing, ears),
+            }
         };
         if code != 0 {
             return Err(OpenError::of_code(code));

@@ -1,5 +1,6 @@
 //! The archive's functions, as include/kioskbasil.h declares them, and the memory that they ask for.
 
+use crate::MOST_SENDERS;
 use std::ffi::c_void;
 use std::ptr;
 
@@ -93,17 +94,38 @@ pub struct ReceiverShown {
 }
 
 #[repr(C)]
-#[derive(Clone, Copy, Default)]
+#[derive(Clone, Copy)]
 pub struct Left {
-    pub counts: [u64; 8],
+    pub counts: [u64; MOST_SENDERS],
+    pub bases: [u64; MOST_SENDERS],
+    pub next: [u64; MOST_SENDERS],
     pub words: u64,
     pub tenures: u64,
     pub ended: bool,
 }
 
+impl Left {
+    pub const NONE: Left = Left {
+        counts: [0; MOST_SENDERS],
+        bases: [0; MOST_SENDERS],
+        next: [0; MOST_SENDERS],
+        words: 0,
+        tenures: 0,
+        ended: false,
+    };
+}
+
 extern "C" {
     pub fn bus_c_open(
         sizes: *const Sizes,
+        senders: *mut RawSender,
+        sender_count: usize,
+        receivers: *mut RawReceiver,
+        receiver_count: usize,
+    ) -> u32;
+    pub fn bus_c_open_after(
+        sizes: *const Sizes,
+        left: *const Left,
         senders: *mut RawSender,
         sender_count: usize,
         receivers: *mut RawReceiver,

@@ -229,7 +229,7 @@ impl Receiver {
     /// Ends the bus by this handle, where it is the last one.
     pub fn end(mut self) -> Result<Ended, EndError> {
         let mut log = vec![0; 65_536];
-        let mut left = raw::Left::default();
+        let mut left = raw::Left::NONE;
         // SAFETY: as in `shown`; the log has room for the longest one.
         match unsafe { raw::bus_c_end(&mut self.raw, log.as_mut_ptr(), log.len(), &mut left) } {
             0 => {
@@ -237,6 +237,8 @@ impl Receiver {
                 Ok(Ended {
                     log,
                     counts: left.counts,
+                    bases: left.bases,
+                    next: left.next,
                     tenures: left.tenures,
                     ended: left.ended,
                 })

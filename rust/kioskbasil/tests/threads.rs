@@ -50,7 +50,8 @@ fn eight_threads_hear_one_order() {
                 .all(|(n, i)| i.number == n as u64 && i[..] == [sender, n as u8]));
         }
         let left = Bus::end(senders, receivers).unwrap();
-        assert_eq!(left.counts, [200, 200, 200, 200, 0, 0, 0, 0]);
+        assert_eq!(left.counts[..4], [200; 4]);
+        assert!(left.counts[4..].iter().all(|count| *count == 0));
         assert!(left.ended);
     }
 }
@@ -60,6 +61,14 @@ fn shapes_that_are_refused() {
     let good = Shape::of(1, 1);
     assert_eq!(
         Bus::open(Shape { senders: 0, ..good }).unwrap_err(),
+        OpenError::Senders
+    );
+    assert_eq!(
+        Bus::open(Shape {
+            senders: 65,
+            ..good
+        })
+        .unwrap_err(),
         OpenError::Senders
     );
     assert_eq!(
@@ -97,4 +106,48 @@ fn a_bus_that_is_not_ended() {
     senders[0].put(b"x").unwrap();
     while !matches!(senders[0].turn(0), Turn::Own { .. }) {}
     assert_eq!(Bus::end(senders, receivers).unwrap_err(), EndError::PageOut);
+}
+
+#[test]
+fn a_sitting_after_another() {
+    for (again, then) in [(false, false), (false, true), (true, false), (true, true)] {
+        let first = Shape {
+            again,
+            ..Shape::of(2, 1)
+        };
+        let next = Shape {
+            again: then,
+            ..Shape::of(3, 2)
+        };
+        let (mut senders, receivers) = Bus::open(first).unwrap();
+        senders[1].send_all(["a", "b"]).unwrap();
+        let open = Bus::end(senders, receivers).unwrap();
+        assert_eq!(
+            Bus::open_after(next, &open).unwrap_err(),
+            OpenError::NotEnded
+        );
+        let (mut senders, receivers) = Bus::open(first).unwrap();
+        senders[1].send_all(["a", "b"]).unwrap();
+        senders[0].end_order().unwrap();
+        let mut ended = Bus::end(senders, receivers).unwrap();
+        let (mut senders, mut receivers) = Bus::open_after(next, &ended).unwrap();
+        for sender in &mut senders {
+            sender.send_all(["c"]).unwrap();
+        }
+        senders[2].end_order().unwrap();
+        let numbers: Vec<_> = receivers[1]
+            .by_ref()
+            .map(|i| (i.sender, i.number))
+            .collect();
+        assert_eq!(numbers, [(0, 0), (1, 2), (2, 0)]);
+        let left = Bus::end(senders, receivers).unwrap();
+        assert_eq!(left.counts[..4], [1, 1, 1, 0]);
+        assert_eq!(left.bases[..4], [0, 2, 0, 0]);
+        assert_eq!(left.next[..4], [1, 3, 1, 0]);
+        ended.next[9] = (1 << 48) - 65_536;
+        assert_eq!(
+            Bus::open_after(next, &ended).unwrap_err(),
+            OpenError::Numbers
+        );
+    }
 }
