@@ -103,11 +103,11 @@ pub fn losses_refuse<Q: Ratifier>()
 {}
 
 /// No answer is true that accepts a message with another number than its sender's first one and how
-/// many that had put before it; or that is Lost to an owner whose election the sender did not see, or to itself; Own
-/// of a tenure whose page it did not take; Delivered or Closed where the log is empty; Delivered of
-/// another tenure, sender or first number than those of the last frame; Closed while the order
-/// goes on; Full where the frame fits; Spent in the first of two tenures, or in the only one before
-/// its election has ended; Behind where each tenure has a row.
+/// many that had put before it; or that is Lost to an owner whose election the sender did not see,
+/// or to itself; Own of a tenure whose page it did not take; Delivered or Closed where the log is
+/// empty; Delivered of another tenure, sender or first number than those of the last frame; Closed
+/// while the order goes on; Full where the frame fits; Spent in the first of two tenures, or in the
+/// only one before its election has ended; Behind where each tenure has a row.
 pub fn answers_refuse<Q: Ratifier>()
     ensures turns { (machine : Machine (Elector Q)) (number : ℕ) (sender : Sender (Elector Q))
         (actions : List Action) → AnswersRefuse machine number sender actions }

@@ -1,6 +1,7 @@
 //! Which shapes are served, and how many words a bus of them has.
 
-ghost use Rattle.std.specs.Prelude.{◌≡◌, ◌≢◌, ℕ, ◌<◌, ◌≤◌, ◌^◌, IfErr, IfOk, IfSome, None, OnOk, false};
+ghost use Rattle.std.specs.Prelude.{◌≡◌, ◌≢◌, ℕ, ◌<◌, ◌≤◌, ◌^◌, false};
+ghost use Rattle.std.specs.Prelude.{IfErr, IfOk, IfSome, None, OnOk};
 ghost use Rattle.std.specs.Prelude.{slice_index, true};
 ghost use Rattle.std.specs.Option.{option_copied};
 ghost use Rattle.bus_machine.specs.Playing.{IsServed, MakeRefused, least_rows as spec_least_rows};
